@@ -1,0 +1,7 @@
+pub mod Words
+pub mod Errors
+pub mod KernelState
+pub mod Reach
+pub mod Lines
+pub mod SystemCalls
+pub mod Faults

@@ -1,0 +1,55 @@
+-- Which byte a user access reaches, by the entries as they stand.
+-- (Intel 80386 Programmer's Reference Manual, 1986, sections 5.2 and 6.4.)
+use Rattle.std.specs.Prelude.{ℕ, ◌+◌, ◌^◌, ◌%◌, ◌==◌, suc, zero, Bool, List, [], ◌∷◌, slice_index, Option, Some, None, Result, Ok, Err, bit_and, if◌then◌else◌}
+use Rattle.jos_base.specs.declared.memory.Access.{Access}
+use Rattle.jos_base.specs.declared.memory.Access.TheVariants.{Read, Write}
+use Rattle.jos_base.specs.declared.memory.PageFault.{PageFault}
+use Rattle.jos_base.specs.Words.{page_number, page_offset}
+use Rattle.jos_base.specs.KernelState.{Entry}
+
+-- where a byte lies
+pub record Place : Type 0 where
+  pub frame : ℕ
+  pub offset : ℕ
+
+-- A user access needs P and U, and a write W too.
+abbrev pub allows : ℕ → Access → Bool
+allows perm Read = bit_and perm 0x005 == 0x005
+allows perm Write = bit_and perm 0x007 == 0x007
+
+abbrev pub write_bit : Access → ℕ
+write_bit Read = 0
+write_bit Write = 2
+
+-- the byte's place, or the fault: bit 0 of its error is set where an entry is there, bit 1 for a write, and
+-- bit 2 always
+abbrev pub reach_entry : Option Entry → ℕ → Access → Result Place PageFault
+reach_entry None va access = Err (record { va = va; error = 4 + write_bit access })
+reach_entry (Some entry) va access =
+    if allows entry.perm access then Ok (record { frame = entry.frame; offset = page_offset va })
+    else Err (record { va = va; error = 5 + write_bit access })
+
+abbrev pub reach : (ℕ → Option Entry) → ℕ → Access → Result Place PageFault
+reach entries va access = reach_entry (entries (page_number va)) va access
+
+-- the byte that is read at an address, or the fault
+abbrev pub byte_read : (ℕ → List ℕ) → Result Place PageFault → Result ℕ PageFault
+byte_read pages (Ok place) = Ok (slice_index (pages place.frame) place.offset)
+byte_read pages (Err fault) = Err fault
+
+unfoldable pub read_byte : (ℕ → List ℕ) → (ℕ → Option Entry) → ℕ → Result ℕ PageFault
+read_byte pages entries va = byte_read pages (reach entries va Read)
+
+abbrev pub front_added : ℕ → Result (List ℕ) PageFault → Result (List ℕ) PageFault
+front_added byte (Ok bytes) = Ok (byte ∷ bytes)
+front_added byte (Err fault) = Err fault
+
+abbrev pub then_read : Result ℕ PageFault → Result (List ℕ) PageFault → Result (List ℕ) PageFault
+then_read (Ok byte) rest = front_added byte rest
+then_read (Err fault) rest = Err fault
+
+-- the bytes at n addresses from va on, which are counted upwards modulo 2^32, or the fault of the first that
+-- can't be read, by what `read` gives at an address
+unfoldable pub bytes_read : (ℕ → Result ℕ PageFault) → ℕ → ℕ → Result (List ℕ) PageFault
+bytes_read read va zero = Ok []
+bytes_read read va (suc n) = then_read (read va) (bytes_read read ((va + 1) % 2 ^ 32) n)

@@ -1,0 +1,42 @@
+//! Why a call is refused.
+
+ghost use Rattle.std.specs.Prelude.{◌≡◌};
+ghost use Rattle.jos_base.specs.Errors.{error_number};
+
+/// The error of a system call, which is answered as its number, negated as a word. (MIT 6.828, inc/error.h)
+#[derive(Clone, Copy, Debug, PartialEq, Eq)]
+pub enum Errno {
+    /// No such environment, or none that the caller may change.
+    BadEnv,
+    /// An argument is out of its range, or the call's number names none.
+    Invalid,
+}
+
+impl Errno {
+    /// The error's number.
+    pub fn code(self) -> u32
+        ensures { result ≡ error_number self }
+    {
+        match self {
+            Errno::BadEnv => 2,
+            Errno::Invalid => 3,
+        }
+    }
+}
+
+/// There was no memory for what a call had to keep.
+#[derive(Clone, Copy, Debug, PartialEq, Eq)]
+pub struct NoMemory;
+
+#[cfg(test)]
+mod tests {
+    use super::*;
+
+    // E_BAD_ENV and E_INVAL of MIT 6.828's inc/error.h
+    #[test]
+    fn numbers_the_errors(rt: HostRuntime) {
+        for (errno, code) in [(Errno::BadEnv, 2), (Errno::Invalid, 3)] {
+            assert_eq!(rt; errno.code(), code, "{errno:?}");
+        }
+    }
+}

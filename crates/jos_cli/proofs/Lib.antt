@@ -1,0 +1,6 @@
+pub mod Fetches
+pub mod Buffers
+pub mod ToldBytes
+pub mod Runs
+pub mod Outcomes
+pub mod Tops

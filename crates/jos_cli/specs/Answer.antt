@@ -1,0 +1,181 @@
+-- What the program answers, where nothing fails, as a function of its words and of the files; and what its
+-- outcome says of that. Refusals are tried in the order in which they stand.
+use Rattle.std.specs.Prelude.{◌≡◌, ℕ, ◌&&◌, nat_lt, not, Bool, false, ◌==◌, List, [], ◌∷◌, length, Option, Some, None, Result, Ok, Err, codes, if◌then◌else◌}
+use Rattle.std.specs.Str.{bytes_eq}
+use Rattle.jos_host.specs.Files.{Files}
+use Rattle.jos_host.specs.Told.{Rose}
+use Rattle.jos_elf.specs.declared.fault.ElfFault.{ElfFault}
+use Rattle.jos_elf.specs.declared.image.Segment.{Segment}
+use Rattle.jos_elf.specs.Layout.{Layout}
+use Rattle.jos_elf.specs.Parsed.{parsed}
+use Rattle.jos_cli.specs.declared.outcome.End.{End}
+use Rattle.jos_cli.specs.declared.outcome.Turn.{Turn}
+use Rattle.jos_cli.specs.declared.outcome.Refusal.{Refusal}
+use Rattle.jos_cli.specs.declared.outcome.Report.{Report}
+use Rattle.jos_cli.specs.declared.outcome.Which.{Which}
+use Rattle.jos_cli.specs.declared.outcome.Which.TheVariants as which
+use Rattle.jos_cli.specs.declared.outcome.Form.{Form}
+use Rattle.jos_cli.specs.declared.outcome.Form.TheVariants as form
+use Rattle.jos_cli.specs.declared.outcome.Outcome.{Outcome}
+use Rattle.jos_cli.specs.declared.outcome.Outcome.TheVariants.{Ran, Usage, Absent, Limit, HostFault, NoMemory, Unbuilt}
+use Rattle.jos_cli.specs.declared.kernel.Kernel.{Kernel}
+use Rattle.jos_cli.specs.declared.kernel.Ending.{Ending}
+use Rattle.jos_cli.specs.declared.kernel.Ending.TheVariants.{Ended, Unknown}
+use Rattle.jos_cli.specs.Meanings.{Gains, GainsPart}
+use Rattle.jos_cli.specs.ExoRun.{boot, exo_run}
+use Rattle.jos_cli.specs.ExoRun as run
+
+-- THE WORDS
+
+-- a word that begins with `-` and is longer
+abbrev pub is_option : List ℕ → Bool
+is_option (first ∷ second ∷ rest) = first == 45
+is_option _ = false
+
+-- the image that is to be run: the words are `exo` and one name, which is no option
+abbrev pub command_of : List (List ℕ) → Option (List ℕ)
+command_of (command ∷ name ∷ []) = if bytes_eq command (codes "exo") && not (is_option name) then Some name else None
+command_of _ = None
+
+-- THE ANSWER
+
+-- what a run is reported as
+pub record Reported : Type 0 where
+  pub end : End
+  pub steps : ℕ
+  pub turns : List Turn
+  pub closing : ℕ
+  pub refused : ℕ
+  pub first_refused : Option Refusal
+  pub upcalls : ℕ
+
+pub data Answer : Type 0 where
+  usage : Answer
+  -- the word that names it, counted from 0
+  absent : ℕ → Answer
+  limit : Which → Answer
+  unbuilt : Form → Answer
+  ran : Reported → Answer
+
+-- the answer, and what comes to the console before it
+pub record Expected : Type 0 where
+  pub answer : Answer
+  pub console : List ℕ
+
+abbrev pub refused : Answer → Expected
+refused answer = record { answer = answer; console = [] }
+
+-- No step is refused a page or an environment, and none calls a handler of page faults.
+abbrev pub report_with : End → ℕ → List Turn → Reported
+report_with end steps turns = record {
+  end = end;
+  steps = steps;
+  turns = turns;
+  closing = 0;
+  refused = 0;
+  first_refused = None;
+  upcalls = 0;
+}
+
+abbrev pub answer_at : run.Ran → Ending → Answer
+answer_at r (Ended end) = ran (report_with end r.steps r.turns)
+answer_at r (Unknown ip) = unbuilt (form.Insn ip)
+
+abbrev pub expected_of_run : run.Ran → Expected
+expected_of_run r = record { answer = answer_at r r.ending; console = r.state.console }
+
+-- the budget of a run is 1,000,000 steps
+abbrev pub expected_of_segments : List ℕ → ℕ → List Segment → Expected
+expected_of_segments file entry (segment ∷ []) = expected_of_run (exo_run (boot entry segment file) 1000000)
+expected_of_segments file entry _ = refused (unbuilt form.Image)
+
+abbrev pub expected_of_image : List ℕ → Result Layout ElfFault → Expected
+expected_of_image file (Err fault) = refused (unbuilt form.Image)
+expected_of_image file (Ok layout) = expected_of_segments file layout.entry layout.segments
+
+abbrev pub expected_of_file : Option (List ℕ) → Expected
+expected_of_file None = refused (absent 1)
+expected_of_file (Some file) =
+    if nat_lt 16777216 (length file) then refused (limit which.Image) else expected_of_image file (parsed file)
+
+abbrev pub expected_of_command : Option (List ℕ) → Files → Expected
+expected_of_command None files = refused usage
+expected_of_command (Some name) files = expected_of_file (files name)
+
+abbrev pub expected : List (List ℕ) → Files → Expected
+expected words files = expected_of_command (command_of words) files
+
+-- THE OUTCOME
+
+abbrev pub reported : Report → Reported
+reported r = record {
+  end = r.end;
+  steps = r.steps;
+  turns = r.turns.items;
+  closing = r.closing;
+  refused = r.refused;
+  first_refused = r.first_refused;
+  upcalls = r.upcalls;
+}
+
+-- what the kernel reports
+abbrev pub report_of : Kernel → End → Reported
+report_of kernel end = report_with end kernel.steps (run.turns_of kernel.turns.items kernel.made)
+
+abbrev pub answer_after : Kernel → Ending → Answer
+answer_after kernel (Ended end) = ran (report_of kernel end)
+answer_after kernel (Unknown ip) = unbuilt (form.Insn ip)
+
+-- the outcome is this answer
+abbrev pub IsAnswer : Outcome → Answer → Type 0
+IsAnswer (Ran report) answer = answer ≡ ran (reported report)
+IsAnswer Usage answer = answer ≡ usage
+IsAnswer (Absent word) answer = answer ≡ absent word
+IsAnswer (Limit which) answer = answer ≡ limit which
+IsAnswer (Unbuilt form) answer = answer ≡ unbuilt form
+IsAnswer (HostFault stopped) answer = ⊥
+IsAnswer NoMemory answer = ⊥
+
+-- The outcome is what is expected, and the console has gained what is expected; a failed call of the host leaves
+-- a part of that, and want of memory comes before anything is written.
+abbrev pub Answers : Expected → Outcome → Option (List ℕ) → Option (List ℕ) → Type 0
+Answers e (HostFault stopped) old new = GainsPart old new e.console
+Answers e NoMemory old new = new ≡ old
+Answers e outcome old new = IsAnswer outcome e.answer × Gains old new e.console
+
+-- the same where the host tells its files
+abbrev pub AnswersTold : Option Files → List (List ℕ) → Outcome → Option (List ℕ) → Option (List ℕ) → Type 0
+AnswersTold None words outcome old new = Unit {0}
+AnswersTold (Some files) words outcome old new = Answers (expected words files) outcome old new
+
+-- A failed call of the host is the answer only where the count of its faults rose, and every other answer leaves
+-- the count. What is handed out beside it is empty.
+abbrev pub HasOutcomeCause : ℕ → ℕ → Outcome → Type 0
+HasOutcomeCause before now (HostFault stopped) = Rose before now × (stopped.turns.items ≡ []) × (stopped.first_refused ≡ None)
+HasOutcomeCause before now (Ran report) = now ≡ before
+HasOutcomeCause before now Usage = now ≡ before
+HasOutcomeCause before now (Absent word) = now ≡ before
+HasOutcomeCause before now (Limit which) = now ≡ before
+HasOutcomeCause before now (Unbuilt form) = now ≡ before
+HasOutcomeCause before now NoMemory = now ≡ before
+
+-- the words alone decide this answer, whatever the host tells
+abbrev pub IsUsageCase : Option (List ℕ) → Outcome → Type 0
+IsUsageCase None Usage = Unit {0}
+IsUsageCase None (HostFault stopped) = Unit {0}
+IsUsageCase None _ = ⊥
+IsUsageCase (Some name) Usage = ⊥
+IsUsageCase (Some name) _ = Unit {0}
+
+-- it was run, or there was no memory to begin with, or something in it is not built yet
+abbrev pub IsRunCase : Outcome → Type 0
+IsRunCase (Ran report) = Unit {0}
+IsRunCase NoMemory = Unit {0}
+IsRunCase (Unbuilt form) = Unit {0}
+IsRunCase _ = ⊥
+
+-- there was no memory to begin with
+abbrev pub IsMemoryCase : Outcome → Type 0
+IsMemoryCase NoMemory = Unit {0}
+IsMemoryCase (HostFault stopped) = Unit {0}
+IsMemoryCase _ = ⊥

@@ -1,0 +1,174 @@
+-- A run of the exokernel with one environment: boot, and then step after step, in turns, until an end test
+-- holds.
+use Rattle.std.specs.Prelude.{ℕ, ◌+◌, ◌%◌, ◌^◌, ◌==◌, ◌&&◌, nat_lt, nat_le, not, zero, suc, Bool, true, false, List, [], ◌∷◌, ◌++◌, length, take, drop, Option, Some, None, unwrap_or, if◌then◌else◌}
+use Rattle.jos_base.specs.declared.registers.Regs.{Regs}
+use Rattle.jos_base.specs.declared.environment.Status.{Status}
+use Rattle.jos_base.specs.declared.environment.Status.TheVariants.{Free, Runnable, Running}
+use Rattle.jos_base.specs.Words.{page_number, page_offset, upd}
+use Rattle.jos_base.specs.KernelState.{KernelState, Slot, is_live}
+use Rattle.jos_base.specs.SystemCalls.{Change, changed}
+use Rattle.jos_elf.specs.declared.image.Segment.{Segment}
+use Rattle.jos_cli.specs.declared.outcome.End.{End}
+use Rattle.jos_cli.specs.declared.outcome.End.TheVariants.{Done, Stuck, Budget, TurnsFull}
+use Rattle.jos_cli.specs.declared.outcome.Turn.{Turn}
+use Rattle.jos_cli.specs.declared.kernel.Ending.{Ending}
+use Rattle.jos_cli.specs.declared.kernel.Ending.TheVariants.{Ended, Unknown}
+use Rattle.jos_cli.specs.Space.{Mapped, pages_of, entries_of, page_with, zero_bytes}
+use Rattle.jos_cli.specs.Steps.{Stepped, Went, Unread, stepped}
+
+-- BOOT
+
+-- the segment's page, with its bytes of the file, and a stack page of zeros
+unfoldable pub mapped : Segment → List ℕ → Mapped
+mapped segment file = record {
+  page = page_number segment.va;
+  writable = segment.writable;
+  image = page_with (page_offset segment.va) (take segment.file_len (drop segment.file_at file));
+  stack = zero_bytes 4096;
+}
+
+-- EIP is the entry, ESP is USTACKTOP, EFLAGS has IF and bit 1, and all else is 0
+abbrev pub first_registers : ℕ → Regs
+first_registers entry = record {
+  eax = 0;
+  ecx = 0;
+  edx = 0;
+  ebx = 0;
+  esp = 0xeebf_e000;
+  ebp = 0;
+  esi = 0;
+  edi = 0;
+  eip = entry;
+  eflags = 0x202;
+}
+
+-- the environment with the first id
+abbrev pub first_slot : ℕ → Mapped → Slot
+first_slot entry m = record {
+  last_id = 0x1000;
+  status = Runnable;
+  runs = 0;
+  registers = first_registers entry;
+  entries = entries_of m;
+}
+
+-- a slot that was never used
+abbrev pub unused : Slot
+unused = record {
+  last_id = 0;
+  status = Free;
+  runs = 0;
+  registers = record { eax = 0; ecx = 0; edx = 0; ebx = 0; esp = 0; ebp = 0; esi = 0; edi = 0; eip = 0; eflags = 0 };
+  entries = λ _. None;
+}
+
+-- the state with one environment, in slot 0
+unfoldable pub state_with : Mapped → Slot → List ℕ → KernelState
+state_with m slot console = record { pages = pages_of m; slots = upd (λ _. unused) 0 slot; console = console }
+
+unfoldable pub boot : ℕ → Segment → List ℕ → KernelState
+boot entry segment file = state_with (mapped segment file) (first_slot entry (mapped segment file)) []
+
+-- TURNS
+
+-- the steps of a turn at most
+abbrev pub quantum : ℕ → ℕ
+quantum turn = 1000
+
+-- where a run stands
+pub record Progress : Type 0 where
+  pub state : KernelState
+  -- made so far
+  pub steps : ℕ
+  -- the turns that are over
+  pub turns : List Turn
+  -- the steps of the turn under way; 0 where none is
+  pub made : ℕ
+
+abbrev pub turn_of : ℕ → Turn
+turn_of made = record { slot = 0; visible = made; hidden = 0 }
+
+-- A turn stands in the list from its first step on.
+abbrev pub turns_of : List Turn → ℕ → List Turn
+turns_of turns made = if made == 0 then turns else turns ++ turn_of made ∷ []
+
+abbrev pub is_running : Status → Bool
+is_running Running = true
+is_running _ = false
+
+abbrev pub can_run : Status → Bool
+can_run Runnable = true
+can_run Running = true
+can_run _ = false
+
+-- at the start of a turn
+abbrev pub begun : Slot → Slot
+begun slot = record slot { status = Running; runs = (slot.runs + 1) % 2 ^ 32 }
+
+-- at the end of a turn an environment that is RUNNING is RUNNABLE again
+abbrev pub paused : Slot → Slot
+paused slot = if is_running slot.status then record slot { status = Runnable } else slot
+
+-- the slot as its step finds it: where no turn is under way, the next begins
+abbrev pub in_turn : Slot → ℕ → Slot
+in_turn slot made = if made == 0 then begun slot else slot
+
+-- A turn goes on while its environment is RUNNING and it has steps left; `made` counts the last one.
+abbrev pub turn_goes_on : Slot → List Turn → ℕ → Bool
+turn_goes_on slot turns made = is_running slot.status && nat_lt made (quantum (length turns))
+
+-- THE END
+
+-- the end tests, in their order, for the slot, the turns that are over, the steps of the turn under way, and
+-- whether the budget is used up
+unfoldable pub end_of : Slot → ℕ → ℕ → Bool → Option End
+end_of slot over made spent =
+    if not (is_live slot) then Some Done
+    else if not (can_run slot.status) then Some Stuck
+    else if spent then Some Budget
+    else if (made == 0) && nat_le 1048576 over then Some TurnsFull
+    else None
+
+-- a run that is over
+pub record Ran : Type 0 where
+  pub ending : Ending
+  pub state : KernelState
+  pub steps : ℕ
+  pub turns : List Turn
+
+abbrev pub over : Progress → Ending → Ran
+over p ending = record { ending = ending; state = p.state; steps = p.steps; turns = turns_of p.turns p.made }
+
+-- THE RUN
+
+-- after a step that makes this change, where its turn goes on or not
+abbrev pub progressed_in : Bool → Progress → Change → Progress
+progressed_in goes_on p change = record {
+  state = changed p.state 0 (record change { slot = if goes_on then change.slot else paused change.slot });
+  steps = p.steps + 1;
+  turns = if goes_on then p.turns else p.turns ++ turn_of (p.made + 1) ∷ [];
+  made = if goes_on then p.made + 1 else 0;
+}
+
+unfoldable pub progressed : Progress → Change → Progress
+progressed p change = progressed_in (turn_goes_on change.slot p.turns (p.made + 1)) p change
+
+abbrev pub after_step : Progress → Stepped → (Progress → Ran) → Ran
+after_step p (Went change) rest = rest (progressed p change)
+after_step p (Unread ip) rest = over p (Unknown ip)
+
+abbrev pub after_test : Progress → Option End → (Progress → Ran) → Ran
+after_test p (Some end) rest = over p (Ended end)
+after_test p None rest = after_step p (stepped p.state.pages (in_turn (p.state.slots 0) p.made)) rest
+
+-- the run from here, with so many steps of the budget left
+unfoldable pub run_from : ℕ → Progress → Ran
+run_from zero p = over p (Ended (unwrap_or (end_of (p.state.slots 0) (length p.turns) p.made true) Budget))
+run_from (suc left) p =
+    after_test p (end_of (p.state.slots 0) (length p.turns) p.made false) (λ next. run_from left next)
+
+abbrev pub at_first : KernelState → Progress
+at_first state = record { state = state; steps = 0; turns = []; made = 0 }
+
+unfoldable pub exo_run : KernelState → ℕ → Ran
+exo_run state budget = run_from budget (at_first state)

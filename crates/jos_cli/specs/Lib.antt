@@ -1,0 +1,13 @@
+pub mod Registers
+pub mod Flags
+pub mod Instructions
+pub mod Fetch
+pub mod Steps
+pub mod Space
+pub mod Meanings
+pub mod ExoRun
+pub mod Progress
+pub mod Answer
+pub mod Notes
+pub mod Reading
+pub mod Statuses

@@ -1,0 +1,26 @@
+-- What reading a file gives.
+use Rattle.std.specs.Prelude.{◌≡◌, ℕ, ◌<◌, ◌≤◌, List, length, Option, Some, None}
+use Rattle.jos_host.specs.Told.{Rose}
+use Rattle.jos_cli.specs.declared.image_file.FileFault.{FileFault}
+use Rattle.jos_cli.specs.declared.image_file.FileFault.TheVariants.{Absent, TooLong, Host, NoMemory}
+
+-- the file has these bytes, as many as may be
+abbrev pub IsFile : Option (List ℕ) → List ℕ → Type 0
+IsFile (Some file) bytes = (bytes ≡ file) × (length file ≤ 16777216)
+IsFile None bytes = ⊥
+
+-- the file has this fault; that of the host and want of memory come with any
+abbrev pub IsFileFault : Option (List ℕ) → FileFault → Type 0
+IsFileFault None Absent = Unit {0}
+IsFileFault (Some file) Absent = ⊥
+IsFileFault (Some file) TooLong = 16777216 < length file
+IsFileFault None TooLong = ⊥
+IsFileFault file Host = Unit {0}
+IsFileFault file NoMemory = Unit {0}
+
+-- The host fails only where the count rose, and every other fault leaves it.
+abbrev pub HasFileCause : ℕ → ℕ → FileFault → Type 0
+HasFileCause before now Host = Rose before now
+HasFileCause before now Absent = now ≡ before
+HasFileCause before now TooLong = now ≡ before
+HasFileCause before now NoMemory = now ≡ before

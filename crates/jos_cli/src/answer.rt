@@ -1,0 +1,159 @@
+//! The top call.
+
+ghost use Rattle.std.specs.Prelude.{◌≡◌, ◌≢◌, ℕ, ◌≤◌, [], ⊤, List, MatchOption, length, map, Option, Some};
+ghost use Rattle.jos_host.specs.Files.{Files};
+ghost use Rattle.jos_host.specs.Told.{Rose};
+ghost use Rattle.jos_elf.specs.Parsed.{parsed, LiesIn};
+ghost use Rattle.jos_cli.specs.ExoRun.{boot, exo_run};
+ghost use Rattle.jos_cli.specs.Progress.{HasRoom};
+ghost use Rattle.jos_cli.specs.Answer.{command_of, answer_after, IsAnswer, expected_of_run, expected_of_image, expected_of_file, Answers, AnswersTold, HasOutcomeCause, IsUsageCase, IsRunCase, IsMemoryCase};
+ghost use Rattle.jos_cli.specs.Notes.{IsNoted};
+
+use crate::command::image_name;
+use crate::image_file::{FileFault, read_file};
+use crate::kernel::{Ending, Kernel};
+use crate::notes::write_note;
+use crate::outcome::{Form, Outcome, Stopped, Which};
+use jos_elf::{Segment, parse};
+use jos_host::Host;
+use std::alloc::Global;
+
+/// How many steps a run has.
+const BUDGET: u32 = 1_000_000;
+
+/// The place of the image's name among the words.
+const NAME_WORD: u32 = 1;
+
+/// Does what the words ask: `exo IMAGE` runs the image. The words are those behind the program's name. Each
+/// answer has its note, one line; where a call of the host fails, the note `host fault` is tried once.
+///
+/// (The lines and limits are in `docs/commands.md`.)
+pub fn top<'a, H: Host>(alloc: Global, words: &'a [&'a str], host: &mut H) -> Outcome
+    // Where the host tells its files, the answer and the console are what they and the words decide; where a
+    // call of the host failed, the console has a part of that.
+    ensures answer { AnswersTold (H.files host.old) (map (λ w. w.now) words.now) result (H.console host.old) (H.console host.new) }
+    // The note is the line of the answer.
+    ensures notes { IsNoted (map (λ w. w.now) words.now) result (H.notes host.old) (H.notes host.new) }
+
+    // Each answer has its cause.
+    ensures usage { IsUsageCase (command_of (map (λ w. w.now) words.now)) result }
+    ensures cause { HasOutcomeCause (H.faults host.old) (H.faults host.new) result }
+    // A file that is there and not too long is run, unless a call of the host fails.
+    ensures complete { (files : Files) (name file : List ℕ) →
+        H.files host.old ≡ Some files → command_of (map (λ w. w.now) words.now) ≡ Some name → files name ≡ Some file →
+        length file ≤ 16777216 → (Rose (H.faults host.old) (H.faults host.new) → ⊥) → IsRunCase result }
+
+    // Every name keeps its bytes, and no input is read.
+    ensures files { H.files host.new ≡ H.files host.old }
+    ensures input { H.input host.new ≡ H.input host.old }
+{
+    let outcome = answer_words(alloc, words, host);
+    match write_note(&outcome, words, host) {
+        Ok(()) => outcome,
+        Err(_) => Outcome::HostFault(Stopped::at_no_turn(alloc)),
+    }
+}
+
+/// The answer where there is no memory for the words, with its note.
+pub(crate) fn refuse_words<H: Host>(alloc: Global, host: &mut H) -> Outcome
+    ensures notes { IsNoted [] result (H.notes host.old) (H.notes host.new) }
+    ensures cause { HasOutcomeCause (H.faults host.old) (H.faults host.new) result }
+    ensures console { H.console host.new ≡ H.console host.old }
+    ensures files { H.files host.new ≡ H.files host.old }
+    ensures input { H.input host.new ≡ H.input host.old }
+    ensures memory { IsMemoryCase result }
+{
+    match write_note(&Outcome::NoMemory, &[], host) {
+        Ok(()) => Outcome::NoMemory,
+        Err(_) => Outcome::HostFault(Stopped::at_no_turn(alloc)),
+    }
+}
+
+/// What a run that is over comes to.
+fn close(kernel: Kernel, ending: Ending) -> Outcome
+    requires { HasRoom kernel }
+    ensures answer { IsAnswer result (answer_after kernel ending) }
+    ensures no_usage { result ≢ Outcome.Usage }
+{
+    match ending {
+        Ending::Ended(end) => Outcome::Ran(kernel.finish(end)),
+        Ending::Unknown(ip) => Outcome::Unbuilt(Form::Insn(ip)),
+    }
+}
+
+/// Boots the image and runs it.
+fn run_segment<H: Host>(
+    alloc: Global,
+    entry: u32,
+    segment: &Segment,
+    file: &[u8],
+    host: &mut H,
+) -> Outcome
+    requires { LiesIn segment.now (length file.now) }
+    ensures told { Answers (expected_of_run (exo_run (boot entry segment.now file.now) 1000000)) result (H.console host.old) (H.console host.new) }
+    ensures files { H.files host.new ≡ H.files host.old }
+    ensures input { H.input host.new ≡ H.input host.old }
+    ensures notes { H.notes host.new ≡ H.notes host.old }
+    ensures cause { HasOutcomeCause (H.faults host.old) (H.faults host.new) result }
+    ensures no_usage { result ≢ Outcome.Usage }
+{
+    let mut kernel = match Kernel::boot(alloc, entry, segment, file) {
+        Ok(kernel) => kernel,
+        Err(_) => return Outcome::NoMemory,
+    };
+    match kernel.run(host, BUDGET) {
+        Ok(ending) => close(kernel, ending),
+        Err(_) => Outcome::HostFault(Stopped::at_no_turn(alloc)),
+    }
+}
+
+/// Runs the image that a file holds.
+fn run_file<H: Host>(alloc: Global, file: &[u8], host: &mut H) -> Outcome
+    ensures told { Answers (expected_of_image file.now (parsed file.now)) result (H.console host.old) (H.console host.new) }
+    ensures files { H.files host.new ≡ H.files host.old }
+    ensures input { H.input host.new ≡ H.input host.old }
+    ensures notes { H.notes host.new ≡ H.notes host.old }
+    ensures cause { HasOutcomeCause (H.faults host.old) (H.faults host.new) result }
+    ensures no_usage { result ≢ Outcome.Usage }
+{
+    match parse(file) {
+        Ok(image) => match image.segments() {
+            [segment] => run_segment(alloc, image.entry(), segment, file, host),
+            _ => Outcome::Unbuilt(Form::Image),
+        },
+        Err(_) => Outcome::Unbuilt(Form::Image),
+    }
+}
+
+/// Runs the image that a file of this name holds.
+fn run_named<H: Host>(alloc: Global, name: &str, host: &mut H) -> Outcome
+    ensures told { MatchOption (H.files host.old) ⊤ (λ files. Answers (expected_of_file (files name.now)) result (H.console host.old) (H.console host.new)) }
+    ensures files { H.files host.new ≡ H.files host.old }
+    ensures input { H.input host.new ≡ H.input host.old }
+    ensures notes { H.notes host.new ≡ H.notes host.old }
+    ensures cause { HasOutcomeCause (H.faults host.old) (H.faults host.new) result }
+    ensures no_usage { result ≢ Outcome.Usage }
+{
+    match read_file(alloc, name, host) {
+        Ok(file) => run_file(alloc, &file, host),
+        Err(FileFault::Absent) => Outcome::Absent(NAME_WORD),
+        Err(FileFault::TooLong) => Outcome::Limit(Which::Image),
+        Err(FileFault::Host) => Outcome::HostFault(Stopped::at_no_turn(alloc)),
+        Err(FileFault::NoMemory) => Outcome::NoMemory,
+    }
+}
+
+/// Does what the words ask, but for the note.
+fn answer_words<H: Host>(alloc: Global, words: &[&str], host: &mut H) -> Outcome
+    ensures told { AnswersTold (H.files host.old) (map (λ w. w.now) words.now) result (H.console host.old) (H.console host.new) }
+    ensures usage { IsUsageCase (command_of (map (λ w. w.now) words.now)) result }
+    ensures files { H.files host.new ≡ H.files host.old }
+    ensures input { H.input host.new ≡ H.input host.old }
+    ensures notes { H.notes host.new ≡ H.notes host.old }
+    ensures cause { HasOutcomeCause (H.faults host.old) (H.faults host.new) result }
+{
+    match image_name(words) {
+        Some(name) => run_named(alloc, name, host),
+        None => Outcome::Usage,
+    }
+}

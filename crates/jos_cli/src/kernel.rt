@@ -1,0 +1,222 @@
+//! The kernel with one environment, and its run in turns.
+
+ghost use Rattle.std.specs.Prelude.{◌≡◌, ℕ, [], ◌+◌, ◌<◌, ◌≤◌, ◌^◌, length, IsNone, OnOk, IfOk, vec_len, vec_capacity};
+ghost use Rattle.jos_base.specs.SystemCalls.{Change};
+ghost use Rattle.jos_host.specs.Told.{HasCause};
+
+use crate::environment::{Environment, Step};
+use crate::outcome::{End, Report, Turn};
+use crate::space::Space;
+use crate::stepping::make_step;
+use jos_base::{EnvId, Regs, Status};
+use jos_elf::Segment;
+use jos_host::{Failed, Host};
+use std::alloc::{AllocError, Global};
+
+/// How many turns a run has at most.
+pub(crate) const TURN_MAX: usize = 1_048_576;
+
+/// How many steps a turn has at most.
+const QUANTUM: u32 = 1000;
+
+/// The kernel: its environment, what is mapped, and the turns of its run.
+#[derive(Drop)]
+pub(crate) struct Kernel {
+    pub(crate) environment: Environment,
+    pub(crate) space: Space,
+    /// The turns that are over.
+    pub(crate) turns: Vec<Turn>,
+    /// The steps of the turn under way; 0 where none is.
+    pub(crate) made: u32,
+    /// All steps.
+    pub(crate) steps: u64,
+}
+
+/// How a run is over.
+#[derive(Clone, Copy)]
+pub(crate) enum Ending {
+    Ended(End),
+    /// At this address stands no instruction that is read.
+    Unknown(u32),
+}
+
+/// The id of the first environment, in slot 0.
+const FIRST_ID: EnvId = EnvId(0x1000);
+
+/// The end of the stack. (MIT 6.828, inc/memlayout.h)
+const STACK_TOP: u32 = 0xeebf_e000;
+
+/// IF, and the bit that is always set.
+const FIRST_FLAGS: u32 = 0x202;
+
+impl Kernel {
+    ghost use Rattle.jos_cli.specs.Space.{pages_of};
+    ghost use Rattle.jos_cli.specs.Steps.{stepped};
+    ghost use Rattle.jos_cli.specs.Meanings.{slot_of};
+    ghost use Rattle.jos_elf.specs.Parsed.{LiesIn};
+    ghost use Rattle.jos_cli.specs.ExoRun.{boot as boot_of, at_first, end_of, run_from};
+    ghost use Rattle.jos_cli.specs.Progress.{progress_of, next_slot, Counts, Advances, HasRoom, IsRun};
+    ghost use Rattle.jos_cli.specs.Answer.{reported, report_of};
+
+    /// Boots the image of one segment: its page and a stack page are mapped, and the environment stands at the
+    /// entry. It takes all the memory of the run.
+    #[tactic(auto, unfolding(crate::specs::ExoRun::boot, crate::specs::ExoRun::state_with))]
+    pub(crate) fn boot(
+        alloc: Global,
+        entry: u32,
+        segment: &Segment,
+        file: &[u8],
+    ) -> Result<Kernel, AllocError>
+        requires { LiesIn segment.now (length file.now) }
+        ensures booted { IfOk result (λ kernel. progress_of kernel [] ≡ at_first (boot_of entry segment.now file.now)) }
+        ensures room { IfOk result HasRoom }
+        ensures first { IfOk result (λ kernel. kernel.steps ≡ 0) }
+    {
+        let turns = Vec::with_capacity(alloc, TURN_MAX)?;
+        let space = Space::map(alloc, segment, file)?;
+        let environment = Environment {
+            id: FIRST_ID,
+            status: Status::Runnable,
+            runs: 0,
+            regs: Regs {
+                eax: 0,
+                ecx: 0,
+                edx: 0,
+                ebx: 0,
+                esp: STACK_TOP,
+                ebp: 0,
+                esi: 0,
+                edi: 0,
+                eip: entry,
+                eflags: FIRST_FLAGS,
+            },
+        };
+        Ok(Kernel {
+            environment,
+            space,
+            turns,
+            made: 0,
+            steps: 0,
+        })
+    }
+
+    /// Reports the run, with its turns.
+    pub(crate) fn finish(mut self, end: End) -> Report
+        requires { HasRoom self }
+        ensures { reported result ≡ report_of self end }
+    {
+        if self.made > 0 {
+            self.turns
+                .push(Turn {
+                    slot: 0,
+                    visible: self.made,
+                    hidden: 0,
+                })
+                .unwrap();
+        }
+        Report {
+            end,
+            steps: self.steps,
+            turns: self.turns,
+            closing: 0,
+            refused: 0,
+            first_refused: None,
+            upcalls: 0,
+        }
+    }
+
+    /// The first end test that holds, where one does; `spent` says that the budget is used up.
+    #[tactic(auto, unfolding(crate::specs::ExoRun::end_of))]
+    fn end(&self, spent: bool) -> Option<End>
+        ensures exact { result ≡ end_of (slot_of self.now.environment self.now.space) (length self.now.turns.items) self.now.made spent }
+        ensures room { IsNone result → self.now.made ≡ 0 → vec_len self.now.turns < 1048576 }
+    {
+        match self.environment.status {
+            Status::Free => return Some(End::Done),
+            Status::Dying | Status::NotRunnable => return Some(End::Stuck),
+            Status::Runnable | Status::Running => {}
+        }
+        if spent {
+            Some(End::Budget)
+        } else if self.made == 0 && self.turns.len() >= TURN_MAX {
+            Some(End::TurnsFull)
+        } else {
+            None
+        }
+    }
+
+    /// Counts a step that was made, and ends the turn where it is over.
+    fn count_step(&mut self)
+        requires room { HasRoom self.old }
+        requires place { vec_len self.old.turns < 1048576 }
+        requires steps { self.old.steps < 2 ^ 63 }
+        ensures counted { (change : Change) → change.slot ≡ slot_of self.old.environment self.old.space → Counts self.old self.new change }
+        ensures room { HasRoom self.new }
+    {
+        self.steps += 1;
+        let made = self.made + 1;
+        if matches!(self.environment.status, Status::Running) && made < QUANTUM {
+            self.made = made;
+            return;
+        }
+        self.turns
+            .push(Turn {
+                slot: 0,
+                visible: made,
+                hidden: 0,
+            })
+            .unwrap();
+        self.made = 0;
+        self.environment.pause();
+    }
+
+    /// Makes one step of the turn under way, or the first of the next turn.
+    fn step<H: Host>(&mut self, host: &mut H) -> Result<Step, Failed>
+        requires room { HasRoom self.old }
+        requires place { vec_len self.old.turns < 1048576 }
+        requires steps { self.old.steps < 2 ^ 63 }
+        ensures told { Advances result (stepped (pages_of self.old.space) (next_slot self.old)) self.old self.new (H.console host.old) (H.console host.new) }
+        ensures room { HasRoom self.new }
+        ensures files { H.files host.new ≡ H.files host.old }
+        ensures input { H.input host.new ≡ H.input host.old }
+        ensures notes { H.notes host.new ≡ H.notes host.old }
+        ensures cause { HasCause (H.faults host.old) (H.faults host.new) result }
+    {
+        self.environment.enter_turn(self.made);
+        match make_step(&mut self.environment, &self.space, host) {
+            Ok(Step::Went) => {
+                self.count_step();
+                Ok(Step::Went)
+            }
+            Ok(Step::Unread(ip)) => Ok(Step::Unread(ip)),
+            Err(failed) => Err(failed),
+        }
+    }
+
+    /// Runs until an end test holds, with so many steps as its budget. It takes no memory.
+    pub(crate) fn run<H: Host>(&mut self, host: &mut H, budget: u32) -> Result<Ending, Failed>
+        requires room { HasRoom self.old }
+        requires first { self.old.steps ≡ 0 }
+        ensures told { IsRun result (run_from budget (progress_of self.old [])) self.new (H.console host.old) (H.console host.new) }
+        ensures room { HasRoom self.new }
+        ensures files { H.files host.new ≡ H.files host.old }
+        ensures input { H.input host.new ≡ H.input host.old }
+        ensures notes { H.notes host.new ≡ H.notes host.old }
+        ensures cause { HasCause (H.faults host.old) (H.faults host.new) result }
+    {
+        for _ in 0..budget {
+            if let Some(end) = self.end(false) {
+                return Ok(Ending::Ended(end));
+            }
+            match self.step(host) {
+                Ok(Step::Went) => {}
+                Ok(Step::Unread(ip)) => return Ok(Ending::Unknown(ip)),
+                Err(failed) => return Err(failed),
+            }
+        }
+        match self.end(true) {
+            Some(end) => Ok(Ending::Ended(end)),
+            None => Ok(Ending::Ended(End::Budget)),
+        }
+    }
+}

@@ -1,0 +1,137 @@
+//! Lines of text in a fixed room, so that printing takes no memory.
+
+ghost use Rattle.std.specs.Prelude.{◌≡◌, ◌+◌, ◌<◌, ◌≤◌, ◌==◌, ◌++◌, not, length, position, IfSome, decimal};
+ghost use Rattle.arrayvec.specs.ArrayVec.{array_vec_len};
+ghost use Rattle.jos_base.specs.Lines.{hex_digit, hex_word, hex, user_fault_line, user_mem_check_line, trap_line};
+
+use arrayvec::ArrayVec;
+use itoa::Buffer;
+
+/// The longest line has fewer bytes.
+const LINE_MAX: usize = 128;
+
+/// A line as it is built.
+pub(crate) type Line = ArrayVec<u8, LINE_MAX>;
+
+/// Adds a text.
+pub(crate) fn push_text(line: &mut Line, text: &[u8])
+    requires { array_vec_len line.old + length text.now ≤ 128 }
+    ensures { line.new.items ≡ line.old.items ++ text.now }
+{
+    line.try_extend_from_slice(text).unwrap();
+}
+
+fn hex_digit_of(n: u32) -> u8
+    requires { n < 16 }
+    ensures { result ≡ hex_digit n }
+{
+    if n < 10 {
+        n as u8 + b'0'
+    } else {
+        n as u8 + (b'a' - 10)
+    }
+}
+
+#[tactic(auto, unfolding(jos_base::specs::Lines::hex_word))]
+fn hex_digits(n: u32) -> [u8; 8]
+    ensures { result ≡ hex_word n }
+{
+    [
+        hex_digit_of(n / (1 << 28)),
+        hex_digit_of(n / (1 << 24) % 16),
+        hex_digit_of(n / (1 << 20) % 16),
+        hex_digit_of(n / (1 << 16) % 16),
+        hex_digit_of(n / (1 << 12) % 16),
+        hex_digit_of(n / (1 << 8) % 16),
+        hex_digit_of(n / (1 << 4) % 16),
+        hex_digit_of(n % 16),
+    ]
+}
+
+/// Adds a word as eight hexadecimal digits.
+pub(crate) fn push_hex_word(line: &mut Line, n: u32)
+    requires { array_vec_len line.old + 8 ≤ 128 }
+    ensures text { line.new.items ≡ line.old.items ++ hex_word n }
+    ensures len { array_vec_len line.new ≡ array_vec_len line.old + 8 }
+{
+    let digits = hex_digits(n);
+    push_text(line, &digits);
+}
+
+/// The place of the first digit that is not `0`.
+fn first_digit(digits: &[u8]) -> Option<usize>
+    ensures exact { result ≡ position (λ digit. not (digit == 48)) digits.now }
+    ensures within { IfSome result (λ place. place < length digits.now) }
+{
+    digits.iter().position(|digit| *digit != b'0')
+}
+
+/// Adds a word in hexadecimal digits without leading zeros.
+#[tactic(auto, unfolding(jos_base::specs::Lines::hex, jos_base::specs::Lines::hex_word))]
+fn push_hex(line: &mut Line, n: u32)
+    requires { array_vec_len line.old + 8 ≤ 128 }
+    ensures text { line.new.items ≡ line.old.items ++ hex n }
+    ensures len { array_vec_len line.new ≤ array_vec_len line.old + 8 }
+{
+    let digits = hex_digits(n);
+    let first = first_digit(&digits[..7]).unwrap_or(7);
+    push_text(line, &digits[first..]);
+}
+
+/// Adds a number in decimal digits.
+pub(crate) fn push_decimal(line: &mut Line, n: u64)
+    requires { array_vec_len line.old + 20 ≤ 128 }
+    ensures text { line.new.items ≡ line.old.items ++ decimal n }
+    ensures len { array_vec_len line.new ≤ array_vec_len line.old + 20 }
+{
+    let mut buffer = Buffer::new();
+    push_text(line, buffer.format(n).as_bytes());
+}
+
+/// The line of a page fault.
+#[tactic(auto, unfolding(jos_base::specs::Lines::user_fault_line))]
+pub(crate) fn user_fault(id: u32, va: u32, ip: u32) -> Line
+    ensures { result.items ≡ user_fault_line id va ip }
+{
+    let mut line = Line::new();
+    push_text(&mut line, b"[");
+    push_hex_word(&mut line, id);
+    push_text(&mut line, b"] user fault va ");
+    push_hex_word(&mut line, va);
+    push_text(&mut line, b" ip ");
+    push_hex_word(&mut line, ip);
+    push_text(&mut line, b"\n");
+    line
+}
+
+/// The line of a buffer that can't be read.
+#[tactic(auto, unfolding(jos_base::specs::Lines::user_mem_check_line))]
+pub(crate) fn user_mem_check(id: u32, va: u32) -> Line
+    ensures { result.items ≡ user_mem_check_line id va }
+{
+    let mut line = Line::new();
+    push_text(&mut line, b"[");
+    push_hex_word(&mut line, id);
+    push_text(&mut line, b"] user_mem_check assertion failure for va ");
+    push_hex_word(&mut line, va);
+    push_text(&mut line, b"\n");
+    line
+}
+
+/// The line of any other trap.
+#[tactic(auto, unfolding(jos_base::specs::Lines::trap_line))]
+pub(crate) fn trap(id: u32, trap: u8, error: u32, ip: u32) -> Line
+    ensures { result.items ≡ trap_line id trap error ip }
+{
+    let mut line = Line::new();
+    push_text(&mut line, b"[");
+    push_hex_word(&mut line, id);
+    push_text(&mut line, b"] trap ");
+    push_decimal(&mut line, trap as u64);
+    push_text(&mut line, b" err ");
+    push_hex(&mut line, error);
+    push_text(&mut line, b" ip ");
+    push_hex_word(&mut line, ip);
+    push_text(&mut line, b"\n");
+    line
+}

@@ -1,0 +1,42 @@
+use Rattle.std.proofs.Common.{ℕ, ◌≤◌, List, length, ap, refl, sym, subst, ◌∙◌, string_bytes}
+use Rattle.std.proofs.Math.Seq.{map-set_same}
+use Rattle.jos_host.specs.Files.{with_bytes, overwritten}
+use Rattle.jos_host.specs.declared.mem.NamedBytes.{NamedBytes}
+use Rattle.std.specs.List.{position}
+use Rattle.jos_host.proofs.Named.{has_name, files_of-set, files_of-push, bytes_of-first, bytes_of-absent, overwritten-nil}
+use Rattle.jos_host.proofs.Outcome.{OnOk-map, OnErr-map}
+use Rattle.jos_host.proofs.mem.store.Goals as goal
+
+pub overwrite-requires : goal.overwrite-requires
+overwrite-requires c =
+    subst (λ (l : List ℕ). c.args.at ≤ length l)
+    (bytes_of-first c.args.files.now.items c.args.name.now c.in-Some.found c.index_mut.result.now (ap (position (has_name c.args.name.now)) (sym c.deref.ensures.value) ∙ sym c.place.ensures ∙ c.in-Some.is) c.index_mut.ensures.value)
+    c.requires
+
+pub returns-in-Some-clause-ok : goal.returns-in-Some-clause-ok
+returns-in-Some-clause-ok c =
+    let at = ap (position (has_name c.args.name.now)) (sym c.deref.ensures.value) ∙ sym c.place.ensures ∙ c.in-Some.is in
+    let old = bytes_of-first c.args.files.now.items c.args.name.now c.in-Some.found c.index_mut.result.now at c.index_mut.ensures.value in
+    OnOk-map c.overwrite.result
+    (λ e. files_of-set c.args.files.now.items c.args.name.now c.in-Some.found c.index_mut.result.now _ _ at c.index_mut.ensures.value refl
+    (e ∙ ap (λ (l : List ℕ). overwritten l c.args.at c.args.bytes.now) (sym old)))
+    c.overwrite.ensures.ok
+
+pub returns-in-Some-clause-err : goal.returns-in-Some-clause-err
+returns-in-Some-clause-err c =
+    OnErr-map c.overwrite.result
+    (λ e. map-set_same (λ (f : NamedBytes). (string_bytes f.name, f.bytes.items)) c.args.files.now.items c.in-Some.found _ c.index_mut.result.now
+    (ap (λ (l : List ℕ). (string_bytes c.index_mut.result.now.name, l)) e
+    ∙ ap (λ (f : NamedBytes). (string_bytes f.name, f.bytes.items)) c.index_mut.ensures.value))
+    c.overwrite.ensures.err
+
+pub returns-in-None-clause-ok : goal.returns-in-None-clause-ok
+returns-in-None-clause-ok c =
+    let at = ap (position (has_name c.args.name.now)) (sym c.deref.ensures.value) ∙ sym c.place.ensures ∙ c.in-None.is in
+    let none = bytes_of-absent c.args.files.now.items c.args.name.now at in
+    let start : c.args.at ≤ 0 = subst (λ (l : List ℕ). c.args.at ≤ length l) none c.requires in
+    OnOk-map c.add.result
+    (λ e. files_of-push c.args.files.now.items c.add.new.files.items c.args.name.now _ at e
+    ∙ ap (with_bytes _ c.args.name.now)
+    (sym (overwritten-nil c.args.at c.args.bytes.now start) ∙ ap (λ (l : List ℕ). overwritten l c.args.at c.args.bytes.now) (sym none)))
+    c.add.ensures.ok

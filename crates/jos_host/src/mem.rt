@@ -1,0 +1,347 @@
+//! A host all in memory, that tells everything.
+
+ghost use Rattle.std.specs.Prelude.{◌≡◌, ◌↔◌, ◌≤◌, [], ◌∷◌, ◌++◌, length, option_map, take, drop, min, Some, IsErr, IfOk, OnOk, OnErr, Contains, position, option_copied, string_bytes};
+ghost use Rattle.std.specs.Str.{bytes_eq};
+ghost use Rattle.jos_host.specs.Count.{counted, risen};
+ghost use Rattle.jos_host.specs.Files.{with_bytes, bytes_of, overwritten};
+ghost use Rattle.jos_host.specs.Told.{ReadsAt};
+ghost use Rattle.jos_host.specs.MemHost.{named_of, files_of, called, refused};
+
+use crate::faults::{refuse, settle};
+use crate::{Failed, Host};
+use std::alloc::{AllocError, Global};
+use std::marker::Model;
+
+/// Bytes under a name.
+#[derive(Debug, Drop)]
+pub struct NamedBytes {
+    pub name: String,
+    pub bytes: Vec<u8>,
+}
+
+/// A host all in memory: named byte lists, an input that is given at the start, and what was written.
+///
+/// Each call of the trait has a number, from 0 on. A call whose number is listed fails, and so does one that
+/// finds no memory to grow into: it raises the count of faults and changes nothing else.
+#[derive(Drop)]
+pub struct MemHost {
+    alloc: Global,
+    files: Vec<NamedBytes>,
+    input: Vec<u8>,
+    // How many bytes of the input were read.
+    taken: usize,
+    console: Vec<u8>,
+    notes: Vec<u8>,
+    fails: Vec<u64>,
+    calls: u64,
+    faults: u64,
+}
+
+impl Model for MemHost {
+    ghost use Rattle.std.specs.Prelude.{◌≤◌, length, drop};
+    ghost use Rattle.jos_host.specs.MemHost.{Held, held_code, named_of};
+
+    ghost Value = { Held };
+
+    ghost coded = { held_code };
+
+    ghost view = { λ h. record {
+      named = named_of h.files.items;
+      input = drop h.taken h.input.items;
+      console = h.console.items;
+      notes = h.notes.items;
+      fails = h.fails.items;
+      calls = h.calls;
+      faults = h.faults;
+    } };
+
+    ghost invariant = { λ h. h.taken ≤ length h.input.items };
+}
+
+impl MemHost {
+    /// A host of these files and this input, whose calls with the numbers in `fails` fail. It takes no memory
+    /// for itself. Of two files with one name the first counts.
+    pub fn new(alloc: Global, files: Vec<NamedBytes>, input: Vec<u8>, fails: Vec<u64>) -> MemHost
+        ensures { result ≡ record {
+          named = named_of files.items;
+          input = input.items;
+          console = [];
+          notes = [];
+          fails = fails.items;
+          calls = 0;
+          faults = 0;
+        } }
+    {
+        MemHost {
+            alloc,
+            files,
+            input,
+            taken: 0,
+            console: Vec::new(alloc),
+            notes: Vec::new(alloc),
+            fails,
+            calls: 0,
+            faults: 0,
+        }
+    }
+
+    /// The bytes under this name.
+    pub fn file(&self, name: &str) -> Option<&[u8]>
+        ensures { option_copied result ≡ files_of self.now.named name.now }
+    {
+        find(&self.files, name)
+    }
+
+    /// The console bytes written.
+    pub fn console(&self) -> &[u8]
+        ensures { result.now ≡ self.now.console }
+    {
+        &self.console
+    }
+
+    /// The note bytes written.
+    pub fn notes(&self) -> &[u8]
+        ensures { result.now ≡ self.now.notes }
+    {
+        &self.notes
+    }
+
+    /// How many calls have failed. The count ends at `u64::MAX`.
+    pub fn faults(&self) -> u64
+        ensures { result ≡ counted self.now.faults }
+    {
+        self.faults
+    }
+}
+
+impl Host for MemHost {
+    ghost files = { λ h. Some (files_of h.named) };
+
+    ghost input = { λ h. Some h.input };
+
+    ghost console = { λ h. Some h.console };
+
+    ghost notes = { λ h. Some h.notes };
+
+    ghost faults = { λ h. counted h.faults };
+
+    ghost use Rattle.std.proofs.Common.{arith};
+
+    ghost faults_fit = { λ h. Prim.omega arith };
+
+    fn size(&mut self, name: &str) -> Result<Option<u64>, Failed>
+        ensures listed { IsErr result ↔ Contains self.old.fails self.old.calls }
+        ensures size { IfOk result (λ size. size ≡ option_map length (files_of self.old.named name.now)) }
+        ensures went { OnOk result (self.new ≡ called self.old) }
+        ensures failed { OnErr result (self.new ≡ refused self.old) }
+    {
+        begin(&self.fails, &mut self.calls, &mut self.faults)?;
+        Ok(find(&self.files, name).map(|bytes| bytes.len() as u64))
+    }
+
+    fn read_at(&mut self, name: &str, at: u64, buf: &mut [u8]) -> Result<usize, Failed>
+        ensures listed { IsErr result ↔ Contains self.old.fails self.old.calls }
+        ensures within { IfOk result (λ n. n ≤ length buf.old) }
+        ensures told { IfOk result
+            (λ n. ReadsAt (Some (files_of self.old.named)) name.now at buf.old buf.new n) }
+        ensures went { OnOk result (self.new ≡ called self.old) }
+        ensures failed { OnErr result (self.new ≡ refused self.old) }
+        ensures untouched { OnErr result (buf.new ≡ buf.old) }
+    {
+        begin(&self.fails, &mut self.calls, &mut self.faults)?;
+        let bytes = find(&self.files, name).unwrap_or(&[]);
+        Ok(fill(buf, after(bytes, at)))
+    }
+
+    fn create(&mut self, name: &str) -> Result<(), Failed>
+        ensures listed { Contains self.old.fails self.old.calls → IsErr result }
+        ensures created { OnOk result
+            (files_of self.new.named ≡ with_bytes (files_of self.old.named) name.now []) }
+        ensures went { OnOk result (self.new ≡ record (called self.old) { named = self.new.named }) }
+        ensures failed { OnErr result (self.new ≡ refused self.old) }
+    {
+        begin(&self.fails, &mut self.calls, &mut self.faults)?;
+        settle(empty(self.alloc, &mut self.files, name), &mut self.faults)
+    }
+
+    fn write_at(&mut self, name: &str, at: u64, bytes: &[u8]) -> Result<(), Failed>
+        requires { at ≤ length (bytes_of (files_of self.old.named) name.now) }
+        ensures listed { Contains self.old.fails self.old.calls → IsErr result }
+        ensures written { OnOk result (files_of self.new.named
+            ≡ with_bytes (files_of self.old.named) name.now
+            (overwritten (bytes_of (files_of self.old.named) name.now) at bytes.now)) }
+        ensures went { OnOk result (self.new ≡ record (called self.old) { named = self.new.named }) }
+        ensures failed { OnErr result (self.new ≡ refused self.old) }
+    {
+        begin(&self.fails, &mut self.calls, &mut self.faults)?;
+        settle(
+            store(self.alloc, &mut self.files, name, at, bytes),
+            &mut self.faults,
+        )
+    }
+
+    fn console_read(&mut self, buf: &mut [u8]) -> Result<usize, Failed>
+        ensures listed { IsErr result ↔ Contains self.old.fails self.old.calls }
+        ensures count { IfOk result (λ n. n ≡ min (length buf.old) (length self.old.input)) }
+        ensures taken { IfOk result (λ n. buf.new ≡ take n self.old.input ++ drop n buf.old) }
+        ensures went { IfOk result
+            (λ n. self.new ≡ record (called self.old) { input = drop n self.old.input }) }
+        ensures failed { OnErr result (self.new ≡ refused self.old) }
+        ensures untouched { OnErr result (buf.new ≡ buf.old) }
+    {
+        begin(&self.fails, &mut self.calls, &mut self.faults)?;
+        let count = fill(buf, &self.input[self.taken..]);
+        self.taken += count;
+        Ok(count)
+    }
+
+    fn console_write(&mut self, bytes: &[u8]) -> Result<(), Failed>
+        ensures listed { Contains self.old.fails self.old.calls → IsErr result }
+        ensures went { OnOk result
+            (self.new ≡ record (called self.old) { console = self.old.console ++ bytes.now }) }
+        ensures failed { OnErr result (self.new ≡ refused self.old) }
+    {
+        begin(&self.fails, &mut self.calls, &mut self.faults)?;
+        append(&mut self.console, bytes, &mut self.faults)
+    }
+
+    fn note_write(&mut self, bytes: &[u8]) -> Result<(), Failed>
+        ensures listed { Contains self.old.fails self.old.calls → IsErr result }
+        ensures went { OnOk result
+            (self.new ≡ record (called self.old) { notes = self.old.notes ++ bytes.now }) }
+        ensures failed { OnErr result (self.new ≡ refused self.old) }
+    {
+        begin(&self.fails, &mut self.calls, &mut self.faults)?;
+        append(&mut self.notes, bytes, &mut self.faults)
+    }
+}
+
+// The place of the first file of this name.
+fn place(files: &[NamedBytes], name: &str) -> Option<usize>
+    ensures { result ≡ position (λ file. bytes_eq name.now (string_bytes file.name)) files.now }
+{
+    files.iter().position(|file| name == file.name.as_str())
+}
+
+fn find<'a>(files: &'a [NamedBytes], name: &str) -> Option<&'a [u8]>
+    ensures { option_copied result ≡ files_of (named_of files.now) name.now }
+{
+    match place(files, name) {
+        Some(at) => Some(&files[at].bytes),
+        None => None,
+    }
+}
+
+// Counts a call, which fails where its number is listed.
+fn begin(fails: &[u64], calls: &mut u64, faults: &mut u64) -> Result<(), Failed>
+    ensures listed { IsErr result ↔ Contains fails.now calls.old }
+    ensures calls { calls.new ≡ risen calls.old }
+    ensures failed { OnErr result (faults.new ≡ risen faults.old) }
+    ensures went { OnOk result (faults.new ≡ faults.old) }
+{
+    let number = *calls;
+    *calls = number.saturating_add(1);
+    if fails.contains(&number) {
+        Err(refuse(faults))
+    } else {
+        Ok(())
+    }
+}
+
+// Adds the bytes at the end, and counts a fault where there is no memory.
+fn append(kept: &mut Vec<u8>, bytes: &[u8], faults: &mut u64) -> Result<(), Failed>
+    ensures ok { OnOk result (kept.new.items ≡ kept.old.items ++ bytes.now) }
+    ensures err { OnErr result (kept.new.items ≡ kept.old.items) }
+    ensures went { OnOk result (faults.new ≡ faults.old) }
+    ensures failed { OnErr result (faults.new ≡ risen faults.old) }
+{
+    settle(kept.extend_from_slice(bytes), faults)
+}
+
+// The bytes from a place on.
+fn after(bytes: &[u8], at: u64) -> &[u8]
+    ensures { result.now ≡ drop at bytes.now }
+{
+    if at < bytes.len() as u64 {
+        &bytes[at as usize..]
+    } else {
+        &[]
+    }
+}
+
+// Copies as many of the bytes as the buffer has room for, and says how many.
+fn fill(buf: &mut [u8], bytes: &[u8]) -> usize
+    ensures count { result ≡ min (length buf.old) (length bytes.now) }
+    ensures filled { buf.new ≡ take result bytes.now ++ drop result buf.old }
+{
+    let count = buf.len().min(bytes.len());
+    buf[..count].copy_from_slice(&bytes[..count]);
+    count
+}
+
+// Writes the bytes over what stands from `at` on. The memory is found first.
+fn overwrite(kept: &mut Vec<u8>, at: usize, bytes: &[u8]) -> Result<(), AllocError>
+    requires { at ≤ length kept.old.items }
+    ensures ok { OnOk result (kept.new.items ≡ overwritten kept.old.items at bytes.now) }
+    ensures err { OnErr result (kept.new.items ≡ kept.old.items) }
+{
+    let (over, beyond) = bytes.split_at(bytes.len().min(kept.len() - at));
+    kept.extend_from_slice(beyond)?;
+    kept[at..at + over.len()].copy_from_slice(over);
+    Ok(())
+}
+
+// Adds a file. The memory is found first.
+fn add(
+    alloc: Global,
+    files: &mut Vec<NamedBytes>,
+    name: &str,
+    bytes: &[u8],
+) -> Result<(), AllocError>
+    ensures ok { OnOk result
+        (named_of files.new.items ≡ named_of files.old.items ++ (name.now, bytes.now) ∷ []) }
+    ensures err { OnErr result (files.new.items ≡ files.old.items) }
+{
+    let name = String::from_str(alloc, name)?;
+    let bytes = Vec::from_slice(alloc, bytes)?;
+    files.push(NamedBytes { name, bytes })?;
+    Ok(())
+}
+
+// Makes the name an empty file.
+fn empty(alloc: Global, files: &mut Vec<NamedBytes>, name: &str) -> Result<(), AllocError>
+    ensures ok { OnOk result (files_of (named_of files.new.items)
+        ≡ with_bytes (files_of (named_of files.old.items)) name.now []) }
+    ensures err { OnErr result (named_of files.new.items ≡ named_of files.old.items) }
+{
+    match place(files, name) {
+        Some(found) => {
+            files[found].bytes.clear();
+            Ok(())
+        }
+        None => add(alloc, files, name, &[]),
+    }
+}
+
+// Writes into the file of this name, which is added where it is absent.
+fn store(
+    alloc: Global,
+    files: &mut Vec<NamedBytes>,
+    name: &str,
+    at: u64,
+    bytes: &[u8],
+) -> Result<(), AllocError>
+    requires { at ≤ length (bytes_of (files_of (named_of files.old.items)) name.now) }
+    ensures ok { OnOk result (files_of (named_of files.new.items)
+        ≡ with_bytes (files_of (named_of files.old.items)) name.now
+        (overwritten (bytes_of (files_of (named_of files.old.items)) name.now) at bytes.now)) }
+    ensures err { OnErr result (named_of files.new.items ≡ named_of files.old.items) }
+{
+    match place(files, name) {
+        Some(found) => overwrite(&mut files[found].bytes, at as usize, bytes),
+        None => add(alloc, files, name, bytes),
+    }
+}
+
+#[cfg(test)]
+mod tests;

@@ -1,0 +1,160 @@
+//! The host over the files and the streams of the system. It is proved to count its failures, and what it
+//! does outside is trusted.
+
+ghost use Rattle.std.specs.Prelude.{◌≡◌, ◌≤◌, None, IfOk, length};
+ghost use Rattle.jos_host.specs.Count.{counted};
+
+use crate::faults::settle;
+use crate::{Failed, Host};
+use std::fs::OpenOptions;
+use std::io::{ErrorKind, Read, Seek, SeekFrom, Write};
+use std::marker::Model;
+use std::rt::Files;
+use std::{fs, io};
+
+/// The host over a runtime's files, standard input and standard output, with notes to a stream of their own,
+/// as standard error.
+///
+/// A clause sees the count of its faults, and nothing of what is outside.
+#[derive(Drop)]
+pub struct OsHost<R, N> {
+    runtime: R,
+    notes: N,
+    faults: u64,
+}
+
+impl<R, N> Model for OsHost<R, N> {
+    ghost use Rattle.std.specs.Prelude.{ℕ};
+
+    ghost Value = { ℕ };
+
+    ghost view = { λ h. h.faults };
+}
+
+impl<R, N> OsHost<R, N> {
+    /// A host over this runtime, that writes its notes to `notes`.
+    pub fn new(runtime: R, notes: N) -> OsHost<R, N>
+        ensures { result ≡ 0 }
+    {
+        OsHost {
+            runtime,
+            notes,
+            faults: 0,
+        }
+    }
+
+    /// How many calls have failed. The count ends at `u64::MAX`.
+    pub fn faults(&self) -> u64
+        ensures { result ≡ counted self.now }
+    {
+        self.faults
+    }
+}
+
+impl<R: Files + Input + Print, N: Print> Host for OsHost<R, N> {
+    ghost files = { λ _. None };
+
+    ghost input = { λ _. None };
+
+    ghost console = { λ _. None };
+
+    ghost notes = { λ _. None };
+
+    ghost faults = { counted };
+
+    ghost use Rattle.std.proofs.Common.{arith};
+
+    ghost faults_fit = { λ h. Prim.omega arith };
+
+    fn size(&mut self, name: &str) -> Result<Option<u64>, Failed> {
+        settle(file_size(&self.runtime, name), &mut self.faults)
+    }
+
+    fn read_at(&mut self, name: &str, at: u64, buf: &mut [u8]) -> Result<usize, Failed> {
+        settle(read_file(&self.runtime, name, at, buf), &mut self.faults)
+    }
+
+    fn create(&mut self, name: &str) -> Result<(), Failed> {
+        settle(fs::create(&self.runtime, name), &mut self.faults)?;
+        Ok(())
+    }
+
+    fn write_at(&mut self, name: &str, at: u64, bytes: &[u8]) -> Result<(), Failed> {
+        settle(write_file(&self.runtime, name, at, bytes), &mut self.faults)
+    }
+
+    fn console_read(&mut self, buf: &mut [u8]) -> Result<usize, Failed> {
+        settle(read_some(&mut self.runtime.reader(), buf), &mut self.faults)
+    }
+
+    fn console_write(&mut self, bytes: &[u8]) -> Result<(), Failed> {
+        settle(self.runtime.write_all(bytes), &mut self.faults)
+    }
+
+    fn note_write(&mut self, bytes: &[u8]) -> Result<(), Failed> {
+        settle(self.notes.write_all(bytes), &mut self.faults)
+    }
+}
+
+// The length of the file in bytes, or `None` where there is none of this name.
+fn file_size(files: &impl Files, name: &str) -> io::Result<Option<u64>> {
+    match fs::metadata(files, name) {
+        Ok(metadata) => Ok(Some(metadata.len())),
+        Err(e) if e.kind() == ErrorKind::NotFound => Ok(None),
+        Err(e) => Err(e),
+    }
+}
+
+// Reads from byte `at` on, until the buffer is full or the file ends. A file that is absent has no bytes.
+fn read_file(files: &impl Files, name: &str, at: u64, buf: &mut [u8]) -> io::Result<usize>
+    ensures within { IfOk result (λ n. n ≤ length buf.old) }
+{
+    match fs::open(files, name) {
+        Ok(mut file) => {
+            file.seek(SeekFrom::Start(at))?;
+            read_full(&mut file, buf)
+        }
+        Err(e) if e.kind() == ErrorKind::NotFound => Ok(0),
+        Err(e) => Err(e),
+    }
+}
+
+// Writes from byte `at` on, into a file that is made where it is absent.
+fn write_file(files: &impl Files, name: &str, at: u64, bytes: &[u8]) -> io::Result<()> {
+    let mut file = OpenOptions::new()
+        .write(true)
+        .create(true)
+        .open(files, name)?;
+    file.seek(SeekFrom::Start(at))?;
+    file.write_all(bytes)
+}
+
+// Reads until the buffer is full or the reader ends.
+fn read_full(reader: &mut impl Read, buf: &mut [u8]) -> io::Result<usize>
+    ensures within { IfOk result (λ n. n ≤ length buf.old) }
+{
+    let mut filled = 0;
+    while filled < buf.len() {
+        match read_some(reader, &mut buf[filled..])? {
+            0 => break,
+            count => filled += count,
+        }
+    }
+    Ok(filled)
+}
+
+// One read, which is tried again where a signal came first.
+fn read_some(reader: &mut impl Read, buf: &mut [u8]) -> io::Result<usize>
+    ensures within { IfOk result (λ n. n ≤ length buf.old) }
+{
+    for _ in 0..u64::MAX {
+        match reader.read(buf) {
+            Err(e) if e.kind() == ErrorKind::Interrupted => {}
+            done => return done,
+        }
+    }
+    Err(io::Error::from(ErrorKind::Interrupted))
+}
+
+#[cfg(test)]
+mod tests;

@@ -1,0 +1,5 @@
+pub mod Readers
+pub mod Immediates
+pub mod Operands
+pub mod Forms
+pub mod Instructions

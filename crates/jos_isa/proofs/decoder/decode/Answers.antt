@@ -1,0 +1,23 @@
+use Rattle.std.proofs.Common.{◌≤◌, ◌∙◌, length, take, sym, subst}
+use Rattle.jos_isa.specs.declared.decoder.Decoded.{Decoded}
+use Rattle.jos_isa.specs.Spelling.{Spells}
+use Rattle.jos_isa.specs.Laws.{IfFound}
+use Rattle.jos_isa.proofs.Instructions.{found, only, short, only_short, bounded}
+use Rattle.jos_isa.proofs.decoder.decode.Goals as goal
+
+pub returns-clause-found : goal.returns-clause-found
+returns-clause-found c =
+    subst (λ (d : Decoded). IfFound d (λ insn len. (len ≤ length c.args.bytes.now) × Spells insn (take len c.args.bytes.now)))
+    (sym c.decode_exactly.ensures) (found c.args.bytes.now)
+
+pub returns-clause-only : goal.returns-clause-only
+returns-clause-only c insn front more e h = c.decode_exactly.ensures ∙ only c.args.bytes.now insn front more e h
+
+pub returns-clause-short : goal.returns-clause-short
+returns-clause-short c e = short c.args.bytes.now (sym c.decode_exactly.ensures ∙ e)
+
+pub returns-clause-only_short : goal.returns-clause-only_short
+returns-clause-only_short c insn next more h = c.decode_exactly.ensures ∙ only_short c.args.bytes.now insn next more h
+
+pub returns-clause-bounded : goal.returns-clause-bounded
+returns-clause-bounded c e = bounded c.args.bytes.now (sym c.decode_exactly.ensures ∙ e)
