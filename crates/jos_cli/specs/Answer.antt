@@ -1,5 +1,5 @@
 -- What the program answers, where nothing fails, as a function of its words and of the files; and what its
--- outcome says of that. Refusals are tried in the order in which they stand.
+-- outcome says of that. Refusals are tried in the order in which they stand. (This system's own.)
 use Rattle.std.specs.Prelude.{◌≡◌, ℕ, ◌&&◌, nat_lt, not, Bool, false, ◌==◌, List, [], ◌∷◌, length, Option, Some, None, Result, Ok, Err, codes, if◌then◌else◌}
 use Rattle.std.specs.Str.{bytes_eq}
 use Rattle.jos_host.specs.Files.{Files}

@@ -1,5 +1,7 @@
 -- A run of the exokernel with one environment: boot, and then step after step, in turns, until an end test
 -- holds.
+-- (MIT 6.828, kern/env.c and kern/sched.c, and inc/memlayout.h; turns of a number of steps, the budget and the ends
+-- are this system's own.)
 use Rattle.std.specs.Prelude.{ℕ, ◌+◌, ◌%◌, ◌^◌, ◌==◌, ◌&&◌, nat_lt, nat_le, not, zero, suc, Bool, true, false, List, [], ◌∷◌, ◌++◌, length, take, drop, Option, Some, None, unwrap_or, if◌then◌else◌}
 use Rattle.jos_base.specs.declared.registers.Regs.{Regs}
 use Rattle.jos_base.specs.declared.environment.Status.{Status}

@@ -1,4 +1,4 @@
--- The note that tells the answer: one line.
+-- The note that tells the answer: one line. (This system's own.)
 use Rattle.std.specs.Prelude.{ℕ, List, [], ◌++◌, length, slice_get, unwrap_or, Option, codes, decimal}
 use Rattle.jos_base.specs.Lines.{hex_word}
 use Rattle.jos_cli.specs.declared.outcome.End.{End}

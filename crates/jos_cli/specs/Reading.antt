@@ -1,4 +1,4 @@
--- What reading a file gives.
+-- What reading a file gives: its bytes, or the first fault that it has. (This system's own.)
 use Rattle.std.specs.Prelude.{◌≡◌, ℕ, ◌<◌, ◌≤◌, List, length, Option, Some, None}
 use Rattle.jos_host.specs.Told.{Rose}
 use Rattle.jos_cli.specs.declared.image_file.FileFault.{FileFault}

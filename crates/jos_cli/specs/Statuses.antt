@@ -1,4 +1,4 @@
--- The exit statuses.
+-- The exit statuses. (This system's own.)
 use Rattle.std.specs.Prelude.{ℕ}
 use Rattle.jos_cli.specs.declared.outcome.End.{End}
 use Rattle.jos_cli.specs.declared.outcome.End.TheVariants.{Done, Stuck, Budget, TurnsFull}

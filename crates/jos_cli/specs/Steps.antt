@@ -1,4 +1,5 @@
 -- One step of an environment: an instruction with the system call or the trap that it raises.
+-- (MIT 6.828, kern/trap.c, and inc/trap.h for the gates.)
 use Rattle.std.specs.Prelude.{ℕ, ◌==◌, List, [], if◌then◌else◌}
 use Rattle.jos_base.specs.KernelState.{Slot}
 use Rattle.jos_base.specs.Reach.{read_byte}

@@ -7,6 +7,9 @@
 //! the whole run.
 #![tactic(auto)]
 
+ghost use Rattle.std.specs.Prelude.{◌≡◌};
+ghost use Rattle.jos_cli.specs.Answer.{HasOutcomeCause};
+
 mod answer;
 mod arithmetic;
 mod command;
@@ -30,7 +33,11 @@ use std::rt::Env;
 use std::{env, io};
 
 /// Does what the command line asks. A word that is no text makes the words no command.
-fn run_words<R: Env + AllocGlobal, H: Host>(rt: &R, host: &mut H) -> Outcome {
+fn run_words<R: Env + AllocGlobal, H: Host>(rt: &R, host: &mut H) -> Outcome
+    ensures cause { HasOutcomeCause (H.faults host.old) (H.faults host.new) result }
+    ensures files { H.files host.new ≡ H.files host.old }
+    ensures input { H.input host.new ≡ H.input host.old }
+{
     let mut arguments = match env::args(rt) {
         Ok(arguments) => arguments,
         Err(error) if error.kind() == io::ErrorKind::OutOfMemory => {
