@@ -1,4 +1,4 @@
-pub mod Fetches
+pub mod Probes
 pub mod Buffers
 pub mod ToldBytes
 pub mod Runs

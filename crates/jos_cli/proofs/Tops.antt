@@ -20,6 +20,7 @@ part_of e (outcome.Ran report) old new h = all_of old new e.console h.1
 part_of e outcome.Usage old new h = all_of old new e.console h.1
 part_of e (outcome.Absent word) old new h = all_of old new e.console h.1
 part_of e (outcome.Limit which) old new h = all_of old new e.console h.1
+part_of e (outcome.BadImage word fault) old new h = all_of old new e.console h.1
 part_of e (outcome.Unbuilt form) old new h = all_of old new e.console h.1
 
 pub answers_part : (told : Option Files) (words : List (List ℕ)) (result : Outcome) (stopped : Stopped) (old new later : Option (List ℕ)) →

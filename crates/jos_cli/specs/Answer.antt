@@ -1,9 +1,10 @@
 -- What the program answers, where nothing fails, as a function of its words and of the files; and what its
 -- outcome says of that. Refusals are tried in the order in which they stand. (This system's own.)
-use Rattle.std.specs.Prelude.{◌≡◌, ℕ, ◌&&◌, nat_lt, not, Bool, false, ◌==◌, List, [], ◌∷◌, length, Option, Some, None, Result, Ok, Err, codes, if◌then◌else◌}
+use Rattle.std.specs.Prelude.{◌≡◌, ℕ, ◌&&◌, nat_lt, nat_le, ◌+◌, not, Bool, false, ◌==◌, List, [], ◌∷◌, length, Option, Some, None, Result, Ok, Err, codes, if◌then◌else◌}
 use Rattle.std.specs.Str.{bytes_eq}
 use Rattle.jos_host.specs.Files.{Files}
 use Rattle.jos_host.specs.Told.{Rose}
+use Rattle.jos_base.specs.Words.{page_offset}
 use Rattle.jos_elf.specs.declared.fault.ElfFault.{ElfFault}
 use Rattle.jos_elf.specs.declared.image.Segment.{Segment}
 use Rattle.jos_elf.specs.Layout.{Layout}
@@ -17,12 +18,10 @@ use Rattle.jos_cli.specs.declared.outcome.Which.TheVariants as which
 use Rattle.jos_cli.specs.declared.outcome.Form.{Form}
 use Rattle.jos_cli.specs.declared.outcome.Form.TheVariants as form
 use Rattle.jos_cli.specs.declared.outcome.Outcome.{Outcome}
-use Rattle.jos_cli.specs.declared.outcome.Outcome.TheVariants.{Ran, Usage, Absent, Limit, HostFault, NoMemory, Unbuilt}
+use Rattle.jos_cli.specs.declared.outcome.Outcome.TheVariants.{Ran, Usage, Absent, Limit, BadImage, HostFault, NoMemory, Unbuilt}
 use Rattle.jos_cli.specs.declared.kernel.Kernel.{Kernel}
-use Rattle.jos_cli.specs.declared.kernel.Ending.{Ending}
-use Rattle.jos_cli.specs.declared.kernel.Ending.TheVariants.{Ended, Unknown}
 use Rattle.jos_cli.specs.Meanings.{Gains, GainsPart}
-use Rattle.jos_cli.specs.ExoRun.{boot, exo_run}
+use Rattle.jos_cli.specs.ExoRun.{exo_run}
 use Rattle.jos_cli.specs.ExoRun as run
 
 -- THE WORDS
@@ -54,6 +53,7 @@ pub data Answer : Type 0 where
   -- the word that names it, counted from 0
   absent : ℕ → Answer
   limit : Which → Answer
+  bad_image : ℕ → ElfFault → Answer
   unbuilt : Form → Answer
   ran : Reported → Answer
 
@@ -77,20 +77,21 @@ report_with end steps turns = record {
   upcalls = 0;
 }
 
-abbrev pub answer_at : run.Ran → Ending → Answer
-answer_at r (Ended end) = ran (report_with end r.steps r.turns)
-answer_at r (Unknown ip) = unbuilt (form.Insn ip)
-
 abbrev pub expected_of_run : run.Ran → Expected
-expected_of_run r = record { answer = answer_at r r.ending; console = r.state.console }
+expected_of_run r = record { answer = ran (report_with r.end r.steps r.turns); console = r.state.console }
 
--- the budget of a run is 1,000,000 steps
+-- a segment whose memory lies in one page
+abbrev pub is_one_page : Segment → Bool
+is_one_page segment = nat_le (page_offset segment.va + segment.mem_len) 4096
+
+-- An image of one segment in one page is run; the budget is 1,000,000 steps. No other is built.
 abbrev pub expected_of_segments : List ℕ → ℕ → List Segment → Expected
-expected_of_segments file entry (segment ∷ []) = expected_of_run (exo_run (boot entry segment file) 1000000)
+expected_of_segments file entry (segment ∷ []) =
+    if is_one_page segment then expected_of_run (exo_run entry segment file 1000000) else refused (unbuilt form.Image)
 expected_of_segments file entry _ = refused (unbuilt form.Image)
 
 abbrev pub expected_of_image : List ℕ → Result Layout ElfFault → Expected
-expected_of_image file (Err fault) = refused (unbuilt form.Image)
+expected_of_image file (Err fault) = refused (bad_image 1 fault)
 expected_of_image file (Ok layout) = expected_of_segments file layout.entry layout.segments
 
 abbrev pub expected_of_file : Option (List ℕ) → Expected
@@ -122,16 +123,13 @@ reported r = record {
 abbrev pub report_of : Kernel → End → Reported
 report_of kernel end = report_with end kernel.steps (run.turns_of kernel.turns.items kernel.made)
 
-abbrev pub answer_after : Kernel → Ending → Answer
-answer_after kernel (Ended end) = ran (report_of kernel end)
-answer_after kernel (Unknown ip) = unbuilt (form.Insn ip)
-
 -- the outcome is this answer
 abbrev pub IsAnswer : Outcome → Answer → Type 0
 IsAnswer (Ran report) answer = answer ≡ ran (reported report)
 IsAnswer Usage answer = answer ≡ usage
 IsAnswer (Absent word) answer = answer ≡ absent word
 IsAnswer (Limit which) answer = answer ≡ limit which
+IsAnswer (BadImage word fault) answer = answer ≡ bad_image word fault
 IsAnswer (Unbuilt form) answer = answer ≡ unbuilt form
 IsAnswer (HostFault stopped) answer = ⊥
 IsAnswer NoMemory answer = ⊥
@@ -156,6 +154,7 @@ HasOutcomeCause before now (Ran report) = now ≡ before
 HasOutcomeCause before now Usage = now ≡ before
 HasOutcomeCause before now (Absent word) = now ≡ before
 HasOutcomeCause before now (Limit which) = now ≡ before
+HasOutcomeCause before now (BadImage word fault) = now ≡ before
 HasOutcomeCause before now (Unbuilt form) = now ≡ before
 HasOutcomeCause before now NoMemory = now ≡ before
 

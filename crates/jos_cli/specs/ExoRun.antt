@@ -8,15 +8,12 @@ use Rattle.jos_base.specs.declared.environment.Status.{Status}
 use Rattle.jos_base.specs.declared.environment.Status.TheVariants.{Free, Runnable, Running}
 use Rattle.jos_base.specs.Words.{page_number, page_offset, upd}
 use Rattle.jos_base.specs.KernelState.{KernelState, Slot, is_live}
-use Rattle.jos_base.specs.SystemCalls.{Change, changed}
 use Rattle.jos_elf.specs.declared.image.Segment.{Segment}
 use Rattle.jos_cli.specs.declared.outcome.End.{End}
 use Rattle.jos_cli.specs.declared.outcome.End.TheVariants.{Done, Stuck, Budget, TurnsFull}
 use Rattle.jos_cli.specs.declared.outcome.Turn.{Turn}
-use Rattle.jos_cli.specs.declared.kernel.Ending.{Ending}
-use Rattle.jos_cli.specs.declared.kernel.Ending.TheVariants.{Ended, Unknown}
 use Rattle.jos_cli.specs.Space.{Mapped, pages_of, entries_of, page_with, zero_bytes}
-use Rattle.jos_cli.specs.Steps.{Stepped, Went, Unread, stepped}
+use Rattle.jos_cli.specs.Steps.{Stepped, stepped}
 
 -- BOOT
 
@@ -64,12 +61,9 @@ unused = record {
   entries = λ _. None;
 }
 
--- the state with one environment, in slot 0
+-- the kernel's state with one environment, in slot 0
 unfoldable pub state_with : Mapped → Slot → List ℕ → KernelState
 state_with m slot console = record { pages = pages_of m; slots = upd (λ _. unused) 0 slot; console = console }
-
-unfoldable pub boot : ℕ → Segment → List ℕ → KernelState
-boot entry segment file = state_with (mapped segment file) (first_slot entry (mapped segment file)) []
 
 -- TURNS
 
@@ -79,7 +73,11 @@ quantum turn = 1000
 
 -- where a run stands
 pub record Progress : Type 0 where
-  pub state : KernelState
+  pub memory : Mapped
+  -- the one environment's
+  pub slot : Slot
+  -- the bytes written so far
+  pub console : List ℕ
   -- made so far
   pub steps : ℕ
   -- the turns that are over
@@ -133,44 +131,49 @@ end_of slot over made spent =
 
 -- a run that is over
 pub record Ran : Type 0 where
-  pub ending : Ending
+  pub end : End
   pub state : KernelState
   pub steps : ℕ
   pub turns : List Turn
 
-abbrev pub over : Progress → Ending → Ran
-over p ending = record { ending = ending; state = p.state; steps = p.steps; turns = turns_of p.turns p.made }
+abbrev pub over : Progress → End → Ran
+over p end = record { end = end; state = state_with p.memory p.slot p.console; steps = p.steps; turns = turns_of p.turns p.made }
 
 -- THE RUN
 
--- after a step that makes this change, where its turn goes on or not
-abbrev pub progressed_in : Bool → Progress → Change → Progress
-progressed_in goes_on p change = record {
-  state = changed p.state 0 (record change { slot = if goes_on then change.slot else paused change.slot });
+-- after a step, where its turn goes on or not
+abbrev pub progressed_in : Bool → Progress → Stepped → Progress
+progressed_in goes_on p step = record {
+  memory = step.memory;
+  slot = if goes_on then step.change.slot else paused step.change.slot;
+  console = p.console ++ step.change.written;
   steps = p.steps + 1;
   turns = if goes_on then p.turns else p.turns ++ turn_of (p.made + 1) ∷ [];
   made = if goes_on then p.made + 1 else 0;
 }
 
-unfoldable pub progressed : Progress → Change → Progress
-progressed p change = progressed_in (turn_goes_on change.slot p.turns (p.made + 1)) p change
-
-abbrev pub after_step : Progress → Stepped → (Progress → Ran) → Ran
-after_step p (Went change) rest = rest (progressed p change)
-after_step p (Unread ip) rest = over p (Unknown ip)
+unfoldable pub progressed : Progress → Stepped → Progress
+progressed p step = progressed_in (turn_goes_on step.change.slot p.turns (p.made + 1)) p step
 
 abbrev pub after_test : Progress → Option End → (Progress → Ran) → Ran
-after_test p (Some end) rest = over p (Ended end)
-after_test p None rest = after_step p (stepped p.state.pages (in_turn (p.state.slots 0) p.made)) rest
+after_test p (Some end) rest = over p end
+after_test p None rest = rest (progressed p (stepped p.memory (in_turn p.slot p.made)))
 
 -- the run from here, with so many steps of the budget left
 unfoldable pub run_from : ℕ → Progress → Ran
-run_from zero p = over p (Ended (unwrap_or (end_of (p.state.slots 0) (length p.turns) p.made true) Budget))
-run_from (suc left) p =
-    after_test p (end_of (p.state.slots 0) (length p.turns) p.made false) (λ next. run_from left next)
+run_from zero p = over p (unwrap_or (end_of p.slot (length p.turns) p.made true) Budget)
+run_from (suc left) p = after_test p (end_of p.slot (length p.turns) p.made false) (λ next. run_from left next)
 
-abbrev pub at_first : KernelState → Progress
-at_first state = record { state = state; steps = 0; turns = []; made = 0 }
+-- the environment at its entry, before its first turn
+unfoldable pub boot : ℕ → Segment → List ℕ → Progress
+boot entry segment file = record {
+  memory = mapped segment file;
+  slot = first_slot entry (mapped segment file);
+  console = [];
+  steps = 0;
+  turns = [];
+  made = 0;
+}
 
-unfoldable pub exo_run : KernelState → ℕ → Ran
-exo_run state budget = run_from budget (at_first state)
+unfoldable pub exo_run : ℕ → Segment → List ℕ → ℕ → Ran
+exo_run entry segment file budget = run_from budget (boot entry segment file)

@@ -1,9 +1,6 @@
-pub mod Registers
-pub mod Flags
-pub mod Instructions
-pub mod Fetch
-pub mod Steps
 pub mod Space
+pub mod Steps
+pub mod OnePage
 pub mod Meanings
 pub mod ExoRun
 pub mod Progress

@@ -5,10 +5,8 @@ use Rattle.jos_host.specs.declared.host.Failed.{Failed}
 use Rattle.jos_base.specs.KernelState.{Slot}
 use Rattle.jos_base.specs.SystemCalls.{Change}
 use Rattle.jos_cli.specs.declared.environment.Environment.{Environment}
-use Rattle.jos_cli.specs.declared.environment.Step.{Step}
-use Rattle.jos_cli.specs.declared.environment.Step.TheVariants as did
 use Rattle.jos_cli.specs.Space.{Mapped, entries_of}
-use Rattle.jos_cli.specs.Steps.{Stepped, Went, Unread}
+use Rattle.jos_cli.specs.Steps.{Stepped}
 
 -- the slot of an environment in whose space these pages are mapped
 abbrev pub slot_of : Environment → Mapped → Slot
@@ -38,11 +36,7 @@ abbrev pub Makes : Result (Unit {0}) Failed → Change → Slot → Option (List
 Makes (Ok _) change slot old new = (slot ≡ change.slot) × Gains old new change.written
 Makes (Err _) change slot old new = GainsPart old new change.written
 
--- the same of a step, which may also have found an instruction that is not read
-abbrev pub MakesStep : Result Step Failed → Stepped → Slot → Option (List ℕ) → Option (List ℕ) → Type 0
-MakesStep (Ok did.Went) (Went change) slot old new = (slot ≡ change.slot) × Gains old new change.written
-MakesStep (Ok (did.Unread ip)) (Unread at) slot old new = (ip ≡ at) × (new ≡ old)
-MakesStep (Err _) (Went change) slot old new = GainsPart old new change.written
-MakesStep (Ok did.Went) (Unread at) slot old new = ⊥
-MakesStep (Ok (did.Unread ip)) (Went change) slot old new = ⊥
-MakesStep (Err _) (Unread at) slot old new = ⊥
+-- the same of a step, which leaves memory too
+abbrev pub MakesStep : Result (Unit {0}) Failed → Stepped → Mapped → Slot → Option (List ℕ) → Option (List ℕ) → Type 0
+MakesStep (Ok _) step memory slot old new = (memory ≡ step.memory) × (slot ≡ step.change.slot) × Gains old new step.change.written
+MakesStep (Err _) step memory slot old new = GainsPart old new step.change.written

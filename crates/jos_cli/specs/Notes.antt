@@ -1,6 +1,7 @@
 -- The note that tells the answer: one line. (This system's own.)
 use Rattle.std.specs.Prelude.{ℕ, List, [], ◌++◌, length, slice_get, unwrap_or, Option, codes, decimal}
-use Rattle.jos_base.specs.Lines.{hex_word}
+use Rattle.jos_elf.specs.declared.fault.ElfFault.{ElfFault}
+use Rattle.jos_elf.specs.declared.fault.ElfFault.TheVariants.{Truncated, Magic, Class, Kind, Machine, EntrySize, TooMany, SegmentRange, Overlap}
 use Rattle.jos_cli.specs.declared.outcome.End.{End}
 use Rattle.jos_cli.specs.declared.outcome.End.TheVariants.{Done, Stuck, Budget, TurnsFull}
 use Rattle.jos_cli.specs.declared.outcome.Report.{Report}
@@ -9,7 +10,7 @@ use Rattle.jos_cli.specs.declared.outcome.Which.TheVariants as which
 use Rattle.jos_cli.specs.declared.outcome.Form.{Form}
 use Rattle.jos_cli.specs.declared.outcome.Form.TheVariants as form
 use Rattle.jos_cli.specs.declared.outcome.Outcome.{Outcome}
-use Rattle.jos_cli.specs.declared.outcome.Outcome.TheVariants.{Ran, Usage, Absent, Limit, HostFault, NoMemory, Unbuilt}
+use Rattle.jos_cli.specs.declared.outcome.Outcome.TheVariants.{Ran, Usage, Absent, Limit, BadImage, HostFault, NoMemory, Unbuilt}
 use Rattle.jos_cli.specs.Meanings.{Gains}
 
 abbrev pub end_text : End → List ℕ
@@ -28,7 +29,17 @@ limit_text which.Image = codes "limit: image\n"
 
 abbrev pub form_text : Form → List ℕ
 form_text form.Image = codes "unbuilt: image\n"
-form_text (form.Insn ip) = codes "unbuilt: " ++ hex_word ip ++ codes "\n"
+
+unfoldable pub fault_text : ElfFault → List ℕ
+fault_text (Truncated len) = codes "truncated " ++ decimal len
+fault_text Magic = codes "magic"
+fault_text Class = codes "class"
+fault_text Kind = codes "kind"
+fault_text Machine = codes "machine"
+fault_text EntrySize = codes "entry size"
+fault_text TooMany = codes "too many"
+fault_text (SegmentRange place) = codes "segment range " ++ decimal place
+fault_text (Overlap place other) = codes "overlap " ++ decimal place ++ codes " " ++ decimal other
 
 -- the line, but for the word that begins it
 abbrev pub note_text : Outcome → List ℕ
@@ -36,6 +47,7 @@ note_text (Ran report) = report_text report
 note_text Usage = codes "usage: jos COMMAND [OPTIONS] WORDS\n"
 note_text (Absent word) = codes ": absent\n"
 note_text (Limit which) = limit_text which
+note_text (BadImage word fault) = codes ": bad image: " ++ fault_text fault ++ codes "\n"
 note_text (HostFault stopped) = codes "host fault\n"
 note_text NoMemory = codes "out of memory\n"
 note_text (Unbuilt form) = form_text form
@@ -43,6 +55,7 @@ note_text (Unbuilt form) = form_text form
 -- the word that begins the line, if one does
 abbrev pub word_in_note : List (List ℕ) → Outcome → List ℕ
 word_in_note words (Absent word) = unwrap_or (slice_get words word) []
+word_in_note words (BadImage word fault) = unwrap_or (slice_get words word) []
 word_in_note words _ = []
 
 abbrev pub note_of : List (List ℕ) → Outcome → List ℕ

@@ -1,9 +1,14 @@
 -- The two pages that are mapped, as maps from frames and from page numbers. Frames are numbered in the order
 -- in which the pages take them; directories and tables take none yet.
 -- (MIT 6.828, inc/memlayout.h)
-use Rattle.std.specs.Prelude.{◌≡◌, ◌<◌, ℕ, ◌-◌, ◌+◌, Bool, true, List, [], ◌++◌, length, replicate, Option, Some, None, if◌then◌else◌}
-use Rattle.jos_base.specs.Words.{upd}
+use Rattle.std.specs.Prelude.{◌≡◌, ◌<◌, ℕ, ◌-◌, ◌+◌, ◌==◌, Bool, true, List, [], ◌++◌, length, replicate, slice_set, Option, Some, None, Result, Ok, Err, is_ok, if◌then◌else◌}
+use Rattle.jos_base.specs.declared.memory.Access.{Access}
+use Rattle.jos_base.specs.declared.memory.PageFault.{PageFault}
+use Rattle.jos_base.specs.Words.{page_number, page_offset, upd}
 use Rattle.jos_base.specs.KernelState.{Entry}
+use Rattle.jos_base.specs.Reach.{Place, reach, read_byte}
+use Rattle.jos_cpu.specs.declared.memory.MemFault.TheVariants.{Page}
+use Rattle.jos_cpu.specs.Memory.{Memory}
 
 pub record Mapped : Type 0 where
   -- the image's page: its number, whether it may be written, and its bytes
@@ -41,3 +46,32 @@ pub record IsTwoPages (page image_len stack_len : ℕ) : Type 0 where
   pub below : page < stack_page
   pub image : image_len ≡ 4096
   pub stack : stack_len ≡ 4096
+
+-- The byte at an address, and 0 where none may be read.
+abbrev pub byte_or_zero : Result ℕ PageFault → ℕ
+byte_or_zero (Ok byte) = byte
+byte_or_zero (Err fault) = 0
+
+abbrev pub fault_or : PageFault → Result Place PageFault → PageFault
+fault_or other (Ok place) = other
+fault_or other (Err fault) = fault
+
+abbrev pub reach_in : Mapped → ℕ → Access → Result Place PageFault
+reach_in m va access = reach (entries_of m) va access
+
+-- a byte is put into the page that is there
+unfoldable pub with_byte : Mapped → ℕ → ℕ → Mapped
+with_byte m va byte =
+    if page_number va == stack_page then record m { stack = slice_set m.stack (page_offset va) byte }
+    else if page_number va == m.page then record m { image = slice_set m.image (page_offset va) byte }
+    else m
+
+-- The two pages as the memory of the environment. No accessed or dirty bits are kept.
+unfoldable pub space_memory : Memory Mapped
+space_memory = record {
+  byte = λ m va. byte_or_zero (read_byte (pages_of m) (entries_of m) va);
+  allowed = λ m va access. is_ok (reach_in m va access);
+  fault = λ m va access. Page (fault_or (record { va = va; error = 0 }) (reach_in m va access));
+  reached = λ m va access. m;
+  stored = λ m va byte. with_byte m va byte;
+}

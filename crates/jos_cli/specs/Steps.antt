@@ -2,21 +2,23 @@
 -- (MIT 6.828, kern/trap.c, and inc/trap.h for the gates.)
 use Rattle.std.specs.Prelude.{ℕ, ◌==◌, List, [], if◌then◌else◌}
 use Rattle.jos_base.specs.KernelState.{Slot}
-use Rattle.jos_base.specs.Reach.{read_byte}
 use Rattle.jos_base.specs.SystemCalls.{Change, system_call}
 use Rattle.jos_base.specs.Faults.{deliver_fault, deliver_trap}
-use Rattle.jos_cli.specs.declared.execute.Event.{Event}
-use Rattle.jos_cli.specs.declared.execute.Event.TheVariants.{Next, Soft, Raised}
-use Rattle.jos_cli.specs.declared.fetching.Fetched.{Fetched}
-use Rattle.jos_cli.specs.declared.fetching.Fetched.TheVariants.{Instruction, Fault, Unknown}
-use Rattle.jos_cli.specs.Instructions.{Effect, effect}
-use Rattle.jos_cli.specs.Fetch.{fetched}
+use Rattle.jos_cpu.specs.declared.events.Event.{Event}
+use Rattle.jos_cpu.specs.declared.events.Event.TheVariants.{Next, Soft, Raised}
+use Rattle.jos_cpu.specs.declared.events.Gates.TheVariants.{Exo}
+use Rattle.jos_cpu.specs.Steps as cpu
+use Rattle.jos_cli.specs.Space.{Mapped, pages_of, entries_of, space_memory}
 
-pub data Stepped : Type 0 where
-  -- the step and what it changes
-  Went : Change → Stepped
-  -- the instruction at this address is not one that is read
-  Unread : ℕ → Stepped
+-- what a step leaves in memory, and what it changes beside it
+pub record Stepped : Type 0 where
+  pub memory : Mapped
+  pub change : Change
+
+-- a page fault (14) has its own line
+abbrev pub after_trap : Slot → ℕ → ℕ → ℕ → ℕ → Change
+after_trap slot ip trap error va =
+    if trap == 14 then deliver_fault slot (record { va = va; error = error }) else deliver_trap slot trap error ip
 
 -- After an instruction at ip, with its registers in the slot. The system call's gate is 0x30; the breakpoint is
 -- trap 3, and is told for the address after it.
@@ -24,15 +26,13 @@ abbrev pub after_event : (ℕ → List ℕ) → Slot → ℕ → Event → Chang
 after_event pages slot ip Next = record { slot = slot; written = [] }
 after_event pages slot ip (Soft n) =
     if n == 0x30 then system_call pages slot else deliver_trap slot 3 0 slot.registers.eip
-after_event pages slot ip (Raised trap error va) = deliver_trap slot trap error ip
+after_event pages slot ip (Raised trap error va) = after_trap slot ip trap error va
 
-abbrev pub after_effect : (ℕ → List ℕ) → Slot → Effect → Change
-after_effect pages slot done = after_event pages (record slot { registers = done.registers }) slot.registers.eip done.event
+abbrev pub after_instruction : Slot → cpu.Stepped Mapped → Stepped
+after_instruction slot s = record {
+  memory = s.memory;
+  change = after_event (pages_of s.memory) (record slot { registers = s.regs; entries = entries_of s.memory }) slot.registers.eip s.event;
+}
 
-abbrev pub after_fetch : (ℕ → List ℕ) → Slot → Fetched → Stepped
-after_fetch pages slot (Instruction insn len) = Went (after_effect pages slot (effect insn len slot.registers))
-after_fetch pages slot (Fault fault) = Went (deliver_fault slot fault)
-after_fetch pages slot Unknown = Unread slot.registers.eip
-
-unfoldable pub stepped : (ℕ → List ℕ) → Slot → Stepped
-stepped pages slot = after_fetch pages slot (fetched (read_byte pages slot.entries) slot.registers.eip)
+unfoldable pub stepped : Mapped → Slot → Stepped
+stepped m slot = after_instruction slot (cpu.step_of space_memory slot.registers m Exo)

@@ -1,19 +1,21 @@
 //! The top call.
 
-ghost use Rattle.std.specs.Prelude.{◌≡◌, ◌≢◌, ℕ, ◌≤◌, [], ⊤, List, MatchOption, length, map, Option, Some};
+ghost use Rattle.std.specs.Prelude.{◌≡◌, ◌≢◌, ℕ, ◌<◌, ◌≤◌, ◌^◌, [], ◌∷◌, ⊤, Ok, List, MatchOption, length, map, Option, Some};
 ghost use Rattle.jos_host.specs.Files.{Files};
 ghost use Rattle.jos_host.specs.Told.{Rose};
-ghost use Rattle.jos_elf.specs.Parsed.{parsed, LiesIn};
-ghost use Rattle.jos_cli.specs.ExoRun.{boot, exo_run};
-ghost use Rattle.jos_cli.specs.Progress.{HasRoom};
-ghost use Rattle.jos_cli.specs.Answer.{command_of, answer_after, IsAnswer, expected_of_run, expected_of_image, expected_of_file, Answers, AnswersTold, HasOutcomeCause, IsUsageCase, IsRunCase, IsMemoryCase};
+ghost use Rattle.jos_elf.specs.Layout.{Layout};
+ghost use Rattle.jos_elf.specs.Parsed.{parsed, Lies};
+ghost use Rattle.jos_cli.specs.OnePage.{IsOnePage};
+ghost use Rattle.jos_cli.specs.ExoRun.{exo_run};
+ghost use Rattle.jos_cli.specs.Answer.{command_of, expected_of_run, expected_of_segments, expected_of_image, expected_of_file, Answers, AnswersTold, HasOutcomeCause, IsUsageCase, IsRunCase, IsMemoryCase};
 ghost use Rattle.jos_cli.specs.Notes.{IsNoted};
 
 use crate::command::image_name;
 use crate::image_file::{FileFault, read_file};
-use crate::kernel::{Ending, Kernel};
+use crate::kernel::Kernel;
 use crate::notes::write_note;
 use crate::outcome::{Form, Outcome, Stopped, Which};
+use crate::space::PAGE_LEN;
 use jos_elf::{Segment, parse};
 use jos_host::Host;
 use std::alloc::Global;
@@ -38,10 +40,10 @@ pub fn top<'a, H: Host>(alloc: Global, words: &'a [&'a str], host: &mut H) -> Ou
     // Each answer has its cause.
     ensures usage { IsUsageCase (command_of (map (λ w. w.now) words.now)) result }
     ensures cause { HasOutcomeCause (H.faults host.old) (H.faults host.new) result }
-    // A file that is there and not too long is run, unless a call of the host fails.
-    ensures complete { (files : Files) (name file : List ℕ) →
+    // A file that is there, not too long and an image is run, unless a call of the host fails.
+    ensures complete { (files : Files) (name file : List ℕ) (image : Layout) →
         H.files host.old ≡ Some files → command_of (map (λ w. w.now) words.now) ≡ Some name → files name ≡ Some file →
-        length file ≤ 16777216 → (Rose (H.faults host.old) (H.faults host.new) → ⊥) → IsRunCase result }
+        length file ≤ 16777216 → parsed file ≡ Ok image → (Rose (H.faults host.old) (H.faults host.new) → ⊥) → IsRunCase result }
 
     // Every name keeps its bytes, and no input is read.
     ensures files { H.files host.new ≡ H.files host.old }
@@ -69,18 +71,6 @@ pub(crate) fn refuse_words<H: Host>(alloc: Global, host: &mut H) -> Outcome
     }
 }
 
-/// What a run that is over comes to.
-fn close(kernel: Kernel, ending: Ending) -> Outcome
-    requires { HasRoom kernel }
-    ensures answer { IsAnswer result (answer_after kernel ending) }
-    ensures no_usage { result ≢ Outcome.Usage }
-{
-    match ending {
-        Ending::Ended(end) => Outcome::Ran(kernel.finish(end)),
-        Ending::Unknown(ip) => Outcome::Unbuilt(Form::Insn(ip)),
-    }
-}
-
 /// Boots the image and runs it.
 fn run_segment<H: Host>(
     alloc: Global,
@@ -89,8 +79,8 @@ fn run_segment<H: Host>(
     file: &[u8],
     host: &mut H,
 ) -> Outcome
-    requires { LiesIn segment.now (length file.now) }
-    ensures told { Answers (expected_of_run (exo_run (boot entry segment.now file.now) 1000000)) result (H.console host.old) (H.console host.new) }
+    requires { IsOnePage segment.now (length file.now) }
+    ensures told { Answers (expected_of_run (exo_run entry segment.now file.now 1000000)) result (H.console host.old) (H.console host.new) }
     ensures files { H.files host.new ≡ H.files host.old }
     ensures input { H.input host.new ≡ H.input host.old }
     ensures notes { H.notes host.new ≡ H.notes host.old }
@@ -102,13 +92,37 @@ fn run_segment<H: Host>(
         Err(_) => return Outcome::NoMemory,
     };
     match kernel.run(host, BUDGET) {
-        Ok(ending) => close(kernel, ending),
+        Ok(end) => Outcome::Ran(kernel.finish(end)),
         Err(_) => Outcome::HostFault(Stopped::at_no_turn(alloc)),
+    }
+}
+
+/// Runs the image of one segment, if it lies in one page.
+fn run_alone<H: Host>(
+    alloc: Global,
+    entry: u32,
+    segment: &Segment,
+    file: &[u8],
+    host: &mut H,
+) -> Outcome
+    requires { Lies (length file.now) segment.now }
+    ensures told { Answers (expected_of_segments file.now entry (segment.now ∷ [])) result (H.console host.old) (H.console host.new) }
+    ensures files { H.files host.new ≡ H.files host.old }
+    ensures input { H.input host.new ≡ H.input host.old }
+    ensures notes { H.notes host.new ≡ H.notes host.old }
+    ensures cause { HasOutcomeCause (H.faults host.old) (H.faults host.new) result }
+    ensures no_usage { result ≢ Outcome.Usage }
+{
+    if (segment.va % PAGE_LEN) as u64 + segment.mem_len as u64 <= PAGE_LEN as u64 {
+        run_segment(alloc, entry, segment, file, host)
+    } else {
+        Outcome::Unbuilt(Form::Image)
     }
 }
 
 /// Runs the image that a file holds.
 fn run_file<H: Host>(alloc: Global, file: &[u8], host: &mut H) -> Outcome
+    requires { length file.now < 2 ^ 32 }
     ensures told { Answers (expected_of_image file.now (parsed file.now)) result (H.console host.old) (H.console host.new) }
     ensures files { H.files host.new ≡ H.files host.old }
     ensures input { H.input host.new ≡ H.input host.old }
@@ -118,10 +132,10 @@ fn run_file<H: Host>(alloc: Global, file: &[u8], host: &mut H) -> Outcome
 {
     match parse(file) {
         Ok(image) => match image.segments() {
-            [segment] => run_segment(alloc, image.entry(), segment, file, host),
+            [segment] => run_alone(alloc, image.entry(), segment, file, host),
             _ => Outcome::Unbuilt(Form::Image),
         },
-        Err(_) => Outcome::Unbuilt(Form::Image),
+        Err(fault) => Outcome::BadImage(NAME_WORD, fault),
     }
 }
 

@@ -14,14 +14,6 @@ pub(crate) struct Environment {
     pub(crate) regs: Regs,
 }
 
-/// How a step has gone.
-#[derive(Clone, Copy)]
-pub(crate) enum Step {
-    Went,
-    /// At this address stands no instruction that is read.
-    Unread(u32),
-}
-
 impl Environment {
     ghost use Rattle.jos_base.specs.Words.{negated};
     ghost use Rattle.jos_base.specs.Errors.{error_number};

@@ -1,6 +1,6 @@
 //! Reading a file whole.
 
-ghost use Rattle.std.specs.Prelude.{◌≡◌, ◌≤◌, ⊤, MatchOption, MatchResult};
+ghost use Rattle.std.specs.Prelude.{◌≡◌, ◌≤◌, ⊤, IfOk, vec_len, MatchOption, MatchResult};
 ghost use Rattle.jos_cli.specs.Reading.{IsFile, IsFileFault, HasFileCause};
 
 use jos_host::Host;
@@ -27,6 +27,7 @@ pub(crate) fn read_file<H: Host>(
 ) -> Result<Vec<u8>, FileFault>
     ensures told { MatchOption (H.files host.old) ⊤ (λ files.
         MatchResult result (λ bytes. IsFile (files name.now) bytes.items) (IsFileFault (files name.now))) }
+    ensures small { IfOk result (λ bytes. vec_len bytes ≤ 16777216) }
     ensures cause { MatchResult result (λ _. H.faults host.new ≡ H.faults host.old) (HasFileCause (H.faults host.old) (H.faults host.new)) }
     ensures files { H.files host.new ≡ H.files host.old }
     ensures input { H.input host.new ≡ H.input host.old }

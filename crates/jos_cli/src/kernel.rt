@@ -1,10 +1,9 @@
 //! The kernel with one environment, and its run in turns.
 
 ghost use Rattle.std.specs.Prelude.{◌≡◌, ℕ, [], ◌+◌, ◌<◌, ◌≤◌, ◌^◌, length, IsNone, OnOk, IfOk, vec_len, vec_capacity};
-ghost use Rattle.jos_base.specs.SystemCalls.{Change};
 ghost use Rattle.jos_host.specs.Told.{HasCause};
 
-use crate::environment::{Environment, Step};
+use crate::environment::Environment;
 use crate::outcome::{End, Report, Turn};
 use crate::space::Space;
 use crate::stepping::make_step;
@@ -32,14 +31,6 @@ pub(crate) struct Kernel {
     pub(crate) steps: u64,
 }
 
-/// How a run is over.
-#[derive(Clone, Copy)]
-pub(crate) enum Ending {
-    Ended(End),
-    /// At this address stands no instruction that is read.
-    Unknown(u32),
-}
-
 /// The id of the first environment, in slot 0.
 const FIRST_ID: EnvId = EnvId(0x1000);
 
@@ -50,25 +41,24 @@ const STACK_TOP: u32 = 0xeebf_e000;
 const FIRST_FLAGS: u32 = 0x202;
 
 impl Kernel {
-    ghost use Rattle.jos_cli.specs.Space.{pages_of};
     ghost use Rattle.jos_cli.specs.Steps.{stepped};
     ghost use Rattle.jos_cli.specs.Meanings.{slot_of};
-    ghost use Rattle.jos_elf.specs.Parsed.{LiesIn};
-    ghost use Rattle.jos_cli.specs.ExoRun.{boot as boot_of, at_first, end_of, run_from};
+    ghost use Rattle.jos_cli.specs.OnePage.{IsOnePage};
+    ghost use Rattle.jos_cli.specs.ExoRun.{boot as boot_of, end_of, run_from};
     ghost use Rattle.jos_cli.specs.Progress.{progress_of, next_slot, Counts, Advances, HasRoom, IsRun};
     ghost use Rattle.jos_cli.specs.Answer.{reported, report_of};
 
     /// Boots the image of one segment: its page and a stack page are mapped, and the environment stands at the
     /// entry. It takes all the memory of the run.
-    #[tactic(auto, unfolding(crate::specs::ExoRun::boot, crate::specs::ExoRun::state_with))]
+    #[tactic(auto, unfolding(crate::specs::ExoRun::boot))]
     pub(crate) fn boot(
         alloc: Global,
         entry: u32,
         segment: &Segment,
         file: &[u8],
     ) -> Result<Kernel, AllocError>
-        requires { LiesIn segment.now (length file.now) }
-        ensures booted { IfOk result (λ kernel. progress_of kernel [] ≡ at_first (boot_of entry segment.now file.now)) }
+        requires { IsOnePage segment.now (length file.now) }
+        ensures booted { IfOk result (λ kernel. progress_of kernel [] ≡ boot_of entry segment.now file.now) }
         ensures room { IfOk result HasRoom }
         ensures first { IfOk result (λ kernel. kernel.steps ≡ 0) }
     {
@@ -150,7 +140,7 @@ impl Kernel {
         requires room { HasRoom self.old }
         requires place { vec_len self.old.turns < 1048576 }
         requires steps { self.old.steps < 2 ^ 63 }
-        ensures counted { (change : Change) → change.slot ≡ slot_of self.old.environment self.old.space → Counts self.old self.new change }
+        ensures counted { Counts self.old self.new self.old.space (slot_of self.old.environment self.old.space) }
         ensures room { HasRoom self.new }
     {
         self.steps += 1;
@@ -171,11 +161,11 @@ impl Kernel {
     }
 
     /// Makes one step of the turn under way, or the first of the next turn.
-    fn step<H: Host>(&mut self, host: &mut H) -> Result<Step, Failed>
+    fn step<H: Host>(&mut self, host: &mut H) -> Result<(), Failed>
         requires room { HasRoom self.old }
         requires place { vec_len self.old.turns < 1048576 }
         requires steps { self.old.steps < 2 ^ 63 }
-        ensures told { Advances result (stepped (pages_of self.old.space) (next_slot self.old)) self.old self.new (H.console host.old) (H.console host.new) }
+        ensures told { Advances result (stepped self.old.space (next_slot self.old)) self.old self.new (H.console host.old) (H.console host.new) }
         ensures room { HasRoom self.new }
         ensures files { H.files host.new ≡ H.files host.old }
         ensures input { H.input host.new ≡ H.input host.old }
@@ -183,18 +173,17 @@ impl Kernel {
         ensures cause { HasCause (H.faults host.old) (H.faults host.new) result }
     {
         self.environment.enter_turn(self.made);
-        match make_step(&mut self.environment, &self.space, host) {
-            Ok(Step::Went) => {
+        match make_step(&mut self.environment, &mut self.space, host) {
+            Ok(()) => {
                 self.count_step();
-                Ok(Step::Went)
+                Ok(())
             }
-            Ok(Step::Unread(ip)) => Ok(Step::Unread(ip)),
             Err(failed) => Err(failed),
         }
     }
 
     /// Runs until an end test holds, with so many steps as its budget. It takes no memory.
-    pub(crate) fn run<H: Host>(&mut self, host: &mut H, budget: u32) -> Result<Ending, Failed>
+    pub(crate) fn run<H: Host>(&mut self, host: &mut H, budget: u32) -> Result<End, Failed>
         requires room { HasRoom self.old }
         requires first { self.old.steps ≡ 0 }
         ensures told { IsRun result (run_from budget (progress_of self.old [])) self.new (H.console host.old) (H.console host.new) }
@@ -206,17 +195,16 @@ impl Kernel {
     {
         for _ in 0..budget {
             if let Some(end) = self.end(false) {
-                return Ok(Ending::Ended(end));
+                return Ok(end);
             }
             match self.step(host) {
-                Ok(Step::Went) => {}
-                Ok(Step::Unread(ip)) => return Ok(Ending::Unknown(ip)),
+                Ok(()) => {}
                 Err(failed) => return Err(failed),
             }
         }
         match self.end(true) {
-            Some(end) => Ok(Ending::Ended(end)),
-            None => Ok(Ending::Ended(End::Budget)),
+            Some(end) => Ok(end),
+            None => Ok(End::Budget),
         }
     }
 }

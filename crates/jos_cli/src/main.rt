@@ -11,11 +11,8 @@ ghost use Rattle.std.specs.Prelude.{◌≡◌};
 ghost use Rattle.jos_cli.specs.Answer.{HasOutcomeCause};
 
 mod answer;
-mod arithmetic;
 mod command;
 mod environment;
-mod execute;
-mod fetching;
 mod image_file;
 mod kernel;
 mod lines;

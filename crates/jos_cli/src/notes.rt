@@ -1,13 +1,14 @@
 //! The note that tells the answer.
 
-ghost use Rattle.std.specs.Prelude.{◌≡◌, ◌+◌, ◌≤◌, List, ℕ, length, MatchResult, map};
+ghost use Rattle.std.specs.Prelude.{◌≡◌, ◌+◌, ◌≤◌, List, ℕ, [], ◌++◌, length, slice_get, unwrap_or, codes, decimal, MatchResult, map};
 ghost use Rattle.arrayvec.specs.ArrayVec.{array_vec_len};
 ghost use Rattle.jos_host.specs.Told.{HasCause, Appends};
 ghost use Rattle.jos_cli.specs.Meanings.{Gains};
-ghost use Rattle.jos_cli.specs.Notes.{end_text, report_text, form_text, note_text, word_in_note, note_of};
+ghost use Rattle.jos_cli.specs.Notes.{end_text, report_text, fault_text, note_text, word_in_note, note_of};
 
-use crate::lines::{Line, push_decimal, push_hex_word, push_text};
+use crate::lines::{Line, push_decimal, push_text};
 use crate::outcome::{End, Form, Outcome, Report, Which};
+use jos_elf::ElfFault;
 use jos_host::{Failed, Host};
 
 fn end_word(end: End) -> &'static [u8]
@@ -48,18 +49,44 @@ fn text_line(text: &[u8]) -> Line
     line
 }
 
-fn unbuilt_line(form: Form) -> Line
-    ensures { result.items ≡ form_text form }
+fn push_number(line: &mut Line, text: &[u8], number: u32)
+    requires { array_vec_len line.old + length text.now + 20 ≤ 128 }
+    ensures text { line.new.items ≡ line.old.items ++ text.now ++ decimal number }
+    ensures len { array_vec_len line.new ≤ array_vec_len line.old + length text.now + 20 }
 {
-    match form {
-        Form::Image => text_line(b"unbuilt: image\n"),
-        Form::Insn(ip) => {
-            let mut line = text_line(b"unbuilt: ");
-            push_hex_word(&mut line, ip);
-            push_text(&mut line, b"\n");
-            line
+    push_text(line, text);
+    push_decimal(line, number as u64);
+}
+
+#[tactic(auto, unfolding(crate::specs::Notes::fault_text))]
+fn push_fault(line: &mut Line, fault: ElfFault)
+    requires { array_vec_len line.old + 80 ≤ 128 }
+    ensures text { line.new.items ≡ line.old.items ++ fault_text fault }
+    ensures len { array_vec_len line.new ≤ array_vec_len line.old + 80 }
+{
+    match fault {
+        ElfFault::Truncated(len) => push_number(line, b"truncated ", len),
+        ElfFault::Magic => push_text(line, b"magic"),
+        ElfFault::Class => push_text(line, b"class"),
+        ElfFault::Kind => push_text(line, b"kind"),
+        ElfFault::Machine => push_text(line, b"machine"),
+        ElfFault::EntrySize => push_text(line, b"entry size"),
+        ElfFault::TooMany => push_text(line, b"too many"),
+        ElfFault::SegmentRange(place) => push_number(line, b"segment range ", place),
+        ElfFault::Overlap(place, other) => {
+            push_number(line, b"overlap ", place);
+            push_number(line, b" ", other);
         }
     }
+}
+
+fn bad_image_line(fault: ElfFault) -> Line
+    ensures { result.items ≡ codes ": bad image: " ++ fault_text fault ++ codes "\n" }
+{
+    let mut line = text_line(b": bad image: ");
+    push_fault(&mut line, fault);
+    push_text(&mut line, b"\n");
+    line
 }
 
 /// The line, but for the word that begins it.
@@ -71,9 +98,10 @@ fn note_line(outcome: &Outcome) -> Line
         Outcome::Usage => text_line(b"usage: jos COMMAND [OPTIONS] WORDS\n"),
         Outcome::Absent(_) => text_line(b": absent\n"),
         Outcome::Limit(Which::Image) => text_line(b"limit: image\n"),
+        Outcome::BadImage(_, fault) => bad_image_line(*fault),
         Outcome::HostFault(_) => text_line(b"host fault\n"),
         Outcome::NoMemory => text_line(b"out of memory\n"),
-        Outcome::Unbuilt(form) => unbuilt_line(*form),
+        Outcome::Unbuilt(Form::Image) => text_line(b"unbuilt: image\n"),
     }
 }
 
@@ -82,11 +110,17 @@ fn note_word<'a>(words: &[&'a str], outcome: &Outcome) -> &'a str
     ensures { result.now ≡ word_in_note (map (λ w. w.now) words.now) outcome.now }
 {
     match outcome {
-        Outcome::Absent(word) => match words.get(*word as usize) {
-            Some(text) => *text,
-            None => "",
-        },
+        Outcome::Absent(word) | Outcome::BadImage(word, _) => word_at(words, *word),
         _ => "",
+    }
+}
+
+fn word_at<'a>(words: &[&'a str], place: u32) -> &'a str
+    ensures { result.now ≡ unwrap_or (slice_get (map (λ w. w.now) words.now) place) [] }
+{
+    match words.get(place as usize) {
+        Some(text) => *text,
+        None => "",
     }
 }
 
@@ -121,5 +155,32 @@ pub(crate) fn write_note<H: Host>(
     match write_some(host, note_word(words, outcome).as_bytes()) {
         Ok(()) => host.note_write(note_line(outcome).as_slice()),
         Err(failed) => Err(failed),
+    }
+}
+
+#[cfg(test)]
+mod tests {
+    use super::*;
+    use std::test::Fail;
+
+    // The line has the fault's own text.
+    #[test]
+    fn tells_faults_in_their_words(rt: HostRuntime) -> Result<(), Fail> {
+        for (fault, text) in [
+            (ElfFault::Truncated(40), "truncated 40"),
+            (ElfFault::Magic, "magic"),
+            (ElfFault::Class, "class"),
+            (ElfFault::Kind, "kind"),
+            (ElfFault::Machine, "machine"),
+            (ElfFault::EntrySize, "entry size"),
+            (ElfFault::TooMany, "too many"),
+            (ElfFault::SegmentRange(3), "segment range 3"),
+            (ElfFault::Overlap(2, 1), "overlap 2 1"),
+        ] {
+            let want = format!(in rt.alloc(); ": bad image: {text}\n")?;
+            assert_eq!(rt; bad_image_line(fault).as_slice(), want.as_bytes());
+            assert_eq!(rt; format!(in rt.alloc(); "{fault}")?.as_str(), text);
+        }
+        Ok(())
     }
 }

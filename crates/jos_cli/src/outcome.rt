@@ -2,6 +2,7 @@
 
 ghost use Rattle.std.specs.Prelude.{◌≡◌, [], None};
 
+use jos_elf::ElfFault;
 use std::alloc::Global;
 
 /// How a run has ended by itself.
@@ -69,10 +70,8 @@ pub enum Which {
 /// Which form is not built yet.
 #[derive(Clone, Copy, Debug, PartialEq, Eq)]
 pub enum Form {
-    /// That of the image.
+    /// That of the image: more segments than one, or memory in more pages than one.
     Image,
-    /// That of the instruction at this address.
-    Insn(u32),
 }
 
 /// What the program answers.
@@ -86,6 +85,8 @@ pub enum Outcome {
     Absent(u32),
     /// A limit is passed.
     Limit(Which),
+    /// The file that this word names is no image, with the fault that it has.
+    BadImage(u32, ElfFault),
     /// A call of the host failed.
     HostFault(Stopped),
     /// There was no memory to begin with.
@@ -124,6 +125,7 @@ impl Outcome {
             Outcome::Usage => 1,
             Outcome::Absent(_) => 2,
             Outcome::Limit(_) => 3,
+            Outcome::BadImage(_, _) => 4,
             Outcome::HostFault(_) => 7,
             Outcome::NoMemory => 8,
             Outcome::Unbuilt(_) => 14,

@@ -1,10 +1,14 @@
 //! The address space: the image's page and the stack page.
 
 ghost use Rattle.std.specs.Prelude.{◌≡◌, ◌+◌, ◌≤◌, length, IfOk, vec_len};
-ghost use Rattle.jos_base.specs.Reach.{read_byte, bytes_read};
-ghost use Rattle.jos_cli.specs.Space.{Mapped, stack_page, pages_of, entries_of, zero_bytes, page_with};
+ghost use Rattle.std.specs.Option.{option_map};
+ghost use Rattle.std.specs.Result.{result_err};
+ghost use Rattle.jos_base.specs.Reach.{read_byte, reach_entry};
+ghost use Rattle.jos_cpu.specs.Memory.{probed};
+ghost use Rattle.jos_cli.specs.Space.{perm_of, pages_of, entries_of, reach_in, with_byte, space_memory, zero_bytes, page_with};
 
-use jos_base::PageFault;
+use jos_base::{Access, PageFault};
+use jos_cpu::{Mem, MemFault};
 use jos_elf::Segment;
 use std::alloc::{AllocError, Global};
 use std::marker::Model;
@@ -15,8 +19,12 @@ pub(crate) const PAGE_LEN: u32 = 4096;
 /// The number of the stack page, below USTACKTOP, 0xEEBFE000. (MIT 6.828, inc/memlayout.h)
 const STACK_PAGE: u32 = 0xeebfd;
 
-/// The error code of a user's read where no page is.
+/// The error codes of a user's read and write where no page is, and of a write where none is allowed.
 const ABSENT_READ: u32 = 4;
+
+const ABSENT_WRITE: u32 = 6;
+
+const DENIED_WRITE: u32 = 7;
 
 /// Two pages: that of the image and that of the stack.
 #[derive(Drop)]
@@ -38,8 +46,34 @@ impl Model for Space {
     ghost invariant = { λ s. IsTwoPages s.page (vec_len s.image) (vec_len s.stack) };
 }
 
+impl Mem for Space {
+    ghost use Rattle.jos_cli.specs.Space.{space_memory};
+
+    ghost table = { space_memory };
+
+    fn probe(&mut self, va: u32, len: u32, access: Access) -> Result<(), MemFault> {
+        match self.probe_pages(va, len, access) {
+            Ok(()) => Ok(()),
+            Err(fault) => Err(MemFault::Page(fault)),
+        }
+    }
+
+    #[tactic(auto, unfolding(crate::specs::Space::space_memory))]
+    fn get(&self, va: u32) -> u8 {
+        match self.read(va) {
+            Ok(byte) => byte,
+            Err(_) => 0,
+        }
+    }
+
+    #[tactic(auto, unfolding(crate::specs::Space::space_memory))]
+    fn set(&mut self, va: u32, byte: u8) {
+        self.write(va, byte);
+    }
+}
+
 impl Space {
-    ghost use Rattle.jos_elf.specs.Parsed.{LiesIn};
+    ghost use Rattle.jos_cli.specs.OnePage.{IsOnePage};
     ghost use Rattle.jos_cli.specs.ExoRun.{mapped};
 
     /// The byte that a user's read of the address gives, or the fault.
@@ -60,10 +94,52 @@ impl Space {
         }
     }
 
+    /// The fault of an access to a byte, if it is refused.
+    #[tactic(auto, unfolding(crate::specs::Space::entries_of, jos_base::specs::Words::upd))]
+    fn reach(&self, va: u32, access: Access) -> Result<(), PageFault>
+        ensures { result_err result ≡ result_err (reach_in self.now va access) }
+    {
+        if va / PAGE_LEN == STACK_PAGE {
+            Ok(())
+        } else if va / PAGE_LEN == self.page {
+            reach_page(self.writable, va, access)
+        } else {
+            Err(absent_page(va, access))
+        }
+    }
+
+    /// Reaches for so many bytes from an address on, up to the first that is refused.
+    fn probe_pages(&self, va: u32, len: u32, access: Access) -> Result<(), PageFault>
+        ensures { probed space_memory self.now va len access ≡ record { memory = self.now; refusal = option_map (λ fault. MemFault.Page fault) (result_err result) } }
+    {
+        let mut at = va;
+        for _ in 0..len {
+            match self.reach(at, access) {
+                Ok(()) => {}
+                Err(fault) => return Err(fault),
+            }
+            at = at.wrapping_add(1);
+        }
+        Ok(())
+    }
+
+    /// Puts a byte into the page that is there.
+    #[tactic(auto, unfolding(crate::specs::Space::with_byte))]
+    fn write(&mut self, va: u32, byte: u8)
+        ensures { self.new ≡ with_byte self.old va byte }
+    {
+        let offset = (va % PAGE_LEN) as usize;
+        if va / PAGE_LEN == STACK_PAGE {
+            self.stack[offset] = byte;
+        } else if va / PAGE_LEN == self.page {
+            self.image[offset] = byte;
+        }
+    }
+
     /// Maps the page of a segment, with its bytes of the file, and a stack page of zeros.
     #[tactic(auto, unfolding(crate::specs::ExoRun::mapped))]
     pub(crate) fn map(alloc: Global, segment: &Segment, file: &[u8]) -> Result<Space, AllocError>
-        requires { LiesIn segment.now (length file.now) }
+        requires { IsOnePage segment.now (length file.now) }
         ensures { IfOk result (λ space. space ≡ mapped segment.now file.now) }
     {
         let offset = (segment.va % PAGE_LEN) as usize;
@@ -74,6 +150,41 @@ impl Space {
             image: filled_page(alloc, offset, bytes)?,
             stack: zeros(alloc, PAGE_LEN as usize)?,
         })
+    }
+}
+
+/// The fault of an access to a page that is there, if it is refused.
+fn reach_page(writable: bool, va: u32, access: Access) -> Result<(), PageFault>
+    ensures { result_err result ≡ result_err (reach_entry (Some (record { frame = 0; perm = perm_of writable })) va access) }
+{
+    match access {
+        Access::Read => Ok(()),
+        Access::Write => {
+            if writable {
+                Ok(())
+            } else {
+                Err(PageFault {
+                    va,
+                    error: DENIED_WRITE,
+                })
+            }
+        }
+    }
+}
+
+/// The fault of an access where no page is.
+fn absent_page(va: u32, access: Access) -> PageFault
+    ensures { reach_entry None va access ≡ Err result }
+{
+    match access {
+        Access::Read => PageFault {
+            va,
+            error: ABSENT_READ,
+        },
+        Access::Write => PageFault {
+            va,
+            error: ABSENT_WRITE,
+        },
     }
 }
 

@@ -3,18 +3,46 @@
 ghost use Rattle.std.specs.Prelude.{◌≡◌};
 ghost use Rattle.jos_host.specs.Told.{HasCause};
 ghost use Rattle.jos_cli.specs.Space.{pages_of};
-ghost use Rattle.jos_cli.specs.Steps.{after_event as change_after, stepped};
+ghost use Rattle.jos_cli.specs.Steps.{after_trap, after_event as change_after, stepped};
 ghost use Rattle.jos_cli.specs.Meanings.{slot_of, Makes, MakesStep};
 
-use crate::environment::{Environment, Step};
-use crate::execute::{Event, SYSTEM_GATE, execute};
-use crate::fetching::{Fetched, fetch};
+use crate::environment::Environment;
 use crate::space::Space;
 use crate::system_calls::{deliver_other_trap, deliver_page_fault, make_system_call};
+use jos_base::PageFault;
+use jos_cpu::{Event, Gates, step};
 use jos_host::{Failed, Host};
+
+/// The gate of the system calls.
+const SYSTEM_GATE: u8 = 0x30;
 
 /// The trap of the breakpoint.
 const BREAKPOINT_TRAP: u8 = 3;
+
+/// The trap of a page fault.
+const PAGE_FAULT_TRAP: u8 = 14;
+
+/// Destroys the environment by the line of the trap that its instruction at `ip` raised.
+fn deliver_raised<H: Host>(
+    environment: &mut Environment,
+    space: &Space,
+    host: &mut H,
+    ip: u32,
+    raised: (u8, u32, u32),
+) -> Result<(), Failed>
+    ensures told { Makes result (after_trap (slot_of environment.old space.now) ip raised.0 raised.1 raised.2) (slot_of environment.new space.now) (H.console host.old) (H.console host.new) }
+    ensures files { H.files host.new ≡ H.files host.old }
+    ensures input { H.input host.new ≡ H.input host.old }
+    ensures notes { H.notes host.new ≡ H.notes host.old }
+    ensures cause { HasCause (H.faults host.old) (H.faults host.new) result }
+{
+    let (trap, error, va) = raised;
+    if trap == PAGE_FAULT_TRAP {
+        deliver_page_fault(environment, host, PageFault { va, error })
+    } else {
+        deliver_other_trap(environment, host, trap, error, ip)
+    }
+}
 
 /// Does what comes of the instruction at `ip`, whose registers are set.
 fn follow_event<H: Host>(
@@ -40,7 +68,9 @@ fn follow_event<H: Host>(
                 deliver_other_trap(environment, host, BREAKPOINT_TRAP, 0, ip)
             }
         }
-        Event::Raised { trap, error, .. } => deliver_other_trap(environment, host, trap, error, ip),
+        Event::Raised { trap, error, va } => {
+            deliver_raised(environment, space, host, ip, (trap, error, va))
+        }
     }
 }
 
@@ -48,28 +78,16 @@ fn follow_event<H: Host>(
 #[tactic(auto, unfolding(crate::specs::Steps::stepped))]
 pub(crate) fn make_step<H: Host>(
     environment: &mut Environment,
-    space: &Space,
+    space: &mut Space,
     host: &mut H,
-) -> Result<Step, Failed>
-    ensures told { MakesStep result (stepped (pages_of space.now) (slot_of environment.old space.now)) (slot_of environment.new space.now) (H.console host.old) (H.console host.new) }
+) -> Result<(), Failed>
+    ensures told { MakesStep result (stepped space.old (slot_of environment.old space.old)) space.new (slot_of environment.new space.new) (H.console host.old) (H.console host.new) }
     ensures files { H.files host.new ≡ H.files host.old }
     ensures input { H.input host.new ≡ H.input host.old }
     ensures notes { H.notes host.new ≡ H.notes host.old }
     ensures cause { HasCause (H.faults host.old) (H.faults host.new) result }
 {
-    match fetch(space, environment.regs.eip) {
-        Fetched::Unknown => Ok(Step::Unread(environment.regs.eip)),
-        Fetched::Fault(fault) => match deliver_page_fault(environment, host, fault) {
-            Ok(()) => Ok(Step::Went),
-            Err(failed) => Err(failed),
-        },
-        Fetched::Instruction(insn, len) => {
-            let ip = environment.regs.eip;
-            let event = execute(&insn, len, &mut environment.regs);
-            match follow_event(environment, space, host, ip, event) {
-                Ok(()) => Ok(Step::Went),
-                Err(failed) => Err(failed),
-            }
-        }
-    }
+    let ip = environment.regs.eip;
+    let event = step(&mut environment.regs, space, Gates::Exo);
+    follow_event(environment, space, host, ip, event)
 }

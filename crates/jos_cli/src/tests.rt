@@ -1,5 +1,6 @@
 use crate::answer::top;
-use crate::outcome::{Form, Outcome, Which};
+use crate::outcome::{Outcome, Which};
+use jos_elf::ElfFault;
 use jos_host::{MemHost, NamedBytes};
 use std::alloc::{AllocError, Global};
 use std::test::Fail;
@@ -54,7 +55,7 @@ const HI: [u8; 32] = [
 
 // What a program does: its code, what it prints, its note and the exit status.
 #[rattlefmt::skip]
-const RUNS: [(&str, &[u8], &[u8], &str, u8); 20] = [
+const RUNS: [(&str, &[u8], &[u8], &str, u8); 26] = [
     ("ends itself", &[0xb8, 0x03, 0x00, 0x00, 0x00, 0xba, 0x00, 0x00, 0x00, 0x00, 0xcd, 0x30],
         b"", "done steps 3 turns 1 refused 0 upcalls 0\n", 0),
     ("ends itself by its id", &[0xb8, 0x03, 0x00, 0x00, 0x00, 0xba, 0x00, 0x10, 0x00, 0x00, 0xcd, 0x30],
@@ -91,10 +92,22 @@ const RUNS: [(&str, &[u8], &[u8], &str, u8); 20] = [
         b"[00001000] user fault va 007fffa2 ip 007fffa2\n", "done steps 2 turns 1 refused 0 upcalls 0\n", 0),
     ("jumps for ever", &[0xeb, 0xfe],
         b"", "budget steps 1000000 turns 1000 refused 0 upcalls 0\n", 10),
-    ("comes to an unknown instruction", &[0x90],
-        b"", "unbuilt: 00800020\n", 14),
+    ("comes to an undefined instruction", &[0x0f, 0xff],
+        b"[00001000] trap 6 err 0 ip 00800020\n", "done steps 1 turns 1 refused 0 upcalls 0\n", 0),
     ("prints and then comes to one", &[0xb8, 0x00, 0x00, 0x00, 0x00, 0xba, 0x20, 0x00, 0x80, 0x00, 0xb9, 0x01, 0x00, 0x00, 0x00, 0xcd, 0x30, 0x0f],
-        b"\xb8", "unbuilt: 00800031\n", 14),
+        b"\xb8[00001000] trap 6 err 0 ip 00800031\n", "done steps 5 turns 1 refused 0 upcalls 0\n", 0),
+    ("halts", &[0xf4],
+        b"[00001000] trap 13 err 0 ip 00800020\n", "done steps 1 turns 1 refused 0 upcalls 0\n", 0),
+    ("does nothing and then halts", &[0x66, 0x90, 0xf4],
+        b"[00001000] trap 13 err 0 ip 00800022\n", "done steps 2 turns 1 refused 0 upcalls 0\n", 0),
+    ("divides by zero", &[0x31, 0xc9, 0xf7, 0xf1],
+        b"[00001000] trap 0 err 0 ip 00800022\n", "done steps 2 turns 1 refused 0 upcalls 0\n", 0),
+    ("writes over its code", &[0xa2, 0x20, 0x00, 0x80, 0x00],
+        b"[00001000] user fault va 00800020 ip 00800020\n", "done steps 1 turns 1 refused 0 upcalls 0\n", 0),
+    ("fills a part of its stack", &[0xb9, 0x03, 0x00, 0x00, 0x00, 0xbf, 0x00, 0xd0, 0xbf, 0xee, 0xf3, 0xaa, 0xb8, 0x03, 0x00, 0x00, 0x00, 0xba, 0x00, 0x00, 0x00, 0x00, 0xcd, 0x30],
+        b"", "done steps 8 turns 1 refused 0 upcalls 0\n", 0),
+    ("prints what it pushed", &[0x68, 0x68, 0x69, 0x0a, 0x00, 0xb8, 0x00, 0x00, 0x00, 0x00, 0x89, 0xe2, 0xb9, 0x03, 0x00, 0x00, 0x00, 0xcd, 0x30, 0xb8, 0x03, 0x00, 0x00, 0x00, 0xba, 0x00, 0x00, 0x00, 0x00, 0xcd, 0x30],
+        b"hi\n", "done steps 8 turns 1 refused 0 upcalls 0\n", 0),
 ];
 
 #[test]
@@ -159,18 +172,19 @@ fn refuses_each_part_of_an_image(rt: HostRuntime) -> Result<(), Fail> {
         let mut host = host_with(rt.alloc(), file, &[])?;
         let outcome = top(rt.alloc(), &["exo", "h"], &mut host);
         assert!(rt;
-            matches!(outcome, Outcome::Unbuilt(Form::Image)),
+            matches!(outcome, Outcome::BadImage(1, ElfFault::Truncated(_))),
             "{len} bytes"
         );
-        assert_eq!(rt; outcome.status(), 14);
+        assert_eq!(rt; outcome.status(), 4);
         assert_eq!(rt; host.console(), b"".as_slice());
-        assert_eq!(rt; host.notes(), b"unbuilt: image\n".as_slice());
+        let note = format!(in rt.alloc(); "h: bad image: truncated {len}\n")?;
+        assert_eq!(rt; host.notes(), note.as_bytes());
     }
     Ok(())
 }
 
-// With each word of the headers at its greatest value in turn: those that nothing looks at, and the entry,
-// where no page is.
+// With each word of the headers at its greatest value in turn: those that nothing looks at; the entry, where no
+// page is; the kind of the one segment, which is then none; and the others.
 #[test]
 fn looks_at_the_headers(rt: HostRuntime) -> Result<(), Fail> {
     for word in 0..HEADERS_LEN / 4 {
@@ -188,7 +202,8 @@ fn looks_at_the_headers(rt: HostRuntime) -> Result<(), Fail> {
                 0,
                 b"[00001000] user fault va ffffffff ip ffffffff\n".as_slice(),
             ),
-            _ => (14, b"".as_slice()),
+            13 => (14, b"".as_slice()),
+            _ => (4, b"".as_slice()),
         };
         assert_eq!(rt; status, want, "word {word}");
         assert_eq!(rt; host.console(), console, "word {word}");
@@ -196,9 +211,30 @@ fn looks_at_the_headers(rt: HostRuntime) -> Result<(), Fail> {
     Ok(())
 }
 
+// Memory to the end of the page, and one byte further.
+#[test]
+fn runs_one_page_alone(rt: HostRuntime) -> Result<(), Fail> {
+    for (low, status, note) in [
+        (0xe0, 0, "done steps 7 turns 1 refused 0 upcalls 0\n"),
+        (0xe1, 14, "unbuilt: image\n"),
+    ] {
+        let mut file = image(rt.alloc(), &HI)?;
+        for (place, byte) in [(MEMORY_LEN, low), (MEMORY_LEN + 1, 0x0f)] {
+            if place < file.len() {
+                file[place] = byte;
+            }
+        }
+        let mut host = host_with(rt.alloc(), file, &[])?;
+        let outcome = top(rt.alloc(), &["exo", "h"], &mut host);
+        assert_eq!(rt; outcome.status(), status);
+        assert_eq!(rt; host.notes(), note.as_bytes());
+    }
+    Ok(())
+}
+
 #[test]
 fn refuses_a_file_that_is_too_long(rt: HostRuntime) -> Result<(), Fail> {
-    for (len, status) in [(16_777_216, 14), (16_777_217, 3)] {
+    for (len, status) in [(16_777_216, 4), (16_777_217, 3)] {
         let mut host = host_with(rt.alloc(), vec![in rt.alloc(); 0; len]?, &[])?;
         let outcome = top(rt.alloc(), &["exo", "h"], &mut host);
         assert_eq!(rt; outcome.status(), status, "{len} bytes");

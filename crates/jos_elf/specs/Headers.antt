@@ -1,6 +1,6 @@
 -- The fields of an ELF file's headers, numbers of two or four bytes, the lowest first.
 -- (System V ABI, edition 4.1, chapters 4 and 5: "ELF Header" and "Program Header", for 32-bit files.)
-use Rattle.std.specs.Prelude.{ℕ, ◌+◌, List, drop}
+use Rattle.std.specs.Prelude.{ℕ, ◌+◌, ◌*◌, List, drop, slice_index}
 use Rattle.byteorder.specs.Endian.{little_number}
 use Rattle.jos_elf.specs.declared.header.ProgramHeader.{ProgramHeader}
 
@@ -9,6 +9,13 @@ half_at file at = little_number 2 (drop at file)
 
 abbrev pub word_at : List ℕ → ℕ → ℕ
 word_at file at = little_number 4 (drop at file)
+
+-- e_ident's bytes EI_CLASS and EI_DATA
+abbrev pub class_of : List ℕ → ℕ
+class_of file = slice_index file 4
+
+abbrev pub byte_order_of : List ℕ → ℕ
+byte_order_of file = slice_index file 5
 
 -- e_type, e_machine, e_entry, e_phoff, e_phentsize and e_phnum
 abbrev pub kind_of : List ℕ → ℕ
@@ -30,7 +37,7 @@ abbrev pub entry_count_of : List ℕ → ℕ
 entry_count_of file = half_at file 44
 
 -- p_type, p_offset, p_vaddr, p_filesz, p_memsz and p_flags of the program header at a place of the file
-abbrev pub program_header_at : List ℕ → ℕ → ProgramHeader
+unfoldable pub program_header_at : List ℕ → ℕ → ProgramHeader
 program_header_at file at = record {
   kind = word_at file at;
   file_at = word_at file (at + 4);
@@ -39,3 +46,7 @@ program_header_at file at = record {
   mem_len = word_at file (at + 20);
   flags = word_at file (at + 24);
 }
+
+-- the program header at a place of the table, counted from 0
+abbrev pub header_of : List ℕ → ℕ → ProgramHeader
+header_of file place = program_header_at file (table_of file + 32 * place)

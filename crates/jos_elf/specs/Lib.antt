@@ -1,3 +1,5 @@
 pub mod Layout
 pub mod Headers
+pub mod Tests
 pub mod Parsed
+pub mod Written

@@ -1,6 +1,6 @@
 //! The headers' fields.
 
-ghost use Rattle.std.specs.Prelude.{◌≡◌, ◌+◌, ◌≤◌, length};
+ghost use Rattle.std.specs.Prelude.{◌≡◌, ◌+◌, ◌*◌, ◌<◌, ◌≤◌, length};
 ghost use Rattle.jos_elf.specs.Headers.{half_at, word_at};
 
 use byteorder::{ByteOrder, LittleEndian};
@@ -33,10 +33,12 @@ pub(crate) fn read_word(file: &[u8], at: usize) -> u32
 }
 
 impl ProgramHeader {
-    ghost use Rattle.jos_elf.specs.Headers.{program_header_at};
+    ghost use Rattle.jos_elf.specs.Headers.{program_header_at, header_of, table_of, entry_count_of};
+    ghost use Rattle.jos_elf.specs.Tests.{is_loaded, is_placed, leaves_free};
 
-    /// The program header at a place.
-    pub(crate) fn read(file: &[u8], at: usize) -> ProgramHeader
+    /// The program header at a place of the file.
+    #[tactic(auto, unfolding(crate::specs::Headers::program_header_at))]
+    fn read(file: &[u8], at: usize) -> ProgramHeader
         requires { at + 32 ≤ length file.now }
         ensures { result ≡ program_header_at file.now at }
     {
@@ -48,5 +50,48 @@ impl ProgramHeader {
             mem_len: read_word(file, at + 20),
             flags: read_word(file, at + 24),
         }
+    }
+
+    /// The program header at a place of the table.
+    pub(crate) fn in_table(file: &[u8], place: u32) -> ProgramHeader
+        requires sized { 52 ≤ length file.now }
+        requires table { table_of file.now + 32 * entry_count_of file.now ≤ length file.now }
+        requires within { place < entry_count_of file.now }
+        ensures { result ≡ header_of file.now place }
+    {
+        ProgramHeader::read(file, read_word(file, 28) as usize + 32 * place as usize)
+    }
+
+    /// Whether it says of a segment.
+    #[tactic(auto, unfolding(crate::specs::Tests::is_loaded))]
+    pub(crate) fn is_loaded(&self) -> bool
+        ensures { result ≡ is_loaded self.now }
+    {
+        self.kind == 1 && self.mem_len > 0
+    }
+
+    /// The first address behind its memory.
+    fn end(&self) -> u64
+        ensures { result ≡ self.now.va + self.now.mem_len }
+    {
+        self.va as u64 + self.mem_len as u64
+    }
+
+    /// Whether its memory has room for its bytes and lies where that of a program may.
+    #[tactic(auto, unfolding(crate::specs::Tests::is_placed))]
+    pub(crate) fn is_placed(&self) -> bool
+        ensures { result ≡ is_placed self.now }
+    {
+        self.file_len <= self.mem_len
+            && (self.va >= 0x0020_0000 && self.end() <= 0x0040_0000
+                || self.va >= 0x0080_0000 && self.end() <= 0xd000_0000)
+    }
+
+    /// Whether no byte of memory is both in its segment, if it says of one, and in another.
+    #[tactic(auto, unfolding(crate::specs::Tests::leaves_free))]
+    pub(crate) fn leaves_free(&self, other: &ProgramHeader) -> bool
+        ensures { result ≡ leaves_free self.now other.now }
+    {
+        !self.is_loaded() || self.end() <= other.va as u64 || other.end() <= self.va as u64
     }
 }

@@ -1,14 +1,17 @@
-//! ELF files for the modelled 80386, read.
+//! ELF files for the modelled 80386, read and written.
 //!
-//! `specs/Parsed.antt` has the tests that a file has to pass and what an accepted file says; `parse` answers
-//! exactly by it and takes no memory. Where the bytes go in memory is left to others.
+//! `specs/Tests.antt` has the tests that a file has to pass, in their order, and `specs/Parsed.antt` what an
+//! accepted file says; `parse` answers exactly by them and takes no memory. `specs/Written.antt` has the file
+//! that `write` makes, which says what was written. Where the bytes go in memory is left to others.
 #![tactic(auto)]
 
 mod fault;
 mod header;
 mod image;
 mod parser;
+mod writer;
 
 pub use fault::ElfFault;
 pub use image::{Image, Segment};
 pub use parser::parse;
+pub use writer::{Part, write};

@@ -3,55 +3,28 @@ use Rattle.std.proofs.Common.{◌≡◌, ℕ, ◌+◌, ◌-◌, ◌<◌, ◌≤�
 use Rattle.std.proofs.Math.Seq.{take-append_seam}
 use Rattle.std.proofs.lemmas.List.{length-append, append-nil}
 use Rattle.jos_isa.specs.declared.instruction.Insn.{Insn}
-use Rattle.jos_isa.specs.declared.instruction.Row.TheVariants.{IntImm8}
-use Rattle.jos_isa.specs.declared.instruction.Operand.TheVariants.{Absent}
-use Rattle.jos_isa.specs.declared.decoder.Stop.{Stop}
-use Rattle.jos_isa.specs.declared.decoder.Stop.TheVariants as stop
+use Rattle.jos_isa.specs.declared.parts.Stop.{Stop}
+use Rattle.jos_isa.specs.declared.parts.Stop.TheVariants as stop
 use Rattle.jos_isa.specs.declared.decoder.Decoded.TheVariants.{Found, Short}
-use Rattle.jos_isa.specs.OpcodeMap.{form_at}
-use Rattle.jos_isa.specs.Spelling.{Spells, SpellsForm}
-use Rattle.jos_isa.specs.Reading.{instruction_at, answer_of, decoded}
-use Rattle.jos_isa.specs.Laws.{IfFound}
-use Rattle.jos_isa.proofs.Readers.{Reads, ok_is}
-use Rattle.jos_isa.proofs.Forms.{forms}
+use Rattle.jos_isa.specs.Spelling.{Spells, SpellsOpcode, SpellsForm}
+use Rattle.jos_isa.specs.Reading.{opcode_at, form_read, instruction_at, answer_of, decoded}
+use Rattle.jos_isa.specs.Laws.{AreBytes, IfFound}
+use Rattle.jos_isa.proofs.Readers.{Reads, Joins, after, second_of, ok_is}
+use Rattle.jos_isa.proofs.Forms.{forms, any_form}
+use Rattle.jos_isa.proofs.Opcodes.{opcodes}
 
 -- ---- an opcode and its form
 
-takes : (bytes : List ℕ) (insn : Insn) (rest : List ℕ) → instruction_at bytes ≡ Ok (insn, rest) → (front : List ℕ) × (bytes ≡ front ++ rest) × Spells insn front
+opcode_joins : Joins SpellsOpcode SpellsForm second_of Spells
+opcode_joins = record {
+  joined = λ a b front back p q. (a, front, back, refl, p, q);
+  parted = λ insn bytes h. record { a = h.0; b = insn; front = h.1; back = h.2; is = refl; bytes_are = h.3; front_spells = h.4; back_spells = h.5 };
+  follows = any_form;
+}
+
+pub instructions : Reads instruction_at Spells 12
 unfolding instruction_at
-takes [] insn rest e = absurd cc
-takes (opcode ∷ bytes) insn rest e =
-    let t = (forms (form_at opcode)).takes bytes insn rest e in
-    (opcode ∷ t.0, ap (λ (l : List ℕ). opcode ∷ l) t.1, t.2)
-
-again : (insn : Insn) (front rest : List ℕ) → Spells insn front → instruction_at (front ++ rest) ≡ Ok (insn, rest)
-unfolding instruction_at
-again insn [] rest h = absurd h
-again insn (opcode ∷ front) rest h = (forms (form_at opcode)).again insn front rest h
-
--- the one place that looks into the opcode map: some instruction has a spelling
-int_spells : (number : ℕ) → SpellsForm (form_at 0xcd) (record { row = IntImm8; operand = Absent; reg = 0; imm = number }) (number ∷ [])
-unfolding form_at
-int_spells number = (refl, refl)
-
-begins : (bytes : List ℕ) → instruction_at bytes ≡ Err stop.Short → (insn : Insn) × (next : ℕ) × (more : List ℕ) × Spells insn (bytes ++ next ∷ more)
-unfolding instruction_at
-begins [] e = (record { row = IntImm8; operand = Absent; reg = 0; imm = 0 }, 0xcd, 0 ∷ [], int_spells 0)
-begins (opcode ∷ bytes) e = (forms (form_at opcode)).begins bytes e
-
-stops : (insn : Insn) (bytes : List ℕ) (next : ℕ) (more : List ℕ) → Spells insn (bytes ++ next ∷ more) → instruction_at bytes ≡ Err stop.Short
-unfolding instruction_at
-stops insn [] next more h = refl
-stops insn (opcode ∷ bytes) next more h = (forms (form_at opcode)).stops insn bytes next more h
-
-within : (insn : Insn) (front : List ℕ) → Spells insn front → length front ≤ 6
-within insn [] h = absurd h
-within insn (opcode ∷ front) h =
-    let k : length front ≤ 5 = (forms (form_at opcode)).within insn front h in
-    omega arith
-
-pub instructions : Reads instruction_at Spells 6
-instructions = record { takes = takes; again = again; begins = begins; stops = stops; within = within }
+instructions = after opcode_at form_read SpellsOpcode SpellsForm Spells 2 10 opcodes forms opcode_joins
 
 -- ---- answers
 
@@ -89,7 +62,7 @@ short_of total (Ok x) e = absurd cc
 short_of total (Err stop.Short) e = refl
 short_of total (Err stop.Illegal) e = absurd cc
 
-pub short : (bytes : List ℕ) → decoded bytes ≡ Short → (insn : Insn) × (next : ℕ) × (more : List ℕ) × Spells insn (bytes ++ next ∷ more)
+pub short : (bytes : List ℕ) → decoded bytes ≡ Short → (insn : Insn) × (next : ℕ) × (more : List ℕ) × AreBytes (next ∷ more) × Spells insn (bytes ++ next ∷ more)
 unfolding decoded
 short bytes e = instructions.begins bytes (short_of (length bytes) (instruction_at bytes) e)
 
@@ -102,7 +75,7 @@ only_short bytes insn next more h =
 pub bounded : (bytes : List ℕ) → decoded bytes ≡ Short → length bytes < 15
 bounded bytes e =
     let s = short bytes e in
-    let long : length (bytes ++ s.1 ∷ s.2) ≤ 6 = instructions.within s.0 (bytes ++ s.1 ∷ s.2) s.3 in
+    let long : length (bytes ++ s.1 ∷ s.2) ≤ 12 = instructions.within s.0 (bytes ++ s.1 ∷ s.2) s.4 in
     let sum : length (bytes ++ s.1 ∷ s.2) ≡ length bytes + length (s.1 ∷ s.2) = length-append bytes (s.1 ∷ s.2) in
     omega arith
 

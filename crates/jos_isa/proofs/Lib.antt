@@ -2,4 +2,10 @@ pub mod Readers
 pub mod Immediates
 pub mod Operands
 pub mod Forms
+pub mod Opcodes
 pub mod Instructions
+pub mod Booleans
+pub mod Places
+pub mod Writers
+pub mod Encodings
+pub mod FoundLawful

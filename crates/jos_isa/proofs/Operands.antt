@@ -1,92 +1,124 @@
--- The reader of an operand and a register.
-use Rattle.std.proofs.Common.{◌≡◌, ℕ, ◌+◌, ◌*◌, ◌/◌, ◌%◌, ◌<◌, ◌≤◌, Bool, true, false, cond, nat_eq, List, [], ◌∷◌, ◌++◌, length, Result, Ok, Err, refl, ap, subst, arith, ◌⊎◌, inl, inr}
+-- The reader of an operand behind its ModRM byte.
+use Rattle.std.proofs.Common.{◌≡◌, ◌≢◌, ℕ, ◌+◌, ◌*◌, ◌/◌, ◌%◌, ◌<◌, Bool, true, false, cond, nat_eq, List, [], ◌∷◌, ◌++◌, None, Ok, refl, ap, ◌∙◌, arith, inl, inr}
 use Rattle.jos_isa.specs.declared.instruction.Operand.{Operand}
-use Rattle.jos_isa.specs.declared.instruction.Operand.TheVariants.{Absent, Reg}
-use Rattle.jos_isa.specs.declared.decoder.Stop.{Stop}
-use Rattle.jos_isa.specs.declared.decoder.Stop.TheVariants.{Short, Illegal}
-use Rattle.jos_isa.specs.Spelling.{SpellsOperands}
-use Rattle.jos_isa.specs.Reading.{◌>>=◌, operands_at}
-use Rattle.jos_isa.proofs.Readers.{Reads, byte-stops, taken_as, ok_is, bind_ok}
+use Rattle.jos_isa.specs.declared.instruction.Operand.TheVariants.{Absent, Reg, Mem}
+use Rattle.jos_isa.specs.declared.instruction.MemArg.{MemArg}
+use Rattle.jos_isa.specs.declared.instruction.Disp.{Disp}
+use Rattle.jos_isa.specs.declared.parts.Sib.{Sib}
+use Rattle.jos_isa.specs.Spelling.{distance_of, base_of, sib_of, SpellsDisp, SpellsSib, SpellsMemory, SpellsOperand}
+use Rattle.jos_isa.specs.Laws.{AreBytes}
+use Rattle.jos_isa.specs.Reading.{byte_at, disp_at, sib_byte_at, sib_at, memory_at, in_memory, operand_at}
+use Rattle.jos_isa.proofs.Readers.{are_append, one_zero, Reads, Joins, both, always, respelled, mapped, widened, byte, IsByte, eqb-is, eqb-isnt, fields_of, ThreeFields, three_fields}
+use Rattle.jos_isa.proofs.Immediates.{displacements, any_displacement}
 
-chosen : {A : Type 0} (b : Bool) (x y z : A) → cond b x y ≡ z → ((b ≡ true) × (x ≡ z)) ⊎ ((b ≡ false) × (y ≡ z))
-chosen true x y z e = inl (refl, e)
-chosen false x y z e = inr (refl, e)
+-- ---- base, index and scale
 
-eqb-is : (a b : ℕ) → nat_eq a b ≡ true → a ≡ b
-eqb-is a b e = grind arith
+abbrev SpellsSibByte : Sib → List ℕ → Type 0
+SpellsSibByte sib bytes =
+    (scale index base : ℕ) × (index < 8) × (base < 8) × (sib ≡ sib_of scale index base) × (bytes ≡ (64 * scale + 8 * index + base) ∷ [])
 
-modrm_is : (m : ℕ) → m / 64 ≡ 3 → m ≡ 64 * 3 + 8 * (m / 8 % 8) + m % 8
-modrm_is m e = omega arith
+abbrev sib_in : ℕ → Sib
+sib_in byte = sib_of (byte / 64) (byte / 8 % 8) (byte % 8)
 
-record ModRmParts (m reg rm : ℕ) : Type 0 where
-  mod_is : m / 64 ≡ 3
-  reg_is : m / 8 % 8 ≡ reg
-  rm_is : m % 8 ≡ rm
+spelled_sib : (m : ℕ) (bytes : List ℕ) → bytes ≡ m ∷ [] → SpellsSibByte (sib_in m) bytes
+spelled_sib m bytes e = (m / 64, m / 8 % 8, m % 8, omega arith, omega arith, refl, e ∙ ap (λ (k : ℕ). k ∷ []) (fields_of m))
 
-modrm_parts : (m reg rm : ℕ) → m ≡ 64 * 3 + 8 * reg + rm → reg < 8 → rm < 8 → ModRmParts m reg rm
-modrm_parts m reg rm e small_reg small_rm = record { mod_is = omega arith; reg_is = omega arith; rm_is = omega arith }
+read_sib : (sib : Sib) (bytes : List ℕ) → SpellsSibByte sib bytes → (m : ℕ) × (sib ≡ sib_in m) × (bytes ≡ m ∷ [])
+read_sib sib bytes h =
+    let f : ThreeFields (64 * h.0 + 8 * h.1 + h.2) h.0 h.1 h.2 = three_fields h.0 h.1 h.2 h.3 h.4 in
+    (64 * h.0 + 8 * h.1 + h.2, rw (f.high_is, f.middle_is, f.low_is) h.5, h.6)
 
-abbrev pub paired : Operand × ℕ × List ℕ → Result ((Operand × ℕ) × List ℕ) Stop
-paired o = Ok ((o.0, o.1), o.2)
+sib_byte : Reads sib_byte_at SpellsSibByte 1
+unfolding sib_byte_at
+sib_byte = mapped byte_at sib_in IsByte SpellsSibByte 1 spelled_sib read_sib byte
 
--- an operand and a register as one value
-abbrev pub operand_pair_at : List ℕ → Result ((Operand × ℕ) × List ℕ) Stop
-operand_pair_at bytes = operands_at bytes >>= paired
+abbrev no_sib : ℕ → Sib
+no_sib rm = record { base = rm; index = None; scale = 0 }
 
-abbrev pub SpellsPair : Operand × ℕ → List ℕ → Type 0
-SpellsPair x bytes = SpellsOperands x.0 x.1 bytes
+sib_at_4 : (rm : ℕ) → rm ≡ 4 → Reads sib_byte_at (SpellsSib rm) 1
+sib_at_4 rm e =
+    respelled sib_byte_at SpellsSibByte (SpellsSib rm) 1
+    (λ x bytes h. inr (h.0, h.1, h.2, e, h.3, h.4, h.5, h.6))
+    (λ x bytes h. elim h [ inl t ↦ absurd (t.0 e) | inr t ↦ (t.0, t.1, t.2, t.4, t.5, t.6, t.7) ])
+    sib_byte
 
-operands-takes : (bytes : List ℕ) (o : Operand × ℕ × List ℕ) → operands_at bytes ≡ Ok o → (front : List ℕ) × (bytes ≡ front ++ o.2) × SpellsOperands o.0 o.1 front
-unfolding operands_at
-operands-takes [] o e = absurd cc
-operands-takes (m ∷ bytes) o e =
-    elim (chosen (nat_eq (m / 64) 3) (Ok (Reg (m % 8), m / 8 % 8, bytes)) (Err Illegal) (Ok o) e) [
-      | inl t ↦
-          let is : m ≡ 64 * 3 + 8 * (m / 8 % 8) + m % 8 = modrm_is m (eqb-is (m / 64) 3 t.0) in
-          let reg : m / 8 % 8 < 8 = omega arith in
-          let rm : m % 8 < 8 = omega arith in
-          subst (λ (p : Operand × ℕ × List ℕ). (front : List ℕ) × (m ∷ bytes ≡ front ++ p.2) × SpellsOperands p.0 p.1 front)
-          (ok_is (Reg (m % 8), m / 8 % 8, bytes) o t.1)
-          (m ∷ [], refl, (reg, rm, ap (λ (k : ℕ). k ∷ []) is))
-      | inr t ↦ absurd (cc (t.1))
-    ]
+sib_else : (rm : ℕ) → rm ≢ 4 → Reads (λ bytes. Ok (no_sib rm, bytes)) (SpellsSib rm) 1
+sib_else rm ne =
+    widened _ _ 0 1 (omega arith)
+    (always (no_sib rm) (SpellsSib rm) (inl (ne, refl, refl)) (λ x bytes h. elim h [ inl t ↦ (t.1, t.2) | inr t ↦ absurd (ne t.3) ]))
 
-pair-takes : (bytes : List ℕ) (x : Operand × ℕ) (rest : List ℕ) → operand_pair_at bytes ≡ Ok (x, rest) → (front : List ℕ) × (bytes ≡ front ++ rest) × SpellsPair x front
-pair-takes bytes x rest e =
-    let o = bind_ok (operands_at bytes) paired (x, rest) e in
-    let t = operands-takes bytes o.0 o.1 in
-    taken_as SpellsPair bytes t.0 ((o.0.0, o.0.1), o.0.2) (x, rest) o.2 t.1 t.2
-
-operands-again : (operand : Operand) (reg : ℕ) (front rest : List ℕ) → SpellsOperands operand reg front → operand_pair_at (front ++ rest) ≡ Ok ((operand, reg), rest)
-unfolding operands_at
-operands-again (Reg rm) reg front rest h =
-    let m : ModRmParts (64 * 3 + 8 * reg + rm) reg rm = modrm_parts _ reg rm refl h.0 h.1 in
-    rw (h.2, m.mod_is, m.reg_is, m.rm_is) refl
-operands-again Absent reg front rest h = absurd h
-
-pair-begins : (bytes : List ℕ) → operand_pair_at bytes ≡ Err Short → (x : Operand × ℕ) × (next : ℕ) × (more : List ℕ) × SpellsPair x (bytes ++ next ∷ more)
-unfolding operands_at
-pair-begins [] e = ((Reg 0, 0), 0xc0, [], (omega arith, omega arith, refl))
-pair-begins (m ∷ bytes) e = absurd (go (nat_eq (m / 64) 3) e)
+sibs : (rm : ℕ) → Reads (sib_at rm) (SpellsSib rm) 1
+unfolding sib_at
+sibs rm = go (nat_eq rm 4) refl
   where
-    go : (b : Bool) → (cond b (Ok (Reg (m % 8), m / 8 % 8, bytes)) (Err Illegal) >>= paired) ≡ Err Short → ⊥
-    go true e = cc
-    go false e = cc
+    go : (b : Bool) → nat_eq rm 4 ≡ b → Reads (λ bytes. cond b (sib_byte_at bytes) (Ok (no_sib rm, bytes))) (SpellsSib rm) 1
+    go true e = sib_at_4 rm (eqb-is rm 4 e)
+    go false e = sib_else rm (eqb-isnt rm 4 e)
 
-operands-stops : (operand : Operand) (reg : ℕ) (bytes : List ℕ) (next : ℕ) (more : List ℕ) → SpellsOperands operand reg (bytes ++ next ∷ more) → operand_pair_at bytes ≡ Err Short
-unfolding operands_at
-operands-stops (Reg rm) reg bytes next more h = rw (byte-stops _ bytes next more h.2) refl
-operands-stops Absent reg bytes next more h = absurd h
+any_sib : (rm : ℕ) → (x : Sib) × (bytes : List ℕ) × AreBytes bytes × SpellsSib rm x bytes
+any_sib rm = go (nat_eq rm 4) refl
+  where
+    go : (b : Bool) → nat_eq rm 4 ≡ b → (x : Sib) × (bytes : List ℕ) × AreBytes bytes × SpellsSib rm x bytes
+    go true e = (sib_of 0 0 0, 0 ∷ [], one_zero, inr (0, 0, 0, eqb-is rm 4 e, omega arith, omega arith, refl, refl))
+    go false e = (no_sib rm, [], tt, inl (eqb-isnt rm 4 e, refl, refl))
 
-operands-within : (operand : Operand) (reg : ℕ) (front : List ℕ) → SpellsOperands operand reg front → length front ≤ 1
-operands-within (Reg rm) reg front h = rw h.2 (omega arith)
-operands-within Absent reg front h = absurd h
+-- ---- memory
 
-pub operands : Reads operand_pair_at SpellsPair 1
-operands = record {
-  takes = pair-takes;
-  again = λ x front rest h. operands-again x.0 x.1 front rest h;
-  begins = pair-begins;
-  stops = λ x bytes next more h. operands-stops x.0 x.1 bytes next more h;
-  within = λ x front h. operands-within x.0 x.1 front h;
+abbrev arg_of : ℕ → Sib → Disp → MemArg
+arg_of mode sib away = record { base = base_of mode sib.base; index = sib.index; scale = sib.scale; disp = away }
+
+memory_joins : (mode rm : ℕ) → Joins (SpellsSib rm) (λ s. SpellsDisp (distance_of mode s.base)) (arg_of mode) (SpellsMemory mode rm)
+memory_joins mode rm = record {
+  joined = λ s d front back p q. (s, front, back, refl, p, q, refl);
+  parted = λ c bytes h. record { a = h.0; b = c.disp; front = h.1; back = h.2; is = h.6; bytes_are = h.3; front_spells = h.4; back_spells = h.5 };
+  follows = λ s. any_displacement (distance_of mode s.base);
 }
+
+memories : (mode rm : ℕ) → Reads (memory_at mode rm) (SpellsMemory mode rm) 5
+unfolding memory_at
+memories mode rm =
+    both (sib_at rm) (λ s. disp_at (distance_of mode s.base)) (arg_of mode) (SpellsSib rm) (λ s. SpellsDisp (distance_of mode s.base)) (SpellsMemory mode rm) 1 4
+    (sibs rm) (λ s. displacements (distance_of mode s.base)) (memory_joins mode rm)
+
+any_memory : (mode rm : ℕ) → (x : MemArg) × (bytes : List ℕ) × AreBytes bytes × SpellsMemory mode rm x bytes
+any_memory mode rm =
+    let s = any_sib rm in
+    let d = any_displacement (distance_of mode s.0.base) in
+    (arg_of mode s.0 d.0, s.1 ++ d.1, are_append s.1 d.1 s.2 d.2, (s.0, s.1, d.1, refl, s.3, d.3, refl))
+
+-- ---- a register or memory
+
+abbrev in_mem : MemArg → Operand
+in_mem arg = Mem arg
+
+register_only : (mode rm : ℕ) → mode ≡ 3 → (x : Operand) (bytes : List ℕ) → SpellsOperand mode rm x bytes → (x ≡ Reg rm) × (bytes ≡ [])
+register_only mode rm e (Reg r) bytes h = (ap (λ (k : ℕ). Reg k) h.1, h.2)
+register_only mode rm e (Mem arg) bytes h = absurd (h.0 e)
+register_only mode rm e Absent bytes h = absurd h
+
+register_operand : (mode rm : ℕ) → mode ≡ 3 → Reads (λ bytes. Ok (Reg rm, bytes)) (SpellsOperand mode rm) 5
+register_operand mode rm e = widened _ _ 0 5 (omega arith) (always (Reg rm) (SpellsOperand mode rm) (e, refl, refl) (register_only mode rm e))
+
+memory_only : (mode rm : ℕ) → mode ≢ 3 → (x : Operand) (bytes : List ℕ) → SpellsOperand mode rm x bytes → (a : MemArg) × (x ≡ in_mem a) × SpellsMemory mode rm a bytes
+memory_only mode rm ne (Reg r) bytes h = absurd (ne h.0)
+memory_only mode rm ne (Mem arg) bytes h = (arg, refl, h.1)
+memory_only mode rm ne Absent bytes h = absurd h
+
+memory_operand : (mode rm : ℕ) → mode ≢ 3 → Reads (λ bytes. in_memory (memory_at mode rm bytes)) (SpellsOperand mode rm) 5
+memory_operand mode rm ne =
+    mapped (memory_at mode rm) in_mem (SpellsMemory mode rm) (SpellsOperand mode rm) 5 (λ a bytes h. (ne, h)) (memory_only mode rm ne) (memories mode rm)
+
+pub operands : (mode rm : ℕ) → Reads (operand_at mode rm) (SpellsOperand mode rm) 5
+unfolding operand_at
+operands mode rm = go (nat_eq mode 3) refl
+  where
+    go : (b : Bool) → nat_eq mode 3 ≡ b → Reads (λ bytes. cond b (Ok (Reg rm, bytes)) (in_memory (memory_at mode rm bytes))) (SpellsOperand mode rm) 5
+    go true e = register_operand mode rm (eqb-is mode 3 e)
+    go false e = memory_operand mode rm (eqb-isnt mode 3 e)
+
+pub any_operand : (mode rm : ℕ) → (x : Operand) × (bytes : List ℕ) × AreBytes bytes × SpellsOperand mode rm x bytes
+any_operand mode rm = go (nat_eq mode 3) refl
+  where
+    go : (b : Bool) → nat_eq mode 3 ≡ b → (x : Operand) × (bytes : List ℕ) × AreBytes bytes × SpellsOperand mode rm x bytes
+    go true e = (Reg rm, [], tt, (eqb-is mode 3 e, refl, refl))
+    go false e = let m = any_memory mode rm in (Mem m.0, m.1, m.2, (eqb-isnt mode 3 e, m.3))

@@ -1,8 +1,9 @@
 -- A reader and the spellings of what it reads, held together by five laws; and readers one after the other.
-use Rattle.std.proofs.Common.{◌≡◌, ℕ, ◌+◌, ◌≤◌, List, [], ◌∷◌, ◌++◌, length, Result, Ok, Err, refl, sym, ap, subst, ◌∙◌, append_assoc, arith, ◌⊎◌, inl, inr}
-use Rattle.std.proofs.lemmas.List.{length-append}
-use Rattle.jos_isa.specs.declared.decoder.Stop.{Stop}
-use Rattle.jos_isa.specs.declared.decoder.Stop.TheVariants.{Short}
+use Rattle.std.proofs.Common.{◌≡◌, ℕ, ◌+◌, ◌*◌, ◌/◌, ◌%◌, ◌<◌, ◌≤◌, List, [], ◌∷◌, ◌++◌, length, Result, Ok, Err, refl, sym, ap, subst, ◌∙◌, append_assoc, arith, ◌⊎◌, inl, inr, true, false, nat_eq, ◌≢◌}
+use Rattle.std.proofs.lemmas.List.{length-append, append-nil}
+use Rattle.jos_isa.specs.declared.parts.Stop.{Stop}
+use Rattle.jos_isa.specs.declared.parts.Stop.TheVariants.{Short}
+use Rattle.jos_isa.specs.Laws.{AreBytes}
 use Rattle.jos_isa.specs.Reading.{◌>>=◌, byte_at}
 
 pub record Reads {A : Type 0} (read : List ℕ → Result (A × List ℕ) Stop) (IsSpelling : A → List ℕ → Type 0) (longest : ℕ) : Type 0 where
@@ -11,10 +12,28 @@ pub record Reads {A : Type 0} (read : List ℕ → Result (A × List ℕ) Stop) 
   -- what is spelled is read, whatever follows
   pub again : (x : A) (front rest : List ℕ) → IsSpelling x front → read (front ++ rest) ≡ Ok (x, rest)
   -- what is too short begins a longer spelling
-  pub begins : (bytes : List ℕ) → read bytes ≡ Err Short → (x : A) × (next : ℕ) × (more : List ℕ) × IsSpelling x (bytes ++ next ∷ more)
+  pub begins : (bytes : List ℕ) → read bytes ≡ Err Short → (x : A) × (next : ℕ) × (more : List ℕ) × AreBytes (next ∷ more) × IsSpelling x (bytes ++ next ∷ more)
   -- what begins a longer spelling is too short
   pub stops : (x : A) (bytes : List ℕ) (next : ℕ) (more : List ℕ) → IsSpelling x (bytes ++ next ∷ more) → read bytes ≡ Err Short
   pub within : (x : A) (front : List ℕ) → IsSpelling x front → length front ≤ longest
+
+-- ---- bytes
+
+pub are_append : (front back : List ℕ) → AreBytes front → AreBytes back → AreBytes (front ++ back)
+are_append [] back f b = b
+are_append (x ∷ front) back f b = (f.0, are_append front back f.1 b)
+
+pub one_zero : AreBytes (0 ∷ [])
+one_zero = (omega arith, tt)
+
+pub two_zeros : AreBytes (0 ∷ 0 ∷ [])
+two_zeros = (omega arith, one_zero)
+
+pub three_zeros : AreBytes (0 ∷ 0 ∷ 0 ∷ [])
+three_zeros = (omega arith, two_zeros)
+
+pub four_zeros : AreBytes (0 ∷ 0 ∷ 0 ∷ 0 ∷ [])
+four_zeros = (omega arith, three_zeros)
 
 -- ---- what a step gave
 
@@ -107,7 +126,7 @@ pub record Parted {A B C : Type 0} (P : A → List ℕ → Type 0) (Q : A → B 
 pub record Joins {A B C : Type 0} (P : A → List ℕ → Type 0) (Q : A → B → List ℕ → Type 0) (whole : A → B → C) (R : C → List ℕ → Type 0) : Type 0 where
   pub joined : (a : A) (b : B) (front back : List ℕ) → P a front → Q a b back → R (whole a b) (front ++ back)
   pub parted : (c : C) (bytes : List ℕ) → R c bytes → Parted P Q whole c bytes
-  pub follows : (a : A) → (b : B) × (back : List ℕ) × Q a b back
+  pub follows : (a : A) → (b : B) × (back : List ℕ) × AreBytes back × Q a b back
 
 module _ {A B C : Type 0} (first : List ℕ → Result (A × List ℕ) Stop) (second : A → List ℕ → Result (B × List ℕ) Stop) (whole : A → B → C)
     (P : A → List ℕ → Type 0) (Q : A → B → List ℕ → Type 0) (R : C → List ℕ → Type 0) (n m : ℕ)
@@ -129,20 +148,20 @@ module _ {A B C : Type 0} (first : List ℕ → Result (A × List ℕ) Stop) (se
       let t : second p.a (p.back ++ rest) ≡ Ok (p.b, rest) = (two p.a).again p.b p.back rest p.back_spells in
       rw (s, t) (ap {B = Result (C × List ℕ) Stop} (λ (z : C). Ok (z, rest)) (sym p.is))
 
-  both-begins : (bytes : List ℕ) → both_read first second whole bytes ≡ Err Short → (c : C) × (next : ℕ) × (more : List ℕ) × R c (bytes ++ next ∷ more)
+  both-begins : (bytes : List ℕ) → both_read first second whole bytes ≡ Err Short → (c : C) × (next : ℕ) × (more : List ℕ) × AreBytes (next ∷ more) × R c (bytes ++ next ∷ more)
   both-begins bytes e =
       elim (bind_err (first bytes) (λ (p : A × List ℕ). second p.0 p.1 >>= λ q. Ok (whole p.0 q.0, q.1)) Short e) [
         | inl s ↦
             let t = one.begins bytes s in
             let b = joins.follows t.0 in
-            (whole t.0 b.0, t.1, t.2 ++ b.1, subst (λ (l : List ℕ). R (whole t.0 b.0) l) (append_assoc bytes (t.1 ∷ t.2) b.1) (joins.joined t.0 b.0 (bytes ++ t.1 ∷ t.2) b.1 t.3 b.2))
+            (whole t.0 b.0, t.1, t.2 ++ b.1, (t.3.0, are_append t.2 b.1 t.3.1 b.2), subst (λ (l : List ℕ). R (whole t.0 b.0) l) (append_assoc bytes (t.1 ∷ t.2) b.1) (joins.joined t.0 b.0 (bytes ++ t.1 ∷ t.2) b.1 t.4 b.3))
         | inr p ↦
             let s = one.takes bytes p.0.0 p.0.1 p.1 in
             elim (bind_err (second p.0.0 p.0.1) (λ (q : B × List ℕ). Ok (whole p.0.0 q.0, q.1)) Short p.2) [
               | inl u ↦
                   let t = (two p.0.0).begins p.0.1 u in
                   let bytes_are : bytes ++ t.1 ∷ t.2 ≡ s.0 ++ (p.0.1 ++ t.1 ∷ t.2) = before bytes s.0 p.0.1 (t.1 ∷ t.2) s.1 in
-                  (whole p.0.0 t.0, t.1, t.2, subst (λ (l : List ℕ). R (whole p.0.0 t.0) l) (sym bytes_are) (joins.joined p.0.0 t.0 s.0 (p.0.1 ++ t.1 ∷ t.2) s.2 t.3))
+                  (whole p.0.0 t.0, t.1, t.2, t.3, subst (λ (l : List ℕ). R (whole p.0.0 t.0) l) (sym bytes_are) (joins.joined p.0.0 t.0 s.0 (p.0.1 ++ t.1 ∷ t.2) s.2 t.4))
               | inr u ↦ absurd (cc (u.2))
             ]
       ]
@@ -197,8 +216,8 @@ byte-takes : (bytes : List ℕ) (x : ℕ) (rest : List ℕ) → byte_at bytes �
 byte-takes [] x rest e = absurd cc
 byte-takes (b ∷ bytes) x rest e = taken_as IsByte (b ∷ bytes) (b ∷ []) (b, bytes) (x, rest) e refl refl
 
-byte-begins : (bytes : List ℕ) → byte_at bytes ≡ Err Short → (x : ℕ) × (next : ℕ) × (more : List ℕ) × IsByte x (bytes ++ next ∷ more)
-byte-begins [] e = (0, 0, [], refl)
+byte-begins : (bytes : List ℕ) → byte_at bytes ≡ Err Short → (x : ℕ) × (next : ℕ) × (more : List ℕ) × AreBytes (next ∷ more) × IsByte x (bytes ++ next ∷ more)
+byte-begins [] e = (0, 0, [], one_zero, refl)
 byte-begins (b ∷ bytes) e = absurd cc
 
 pub byte-stops : (x : ℕ) (bytes : List ℕ) (next : ℕ) (more : List ℕ) → IsByte x (bytes ++ next ∷ more) → byte_at bytes ≡ Err Short
@@ -215,3 +234,84 @@ byte = record {
   stops = byte-stops;
   within = λ x front h. rw h (omega arith);
 }
+
+-- ---- readers made of one
+
+-- of no byte, which gives always the same
+pub always : {A : Type 0} (x : A) (P : A → List ℕ → Type 0) → P x [] → ((y : A) (bytes : List ℕ) → P y bytes → (y ≡ x) × (bytes ≡ [])) → Reads (λ bytes. Ok (x, bytes)) P 0
+always {A} x P here alone = record {
+  takes = λ bytes y rest e. taken_as P bytes [] (x, bytes) (y, rest) e refl here;
+  again = λ y front rest h. let o = alone y front h in rw (o.1, o.0) refl;
+  begins = λ bytes e. absurd cc;
+  stops = λ y bytes next more h. absurd (not_empty bytes next more (alone y (bytes ++ next ∷ more) h).1);
+  within = λ y front h. rw ((alone y front h).1) (omega arith);
+}
+
+-- of the same bytes, spelled in other words
+pub respelled : {A : Type 0} (read : List ℕ → Result (A × List ℕ) Stop) (P Q : A → List ℕ → Type 0) (n : ℕ) → ((x : A) (bytes : List ℕ) → P x bytes → Q x bytes) → ((x : A) (bytes : List ℕ) → Q x bytes → P x bytes) → Reads read P n → Reads read Q n
+respelled read P Q n to from r = record {
+  takes = λ bytes x rest e. let t = r.takes bytes x rest e in (t.0, t.1, to x t.0 t.2);
+  again = λ x front rest h. r.again x front rest (from x front h);
+  begins = λ bytes e. let t = r.begins bytes e in (t.0, t.1, t.2, t.3, to t.0 (bytes ++ t.1 ∷ t.2) t.4);
+  stops = λ x bytes next more h. r.stops x bytes next more (from x (bytes ++ next ∷ more) h);
+  within = λ x front h. r.within x front (from x front h);
+}
+
+-- of the same bytes, which gives a function of what was read
+abbrev pub mapped_read : {A B : Type 0} → (List ℕ → Result (A × List ℕ) Stop) → (A → B) → List ℕ → Result (B × List ℕ) Stop
+mapped_read read f bytes = read bytes >>= λ p. Ok (f p.0, p.1)
+
+pub mapped : {A B : Type 0} (read : List ℕ → Result (A × List ℕ) Stop) (f : A → B) (P : A → List ℕ → Type 0) (Q : B → List ℕ → Type 0) (n : ℕ)
+    → ((a : A) (bytes : List ℕ) → P a bytes → Q (f a) bytes) → ((b : B) (bytes : List ℕ) → Q b bytes → (a : A) × (b ≡ f a) × P a bytes)
+    → Reads read P n → Reads (mapped_read read f) Q n
+mapped {A} {B} read f P Q n to from r = widened _ Q (n + 0) n (omega arith) (both read (λ _. nothing_at) (λ x _. f x) P (λ _. IsNothing) Q n 0 r (λ _. nothing) joins)
+  where
+    joins : Joins P (λ _. IsNothing) (λ x _. f x) Q
+    joins = record {
+      joined = λ a b front back p q. subst (λ (l : List ℕ). Q (f a) l) (sym (ap (λ (l : List ℕ). front ++ l) q ∙ append-nil front)) (to a front p);
+      parted = λ c bytes h. let t = from c bytes h in record { a = t.0; b = tt; front = bytes; back = []; is = t.1; bytes_are = sym (append-nil bytes); front_spells = t.2; back_spells = refl };
+      follows = λ a. (tt, [], tt, refl);
+    }
+
+-- ---- a reader that the first one chooses
+
+abbrev pub after_read : {A C : Type 0} → (List ℕ → Result (A × List ℕ) Stop) → (A → List ℕ → Result (C × List ℕ) Stop) → List ℕ → Result (C × List ℕ) Stop
+after_read first second bytes = first bytes >>= λ p. second p.0 p.1
+
+paired_again : {C : Type 0} (r : Result (C × List ℕ) Stop) → (r >>= λ q. Ok (q.0, q.1)) ≡ r
+paired_again (Ok q) = refl
+paired_again (Err e) = refl
+
+both_is_after : {A C : Type 0} (second : A → List ℕ → Result (C × List ℕ) Stop) (r : Result (A × List ℕ) Stop) → (r >>= λ p. second p.0 p.1 >>= λ q. Ok (q.0, q.1)) ≡ (r >>= λ p. second p.0 p.1)
+both_is_after second (Ok p) = paired_again (second p.0 p.1)
+both_is_after second (Err e) = refl
+
+-- the second part alone is what is read
+abbrev pub second_of : {A C : Type 0} → A → C → C
+second_of a c = c
+
+pub after : {A C : Type 0} (first : List ℕ → Result (A × List ℕ) Stop) (second : A → List ℕ → Result (C × List ℕ) Stop) (P : A → List ℕ → Type 0) (Q : A → C → List ℕ → Type 0) (R : C → List ℕ → Type 0) (n m : ℕ)
+    → Reads first P n → ((a : A) → Reads (second a) (Q a) m) → Joins P Q second_of R → Reads (after_read first second) R (n + m)
+after first second P Q R n m one two joins =
+    renamed (both_read first second second_of) (after_read first second) R (n + m) (λ bytes. both_is_after second (first bytes)) (both first second second_of P Q R n m one two joins)
+
+-- ---- tests
+
+pub eqb-is : (a b : ℕ) → nat_eq a b ≡ true → a ≡ b
+eqb-is a b e = grind arith
+
+pub eqb-isnt : (a b : ℕ) → nat_eq a b ≡ false → a ≢ b
+eqb-isnt a b e = grind arith
+
+-- ---- a byte of three fields
+
+pub fields_of : (m : ℕ) → m ≡ 64 * (m / 64) + 8 * (m / 8 % 8) + m % 8
+fields_of m = omega arith
+
+pub record ThreeFields (m high middle low : ℕ) : Type 0 where
+  pub high_is : m / 64 ≡ high
+  pub middle_is : m / 8 % 8 ≡ middle
+  pub low_is : m % 8 ≡ low
+
+pub three_fields : (high middle low : ℕ) → middle < 8 → low < 8 → ThreeFields (64 * high + 8 * middle + low) high middle low
+three_fields high middle low small_middle small_low = record { high_is = omega arith; middle_is = omega arith; low_is = omega arith }

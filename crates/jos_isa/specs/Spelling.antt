@@ -1,46 +1,128 @@
 -- Which bytes spell which instruction. Nothing is said of how they are read.
--- (Intel 80386 Programmer's Reference Manual, 1986, section 17.2, "Instruction Format".)
-use Rattle.std.specs.Prelude.{◌≡◌, ℕ, ◌+◌, ◌*◌, ◌<◌, List, [], ◌∷◌, ◌++◌, Option, Some, None, nat_lt, if◌then◌else◌}
-use Rattle.std.specs.Int.{w32, from_le_bytes}
+-- (Intel 80386 Programmer's Reference Manual, 1986, section 17.2, "Instruction Format": 17.2.1, "ModR/M and SIB
+-- Bytes", with its tables 17-3 and 17-4.)
+use Rattle.std.specs.Prelude.{◌≡◌, ◌≢◌, ℕ, ◌+◌, ◌*◌, ◌<◌, ◌==◌, ◌&&◌, List, [], ◌∷◌, ◌++◌, Option, Some, None, nat_lt, if◌then◌else◌, ◌⊎◌}
+use Rattle.std.specs.Int.{w8, w16, w32, from_le_bytes, cast_signed}
 use Rattle.jos_isa.specs.declared.instruction.Insn.{Insn}
+use Rattle.jos_isa.specs.declared.instruction.Repeat.TheVariants.{Once}
 use Rattle.jos_isa.specs.declared.instruction.Operand.{Operand}
-use Rattle.jos_isa.specs.declared.instruction.Operand.TheVariants.{Absent, Reg}
+use Rattle.jos_isa.specs.declared.instruction.Operand.TheVariants.{Absent, Reg, Mem}
+use Rattle.jos_isa.specs.declared.instruction.MemArg.{MemArg}
+use Rattle.jos_isa.specs.declared.instruction.Disp.{Disp}
+use Rattle.jos_isa.specs.declared.instruction.Disp.TheVariants as disp
 use Rattle.jos_isa.specs.declared.opcode.Form.{Form}
 use Rattle.jos_isa.specs.declared.opcode.Form.TheVariants.{Plain, ModRm}
+use Rattle.jos_isa.specs.declared.opcode.Fields.{Fields}
 use Rattle.jos_isa.specs.declared.opcode.Immediate.{Immediate}
-use Rattle.jos_isa.specs.declared.opcode.Immediate.TheVariants.{Nothing, Byte, SignedByte, Word}
-use Rattle.jos_isa.specs.OpcodeMap.{form_at}
+use Rattle.jos_isa.specs.declared.opcode.Immediate.TheVariants.{Nothing, Byte, SignedByte, Pair, Word}
+use Rattle.jos_isa.specs.declared.opcode.Map.{Map}
+use Rattle.jos_isa.specs.declared.opcode.Entry.TheVariants.{Complete, Behind}
+use Rattle.jos_isa.specs.declared.parts.Distance.{Distance}
+use Rattle.jos_isa.specs.declared.parts.Distance.TheVariants as distance
+use Rattle.jos_isa.specs.declared.parts.Sib.{Sib}
+use Rattle.jos_isa.specs.declared.parts.Chosen.{Chosen}
+use Rattle.jos_isa.specs.OpcodeMap.{entry_at, form_behind, choice_of}
+
+-- ---- immediates
 
 -- a byte as a word of the same signed value
 abbrev pub sign_extended : ℕ → ℕ
 sign_extended byte = if nat_lt byte 128 then byte else byte + 0xffff_ff00
 
--- no byte; a byte; a byte that is extended with its sign; four bytes, the lowest first
+-- no byte; a byte; a byte that is extended with its sign; two bytes or four, the lowest first
 abbrev pub SpellsImmediate : Immediate → ℕ → List ℕ → Type 0
 SpellsImmediate Nothing value bytes = (value ≡ 0) × (bytes ≡ [])
 SpellsImmediate Byte value bytes = bytes ≡ value ∷ []
 SpellsImmediate SignedByte value bytes = (byte : ℕ) × (value ≡ sign_extended byte) × (bytes ≡ byte ∷ [])
+SpellsImmediate Pair value bytes = (a b : ℕ) × (value ≡ from_le_bytes w16 (a ∷ b ∷ [])) × (bytes ≡ a ∷ b ∷ [])
 SpellsImmediate Word value bytes =
     (a b c d : ℕ) × (value ≡ from_le_bytes w32 (a ∷ b ∷ c ∷ d ∷ [])) × (bytes ≡ a ∷ b ∷ c ∷ d ∷ [])
 
--- A ModRM byte has mod in its bits 6 and 7, reg in 3 to 5 and rm in 0 to 2. With mod 3 the operand is the
--- register rm.
-abbrev pub SpellsOperands : Operand → ℕ → List ℕ → Type 0
-SpellsOperands (Reg rm) reg bytes = (reg < 8) × (rm < 8) × (bytes ≡ (64 * 3 + 8 * reg + rm) ∷ [])
-SpellsOperands Absent reg bytes = ⊥
+-- ---- operands
+
+-- no byte; a signed byte; four bytes, the lowest first
+abbrev pub SpellsDisp : Distance → Disp → List ℕ → Type 0
+SpellsDisp distance.Nothing value bytes = (value ≡ disp.Zero) × (bytes ≡ [])
+SpellsDisp distance.Byte value bytes = (byte : ℕ) × (value ≡ disp.Byte (cast_signed w8 byte)) × (bytes ≡ byte ∷ [])
+SpellsDisp distance.Word value bytes =
+    (a b c d : ℕ) × (value ≡ disp.Word (from_le_bytes w32 (a ∷ b ∷ c ∷ d ∷ []))) × (bytes ≡ a ∷ b ∷ c ∷ d ∷ [])
+
+-- Here and below mod is called mode.
+
+-- How mod and the number of the base say what displacement follows: none with mod 0, a byte with mod 1 and a
+-- word with mod 2. But with mod 0 the number 5 is a word without base.
+abbrev pub distance_of : ℕ → ℕ → Distance
+distance_of mode number =
+    if mode == 0 then (if number == 5 then distance.Word else distance.Nothing)
+    else if mode == 1 then distance.Byte
+    else distance.Word
+
+abbrev pub base_of : ℕ → ℕ → Option ℕ
+base_of mode number = if mode == 0 && number == 5 then None else Some number
+
+-- The index 4 is no index, whatever the scale.
+abbrev pub sib_of : ℕ → ℕ → ℕ → Sib
+sib_of scale index base =
+    if index == 4 then record { base = base; index = None; scale = 0 }
+    else record { base = base; index = Some index; scale = scale }
+
+-- A SIB byte has scale in its bits 6 and 7, index in 3 to 5 and base in 0 to 2. It stands where rm is 4; any
+-- other rm is itself the number of the base.
+abbrev pub SpellsSib : ℕ → Sib → List ℕ → Type 0
+SpellsSib rm sib bytes =
+    ((rm ≢ 4) × (sib ≡ record { base = rm; index = None; scale = 0 }) × (bytes ≡ []))
+    ⊎ ((scale index base : ℕ) × (rm ≡ 4) × (index < 8) × (base < 8)
+    × (sib ≡ sib_of scale index base) × (bytes ≡ (64 * scale + 8 * index + base) ∷ []))
+
+-- base, index and scale, and then the displacement
+abbrev pub SpellsMemory : ℕ → ℕ → MemArg → List ℕ → Type 0
+SpellsMemory mode rm arg bytes =
+    (sib : Sib) × (front back : List ℕ) × (bytes ≡ front ++ back)
+    × SpellsSib rm sib front
+    × SpellsDisp (distance_of mode sib.base) arg.disp back
+    × (arg ≡ record { base = base_of mode sib.base; index = sib.index; scale = sib.scale; disp = arg.disp })
+
+-- With mod 3 the operand is the register rm, else memory.
+abbrev pub SpellsOperand : ℕ → ℕ → Operand → List ℕ → Type 0
+SpellsOperand mode rm (Reg register) bytes = (mode ≡ 3) × (register ≡ rm) × (bytes ≡ [])
+SpellsOperand mode rm (Mem arg) bytes = (mode ≢ 3) × SpellsMemory mode rm arg bytes
+SpellsOperand mode rm Absent bytes = ⊥
+
+-- ---- instructions
+
+-- A ModRM byte has mod in its bits 6 and 7, reg in 3 to 5 and rm in 0 to 2.
+abbrev pub SpellsModRm : Fields → Chosen → List ℕ → Type 0
+SpellsModRm fields chosen bytes =
+    (reg : ℕ) × (reg < 8) × (chosen.rm < 8)
+    × (choice_of fields (chosen.mode == 3) reg ≡ Some chosen.choice)
+    × (bytes ≡ (64 * chosen.mode + 8 * reg + chosen.rm) ∷ [])
+
+-- the operand and the immediate, behind the ModRM byte
+abbrev pub SpellsRest : Chosen → Insn → List ℕ → Type 0
+SpellsRest chosen insn bytes =
+    (front back : List ℕ) × (bytes ≡ front ++ back)
+    × SpellsOperand chosen.mode chosen.rm insn.operand front
+    × SpellsImmediate chosen.choice.immediate insn.imm back
+    × (insn ≡ record { row = chosen.choice.row; repeat = Once; operand = insn.operand; reg = chosen.choice.reg; imm = insn.imm })
 
 -- what stands behind the opcode
-abbrev pub SpellsForm : Option Form → Insn → List ℕ → Type 0
-SpellsForm (Some (Plain row register immediate)) insn bytes =
+abbrev pub SpellsForm : Form → Insn → List ℕ → Type 0
+SpellsForm (Plain row repeat register immediate) insn bytes =
     SpellsImmediate immediate insn.imm bytes
-    × (insn ≡ record { row = row; operand = Absent; reg = register; imm = insn.imm })
-SpellsForm (Some (ModRm row immediate)) insn bytes =
-    (operands more : List ℕ) × (bytes ≡ operands ++ more)
-    × SpellsOperands insn.operand insn.reg operands
-    × SpellsImmediate immediate insn.imm more
-    × (insn.row ≡ row)
-SpellsForm None insn bytes = ⊥
+    × (insn ≡ record { row = row; repeat = repeat; operand = Absent; reg = register; imm = insn.imm })
+SpellsForm (ModRm fields) insn bytes =
+    (chosen : Chosen) × (front back : List ℕ) × (bytes ≡ front ++ back)
+    × SpellsModRm fields chosen front
+    × SpellsRest chosen insn back
+
+-- an opcode of one byte, or of one that leads to a map and one of that map
+abbrev pub SpellsOpcode : Form → List ℕ → Type 0
+SpellsOpcode form (byte ∷ []) = entry_at byte ≡ Complete form
+SpellsOpcode form (byte ∷ second ∷ []) = (map : Map) × (entry_at byte ≡ Behind map) × (form_behind map second ≡ Some form)
+SpellsOpcode form _ = ⊥
 
 abbrev pub Spells : Insn → List ℕ → Type 0
-Spells insn [] = ⊥
-Spells insn (opcode ∷ bytes) = SpellsForm (form_at opcode) insn bytes
+Spells insn bytes =
+    (form : Form) × (front back : List ℕ) × (bytes ≡ front ++ back)
+    × SpellsOpcode form front
+    × SpellsForm form insn back

@@ -1,13 +1,15 @@
 //! Bytes to an instruction.
 
-ghost use Rattle.std.specs.Prelude.{◌≡◌, ℕ, ◌<◌, ◌≤◌, List, [], ◌∷◌, ◌++◌, length, Result, Ok, Err, IfOk, take};
+ghost use Rattle.std.specs.Prelude.{◌≡◌, ℕ, ◌<◌, ◌≤◌, List, [], ◌∷◌, ◌++◌, length, Result, Ok, Err, IfOk, IsTrue, take};
 ghost use Rattle.jos_isa.specs.declared.instruction.Insn.{Insn};
 ghost use Rattle.jos_isa.specs.Spelling.{Spells};
-ghost use Rattle.jos_isa.specs.Reading.{byte_at, word_at, immediate_at, operands_at, form_read, instruction_at, decoded};
-ghost use Rattle.jos_isa.specs.Laws.{Gives, IfFound};
+ghost use Rattle.jos_isa.specs.Reading.{rest_at, form_read, entry_read, opcode_at, instruction_at, decoded};
+ghost use Rattle.jos_isa.specs.Lawful.{is_lawful};
+ghost use Rattle.jos_isa.specs.Laws.{Gives, IfFound, AreBytes};
 
-use crate::instruction::{Insn, Operand};
-use crate::opcode::{Form, Immediate, form_of};
+use crate::instruction::{Insn, Operand, Repeat};
+use crate::opcode::{Entry, Form, entry_of, second_form};
+use crate::parts::{Chosen, Stop, read_byte, read_immediate, read_modrm, read_operand};
 
 /// What some bytes begin with.
 #[derive(Clone, Copy, Debug, PartialEq, Eq)]
@@ -20,82 +22,66 @@ pub enum Decoded {
     Illegal,
 }
 
-/// Why a part is not read.
-#[derive(Clone, Copy)]
-pub(crate) enum Stop {
-    Short,
-    Illegal,
-}
-
-fn read_byte(bytes: &[u8]) -> Result<(u8, &[u8]), Stop>
-    ensures gives { Gives (λ x. (x.0, x.1.now)) result (byte_at bytes.now) }
+#[tactic(auto, unfolding(crate::specs::Reading::entry_read))]
+fn read_entry(entry: Entry, bytes: &[u8]) -> Result<(Form, &[u8]), Stop>
+    ensures gives { Gives (λ x. (x.0, x.1.now)) result (entry_read entry bytes.now) }
     ensures shorter { IfOk result (λ x. length x.1.now ≤ length bytes.now) }
 {
-    match bytes {
-        [byte, rest @ ..] => Ok((*byte, rest)),
-        [] => Err(Stop::Short),
-    }
-}
-
-fn read_word(bytes: &[u8]) -> Result<(u32, &[u8]), Stop>
-    ensures gives { Gives (λ x. (x.0, x.1.now)) result (word_at bytes.now) }
-    ensures shorter { IfOk result (λ x. length x.1.now ≤ length bytes.now) }
-{
-    match bytes {
-        [a, b, c, d, rest @ ..] => Ok((u32::from_le_bytes([*a, *b, *c, *d]), rest)),
-        _ => Err(Stop::Short),
-    }
-}
-
-#[tactic(auto, unfolding(crate::specs::Reading::immediate_at))]
-fn read_immediate(immediate: Immediate, bytes: &[u8]) -> Result<(u32, &[u8]), Stop>
-    ensures gives { Gives (λ x. (x.0, x.1.now)) result (immediate_at immediate bytes.now) }
-    ensures shorter { IfOk result (λ x. length x.1.now ≤ length bytes.now) }
-{
-    match immediate {
-        Immediate::Nothing => Ok((0, bytes)),
-        Immediate::Byte => {
-            let (byte, rest) = read_byte(bytes)?;
-            Ok((byte as u32, rest))
-        }
-        Immediate::SignedByte => {
-            let (byte, rest) = read_byte(bytes)?;
-            if byte < 128 {
-                Ok((byte as u32, rest))
-            } else {
-                Ok((byte as u32 + 0xffff_ff00, rest))
+    match entry {
+        Entry::Unassigned => Err(Stop::Illegal),
+        Entry::Complete(form) => Ok((form, bytes)),
+        Entry::Behind(map) => {
+            let (second, rest) = read_byte(bytes)?;
+            match second_form(map, second) {
+                Some(form) => Ok((form, rest)),
+                None => Err(Stop::Illegal),
             }
         }
-        Immediate::Word => read_word(bytes),
     }
 }
 
-#[tactic(auto, unfolding(crate::specs::Reading::operands_at))]
-fn read_operands(bytes: &[u8]) -> Result<(Operand, u8, &[u8]), Stop>
-    ensures gives { Gives (λ x. (x.0, x.1, x.2.now)) result (operands_at bytes.now) }
-    ensures shorter { IfOk result (λ x. length x.2.now ≤ length bytes.now) }
+#[tactic(auto, unfolding(crate::specs::Reading::opcode_at))]
+fn read_opcode(bytes: &[u8]) -> Result<(Form, &[u8]), Stop>
+    ensures gives { Gives (λ x. (x.0, x.1.now)) result (opcode_at bytes.now) }
+    ensures shorter { IfOk result (λ x. length x.1.now ≤ length bytes.now) }
 {
-    let (modrm, rest) = read_byte(bytes)?;
-    if modrm / 64 == 3 {
-        Ok((Operand::Reg(modrm % 8), modrm / 8 % 8, rest))
-    } else {
-        Err(Stop::Illegal)
-    }
+    let (byte, rest) = read_byte(bytes)?;
+    read_entry(entry_of(byte), rest)
+}
+
+#[tactic(auto, unfolding(crate::specs::Reading::rest_at))]
+fn read_rest(chosen: Chosen, bytes: &[u8]) -> Result<(Insn, &[u8]), Stop>
+    ensures gives { Gives (λ x. (x.0, x.1.now)) result (rest_at chosen bytes.now) }
+    ensures shorter { IfOk result (λ x. length x.1.now ≤ length bytes.now) }
+{
+    let Chosen { choice, mode, rm } = chosen;
+    let (operand, rest) = read_operand(mode, rm, bytes)?;
+    let (imm, rest) = read_immediate(choice.immediate, rest)?;
+    Ok((
+        Insn {
+            row: choice.row,
+            repeat: Repeat::Once,
+            operand,
+            reg: choice.reg,
+            imm,
+        },
+        rest,
+    ))
 }
 
 #[tactic(auto, unfolding(crate::specs::Reading::form_read))]
-fn read_form(form: Option<Form>, bytes: &[u8]) -> Result<(Insn, &[u8]), Stop>
+fn read_form(form: Form, bytes: &[u8]) -> Result<(Insn, &[u8]), Stop>
     ensures gives { Gives (λ x. (x.0, x.1.now)) result (form_read form bytes.now) }
     ensures shorter { IfOk result (λ x. length x.1.now ≤ length bytes.now) }
 {
     match form {
-        None => Err(Stop::Illegal),
-        Some(Form::Plain(row, reg, immediate)) => {
+        Form::Plain(row, repeat, reg, immediate) => {
             let (imm, rest) = read_immediate(immediate, bytes)?;
             let operand = Operand::Absent;
             Ok((
                 Insn {
                     row,
+                    repeat,
                     operand,
                     reg,
                     imm,
@@ -103,18 +89,9 @@ fn read_form(form: Option<Form>, bytes: &[u8]) -> Result<(Insn, &[u8]), Stop>
                 rest,
             ))
         }
-        Some(Form::ModRm(row, immediate)) => {
-            let (operand, reg, rest) = read_operands(bytes)?;
-            let (imm, rest) = read_immediate(immediate, rest)?;
-            Ok((
-                Insn {
-                    row,
-                    operand,
-                    reg,
-                    imm,
-                },
-                rest,
-            ))
+        Form::ModRm(fields) => {
+            let (chosen, rest) = read_modrm(fields, bytes)?;
+            read_rest(chosen, rest)
         }
     }
 }
@@ -124,8 +101,8 @@ fn read_instruction(bytes: &[u8]) -> Result<(Insn, &[u8]), Stop>
     ensures gives { Gives (λ x. (x.0, x.1.now)) result (instruction_at bytes.now) }
     ensures shorter { IfOk result (λ x. length x.1.now ≤ length bytes.now) }
 {
-    let (opcode, rest) = read_byte(bytes)?;
-    read_form(form_of(opcode), rest)
+    let (form, rest) = read_opcode(bytes)?;
+    read_form(form, rest)
 }
 
 /// What the bytes begin with, by `decoded` of `specs/Reading.antt`.
@@ -151,8 +128,12 @@ pub fn decode(bytes: &[u8]) -> Decoded
     ensures only { (insn : Insn) (front more : List ℕ) → bytes.now ≡ front ++ more → Spells insn front →
         result ≡ Decoded.Found insn (length front) }
 
+    // What is found is lawful.
+    ensures lawful { IfFound result (λ insn _. IsTrue (is_lawful insn)) }
+
     // It is short exactly where the bytes begin a longer spelling.
-    ensures short { result ≡ Decoded.Short → (insn : Insn) × (next : ℕ) × (more : List ℕ) × Spells insn (bytes.now ++ next ∷ more) }
+    ensures short { result ≡ Decoded.Short → (insn : Insn) × (next : ℕ) × (more : List ℕ)
+        × AreBytes (next ∷ more) × Spells insn (bytes.now ++ next ∷ more) }
     ensures only_short { (insn : Insn) (next : ℕ) (more : List ℕ) → Spells insn (bytes.now ++ next ∷ more) → result ≡ Decoded.Short }
     // No instruction is longer than 15 bytes.
     ensures bounded { result ≡ Decoded.Short → length bytes.now < 15 }

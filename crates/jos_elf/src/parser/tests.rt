@@ -1,11 +1,22 @@
 //! The expected values were worked out by hand from the format (System V ABI, edition 4.1, chapters 4 and 5).
 
+ghost use Rattle.std.specs.Prelude.{◌≤◌, length};
+
 use super::*;
 use std::alloc::{AllocError, Global};
 use std::process::Abort;
 use std::test::Fail;
 
 const ENTRY: u32 = 0x0080_0054;
+
+/// The kind of a program header that is loaded.
+const LOAD: u32 = 1;
+
+/// The kind of a program header that says where a note stands.
+const NOTE: u32 = 4;
+
+/// The kind by which gcc says whether the stack may be run.
+const GNU_STACK: u32 = 0x6474_e551;
 
 const SEGMENT: Segment = Segment {
     va: 0x0080_0000,
@@ -15,8 +26,8 @@ const SEGMENT: Segment = Segment {
     writable: false,
 };
 
-/// An ELF header that says of one program header at this place of the file.
-fn headers(alloc: Global, table_at: u32) -> Result<Vec<u8>, AllocError> {
+/// An ELF header that says of so many program headers from this place of the file on.
+fn header(alloc: Global, table_at: u32, count: u16) -> Result<Vec<u8>, AllocError> {
     let mut file = Vec::new(alloc);
     // e_ident: the magic, 32-bit words, the lowest byte first, version 1
     file.extend_from_slice(&[0x7f, b'E', b'L', b'F', 1, 1, 1, 0, 0, 0, 0, 0, 0, 0, 0, 0])?;
@@ -27,14 +38,21 @@ fn headers(alloc: Global, table_at: u32) -> Result<Vec<u8>, AllocError> {
         file.extend_from_slice(&word.to_le_bytes())?;
     }
     // e_ehsize, e_phentsize, e_phnum, e_shentsize, e_shnum, e_shstrndx
-    file.extend_from_slice(&[52, 0, 32, 0, 1, 0, 0, 0, 0, 0, 0, 0])?;
+    file.extend_from_slice(&[52, 0, 32, 0])?;
+    file.extend_from_slice(&count.to_le_bytes())?;
+    file.extend_from_slice(&[0, 0, 0, 0, 0, 0])?;
     Ok(file)
 }
 
 /// A program header: p_type, p_offset, p_vaddr, p_paddr, p_filesz, p_memsz, p_flags, p_align.
-fn add_program_header(file: &mut Vec<u8>, segment: Segment, flags: u32) -> Result<(), AllocError> {
+fn add_program_header(
+    file: &mut Vec<u8>,
+    kind: u32,
+    segment: Segment,
+    flags: u32,
+) -> Result<(), AllocError> {
     for word in [
-        1,
+        kind,
         segment.file_at,
         segment.va,
         0,
@@ -48,19 +66,84 @@ fn add_program_header(file: &mut Vec<u8>, segment: Segment, flags: u32) -> Resul
     Ok(())
 }
 
-/// A file of this length whose one segment may be read and run.
-fn file_with(alloc: Global, segment: Segment, len: usize) -> Result<Vec<u8>, AllocError> {
-    let mut file = headers(alloc, 52)?;
-    add_program_header(&mut file, segment, 5)?;
+/// A file of this length with these segments, which may be read and run.
+fn file_with(alloc: Global, segments: &[Segment], len: usize) -> Result<Vec<u8>, AllocError>
+    requires { length segments.now ≤ 16 }
+{
+    let mut file = header(alloc, 52, segments.len() as u16)?;
+    for segment in segments {
+        add_program_header(&mut file, LOAD, *segment, 5)?;
+    }
     file.resize(len, 0x90)?;
     Ok(file)
 }
 
-/// What a file says, which is one segment where it is accepted.
-fn read(rt: &impl Abort, file: &[u8]) -> Result<(u32, Segment), ElfFault> {
+/// A segment of so many bytes of memory and none of the file.
+fn bss(va: u32, mem_len: u32) -> Segment {
+    Segment {
+        va,
+        mem_len,
+        file_at: 0,
+        file_len: 0,
+        writable: false,
+    }
+}
+
+/// What a file says: where it starts, how many segments it has, and the last of them.
+fn read(rt: &impl Abort, file: &[u8]) -> Result<(u32, usize, Segment), ElfFault> {
+    assert!(rt; file.len() < 0x1_0000_0000);
     let image = parse(file)?;
-    assert_eq!(rt; image.segments().len(), 1);
-    Ok((image.entry(), image.segments()[0]))
+    let segments = image.segments();
+    let last = segments.last().copied().unwrap_or_default();
+    Ok((image.entry(), segments.len(), last))
+}
+
+#[test]
+fn reads_what_gcc_and_ld_write(rt: HostRuntime) -> Result<(), Fail> {
+    // the stabs at 0x00200000, a note in the text, the text, the data, and what is said of the stack
+    let stabs = Segment {
+        va: 0x0020_0000,
+        mem_len: 0x84,
+        file_at: 0x100,
+        file_len: 0x84,
+        writable: true,
+    };
+    let text = Segment {
+        va: 0x0080_0020,
+        mem_len: 0x11c,
+        file_at: 0x184,
+        file_len: 0x11c,
+        writable: false,
+    };
+    let data = Segment {
+        va: 0x0080_2000,
+        mem_len: 8,
+        file_at: 0x2a0,
+        file_len: 4,
+        writable: true,
+    };
+    let note = Segment {
+        mem_len: 0x1c,
+        file_len: 0x1c,
+        ..text
+    };
+    let mut file = header(rt.alloc(), 52, 5)?;
+    add_program_header(&mut file, LOAD, stabs, 6)?;
+    add_program_header(&mut file, NOTE, note, 4)?;
+    add_program_header(&mut file, LOAD, text, 5)?;
+    add_program_header(&mut file, LOAD, data, 6)?;
+    add_program_header(&mut file, GNU_STACK, Segment::default(), 7)?;
+    // the names of sections and nine section headers behind all else
+    file.resize(0x300 + 9 * 40, 0)?;
+    for (at, byte) in [(33, 0x03), (46, 40), (48, 9), (50, 8)] {
+        assert!(rt; at < file.len());
+        file[at] = byte;
+    }
+    assert!(rt; file.len() < 0x1_0000_0000);
+    let image = parse(file.as_slice())?;
+    assert_eq!(rt; image.entry(), ENTRY);
+    assert_eq!(rt; image.segments(), [stabs, text, data].as_slice());
+    Ok(())
 }
 
 #[test]
@@ -76,8 +159,8 @@ fn reads_each_flag_for_writing(rt: HostRuntime) -> Result<(), Fail> {
         (7, true),
         (0xffff_fffd, false),
     ] {
-        let mut file = headers(rt.alloc(), 52)?;
-        add_program_header(&mut file, SEGMENT, flags)?;
+        let mut file = header(rt.alloc(), 52, 1)?;
+        add_program_header(&mut file, LOAD, SEGMENT, flags)?;
         // MOV EAX,3; MOV EDX,0; INT 0x30
         file.extend_from_slice(&[0xb8, 3, 0, 0, 0, 0xba, 0, 0, 0, 0, 0xcd, 0x30])?;
         let segment = Segment {
@@ -86,7 +169,7 @@ fn reads_each_flag_for_writing(rt: HostRuntime) -> Result<(), Fail> {
         };
         assert_eq!(rt;
             read(&rt, file.as_slice()),
-            Ok((ENTRY, segment)),
+            Ok((ENTRY, 1, segment)),
             "flags {flags}"
         );
     }
@@ -95,57 +178,58 @@ fn reads_each_flag_for_writing(rt: HostRuntime) -> Result<(), Fail> {
 
 #[test]
 fn refuses_each_file_that_is_cut(rt: HostRuntime) -> Result<(), Fail> {
-    let file = file_with(rt.alloc(), SEGMENT, 96)?;
+    let file = file_with(rt.alloc(), &[SEGMENT], 96)?;
     assert_eq!(rt; file.len(), 96);
     for len in 0..96usize {
         assert_eq!(rt;
             read(&rt, &file[..len]),
-            Err(ElfFault::Unbuilt),
+            Err(ElfFault::Truncated(len as u32)),
             "{len} bytes"
         );
     }
-    assert_eq!(rt; read(&rt, file.as_slice()), Ok((ENTRY, SEGMENT)));
+    assert_eq!(rt; read(&rt, file.as_slice()), Ok((ENTRY, 1, SEGMENT)));
     Ok(())
 }
 
 #[test]
 fn reads_fields_at_their_greatest(rt: HostRuntime) -> Result<(), Fail> {
-    let same = Ok((ENTRY, SEGMENT));
-    let refused = Err(ElfFault::Unbuilt);
+    let same = Ok((ENTRY, 1, SEGMENT));
+    let cut = Err(ElfFault::Truncated(96));
     for (field, at, width, want) in [
-        ("EI_MAG0", 0usize, 1usize, refused),
-        ("EI_MAG1", 1, 1, refused),
-        ("EI_MAG2", 2, 1, refused),
-        ("EI_MAG3", 3, 1, refused),
-        ("EI_CLASS", 4, 1, refused),
-        ("EI_DATA", 5, 1, refused),
+        ("EI_MAG0", 0usize, 1usize, Err(ElfFault::Magic)),
+        ("EI_MAG1", 1, 1, Err(ElfFault::Magic)),
+        ("EI_MAG2", 2, 1, Err(ElfFault::Magic)),
+        ("EI_MAG3", 3, 1, Err(ElfFault::Magic)),
+        ("EI_CLASS", 4, 1, Err(ElfFault::Class)),
+        ("EI_DATA", 5, 1, Err(ElfFault::Class)),
         ("EI_VERSION", 6, 1, same),
         ("EI_PAD", 7, 9, same),
-        ("e_type", 16, 2, refused),
-        ("e_machine", 18, 2, refused),
+        ("e_type", 16, 2, Err(ElfFault::Kind)),
+        ("e_machine", 18, 2, Err(ElfFault::Machine)),
         ("e_version", 20, 4, same),
-        ("e_entry", 24, 4, Ok((0xffff_ffff, SEGMENT))),
-        ("e_phoff", 28, 4, refused),
+        ("e_entry", 24, 4, Ok((0xffff_ffff, 1, SEGMENT))),
+        ("e_phoff", 28, 4, cut),
         ("e_shoff", 32, 4, same),
         ("e_flags", 36, 4, same),
         ("e_ehsize", 40, 2, same),
-        ("e_phentsize", 42, 2, refused),
-        ("e_phnum", 44, 2, refused),
+        ("e_phentsize", 42, 2, Err(ElfFault::EntrySize)),
+        ("e_phnum", 44, 2, Err(ElfFault::TooMany)),
         ("e_shentsize", 46, 2, same),
         ("e_shnum", 48, 2, same),
         ("e_shstrndx", 50, 2, same),
-        ("p_type", 52, 4, refused),
-        ("p_offset", 56, 4, refused),
-        ("p_vaddr", 60, 4, refused),
+        ("p_type", 52, 4, Ok((ENTRY, 0, Segment::default()))),
+        ("p_offset", 56, 4, cut),
+        ("p_vaddr", 60, 4, Err(ElfFault::SegmentRange(0))),
         ("p_paddr", 64, 4, same),
-        ("p_filesz", 68, 4, refused),
-        ("p_memsz", 72, 4, refused),
+        ("p_filesz", 68, 4, cut),
+        ("p_memsz", 72, 4, Err(ElfFault::SegmentRange(0))),
         (
             "p_flags",
             76,
             4,
             Ok((
                 ENTRY,
+                1,
                 Segment {
                     writable: true,
                     ..SEGMENT
@@ -154,7 +238,7 @@ fn reads_fields_at_their_greatest(rt: HostRuntime) -> Result<(), Fail> {
         ),
         ("p_align", 80, 4, same),
     ] {
-        let mut file = file_with(rt.alloc(), SEGMENT, 96)?;
+        let mut file = file_with(rt.alloc(), &[SEGMENT], 96)?;
         for (place, byte) in file.iter_mut().enumerate() {
             if at <= place && place - at < width {
                 *byte = 0xff;
@@ -166,79 +250,50 @@ fn reads_fields_at_their_greatest(rt: HostRuntime) -> Result<(), Fail> {
 }
 
 #[test]
-fn knows_the_bounds_of_a_segment(rt: HostRuntime) -> Result<(), Fail> {
-    for (what, va, file_at, file_len, mem_len, len, accepted) in [
+fn knows_the_bounds_of_memory(rt: HostRuntime) -> Result<(), Fail> {
+    for (what, va, mem_len, accepted) in [
+        ("below the low range", 0x001f_ffff, 1, false),
+        ("into the low range", 0x001f_ffff, 2, false),
+        ("its first byte", 0x0020_0000, 1, true),
+        ("its last byte", 0x003f_ffff, 1, true),
+        ("over its end by one", 0x003f_ffff, 2, false),
+        ("all of it", 0x0020_0000, 0x0020_0000, true),
+        ("a byte more", 0x0020_0000, 0x0020_0001, false),
+        ("behind it", 0x0040_0000, 1, false),
         (
-            "the last byte of a page",
-            0x0080_0fff,
-            84,
-            1,
-            1,
-            85usize,
-            true,
-        ),
-        ("over a page's end by one", 0x0080_0fff, 84, 2, 2, 86, false),
-        ("a whole page", 0x0080_1000, 84, 4096, 4096, 4180, true),
-        (
-            "a page and a byte",
-            0x0080_1000,
-            84,
-            4097,
-            4097,
-            4181,
+            "from one range to the other",
+            0x003f_ffff,
+            0x0040_0002,
             false,
         ),
-        ("no byte", 0x0080_0000, 84, 0, 0, 84, false),
-        ("the first page", 0x0080_0000, 84, 1, 1, 85, true),
-        ("below the first page", 0x007f_ffff, 84, 1, 1, 85, false),
-        ("address 0", 0, 84, 1, 1, 85, false),
+        ("below the high range", 0x007f_ffff, 1, false),
+        ("into the high range", 0x007f_ffff, 2, false),
+        ("its first byte", 0x0080_0000, 1, true),
+        ("its last byte", 0xcfff_ffff, 1, true),
+        ("over its end by one", 0xcfff_ffff, 2, false),
+        ("all of it", 0x0080_0000, 0xcf80_0000, true),
+        ("a byte more", 0x0080_0000, 0xcf80_0001, false),
+        ("behind it", 0xd000_0000, 1, false),
+        ("address 0", 0, 1, false),
+        ("the last address", 0xffff_ffff, 1, false),
+        ("an end at 2^32", 0xffff_fff0, 0x10, false),
         (
-            "the end of the last page",
-            0xcfff_fff0,
-            84,
-            16,
-            16,
-            100,
-            true,
-        ),
-        (
-            "over the last page's end",
-            0xcfff_fff0,
-            84,
-            17,
-            17,
-            101,
+            "an end that is 0x00800010 past 2^32",
+            0xff80_0000,
+            0x0100_0010,
             false,
         ),
-        ("above the last page", 0xd000_0000, 84, 1, 1, 85, false),
-        ("the whole file", 0x0080_0000, 0, 96, 96, 96, true),
-        ("the file's last byte", 0x0080_0000, 95, 1, 1, 96, true),
-        ("one byte past the file", 0x0080_0000, 84, 13, 13, 96, false),
-        ("the byte behind the file", 0x0080_0000, 96, 1, 1, 96, false),
-        (
-            "a place and a length whose sum is 2^32",
-            0x0080_0000,
-            0xffff_fff4,
-            12,
-            12,
-            96,
-            false,
-        ),
-        ("more memory than bytes", 0x0080_0000, 84, 12, 13, 96, false),
-        ("less memory than bytes", 0x0080_0000, 84, 12, 11, 96, false),
+        ("the most memory", 0x0080_0000, 0xffff_ffff, false),
+        ("no memory", 0, 0, true),
     ] {
-        let segment = Segment {
-            va,
-            mem_len,
-            file_at,
-            file_len,
-            writable: false,
-        };
-        let file = file_with(rt.alloc(), segment, len)?;
-        let want = if accepted {
-            Ok((ENTRY, segment))
+        let segment = bss(va, mem_len);
+        let file = file_with(rt.alloc(), &[segment], 84)?;
+        let want = if mem_len == 0 {
+            Ok((ENTRY, 0, Segment::default()))
+        } else if accepted {
+            Ok((ENTRY, 1, segment))
         } else {
-            Err(ElfFault::Unbuilt)
+            Err(ElfFault::SegmentRange(0))
         };
         assert_eq!(rt; read(&rt, file.as_slice()), want, "{what}");
     }
@@ -246,46 +301,212 @@ fn knows_the_bounds_of_a_segment(rt: HostRuntime) -> Result<(), Fail> {
 }
 
 #[test]
-fn reads_one_program_header_in_the_file(rt: HostRuntime) -> Result<(), Fail> {
+fn knows_the_bounds_of_the_file(rt: HostRuntime) -> Result<(), Fail> {
+    let cut = Some(ElfFault::Truncated(96));
+    let misplaced = Some(ElfFault::SegmentRange(0));
+    for (what, file_at, file_len, mem_len, fault) in [
+        ("the whole file", 0, 96, 96, None),
+        ("its last byte", 95, 1, 1, None),
+        ("the byte behind it", 96, 1, 1, cut),
+        ("one byte past it", 84, 13, 13, cut),
+        ("no byte at its end", 96, 0, 12, None),
+        ("no byte past its end", 97, 0, 12, cut),
+        (
+            "a place and a length whose sum is 2^32",
+            0xffff_fff4,
+            12,
+            12,
+            cut,
+        ),
+        ("more memory than bytes", 84, 12, 13, None),
+        ("less memory than bytes", 84, 12, 11, misplaced),
+        ("too little memory for bytes past the end", 84, 13, 12, cut),
+    ] {
+        let segment = Segment {
+            file_at,
+            file_len,
+            mem_len,
+            ..SEGMENT
+        };
+        let file = file_with(rt.alloc(), &[segment], 96)?;
+        let want = match fault {
+            None => Ok((ENTRY, 1, segment)),
+            Some(fault) => Err(fault),
+        };
+        assert_eq!(rt; read(&rt, file.as_slice()), want, "{what}");
+    }
+
+    // of a header without memory nothing is asked
+    let segment = Segment {
+        va: 0xffff_ffff,
+        mem_len: 0,
+        file_at: 0xffff_ffff,
+        file_len: 0xffff_ffff,
+        writable: false,
+    };
+    let file = file_with(rt.alloc(), &[segment], 84)?;
+    assert_eq!(rt;
+        read(&rt, file.as_slice()),
+        Ok((ENTRY, 0, Segment::default()))
+    );
+    Ok(())
+}
+
+#[test]
+fn finds_the_table_in_the_file(rt: HostRuntime) -> Result<(), Fail> {
     // the program header behind the code, as the file's end
     let segment = Segment {
         file_at: 52,
         ..SEGMENT
     };
-    let mut file = headers(rt.alloc(), 64)?;
+    let mut file = header(rt.alloc(), 64, 1)?;
     file.resize(64, 0x90)?;
-    add_program_header(&mut file, segment, 5)?;
-    assert_eq!(rt; read(&rt, file.as_slice()), Ok((ENTRY, segment)));
+    add_program_header(&mut file, LOAD, segment, 5)?;
+    assert_eq!(rt; read(&rt, file.as_slice()), Ok((ENTRY, 1, segment)));
     file.truncate(95);
-    assert_eq!(rt;
-        read(&rt, file.as_slice()),
-        Err(ElfFault::Unbuilt),
-        "the table ends one byte past the file"
-    );
+    assert_eq!(rt; read(&rt, file.as_slice()), Err(ElfFault::Truncated(95)));
 
     // places for which the end of the table is past 2^32, or 2^32 itself
     for at in [0xffff_ffe0, 0xffff_ffe1, 0xffff_ffff] {
-        let mut file = headers(rt.alloc(), at)?;
-        add_program_header(&mut file, SEGMENT, 5)?;
+        let mut file = header(rt.alloc(), at, 1)?;
+        add_program_header(&mut file, LOAD, SEGMENT, 5)?;
         file.resize(96, 0x90)?;
         assert_eq!(rt;
             read(&rt, file.as_slice()),
-            Err(ElfFault::Unbuilt),
+            Err(ElfFault::Truncated(96)),
             "the table at {at}"
         );
     }
 
-    // two program headers that would each do, and none
-    for count in [0, 2] {
-        let mut file = headers(rt.alloc(), 52)?;
-        add_program_header(&mut file, SEGMENT, 5)?;
-        add_program_header(&mut file, SEGMENT, 5)?;
-        assert!(rt; 44 < file.len());
-        file[44] = count;
+    // no program header at the file's end, and past it
+    let none = Ok((ENTRY, 0, Segment::default()));
+    for (at, want) in [(0, none), (52, none), (53, Err(ElfFault::Truncated(52)))] {
+        let file = header(rt.alloc(), at, 0)?;
+        assert_eq!(rt; read(&rt, file.as_slice()), want, "no header at {at}");
+    }
+
+    // as many as there may be, each of a byte of its own, and one more
+    for count in [1u16, 15, 16, 17] {
+        let mut file = header(rt.alloc(), 52, count)?;
+        for place in 0..count as u32 {
+            add_program_header(&mut file, LOAD, bss(0x0020_0000 + place, 1), 5)?;
+        }
+        let last = bss(0x0020_0000 + count as u32 - 1, 1);
+        let want = if count <= 16 {
+            Ok((ENTRY, count as usize, last))
+        } else {
+            Err(ElfFault::TooMany)
+        };
+        assert_eq!(rt; read(&rt, file.as_slice()), want, "{count} headers");
+    }
+    Ok(())
+}
+
+#[test]
+fn tells_the_first_fault_of_the_header(rt: HostRuntime) -> Result<(), Fail> {
+    // all is wrong, and is mended one by one
+    let mut file = Vec::new(rt.alloc());
+    file.resize(60, 0xff)?;
+    for (at, bytes, fault) in [
+        (0usize, [0xff, 0xff, 0xff, 0xff], ElfFault::Magic),
+        (0, [0x7f, b'E', b'L', b'F'], ElfFault::Class),
+        (4, [1, 1, 1, 0], ElfFault::Kind),
+        (16, [2, 0, 0xff, 0xff], ElfFault::Machine),
+        (18, [3, 0, 1, 0], ElfFault::EntrySize),
+        (42, [32, 0, 17, 0], ElfFault::TooMany),
+        (44, [16, 0, 0, 0], ElfFault::Truncated(60)),
+        (28, [60, 0, 0, 0], ElfFault::Truncated(60)),
+    ] {
+        for (place, byte) in file.iter_mut().enumerate() {
+            if at <= place && place - at < 4 {
+                *byte = bytes[place - at];
+            }
+        }
+        assert_eq!(rt; read(&rt, file.as_slice()), Err(fault), "mended at {at}");
+    }
+    file.truncate(51);
+    file.fill(0);
+    assert_eq!(rt; read(&rt, file.as_slice()), Err(ElfFault::Truncated(51)));
+    Ok(())
+}
+
+#[test]
+fn tells_the_first_fault_of_the_segments(rt: HostRuntime) -> Result<(), Fail> {
+    let first = bss(0x0080_0000, 0x1000);
+    let behind = bss(0x0080_1000, 0x1000);
+    let cut = Segment {
+        file_at: 200,
+        ..first
+    };
+    let misplaced = bss(0x007f_ffff, 0x1000);
+    for (what, segments, fault) in [
+        (
+            "header by header",
+            [first, first, cut],
+            ElfFault::Overlap(1, 0),
+        ),
+        (
+            "a cut one that overlaps",
+            [first, behind, cut],
+            ElfFault::Truncated(148),
+        ),
+        (
+            "a misplaced one that overlaps",
+            [first, behind, misplaced],
+            ElfFault::SegmentRange(2),
+        ),
+        (
+            "misplaced, then cut",
+            [misplaced, cut, first],
+            ElfFault::SegmentRange(0),
+        ),
+        (
+            "the last shares with both",
+            [first, behind, bss(0x0080_0fff, 2)],
+            ElfFault::Overlap(2, 0),
+        ),
+        (
+            "the last shares with the second",
+            [first, behind, bss(0x0080_1fff, 2)],
+            ElfFault::Overlap(2, 1),
+        ),
+        (
+            "the last lies in the second",
+            [first, behind, bss(0x0080_1800, 1)],
+            ElfFault::Overlap(2, 1),
+        ),
+        (
+            "the last holds both",
+            [first, behind, bss(0x0080_0000, 0x2000)],
+            ElfFault::Overlap(2, 0),
+        ),
+        (
+            "the second ends in the first",
+            [behind, bss(0x0080_0fff, 2), first],
+            ElfFault::Overlap(1, 0),
+        ),
+        (
+            "the first two are one",
+            [first, first, behind],
+            ElfFault::Overlap(1, 0),
+        ),
+        (
+            "places count each header",
+            [bss(0, 0), first, first],
+            ElfFault::Overlap(2, 1),
+        ),
+    ] {
+        let file = file_with(rt.alloc(), &segments, 148)?;
+        assert_eq!(rt; read(&rt, file.as_slice()), Err(fault), "{what}");
+    }
+
+    // side by side in a page, in either order
+    for (a, b) in [(0x0080_0100, 0x0080_0200), (0x0080_0200, 0x0080_0100)] {
+        let file = file_with(rt.alloc(), &[bss(a, 0x100), bss(b, 0x100)], 116)?;
         assert_eq!(rt;
             read(&rt, file.as_slice()),
-            Err(ElfFault::Unbuilt),
-            "{count} program headers"
+            Ok((ENTRY, 2, bss(b, 0x100))),
+            "{a}"
         );
     }
     Ok(())

@@ -1,8 +1,10 @@
-use Rattle.std.proofs.Common.{◌≤◌, ◌∙◌, length, take, sym, subst}
+use Rattle.std.proofs.Common.{◌≡◌, true, arith, ◌≤◌, ◌∙◌, length, take, sym, subst}
 use Rattle.jos_isa.specs.declared.decoder.Decoded.{Decoded}
 use Rattle.jos_isa.specs.Spelling.{Spells}
 use Rattle.jos_isa.specs.Laws.{IfFound}
 use Rattle.jos_isa.proofs.Instructions.{found, only, short, only_short, bounded}
+use Rattle.jos_isa.specs.Lawful.{is_lawful}
+use Rattle.jos_isa.proofs.FoundLawful.{found_lawful}
 use Rattle.jos_isa.proofs.decoder.decode.Goals as goal
 
 pub returns-clause-found : goal.returns-clause-found
@@ -21,3 +23,7 @@ returns-clause-only_short c insn next more h = c.decode_exactly.ensures ∙ only
 
 pub returns-clause-bounded : goal.returns-clause-bounded
 returns-clause-bounded c e = bounded c.args.bytes.now (sym c.decode_exactly.ensures ∙ e)
+
+pub returns-clause-lawful : goal.returns-clause-lawful
+returns-clause-lawful c =
+    subst (λ (d : Decoded). IfFound d (λ insn len. is_lawful insn ≡ true)) (sym c.decode_exactly.ensures) (found_lawful c.args.bytes.now (λ i. omega (arith, c.type_inv.bytes i)))

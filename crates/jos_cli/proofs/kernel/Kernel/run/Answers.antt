@@ -1,17 +1,12 @@
 use Rattle.std.proofs.Common.{◌+◌, ◌-◌, Some, None, refl, ap, ◌∙◌, arith}
 use Rattle.jos_cli.specs.declared.outcome.End.TheVariants.{Budget}
-use Rattle.jos_cli.proofs.Runs.{on_end, on_unread, on_failed, on_went, at_end, went-steps}
+use Rattle.jos_cli.proofs.Runs.{on_end, on_failed, on_went, at_end}
 use Rattle.jos_cli.proofs.kernel.Kernel.run.Goals as goal
 
 pub returns-in-Some-clause-told : goal.returns-in-Some-clause-told
 returns-in-Some-clause-told g c =
     on_end _ (c.args.budget - c.loop.counter) (c.args.budget - (c.loop.counter + 1)) c.loop.self _ _ c.loop.invariant.running (omega arith)
     c.in-Some.end c.in-Some.ensures.exact
-
-pub returns-in-Ok-Unread-clause-told : goal.returns-in-Ok-Unread-clause-told
-returns-in-Ok-Unread-clause-told g c =
-    on_unread _ (c.args.budget - c.loop.counter) (c.args.budget - (c.loop.counter + 1)) c.loop.self _ _ c.loop.invariant.running (omega arith)
-    c.in-Ok-Unread.ip c.step.new.self _ c.in_default.ensures.exact (rw c.in-Ok-Unread.field-0-is at c.in-Ok-Unread.ensures.told)
 
 pub returns-in-Err-clause-told : goal.returns-in-Err-clause-told
 returns-in-Err-clause-told g c =
@@ -22,15 +17,13 @@ pub loop-preserved : goal.loop-preserved
 loop-preserved g c = record {
   running =
       on_went _ (c.args.budget - c.loop.counter) (c.args.budget - (c.loop.counter + 1)) c.loop.self _ _ c.loop.invariant.running (omega arith)
-      c.step.new.self _ c.in_default.ensures.exact (rw c.in-Ok-Went.field-0-is at c.in-Ok-Went.ensures.told);
-  steps =
-      went-steps _ c.loop.self c.step.new.self _ _ (rw c.in-Ok-Went.field-0-is at c.in-Ok-Went.ensures.told)
-      ∙ ap (λ n. n + 1) c.loop.invariant.steps;
-  room = c.in-Ok-Went.ensures.room;
-  files = c.in-Ok-Went.ensures.files ∙ c.loop.invariant.files;
-  input = c.in-Ok-Went.ensures.input ∙ c.loop.invariant.input;
-  notes = c.in-Ok-Went.ensures.notes ∙ c.loop.invariant.notes;
-  faults = c.in-Ok-Went.ensures.cause.stayed ∙ c.loop.invariant.faults;
+      c.step.new.self _ c.in_default.ensures.exact c.in-Ok.ensures.told;
+  steps = c.in-Ok.ensures.told.0.steps ∙ ap (λ n. n + 1) c.loop.invariant.steps;
+  room = c.in-Ok.ensures.room;
+  files = c.in-Ok.ensures.files ∙ c.loop.invariant.files;
+  input = c.in-Ok.ensures.input ∙ c.loop.invariant.input;
+  notes = c.in-Ok.ensures.notes ∙ c.loop.invariant.notes;
+  faults = c.in-Ok.ensures.cause.stayed ∙ c.loop.invariant.faults;
 }
 
 pub returns-in-Some-end-clause-told : goal.returns-in-Some-end-clause-told

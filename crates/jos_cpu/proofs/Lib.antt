@@ -1,0 +1,10 @@
+pub mod ShiftTimes
+pub mod SignedProducts
+pub mod Fetches
+pub mod SignedQuotients
+pub mod Probing
+pub mod ShiftLaws
+pub mod QuotientLaws
+pub mod ConditionLaws
+pub mod SignedShifts
+pub mod OverflowLaws

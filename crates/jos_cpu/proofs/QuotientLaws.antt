@@ -1,0 +1,35 @@
+-- A quotient and its remainder are the dividend.
+use Rattle.std.proofs.Common.{◌≡◌, ℕ, ◌+◌, ◌*◌, ◌/◌, ◌%◌, ◌<◌, Bool, true, false, Some, None, refl, arith, if◌then◌else◌}
+use Rattle.std.specs.Prelude.{◌==◌, nat_le, int_div, int_rem, IfSome}
+use Rattle.std.proofs.lemmas.Int.{quot-rem}
+use Rattle.std.proofs.lemmas.Bool.Decides.{nat_tests}
+use Rattle.jos_cpu.specs.declared.products.Halves.{Halves}
+use Rattle.jos_cpu.specs.Flags.{modulus}
+use Rattle.jos_cpu.specs.Products.{unsigned_quotient, signed_quotient}
+use Rattle.jos_cpu.specs.Laws.{DividesUnsigned, AreQuotientOf, DividesSigned}
+
+-- what holds of the one value
+found : (none short : Bool) (h : Halves) (P : Halves → Type 0) → (none ≡ false → short ≡ false → P h) →
+    IfSome (if none then None else if short then None else Some h) P
+found true short h P f = tt
+found false true h P f = tt
+found false false h P f = f refl refl
+
+kept : (none fits : Bool) (h : Halves) (P : Halves → Type 0) → (fits ≡ true → P h) →
+    IfSome (if none then None else if fits then Some h else None) P
+kept true fits h P f = tt
+kept false true h P f = f refl
+kept false false h P f = tt
+
+parts : (n d m : ℕ) → (d == 0) ≡ false → nat_le m (n / d) ≡ false → (n / d * d + n % d ≡ n) × (n % d < d) × (n / d < m)
+parts n d m nonzero fits =
+    let positive : 0 < d = grind (arith, nat_tests) in
+    (grind arith, omega arith, grind (arith, nat_tests))
+
+pub divides_unsigned : DividesUnsigned
+unfolding unsigned_quotient
+divides_unsigned width n d = found _ _ _ _ (parts n d (modulus width))
+
+pub divides_signed : DividesSigned
+unfolding signed_quotient
+divides_signed width n d = kept _ _ _ (AreQuotientOf width n d) (λ fits. (int_div n d, int_rem n d, quot-rem n d, fits, refl, refl))

@@ -1,0 +1,43 @@
+-- Memory as an instruction sees it. Addresses are counted modulo 2^32.
+-- (Intel 80386 Programmer's Reference Manual, 1986, sections 5.2 and 9.8.14: an access sets the accessed and
+-- dirty bits of the entries that it uses, and is refused by the first entry that does not allow it.)
+use Rattle.std.specs.Prelude.{ℕ, ◌+◌, ◌%◌, ◌^◌, ◌&&◌, zero, suc, Bool, true, Option, Some, None, Result, Ok, Err, if◌then◌else◌}
+use Rattle.jos_base.specs.declared.memory.Access.{Access}
+use Rattle.jos_cpu.specs.declared.memory.MemFault.{MemFault}
+
+pub record Memory (M : Type 0) : Type 0 where
+  -- the byte at an address
+  pub byte : M → ℕ → ℕ
+  -- whether a byte may be reached
+  pub allowed : M → ℕ → Access → Bool
+  -- the fault of a byte that may not be reached
+  pub fault : M → ℕ → Access → MemFault
+  -- the memory after a byte was reached: nothing but accessed and dirty bits changes
+  pub reached : M → ℕ → Access → M
+  -- the memory with this byte at an address
+  pub stored : M → ℕ → ℕ → M
+
+abbrev pub after : ℕ → ℕ
+after va = (va + 1) % 2 ^ 32
+
+-- what a probe leaves, and the fault if it was refused
+pub record Probed (M : Type 0) : Type 0 where
+  pub memory : M
+  pub refusal : Option MemFault
+
+abbrev pub refusal_of : {T : Type 0} → Result T MemFault → Option MemFault
+refusal_of (Ok x) = None
+refusal_of (Err fault) = Some fault
+
+-- A probe tests so many bytes from an address upwards. It ends at the first that may not be reached, and keeps
+-- what the bytes before it set.
+unfoldable pub probed : {M : Type 0} → Memory M → M → ℕ → ℕ → Access → Probed M
+probed t m va zero access = record { memory = m; refusal = None }
+probed t m va (suc n) access =
+    if t.allowed m va access then probed t (t.reached m va access) (after va) n access
+    else record { memory = m; refusal = Some (t.fault m va access) }
+
+-- Each of the bytes may be reached.
+unfoldable pub all_allowed : (ℕ → Access → Bool) → ℕ → ℕ → Access → Bool
+all_allowed allowed va zero access = true
+all_allowed allowed va (suc n) access = allowed va access && all_allowed allowed (after va) n access

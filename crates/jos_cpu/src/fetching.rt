@@ -1,0 +1,54 @@
+//! Fetching an instruction from memory.
+
+ghost use Rattle.std.specs.Prelude.{◌≡◌};
+ghost use Rattle.jos_cpu.specs.Fetch.{FetchedFrom, Reached, byte_reached, fetched_at};
+
+use crate::memory::{Mem, MemFault};
+use arrayvec::ArrayVec;
+use jos_base::Access;
+use jos_isa::{Decoded, Insn, decode};
+
+/// What stands at an address.
+#[derive(Clone, Copy)]
+pub(crate) enum Fetched {
+    /// An instruction of so many bytes.
+    Instruction(Insn, u32),
+    /// A byte that is not reached.
+    Fault(MemFault),
+    /// The beginning of no instruction.
+    Unknown,
+}
+
+/// The most bytes that an instruction has.
+const INSTRUCTION_MAX: usize = 15;
+
+/// Reaches for a byte and reads it.
+#[tactic(auto, unfolding(crate::specs::Fetch::byte_reached, crate::specs::Memory::all_allowed))]
+fn reach_byte<M: Mem>(mem: &mut M, va: u32) -> Result<u8, MemFault>
+    ensures { byte_reached M.table mem.old va ≡ record { memory = mem.new; byte = result } }
+{
+    match mem.probe(va, 1, Access::Read) {
+        Err(fault) => Err(fault),
+        Ok(()) => Ok(mem.get(va)),
+    }
+}
+
+/// Fetches the instruction at an address, one byte after another.
+#[tactic(auto, unfolding(crate::specs::Fetch::fetched_at))]
+pub(crate) fn fetch<M: Mem>(mem: &mut M, ip: u32) -> Fetched
+    ensures { fetched_at M.table mem.old ip ≡ record { memory = mem.new; fetched = result } }
+{
+    let mut bytes = ArrayVec::<u8, INSTRUCTION_MAX>::new();
+    for offset in 0..INSTRUCTION_MAX as u32 {
+        match reach_byte(mem, ip.wrapping_add(offset)) {
+            Ok(byte) => bytes.push(byte),
+            Err(fault) => return Fetched::Fault(fault),
+        }
+        match decode(bytes.as_slice()) {
+            Decoded::Found(insn, len) => return Fetched::Instruction(insn, len as u32),
+            Decoded::Illegal => return Fetched::Unknown,
+            Decoded::Short => {}
+        }
+    }
+    Fetched::Unknown
+}

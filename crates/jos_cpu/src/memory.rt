@@ -1,0 +1,40 @@
+//! Memory as the processor sees it.
+
+ghost use Rattle.std.specs.Prelude.{◌≡◌, true, OnOk, is_ok};
+ghost use Rattle.jos_base.specs.declared.memory.Access.TheVariants.{Read, Write};
+ghost use Rattle.jos_cpu.specs.Memory.{Memory, Probed, refusal_of, probed, all_allowed};
+
+use jos_base::{Access, PageFault};
+
+/// Why a byte is not reached.
+#[derive(Clone, Copy, Debug, PartialEq, Eq)]
+pub enum MemFault {
+    /// The page tables refuse it.
+    Page(PageFault),
+    /// It lies outside of what the program may touch at all.
+    Fence,
+}
+
+/// Memory that a program reaches by addresses, which are counted modulo 2^32. What it does is said by `table`.
+pub trait Mem {
+    ghost table: { Memory Self };
+
+    /// Reaches for so many bytes from an address on, in rising order, up to the first that may not be reached.
+    fn probe(&mut self, va: u32, len: u32, access: Access) -> Result<(), MemFault>
+        ensures after { probed table self.old va len access ≡ record { memory = self.new; refusal = refusal_of result } }
+        ensures exact { is_ok result ≡ all_allowed (table.allowed self.old) va len access }
+        // what may be written may be read
+        ensures readable { OnOk result (all_allowed (table.allowed self.old) va len Read ≡ true) }
+        ensures stays { table.allowed self.new ≡ table.allowed self.old };
+
+    /// The byte at an address that may be read.
+    fn get(&self, va: u32) -> u8
+        requires { table.allowed self.now va Read ≡ true }
+        ensures { result ≡ table.byte self.now va };
+
+    /// Puts a byte at an address that may be written.
+    fn set(&mut self, va: u32, byte: u8)
+        requires { table.allowed self.old va Write ≡ true }
+        ensures after { self.new ≡ table.stored self.old va byte }
+        ensures stays { table.allowed self.new ≡ table.allowed self.old };
+}

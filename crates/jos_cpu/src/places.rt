@@ -1,0 +1,87 @@
+//! Where an operand comes from and where a result goes.
+
+ghost use Rattle.std.specs.Prelude.{◌≡◌};
+ghost use Rattle.jos_cpu.specs.Effects.{first_of, second_of, operand_value, with_operand, value_at, with_value_at};
+
+use crate::accesses::Inputs;
+use crate::flags::lowest;
+use crate::forms::{Place, Width};
+use crate::registers::{read_register_at, set_register_at};
+use jos_base::Regs;
+use jos_isa::{Insn, Operand};
+
+pub(crate) fn first(inputs: &Inputs) -> u32
+    ensures { result ≡ first_of inputs.now }
+{
+    match inputs {
+        Inputs::Numbers(a, _) => *a,
+        Inputs::Popped(_) => 0,
+    }
+}
+
+pub(crate) fn second(inputs: &Inputs) -> u32
+    ensures { result ≡ second_of inputs.now }
+{
+    match inputs {
+        Inputs::Numbers(_, b) => *b,
+        Inputs::Popped(_) => 0,
+    }
+}
+
+fn read_operand(width: Width, operand: &Operand, regs: &Regs, inputs: &Inputs) -> u32
+    ensures { result ≡ operand_value width operand.now regs.now inputs.now }
+{
+    match operand {
+        Operand::Reg(n) => read_register_at(width, regs, *n),
+        Operand::Mem(_) => first(inputs),
+        Operand::Absent => 0,
+    }
+}
+
+fn set_operand(width: Width, operand: &Operand, value: u32, regs: &mut Regs)
+    ensures { regs.new ≡ with_operand width operand.now value regs.old }
+{
+    match operand {
+        Operand::Reg(n) => set_register_at(width, regs, *n, value),
+        Operand::Mem(_) => {}
+        Operand::Absent => {}
+    }
+}
+
+/// The number at a place.
+#[tactic(auto, unfolding(crate::specs::Effects::value_at))]
+pub(crate) fn read_at_place(
+    place: Place,
+    width: Width,
+    insn: &Insn,
+    regs: &Regs,
+    inputs: &Inputs,
+) -> u32
+    ensures { result ≡ value_at place width insn.now regs.now inputs.now }
+{
+    match place {
+        Place::Nowhere => 0,
+        Place::Operand => read_operand(width, &insn.operand, regs, inputs),
+        Place::Named => read_register_at(width, regs, insn.reg),
+        Place::Accumulator => read_register_at(width, regs, 0),
+        Place::Immediate => lowest(width, insn.imm as u64),
+        Place::One => 1,
+        Place::Cl => regs.ecx % 256,
+    }
+}
+
+/// Puts a number into a register that is a place. Memory is written when the registers are done.
+#[tactic(auto, unfolding(crate::specs::Effects::with_value_at))]
+pub(crate) fn set_at_place(place: Place, width: Width, insn: &Insn, value: u32, regs: &mut Regs)
+    ensures { regs.new ≡ with_value_at place width insn.now value regs.old }
+{
+    match place {
+        Place::Nowhere => {}
+        Place::Operand => set_operand(width, &insn.operand, value, regs),
+        Place::Named => set_register_at(width, regs, insn.reg, value),
+        Place::Accumulator => set_register_at(width, regs, 0, value),
+        Place::Immediate => {}
+        Place::One => {}
+        Place::Cl => {}
+    }
+}

@@ -1,0 +1,159 @@
+//! The registers by number, and the addresses that they make.
+
+ghost use Rattle.std.specs.Prelude.{◌≡◌, ◌*◌, ◌%◌, ◌^◌};
+ghost use Rattle.jos_cpu.specs.Registers.{register, with_register, byte_register, with_byte_register, with_low_byte, with_second_byte, with_low_pair, register_at, with_register_at, base_word, factor_of, disp_word, address, moved};
+
+use crate::forms::Width;
+use jos_base::Regs;
+use jos_isa::{Disp, MemArg};
+
+#[tactic(auto, unfolding(crate::specs::Registers::register))]
+pub(crate) fn read_register(regs: &Regs, n: u8) -> u32
+    ensures { result ≡ register regs.now n }
+{
+    match n {
+        0 => regs.eax,
+        1 => regs.ecx,
+        2 => regs.edx,
+        3 => regs.ebx,
+        4 => regs.esp,
+        5 => regs.ebp,
+        6 => regs.esi,
+        _ => regs.edi,
+    }
+}
+
+#[tactic(auto, unfolding(crate::specs::Registers::with_register))]
+pub(crate) fn set_register(regs: &mut Regs, n: u8, value: u32)
+    ensures { regs.new ≡ with_register regs.old n value }
+{
+    match n {
+        0 => regs.eax = value,
+        1 => regs.ecx = value,
+        2 => regs.edx = value,
+        3 => regs.ebx = value,
+        4 => regs.esp = value,
+        5 => regs.ebp = value,
+        6 => regs.esi = value,
+        _ => regs.edi = value,
+    }
+}
+
+fn read_byte_register(regs: &Regs, n: u8) -> u32
+    ensures { result ≡ byte_register regs.now n }
+{
+    if n < 4 {
+        read_register(regs, n) % 256
+    } else {
+        read_register(regs, n - 4) / 256 % 256
+    }
+}
+
+fn put_low_byte(word: u32, value: u32) -> u32
+    ensures { result ≡ with_low_byte word value }
+{
+    word / 256 * 256 + value % 256
+}
+
+fn put_second_byte(word: u32, value: u32) -> u32
+    ensures { result ≡ with_second_byte word value }
+{
+    word / 65536 * 65536 + value % 256 * 256 + word % 256
+}
+
+fn put_low_pair(word: u32, value: u32) -> u32
+    ensures { result ≡ with_low_pair word value }
+{
+    word / 65536 * 65536 + value % 65536
+}
+
+fn set_byte_register(regs: &mut Regs, n: u8, value: u32)
+    ensures { regs.new ≡ with_byte_register regs.old n value }
+{
+    if n < 4 {
+        let word = put_low_byte(read_register(regs, n), value);
+        set_register(regs, n, word);
+    } else {
+        let word = put_second_byte(read_register(regs, n - 4), value);
+        set_register(regs, n - 4, word);
+    }
+}
+
+/// The register of a width.
+#[tactic(auto, unfolding(crate::specs::Registers::register_at))]
+pub(crate) fn read_register_at(width: Width, regs: &Regs, n: u8) -> u32
+    ensures { result ≡ register_at width regs.now n }
+{
+    match width {
+        Width::Byte => read_byte_register(regs, n),
+        Width::Pair => read_register(regs, n) % 65536,
+        Width::Word => read_register(regs, n),
+    }
+}
+
+#[tactic(auto, unfolding(crate::specs::Registers::with_register_at))]
+pub(crate) fn set_register_at(width: Width, regs: &mut Regs, n: u8, value: u32)
+    ensures { regs.new ≡ with_register_at width regs.old n value }
+{
+    match width {
+        Width::Byte => set_byte_register(regs, n, value),
+        Width::Pair => {
+            let word = put_low_pair(read_register(regs, n), value);
+            set_register(regs, n, word);
+        }
+        Width::Word => set_register(regs, n, value),
+    }
+}
+
+fn read_base(regs: &Regs, base: Option<u8>) -> u32
+    ensures { result ≡ base_word regs.now base }
+{
+    match base {
+        None => 0,
+        Some(n) => read_register(regs, n),
+    }
+}
+
+fn factor(scale: u8) -> u32
+    ensures { result ≡ factor_of scale }
+{
+    match scale {
+        0 => 1,
+        1 => 2,
+        2 => 4,
+        _ => 8,
+    }
+}
+
+fn displacement(disp: Disp) -> u32
+    ensures { result ≡ disp_word disp }
+{
+    match disp {
+        Disp::Zero => 0,
+        Disp::Byte(value) => i32::from(value).cast_unsigned(),
+        Disp::Word(value) => value,
+    }
+}
+
+fn scaled_index(regs: &Regs, arg: &MemArg) -> u32
+    ensures { result ≡ (base_word regs.now arg.now.index * factor_of arg.now.scale) % 2 ^ 32 }
+{
+    read_base(regs, arg.index).wrapping_mul(factor(arg.scale))
+}
+
+/// The address of an operand in memory.
+#[tactic(auto, unfolding(crate::specs::Registers::address))]
+pub(crate) fn address_of(arg: &MemArg, regs: &Regs) -> u32
+    ensures { result ≡ address arg.now regs.now }
+{
+    read_base(regs, arg.base)
+        .wrapping_add(scaled_index(regs, arg))
+        .wrapping_add(displacement(arg.disp))
+}
+
+/// Moves EIP by a distance.
+pub(crate) fn advance(regs: &mut Regs, distance: u32)
+    ensures { regs.new ≡ moved regs.old distance }
+{
+    regs.eip = regs.eip.wrapping_add(distance);
+}

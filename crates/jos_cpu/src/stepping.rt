@@ -1,0 +1,109 @@
+//! One step.
+
+ghost use Rattle.std.specs.Prelude.{◌≡◌};
+ghost use Rattle.jos_cpu.specs.Registers.{moved};
+ghost use Rattle.jos_cpu.specs.Effects.{IfRaised};
+ghost use Rattle.jos_cpu.specs.Steps.{Stepped, accesses, done_by, fault_event, executed, step_of};
+
+use crate::accesses::{Accesses, Inputs, find_accesses, probe_all, read_inputs, write_outputs};
+use crate::effects::{Outcome, apply};
+use crate::events::{Event, Gates};
+use crate::fetching::{Fetched, fetch};
+use crate::forms::read_form;
+use crate::memory::{Mem, MemFault};
+use crate::registers::advance;
+use jos_base::Regs;
+use jos_isa::Insn;
+
+const INVALID_OPCODE: u8 = 6;
+
+const PROTECTION_TRAP: u8 = 13;
+
+const PAGE_FAULT: u8 = 14;
+
+fn event_of(fault: MemFault) -> Event
+    ensures { result ≡ fault_event fault }
+{
+    match fault {
+        MemFault::Page(fault) => Event::Raised {
+            trap: PAGE_FAULT,
+            error: fault.error,
+            va: fault.va,
+        },
+        MemFault::Fence => Event::Raised {
+            trap: PROTECTION_TRAP,
+            error: 0,
+            va: 0,
+        },
+    }
+}
+
+#[tactic(auto, unfolding(crate::specs::Steps::done_by))]
+fn take_effect(
+    insn: &Insn,
+    len: u32,
+    old: &Regs,
+    regs: &mut Regs,
+    inputs: &Inputs,
+    gates: Gates,
+) -> Outcome
+    requires { regs.old ≡ old.now }
+    ensures done { done_by insn.now len old.now inputs.now gates ≡ record { registers = regs.new; value = result.value; event = result.event } }
+    ensures kept { IfRaised result.event (regs.new ≡ old.now) }
+{
+    advance(regs, len);
+    apply(read_form(insn.row), insn, old, regs, inputs, gates)
+}
+
+#[tactic(auto, unfolding(crate::specs::Steps::accesses))]
+fn accesses_at(insn: &Insn, regs: &Regs) -> Accesses
+    ensures { result ≡ accesses insn.now regs.now }
+{
+    find_accesses(read_form(insn.row), insn, regs)
+}
+
+/// Executes an instruction that so many bytes spell.
+#[tactic(auto, unfolding(crate::specs::Steps::executed))]
+fn execute<M: Mem>(insn: &Insn, len: u32, regs: &mut Regs, mem: &mut M, gates: Gates) -> Event
+    ensures done { executed M.table insn.now len regs.old mem.old gates ≡ record { regs = regs.new; memory = mem.new; event = result } }
+    ensures kept { IfRaised result (regs.new ≡ regs.old) }
+{
+    let reach = accesses_at(insn, regs);
+    match probe_all(mem, &reach) {
+        Err(fault) => event_of(fault),
+        Ok(()) => {
+            let inputs = read_inputs(mem, &reach);
+            let mut next = *regs;
+            let Outcome { value, event } = take_effect(insn, len, regs, &mut next, &inputs, gates);
+            write_outputs(mem, &reach, regs, value);
+            *regs = next;
+            event
+        }
+    }
+}
+
+/// Makes one step, which is the instruction at EIP or, of a repeated one, a repetition.
+#[tactic(auto, unfolding(crate::specs::Steps::step_of))]
+fn make_step<M: Mem>(regs: &mut Regs, mem: &mut M, gates: Gates) -> Event
+    ensures done { step_of M.table regs.old mem.old gates ≡ record { regs = regs.new; memory = mem.new; event = result } }
+    ensures kept { IfRaised result (regs.new ≡ regs.old) }
+{
+    match fetch(mem, regs.eip) {
+        Fetched::Unknown => Event::Raised {
+            trap: INVALID_OPCODE,
+            error: 0,
+            va: 0,
+        },
+        Fetched::Fault(fault) => event_of(fault),
+        Fetched::Instruction(insn, len) => execute(&insn, len, regs, mem, gates),
+    }
+}
+
+/// Makes one step: the instruction at EIP or, of a repeated one, one repetition, by `specs/Steps.antt`. A trap
+/// leaves the registers as they were, and the memory as its probes leave it.
+pub fn step<M: Mem>(regs: &mut Regs, mem: &mut M, gates: Gates) -> Event
+    ensures done { step_of M.table regs.old mem.old gates ≡ record { regs = regs.new; memory = mem.new; event = result } }
+    ensures kept { IfRaised result (regs.new ≡ regs.old) }
+{
+    make_step(regs, mem, gates)
+}

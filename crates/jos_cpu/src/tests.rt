@@ -1,0 +1,241 @@
+use super::*;
+use crate::tests::processor::{
+    ARITHMETIC, CONDITIONS, Case, CaseInMemory, MEMORY, MOVES, ONES, PRODUCTS, SHIFTS, STACK,
+    STRINGS, Words,
+};
+use crate::tests::window::Window;
+use jos_base::Regs;
+use std::process::Abort;
+
+mod processor;
+mod window;
+
+const BASE: u32 = 0x0080_0000;
+
+fn regs_of(words: Words) -> Regs {
+    Regs {
+        eax: words[0],
+        ecx: words[1],
+        edx: words[2],
+        ebx: words[3],
+        esp: words[4],
+        ebp: words[5],
+        esi: words[6],
+        edi: words[7],
+        eip: BASE,
+        eflags: words[8],
+    }
+}
+
+fn words_of(regs: &Regs) -> Words {
+    [
+        regs.eax,
+        regs.ecx,
+        regs.edx,
+        regs.ebx,
+        regs.esp,
+        regs.ebp,
+        regs.esi,
+        regs.edi,
+        regs.eflags,
+    ]
+}
+
+/// The code at the base, and below the rest bytes that go up by 37.
+fn window_of(code: [u8; 12]) -> Window {
+    let mut bytes = [0; 128];
+    let mut byte = 11u8;
+    for k in 0..128usize {
+        bytes[k] = if k < 12 { code[k] } else { byte };
+        byte = byte.wrapping_add(37);
+    }
+    Window {
+        base: BASE,
+        locked: 16,
+        touched: 0,
+        bytes,
+    }
+}
+
+/// Runs each case up to the end of its bytes.
+fn agree(rt: &impl Abort, cases: &[Case]) {
+    for (code, len, before, mask, after) in cases {
+        let mut window = window_of(*code);
+        let mut regs = regs_of(*before);
+        for _ in 0..6u32 {
+            if regs.eip != BASE.wrapping_add(*len) {
+                let event = step(&mut regs, &mut window, Gates::Exo);
+                assert_eq!(rt; event, Event::Next, "{code:?}");
+            }
+        }
+        regs.eflags = regs.eflags & *mask;
+        assert_eq!(rt; regs.eip, BASE.wrapping_add(*len), "{code:?}");
+        assert_eq!(rt; words_of(&regs), *after, "{code:?}");
+    }
+}
+
+#[test]
+fn agrees_with_a_processor(rt: HostRuntime) {
+    agree(&rt, &MOVES);
+    agree(&rt, &ARITHMETIC);
+    agree(&rt, &ONES);
+    agree(&rt, &SHIFTS);
+    agree(&rt, &PRODUCTS);
+    agree(&rt, &CONDITIONS);
+}
+
+/// The bytes as one number.
+fn sum_of(window: &Window) -> u32 {
+    let mut sum = 0u32;
+    for byte in window.bytes {
+        sum = sum.wrapping_mul(31).wrapping_add(byte as u32);
+    }
+    sum
+}
+
+/// Runs each case up to the end of its bytes, with all repetitions.
+fn agree_in_memory(rt: &impl Abort, cases: &[CaseInMemory]) {
+    for (case, sum) in cases {
+        let (code, len, before, mask, after) = case;
+        let mut window = window_of(*code);
+        let mut regs = regs_of(*before);
+        for _ in 0..6u32 {
+            if regs.eip != BASE.wrapping_add(*len) {
+                let event = step(&mut regs, &mut window, Gates::Exo);
+                assert_eq!(rt; event, Event::Next, "{code:?}");
+            }
+        }
+        regs.eflags = regs.eflags & *mask;
+        assert_eq!(rt; regs.eip, BASE.wrapping_add(*len), "{code:?}");
+        assert_eq!(rt; words_of(&regs), *after, "{code:?}");
+        assert_eq!(rt; sum_of(&window), *sum, "{code:?}");
+    }
+}
+
+#[test]
+fn agrees_with_a_processor_in_memory(rt: HostRuntime) {
+    agree_in_memory(&rt, &MEMORY);
+    agree_in_memory(&rt, &STACK);
+    agree_in_memory(&rt, &STRINGS);
+}
+
+// EAX to EDI and EFLAGS of the cases below: ESI is two bytes before the window's end, and EDI is its end.
+const AT_THE_END: Words = [
+    7,
+    2,
+    0,
+    0,
+    0x0080_0050,
+    0x0080_0040,
+    0x0080_007e,
+    0x0080_0080,
+    0x0202,
+];
+
+fn page_fault(va: u32, error: u32) -> Event {
+    Event::Raised {
+        trap: 14,
+        error,
+        va,
+    }
+}
+
+fn raised(trap: u8, error: u32) -> Event {
+    Event::Raised { trap, error, va: 0 }
+}
+
+// Events that are no processor's alone: the bytes, the gates, what comes of them, and how many bytes are reached.
+// Bytes 0 to 15 can't be written. The registers are those above, and stay where a trap is raised.
+#[rattlefmt::skip]
+fn events() -> [([u8; 7], Gates, Event, u32); 32] {
+    [
+        // INT 3 in both spellings, the open gates, and others
+        ([0xcc, 0, 0, 0, 0, 0, 0], Gates::Exo, Event::Soft(3), 1),
+        ([0xcd, 3, 0, 0, 0, 0, 0], Gates::Run, Event::Soft(3), 2),
+        ([0xcd, 0x30, 0, 0, 0, 0, 0], Gates::Exo, Event::Soft(0x30), 2),
+        ([0xcd, 0x40, 0, 0, 0, 0, 0], Gates::Run, Event::Soft(0x40), 2),
+        ([0xcd, 0x40, 0, 0, 0, 0, 0], Gates::Exo, raised(13, 0x202), 2),
+        ([0xcd, 0x30, 0, 0, 0, 0, 0], Gates::Run, raised(13, 0x182), 2),
+        // HLT, CLI, IN and OUT
+        ([0xf4, 0, 0, 0, 0, 0, 0], Gates::Exo, raised(13, 0), 1),
+        ([0xfa, 0, 0, 0, 0, 0, 0], Gates::Exo, raised(13, 0), 1),
+        ([0xe4, 0x60, 0, 0, 0, 0, 0], Gates::Exo, raised(13, 0), 2),
+        ([0xef, 0, 0, 0, 0, 0, 0], Gates::Exo, raised(13, 0), 1),
+        // what no instruction begins with, told at its last byte
+        ([0x0f, 0xff, 0, 0, 0, 0, 0], Gates::Exo, raised(6, 0), 2),
+        ([0xf3, 0x40, 0, 0, 0, 0, 0], Gates::Exo, raised(6, 0), 2),
+        ([0xc6, 0x08, 0, 0, 0, 0, 0], Gates::Exo, raised(6, 0), 2),
+        // DIV by EDX, which is 0, and by a zero word, which is reached; IDIV by what is not there
+        ([0xf7, 0xf2, 0, 0, 0, 0, 0], Gates::Exo, raised(0, 0), 2),
+        ([0xf7, 0x35, 0x08, 0x00, 0x80, 0x00, 0], Gates::Exo, raised(0, 0), 10),
+        ([0xf7, 0x3d, 0x80, 0x00, 0x80, 0x00, 0], Gates::Exo, page_fault(0x0080_0080, 4), 6),
+        // MOV EAX,[ESI] runs over the end: two bytes are reached before
+        ([0x8b, 0x06, 0, 0, 0, 0, 0], Gates::Exo, page_fault(0x0080_0080, 4), 4),
+        ([0x89, 0x06, 0, 0, 0, 0, 0], Gates::Exo, page_fault(0x0080_0080, 6), 4),
+        // INC [ESI] and SHL [ESI] by 0 are one access for a write, CMP [ESI],EAX is one for a read
+        ([0xff, 0x06, 0, 0, 0, 0, 0], Gates::Exo, page_fault(0x0080_0080, 6), 4),
+        ([0xc1, 0x26, 0x20, 0, 0, 0, 0], Gates::Exo, page_fault(0x0080_0080, 6), 5),
+        ([0x39, 0x06, 0, 0, 0, 0, 0], Gates::Exo, page_fault(0x0080_0080, 4), 4),
+        // MOV EAX,[0F0000000h], outside of the fence
+        ([0xa1, 0, 0, 0, 0xf0, 0, 0], Gates::Exo, raised(13, 0), 5),
+        // ADD [code],EAX: bytes that may only be read
+        ([0x01, 0x05, 0x08, 0x00, 0x80, 0x00, 0], Gates::Exo, page_fault(0x0080_0008, 6), 6),
+        // LEA EAX,[ESI+4] reaches for nothing
+        ([0x8d, 0x46, 0x04, 0, 0, 0, 0], Gates::Exo, Event::Next, 3),
+        // MOVSB reads the byte at ESI before it fails at EDI, CMPSD fails at ESI
+        ([0xa4, 0, 0, 0, 0, 0, 0], Gates::Exo, page_fault(0x0080_0080, 6), 2),
+        ([0xa7, 0, 0, 0, 0, 0, 0], Gates::Exo, page_fault(0x0080_0080, 4), 3),
+        ([0xf3, 0xab, 0, 0, 0, 0, 0], Gates::Exo, page_fault(0x0080_0080, 6), 2),
+        // PUSH [code] reads and then writes; POP [ESI] fails at the operand, when the stack is reached
+        ([0xff, 0x35, 0, 0, 0x80, 0, 0], Gates::Exo, Event::Next, 14),
+        ([0x8f, 0x06, 0, 0, 0, 0, 0], Gates::Exo, page_fault(0x0080_0080, 6), 8),
+        // POP [ESP+2Ch] goes to the word at the old ESP plus 30h, the window's end
+        ([0x8f, 0x44, 0x24, 0x2c, 0, 0, 0], Gates::Exo, page_fault(0x0080_0080, 6), 8),
+        ([0x8f, 0x44, 0x24, 0x28, 0, 0, 0], Gates::Exo, Event::Next, 12),
+        // PUSHA goes up from 32 bytes below ESP
+        ([0x60, 0, 0, 0, 0, 0, 0], Gates::Exo, Event::Next, 33),
+    ]
+}
+
+#[test]
+fn raises(rt: HostRuntime) {
+    for (bytes, gates, want, touched) in events() {
+        let [a, b, c, d, e, f, g] = bytes;
+        let code = [a, b, c, d, e, f, g, 0, 0, 0, 0, 0];
+        let mut window = window_of(code);
+        let mut regs = regs_of(AT_THE_END);
+        let event = step(&mut regs, &mut window, gates);
+        assert_eq!(rt; event, want, "{code:?}");
+        assert_eq!(rt; window.touched, touched, "{code:?}");
+        if let Event::Raised { .. } = event {
+            assert_eq!(rt; words_of(&regs), AT_THE_END, "{code:?}");
+            assert_eq!(rt; regs.eip, BASE, "{code:?}");
+        }
+    }
+}
+
+// POPF takes the seven flags, and PUSHF pushes them with bit 1 and IF.
+#[test]
+fn keeps_flags(rt: HostRuntime) {
+    for (popped, want) in [(0u8, 0x0202), (0xff, 0x0cd7 | 0x0200)] {
+        let mut window = window_of([0x9d, 0x9c, 0, 0, 0, 0, 0, 0, 0, 0, 0, 0]);
+        for k in 80..84usize {
+            window.bytes[k] = popped;
+        }
+        let mut regs = regs_of(AT_THE_END);
+        assert_eq!(rt; step(&mut regs, &mut window, Gates::Exo), Event::Next);
+        assert_eq!(rt; regs.esp, 0x0080_0054);
+        assert_eq!(rt; regs.eflags, want);
+        assert_eq!(rt; step(&mut regs, &mut window, Gates::Exo), Event::Next);
+        assert_eq!(rt; regs.esp, 0x0080_0050);
+        assert_eq!(rt;
+            u32::from_le_bytes([
+                window.bytes[80],
+                window.bytes[81],
+                window.bytes[82],
+                window.bytes[83]
+            ]),
+            want
+        );
+    }
+}

@@ -1,0 +1,4 @@
+pub mod Tests
+pub mod Facts
+pub mod Parsed
+pub mod Written

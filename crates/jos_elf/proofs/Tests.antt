@@ -1,0 +1,108 @@
+-- Which test of a list is the first that fails, as a list of tests grows.
+use Rattle.std.proofs.Common.{◌≡◌, ℕ, zero, suc, ◌+◌, ◌-◌, ◌<◌, Bool, true, false, List, [], ◌∷◌, ◌++◌, Option, Some, None, refl, ◌∙◌, arith}
+use Rattle.jos_elf.specs.declared.fault.ElfFault.{ElfFault}
+use Rattle.jos_elf.specs.declared.fault.ElfFault.TheVariants.{Overlap}
+use Rattle.jos_elf.specs.Headers.{header_of}
+use Rattle.jos_elf.specs.Tests.{Test, first_failed, is_loaded, leaves_free, overlap_tests, segment_tests, table_tests}
+
+abbrev none : Option ElfFault
+none = None
+
+pub passed-append : (a b : List Test) → first_failed a ≡ none → first_failed (a ++ b) ≡ first_failed b
+passed-append [] b e = refl
+passed-append ((true, f) ∷ ts) b e = passed-append ts b e
+passed-append ((false, f) ∷ ts) b e = absurd cc
+
+pub failed-append : (a b : List Test) (f : ElfFault) → first_failed a ≡ Some f → first_failed (a ++ b) ≡ Some f
+failed-append [] b f e = absurd cc
+failed-append ((true, g) ∷ ts) b f e = failed-append ts b f e
+failed-append ((false, g) ∷ ts) b f e = e
+
+one-passed : (b : Bool) (f : ElfFault) → b ≡ true → first_failed ((b, f) ∷ []) ≡ none
+one-passed true f e = refl
+one-passed false f e = absurd cc
+
+one-failed : (b : Bool) (f : ElfFault) → b ≡ false → first_failed ((b, f) ∷ []) ≡ Some f
+one-failed true f e = absurd cc
+one-failed false f e = refl
+
+-- ---- those of overlap
+
+pub overlap-none : (file : List ℕ) (place : ℕ) → first_failed (overlap_tests file place 0) ≡ none
+unfolding overlap_tests
+overlap-none file place = refl
+
+pub overlap-passed : (file : List ℕ) (place n : ℕ) → first_failed (overlap_tests file place n) ≡ none
+    → leaves_free (header_of file n) (header_of file place) ≡ true
+    → first_failed (overlap_tests file place (n + 1)) ≡ none
+unfolding overlap_tests
+overlap-passed file place n e h =
+    let q : n + 1 ≡ suc n = omega arith in
+    rw q (passed-append (overlap_tests file place n) _ e ∙ one-passed _ (Overlap place n) h)
+
+overlap-keeps : (file : List ℕ) (place n k : ℕ) (f : ElfFault) → first_failed (overlap_tests file place n) ≡ Some f → first_failed (overlap_tests file place (k + n)) ≡ Some f
+unfolding overlap_tests
+overlap-keeps file place n zero f e = let q : 0 + n ≡ n = omega arith in rw q e
+overlap-keeps file place n (suc k) f e =
+    let q : suc k + n ≡ suc (k + n) = omega arith in
+    rw q (failed-append (overlap_tests file place (k + n)) _ f (overlap-keeps file place n k f e))
+
+pub overlap-failed : (file : List ℕ) (place n m : ℕ) → n < m → first_failed (overlap_tests file place n) ≡ none
+    → leaves_free (header_of file n) (header_of file place) ≡ false
+    → first_failed (overlap_tests file place m) ≡ Some (Overlap place n)
+unfolding overlap_tests
+overlap-failed file place n m lt e h =
+    let q : m ≡ (m - suc n) + suc n = omega arith in
+    let here : first_failed (overlap_tests file place (suc n)) ≡ Some (Overlap place n) = passed-append (overlap_tests file place n) _ e ∙ one-failed _ (Overlap place n) h in
+    let more = overlap-keeps file place (suc n) (m - suc n) (Overlap place n) here in
+    rw (← q) at more
+
+-- ---- those of the table
+
+pub table-none : (file : List ℕ) → first_failed (table_tests file 0) ≡ none
+unfolding table_tests
+table-none file = refl
+
+pub table-passed_over : (file : List ℕ) (n : ℕ) → first_failed (table_tests file n) ≡ none → is_loaded (header_of file n) ≡ false → first_failed (table_tests file (n + 1)) ≡ none
+unfolding table_tests
+table-passed_over file n e h =
+    let q : n + 1 ≡ suc n = omega arith in
+    rw (q, h) (passed-append (table_tests file n) [] e)
+
+pub table-passed : (file : List ℕ) (n : ℕ) → first_failed (table_tests file n) ≡ none → is_loaded (header_of file n) ≡ true → first_failed (segment_tests file n) ≡ none
+    → first_failed (table_tests file (n + 1)) ≡ none
+unfolding table_tests
+table-passed file n e h s =
+    let q : n + 1 ≡ suc n = omega arith in
+    rw (q, h) (passed-append (table_tests file n) (segment_tests file n) e ∙ s)
+
+table-keeps : (file : List ℕ) (n k : ℕ) (f : ElfFault) → first_failed (table_tests file n) ≡ Some f → first_failed (table_tests file (k + n)) ≡ Some f
+unfolding table_tests
+table-keeps file n zero f e = let q : 0 + n ≡ n = omega arith in rw q e
+table-keeps file n (suc k) f e =
+    let q : suc k + n ≡ suc (k + n) = omega arith in
+    rw q (failed-append (table_tests file (k + n)) _ f (table-keeps file n k f e))
+
+pub table-failed : (file : List ℕ) (n m : ℕ) (f : ElfFault) → n < m → first_failed (table_tests file n) ≡ none → is_loaded (header_of file n) ≡ true
+    → first_failed (segment_tests file n) ≡ Some f → first_failed (table_tests file m) ≡ Some f
+unfolding table_tests
+table-failed file n m f lt e h s =
+    let q : m ≡ (m - suc n) + suc n = omega arith in
+    let here : first_failed (table_tests file (suc n)) ≡ Some f = rw h (passed-append (table_tests file n) (segment_tests file n) e ∙ s) in
+    let more = table-keeps file (suc n) (m - suc n) f here in
+    rw (← q) at more
+
+-- ---- all of them
+
+pub append-passed : (a b : List Test) → first_failed (a ++ b) ≡ none → (first_failed a ≡ none) × (first_failed b ≡ none)
+append-passed [] b e = (refl, e)
+append-passed ((true, f) ∷ ts) b e = append-passed ts b e
+append-passed ((false, f) ∷ ts) b e = absurd cc
+
+pub cons-passed : (b : Bool) (f : ElfFault) (ts : List Test) → first_failed ((b, f) ∷ ts) ≡ none → (b ≡ true) × (first_failed ts ≡ none)
+cons-passed true f ts e = (refl, e)
+cons-passed false f ts e = absurd cc
+
+pub passed-cons : (b : Bool) (f : ElfFault) (ts : List Test) → b ≡ true → first_failed ts ≡ none → first_failed ((b, f) ∷ ts) ≡ none
+passed-cons true f ts h e = e
+passed-cons false f ts h e = absurd cc

@@ -1,0 +1,7 @@
+use Rattle.std.proofs.Common.{ℕ, ◌<◌, sym, subst}
+use Rattle.jos_isa.proofs.Places.{field_small}
+use Rattle.jos_isa.proofs.encoder.put_form.Goals as goal
+
+pub put_operand-at-requires-clause-reg : goal.put_operand-at-requires-clause-reg
+put_operand-at-requires-clause-reg c =
+    subst (λ (n : ℕ). n < 8) (sym c.reg_field-field.ensures) (field_small _ c.args.insn.row c.args.insn.reg c.requires.numbered c.requires.named)
