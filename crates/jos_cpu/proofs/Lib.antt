@@ -8,3 +8,4 @@ pub mod QuotientLaws
 pub mod ConditionLaws
 pub mod SignedShifts
 pub mod OverflowLaws
+pub mod Rotations

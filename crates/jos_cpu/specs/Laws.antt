@@ -1,9 +1,9 @@
--- What the definitions mean in numbers: shifts are products and quotients, a quotient with its remainder is the
--- dividend, and the conditions after CMP compare.
-use Rattle.std.specs.Prelude.{◌≡◌, ℕ, ◌+◌, ◌*◌, ◌/◌, ◌%◌, ◌^◌, ◌<◌, ◌==◌, nat_lt, nat_le, true, ℤ, pos, not, ◌+ℤ◌, ◌-ℤ◌, ◌*ℤ◌, int_lt, int_le, IfSome}
+-- What the definitions mean in numbers: shifts are products and quotients, rotations undo each other, a quotient
+-- with its remainder is the dividend, and the conditions after CMP compare.
+use Rattle.std.specs.Prelude.{◌≡◌, ℕ, ◌+◌, ◌*◌, ◌/◌, ◌%◌, ◌^◌, ◌<◌, ◌==◌, nat_lt, nat_le, true, ℤ, pos, negsuc, unsigned_abs, not, ◌+ℤ◌, ◌-ℤ◌, ◌*ℤ◌, int_lt, int_le, IfSome}
 use Rattle.std.specs.Int.{int_div_euclid}
 use Rattle.jos_cpu.specs.declared.forms.Width.{Width}
-use Rattle.jos_cpu.specs.declared.forms.Shift.TheVariants.{Shl, Shr, Sar}
+use Rattle.jos_cpu.specs.declared.forms.Shift.TheVariants.{Rol, Ror, Shl, Shr, Sar}
 use Rattle.jos_cpu.specs.declared.products.Halves.{Halves}
 use Rattle.jos_cpu.specs.declared.shifts.Shifting.{Shifting}
 use Rattle.jos_cpu.specs.Flags.{modulus, flags_of_sum, flags_of_difference, subtracted, condition_holds}
@@ -24,14 +24,26 @@ abbrev pub ShiftsSigned : Type 0
 ShiftsSigned = (width : Width) (n : ℕ) (s : Shifting) → s.value < modulus width →
     signed_of width (shift_times Sar width n s).value ≡ int_div_euclid (signed_of width s.value) (pos (2 ^ n))
 
+-- ROL by n places undoes ROR by n places.
+abbrev pub RotatesBack : Type 0
+RotatesBack = (width : Width) (n : ℕ) (s : Shifting) → s.value < modulus width →
+    (shift_times Rol width n (shift_times Ror width n s)).value ≡ s.value
+
 abbrev pub DividesUnsigned : Type 0
 DividesUnsigned = (width : Width) (n d : ℕ) →
     IfSome (unsigned_quotient width n d) (λ h. (h.low * d + h.high ≡ n) × (h.high < d) × (h.low < modulus width))
 
--- The halves are those of a quotient, which fits, and of a remainder.
+-- 0, or of the same sign as the number that is divided
+abbrev pub HasSignOf : ℤ → ℤ → Type 0
+HasSignOf remainder (pos n) = int_le (pos 0) remainder ≡ true
+HasSignOf remainder (negsuc n) = int_le remainder (pos 0) ≡ true
+
+-- The halves are those of a quotient, which fits, and of a remainder, which is smaller than the divisor and has
+-- the dividend's sign.
 abbrev pub AreQuotientOf : Width → ℤ → ℤ → Halves → Type 0
 AreQuotientOf width n d h = (quotient remainder : ℤ)
     × (quotient *ℤ d +ℤ remainder ≡ n) × (fits_in width quotient ≡ true)
+    × (unsigned_abs remainder < unsigned_abs d) × HasSignOf remainder n
     × (h.low ≡ bits_of quotient % modulus width) × (h.high ≡ bits_of remainder % modulus width)
 
 abbrev pub DividesSigned : Type 0

@@ -1,6 +1,6 @@
 //! What the definitions mean in numbers. Nothing here is to be run: each clause is a theorem.
 
-ghost use Rattle.jos_cpu.specs.Laws.{ShiftsUp, ShiftsDown, ShiftsSigned, DividesUnsigned, DividesSigned, ComparesNumbers, OverflowsSigned};
+ghost use Rattle.jos_cpu.specs.Laws.{ShiftsUp, ShiftsDown, ShiftsSigned, RotatesBack, DividesUnsigned, DividesSigned, ComparesNumbers, OverflowsSigned};
 
 /// SHL by n places is a product by 2^n, SHR the quotient, and SAR the quotient of a signed number, rounded down.
 pub fn shifts_are_products()
@@ -9,7 +9,13 @@ pub fn shifts_are_products()
     ensures signed { ShiftsSigned }
 {}
 
-/// The quotient times the divisor and the remainder are the dividend, unsigned and signed.
+/// ROL by n places undoes ROR by n places.
+pub fn rotations_go_back()
+    ensures { RotatesBack }
+{}
+
+/// The quotient times the divisor and the remainder are the dividend, unsigned and signed. The remainder is smaller
+/// than the divisor, and has the sign of the dividend.
 pub fn quotients_give_back_the_dividend()
     ensures unsigned { DividesUnsigned }
     ensures signed { DividesSigned }

@@ -28,7 +28,8 @@ mod strings;
 
 pub use events::{Event, Gates};
 pub use laws::{
-    conditions_compare, overflow_is_signed, quotients_give_back_the_dividend, shifts_are_products,
+    conditions_compare, overflow_is_signed, quotients_give_back_the_dividend, rotations_go_back,
+    shifts_are_products,
 };
 pub use memory::{Mem, MemFault};
 pub use stepping::step;

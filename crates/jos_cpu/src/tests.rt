@@ -214,6 +214,47 @@ fn raises(rt: HostRuntime) {
     }
 }
 
+// A byte and a word by each count in CL, whose low five bits are the places.
+#[test]
+fn shifts_by_each_count(rt: HostRuntime) {
+    let word = 0x8123_4567u32;
+    let byte = 0x93u8;
+    for count in 0..256u32 {
+        let places = count % 32;
+        let few = if places < 8 { places } else { 7 };
+        for (modrm, word_after, byte_after) in [
+            (0xc0u8, word.rotate_left(places), byte.rotate_left(places)),
+            (0xc8, word.rotate_right(places), byte.rotate_right(places)),
+            (
+                0xe0,
+                word << places,
+                if places < 8 { byte << places } else { 0 },
+            ),
+            (
+                0xe8,
+                word >> places,
+                if places < 8 { byte >> places } else { 0 },
+            ),
+            (
+                0xf8,
+                (word.cast_signed() >> places).cast_unsigned(),
+                (byte.cast_signed() >> few).cast_unsigned(),
+            ),
+        ] {
+            for (opcode, before, after) in [
+                (0xd3u8, word, word_after),
+                (0xd2, byte as u32, byte_after as u32),
+            ] {
+                let mut window = window_of([opcode, modrm, 0, 0, 0, 0, 0, 0, 0, 0, 0, 0]);
+                let mut regs = regs_of([before, count, 0, 0, BASE, 0, 0, 0, 0x0202]);
+                let event = step(&mut regs, &mut window, Gates::Exo);
+                assert_eq!(rt; event, Event::Next, "{opcode} {modrm} {count}");
+                assert_eq!(rt; regs.eax, after, "{opcode} {modrm} {count}");
+            }
+        }
+    }
+}
+
 // POPF takes the seven flags, and PUSHF pushes them with bit 1 and IF.
 #[test]
 fn keeps_flags(rt: HostRuntime) {
