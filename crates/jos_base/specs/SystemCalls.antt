@@ -1,13 +1,13 @@
 -- The system calls: a number in EAX, arguments in EDX and ECX, the answer in EAX. Refusals are tried in the
 -- written order, and an error is answered negated. (MIT 6.828, inc/syscall.h and kern/syscall.c.)
-use Rattle.std.specs.Prelude.{ℕ, ◌==◌, ◌||◌, nat_lt, List, [], ◌++◌, Result, Ok, Err, if◌then◌else◌}
+use Rattle.std.specs.Prelude.{ℕ, ◌==◌, ◌||◌, nat_lt, List, [], Result, Ok, Err, if◌then◌else◌}
 use Rattle.jos_base.specs.declared.memory.PageFault.{PageFault}
 use Rattle.jos_base.specs.declared.environment.Status.TheVariants.{Free}
 use Rattle.jos_base.specs.declared.errno.Errno.{Errno}
 use Rattle.jos_base.specs.declared.errno.Errno.TheVariants.{BadEnv, Invalid}
-use Rattle.jos_base.specs.Words.{negated, upd}
+use Rattle.jos_base.specs.Words.{negated}
 use Rattle.jos_base.specs.Errors.{error_number}
-use Rattle.jos_base.specs.KernelState.{KernelState, Slot}
+use Rattle.jos_base.specs.KernelState.{Slot}
 use Rattle.jos_base.specs.Reach.{read_byte, bytes_read}
 use Rattle.jos_base.specs.Lines.{user_mem_check_line}
 
@@ -54,10 +54,3 @@ system_call pages slot =
     if slot.registers.eax == 0 then cputs pages slot
     else if slot.registers.eax == 3 then env_destroy slot
     else refused slot Invalid
-
--- the state after a step of the slot
-abbrev pub changed : KernelState → ℕ → Change → KernelState
-changed state k change = record state {
-  slots = upd state.slots k change.slot;
-  console = state.console ++ change.written;
-}

@@ -3,6 +3,8 @@
 ghost use Rattle.std.specs.Prelude.{◌≡◌};
 ghost use Rattle.jos_base.specs.Errors.{error_number};
 
+use std::alloc::{AllocError, AllocFailed};
+
 /// The error of a system call, which is answered as its number, negated as a word. (MIT 6.828, inc/error.h)
 #[derive(Clone, Copy, Debug, PartialEq, Eq)]
 pub enum Errno {
@@ -27,6 +29,18 @@ impl Errno {
 /// There was no memory for what a call had to keep.
 #[derive(Clone, Copy, Debug, PartialEq, Eq)]
 pub struct NoMemory;
+
+impl From<AllocError> for NoMemory {
+    fn from(_error: AllocError) -> NoMemory {
+        NoMemory
+    }
+}
+
+impl<T: Drop> From<AllocFailed<T>> for NoMemory {
+    fn from(_failed: AllocFailed<T>) -> NoMemory {
+        NoMemory
+    }
+}
 
 #[cfg(test)]
 mod tests {

@@ -1,0 +1,282 @@
+-- What the passes over the items know when they have come to the item at some index.
+use Rattle.std.proofs.Common.{◌≡◌, ℕ, zero, ◌+◌, ◌≤◌, ◌<◌, Bool, true, false, List, ◌∷◌, [], ◌++◌, length, drop, get_or, Option, Some, None, refl, sym, ap, subst, ◌∙◌, arith, append_assoc, append-nil, length-append}
+use Rattle.std.specs.Prelude.{is_some, ◌||◌, unwrap_or, IsTrue, nat_lt, if◌then◌else◌, cond}
+use Rattle.std.specs.Option.{option_map}
+use Rattle.std.specs.List.{list_any}
+use Rattle.std.specs.Str.{bytes_eq}
+use Rattle.std.proofs.lemmas.List.{drop_more, drop_all}
+use Rattle.std.proofs.lemmas.Slice.Eq.{bytes_eq-Decides}
+use Rattle.jos_asm.specs.declared.item.Item.{Item}
+use Rattle.jos_asm.specs.declared.item.Item.TheVariants as item
+use Rattle.jos_asm.specs.declared.fault.AsmFault.{AsmFault}
+use Rattle.jos_asm.specs.declared.fault.AsmFault.TheVariants.{TooLong, Twice, Unknown, Far, NoMemory}
+use Rattle.jos_asm.specs.Items.{is_item, length_of, target_of, relative, address_move}
+use Rattle.jos_asm.specs.Program.{length_of_all, bytes_of, is_label, place_from, place_in, is_unknown, first_unknown, first_twice, is_far, first_far, spelled_from}
+use Rattle.jos_asm.specs.Labels.{IsFault, twice_in, unknown_in, far_at, with_label}
+use Rattle.jos_asm.proofs.Lawful.{relative_len, move_len}
+
+-- `len` bytes are those of the items before
+pub record Counted (items : List Item) (index len : ℕ) : Type 0 where
+  pub rest : len + length_of_all (drop index items) ≡ length_of_all items
+  pub small : len ≤ 1048576
+
+-- the bytes written and those of the items to come are all of them
+pub record Written (base : ℕ) (place : List ℕ → ℕ) (items : List Item) (index : ℕ) (code : List ℕ) : Type 0 where
+  pub rest : length code + length_of_all (drop index items) ≡ length_of_all items
+  pub far : first_far place (length code) (drop index items) ≡ first_far place 0 items
+  pub bytes : code ++ spelled_from base place (length code) (drop index items) ≡ spelled_from base place 0 items
+
+-- what is found, and else what will be
+abbrev pub or_later : Option ℕ → Option ℕ → Option ℕ
+or_later None later = later
+or_later (Some place) later = Some place
+
+-- a label is one of those found or one of those to come, and a name is twice if it is found a second time
+pub record Placed (found : List ℕ → Option ℕ) (items : List Item) (index at : ℕ) : Type 0 where
+  pub rest : at + length_of_all (drop index items) ≡ length_of_all items
+  pub place : (name : List ℕ) → or_later (found name) (place_from at (drop index items) name) ≡ place_in items name
+  pub before : List (List ℕ)
+  pub seen : (name : List ℕ) → is_some (found name) ≡ list_any (λ earlier. bytes_eq earlier name) before
+  pub twice : first_twice before (drop index items) ≡ first_twice [] items
+
+-- ---- faults
+
+-- the fault of the item at hand is the first of all
+fault_first : (kind : List ℕ → AsmFault) (here : Bool) (name later first : Option (List ℕ)) (fault : AsmFault) → first ≡ cond here name later
+    → IsFault fault (cond here (option_map kind name) None) → IsFault fault (option_map kind first)
+fault_first kind true name later first fault e h = rw e h
+fault_first kind false name later first NoMemory e h = tt
+fault_first kind false name later first TooLong e h = absurd cc
+fault_first kind false name later first (Twice x) e h = absurd cc
+fault_first kind false name later first (Unknown x) e h = absurd cc
+fault_first kind false name later first (Far x) e h = absurd cc
+
+-- ---- lengths
+
+bytes_len : (base : ℕ) (place : List ℕ → ℕ) (at : ℕ) (x : Item) → IsTrue (is_item x) → length (bytes_of base place at x) ≡ length_of x
+bytes_len base place at (item.Label name) h = refl
+bytes_len base place at (item.Insn insn) h = refl
+bytes_len base place at (item.Jump row name) h = relative_len row _ h
+bytes_len base place at (item.Address reg name) h = move_len reg _ h
+bytes_len base place at (item.Bytes bytes) h = refl
+
+place_within : (items : List Item) (at : ℕ) (name : List ℕ) → unwrap_or (place_from at items name) 0 ≤ at + length_of_all items
+unfolding place_from length_of_all
+place_within [] at name = omega arith
+place_within (i ∷ items) at name = go (is_label name i) (place_within items (at + length_of i) name)
+  where
+    go : (b : Bool) → unwrap_or (place_from (at + length_of i) items name) 0 ≤ (at + length_of i) + length_of_all items
+        → unwrap_or (cond b (Some at) (place_from (at + length_of i) items name)) 0 ≤ at + (length_of i + length_of_all items)
+    go true later = omega arith
+    go false later = omega (arith, later)
+
+-- ---- at the item x, and one further
+
+module _ (items : List Item) (i : ℕ) (x : Item) (is : x ≡ get_or items i x) (within : i < length items) where
+  next : drop i items ≡ x ∷ drop (i + 1) items
+  next = drop_more items i x within ∙ ap (λ (y : Item). y ∷ drop (i + 1) items) (sym is)
+
+  len_more : length_of_all (drop i items) ≡ length_of x + length_of_all (drop (i + 1) items)
+  unfolding length_of_all
+  len_more = ap length_of_all next
+
+  pub counted_over : (len : ℕ) → Counted items i len → 1048576 < len + length_of x → 1048576 < length_of_all items
+  counted_over len c over = let e = c.rest in let f = len_more in omega (arith, e, f)
+
+  pub counted_more : (len : ℕ) → Counted items i len → len + length_of x ≤ 1048576 → Counted items (i + 1) (len + length_of x)
+  counted_more len c small = let e = c.rest in let f = len_more in record { rest = omega (arith, e, f); small = small }
+
+  unknown_more : (place : List ℕ → Option ℕ) → first_unknown place (drop i items) ≡ cond (is_unknown place (target_of x)) (target_of x) (first_unknown place (drop (i + 1) items))
+  unfolding first_unknown
+  unknown_more place = ap (first_unknown place) next
+
+  pub known_more : (place : List ℕ → Option ℕ) → first_unknown place (drop i items) ≡ first_unknown place items → is_unknown place (target_of x) ≡ false
+      → first_unknown place (drop (i + 1) items) ≡ first_unknown place items
+  known_more place same known = sym (unknown_more place ∙ ap (λ b. cond b (target_of x) (first_unknown place (drop (i + 1) items))) known) ∙ same
+
+  pub unknown_fault : (place : List ℕ → Option ℕ) (fault : AsmFault) → first_unknown place (drop i items) ≡ first_unknown place items → IsFault fault (unknown_in place x)
+      → IsFault fault (option_map Unknown (first_unknown place items))
+  unknown_fault place fault same h =
+      fault_first Unknown (is_unknown place (target_of x)) (target_of x) (first_unknown place (drop (i + 1) items)) (first_unknown place items) fault (sym same ∙ unknown_more place) h
+
+  module _ (base : ℕ) (place : List ℕ → ℕ) (code : List ℕ) (w : Written base place items i code) where
+    far_more : first_far place (length code) (drop i items) ≡ cond (is_far place (length code) x) (target_of x) (first_far place (length code + length_of x) (drop (i + 1) items))
+    unfolding first_far
+    far_more = ap (first_far place (length code)) next
+
+    bytes_more : spelled_from base place (length code) (drop i items) ≡ bytes_of base place (length code) x ++ spelled_from base place (length code + length_of x) (drop (i + 1) items)
+    unfolding spelled_from
+    bytes_more = ap (spelled_from base place (length code)) next
+
+    pub written_room : length_of_all items ≤ 1048576 → length code + length_of x ≤ 1048576
+    written_room small = let e = w.rest in let f = len_more in omega (arith, e, f)
+
+    pub written_fault : (fault : AsmFault) → IsFault fault (far_at place (length code) x) → IsFault fault (option_map Far (first_far place 0 items))
+    written_fault fault h =
+        fault_first Far (is_far place (length code) x) (target_of x) (first_far place (length code + length_of x) (drop (i + 1) items)) (first_far place 0 items) fault (sym w.far ∙ far_more) h
+
+    pub written_more : (new : List ℕ) → IsTrue (is_item x) → is_far place (length code) x ≡ false → new ≡ code ++ bytes_of base place (length code) x → Written base place items (i + 1) new
+    written_more new lawful near e =
+        let longer : length new ≡ length code + length_of x = ap length e ∙ length-append code _ ∙ ap (λ n. length code + n) (bytes_len base place (length code) x lawful) in
+        let r = w.rest in let f = len_more in
+        record {
+          rest = omega (arith, longer, r, f);
+          far = ap (λ n. first_far place n (drop (i + 1) items)) longer
+              ∙ sym (far_more ∙ ap (λ b. cond b (target_of x) (first_far place (length code + length_of x) (drop (i + 1) items))) near) ∙ w.far;
+          bytes = (λ j. e j ++ spelled_from base place (longer j) (drop (i + 1) items))
+              ∙ append_assoc code (bytes_of base place (length code) x) _ ∙ ap (λ l. code ++ l) (sym bytes_more) ∙ w.bytes;
+        }
+
+-- ---- labels
+
+found_at : (found : List ℕ → Option ℕ) (label name : List ℕ) → is_some (found label) ≡ false → bytes_eq label name ≡ true → found name ≡ None
+found_at found label name absent e = none (found name) (ap (λ n. is_some (found n)) (sym ((bytes_eq-Decides label name).0 e)) ∙ absent)
+  where
+    none : (o : Option ℕ) → is_some o ≡ false → o ≡ None
+    none None h = refl
+    none (Some x) h = absurd cc
+
+pub once_if : {X : Type 0} (o : Option ℕ) (x : X) → o ≡ None → cond (is_some o) (Some x) None ≡ None
+once_if o x e = rw e refl
+
+pub known_if : (place : List ℕ → Option ℕ) (name : List ℕ) → is_some (place name) ≡ true → is_unknown place (Some name) ≡ false
+known_if place name e = rw e refl
+
+absent_if : {X : Type 0} (b : Bool) (x : X) → cond b (Some x) None ≡ None → b ≡ false
+absent_if true x h = absurd cc
+absent_if false x h = refl
+
+
+-- the step to a label
+module _ (found later : List ℕ → Option ℕ) (items : List Item) (i at : ℕ) (label : List ℕ) (w : Placed found items i at) (next_is : drop i items ≡ item.Label label ∷ drop (i + 1) items) where
+  place_now : (name : List ℕ) → or_later (found name) (cond (bytes_eq label name) (Some at) (place_from (at + 0) (drop (i + 1) items) name)) ≡ place_in items name
+  unfolding place_from
+  place_now name = ap (λ (l : List Item). or_later (found name) (place_from at l name)) (sym next_is) ∙ w.place name
+
+  twice_now : cond (is_some (found label)) (Some label) (first_twice (label ∷ w.before) (drop (i + 1) items)) ≡ first_twice [] items
+  unfolding first_twice
+  twice_now = ap (λ b. cond b (Some label) (first_twice (label ∷ w.before) (drop (i + 1) items))) (w.seen label) ∙ ap (first_twice w.before) (sym next_is) ∙ w.twice
+
+  length_now : length_of_all (drop i items) ≡ 0 + length_of_all (drop (i + 1) items)
+  unfolding length_of_all
+  length_now = ap length_of_all next_is
+
+  label_more : is_some (found label) ≡ false → ((name : List ℕ) → later name ≡ cond (bytes_eq label name) (Some at) (found name)) → Placed later items (i + 1) (at + 0)
+  label_more absent is = record {
+    rest = let r = w.rest in let f = length_now in omega (arith, r, f);
+    place = λ name. ap (λ o. or_later o (place_from (at + 0) (drop (i + 1) items) name)) (is name) ∙ joined name (bytes_eq label name) refl (place_now name);
+    before = label ∷ w.before;
+    seen = λ name. ap is_some (is name) ∙ seen_more name (bytes_eq label name);
+    twice = ap (λ b. cond b (Some label) (first_twice (label ∷ w.before) (drop (i + 1) items))) (sym absent) ∙ twice_now;
+  }
+    where
+      joined : (name : List ℕ) (b : Bool) → bytes_eq label name ≡ b → or_later (found name) (cond b (Some at) (place_from (at + 0) (drop (i + 1) items) name)) ≡ place_in items name
+          → or_later (cond b (Some at) (found name)) (place_from (at + 0) (drop (i + 1) items) name) ≡ place_in items name
+      joined name true e h = ap (λ o. or_later o (Some at)) (sym (found_at found label name absent e)) ∙ h
+      joined name false e h = h
+
+      seen_more : (name : List ℕ) (b : Bool) → is_some (cond b (Some at) (found name)) ≡ (b || list_any (λ earlier. bytes_eq earlier name) w.before)
+      seen_more name true = refl
+      seen_more name false = w.seen name
+
+  label_fault : (fault : AsmFault) → IsFault fault (cond (is_some (found label)) (Some (Twice label)) None) → IsFault fault (option_map Twice (first_twice [] items))
+  label_fault fault h = fault_first Twice (is_some (found label)) (Some label) (first_twice (label ∷ w.before) (drop (i + 1) items)) (first_twice [] items) fault (sym twice_now) h
+
+-- the step to another item
+abbrev IsOther : Item → Type 0
+IsOther x = ((name : List ℕ) → is_label name x ≡ false) × ((before : List (List ℕ)) (items : List Item) → first_twice before (x ∷ items) ≡ first_twice before items)
+
+other_more : (found later : List ℕ → Option ℕ) (items : List Item) (i at : ℕ) (x : Item) → Placed found items i at → drop i items ≡ x ∷ drop (i + 1) items → IsOther x
+    → ((name : List ℕ) → later name ≡ found name) → Placed later items (i + 1) (at + length_of x)
+unfolding place_from length_of_all
+other_more found later items i at x w next_is other is =
+    let len : length_of_all (drop i items) ≡ length_of x + length_of_all (drop (i + 1) items) = ap length_of_all next_is in let r = w.rest in
+    record {
+      rest = omega (arith, len, r);
+      place = λ name. ap (λ o. or_later o (place_from (at + length_of x) (drop (i + 1) items) name)) (is name)
+          ∙ ap (λ b. or_later (found name) (cond b (Some at) (place_from (at + length_of x) (drop (i + 1) items) name))) (sym (other.0 name))
+          ∙ ap (λ (l : List Item). or_later (found name) (place_from at l name)) (sym next_is) ∙ w.place name;
+      before = w.before;
+      seen = λ name. ap is_some (is name) ∙ w.seen name;
+      twice = sym (ap (first_twice w.before) next_is ∙ other.1 w.before (drop (i + 1) items)) ∙ w.twice;
+    }
+
+-- the fault of an item that has none is want of memory
+pub only_memory : (fault : AsmFault) (first : Option AsmFault) → IsFault fault None → IsFault fault first
+only_memory NoMemory first h = tt
+only_memory TooLong first h = absurd cc
+only_memory (Twice x) first h = absurd cc
+only_memory (Unknown x) first h = absurd cc
+only_memory (Far x) first h = absurd cc
+
+module _ (found : List ℕ → Option ℕ) (items : List Item) (i at : ℕ) (w : Placed found items i at) (within : i < length items) where
+  pub placed_more : (later : List ℕ → Option ℕ) (x : Item) → x ≡ get_or items i x → twice_in found x ≡ None → ((name : List ℕ) → later name ≡ with_label found at x name)
+      → Placed later items (i + 1) (at + length_of x)
+  unfolding first_twice
+  placed_more later (item.Label label) is once added =
+      label_more found later items i at label w (next items i (item.Label label) is within) (absent_if (is_some (found label)) (Twice label) once) added
+  placed_more later (item.Insn insn) is once added = other_more found later items i at (item.Insn insn) w (next items i (item.Insn insn) is within) (λ name. refl, λ before rest. refl) added
+  placed_more later (item.Jump row name) is once added = other_more found later items i at (item.Jump row name) w (next items i (item.Jump row name) is within) (λ label. refl, λ before rest. refl) added
+  placed_more later (item.Address reg name) is once added = other_more found later items i at (item.Address reg name) w (next items i (item.Address reg name) is within) (λ label. refl, λ before rest. refl) added
+  placed_more later (item.Bytes bytes) is once added = other_more found later items i at (item.Bytes bytes) w (next items i (item.Bytes bytes) is within) (λ name. refl, λ before rest. refl) added
+
+  pub placed_fault : (fault : AsmFault) (x : Item) → x ≡ get_or items i x → IsFault fault (twice_in found x) → IsFault fault (option_map Twice (first_twice [] items))
+  placed_fault fault (item.Label label) is h = label_fault found found items i at label w (next items i (item.Label label) is within) fault h
+  placed_fault fault (item.Insn insn) is h = only_memory fault (option_map Twice (first_twice [] items)) h
+  placed_fault fault (item.Jump row name) is h = only_memory fault (option_map Twice (first_twice [] items)) h
+  placed_fault fault (item.Address reg name) is h = only_memory fault (option_map Twice (first_twice [] items)) h
+  placed_fault fault (item.Bytes bytes) is h = only_memory fault (option_map Twice (first_twice [] items)) h
+
+  pub placed_room : (x : Item) → x ≡ get_or items i x → length_of_all items ≤ 1048576 → at + length_of x ≤ 1048576
+  placed_room x is small = let r = w.rest in let f = len_more items i x is within in omega (arith, r, f, small)
+
+zero_plus : (n : ℕ) → 0 + n ≡ n
+zero_plus n = omega arith
+
+pub placed_start : (found : List ℕ → Option ℕ) (items : List Item) → ((name : List ℕ) → found name ≡ None) → Placed found items 0 0
+placed_start found items none = record {
+  rest = zero_plus (length_of_all items);
+  place = λ name. ap (λ o. or_later o (place_from 0 items name)) (none name);
+  before = [];
+  seen = λ name. ap is_some (none name);
+  twice = refl;
+}
+
+-- ---- at the end
+
+module _ (items : List Item) (i : ℕ) where
+  pub counted_end : (len : ℕ) → length items ≤ i → Counted items i len → length_of_all items ≤ 1048576
+  unfolding length_of_all
+  counted_end len end c = let e = c.rest in let f : length_of_all (drop i items) ≡ 0 = ap length_of_all (drop_all i items end) in let s = c.small in omega (arith, e, f, s)
+
+  pub known_end : (place : List ℕ → Option ℕ) → length items ≤ i → first_unknown place (drop i items) ≡ first_unknown place items → first_unknown place items ≡ None
+  unfolding first_unknown
+  known_end place end same = sym same ∙ ap (first_unknown place) (drop_all i items end)
+
+  pub placed_end : (found : List ℕ → Option ℕ) (at : ℕ) → length items ≤ i → Placed found items i at → (name : List ℕ) → found name ≡ place_in items name
+  unfolding place_from
+  placed_end found at end w name = sym (later_none (found name)) ∙ ap (λ (l : List Item). or_later (found name) (place_from at l name)) (sym (drop_all i items end)) ∙ w.place name
+    where
+      later_none : (o : Option ℕ) → or_later o None ≡ o
+      later_none None = refl
+      later_none (Some x) = refl
+
+  pub once_end : (found : List ℕ → Option ℕ) (at : ℕ) → length items ≤ i → Placed found items i at → first_twice [] items ≡ None
+  unfolding first_twice
+  once_end found at end w = sym w.twice ∙ ap (first_twice w.before) (drop_all i items end)
+
+  pub place_small : (found : List ℕ → Option ℕ) (at : ℕ) → length items ≤ i → Placed found items i at → length_of_all items ≤ 1048576 → (name : List ℕ) → unwrap_or (found name) 0 ≤ 1048576
+  place_small found at end w small name =
+      let p = place_within items 0 name in
+      rw (placed_end found at end w name) (omega (arith, p, small))
+
+  pub written_end : (base : ℕ) (place : List ℕ → ℕ) (code : List ℕ) → length items ≤ i → Written base place items i code
+      → (first_far place 0 items ≡ None) × (code ≡ spelled_from base place 0 items)
+  unfolding first_far spelled_from
+  written_end base place code end w = (
+    sym w.far ∙ ap (first_far place (length code)) (drop_all i items end),
+    sym (append-nil code) ∙ ap (λ l. code ++ spelled_from base place (length code) l) (sym (drop_all i items end)) ∙ w.bytes
+  )
+
+pub written_start : (base : ℕ) (place : List ℕ → ℕ) (items : List Item) → Written base place items 0 []
+written_start base place items = record { rest = zero_plus (length_of_all items); far = refl; bytes = refl }

@@ -1,0 +1,7 @@
+use Rattle.std.proofs.Common.{◌≡◌, ◌≤◌, ◌+◌, drop}
+use Rattle.jos_asm.specs.Program.{length_of_all}
+use Rattle.jos_asm.proofs.Passes.{Counted}
+use Rattle.jos_asm.proofs.finishing.check_len.Given as goal
+
+abbrev pub invariant-loop-item : goal.invariant-loop-item
+invariant-loop-item l = Counted l.items l.item-index l.len

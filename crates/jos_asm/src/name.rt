@@ -1,0 +1,57 @@
+//! Names of labels.
+
+ghost use Rattle.std.specs.Prelude.{◌≡◌, ◌≤◌, length};
+
+use arrayvec::ArrayString;
+use std::fmt;
+use std::marker::Model;
+
+/// The name of a label: 1 to 31 ASCII bytes.
+#[derive(Drop)]
+pub struct Name(ArrayString<31>);
+
+impl Model for Name {
+    ghost use Rattle.std.specs.Prelude.{ℕ, List};
+
+    ghost Value = { List ℕ };
+
+    ghost view = { λ n. n.0.bytes };
+}
+
+impl Name {
+    /// A name of this text, which has at most 31 bytes.
+    pub(crate) fn new(text: &str) -> Name
+        requires { length text.now ≤ 31 }
+        ensures { result ≡ text.now }
+    {
+        let mut name = ArrayString::new();
+        name.push_str(text);
+        Name(name)
+    }
+
+    /// The same name.
+    pub(crate) fn copy(&self) -> Name
+        ensures { result ≡ self.now }
+    {
+        Name(self.0)
+    }
+
+    /// The text.
+    pub fn as_str(&self) -> &str
+        ensures { result.now ≡ self.now }
+    {
+        self.0.as_str()
+    }
+}
+
+impl fmt::Display for Name {
+    fn fmt<W: fmt::Write>(&self, f: &mut fmt::Formatter<W>) -> fmt::Result {
+        f.pad(self.as_str())
+    }
+}
+
+impl fmt::Debug for Name {
+    fn fmt<W: fmt::Write>(&self, f: &mut fmt::Formatter<W>) -> fmt::Result {
+        fmt::Debug::fmt(&self.as_str(), f)
+    }
+}
