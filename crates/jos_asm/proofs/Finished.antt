@@ -1,12 +1,12 @@
 -- What the passes over the items say together.
 use denote.Ref.{Bor}
-use Rattle.std.proofs.Common.{◌≡◌, ℕ, ◌≤◌, ◌<◌, Bool, true, false, List, [], Option, Some, None, Result, Ok, Err, refl, ap, ◌∙◌, sym, subst, cond}
-use Rattle.std.specs.Prelude.{nat_lt, unwrap_or}
+use Rattle.std.proofs.Common.{◌≡◌, ℕ, ◌≤◌, ◌<◌, List, [], Option, Some, None, Result, Ok, Err, refl, ap, ◌∙◌, sym, subst, cond}
+use Rattle.std.specs.Prelude.{unwrap_or}
 use Rattle.std.specs.Option.{option_map}
 use Rattle.std.specs.BTreeMap.{BTreeMap}
 use Rattle.std.proofs.lemmas.Bool.{lt-ltb, le-ltb}
 use Rattle.jos_asm.specs.declared.fault.AsmFault.{AsmFault}
-use Rattle.jos_asm.specs.declared.fault.AsmFault.TheVariants.{TooLong, Twice, Unknown, Far, NoMemory}
+use Rattle.jos_asm.specs.declared.fault.AsmFault.TheVariants.{TooLong, Twice, Unknown, Far}
 use Rattle.jos_asm.specs.declared.item.Item.{Item}
 use Rattle.jos_asm.specs.Program.{Program, length_of_all, place_in, known_place, first_twice, first_unknown, first_far, spelled_from, unless, finished}
 use Rattle.jos_asm.specs.Labels.{IsFault, fault_in, labelled, labelled_place}

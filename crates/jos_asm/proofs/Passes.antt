@@ -1,6 +1,6 @@
 -- What the passes over the items know when they have come to the item at some index.
-use Rattle.std.proofs.Common.{◌≡◌, ℕ, zero, ◌+◌, ◌≤◌, ◌<◌, Bool, true, false, List, ◌∷◌, [], ◌++◌, length, drop, get_or, Option, Some, None, refl, sym, ap, subst, ◌∙◌, arith, append_assoc, append-nil, length-append}
-use Rattle.std.specs.Prelude.{is_some, ◌||◌, unwrap_or, IsTrue, nat_lt, if◌then◌else◌, cond}
+use Rattle.std.proofs.Common.{◌≡◌, ℕ, ◌+◌, ◌≤◌, ◌<◌, Bool, true, false, List, ◌∷◌, [], ◌++◌, length, drop, get_or, Option, Some, None, refl, sym, ap, ◌∙◌, arith, append_assoc, append-nil, length-append}
+use Rattle.std.specs.Prelude.{is_some, ◌||◌, unwrap_or, IsTrue, cond}
 use Rattle.std.specs.Option.{option_map}
 use Rattle.std.specs.List.{list_any}
 use Rattle.std.specs.Str.{bytes_eq}
@@ -10,7 +10,7 @@ use Rattle.jos_asm.specs.declared.item.Item.{Item}
 use Rattle.jos_asm.specs.declared.item.Item.TheVariants as item
 use Rattle.jos_asm.specs.declared.fault.AsmFault.{AsmFault}
 use Rattle.jos_asm.specs.declared.fault.AsmFault.TheVariants.{TooLong, Twice, Unknown, Far, NoMemory}
-use Rattle.jos_asm.specs.Items.{is_item, length_of, target_of, relative, address_move}
+use Rattle.jos_asm.specs.Items.{is_item, length_of, target_of}
 use Rattle.jos_asm.specs.Program.{length_of_all, bytes_of, is_label, place_from, place_in, is_unknown, first_unknown, first_twice, is_far, first_far, spelled_from}
 use Rattle.jos_asm.specs.Labels.{IsFault, twice_in, unknown_in, far_at, with_label}
 use Rattle.jos_asm.proofs.Lawful.{relative_len, move_len}

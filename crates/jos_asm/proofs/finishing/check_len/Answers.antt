@@ -1,4 +1,4 @@
-use Rattle.std.proofs.Common.{◌<◌, ◌+◌, refl, arith}
+use Rattle.std.proofs.Common.{◌<◌, ◌+◌, refl}
 use Rattle.jos_asm.specs.Items.{length_of}
 use Rattle.jos_asm.proofs.Passes.{counted_over, counted_more, counted_end}
 use Rattle.jos_asm.proofs.finishing.check_len.Goals as goal

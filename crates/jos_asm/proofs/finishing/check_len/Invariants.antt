@@ -1,5 +1,3 @@
-use Rattle.std.proofs.Common.{◌≡◌, ◌≤◌, ◌+◌, drop}
-use Rattle.jos_asm.specs.Program.{length_of_all}
 use Rattle.jos_asm.proofs.Passes.{Counted}
 use Rattle.jos_asm.proofs.finishing.check_len.Given as goal
 

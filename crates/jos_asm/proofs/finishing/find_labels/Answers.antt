@@ -1,8 +1,8 @@
-use Rattle.std.proofs.Common.{◌≤◌, ◌<◌, ◌+◌, arith}
+use Rattle.std.proofs.Common.{◌≤◌, ◌+◌, arith}
 use Rattle.std.proofs.lemmas.Result.{err_from_is_err_and}
 use Rattle.jos_asm.specs.Items.{length_of}
 use Rattle.jos_asm.specs.Labels.{labelled}
-use Rattle.jos_asm.proofs.Passes.{placed_start, placed_more, placed_fault, placed_room, placed_end, once_end, place_small}
+use Rattle.jos_asm.proofs.Passes.{placed_more, placed_fault, placed_room, placed_end, once_end, place_small}
 use Rattle.jos_asm.proofs.finishing.find_labels.Goals as goal
 
 pub returns-in_err-add_label-clause-fault : goal.returns-in_err-add_label-clause-fault

@@ -1,8 +1,5 @@
-use Rattle.std.proofs.Common.{List, ◌≡◌, ◌≤◌}
 use Rattle.std.proofs.lemmas.Result.{err_from_is_err_and, IfOk-weaker, MatchResult-weaker}
-use Rattle.jos_asm.specs.Program.{Program}
-use Rattle.jos_asm.specs.declared.item.Item.{Item}
-use Rattle.jos_asm.proofs.Finished.{program, too_long, is_twice, is_unknown_name, is_far_name, is_spelled, is_long_fault}
+use Rattle.jos_asm.proofs.Finished.{program, is_twice, is_unknown_name, is_far_name, is_spelled, is_long_fault}
 use Rattle.jos_asm.proofs.finishing.finish.Goals as goal
 
 pub returns-in_err-check_len-clause-fault : goal.returns-in_err-check_len-clause-fault

@@ -1,4 +1,3 @@
-use Rattle.std.proofs.Common.{◌≡◌, drop}
 use Rattle.jos_asm.specs.Labels.{labelled_place}
 use Rattle.jos_asm.proofs.Passes.{Written}
 use Rattle.jos_asm.proofs.finishing.write_code.Given as goal
