@@ -1,16 +1,17 @@
 -- What the passes over the items say together.
 use denote.Ref.{Bor}
-use Rattle.std.proofs.Common.{◌≡◌, ℕ, ◌≤◌, ◌<◌, List, [], Option, Some, None, Result, Ok, Err, refl, ap, ◌∙◌, sym, subst, cond}
-use Rattle.std.specs.Prelude.{unwrap_or}
+use Rattle.std.proofs.Common.{◌≡◌, ℕ, All, length, ◌≤◌, ◌<◌, List, [], Option, Some, None, Result, Ok, Err, refl, ap, ◌∙◌, sym, subst, cond}
+use Rattle.std.specs.Prelude.{IsTrue, unwrap_or}
 use Rattle.std.specs.Option.{option_map}
 use Rattle.std.specs.BTreeMap.{BTreeMap}
 use Rattle.std.proofs.lemmas.Bool.{lt-ltb, le-ltb}
 use Rattle.jos_asm.specs.declared.fault.AsmFault.{AsmFault}
 use Rattle.jos_asm.specs.declared.fault.AsmFault.TheVariants.{TooLong, Twice, Unknown, Far}
 use Rattle.jos_asm.specs.declared.item.Item.{Item}
+use Rattle.jos_asm.specs.Items.{is_item}
 use Rattle.jos_asm.specs.Program.{Program, length_of_all, place_in, known_place, first_twice, first_unknown, first_far, spelled_from, unless, finished}
 use Rattle.jos_asm.specs.Labels.{IsFault, fault_in, labelled, labelled_place}
-use Rattle.jos_asm.proofs.Passes.{only_memory}
+use Rattle.jos_asm.proofs.Passes.{only_memory, spelled_len}
 
 fault_unless : (kind : List ℕ → AsmFault) (name : Option (List ℕ)) (answer : Result (List ℕ) AsmFault) (fault : AsmFault)
     → IsFault fault (option_map kind name) → IsFault fault (fault_in (unless kind name answer))
@@ -70,3 +71,7 @@ program base items = record { base = base; items = items }
 
 pub is_long_fault : (p : Program) (fault : AsmFault) → fault ≡ TooLong → 1048576 < length_of_all p.items → IsFault fault (fault_in (finished p))
 is_long_fault p fault is over = rw (is, too_long p over) refl
+
+-- what is spelled is as long as the items
+pub code_small : (p : Program) (place : List ℕ → ℕ) (code : List ℕ) → All (λ i. IsTrue (is_item i)) p.items → code ≡ spelled_from p.base place 0 p.items → length_of_all p.items ≤ 1048576 → length code ≤ 1048576
+code_small p place code are is small = rw (is, spelled_len p.base place 0 p.items are) small

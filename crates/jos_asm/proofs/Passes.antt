@@ -1,5 +1,5 @@
 -- What the passes over the items know when they have come to the item at some index.
-use Rattle.std.proofs.Common.{◌≡◌, ℕ, ◌+◌, ◌≤◌, ◌<◌, Bool, true, false, List, ◌∷◌, [], ◌++◌, length, drop, get_or, Option, Some, None, refl, sym, ap, ◌∙◌, arith, append_assoc, append-nil, length-append}
+use Rattle.std.proofs.Common.{◌≡◌, ℕ, zero, suc, All, ◌+◌, ◌≤◌, ◌<◌, Bool, true, false, List, ◌∷◌, [], ◌++◌, length, drop, get_or, Option, Some, None, refl, sym, ap, ◌∙◌, arith, append_assoc, append-nil, length-append}
 use Rattle.std.specs.Prelude.{is_some, ◌||◌, unwrap_or, IsTrue, cond}
 use Rattle.std.specs.Option.{option_map}
 use Rattle.std.specs.List.{list_any}
@@ -59,6 +59,13 @@ bytes_len base place at (item.Insn insn) h = refl
 bytes_len base place at (item.Jump row name) h = relative_len row _ h
 bytes_len base place at (item.Address reg name) h = move_len reg _ h
 bytes_len base place at (item.Bytes bytes) h = refl
+
+pub spelled_len : (base : ℕ) (place : List ℕ → ℕ) (at : ℕ) (items : List Item) → All (λ i. IsTrue (is_item i)) items → length (spelled_from base place at items) ≡ length_of_all items
+unfolding spelled_from length_of_all
+spelled_len base place at [] are = refl
+spelled_len base place at (i ∷ items) are =
+    length-append (bytes_of base place at i) _ ∙ ap (λ n. n + length (spelled_from base place (at + length_of i) items)) (bytes_len base place at i (are zero i (omega arith)))
+    ∙ ap (λ n. length_of i + n) (spelled_len base place (at + length_of i) items (λ k d within. are (suc k) d (omega (arith, within))))
 
 place_within : (items : List Item) (at : ℕ) (name : List ℕ) → unwrap_or (place_from at items name) 0 ≤ at + length_of_all items
 unfolding place_from length_of_all

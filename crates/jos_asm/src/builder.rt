@@ -1,6 +1,6 @@
 //! The builder.
 
-ghost use Rattle.std.specs.Prelude.{◌≡◌, ◌≢◌, ◌<◌, ◌≤◌, List, [], ◌∷◌, ◌++◌, Ok, IsTrue, IfOk, IfErr};
+ghost use Rattle.std.specs.Prelude.{◌≡◌, ◌<◌, ◌≤◌, [], Ok, IsTrue, IfOk, IfErr, length};
 ghost use Rattle.jos_isa.specs.Lawful.{is_lawful};
 ghost use Rattle.jos_asm.specs.Items.{is_item, is_relative};
 ghost use Rattle.jos_asm.specs.Program.{finished};
@@ -100,6 +100,7 @@ impl Builder {
     /// The bytes of the program, each label's distance or address in its place, or the first fault that it has.
     pub fn finish(self) -> Result<Vec<u8>, AsmFault>
         ensures exact { IfOk result (λ code. finished self ≡ Ok code.items) }
+        ensures small { IfOk result (λ code. length code.items ≤ 1048576) }
         ensures fault { IfErr result (λ fault. IsFault fault (fault_in (finished self))) }
     {
         finish(self.alloc, self.base, &self.items)

@@ -268,6 +268,7 @@ fn write_code<'a>(
 pub(crate) fn finish(alloc: Global, base: u32, items: &[Item]) -> Result<Vec<u8>, AsmFault>
     requires { All (λ i. IsTrue (is_item i)) items.now }
     ensures exact { IfOk result (λ code. finished (record { base = base; items = items.now }) ≡ Ok code.items) }
+    ensures small { IfOk result (λ code. length code.items ≤ 1048576) }
     ensures fault { IfErr result (λ fault. IsFault fault (fault_in (finished (record { base = base; items = items.now })))) }
 {
     check_len(items)?;

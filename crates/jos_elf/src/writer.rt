@@ -5,7 +5,8 @@ ghost use Rattle.jos_elf.specs.Parsed.{parsed};
 ghost use Rattle.jos_elf.specs.Written.{elf_header, program_header, headers_len, image_of, written, AreParts, Holds};
 
 use crate::image::Segment;
-use std::alloc::{AllocError, Global};
+use jos_base::NoMemory;
+use std::alloc::Global;
 
 /// A run of memory and the bytes that begin it.
 #[derive(Clone, Copy, Debug, Default, PartialEq, Eq)]
@@ -65,7 +66,7 @@ fn program_header(segment: Segment) -> [u8; 32]
 /// Writes an image of these parts as a file that `parse` reads: the headers, and behind them all of the bytes.
 ///
 /// The whole file must have fewer than 2^32 bytes, as `parse` asks of it.
-pub fn write(alloc: Global, entry: u32, parts: &[Part], bytes: &[u8]) -> Result<Vec<u8>, AllocError>
+pub fn write(alloc: Global, entry: u32, parts: &[Part], bytes: &[u8]) -> Result<Vec<u8>, NoMemory>
     requires lawful { AreParts parts.now bytes.now }
     requires small { headers_len parts.now + length bytes.now < 2 ^ 32 }
     ensures exact { IfOk result (λ file. file.items ≡ written entry parts.now bytes.now) }

@@ -1,0 +1,48 @@
+-- Each program has no fault.
+use Rattle.std.proofs.Common.{◌≡◌, ℕ, ◌<◌, Bool, true, false, List, length, Some, None, Ok, Result, refl, sym, ◌∙◌, subst, cond, arith}
+use Rattle.std.specs.Prelude.{codes, IsTrue, IsOk}
+use Rattle.std.specs.Str.{bytes_eq}
+use Rattle.std.proofs.lemmas.Bool.{lt-ltb}
+use Rattle.jos_isa.specs.OpcodeMap.{form_at, entry_at, from_b0}
+use Rattle.jos_isa.specs.Placement.{opcode_of, form_in}
+use Rattle.jos_isa.specs.Lawful.{is_numbered, is_named, is_immediate, fits_form, form_for, is_lawful}
+use Rattle.jos_isa.specs.Writing.{written, immediate_bytes, opcode_bytes, form_bytes}
+use Rattle.jos_asm.specs.declared.fault.AsmFault.{AsmFault}
+use Rattle.jos_asm.specs.Program.{Program, finished, length_of_all, place_from, first_twice, first_unknown, first_far, spelled_from}
+use Rattle.jos_demo.specs.Code.{int}
+use Rattle.jos_demo.specs.Programs.{xhello, named}
+
+pub lawful_int : (vector : ℕ) → vector < 256 → IsTrue (is_lawful (int vector))
+unfolding is_lawful is_numbered is_named fits_form form_for form_in opcode_of entry_at form_at from_b0 is_immediate
+lawful_int vector small = lt-ltb vector 256 small
+
+abbrev ok : List ℕ → Result (List ℕ) AsmFault
+ok = Ok
+
+-- the program has code
+abbrev pub HasCode : Program → Type 0
+HasCode p = (code : List ℕ) × (finished p ≡ Ok code) × (0 < length code)
+
+xhello_code : HasCode xhello
+unfolding xhello finished length_of_all place_from first_twice first_unknown first_far spelled_from written opcode_bytes form_bytes immediate_bytes form_for form_in opcode_of entry_at form_at from_b0
+xhello_code = (_, refl, omega arith)
+
+pub named_code : (name : List ℕ) (p : Program) → named name ≡ Some p → HasCode p
+unfolding named
+named_code name p = go (bytes_eq name (codes "xhello"))
+  where
+    some : (a b : Program) → Some a ≡ Some b → a ≡ b
+    some a b e = cc
+
+    go : (b : Bool) → cond b (Some xhello) None ≡ Some p → HasCode p
+    go true e = subst HasCode (some xhello p e) xhello_code
+    go false e = absurd cc
+
+pub code_is_ok : (p : Program) → HasCode p → IsOk (finished p)
+code_is_ok p h = rw h.1 refl
+
+pub code_some : (p : Program) (code : List ℕ) → HasCode p → finished p ≡ Ok code → 0 < length code
+code_some p code h is = rw (same (h.0) code (sym h.1 ∙ is)) h.2
+  where
+    same : (a b : List ℕ) → ok a ≡ ok b → b ≡ a
+    same a b e = cc

@@ -1,0 +1,5 @@
+use Rattle.jos_demo.proofs.Named.{lawful_int}
+use Rattle.jos_demo.proofs.code.int.Goals as goal
+
+pub returns-clause-lawful : goal.returns-clause-lawful
+returns-clause-lawful c = lawful_int c.args.vector c.ranges.vector.fits

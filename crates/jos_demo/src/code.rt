@@ -1,0 +1,70 @@
+//! Instructions that programs are made of, and the image of a program.
+
+ghost use Rattle.std.specs.Prelude.{◌≡◌, ◌<◌, ◌≤◌, ◌^◌, IsTrue, IfOk, [], ◌∷◌, length};
+ghost use Rattle.jos_isa.specs.Lawful.{is_lawful};
+ghost use Rattle.jos_elf.specs.Written.{written};
+ghost use Rattle.jos_demo.specs.Code.{mov, int, image};
+
+use jos_base::NoMemory;
+use jos_elf::{Part, write};
+use jos_isa::{Insn, Operand, Repeat, Row};
+use std::alloc::Global;
+
+/// Where programs begin. (MIT 6.828, user/user.ld)
+pub(crate) const TEXT: u32 = 0x0080_0020;
+
+/// The number of EAX.
+pub(crate) const EAX: u8 = 0;
+
+/// The number of ECX.
+pub(crate) const ECX: u8 = 1;
+
+/// The number of EDX.
+pub(crate) const EDX: u8 = 2;
+
+/// A move of a number into a register.
+pub(crate) fn mov(reg: u8, value: u32) -> Insn
+    requires { reg < 8 }
+    ensures value { result ≡ mov reg value }
+    ensures lawful { IsTrue (is_lawful result) }
+{
+    Insn {
+        row: Row::MovR32Imm32,
+        repeat: Repeat::Once,
+        operand: Operand::Absent,
+        reg,
+        imm: value,
+    }
+}
+
+/// An interrupt.
+pub(crate) fn int(vector: u8) -> Insn
+    ensures value { result ≡ int vector }
+    ensures lawful { IsTrue (is_lawful result) }
+{
+    Insn {
+        row: Row::IntImm8,
+        repeat: Repeat::Once,
+        operand: Operand::Absent,
+        reg: 0,
+        imm: vector as u32,
+    }
+}
+
+/// The image of code that begins at `TEXT` and starts with its first byte.
+#[tactic(auto, unfolding(crate::specs::Code::image))]
+pub(crate) fn image(alloc: Global, code: &[u8]) -> Result<Vec<u8>, NoMemory>
+    requires some { 0 < length code.now }
+    requires small { length code.now ≤ 1048576 }
+    ensures { IfOk result (λ file. file.items ≡ image code.now) }
+{
+    let len = code.len() as u32;
+    let part = Part {
+        va: TEXT,
+        at: 0,
+        len,
+        mem_len: len,
+        writable: false,
+    };
+    write(alloc, TEXT, &[part], code)
+}
