@@ -4,3 +4,4 @@ pub mod ToldBytes
 pub mod Runs
 pub mod Outcomes
 pub mod Tops
+pub mod FilesWritten

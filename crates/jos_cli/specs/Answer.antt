@@ -1,7 +1,6 @@
 -- What the program answers, where nothing fails, as a function of its words and of the files; and what its
 -- outcome says of that. Refusals are tried in the order in which they stand. (This system's own.)
-use Rattle.std.specs.Prelude.{◌≡◌, ℕ, ◌&&◌, nat_lt, nat_le, ◌+◌, not, Bool, false, ◌==◌, List, [], ◌∷◌, length, Option, Some, None, Result, Ok, Err, codes, if◌then◌else◌}
-use Rattle.std.specs.Str.{bytes_eq}
+use Rattle.std.specs.Prelude.{◌≡◌, ℕ, nat_lt, nat_le, ◌+◌, Bool, List, [], ◌∷◌, length, Option, Some, None, Result, Ok, Err, if◌then◌else◌}
 use Rattle.jos_host.specs.Files.{Files}
 use Rattle.jos_host.specs.Told.{Rose}
 use Rattle.jos_base.specs.Words.{page_offset}
@@ -18,23 +17,12 @@ use Rattle.jos_cli.specs.declared.outcome.Which.TheVariants as which
 use Rattle.jos_cli.specs.declared.outcome.Form.{Form}
 use Rattle.jos_cli.specs.declared.outcome.Form.TheVariants as form
 use Rattle.jos_cli.specs.declared.outcome.Outcome.{Outcome}
-use Rattle.jos_cli.specs.declared.outcome.Outcome.TheVariants.{Ran, Usage, Absent, Limit, BadImage, HostFault, NoMemory, Unbuilt}
+use Rattle.jos_cli.specs.declared.outcome.Outcome.TheVariants.{Ran, Usage, Absent, Limit, BadImage, HostFault, NoMemory, Unbuilt, Made}
 use Rattle.jos_cli.specs.declared.kernel.Kernel.{Kernel}
 use Rattle.jos_cli.specs.Meanings.{Gains, GainsPart}
 use Rattle.jos_cli.specs.ExoRun.{exo_run}
 use Rattle.jos_cli.specs.ExoRun as run
-
--- THE WORDS
-
--- a word that begins with `-` and is longer
-abbrev pub is_option : List ℕ → Bool
-is_option (first ∷ second ∷ rest) = first == 45
-is_option _ = false
-
--- the image that is to be run: the words are `exo` and one name, which is no option
-abbrev pub command_of : List (List ℕ) → Option (List ℕ)
-command_of (command ∷ name ∷ []) = if bytes_eq command (codes "exo") && not (is_option name) then Some name else None
-command_of _ = None
+use Rattle.jos_cli.specs.Commands.{Command, exo, demo, program_file}
 
 -- THE ANSWER
 
@@ -56,12 +44,15 @@ pub data Answer : Type 0 where
   bad_image : ℕ → ElfFault → Answer
   unbuilt : Form → Answer
   ran : Reported → Answer
+  -- the number of bytes that are written
+  made : ℕ → Answer
 
 -- the answer, and what comes to the console before it
 pub record Expected : Type 0 where
   pub answer : Answer
   pub console : List ℕ
 
+-- an answer with nothing on the console
 abbrev pub refused : Answer → Expected
 refused answer = record { answer = answer; console = [] }
 
@@ -99,12 +90,8 @@ expected_of_file None = refused (absent 1)
 expected_of_file (Some file) =
     if nat_lt 16777216 (length file) then refused (limit which.Image) else expected_of_image file (parsed file)
 
-abbrev pub expected_of_command : Option (List ℕ) → Files → Expected
-expected_of_command None files = refused usage
-expected_of_command (Some name) files = expected_of_file (files name)
-
-abbrev pub expected : List (List ℕ) → Files → Expected
-expected words files = expected_of_command (command_of words) files
+abbrev pub expected_of_program : List ℕ → Expected
+expected_of_program program = refused (made (length (program_file program)))
 
 -- THE OUTCOME
 
@@ -131,6 +118,7 @@ IsAnswer (Absent word) answer = answer ≡ absent word
 IsAnswer (Limit which) answer = answer ≡ limit which
 IsAnswer (BadImage word fault) answer = answer ≡ bad_image word fault
 IsAnswer (Unbuilt form) answer = answer ≡ unbuilt form
+IsAnswer (Made bytes) answer = answer ≡ made bytes
 IsAnswer (HostFault stopped) answer = ⊥
 IsAnswer NoMemory answer = ⊥
 
@@ -141,10 +129,12 @@ Answers e (HostFault stopped) old new = GainsPart old new e.console
 Answers e NoMemory old new = new ≡ old
 Answers e outcome old new = IsAnswer outcome e.answer × Gains old new e.console
 
--- the same where the host tells its files
-abbrev pub AnswersTold : Option Files → List (List ℕ) → Outcome → Option (List ℕ) → Option (List ℕ) → Type 0
-AnswersTold None words outcome old new = Unit {0}
-AnswersTold (Some files) words outcome old new = Answers (expected words files) outcome old new
+-- The same for a command; of a run, where the host tells its files.
+abbrev pub AnswersCommand : Option Files → Option Command → Outcome → Option (List ℕ) → Option (List ℕ) → Type 0
+AnswersCommand told None outcome old new = Answers (refused usage) outcome old new
+AnswersCommand None (Some (exo image)) outcome old new = Unit {0}
+AnswersCommand (Some files) (Some (exo image)) outcome old new = Answers (expected_of_file (files image)) outcome old new
+AnswersCommand told (Some (demo program file)) outcome old new = Answers (expected_of_program program) outcome old new
 
 -- A failed call of the host is the answer only where the count of its faults rose, and every other answer leaves
 -- the count. What is handed out beside it is empty.
@@ -156,15 +146,16 @@ HasOutcomeCause before now (Absent word) = now ≡ before
 HasOutcomeCause before now (Limit which) = now ≡ before
 HasOutcomeCause before now (BadImage word fault) = now ≡ before
 HasOutcomeCause before now (Unbuilt form) = now ≡ before
+HasOutcomeCause before now (Made bytes) = now ≡ before
 HasOutcomeCause before now NoMemory = now ≡ before
 
 -- the words alone decide this answer, whatever the host tells
-abbrev pub IsUsageCase : Option (List ℕ) → Outcome → Type 0
+abbrev pub IsUsageCase : Option Command → Outcome → Type 0
 IsUsageCase None Usage = Unit {0}
 IsUsageCase None (HostFault stopped) = Unit {0}
 IsUsageCase None _ = ⊥
-IsUsageCase (Some name) Usage = ⊥
-IsUsageCase (Some name) _ = Unit {0}
+IsUsageCase (Some command) Usage = ⊥
+IsUsageCase (Some command) _ = Unit {0}
 
 -- it was run, or there was no memory to begin with, or something in it is not built yet
 abbrev pub IsRunCase : Outcome → Type 0
@@ -172,6 +163,12 @@ IsRunCase (Ran report) = Unit {0}
 IsRunCase NoMemory = Unit {0}
 IsRunCase (Unbuilt form) = Unit {0}
 IsRunCase _ = ⊥
+
+-- it was written, or there was no memory to begin with
+abbrev pub IsMadeCase : Outcome → Type 0
+IsMadeCase (Made bytes) = Unit {0}
+IsMadeCase NoMemory = Unit {0}
+IsMadeCase _ = ⊥
 
 -- there was no memory to begin with
 abbrev pub IsMemoryCase : Outcome → Type 0

@@ -4,7 +4,10 @@ pub mod OnePage
 pub mod Meanings
 pub mod ExoRun
 pub mod Progress
+pub mod Commands
+pub mod Asked
 pub mod Answer
+pub mod FilesLeft
 pub mod Notes
 pub mod Reading
 pub mod Statuses

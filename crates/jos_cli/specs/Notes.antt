@@ -10,7 +10,7 @@ use Rattle.jos_cli.specs.declared.outcome.Which.TheVariants as which
 use Rattle.jos_cli.specs.declared.outcome.Form.{Form}
 use Rattle.jos_cli.specs.declared.outcome.Form.TheVariants as form
 use Rattle.jos_cli.specs.declared.outcome.Outcome.{Outcome}
-use Rattle.jos_cli.specs.declared.outcome.Outcome.TheVariants.{Ran, Usage, Absent, Limit, BadImage, HostFault, NoMemory, Unbuilt}
+use Rattle.jos_cli.specs.declared.outcome.Outcome.TheVariants.{Ran, Usage, Absent, Limit, BadImage, HostFault, NoMemory, Unbuilt, Made}
 use Rattle.jos_cli.specs.Meanings.{Gains}
 
 abbrev pub end_text : End → List ℕ
@@ -51,6 +51,7 @@ note_text (BadImage word fault) = codes ": bad image: " ++ fault_text fault ++ c
 note_text (HostFault stopped) = codes "host fault\n"
 note_text NoMemory = codes "out of memory\n"
 note_text (Unbuilt form) = form_text form
+note_text (Made bytes) = codes "made " ++ decimal bytes ++ codes "\n"
 
 -- the word that begins the line, if one does
 abbrev pub word_in_note : List (List ℕ) → Outcome → List ℕ

@@ -3,7 +3,7 @@ use Rattle.std.specs.Prelude.{ℕ}
 use Rattle.jos_cli.specs.declared.outcome.End.{End}
 use Rattle.jos_cli.specs.declared.outcome.End.TheVariants.{Done, Stuck, Budget, TurnsFull}
 use Rattle.jos_cli.specs.declared.outcome.Outcome.{Outcome}
-use Rattle.jos_cli.specs.declared.outcome.Outcome.TheVariants.{Ran, Usage, Absent, Limit, BadImage, HostFault, NoMemory, Unbuilt}
+use Rattle.jos_cli.specs.declared.outcome.Outcome.TheVariants.{Ran, Usage, Absent, Limit, BadImage, HostFault, NoMemory, Unbuilt, Made}
 
 abbrev pub end_status : End → ℕ
 end_status Done = 0
@@ -20,3 +20,4 @@ status_of (BadImage word fault) = 4
 status_of (HostFault stopped) = 7
 status_of NoMemory = 8
 status_of (Unbuilt form) = 14
+status_of (Made bytes) = 0

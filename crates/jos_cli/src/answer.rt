@@ -1,21 +1,26 @@
 //! The top call.
 
-ghost use Rattle.std.specs.Prelude.{◌≡◌, ◌≢◌, ℕ, ◌<◌, ◌≤◌, ◌^◌, [], ◌∷◌, ⊤, Ok, List, MatchOption, length, map, Option, Some};
+ghost use Rattle.std.specs.Prelude.{◌≡◌, ◌≢◌, ℕ, ◌<◌, ◌≤◌, ◌^◌, [], ◌∷◌, ⊤, Ok, List, MatchOption, length, map, Option, Some, IsSome};
 ghost use Rattle.jos_host.specs.Files.{Files};
 ghost use Rattle.jos_host.specs.Told.{Rose};
 ghost use Rattle.jos_elf.specs.Layout.{Layout};
 ghost use Rattle.jos_elf.specs.Parsed.{parsed, Lies};
 ghost use Rattle.jos_cli.specs.OnePage.{IsOnePage};
 ghost use Rattle.jos_cli.specs.ExoRun.{exo_run};
-ghost use Rattle.jos_cli.specs.Answer.{command_of, expected_of_run, expected_of_segments, expected_of_image, expected_of_file, Answers, AnswersTold, HasOutcomeCause, IsUsageCase, IsRunCase, IsMemoryCase};
+ghost use Rattle.jos_demo.specs.Programs.{file_of};
+ghost use Rattle.jos_cli.specs.Commands.{exo, demo, command_of};
+ghost use Rattle.jos_cli.specs.Answer.{expected_of_run, expected_of_segments, expected_of_image, expected_of_file, expected_of_program, Answers, AnswersCommand, HasOutcomeCause, IsUsageCase, IsRunCase, IsMadeCase, IsMemoryCase};
+ghost use Rattle.jos_cli.specs.FilesLeft.{LeavesProgram, Leaves};
 ghost use Rattle.jos_cli.specs.Notes.{IsNoted};
 
-use crate::command::image_name;
+use crate::command::{Command, read_command};
 use crate::image_file::{FileFault, read_file};
 use crate::kernel::Kernel;
 use crate::notes::write_note;
 use crate::outcome::{Form, Outcome, Stopped, Which};
+use crate::program_file::write_file;
 use crate::space::PAGE_LEN;
+use jos_demo::program;
 use jos_elf::{Segment, parse};
 use jos_host::Host;
 use std::alloc::Global;
@@ -26,14 +31,14 @@ const BUDGET: u32 = 1_000_000;
 /// The place of the image's name among the words.
 const NAME_WORD: u32 = 1;
 
-/// Does what the words ask: `exo IMAGE` runs the image. The words are those behind the program's name. Each
+/// Does what the words ask: `exo IMAGE` runs the image, and `demo NAME FILE` writes an example program. The words are those behind the program's name. Each
 /// answer has its note, one line; where a call of the host fails, the note `host fault` is tried once.
 ///
 /// (The lines and limits are in `docs/commands.md`.)
 pub fn top<'a, H: Host>(alloc: Global, words: &'a [&'a str], host: &mut H) -> Outcome
     // Where the host tells its files, the answer and the console are what they and the words decide; where a
     // call of the host failed, the console has a part of that.
-    ensures answer { AnswersTold (H.files host.old) (map (λ w. w.now) words.now) result (H.console host.old) (H.console host.new) }
+    ensures answer { AnswersCommand (H.files host.old) (command_of (map (λ w. w.now) words.now)) result (H.console host.old) (H.console host.new) }
     // The note is the line of the answer.
     ensures notes { IsNoted (map (λ w. w.now) words.now) result (H.notes host.old) (H.notes host.new) }
 
@@ -42,11 +47,14 @@ pub fn top<'a, H: Host>(alloc: Global, words: &'a [&'a str], host: &mut H) -> Ou
     ensures cause { HasOutcomeCause (H.faults host.old) (H.faults host.new) result }
     // A file that is there, not too long and an image is run, unless a call of the host fails.
     ensures complete { (files : Files) (name file : List ℕ) (image : Layout) →
-        H.files host.old ≡ Some files → command_of (map (λ w. w.now) words.now) ≡ Some name → files name ≡ Some file →
+        H.files host.old ≡ Some files → command_of (map (λ w. w.now) words.now) ≡ Some (exo name) → files name ≡ Some file →
         length file ≤ 16777216 → parsed file ≡ Ok image → (Rose (H.faults host.old) (H.faults host.new) → ⊥) → IsRunCase result }
+    // An example program is written, unless a call of the host fails.
+    ensures made { (name file : List ℕ) → command_of (map (λ w. w.now) words.now) ≡ Some (demo name file) →
+        (Rose (H.faults host.old) (H.faults host.new) → ⊥) → IsMadeCase result }
 
-    // Every name keeps its bytes, and no input is read.
-    ensures files { H.files host.new ≡ H.files host.old }
+    // Every name keeps its bytes but the one that `demo` writes, which has those of the program; no input is read.
+    ensures files { Leaves (H.files host.old) (command_of (map (λ w. w.now) words.now)) result (H.files host.new) }
     ensures input { H.input host.new ≡ H.input host.old }
 {
     let outcome = answer_words(alloc, words, host);
@@ -157,17 +165,38 @@ fn run_named<H: Host>(alloc: Global, name: &str, host: &mut H) -> Outcome
     }
 }
 
+/// Writes the file of an example program.
+fn write_program<H: Host>(alloc: Global, name: &str, file: &str, host: &mut H) -> Outcome
+    requires { IsSome (file_of name.now) }
+    ensures told { Answers (expected_of_program name.now) result (H.console host.old) (H.console host.new) }
+    ensures files { LeavesProgram (H.files host.old) name.now file.now result (H.files host.new) }
+    ensures input { H.input host.new ≡ H.input host.old }
+    ensures notes { H.notes host.new ≡ H.notes host.old }
+    ensures cause { HasOutcomeCause (H.faults host.old) (H.faults host.new) result }
+    ensures no_usage { result ≢ Outcome.Usage }
+{
+    match program(alloc, name) {
+        Ok(Some(bytes)) => match write_file(file, &bytes, host) {
+            Ok(()) => Outcome::Made(bytes.len() as u64),
+            Err(_) => Outcome::HostFault(Stopped::at_no_turn(alloc)),
+        },
+        Ok(None) => unreachable!(),
+        Err(_) => Outcome::NoMemory,
+    }
+}
+
 /// Does what the words ask, but for the note.
 fn answer_words<H: Host>(alloc: Global, words: &[&str], host: &mut H) -> Outcome
-    ensures told { AnswersTold (H.files host.old) (map (λ w. w.now) words.now) result (H.console host.old) (H.console host.new) }
+    ensures told { AnswersCommand (H.files host.old) (command_of (map (λ w. w.now) words.now)) result (H.console host.old) (H.console host.new) }
     ensures usage { IsUsageCase (command_of (map (λ w. w.now) words.now)) result }
-    ensures files { H.files host.new ≡ H.files host.old }
+    ensures files { Leaves (H.files host.old) (command_of (map (λ w. w.now) words.now)) result (H.files host.new) }
     ensures input { H.input host.new ≡ H.input host.old }
     ensures notes { H.notes host.new ≡ H.notes host.old }
     ensures cause { HasOutcomeCause (H.faults host.old) (H.faults host.new) result }
 {
-    match image_name(words) {
-        Some(name) => run_named(alloc, name, host),
+    match read_command(words) {
+        Some(Command::Exo(image)) => run_named(alloc, image, host),
+        Some(Command::Demo(name, file)) => write_program(alloc, name, file, host),
         None => Outcome::Usage,
     }
 }

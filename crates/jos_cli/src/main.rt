@@ -7,8 +7,10 @@
 //! the whole run.
 #![tactic(auto)]
 
-ghost use Rattle.std.specs.Prelude.{◌≡◌};
+ghost use Rattle.std.specs.Prelude.{◌≡◌, ℕ, List};
 ghost use Rattle.jos_cli.specs.Answer.{HasOutcomeCause};
+ghost use Rattle.jos_cli.specs.Commands.{command_of};
+ghost use Rattle.jos_cli.specs.FilesLeft.{Leaves};
 
 mod answer;
 mod command;
@@ -18,6 +20,7 @@ mod kernel;
 mod lines;
 mod notes;
 mod outcome;
+mod program_file;
 mod space;
 mod stepping;
 mod system_calls;
@@ -32,7 +35,8 @@ use std::{env, io};
 /// Does what the command line asks. A word that is no text makes the words no command.
 fn run_words<R: Env + AllocGlobal, H: Host>(rt: &R, host: &mut H) -> Outcome
     ensures cause { HasOutcomeCause (H.faults host.old) (H.faults host.new) result }
-    ensures files { H.files host.new ≡ H.files host.old }
+    // There are words, and no file is left otherwise than they ask.
+    ensures files { (words : List (List ℕ)) × Leaves (H.files host.old) (command_of words) result (H.files host.new) }
     ensures input { H.input host.new ≡ H.input host.old }
 {
     let mut arguments = match env::args(rt) {

@@ -89,6 +89,15 @@ fn bad_image_line(fault: ElfFault) -> Line
     line
 }
 
+fn made_line(bytes: u64) -> Line
+    ensures { result.items ≡ codes "made " ++ decimal bytes ++ codes "\n" }
+{
+    let mut line = text_line(b"made ");
+    push_decimal(&mut line, bytes);
+    push_text(&mut line, b"\n");
+    line
+}
+
 /// The line, but for the word that begins it.
 fn note_line(outcome: &Outcome) -> Line
     ensures { result.items ≡ note_text outcome.now }
@@ -102,6 +111,7 @@ fn note_line(outcome: &Outcome) -> Line
         Outcome::HostFault(_) => text_line(b"host fault\n"),
         Outcome::NoMemory => text_line(b"out of memory\n"),
         Outcome::Unbuilt(Form::Image) => text_line(b"unbuilt: image\n"),
+        Outcome::Made(bytes) => made_line(*bytes),
     }
 }
 

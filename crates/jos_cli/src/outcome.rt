@@ -93,6 +93,8 @@ pub enum Outcome {
     NoMemory,
     /// Something is not built yet.
     Unbuilt(Form),
+    /// A file is written, of so many bytes.
+    Made(u64),
 }
 
 impl Stopped {
@@ -129,6 +131,7 @@ impl Outcome {
             Outcome::HostFault(_) => 7,
             Outcome::NoMemory => 8,
             Outcome::Unbuilt(_) => 14,
+            Outcome::Made(_) => 0,
         }
     }
 }

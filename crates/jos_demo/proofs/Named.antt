@@ -1,6 +1,6 @@
 -- Each program has no fault.
-use Rattle.std.proofs.Common.{◌≡◌, ℕ, ◌<◌, Bool, true, false, List, length, Some, None, Ok, Result, refl, sym, ◌∙◌, subst, cond, arith}
-use Rattle.std.specs.Prelude.{codes, IsTrue, IsOk}
+use Rattle.std.proofs.Common.{◌≡◌, ℕ, ◌<◌, Bool, true, false, List, length, Some, None, Ok, Result, refl, sym, ap, ◌∙◌, subst, cond, arith}
+use Rattle.std.specs.Prelude.{codes, is_some, IsTrue, IsOk}
 use Rattle.std.specs.Str.{bytes_eq}
 use Rattle.std.proofs.lemmas.Bool.{lt-ltb}
 use Rattle.jos_isa.specs.OpcodeMap.{form_at, entry_at, from_b0}
@@ -10,7 +10,7 @@ use Rattle.jos_isa.specs.Writing.{written, immediate_bytes, opcode_bytes, form_b
 use Rattle.jos_asm.specs.declared.fault.AsmFault.{AsmFault}
 use Rattle.jos_asm.specs.Program.{Program, finished, length_of_all, place_from, first_twice, first_unknown, first_far, spelled_from}
 use Rattle.jos_demo.specs.Code.{int}
-use Rattle.jos_demo.specs.Programs.{xhello, named}
+use Rattle.jos_demo.specs.Programs.{xhello, named, image_of, file_of_program, file_of}
 
 pub lawful_int : (vector : ℕ) → vector < 256 → IsTrue (is_lawful (int vector))
 unfolding is_lawful is_numbered is_named fits_form form_for form_in opcode_of entry_at form_at from_b0 is_immediate
@@ -46,3 +46,11 @@ code_some p code h is = rw (same (h.0) code (sym h.1 ∙ is)) h.2
   where
     same : (a b : List ℕ) → ok a ≡ ok b → b ≡ a
     same a b e = cc
+
+pub named_file : (name : List ℕ) → bytes_eq name (codes "xhello") ≡ is_some (file_of name)
+unfolding file_of named
+named_file name = go (bytes_eq name (codes "xhello"))
+  where
+    go : (b : Bool) → b ≡ is_some (file_of_program (cond b (Some xhello) None))
+    go true = ap (λ answer. is_some (image_of answer)) (sym xhello_code.1)
+    go false = refl

@@ -10,4 +10,4 @@ mod programs;
 #[cfg(test)]
 mod tests;
 
-pub use programs::program;
+pub use programs::{is_program, program};

@@ -1,6 +1,6 @@
 //! The programs.
 
-ghost use Rattle.std.specs.Prelude.{◌≡◌, ◌≤◌, IfOk, IsOk, Ok, None, length};
+ghost use Rattle.std.specs.Prelude.{◌≡◌, ◌≤◌, IfOk, IsOk, Ok, None, is_some, length};
 ghost use Rattle.std.specs.Option.{option_map};
 ghost use Rattle.jos_asm.specs.Program.{finished};
 ghost use Rattle.jos_asm.specs.Labels.{IsFault};
@@ -48,6 +48,13 @@ fn build(alloc: Global, name: &str) -> Result<Option<Builder>, NoMemory>
     } else {
         Ok(None)
     }
+}
+
+/// Whether a program has this name.
+pub fn is_program(name: &str) -> bool
+    ensures { result ≡ is_some (file_of name.now) }
+{
+    name == "xhello"
 }
 
 /// What is left of the faults of a program that has none.

@@ -1,4 +1,4 @@
-use crate::program;
+use crate::{is_program, program};
 use std::test::Fail;
 
 // As `as` and `ld` of GNU make it: mov eax,0; mov edx,text; mov ecx,6; int 0x30; mov eax,3; mov edx,0; int 0x30.
@@ -13,12 +13,14 @@ const XHELLO: [u8; 119] = [
 
 #[test]
 fn gives_the_file_of_each_name(rt: HostRuntime) -> Result<(), Fail> {
+    assert!(rt; is_program("xhello"));
     let Some(file) = program(rt.alloc(), "xhello")? else {
         panic!(rt; "no program xhello");
     };
     assert_eq!(rt; file.as_slice(), XHELLO.as_slice());
     for name in ["", "xhell", "xhello ", "XHELLO", "hello"] {
         assert!(rt; program(rt.alloc(), name)?.is_none(), "{name}");
+        assert!(rt; !is_program(name), "{name}");
     }
     Ok(())
 }

@@ -1,0 +1,66 @@
+-- A file that is made and then written from its beginning.
+use Rattle.std.proofs.Common.{◌≡◌, ℕ, ◌+◌, Bool, true, false, List, [], ◌++◌, length, Option, Some, None, Result, Ok, Err, refl, sym, ap, ◌∙◌, subst, cond, append-nil, arith}
+use Rattle.std.specs.Prelude.{unwrap_or, OnOk}
+use Rattle.std.specs.Str.{bytes_eq}
+use Rattle.std.proofs.lemmas.Slice.Eq.{bytes_eq-Decides}
+use Rattle.std.proofs.lemmas.List.{drop_all}
+use Rattle.jos_host.specs.Files.{Files, with_bytes, bytes_of, overwritten}
+use Rattle.jos_host.specs.Told.{Creates, WritesAt}
+use Rattle.jos_cli.specs.declared.outcome.Outcome.{Outcome}
+use Rattle.jos_cli.specs.declared.outcome.Outcome.TheVariants as outcome
+use Rattle.jos_cli.specs.declared.outcome.Stopped.{Stopped}
+use Rattle.jos_cli.specs.Commands.{Command, exo, demo, program_file}
+use Rattle.jos_cli.specs.FilesLeft.{KeepsOthers, told_with, LeavesProgram, Leaves}
+
+itself : (name : List ℕ) → bytes_eq name name ≡ true
+itself name = (bytes_eq-Decides name name).1 refl
+
+from_nothing : (old bytes : List ℕ) → old ≡ [] → overwritten old 0 bytes ≡ bytes
+from_nothing old bytes e = ap (λ l. overwritten l 0 bytes) e ∙ ap (λ l. bytes ++ l) (drop_all (0 + length bytes) [] (omega arith)) ∙ append-nil bytes
+
+with_twice : (files : Files) (name bytes : List ℕ) → with_bytes (with_bytes files name []) name (overwritten (bytes_of (with_bytes files name []) name) 0 bytes) ≡ with_bytes files name bytes
+with_twice files name bytes =
+    let empty : bytes_of (with_bytes files name []) name ≡ [] = ap (λ b. unwrap_or (cond b (Some []) (files name)) []) (itself name) in
+    let is : overwritten (bytes_of (with_bytes files name []) name) 0 bytes ≡ bytes = from_nothing _ bytes empty in
+    λ i q. go (bytes_eq q name) q is i
+  where
+    go : (b : Bool) (q : List ℕ) {new : List ℕ} → new ≡ bytes → cond b (Some new) (cond b (Some []) (files q)) ≡ cond b (Some bytes) (files q)
+    go true q e = ap (λ l. Some l) e
+    go false q e = refl
+
+pub file_written : {E : Type 0} (old mid new : Option Files) (name bytes : List ℕ) (result : Result (Unit {0}) E) (u : Unit {0}) → Creates {E = E} old name (Ok u) mid → WritesAt mid name 0 bytes result new
+    → OnOk result (new ≡ told_with old name bytes)
+file_written {E = E} None mid new name bytes (Ok v) u c w = subst (λ (m : Option Files). WritesAt {E = E} m name 0 bytes (Ok v) new) c w
+file_written {E = E} (Some files) mid new name bytes (Ok v) u c w =
+    subst (λ (m : Option Files). WritesAt {E = E} m name 0 bytes (Ok v) new) c w ∙ ap (λ f. Some f) (with_twice files name bytes)
+file_written old mid new name bytes (Err e) u c w = tt
+
+-- ---- what is left where the note could not be written
+
+keeps_all : (old new : Option Files) (name : List ℕ) → new ≡ old → KeepsOthers old name new
+keeps_all None new name e = e
+keeps_all (Some files) new name e = (files, e, λ q apart. refl)
+
+keeps_others : (old new : Option Files) (name bytes : List ℕ) → new ≡ told_with old name bytes → KeepsOthers old name new
+keeps_others None new name bytes e = e
+keeps_others (Some files) new name bytes e = (with_bytes files name bytes, e, λ q apart. elsewhere q apart (bytes_eq q name) refl)
+  where
+    elsewhere : (q : List ℕ) → (q ≡ name → ⊥) → (b : Bool) → bytes_eq q name ≡ b → cond b (Some bytes) (files q) ≡ files q
+    elsewhere q apart true e = absurd (apart ((bytes_eq-Decides q name).0 e))
+    elsewhere q apart false e = refl
+
+program_fault : (old new : Option Files) (program file : List ℕ) (result : Outcome) → LeavesProgram old program file result new → KeepsOthers old file new
+program_fault old new program file (outcome.Made bytes) h = keeps_others old new file (program_file program) h
+program_fault old new program file (outcome.HostFault stopped) h = h
+program_fault old new program file (outcome.Ran report) h = keeps_all old new file h
+program_fault old new program file outcome.Usage h = keeps_all old new file h
+program_fault old new program file (outcome.Absent word) h = keeps_all old new file h
+program_fault old new program file (outcome.Limit which) h = keeps_all old new file h
+program_fault old new program file (outcome.BadImage word fault) h = keeps_all old new file h
+program_fault old new program file outcome.NoMemory h = keeps_all old new file h
+program_fault old new program file (outcome.Unbuilt form) h = keeps_all old new file h
+
+pub leaves_fault : (old new later : Option Files) (command : Option Command) (result : Outcome) (stopped : Stopped) → Leaves old command result new → later ≡ new → Leaves old command (outcome.HostFault stopped) later
+leaves_fault old new later None result stopped h same = same ∙ h
+leaves_fault old new later (Some (exo image)) result stopped h same = same ∙ h
+leaves_fault old new later (Some (demo program file)) result stopped h same = subst (λ (f : Option Files). KeepsOthers old file f) (sym same) (program_fault old new program file result h)
