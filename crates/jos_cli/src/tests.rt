@@ -138,6 +138,42 @@ fn fails_where_the_host_fails(rt: HostRuntime) -> Result<(), Fail> {
     Ok(())
 }
 
+// The example program is written over what the name had, and runs.
+#[test]
+fn writes_an_example_program(rt: HostRuntime) -> Result<(), Fail> {
+    let mut host = host_with(rt.alloc(), vec![in rt.alloc(); 0xff; 1000]?, &[])?;
+    let outcome = top(rt.alloc(), &["demo", "xhello", "h"], &mut host);
+    assert!(rt; matches!(outcome, Outcome::Made(119)));
+    assert_eq!(rt; outcome.status(), 0);
+    assert_eq!(rt; host.notes(), b"made 119\n".as_slice());
+    assert_eq!(rt; host.console(), b"".as_slice());
+    let outcome = top(rt.alloc(), &["exo", "h"], &mut host);
+    assert_eq!(rt; outcome.status(), 0);
+    assert_eq!(rt; host.console(), b"hello\n".as_slice());
+    assert_eq!(rt;
+        host.notes(),
+        b"made 119\ndone steps 7 turns 1 refused 0 upcalls 0\n".as_slice()
+    );
+    Ok(())
+}
+
+// It makes three calls: the file, its bytes and the note.
+#[test]
+fn fails_where_the_host_writes_no_program(rt: HostRuntime) -> Result<(), Fail> {
+    for (call, len, note) in [
+        (0, Some(32), "host fault\n"),
+        (1, Some(0), "host fault\n"),
+        (2, Some(119), ""),
+    ] {
+        let mut host = host_with(rt.alloc(), Vec::from_slice(rt.alloc(), &HI)?, &[call])?;
+        let outcome = top(rt.alloc(), &["demo", "xhello", "h"], &mut host);
+        assert_eq!(rt; outcome.status(), 7, "call {call}");
+        assert_eq!(rt; host.file("h").map(|bytes| bytes.len()), len, "call {call}");
+        assert_eq!(rt; host.notes(), note.as_bytes(), "call {call}");
+    }
+    Ok(())
+}
+
 // Words, their status and their note.
 #[test]
 fn refuses_words(rt: HostRuntime) -> Result<(), Fail> {
@@ -151,6 +187,10 @@ fn refuses_words(rt: HostRuntime) -> Result<(), Fail> {
         (&["exo", "h", "h"], 1, usage),
         (&["exo", "-h"], 1, usage),
         (&["exo", "--"], 1, usage),
+        (&["demo", "xhello"], 1, usage),
+        (&["demo", "xhello", "-f"], 1, usage),
+        (&["demo", "hello", "f"], 1, usage),
+        (&["demo", "xhello", "f", "f"], 1, usage),
         (&["exo", "absent"], 2, "absent: absent\n"),
         (&["exo", "-"], 2, "-: absent\n"),
         (&["exo", ""], 2, ": absent\n"),
