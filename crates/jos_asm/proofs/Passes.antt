@@ -153,7 +153,6 @@ absent_if : {X : Type 0} (b : Bool) (x : X) → cond b (Some x) None ≡ None �
 absent_if true x h = absurd cc
 absent_if false x h = refl
 
-
 -- the step to a label
 module _ (found later : List ℕ → Option ℕ) (items : List Item) (i at : ℕ) (label : List ℕ) (w : Placed found items i at) (next_is : drop i items ≡ item.Label label ∷ drop (i + 1) items) where
   place_now : (name : List ℕ) → or_later (found name) (cond (bytes_eq label name) (Some at) (place_from (at + 0) (drop (i + 1) items) name)) ≡ place_in items name
@@ -282,7 +281,7 @@ module _ (items : List Item) (i : ℕ) where
   unfolding first_far spelled_from
   written_end base place code end w = (
     sym w.far ∙ ap (first_far place (length code)) (drop_all i items end),
-    sym (append-nil code) ∙ ap (λ l. code ++ spelled_from base place (length code) l) (sym (drop_all i items end)) ∙ w.bytes
+    sym (append-nil code) ∙ ap (λ l. code ++ spelled_from base place (length code) l) (sym (drop_all i items end)) ∙ w.bytes,
   )
 
 pub written_start : (base : ℕ) (place : List ℕ → ℕ) (items : List Item) → Written base place items 0 []

@@ -91,10 +91,7 @@ fn add_label<'a>(
 }
 
 /// Where each label is, in bytes from the beginning.
-fn find_labels<'a>(
-    alloc: Global,
-    items: &'a [Item],
-) -> Result<BTreeMap<&'a str, u32>, AsmFault>
+fn find_labels<'a>(alloc: Global, items: &'a [Item]) -> Result<BTreeMap<&'a str, u32>, AsmFault>
     requires items { All (λ i. IsTrue (is_item i)) items.now }
     requires small { length_of_all items.now ≤ 1048576 }
     ensures labels { IfOk result (λ labels. (name : List ℕ) → labelled labels name ≡ place_in items.now name) }
@@ -140,10 +137,7 @@ fn check_name<'a>(item: &'a Item, labels: &BTreeMap<&'a str, u32>) -> Result<(),
 }
 
 /// Refuses a name that no label has.
-fn check_names<'a>(
-    items: &'a [Item],
-    labels: &BTreeMap<&'a str, u32>,
-) -> Result<(), AsmFault>
+fn check_names<'a>(items: &'a [Item], labels: &BTreeMap<&'a str, u32>) -> Result<(), AsmFault>
     ensures known { OnOk result (first_unknown (labelled labels.now) items.now ≡ None) }
     ensures fault { IfErr result (λ fault. IsFault fault (option_map AsmFault.Unknown (first_unknown (labelled labels.now) items.now))) }
 {
@@ -198,7 +192,13 @@ fn write_insn(insn: &Insn, code: &mut Vec<u8>) -> Result<(), AsmFault>
 }
 
 /// Appends a jump or call to a place, where behind it is `behind`.
-fn write_jump(row: Row, behind: u32, place: u32, name: &Name, code: &mut Vec<u8>) -> Result<(), AsmFault>
+fn write_jump(
+    row: Row,
+    behind: u32,
+    place: u32,
+    name: &Name,
+    code: &mut Vec<u8>,
+) -> Result<(), AsmFault>
     requires row { IsTrue (is_relative row) }
     requires behind { behind ≤ 2097152 }
     requires place { place ≤ 2097152 }

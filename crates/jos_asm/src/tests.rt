@@ -58,8 +58,14 @@ fn backwards(alloc: Global, row: Row, between: &[u8]) -> Result<Vec<u8>, NoMemor
 fn spells_each_jump(rt: HostRuntime) -> Result<(), Fail> {
     let alloc = rt.alloc();
     let nop = [0x90];
-    assert_eq!(rt; both_ways(alloc, Row::JmpRel8, &nop)?.as_slice(), [0xeb, 1, 0x90, 0xeb, 0xfb].as_slice());
-    assert_eq!(rt; both_ways(alloc, Row::JccRel8(4), &nop)?.as_slice(), [0x74, 1, 0x90, 0x74, 0xfb].as_slice());
+    assert_eq!(rt;
+        both_ways(alloc, Row::JmpRel8, &nop)?.as_slice(),
+        [0xeb, 1, 0x90, 0xeb, 0xfb].as_slice()
+    );
+    assert_eq!(rt;
+        both_ways(alloc, Row::JccRel8(4), &nop)?.as_slice(),
+        [0x74, 1, 0x90, 0x74, 0xfb].as_slice()
+    );
     assert_eq!(rt;
         both_ways(alloc, Row::JmpRel32, &nop)?.as_slice(),
         [0xe9, 1, 0, 0, 0, 0x90, 0xe9, 0xf5, 0xff, 0xff, 0xff].as_slice()
@@ -70,7 +76,10 @@ fn spells_each_jump(rt: HostRuntime) -> Result<(), Fail> {
     );
     assert_eq!(rt;
         both_ways(alloc, Row::JccRel32(15), &nop)?.as_slice(),
-        [0x0f, 0x8f, 1, 0, 0, 0, 0x90, 0x0f, 0x8f, 0xf3, 0xff, 0xff, 0xff].as_slice()
+        [
+            0x0f, 0x8f, 1, 0, 0, 0, 0x90, 0x0f, 0x8f, 0xf3, 0xff, 0xff, 0xff
+        ]
+        .as_slice()
     );
     Ok(())
 }
@@ -81,9 +90,15 @@ fn reaches_as_far_as_a_byte(rt: HostRuntime) -> Result<(), Fail> {
     let alloc = rt.alloc();
     let between = [0x90; 128];
     assert!(rt; forwards(alloc, Row::JmpRel8, &between[..127])?.starts_with(&[0xeb, 0x7f, 0x90]));
-    assert_eq!(rt; forwards(alloc, Row::JccRel8(0), &between)?.as_slice(), b"far end".as_slice());
+    assert_eq!(rt;
+        forwards(alloc, Row::JccRel8(0), &between)?.as_slice(),
+        b"far end".as_slice()
+    );
     assert!(rt; backwards(alloc, Row::JccRel8(0), &between[..126])?.ends_with(&[0x90, 0x70, 0x80]));
-    assert_eq!(rt; backwards(alloc, Row::JmpRel8, &between[..127])?.as_slice(), b"far start".as_slice());
+    assert_eq!(rt;
+        backwards(alloc, Row::JmpRel8, &between[..127])?.as_slice(),
+        b"far start".as_slice()
+    );
     assert!(rt; forwards(alloc, Row::CallRel32, &between)?.starts_with(&[0xe8, 0x80, 0, 0, 0]));
     Ok(())
 }
@@ -97,7 +112,10 @@ fn tells_the_first_fault(rt: HostRuntime) -> Result<(), Fail> {
         program.label(name)?;
     }
     program.jump(Row::JmpRel32, "absent")?;
-    assert_eq!(rt; told(alloc, program)?.as_slice(), b"twice second".as_slice());
+    assert_eq!(rt;
+        told(alloc, program)?.as_slice(),
+        b"twice second".as_slice()
+    );
 
     let mut program = Builder::new(alloc, 0);
     program.jump(Row::JmpRel8, "end")?;
@@ -105,7 +123,10 @@ fn tells_the_first_fault(rt: HostRuntime) -> Result<(), Fail> {
     program.label("end")?;
     program.address(0, "absent")?;
     program.jump(Row::JmpRel32, "missing")?;
-    assert_eq!(rt; told(alloc, program)?.as_slice(), b"unknown absent".as_slice());
+    assert_eq!(rt;
+        told(alloc, program)?.as_slice(),
+        b"unknown absent".as_slice()
+    );
     Ok(())
 }
 
@@ -137,6 +158,9 @@ fn places_the_address_of_a_label(rt: HostRuntime) -> Result<(), Fail> {
     program.address(2, "end")?;
     program.insn(ret)?;
     program.label("end")?;
-    assert_eq!(rt; told(rt.alloc(), program)?.as_slice(), [0xba, 2, 0, 0, 0, 0xc3].as_slice());
+    assert_eq!(rt;
+        told(rt.alloc(), program)?.as_slice(),
+        [0xba, 2, 0, 0, 0, 0xc3].as_slice()
+    );
     Ok(())
 }
