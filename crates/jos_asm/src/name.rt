@@ -1,6 +1,6 @@
 //! Names of labels.
 
-ghost use Rattle.std.specs.Prelude.{◌≡◌, ◌≤◌, length};
+ghost use Rattle.std.specs.Prelude.{◌≡◌, ◌≤◌, Some, length};
 
 use arrayvec::ArrayString;
 use std::fmt;
@@ -45,6 +45,8 @@ impl Name {
 }
 
 impl fmt::Display for Name {
+    ghost output = { λ n. Some n };
+
     fn fmt<W: fmt::Write>(&self, f: &mut fmt::Formatter<W>) -> fmt::Result {
         f.pad(self.as_str())
     }
