@@ -2,14 +2,14 @@
 
 ghost use Rattle.std.specs.Prelude.{◌≡◌};
 ghost use Rattle.jos_cpu.specs.Registers.{moved};
-ghost use Rattle.jos_cpu.specs.Effects.{IfRaised};
-ghost use Rattle.jos_cpu.specs.Steps.{Stepped, accesses, done_by, fault_event, executed, step_of};
+ghost use Rattle.jos_cpu.specs.Effects.{IfRaised, form_effect};
+ghost use Rattle.jos_cpu.specs.Steps.{Stepped, fault_event, executed, step_of};
 
 use crate::accesses::{Accesses, Inputs, find_accesses, probe_all, read_inputs, write_outputs};
 use crate::effects::{Outcome, apply};
 use crate::events::{Event, Gates};
 use crate::fetching::{Fetched, fetch};
-use crate::forms::read_form;
+use crate::forms::{Form, read_form};
 use crate::memory::{Mem, MemFault};
 use crate::registers::advance;
 use jos_base::Regs;
@@ -38,8 +38,8 @@ fn event_of(fault: MemFault) -> Event
     }
 }
 
-#[tactic(auto, unfolding(crate::specs::Steps::done_by))]
 fn take_effect(
+    form: Form,
     insn: &Insn,
     len: u32,
     old: &Regs,
@@ -48,33 +48,27 @@ fn take_effect(
     gates: Gates,
 ) -> Outcome
     requires { regs.old ≡ old.now }
-    ensures done { done_by insn.now len old.now inputs.now gates ≡ record { registers = regs.new; value = result.value; event = result.event } }
+    ensures done { form_effect form insn.now old.now (moved old.now len) inputs.now gates ≡ record { registers = regs.new; value = result.value; event = result.event } }
     ensures kept { IfRaised result.event (regs.new ≡ old.now) }
 {
     advance(regs, len);
-    apply(read_form(insn.row), insn, old, regs, inputs, gates)
-}
-
-#[tactic(auto, unfolding(crate::specs::Steps::accesses))]
-fn accesses_at(insn: &Insn, regs: &Regs) -> Accesses
-    ensures { result ≡ accesses insn.now regs.now }
-{
-    find_accesses(read_form(insn.row), insn, regs)
+    apply(form, insn, old, regs, inputs, gates)
 }
 
 /// Executes an instruction that so many bytes spell.
-#[tactic(auto, unfolding(crate::specs::Steps::executed))]
+#[tactic(auto, unfolding(crate::specs::Steps::executed, crate::specs::Steps::accesses, crate::specs::Steps::done_by))]
 fn execute<M: Mem>(insn: &Insn, len: u32, regs: &mut Regs, mem: &mut M, gates: Gates) -> Event
     ensures done { executed M.table insn.now len regs.old mem.old gates ≡ record { regs = regs.new; memory = mem.new; event = result } }
     ensures kept { IfRaised result (regs.new ≡ regs.old) }
 {
-    let reach = accesses_at(insn, regs);
+    let form = read_form(insn.row);
+    let reach = find_accesses(form, insn, regs);
     match probe_all(mem, &reach) {
         Err(fault) => event_of(fault),
         Ok(()) => {
             let inputs = read_inputs(mem, &reach);
             let mut next = *regs;
-            let Outcome { value, event } = take_effect(insn, len, regs, &mut next, &inputs, gates);
+            let Outcome { value, event } = take_effect(form, insn, len, regs, &mut next, &inputs, gates);
             write_outputs(mem, &reach, regs, value);
             *regs = next;
             event
