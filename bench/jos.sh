@@ -1,0 +1,80 @@
+# What the scripts here share, to be sourced with `runs` set: the loops, and how fast the simulator makes their
+# steps. A run has 1,000,000 steps; what it takes to start is measured by a program that ends at once, and taken
+# off.
+
+LC_ALL=C
+export LC_ALL
+here=$(CDPATH='' cd -- "$(dirname -- "$0")/.." && pwd -P)
+program=$here/crates/jos_cli/out/jos_cli
+folder=$(mktemp -d) || exit 1
+trap 'rm -rf "$folder"' EXIT
+
+bytes() {
+    for byte in "$@"; do printf "\\$(printf %o "0x$byte")"; done
+}
+
+loops='sums memory calls strings branches'
+
+# the bytes of a program, which stand at 0x00800054
+code_of() {
+    case $1 in
+        # env_destroy(0)
+        start) echo b8 03 00 00 00 ba 00 00 00 00 cd 30 ;;
+        # add eax,ebx; add eax,edx; mov edx,eax; jmp
+        sums) echo 01 d8 01 d0 89 c2 eb f8 ;;
+        # mov eax,[0x800800]; add eax,1; mov [0x800800],eax; jmp
+        memory) echo a1 00 08 80 00 05 01 00 00 00 a3 00 08 80 00 eb ef ;;
+        # call; jmp; ret
+        calls) echo e8 02 00 00 00 eb f9 c3 ;;
+        # mov ecx,512; mov edi,0x800800; mov esi,0x800400; rep movsb; jmp
+        strings) echo b9 00 02 00 00 bf 00 08 80 00 be 00 04 80 00 f3 a4 eb ed ;;
+        # inc ecx; test cl,1; jz and jnz to the next; jmp
+        branches) echo 41 f6 c1 01 74 00 75 00 eb f6 ;;
+    esac
+}
+
+# image NAME: an ELF file whose one segment, the whole file at 0x00800000, has a page that may be written, and
+# that starts behind its headers
+image() {
+    name=$1
+    # each word is a byte
+    set -- $(code_of "$name")
+    len=$(printf '%02x' $((84 + $#)))
+    {
+        bytes 7f 45 4c 46 01 01 01 00 00 00 00 00 00 00 00 00 02 00 03 00 01 00 00 00 54 00 80 00
+        bytes 34 00 00 00 00 00 00 00 00 00 00 00 34 00 20 00 01 00 00 00 00 00 00 00
+        bytes 01 00 00 00 00 00 00 00 00 00 80 00 00 00 80 00 "$len" 00 00 00 "$len" 00 00 00 07 00 00 00 00 10 00 00
+        bytes "$@"
+    } >"$folder/$name"
+}
+
+now() {
+    date +%s.%N
+}
+
+# the seconds that so many runs of a program take
+jos_seconds() {
+    image "$1"
+    begin=$(now)
+    k=0
+    while [ "$k" -lt "$runs" ]; do
+        "$program" exo "$folder/$1" 2>"$folder/note" >/dev/null
+        k=$((k + 1))
+    done
+    echo "$begin $(now)" | awk '{ print $2 - $1 }'
+}
+
+# the million steps a second of a loop
+jos_speed() {
+    took=$(jos_seconds "$1")
+    case $(cat "$folder/note") in
+        'budget steps 1000000 '*) ;;
+        *) echo "$1: $(cat "$folder/note")" >&2 && return 1 ;;
+    esac
+    echo "$runs $took $jos_start" | awk '{ print $1 / ($2 - $3) }'
+}
+
+# the first run builds the program where it is not there
+image start
+"$here/jos" exo "$folder/start" || exit 1
+jos_start=$(jos_seconds start)
