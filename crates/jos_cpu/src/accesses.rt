@@ -105,6 +105,7 @@ fn at_operand(width: Width, usage: Usage, operand: &Operand, regs: &Regs) -> Acc
     }
 }
 
+#[inline(always)]
 fn at_used_operand(usage: Option<Usage>, width: Width, operand: &Operand, regs: &Regs) -> Accesses
     ensures { result ≡ used_operand usage width operand.now regs.now }
 {

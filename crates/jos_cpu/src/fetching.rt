@@ -1,12 +1,15 @@
 //! Fetching an instruction from memory.
 
-ghost use Rattle.std.specs.Prelude.{◌≡◌};
+ghost use Rattle.std.specs.Prelude.{◌≡◌, ◌≤◌, length};
+ghost use Rattle.jos_isa.specs.Reading.{decoded};
+ghost use Rattle.jos_isa.specs.Laws.{IfFound};
+ghost use Rattle.jos_isa.specs.Lengths.{AreShortBelow};
 ghost use Rattle.jos_cpu.specs.Fetch.{FetchedFrom, Reached, byte_reached, fetched_at};
 
 use crate::memory::{Mem, MemFault};
 use arrayvec::ArrayVec;
 use jos_base::Access;
-use jos_isa::{Decoded, Insn, decode};
+use jos_isa::{Decoded, Insn, decode, least_length};
 
 /// What stands at an address.
 #[derive(Clone, Copy)]
@@ -33,18 +36,36 @@ fn reach_byte<M: Mem>(mem: &mut M, va: u32) -> Result<u8, MemFault>
     }
 }
 
+/// What the bytes begin with. Below the least length, which is found by the first byte, they are not read.
+fn judge(bytes: &[u8], least: &mut usize) -> Decoded
+    requires { AreShortBelow least.old bytes.now }
+    ensures exact { result ≡ decoded bytes.now }
+    ensures short { AreShortBelow least.new bytes.now }
+    ensures within { IfFound result (λ insn len. len ≤ length bytes.now) }
+{
+    if bytes.len() < *least {
+        return Decoded::Short;
+    }
+    *least = least_length(bytes);
+    if bytes.len() < *least {
+        return Decoded::Short;
+    }
+    decode(bytes)
+}
+
 /// Fetches the instruction at an address, one byte after another.
 #[tactic(auto, unfolding(crate::specs::Fetch::fetched_at))]
 pub(crate) fn fetch<M: Mem>(mem: &mut M, ip: u32) -> Fetched
     ensures { fetched_at M.table mem.old ip ≡ record { memory = mem.new; fetched = result } }
 {
     let mut bytes = ArrayVec::<u8, INSTRUCTION_MAX>::new();
+    let mut least = 0;
     for offset in 0..INSTRUCTION_MAX as u32 {
         match reach_byte(mem, ip.wrapping_add(offset)) {
             Ok(byte) => bytes.push(byte),
             Err(fault) => return Fetched::Fault(fault),
         }
-        match decode(bytes.as_slice()) {
+        match judge(bytes.as_slice(), &mut least) {
             Decoded::Found(insn, len) => return Fetched::Instruction(insn, len as u32),
             Decoded::Illegal => return Fetched::Unknown,
             Decoded::Short => {}

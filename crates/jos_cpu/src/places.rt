@@ -50,6 +50,7 @@ fn set_operand(width: Width, operand: &Operand, value: u32, regs: &mut Regs)
 
 /// The number at a place.
 #[tactic(auto, unfolding(crate::specs::Effects::value_at))]
+#[inline(always)]
 pub(crate) fn read_at_place(
     place: Place,
     width: Width,

@@ -81,6 +81,7 @@ fn set_byte_register(regs: &mut Regs, n: u8, value: u32)
 
 /// The register of a width.
 #[tactic(auto, unfolding(crate::specs::Registers::register_at))]
+#[inline(always)]
 pub(crate) fn read_register_at(width: Width, regs: &Regs, n: u8) -> u32
     ensures { result ≡ register_at width regs.now n }
 {
@@ -92,6 +93,7 @@ pub(crate) fn read_register_at(width: Width, regs: &Regs, n: u8) -> u32
 }
 
 #[tactic(auto, unfolding(crate::specs::Registers::with_register_at))]
+#[inline(always)]
 pub(crate) fn set_register_at(width: Width, regs: &mut Regs, n: u8, value: u32)
     ensures { regs.new ≡ with_register_at width regs.old n value }
 {

@@ -68,7 +68,9 @@ fn execute<M: Mem>(insn: &Insn, len: u32, regs: &mut Regs, mem: &mut M, gates: G
         Ok(()) => {
             let inputs = read_inputs(mem, &reach);
             let mut next = *regs;
-            let Outcome { value, event } = take_effect(form, insn, len, regs, &mut next, &inputs, gates);
+            let Outcome { value, event } = take_effect(
+                form, insn, len, regs, &mut next, &inputs, gates,
+            );
             write_outputs(mem, &reach, regs, value);
             *regs = next;
             event

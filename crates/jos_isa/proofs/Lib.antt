@@ -9,3 +9,4 @@ pub mod Places
 pub mod Writers
 pub mod Encodings
 pub mod FoundLawful
+pub mod SureLengths

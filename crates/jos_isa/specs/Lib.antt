@@ -5,3 +5,4 @@ pub mod Placement
 pub mod Lawful
 pub mod Writing
 pub mod Laws
+pub mod Lengths

@@ -1,4 +1,5 @@
-//! The opcode map as code: what stands behind each byte with which an instruction can begin.
+//! The opcode map as code: what stands behind each byte with which an instruction can begin. It is read for the
+//! least length and then for the instruction, and inlined so that each reading makes only what it needs.
 
 ghost use Rattle.std.specs.Prelude.{◌≡◌, None};
 ghost use Rattle.jos_isa.specs.OpcodeMap.{alu_at, from_40, from_70, from_90, from_a0, from_b0, from_d0, from_f0, form_at, entry_at, two_byte_at, operand_size_at, repne_at, rep_at, form_behind, one_of, is_shift, shift_of, only_first, unary_f6, unary_f7, step_fe, step_ff, of_group, choice_of};
@@ -91,6 +92,7 @@ pub(crate) struct Choice {
 
 /// 00 to 3F: eight operations, each in six forms.
 #[tactic(auto, unfolding(crate::specs::OpcodeMap::alu_at))]
+#[inline(always)]
 fn alu_form(opcode: u8) -> Option<Form>
     ensures { result ≡ alu_at opcode }
 {
@@ -112,6 +114,7 @@ fn alu_form(opcode: u8) -> Option<Form>
 
 /// 40 to 6F.
 #[tactic(auto, unfolding(crate::specs::OpcodeMap::from_40))]
+#[inline(always)]
 fn form_from_40(opcode: u8) -> Option<Form>
     ensures { result ≡ from_40 opcode }
 {
@@ -152,6 +155,7 @@ fn form_from_40(opcode: u8) -> Option<Form>
 
 /// 70 to 8F.
 #[tactic(auto, unfolding(crate::specs::OpcodeMap::from_70))]
+#[inline(always)]
 fn form_from_70(opcode: u8) -> Option<Form>
     ensures { result ≡ from_70 opcode }
 {
@@ -181,6 +185,7 @@ fn form_from_70(opcode: u8) -> Option<Form>
 
 /// 90 to 9F.
 #[tactic(auto, unfolding(crate::specs::OpcodeMap::from_90))]
+#[inline(always)]
 fn form_from_90(opcode: u8) -> Option<Form>
     ensures { result ≡ from_90 opcode }
 {
@@ -202,6 +207,7 @@ fn form_from_90(opcode: u8) -> Option<Form>
 
 /// A0 to AF.
 #[tactic(auto, unfolding(crate::specs::OpcodeMap::from_a0))]
+#[inline(always)]
 fn form_from_a0(opcode: u8) -> Option<Form>
     ensures { result ≡ from_a0 opcode }
 {
@@ -228,6 +234,7 @@ fn form_from_a0(opcode: u8) -> Option<Form>
 
 /// B0 to CF.
 #[tactic(auto, unfolding(crate::specs::OpcodeMap::from_b0))]
+#[inline(always)]
 fn form_from_b0(opcode: u8) -> Option<Form>
     ensures { result ≡ from_b0 opcode }
 {
@@ -259,6 +266,7 @@ fn form_from_b0(opcode: u8) -> Option<Form>
 
 /// D0 to EF.
 #[tactic(auto, unfolding(crate::specs::OpcodeMap::from_d0))]
+#[inline(always)]
 fn form_from_d0(opcode: u8) -> Option<Form>
     ensures { result ≡ from_d0 opcode }
 {
@@ -284,6 +292,7 @@ fn form_from_d0(opcode: u8) -> Option<Form>
 
 /// F0 to FF.
 #[tactic(auto, unfolding(crate::specs::OpcodeMap::from_f0))]
+#[inline(always)]
 fn form_from_f0(opcode: u8) -> Option<Form>
     ensures { result ≡ from_f0 opcode }
 {
@@ -306,6 +315,7 @@ fn form_from_f0(opcode: u8) -> Option<Form>
 
 /// An instruction whose opcode is one byte.
 #[tactic(auto, unfolding(crate::specs::OpcodeMap::form_at))]
+#[inline(always)]
 fn form_of(opcode: u8) -> Option<Form>
     ensures { result ≡ form_at opcode }
 {
@@ -323,6 +333,7 @@ fn form_of(opcode: u8) -> Option<Form>
 
 /// What the first byte begins.
 #[tactic(auto, unfolding(crate::specs::OpcodeMap::entry_at))]
+#[inline(always)]
 pub(crate) fn entry_of(byte: u8) -> Entry
     ensures { result ≡ entry_at byte }
 {

@@ -6,7 +6,7 @@ mod texts;
 ghost use Rattle.std.specs.Prelude.{◌<◌, ◌≤◌};
 
 use crate::{
-    Decoded, Disp, Insn, MemArg, Operand, Repeat, Row, decode, encode, lawful,
+    Decoded, Disp, Insn, MemArg, Operand, Repeat, Row, decode, encode, lawful, least_length,
     no_spelling_begins_another,
 };
 use std::process::Abort;
@@ -55,6 +55,7 @@ fn finds(rt: &impl Abort, text: &str, want: usize) {
         panic!(rt; "{text} is not found");
     };
     assert_eq!(rt; found, want, "of {text}");
+    assert!(rt; least_length(&bytes[..1]) <= want, "of {text}");
     for end in 0..want {
         answer(rt, &bytes[..end], Decoded::Short);
     }
@@ -441,4 +442,21 @@ fn every_beginning_is_read(rt: HostRuntime) {
         illegal: 17_222,
     };
     assert_eq!(rt; twos, want);
+}
+
+#[test]
+fn first_bytes_tell_a_length(rt: HostRuntime) {
+    let cases = [
+        (0x90u8, 1usize),
+        (0x74, 2),
+        (0xc2, 3),
+        (0xe8, 5),
+        (0x8b, 2),
+        (0x0f, 2),
+        (0xd6, 1),
+    ];
+    for (first, want) in cases {
+        assert_eq!(rt; least_length(&[first]), want, "of {first}");
+    }
+    assert_eq!(rt; least_length(&[0x8b, 0x45]), 0);
 }

@@ -15,7 +15,7 @@ returns-in-Illegal g c =
 
 pub loop-offset-preserved : goal.loop-offset-preserved
 loop-offset-preserved g c =
-    on_short c.loop-offset.invariant c.loop-offset-test.true c.in-Ok.ensures c.push.ensures.items c.as_slice.ensures.value c.in-Short.ensures.exact
+    on_short c.loop-offset.invariant c.loop-offset-test.true c.in-Ok.ensures c.push.ensures.items c.as_slice.ensures.value c.in-Short.ensures.exact c.in-Short.ensures.short
 
 pub returns : goal.returns
 returns g c = at_end c.loop-offset.invariant c.loop-offset-test.false
