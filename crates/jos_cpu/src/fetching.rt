@@ -36,7 +36,7 @@ fn reach_byte<M: Mem>(mem: &mut M, va: u32) -> Result<u8, MemFault>
     }
 }
 
-/// What the bytes begin with. Below the least length, which is found by the first byte, they are not read.
+/// What the bytes begin with. Below the least length, which the first one or two of them tell, they are not read.
 fn judge(bytes: &[u8], least: &mut usize) -> Decoded
     requires { AreShortBelow least.old bytes.now }
     ensures exact { result ≡ decoded bytes.now }

@@ -537,6 +537,7 @@ fn choose_ff(reg: u8) -> Option<Choice>
 
 /// What reg chooses of a group.
 #[tactic(auto, unfolding(crate::specs::OpcodeMap::of_group))]
+#[inline(always)]
 fn choose_of_group(group: Digits, reg: u8) -> Option<Choice>
     ensures { result ≡ of_group group reg }
 {
@@ -562,6 +563,7 @@ fn choose_of_group(group: Digits, reg: u8) -> Option<Choice>
 
 /// What a ModRM byte chooses whose operand is a register or not, and whose reg this is.
 #[tactic(auto, unfolding(crate::specs::OpcodeMap::choice_of))]
+#[inline(always)]
 pub(crate) fn choose(fields: Fields, is_register: bool, reg: u8) -> Option<Choice>
     ensures { result ≡ choice_of fields is_register reg }
 {

@@ -105,7 +105,8 @@ fn base_register(mode: u8, number: u8) -> Option<u8>
     }
 }
 
-fn distance_behind(mode: u8, number: u8) -> Distance
+#[inline(always)]
+pub(crate) fn distance_behind(mode: u8, number: u8) -> Distance
     ensures { result ≡ distance_of mode number }
 {
     if mode == 0 {

@@ -56,6 +56,9 @@ fn finds(rt: &impl Abort, text: &str, want: usize) {
     };
     assert_eq!(rt; found, want, "of {text}");
     assert!(rt; least_length(&bytes[..1]) <= want, "of {text}");
+    if want >= 2 {
+        assert!(rt; least_length(&bytes[..2]) <= want, "of {text}");
+    }
     for end in 0..want {
         answer(rt, &bytes[..end], Decoded::Short);
     }
@@ -444,9 +447,10 @@ fn every_beginning_is_read(rt: HostRuntime) {
     assert_eq!(rt; twos, want);
 }
 
+// Instructions that are refused are not waited for.
 #[test]
 fn first_bytes_tell_a_length(rt: HostRuntime) {
-    let cases = [
+    let ones = [
         (0x90u8, 1usize),
         (0x74, 2),
         (0xc2, 3),
@@ -455,8 +459,20 @@ fn first_bytes_tell_a_length(rt: HostRuntime) {
         (0x0f, 2),
         (0xd6, 1),
     ];
-    for (first, want) in cases {
+    for (first, want) in ones {
         assert_eq!(rt; least_length(&[first]), want, "of {first}");
     }
-    assert_eq!(rt; least_length(&[0x8b, 0x45]), 0);
+    let twos = [
+        ([0x8b, 0x45], 3usize),
+        ([0x8b, 0x0d], 6),
+        ([0x8b, 0x04], 3),
+        ([0xc7, 0x45], 7),
+        ([0xc6, 0x48], 2),
+        ([0x74, 0x05], 2),
+        ([0x81, 0xec], 0),
+    ];
+    for (two, want) in twos {
+        assert_eq!(rt; least_length(&two), want, "of {two:?}");
+    }
+    assert_eq!(rt; least_length(&[]), 0);
 }
