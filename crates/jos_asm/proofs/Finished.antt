@@ -10,7 +10,8 @@ use Rattle.jos_asm.specs.declared.fault.AsmFault.TheVariants.{TooLong, Twice, Un
 use Rattle.jos_asm.specs.declared.item.Item.{Item}
 use Rattle.jos_asm.specs.Items.{is_item}
 use Rattle.jos_asm.specs.Program.{Program, length_of_all, place_in, known_place, first_twice, first_unknown, first_far, spelled_from, unless, finished}
-use Rattle.jos_asm.specs.Labels.{IsFault, fault_in, labelled, labelled_place}
+use Rattle.jos_asm.specs.Calls.{IsFault, fault_in}
+use Rattle.jos_asm.specs.Labels.{labelled, labelled_place}
 use Rattle.jos_asm.proofs.Passes.{only_memory, spelled_len}
 
 fault_unless : (kind : List ℕ → AsmFault) (name : Option (List ℕ)) (answer : Result (List ℕ) AsmFault) (fault : AsmFault)

@@ -12,7 +12,8 @@ use Rattle.jos_asm.specs.declared.fault.AsmFault.{AsmFault}
 use Rattle.jos_asm.specs.declared.fault.AsmFault.TheVariants.{TooLong, Twice, Unknown, Far, NoMemory}
 use Rattle.jos_asm.specs.Items.{is_item, length_of, target_of}
 use Rattle.jos_asm.specs.Program.{length_of_all, bytes_of, is_label, place_from, place_in, is_unknown, first_unknown, first_twice, is_far, first_far, spelled_from}
-use Rattle.jos_asm.specs.Labels.{IsFault, twice_in, unknown_in, far_at, with_label}
+use Rattle.jos_asm.specs.Calls.{IsFault}
+use Rattle.jos_asm.specs.Labels.{twice_in, unknown_in, far_at, with_label}
 use Rattle.jos_asm.proofs.Lawful.{relative_len, move_len}
 
 -- `len` bytes are those of the items before

@@ -1,3 +1,4 @@
 pub mod Items
 pub mod Program
+pub mod Calls
 pub mod Labels

@@ -4,7 +4,7 @@ ghost use Rattle.std.specs.Prelude.{◌≡◌, ◌<◌, ◌≤◌, [], Ok, IsTru
 ghost use Rattle.jos_isa.specs.Lawful.{is_lawful};
 ghost use Rattle.jos_asm.specs.Items.{is_item, is_relative};
 ghost use Rattle.jos_asm.specs.Program.{finished};
-ghost use Rattle.jos_asm.specs.Labels.{Adds, IsFault, IsName, fault_in};
+ghost use Rattle.jos_asm.specs.Calls.{Adds, IsFault, IsName, fault_in};
 
 use crate::fault::AsmFault;
 use crate::finishing::finish;

@@ -4,7 +4,7 @@ use crate::name::Name;
 use thiserror::Error;
 
 /// Why a program has no bytes: the first of these that it has, and of one kind the one of the earliest item.
-#[derive(Debug, Drop, Error)]
+#[derive(Debug, Drop, Error, PartialEq, Eq)]
 pub enum AsmFault {
     /// It has more than 1,048,576 bytes.
     #[error("too long")]

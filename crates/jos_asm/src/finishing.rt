@@ -6,7 +6,8 @@ ghost use Rattle.jos_isa.specs.Lawful.{is_lawful};
 ghost use Rattle.jos_isa.specs.Writing.{written};
 ghost use Rattle.jos_asm.specs.Items.{is_item, relative_length, length_of, target_of, is_relative, relative};
 ghost use Rattle.jos_asm.specs.Program.{length_of_all, bytes_of, distance, first_twice, is_unknown, first_unknown, first_far, is_near, is_far, reaches, place_in, spelled_from, finished};
-ghost use Rattle.jos_asm.specs.Labels.{IsFault, fault_in, far_at, twice_in, unknown_in, with_label, labelled, labelled_place};
+ghost use Rattle.jos_asm.specs.Calls.{IsFault, fault_in};
+ghost use Rattle.jos_asm.specs.Labels.{far_at, twice_in, unknown_in, with_label, labelled, labelled_place};
 
 use crate::fault::AsmFault;
 use crate::item::{Item, address_move, is_byte_jump, relative};

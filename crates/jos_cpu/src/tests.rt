@@ -255,6 +255,34 @@ fn shifts_by_each_count(rt: HostRuntime) {
     }
 }
 
+// INC at the greatest signed number: OF, SF, AF and PF are set, ZF is cleared, and CF is as it was.
+#[test]
+fn increments_over_the_greatest_number(rt: HostRuntime) {
+    for carry in [0, 1u32] {
+        let mut window = window_of([0x40, 0, 0, 0, 0, 0, 0, 0, 0, 0, 0, 0]);
+        let mut regs = regs_of([0x7fff_ffff, 0, 0, 0, BASE, 0, 0, 0, 0x0242 + carry]);
+        assert_eq!(rt; step(&mut regs, &mut window, Gates::Exo), Event::Next);
+        assert_eq!(rt; regs.eax, 0x8000_0000);
+        assert_eq!(rt; regs.eflags, 0x0a96 + carry);
+    }
+}
+
+// REP STOSB writes one byte in a step, and is past when it has written three.
+#[test]
+fn repeats_a_step_at_a_time(rt: HostRuntime) {
+    let mut window = window_of([0xf3, 0xaa, 0, 0, 0, 0, 0, 0, 0, 0, 0, 0]);
+    let mut bytes = window.bytes;
+    let mut regs = regs_of([0x5a, 3, 0, 0, BASE, 0, 0, BASE + 32, 0x0202]);
+    for (at, left, eip) in [(32usize, 2u32, BASE), (33, 1, BASE), (34, 0, BASE + 2)] {
+        assert_eq!(rt; step(&mut regs, &mut window, Gates::Exo), Event::Next);
+        bytes[at] = 0x5a;
+        assert_eq!(rt; window.bytes.as_slice(), bytes.as_slice());
+        assert_eq!(rt; regs.ecx, left);
+        assert_eq!(rt; regs.edi, BASE + 33 + at as u32 - 32);
+        assert_eq!(rt; regs.eip, eip);
+    }
+}
+
 // POPF takes the seven flags, and PUSHF pushes them with bit 1 and IF.
 #[test]
 fn keeps_flags(rt: HostRuntime) {

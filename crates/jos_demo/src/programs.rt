@@ -3,7 +3,7 @@
 ghost use Rattle.std.specs.Prelude.{◌≡◌, ◌≤◌, IfOk, IsOk, Ok, None, is_some, length};
 ghost use Rattle.std.specs.Option.{option_map};
 ghost use Rattle.jos_asm.specs.Program.{finished};
-ghost use Rattle.jos_asm.specs.Labels.{IsFault};
+ghost use Rattle.jos_asm.specs.Calls.{IsFault};
 ghost use Rattle.jos_demo.specs.Programs.{xhello, named, file_of};
 
 use crate::code::{EAX, ECX, EDX, TEXT, image, int, mov};
