@@ -12,6 +12,8 @@ use Rattle.jos_asm.specs.Items.{is_item}
 use Rattle.jos_asm.specs.Program.{Program, length_of_all, place_in, known_place, first_twice, first_unknown, first_far, spelled_from, unless, finished}
 use Rattle.jos_asm.specs.Calls.{IsFault, fault_in}
 use Rattle.jos_asm.specs.Labels.{labelled, labelled_place}
+use Rattle.jos_asm.specs.Laid.{AreLaid}
+use Rattle.jos_asm.proofs.Laid.{all_laid}
 use Rattle.jos_asm.proofs.Passes.{only_memory, spelled_len}
 
 fault_unless : (kind : List ℕ → AsmFault) (name : Option (List ℕ)) (answer : Result (List ℕ) AsmFault) (fault : AsmFault)
@@ -61,6 +63,9 @@ module _ (p : Program) where
       pub is_far_name : (fault : AsmFault) → IsFault fault (option_map Far (first_far (labelled_place labels) 0 p.items)) → IsFault fault (fault_in (finished p))
       is_far_name fault h = rw named_answer (fault_unless Far (first_far (known_place p.items) 0 p.items) (Ok (spelled_from p.base (known_place p.items) 0 p.items)) fault
           (subst (λ (place : List ℕ → ℕ). IsFault fault (option_map Far (first_far place 0 p.items))) places h))
+
+      pub is_laid : (code : List ℕ) → All (λ i. IsTrue (is_item i)) p.items → code ≡ spelled_from p.base (labelled_place labels) 0 p.items → AreLaid p code
+      is_laid code are is = all_laid p code are small once (ap (λ place. first_unknown place p.items) (sym same) ∙ named) (is ∙ ap (λ place. spelled_from p.base place 0 p.items) places)
 
       pub is_spelled : (code : List ℕ) → first_far (labelled_place labels) 0 p.items ≡ None → code ≡ spelled_from p.base (labelled_place labels) 0 p.items → finished p ≡ Ok code
       is_spelled code near is =

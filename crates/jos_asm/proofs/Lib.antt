@@ -1,3 +1,4 @@
 pub mod Lawful
 pub mod Passes
 pub mod Finished
+pub mod Laid

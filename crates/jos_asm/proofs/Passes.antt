@@ -54,7 +54,7 @@ fault_first kind false name later first (Far x) e h = absurd cc
 
 -- ---- lengths
 
-bytes_len : (base : ℕ) (place : List ℕ → ℕ) (at : ℕ) (x : Item) → IsTrue (is_item x) → length (bytes_of base place at x) ≡ length_of x
+pub bytes_len : (base : ℕ) (place : List ℕ → ℕ) (at : ℕ) (x : Item) → IsTrue (is_item x) → length (bytes_of base place at x) ≡ length_of x
 bytes_len base place at (item.Label name) h = refl
 bytes_len base place at (item.Insn insn) h = refl
 bytes_len base place at (item.Jump row name) h = relative_len row _ h
@@ -68,7 +68,7 @@ spelled_len base place at (i ∷ items) are =
     length-append (bytes_of base place at i) _ ∙ ap (λ n. n + length (spelled_from base place (at + length_of i) items)) (bytes_len base place at i (are zero i (omega arith)))
     ∙ ap (λ n. length_of i + n) (spelled_len base place (at + length_of i) items (λ k d within. are (suc k) d (omega (arith, within))))
 
-place_within : (items : List Item) (at : ℕ) (name : List ℕ) → unwrap_or (place_from at items name) 0 ≤ at + length_of_all items
+pub place_within : (items : List Item) (at : ℕ) (name : List ℕ) → unwrap_or (place_from at items name) 0 ≤ at + length_of_all items
 unfolding place_from length_of_all
 place_within [] at name = omega arith
 place_within (i ∷ items) at name = go (is_label name i) (place_within items (at + length_of i) name)

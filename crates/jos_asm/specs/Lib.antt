@@ -1,4 +1,5 @@
 pub mod Items
 pub mod Program
 pub mod Calls
+pub mod Laid
 pub mod Labels

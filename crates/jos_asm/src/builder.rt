@@ -4,6 +4,7 @@ ghost use Rattle.std.specs.Prelude.{◌≡◌, ◌<◌, ◌≤◌, [], Ok, IsTru
 ghost use Rattle.jos_isa.specs.Lawful.{is_lawful};
 ghost use Rattle.jos_asm.specs.Items.{is_item, is_relative};
 ghost use Rattle.jos_asm.specs.Program.{finished};
+ghost use Rattle.jos_asm.specs.Laid.{AreLaid};
 ghost use Rattle.jos_asm.specs.Calls.{Adds, IsFault, IsName, fault_in};
 
 use crate::fault::AsmFault;
@@ -100,6 +101,8 @@ impl Builder {
     /// The bytes of the program, each label's distance or address in its place, or the first fault that it has.
     pub fn finish(self) -> Result<Vec<u8>, AsmFault>
         ensures exact { IfOk result (λ code. finished self ≡ Ok code.items) }
+        // Each item stands at its place.
+        ensures laid { IfOk result (λ code. AreLaid self code.items) }
         ensures small { IfOk result (λ code. length code.items ≤ 1048576) }
         ensures fault { IfErr result (λ fault. IsFault fault (fault_in (finished self))) }
     {

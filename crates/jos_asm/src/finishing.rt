@@ -7,6 +7,7 @@ ghost use Rattle.jos_isa.specs.Writing.{written};
 ghost use Rattle.jos_asm.specs.Items.{is_item, relative_length, length_of, target_of, is_relative, relative};
 ghost use Rattle.jos_asm.specs.Program.{length_of_all, bytes_of, distance, first_twice, is_unknown, first_unknown, first_far, is_near, is_far, reaches, place_in, spelled_from, finished};
 ghost use Rattle.jos_asm.specs.Calls.{IsFault, fault_in};
+ghost use Rattle.jos_asm.specs.Laid.{AreLaid};
 ghost use Rattle.jos_asm.specs.Labels.{far_at, twice_in, unknown_in, with_label, labelled, labelled_place};
 
 use crate::fault::AsmFault;
@@ -269,6 +270,7 @@ fn write_code<'a>(
 pub(crate) fn finish(alloc: Global, base: u32, items: &[Item]) -> Result<Vec<u8>, AsmFault>
     requires { All (λ i. IsTrue (is_item i)) items.now }
     ensures exact { IfOk result (λ code. finished (record { base = base; items = items.now }) ≡ Ok code.items) }
+    ensures laid { IfOk result (λ code. AreLaid (record { base = base; items = items.now }) code.items) }
     ensures small { IfOk result (λ code. length code.items ≤ 1048576) }
     ensures fault { IfErr result (λ fault. IsFault fault (fault_in (finished (record { base = base; items = items.now })))) }
 {

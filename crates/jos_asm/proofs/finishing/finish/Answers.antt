@@ -1,6 +1,6 @@
 use Rattle.std.proofs.lemmas.Result.{err_from_is_err_and, IfOk-weaker, MatchResult-weaker}
 use Rattle.jos_asm.specs.Labels.{labelled_place}
-use Rattle.jos_asm.proofs.Finished.{program, code_small, is_twice, is_unknown_name, is_far_name, is_spelled, is_long_fault}
+use Rattle.jos_asm.proofs.Finished.{program, code_small, is_twice, is_unknown_name, is_far_name, is_spelled, is_laid, is_long_fault}
 use Rattle.jos_asm.proofs.finishing.finish.Goals as goal
 
 pub returns-in_err-check_len-clause-fault : goal.returns-in_err-check_len-clause-fault
@@ -30,4 +30,9 @@ returns-clause-fault c = MatchResult-weaker c.write_code.result {P = λ _. Unit 
 pub returns-clause-small : goal.returns-clause-small
 returns-clause-small c = IfOk-weaker c.write_code.result _ _
     (λ code h. code_small (program c.args.base c.args.items.now) (labelled_place c.in_ok-labels.labels) code.items c.requires h.1 c.in_ok-check_len.ensures)
+    c.write_code.ensures.written
+
+pub returns-clause-laid : goal.returns-clause-laid
+returns-clause-laid c = IfOk-weaker c.write_code.result _ _
+    (λ code h. is_laid (program c.args.base c.args.items.now) c.in_ok-check_len.ensures c.in_ok-labels.ensures.once c.in_ok-labels.labels c.in_ok-labels.ensures.labels c.in_ok-check_names.ensures.known code.items c.requires h.1)
     c.write_code.ensures.written
