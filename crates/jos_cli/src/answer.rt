@@ -31,13 +31,14 @@ const BUDGET: u32 = 1_000_000;
 /// The place of the image's name among the words.
 const NAME_WORD: u32 = 1;
 
-/// Does what the words ask: `exo IMAGE` runs the image, and `demo NAME FILE` writes an example program. The words are those behind the program's name. Each
-/// answer has its note, one line; where a call of the host fails, the note `host fault` is tried once.
+/// Does what the words ask: `exo IMAGE` runs the image, and `demo NAME FILE` writes an example program. The words are
+/// those behind the program's name. Each answer has its note, one line; where a call of the host fails, the note
+/// `host fault` is tried once.
 ///
 /// (The lines and limits are in `docs/commands.md`.)
 pub fn top<'a, H: Host>(alloc: Global, words: &'a [&'a str], host: &mut H) -> Outcome
-    // Where the host tells its files, the answer and the console are what they and the words decide; where a
-    // call of the host failed, the console has a part of that.
+    // The answer and the console are what the words decide and, of a run, the files where the host tells them;
+    // where a call of the host failed, the console has a part of that.
     ensures answer { AnswersCommand (H.files host.old) (command_of (map (λ w. w.now) words.now)) result (H.console host.old) (H.console host.new) }
     // The note is the line of the answer.
     ensures notes { IsNoted (map (λ w. w.now) words.now) result (H.notes host.old) (H.notes host.new) }
