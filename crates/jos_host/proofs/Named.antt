@@ -1,5 +1,5 @@
 -- What a look-up by name gives in a list of files, and after one of them is set or added.
-use Rattle.std.proofs.Common.{◌≡◌, ℕ, suc, zero, ◌+◌, ◌<◌, ◌≤◌, Bool, true, false, cond, List, [], ◌∷◌, ◌++◌, length, get_or, refl, sym, ap, ◌∙◌, arith, Option, None, Some, string_bytes, subst}
+use Rattle.std.proofs.Common.{◌≡◌, ℕ, suc, zero, ◌+◌, ◌<◌, ◌≤◌, Bool, true, false, cond, List, [], ◌∷◌, ◌++◌, length, get_or, refl, sym, ap, ◌∙◌, arith, Option, None, Some, string_bytes, subst, IsSome}
 use Rattle.std.proofs.Math.ListN.{set}
 use Rattle.std.specs.List.{position, position_from}
 use Rattle.std.specs.Str.{bytes_eq}
@@ -116,6 +116,11 @@ bytes_of-first files name i d p at =
 
 pub bytes_of-absent : (files : List NamedBytes) (name : List ℕ) → position (has_name name) files ≡ None → bytes_of (files_of (named_of files)) name ≡ []
 bytes_of-absent files name p = rw (absent files name p) refl
+
+pub not_there : (files : List NamedBytes) (name : List ℕ) → position (has_name name) files ≡ None → IsSome (files_of (named_of files) name) → ⊥
+not_there files name p some =
+    let none : IsSome {T = List ℕ} None = subst (λ (o : Option (List ℕ)). IsSome o) (absent files name p) some in
+    cc
 
 -- what is written into no bytes is what stands there then
 pub overwritten-nil : (at : ℕ) (bytes : List ℕ) → at ≤ 0 → overwritten [] at bytes ≡ bytes

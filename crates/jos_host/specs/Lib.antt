@@ -1,3 +1,4 @@
+pub mod Asked
 pub mod Count
 pub mod Files
 pub mod MemHost

@@ -1,8 +1,10 @@
 -- A host in memory, as clauses see it.
-use Rattle.std.specs.Prelude.{ℕ, List, [], ◌∷◌, map, None, refl, string_bytes}
-use Rattle.std.specs.Coded.{Coded, code_by, coded×, coded_ℕ, coded_list}
+use Rattle.std.specs.Prelude.{ℕ, ◌-◌, ◌↔◌, List, [], ◌∷◌, ◌++◌, map, None, Result, IsErr, Contains, string_bytes, vec_len, vec_capacity}
+use Rattle.std.specs.declared.vec.Vec.{Vec}
+use Rattle.jos_host.specs.Asked.{Asked}
 use Rattle.jos_host.specs.Count.{risen}
 use Rattle.jos_host.specs.Files.{Files, with_bytes}
+use Rattle.jos_host.specs.declared.host.FileCall.{FileCall}
 use Rattle.jos_host.specs.declared.mem.NamedBytes.{NamedBytes}
 
 pub record Held : Type 0 where
@@ -12,20 +14,16 @@ pub record Held : Type 0 where
   pub input : List ℕ
   pub console : List ℕ
   pub notes : List ℕ
+  -- how many more bytes go to the console, and to the notes, with no memory taken
+  pub console_room : ℕ
+  pub notes_room : ℕ
+  -- the calls on files that were made
+  pub asked : List Asked
   -- the numbers of the calls that fail, where the first call has the number 0
   pub fails : List ℕ
   -- the number of the next call
   pub calls : ℕ
   pub faults : ℕ
-
-abbrev pub held_code : Coded Held
-held_code =
-    code_by (List (List ℕ × List ℕ) × (List ℕ × (List ℕ × (List ℕ × (List ℕ × (ℕ × ℕ))))))
-    (coded× (coded_list (coded× (coded_list coded_ℕ) (coded_list coded_ℕ)))
-    (coded× (coded_list coded_ℕ) (coded× (coded_list coded_ℕ) (coded× (coded_list coded_ℕ) (coded× (coded_list coded_ℕ) (coded× coded_ℕ coded_ℕ))))))
-    (λ h. (h.named, (h.input, (h.console, (h.notes, (h.fails, (h.calls, h.faults)))))))
-    (λ p. record { named = p.0; input = p.1.0; console = p.1.1.0; notes = p.1.1.1.0; fails = p.1.1.1.1.0; calls = p.1.1.1.1.1.0; faults = p.1.1.1.1.1.1 })
-    (λ _. refl)
 
 -- the names with their bytes, as a list of pairs
 abbrev pub named_of : List NamedBytes → List (List ℕ × List ℕ)
@@ -36,6 +34,10 @@ abbrev pub files_of : List (List ℕ × List ℕ) → Files
 files_of [] = λ _. None
 files_of (file ∷ rest) = with_bytes (files_of rest) file.0 file.1
 
+-- the host that has noted this call on a file
+abbrev pub asking : Held → FileCall → List ℕ → Held
+asking h call name = record h { asked = h.asked ++ record { call = call; name = name } ∷ [] }
+
 -- the host after a call that succeeded and changed nothing
 abbrev pub called : Held → Held
 called h = record h { calls = risen h.calls }
@@ -43,3 +45,11 @@ called h = record h { calls = risen h.calls }
 -- the host after a call that failed
 abbrev pub refused : Held → Held
 refused h = record h { calls = risen h.calls; faults = risen h.faults }
+
+-- a call fails exactly where its number is listed
+abbrev pub FailsAsListed : {T E : Type 0} → Held → Result T E → Type 0
+FailsAsListed host result = IsErr result ↔ Contains host.fails host.calls
+
+-- how many more bytes go into the list with no memory taken
+abbrev pub room_of : {A : Type 0} → Vec ℕ A → ℕ
+room_of bytes = vec_capacity bytes - vec_len bytes

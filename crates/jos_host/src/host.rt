@@ -1,12 +1,22 @@
 //! The trait `Host`.
 
 ghost use Rattle.std.specs.Prelude.{◌≡◌, ℕ, ◌<◌, ◌≤◌, ◌^◌, List, Option, Some, None, IfOk, length};
+ghost use Rattle.jos_host.specs.Asked.{Asked, and_asked};
 ghost use Rattle.jos_host.specs.Files.{Files};
 ghost use Rattle.jos_host.specs.Told.{HasCause, ReadsSize, ReadsAt, IsWithin, Creates, WritesAt, ReadsInput, Appends};
 
 /// A call of the host failed, and its count of faults rose.
 #[derive(Clone, Copy, Debug, PartialEq, Eq)]
 pub struct Failed;
+
+/// A call on a file, of which contracts tell what a host was asked.
+#[derive(Clone, Copy, Debug, PartialEq, Eq)]
+pub enum FileCall {
+    Size,
+    Read,
+    Create,
+    Write,
+}
 
 /// The outside: files by name, a console and a place for notes.
 ///
@@ -21,6 +31,8 @@ pub trait Host {
     ghost console: { Self → Option (List ℕ) };
     /// The note bytes written, where they are told.
     ghost notes: { Self → Option (List ℕ) };
+    /// The calls on files that were made, in order, where they are told: a call that failed is among them.
+    ghost asked: { Self → Option (List Asked) };
     /// How often a call has failed. It never falls, and is below 2^64.
     ghost faults: { Self → ℕ };
 
@@ -31,6 +43,7 @@ pub trait Host {
         ensures input { input self.new ≡ input self.old }
         ensures console { console self.new ≡ console self.old }
         ensures notes { notes self.new ≡ notes self.old }
+        ensures asked { asked self.new ≡ and_asked (asked self.old) FileCall.Size name.now }
         ensures cause { HasCause (faults self.old) (faults self.new) result };
 
     /// Fills the buffer from byte `at` of the file on, and answers how many bytes came: fewer than there is
@@ -42,6 +55,7 @@ pub trait Host {
         ensures input { input self.new ≡ input self.old }
         ensures console { console self.new ≡ console self.old }
         ensures notes { notes self.new ≡ notes self.old }
+        ensures asked { asked self.new ≡ and_asked (asked self.old) FileCall.Read name.now }
         ensures cause { HasCause (faults self.old) (faults self.new) result };
 
     /// Makes the name an empty file.
@@ -50,6 +64,7 @@ pub trait Host {
         ensures input { input self.new ≡ input self.old }
         ensures console { console self.new ≡ console self.old }
         ensures notes { notes self.new ≡ notes self.old }
+        ensures asked { asked self.new ≡ and_asked (asked self.old) FileCall.Create name.now }
         ensures cause { HasCause (faults self.old) (faults self.new) result };
 
     /// Writes the bytes from byte `at` on, which is not past the end: they replace what was there and extend
@@ -60,6 +75,7 @@ pub trait Host {
         ensures input { input self.new ≡ input self.old }
         ensures console { console self.new ≡ console self.old }
         ensures notes { notes self.new ≡ notes self.old }
+        ensures asked { asked self.new ≡ and_asked (asked self.old) FileCall.Write name.now }
         ensures cause { HasCause (faults self.old) (faults self.new) result };
 
     /// Takes console input into the buffer, and answers how many bytes came: 0 into a buffer with room only
@@ -70,6 +86,7 @@ pub trait Host {
         ensures files { files self.new ≡ files self.old }
         ensures console { console self.new ≡ console self.old }
         ensures notes { notes self.new ≡ notes self.old }
+        ensures asked { asked self.new ≡ asked self.old }
         ensures cause { HasCause (faults self.old) (faults self.new) result };
 
     /// Writes the bytes to the console. After `Failed` a prefix of them was written.
@@ -78,6 +95,7 @@ pub trait Host {
         ensures files { files self.new ≡ files self.old }
         ensures input { input self.new ≡ input self.old }
         ensures notes { notes self.new ≡ notes self.old }
+        ensures asked { asked self.new ≡ asked self.old }
         ensures cause { HasCause (faults self.old) (faults self.new) result };
 
     /// Writes the bytes to the notes. After `Failed` a prefix of them was written.
@@ -86,6 +104,7 @@ pub trait Host {
         ensures files { files self.new ≡ files self.old }
         ensures input { input self.new ≡ input self.old }
         ensures console { console self.new ≡ console self.old }
+        ensures asked { asked self.new ≡ asked self.old }
         ensures cause { HasCause (faults self.old) (faults self.new) result };
 
     ghost faults_fit: { (host : Self) → faults host < 2 ^ 64 };

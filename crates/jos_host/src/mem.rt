@@ -1,14 +1,15 @@
 //! A host all in memory, that tells everything.
 
-ghost use Rattle.std.specs.Prelude.{◌≡◌, ◌↔◌, ◌≤◌, [], ◌∷◌, ◌++◌, length, option_map, take, drop, min, Some, IsErr, IfOk, OnOk, OnErr, Contains, position, option_copied, string_bytes};
+ghost use Rattle.std.specs.Prelude.{◌≡◌, ◌↔◌, ◌+◌, ◌≤◌, [], ◌∷◌, ◌++◌, length, option_map, take, drop, min, Some, IsSome, IsOk, IsErr, IfOk, OnOk, OnErr, Contains, position, option_copied, string_bytes};
 ghost use Rattle.std.specs.Str.{bytes_eq};
 ghost use Rattle.jos_host.specs.Count.{counted, risen};
 ghost use Rattle.jos_host.specs.Files.{with_bytes, bytes_of, overwritten};
 ghost use Rattle.jos_host.specs.Told.{ReadsAt};
-ghost use Rattle.jos_host.specs.MemHost.{named_of, files_of, called, refused};
+ghost use Rattle.jos_host.specs.MemHost.{named_of, files_of, asking, called, refused, FailsAsListed, room_of};
 
+use crate::asked_log::AskedLog;
 use crate::faults::{refuse, settle};
-use crate::{Failed, Host};
+use crate::{Failed, FileCall, Host};
 use std::alloc::{AllocError, Global};
 use std::marker::Model;
 
@@ -21,8 +22,10 @@ pub struct NamedBytes {
 
 /// A host all in memory: named byte lists, an input that is given at the start, and what was written.
 ///
-/// Each call of the trait has a number, from 0 on. A call whose number is listed fails, and so does one that
-/// finds no memory to grow into: it raises the count of faults and changes nothing else.
+/// Each call of the trait has a number, from 0 on. A call whose number is listed fails: it raises the count of
+/// faults and changes nothing else. So does one that finds no memory, and memory is taken only for a new name,
+/// for bytes past the end of a file, and for bytes of the console and the notes beyond the room that is there.
+/// Every other call fails exactly where its number is listed.
 #[derive(Drop)]
 pub struct MemHost {
     alloc: Global,
@@ -32,6 +35,7 @@ pub struct MemHost {
     taken: usize,
     console: Vec<u8>,
     notes: Vec<u8>,
+    asked: AskedLog,
     fails: Vec<u64>,
     calls: u64,
     faults: u64,
@@ -39,17 +43,18 @@ pub struct MemHost {
 
 impl Model for MemHost {
     ghost use Rattle.std.specs.Prelude.{◌≤◌, length, drop};
-    ghost use Rattle.jos_host.specs.MemHost.{Held, held_code, named_of};
+    ghost use Rattle.jos_host.specs.MemHost.{Held, named_of, room_of};
 
     ghost Value = { Held };
-
-    ghost coded = { held_code };
 
     ghost view = { λ h. record {
       named = named_of h.files.items;
       input = drop h.taken h.input.items;
       console = h.console.items;
       notes = h.notes.items;
+      console_room = room_of h.console;
+      notes_room = room_of h.notes;
+      asked = h.asked.calls;
       fails = h.fails.items;
       calls = h.calls;
       faults = h.faults;
@@ -67,6 +72,9 @@ impl MemHost {
           input = input.items;
           console = [];
           notes = [];
+          console_room = 0;
+          notes_room = 0;
+          asked = [];
           fails = fails.items;
           calls = 0;
           faults = 0;
@@ -79,10 +87,28 @@ impl MemHost {
             taken: 0,
             console: Vec::new(alloc),
             notes: Vec::new(alloc),
+            asked: AskedLog::new(),
             fails,
             calls: 0,
             faults: 0,
         }
+    }
+
+    /// Makes room for so many more bytes on the console and in the notes. A write within the room takes no
+    /// memory. Where there is none to make it of, some of the room may have been made.
+    pub fn reserve(&mut self, console: usize, notes: usize) -> Result<(), AllocError>
+        ensures console { OnOk result (console ≤ self.new.console_room) }
+        ensures notes { OnOk result (notes ≤ self.new.notes_room) }
+        ensures there { console ≤ self.old.console_room → notes ≤ self.old.notes_room → IsOk result }
+        ensures rest { self.new ≡ record self.old {
+          console_room = self.new.console_room;
+          notes_room = self.new.notes_room;
+        } }
+        ensures console_kept { self.old.console_room ≤ self.new.console_room }
+        ensures notes_kept { self.old.notes_room ≤ self.new.notes_room }
+    {
+        self.console.reserve(console)?;
+        self.notes.reserve(notes)
     }
 
     /// The bytes under this name.
@@ -123,6 +149,8 @@ impl Host for MemHost {
 
     ghost notes = { λ h. Some h.notes };
 
+    ghost asked = { λ h. Some h.asked };
+
     ghost faults = { λ h. counted h.faults };
 
     ghost use Rattle.std.proofs.Common.{arith};
@@ -132,9 +160,10 @@ impl Host for MemHost {
     fn size(&mut self, name: &str) -> Result<Option<u64>, Failed>
         ensures listed { IsErr result ↔ Contains self.old.fails self.old.calls }
         ensures size { IfOk result (λ size. size ≡ option_map length (files_of self.old.named name.now)) }
-        ensures went { OnOk result (self.new ≡ called self.old) }
-        ensures failed { OnErr result (self.new ≡ refused self.old) }
+        ensures went { OnOk result (self.new ≡ called (asking self.old FileCall.Size name.now)) }
+        ensures failed { OnErr result (self.new ≡ refused (asking self.old FileCall.Size name.now)) }
     {
+        self.asked.note(&FileCall::Size, name.as_bytes());
         begin(&self.fails, &mut self.calls, &mut self.faults)?;
         Ok(find(&self.files, name).map(|bytes| bytes.len() as u64))
     }
@@ -144,10 +173,11 @@ impl Host for MemHost {
         ensures within { IfOk result (λ n. n ≤ length buf.old) }
         ensures told { IfOk result
             (λ n. ReadsAt (Some (files_of self.old.named)) name.now at buf.old buf.new n) }
-        ensures went { OnOk result (self.new ≡ called self.old) }
-        ensures failed { OnErr result (self.new ≡ refused self.old) }
+        ensures went { OnOk result (self.new ≡ called (asking self.old FileCall.Read name.now)) }
+        ensures failed { OnErr result (self.new ≡ refused (asking self.old FileCall.Read name.now)) }
         ensures untouched { OnErr result (buf.new ≡ buf.old) }
     {
+        self.asked.note(&FileCall::Read, name.as_bytes());
         begin(&self.fails, &mut self.calls, &mut self.faults)?;
         let bytes = find(&self.files, name).unwrap_or(&[]);
         Ok(fill(buf, after(bytes, at)))
@@ -155,11 +185,15 @@ impl Host for MemHost {
 
     fn create(&mut self, name: &str) -> Result<(), Failed>
         ensures listed { Contains self.old.fails self.old.calls → IsErr result }
+        // A name that is there takes no memory.
+        ensures there { IsSome (files_of self.old.named name.now) → FailsAsListed self.old result }
         ensures created { OnOk result
             (files_of self.new.named ≡ with_bytes (files_of self.old.named) name.now []) }
-        ensures went { OnOk result (self.new ≡ record (called self.old) { named = self.new.named }) }
-        ensures failed { OnErr result (self.new ≡ refused self.old) }
+        ensures went { OnOk result (self.new
+            ≡ record (called (asking self.old FileCall.Create name.now)) { named = self.new.named }) }
+        ensures failed { OnErr result (self.new ≡ refused (asking self.old FileCall.Create name.now)) }
     {
+        self.asked.note(&FileCall::Create, name.as_bytes());
         begin(&self.fails, &mut self.calls, &mut self.faults)?;
         settle(empty(self.alloc, &mut self.files, name), &mut self.faults)
     }
@@ -167,12 +201,18 @@ impl Host for MemHost {
     fn write_at(&mut self, name: &str, at: u64, bytes: &[u8]) -> Result<(), Failed>
         requires { at ≤ length (bytes_of (files_of self.old.named) name.now) }
         ensures listed { Contains self.old.fails self.old.calls → IsErr result }
+        // Bytes that are there are written over with no memory.
+        ensures there { IsSome (files_of self.old.named name.now) →
+            at + length bytes.now ≤ length (bytes_of (files_of self.old.named) name.now) →
+            FailsAsListed self.old result }
         ensures written { OnOk result (files_of self.new.named
             ≡ with_bytes (files_of self.old.named) name.now
             (overwritten (bytes_of (files_of self.old.named) name.now) at bytes.now)) }
-        ensures went { OnOk result (self.new ≡ record (called self.old) { named = self.new.named }) }
-        ensures failed { OnErr result (self.new ≡ refused self.old) }
+        ensures went { OnOk result (self.new
+            ≡ record (called (asking self.old FileCall.Write name.now)) { named = self.new.named }) }
+        ensures failed { OnErr result (self.new ≡ refused (asking self.old FileCall.Write name.now)) }
     {
+        self.asked.note(&FileCall::Write, name.as_bytes());
         begin(&self.fails, &mut self.calls, &mut self.faults)?;
         settle(
             store(self.alloc, &mut self.files, name, at, bytes),
@@ -197,22 +237,32 @@ impl Host for MemHost {
 
     fn console_write(&mut self, bytes: &[u8]) -> Result<(), Failed>
         ensures listed { Contains self.old.fails self.old.calls → IsErr result }
-        ensures went { OnOk result
-            (self.new ≡ record (called self.old) { console = self.old.console ++ bytes.now }) }
+        // What the room holds takes no memory.
+        ensures in_room { length bytes.now ≤ self.old.console_room → FailsAsListed self.old result }
+        ensures room { OnOk result (self.old.console_room ≤ self.new.console_room + length bytes.now) }
+        ensures went { OnOk result (self.new ≡ record (called self.old) {
+          console = self.old.console ++ bytes.now;
+          console_room = self.new.console_room;
+        }) }
         ensures failed { OnErr result (self.new ≡ refused self.old) }
     {
         begin(&self.fails, &mut self.calls, &mut self.faults)?;
-        append(&mut self.console, bytes, &mut self.faults)
+        settle(append(&mut self.console, bytes), &mut self.faults)
     }
 
     fn note_write(&mut self, bytes: &[u8]) -> Result<(), Failed>
         ensures listed { Contains self.old.fails self.old.calls → IsErr result }
-        ensures went { OnOk result
-            (self.new ≡ record (called self.old) { notes = self.old.notes ++ bytes.now }) }
+        // What the room holds takes no memory.
+        ensures in_room { length bytes.now ≤ self.old.notes_room → FailsAsListed self.old result }
+        ensures room { OnOk result (self.old.notes_room ≤ self.new.notes_room + length bytes.now) }
+        ensures went { OnOk result (self.new ≡ record (called self.old) {
+          notes = self.old.notes ++ bytes.now;
+          notes_room = self.new.notes_room;
+        }) }
         ensures failed { OnErr result (self.new ≡ refused self.old) }
     {
         begin(&self.fails, &mut self.calls, &mut self.faults)?;
-        append(&mut self.notes, bytes, &mut self.faults)
+        settle(append(&mut self.notes, bytes), &mut self.faults)
     }
 }
 
@@ -248,14 +298,16 @@ fn begin(fails: &[u64], calls: &mut u64, faults: &mut u64) -> Result<(), Failed>
     }
 }
 
-// Adds the bytes at the end, and counts a fault where there is no memory.
-fn append(kept: &mut Vec<u8>, bytes: &[u8], faults: &mut u64) -> Result<(), Failed>
+// Adds the bytes at the end. The memory is found first.
+fn append(kept: &mut Vec<u8>, bytes: &[u8]) -> Result<(), AllocError>
     ensures ok { OnOk result (kept.new.items ≡ kept.old.items ++ bytes.now) }
     ensures err { OnErr result (kept.new.items ≡ kept.old.items) }
-    ensures went { OnOk result (faults.new ≡ faults.old) }
-    ensures failed { OnErr result (faults.new ≡ risen faults.old) }
+    ensures in_room { length bytes.now ≤ room_of kept.old → IsOk result }
+    ensures room { OnOk result (room_of kept.old ≤ room_of kept.new + length bytes.now) }
+    ensures same_room { OnErr result (room_of kept.new ≡ room_of kept.old) }
 {
-    settle(kept.extend_from_slice(bytes), faults)
+    kept.reserve(bytes.len())?;
+    kept.extend_from_slice(bytes)
 }
 
 // The bytes from a place on.
@@ -284,6 +336,7 @@ fn overwrite(kept: &mut Vec<u8>, at: usize, bytes: &[u8]) -> Result<(), AllocErr
     requires { at ≤ length kept.old.items }
     ensures ok { OnOk result (kept.new.items ≡ overwritten kept.old.items at bytes.now) }
     ensures err { OnErr result (kept.new.items ≡ kept.old.items) }
+    ensures there { at + length bytes.now ≤ length kept.old.items → IsOk result }
 {
     let (over, beyond) = bytes.split_at(bytes.len().min(kept.len() - at));
     kept.extend_from_slice(beyond)?;
@@ -313,6 +366,7 @@ fn empty(alloc: Global, files: &mut Vec<NamedBytes>, name: &str) -> Result<(), A
     ensures ok { OnOk result (files_of (named_of files.new.items)
         ≡ with_bytes (files_of (named_of files.old.items)) name.now []) }
     ensures err { OnErr result (named_of files.new.items ≡ named_of files.old.items) }
+    ensures there { IsSome (files_of (named_of files.old.items) name.now) → IsOk result }
 {
     match place(files, name) {
         Some(found) => {
@@ -336,6 +390,9 @@ fn store(
         ≡ with_bytes (files_of (named_of files.old.items)) name.now
         (overwritten (bytes_of (files_of (named_of files.old.items)) name.now) at bytes.now)) }
     ensures err { OnErr result (named_of files.new.items ≡ named_of files.old.items) }
+    ensures there { IsSome (files_of (named_of files.old.items) name.now) →
+        at + length bytes.now ≤ length (bytes_of (files_of (named_of files.old.items)) name.now) →
+        IsOk result }
 {
     match place(files, name) {
         Some(found) => overwrite(&mut files[found].bytes, at as usize, bytes),

@@ -1,13 +1,13 @@
-//! The host over the files and the streams of the system. It is proved to count its failures, and what it
-//! does outside is trusted.
+//! The host over the files and the streams of the system. It is proved to count its failures, and to read and
+//! write whole over any stream; which file or stream a call goes to is trusted.
 
 ghost use Rattle.std.specs.Prelude.{◌≡◌, ◌≤◌, None, IfOk, length};
 ghost use Rattle.jos_host.specs.Count.{counted};
 
 use crate::faults::settle;
+use crate::streams::{read_from, read_some, unless_absent, write_from, write_full};
 use crate::{Failed, Host};
 use std::fs::OpenOptions;
-use std::io::{ErrorKind, Read, Seek, SeekFrom, Write};
 use std::marker::Model;
 use std::rt::Files;
 use std::{fs, io};
@@ -60,6 +60,8 @@ impl<R: Files + Input + Print, N: Print> Host for OsHost<R, N> {
 
     ghost notes = { λ _. None };
 
+    ghost asked = { λ _. None };
+
     ghost faults = { counted };
 
     ghost use Rattle.std.proofs.Common.{arith};
@@ -88,34 +90,33 @@ impl<R: Files + Input + Print, N: Print> Host for OsHost<R, N> {
     }
 
     fn console_write(&mut self, bytes: &[u8]) -> Result<(), Failed> {
-        settle(self.runtime.write_all(bytes), &mut self.faults)
+        settle(
+            write_full(&mut io::writer(&self.runtime), bytes),
+            &mut self.faults,
+        )
     }
 
     fn note_write(&mut self, bytes: &[u8]) -> Result<(), Failed> {
-        settle(self.notes.write_all(bytes), &mut self.faults)
+        settle(
+            write_full(&mut io::writer(&self.notes), bytes),
+            &mut self.faults,
+        )
     }
 }
 
 // The length of the file in bytes, or `None` where there is none of this name.
 fn file_size(files: &impl Files, name: &str) -> io::Result<Option<u64>> {
-    match fs::metadata(files, name) {
-        Ok(metadata) => Ok(Some(metadata.len())),
-        Err(e) if e.kind() == ErrorKind::NotFound => Ok(None),
-        Err(e) => Err(e),
-    }
+    let found = unless_absent(fs::metadata(files, name))?;
+    Ok(found.map(|metadata| metadata.len()))
 }
 
-// Reads from byte `at` on, until the buffer is full or the file ends. A file that is absent has no bytes.
+// Fills the buffer from byte `at` on. A file that is absent has no bytes.
 fn read_file(files: &impl Files, name: &str, at: u64, buf: &mut [u8]) -> io::Result<usize>
     ensures within { IfOk result (λ n. n ≤ length buf.old) }
 {
-    match fs::open(files, name) {
-        Ok(mut file) => {
-            file.seek(SeekFrom::Start(at))?;
-            read_full(&mut file, buf)
-        }
-        Err(e) if e.kind() == ErrorKind::NotFound => Ok(0),
-        Err(e) => Err(e),
+    match unless_absent(fs::open(files, name))? {
+        Some(mut file) => read_from(&mut file, at, buf),
+        None => Ok(0),
     }
 }
 
@@ -125,35 +126,7 @@ fn write_file(files: &impl Files, name: &str, at: u64, bytes: &[u8]) -> io::Resu
         .write(true)
         .create(true)
         .open(files, name)?;
-    file.seek(SeekFrom::Start(at))?;
-    file.write_all(bytes)
-}
-
-// Reads until the buffer is full or the reader ends.
-fn read_full(reader: &mut impl Read, buf: &mut [u8]) -> io::Result<usize>
-    ensures within { IfOk result (λ n. n ≤ length buf.old) }
-{
-    let mut filled = 0;
-    while filled < buf.len() {
-        match read_some(reader, &mut buf[filled..])? {
-            0 => break,
-            count => filled += count,
-        }
-    }
-    Ok(filled)
-}
-
-// One read, which is tried again where a signal came first.
-fn read_some(reader: &mut impl Read, buf: &mut [u8]) -> io::Result<usize>
-    ensures within { IfOk result (λ n. n ≤ length buf.old) }
-{
-    for _ in 0..u64::MAX {
-        match reader.read(buf) {
-            Err(e) if e.kind() == ErrorKind::Interrupted => {}
-            done => return done,
-        }
-    }
-    Err(io::Error::from(ErrorKind::Interrupted))
+    write_from(&mut file, at, bytes)
 }
 
 #[cfg(test)]

@@ -1,9 +1,14 @@
+ghost use Rattle.std.specs.Prelude.{◌≡◌, ◌≤◌, [], ◌++◌, IfOk, codes};
+
 use super::*;
+use crate::testing::same;
 use std::process::Abort;
 use std::test::Fail;
 
 // A host with a file that has bytes, one that has none, and a second of the first's name.
-fn host(alloc: Global, fails: &[u64]) -> Result<MemHost, AllocError> {
+fn host(alloc: Global, fails: &[u64]) -> Result<MemHost, AllocError>
+    ensures { IfOk result (λ host. host.fails ≡ fails.now) }
+{
     let mut files = Vec::new(alloc);
     for (name, bytes) in [
         ("disk", [1, 2, 3, 4].as_slice()),
@@ -31,15 +36,11 @@ fn write(
     host.write_at(name, at, bytes)
 }
 
-fn holds(host: &MemHost, name: &str, bytes: &[u8]) -> bool {
-    host.file(name).is_some_and(|kept| kept == bytes)
-}
-
 #[test]
 fn reads_files(rt: HostRuntime) -> Result<(), Fail> {
     let mut host = host(rt.alloc(), &[])?;
     for (name, size) in [("disk", Some(4)), ("log", Some(0)), ("none", None)] {
-        assert_eq!(rt; host.size(name), Ok(size), "{name}");
+        same(&rt, host.size(name), Ok(size), name);
     }
     for (name, at, room, want) in [
         ("disk", 0, 4, [1, 2, 3, 4].as_slice()),
@@ -51,9 +52,9 @@ fn reads_files(rt: HostRuntime) -> Result<(), Fail> {
     ] {
         let mut buf = [0; 4];
         let count = host.read_at(name, at, &mut buf[..room])?;
-        assert_eq!(rt; &buf[..count.min(4)], want, "{name} from {at}");
+        same(&rt, &buf[..count.min(4)], want, name);
     }
-    assert_eq!(rt; host.faults(), 0);
+    same(&rt, host.faults(), 0, "the faults");
     Ok(())
 }
 
@@ -68,35 +69,41 @@ fn writes_files(rt: HostRuntime) -> Result<(), Fail> {
         ("new", 0, &[3, 3], &[3, 3]),
     ] {
         write(&rt, &mut host, name, at, bytes)?;
-        assert!(rt; holds(&host, name, want), "{name} from {at}");
+        same(&rt, host.file(name), Some(want), name);
     }
     for name in ["disk", "made"] {
         host.create(name)?;
-        assert!(rt; holds(&host, name, &[]), "{name}");
+        same(&rt, host.file(name), Some(&[]), name);
     }
-    assert_eq!(rt; host.file("none"), None);
+    same(&rt, host.file("none"), None, "none");
     Ok(())
 }
 
-fn speak(host: &mut impl Host) -> Result<(), Failed> {
-    host.console_write(b"one ")?;
-    host.note_write(b"note")?;
-    host.console_write(b"two")
+// Writes that the room holds never fail.
+fn speak(host: &mut MemHost)
+    requires none_fails { host.old.fails ≡ [] }
+    requires console { 7 ≤ host.old.console_room }
+    requires notes { 4 ≤ host.old.notes_room }
+    ensures console { host.new.console ≡ host.old.console ++ codes "one two" }
+    ensures notes { host.new.notes ≡ host.old.notes ++ codes "note" }
+{
+    host.console_write(b"one ").unwrap();
+    host.note_write(b"note").unwrap();
+    host.console_write(b"two").unwrap();
 }
 
 #[test]
 fn reads_and_writes_the_console(rt: HostRuntime) -> Result<(), Fail> {
     let mut host = host(rt.alloc(), &[])?;
+    host.reserve(7, 4)?;
+    speak(&mut host);
     for want in [b"ab".as_slice(), b"c", b""] {
         let mut buf = [0; 2];
         let count = host.console_read(&mut buf)?;
-        assert_eq!(rt; &buf[..count.min(2)], want);
+        same(&rt, &buf[..count.min(2)], want, "the input");
     }
-    speak(&mut host)?;
-    assert_eq!(rt;
-        (host.console(), host.notes()),
-        (b"one two".as_slice(), b"note".as_slice())
-    );
+    same(&rt, host.console(), b"one two", "the console");
+    same(&rt, host.notes(), b"note", "the notes");
     Ok(())
 }
 
@@ -115,42 +122,39 @@ fn call(rt: &impl Abort, host: &mut MemHost, number: u64) -> Result<(), Failed> 
     }
 }
 
+// Each call once on both hosts, but the one that fails on the first alone.
+fn run(rt: &impl Abort, told: &mut MemHost, other: &mut MemHost, failing: u64) {
+    for number in 0..CALLS {
+        let done = call(rt, told, number);
+        same(rt, done.is_err(), number == failing, "a call fails");
+        if number != failing {
+            same(rt, call(rt, other, number), Ok(()), "a call");
+        }
+    }
+}
+
+fn are_alike(rt: &impl Abort, told: &mut MemHost, other: &mut MemHost) {
+    for name in ["disk", "log"] {
+        same(rt, told.file(name), other.file(name), name);
+    }
+    same(rt, told.console(), other.console(), "the console");
+    same(rt, told.notes(), other.notes(), "the notes");
+    let (mut left, mut wanted) = ([0; 4], [0; 4]);
+    let count = told.console_read(&mut left);
+    same(rt, count, other.console_read(&mut wanted), "what is left");
+    same(rt, left, wanted, "what is left");
+}
+
 // A host whose call fails is as one at which it was never made.
 #[test]
 fn fails_where_it_is_told(rt: HostRuntime) -> Result<(), Fail> {
     for failing in 0..CALLS {
         let mut told = host(rt.alloc(), &[failing])?;
         let mut other = host(rt.alloc(), &[])?;
-        for number in 0..CALLS {
-            let done = call(&rt, &mut told, number);
-            assert_eq!(rt;
-                done.is_err(),
-                number == failing,
-                "call {number} of {failing}"
-            );
-            if number != failing {
-                call(&rt, &mut other, number)?;
-            }
-        }
-        assert_eq!(rt; (told.faults(), other.faults()), (1, 0));
-        for name in ["disk", "log"] {
-            assert_eq!(rt;
-                told.file(name),
-                other.file(name),
-                "{name} without {failing}"
-            );
-        }
-        assert_eq!(rt;
-            (told.console(), told.notes()),
-            (other.console(), other.notes())
-        );
-        let mut buf = [0; 4];
-        let mut wanted = [0; 4];
-        assert_eq!(rt;
-            told.console_read(&mut buf),
-            other.console_read(&mut wanted)
-        );
-        assert_eq!(rt; buf, wanted);
+        run(&rt, &mut told, &mut other, failing);
+        same(&rt, told.faults(), 1, "the faults");
+        same(&rt, other.faults(), 0, "the faults");
+        are_alike(&rt, &mut told, &mut other);
     }
     Ok(())
 }

@@ -1,9 +1,9 @@
-use Rattle.std.proofs.Common.{ℕ, ◌≤◌, List, length, ap, refl, sym, subst, ◌∙◌, string_bytes}
+use Rattle.std.proofs.Common.{ℕ, ◌+◌, ◌≤◌, List, length, ap, refl, sym, subst, ◌∙◌, string_bytes}
 use Rattle.std.proofs.Math.Seq.{map-set_same}
 use Rattle.jos_host.specs.Files.{with_bytes, overwritten}
 use Rattle.jos_host.specs.declared.mem.NamedBytes.{NamedBytes}
 use Rattle.std.specs.List.{position}
-use Rattle.jos_host.proofs.Named.{has_name, files_of-set, files_of-push, bytes_of-first, bytes_of-absent, overwritten-nil}
+use Rattle.jos_host.proofs.Named.{has_name, files_of-set, files_of-push, bytes_of-first, bytes_of-absent, overwritten-nil, not_there}
 use Rattle.jos_host.proofs.Outcome.{OnOk-map, OnErr-map}
 use Rattle.jos_host.proofs.mem.store.Goals as goal
 
@@ -40,3 +40,14 @@ returns-in-None-clause-ok c =
     ∙ ap (with_bytes _ c.args.name.now)
     (sym (overwritten-nil c.args.at c.args.bytes.now start) ∙ ap (λ (l : List ℕ). overwritten l c.args.at c.args.bytes.now) (sym none)))
     c.add.ensures.ok
+
+pub returns-in-Some-clause-there : goal.returns-in-Some-clause-there
+returns-in-Some-clause-there c =
+    let at = ap (position (has_name c.args.name.now)) (sym c.deref.ensures.value) ∙ sym c.place.ensures ∙ c.in-Some.is in
+    λ some fits. c.overwrite.ensures.there
+    (subst (λ (l : List ℕ). c.args.at + length c.args.bytes.now ≤ length l)
+    (bytes_of-first c.args.files.now.items c.args.name.now c.in-Some.found c.index_mut.result.now at c.index_mut.ensures.value) fits)
+
+pub returns-in-None-clause-there : goal.returns-in-None-clause-there
+returns-in-None-clause-there c =
+    λ some fits. absurd (not_there c.args.files.now.items c.args.name.now (ap (position (has_name c.args.name.now)) (sym c.deref.ensures.value) ∙ sym c.place.ensures ∙ c.in-None.is) some)
