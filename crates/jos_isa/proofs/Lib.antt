@@ -7,6 +7,7 @@ pub mod Instructions
 pub mod Booleans
 pub mod Places
 pub mod Writers
+pub mod Kept
 pub mod Encodings
 pub mod FoundLawful
 pub mod SureLengths

@@ -1,6 +1,6 @@
 //! An instruction to bytes.
 
-ghost use Rattle.std.specs.Prelude.{◌≡◌, ℕ, ◌+◌, ◌*◌, ◌^◌, ◌<◌, ◌≤◌, List, [], ◌∷◌, ◌++◌, length, take, Option, Some, IsTrue, FitsSigned};
+ghost use Rattle.std.specs.Prelude.{◌≡◌, ℕ, ◌+◌, ◌*◌, ◌^◌, ◌<◌, ◌≤◌, List, [], ◌∷◌, ◌++◌, length, take, drop, Option, Some, IsTrue, FitsSigned};
 ghost use Rattle.std.specs.Int.{w8, w16, w32, to_le_bytes};
 ghost use Rattle.jos_isa.specs.Spelling.{Spells};
 ghost use Rattle.jos_isa.specs.Reading.{decoded};
@@ -14,11 +14,12 @@ use crate::lawfulness::{form_of_insn, is_register};
 use crate::opcode::{Choice, Form, Immediate, choose};
 use crate::placement::{Opcode, place_of, reg_field};
 
-// Each of these writes from place `at` on, and gives the place behind what it wrote.
+// Each of these writes from place `at` on, gives the place behind what it wrote, and keeps what is behind it.
 fn put_byte(byte: u8, out: &mut [u8; 15], at: usize) -> usize
     requires room { at < 15 }
     ensures written { take result out.new ≡ take at out.old ++ byte ∷ [] }
     ensures behind { result ≡ at + 1 }
+    ensures kept { drop result out.new ≡ drop result out.old }
 {
     out[at] = byte;
     at + 1
@@ -28,6 +29,7 @@ fn put_pair(number: u16, out: &mut [u8; 15], at: usize) -> usize
     requires room { at ≤ 13 }
     ensures written { take result out.new ≡ take at out.old ++ to_le_bytes w16 number }
     ensures behind { result ≡ at + 2 }
+    ensures kept { drop result out.new ≡ drop result out.old }
 {
     let [a, b] = number.to_le_bytes();
     let at = put_byte(a, out, at);
@@ -38,6 +40,7 @@ fn put_word(number: u32, out: &mut [u8; 15], at: usize) -> usize
     requires room { at ≤ 11 }
     ensures written { take result out.new ≡ take at out.old ++ to_le_bytes w32 number }
     ensures behind { result ≡ at + 4 }
+    ensures kept { drop result out.new ≡ drop result out.old }
 {
     let [a, b, c, d] = number.to_le_bytes();
     let at = put_byte(a, out, at);
@@ -50,6 +53,7 @@ fn put_word(number: u32, out: &mut [u8; 15], at: usize) -> usize
 fn put_opcode(repeat: Repeat, opcode: Opcode, out: &mut [u8; 15]) -> usize
     ensures written { take result out.new ≡ opcode_bytes repeat opcode }
     ensures within { result ≤ 2 }
+    ensures kept { drop result out.new ≡ drop result out.old }
 {
     match opcode {
         Opcode::One(opcode) => match repeat {
@@ -75,6 +79,8 @@ fn put_immediate(immediate: Immediate, value: u32, out: &mut [u8; 15], at: usize
     requires room { at ≤ 11 }
     ensures written { take result out.new ≡ take at out.old ++ immediate_bytes immediate value }
     ensures within { result ≤ at + 4 }
+    ensures behind { at ≤ result }
+    ensures kept { drop result out.new ≡ drop result out.old }
 {
     match immediate {
         Immediate::Nothing => at,
@@ -92,6 +98,8 @@ fn put_disp(disp: Disp, out: &mut [u8; 15], at: usize) -> usize
     requires room { at ≤ 11 }
     ensures written { take result out.new ≡ take at out.old ++ disp_bytes disp }
     ensures within { result ≤ at + 4 }
+    ensures behind { at ≤ result }
+    ensures kept { drop result out.new ≡ drop result out.old }
 {
     match disp {
         Disp::Zero => at,
@@ -162,6 +170,8 @@ fn put_sib(arg: MemArg, out: &mut [u8; 15], at: usize) -> usize
     requires room { at < 15 }
     ensures written { take result out.new ≡ take at out.old ++ sib_bytes arg }
     ensures within { result ≤ at + 1 }
+    ensures behind { at ≤ result }
+    ensures kept { drop result out.new ≡ drop result out.old }
 {
     if has_sib(arg) {
         let sib = three_fields(arg.scale, index_number(arg.index), base_number(arg.base));
@@ -177,6 +187,8 @@ fn put_memory(arg: MemArg, reg: u8, out: &mut [u8; 15], at: usize) -> usize
     requires room { at ≤ 2 }
     ensures written { take result out.new ≡ take at out.old ++ operand_bytes (Operand.Mem arg) reg }
     ensures within { result ≤ at + 6 }
+    ensures behind { at ≤ result }
+    ensures kept { drop result out.new ≡ drop result out.old }
 {
     let modrm = three_fields(mode_of(arg.base, arg.disp), reg, rm_of(arg));
     let at = put_byte(modrm, out, at);
@@ -191,6 +203,8 @@ fn put_operand(operand: Operand, reg: u8, out: &mut [u8; 15], at: usize) -> usiz
     requires room { at ≤ 2 }
     ensures written { take result out.new ≡ take at out.old ++ operand_bytes operand reg }
     ensures within { result ≤ at + 6 }
+    ensures behind { at ≤ result }
+    ensures kept { drop result out.new ≡ drop result out.old }
 {
     match operand {
         Operand::Absent => at,
@@ -206,6 +220,8 @@ fn put_chosen(choice: Option<Choice>, value: u32, out: &mut [u8; 15], at: usize)
     requires room { at ≤ 8 }
     ensures written { take result out.new ≡ take at out.old ++ chosen_bytes choice value }
     ensures within { result ≤ at + 4 }
+    ensures behind { at ≤ result }
+    ensures kept { drop result out.new ≡ drop result out.old }
 {
     match choice {
         None => at,
@@ -221,6 +237,8 @@ fn put_form(form: Option<Form>, insn: Insn, out: &mut [u8; 15], at: usize) -> us
     requires room { at ≤ 2 }
     ensures written { take result out.new ≡ take at out.old ++ form_bytes form insn }
     ensures within { result ≤ at + 10 }
+    ensures behind { at ≤ result }
+    ensures kept { drop result out.new ≡ drop result out.old }
 {
     match form {
         None => at,
@@ -239,6 +257,7 @@ fn write(insn: Insn, out: &mut [u8; 15]) -> usize
     requires lawful { IsTrue (is_lawful insn) }
     ensures written { take result out.new ≡ written insn }
     ensures within { result ≤ 12 }
+    ensures kept { drop result out.new ≡ drop result out.old }
 {
     let at = put_opcode(insn.repeat, place_of(insn.row, insn.reg), out);
     put_form(form_of_insn(insn), insn, out, at)
@@ -281,11 +300,14 @@ fn numbers_fit(insn: Insn)
 }
 
 /// Writes a lawful instruction to the first bytes of `out`, and gives their number. Of its spellings it is one
-/// with a SIB byte only where there is an index or the base is ESP. It takes no memory.
+/// with a SIB byte only where there is an index or the base is ESP. The bytes of `out` behind the instruction stay as
+/// they were. It takes no memory.
 pub fn encode(insn: &Insn, out: &mut [u8; 15]) -> usize
     requires lawful { IsTrue (is_lawful insn.now) }
     ensures within { result ≤ 15 }
     ensures written { take result out.new ≡ written insn.now }
+    // What is behind them stays.
+    ensures kept { drop result out.new ≡ drop result out.old }
 
     // They spell the instruction.
     ensures spelled { Spells insn.now (take result out.new) }
