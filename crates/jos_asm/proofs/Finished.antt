@@ -1,25 +1,30 @@
 -- What the passes over the items say together.
-use denote.Ref.{Bor}
-use Rattle.std.proofs.Common.{◌≡◌, ℕ, All, length, ◌≤◌, ◌<◌, List, [], Option, Some, None, Result, Ok, Err, refl, ap, ◌∙◌, sym, subst, cond}
-use Rattle.std.specs.Prelude.{IsTrue, unwrap_or}
+use Rattle.std.proofs.Common.{◌≡◌, ℕ, All, length, ◌≤◌, ◌<◌, List, [], Option, Some, None, Result, Ok, Err, ap, ◌∙◌, sym, cond}
+use Rattle.std.specs.Prelude.{IsTrue, IsOkAnd}
 use Rattle.std.specs.Option.{option_map}
-use Rattle.std.specs.BTreeMap.{BTreeMap}
 use Rattle.std.proofs.lemmas.Bool.{lt-ltb, le-ltb}
 use Rattle.jos_asm.specs.declared.fault.AsmFault.{AsmFault}
-use Rattle.jos_asm.specs.declared.fault.AsmFault.TheVariants.{TooLong, Twice, Unknown, Far}
+use Rattle.jos_asm.specs.declared.fault.AsmFault.TheVariants.{TooLong, Twice, Unknown, Far, NoMemory}
 use Rattle.jos_asm.specs.declared.item.Item.{Item}
 use Rattle.jos_asm.specs.Items.{is_item}
 use Rattle.jos_asm.specs.Program.{Program, length_of_all, place_in, known_place, first_twice, first_unknown, first_far, spelled_from, unless, finished}
 use Rattle.jos_asm.specs.Calls.{IsFault, fault_in}
-use Rattle.jos_asm.specs.Labels.{labelled, labelled_place}
 use Rattle.jos_asm.specs.Laid.{AreLaid}
 use Rattle.jos_asm.proofs.Laid.{all_laid}
-use Rattle.jos_asm.proofs.Passes.{only_memory, spelled_len}
+use Rattle.jos_asm.proofs.Passes.{spelled_len}
+
+-- a fault of the program is told as it is
+told : (p : Program) (fault : AsmFault) → finished p ≡ Err fault → IsFault fault (fault_in (finished p))
+told p NoMemory is = tt
+told p TooLong is = ap fault_in is
+told p (Twice name) is = ap fault_in is
+told p (Unknown name) is = ap fault_in is
+told p (Far name) is = ap fault_in is
 
 fault_unless : (kind : List ℕ → AsmFault) (name : Option (List ℕ)) (answer : Result (List ℕ) AsmFault) (fault : AsmFault)
-    → IsFault fault (option_map kind name) → IsFault fault (fault_in (unless kind name answer))
-fault_unless kind None answer fault h = only_memory fault (fault_in answer) h
-fault_unless kind (Some name) answer fault h = h
+    → option_map kind name ≡ Some fault → unless kind name answer ≡ Err fault
+fault_unless kind None answer fault h = absurd cc
+fault_unless kind (Some name) answer fault h = cc
 
 module _ (p : Program) where
   abbrev far_answer : Result (List ℕ) AsmFault
@@ -31,53 +36,56 @@ module _ (p : Program) where
   abbrev twice_answer : Result (List ℕ) AsmFault
   twice_answer = unless Twice (first_twice [] p.items) unknown_answer
 
-  pub too_long : 1048576 < length_of_all p.items → finished p ≡ Err TooLong
+  too_long : 1048576 < length_of_all p.items → finished p ≡ Err TooLong
   unfolding finished
   too_long over = ap (λ b. cond b (Err TooLong) twice_answer) (lt-ltb 1048576 (length_of_all p.items) over)
 
-  short : length_of_all p.items ≤ 1048576 → finished p ≡ twice_answer
-  unfolding finished
-  short small = ap (λ b. cond b (Err TooLong) twice_answer) (le-ltb 1048576 (length_of_all p.items) small)
+  pub is_long : (fault : AsmFault) → fault ≡ TooLong → 1048576 < length_of_all p.items → IsFault fault (fault_in (finished p))
+  is_long fault is over = told p fault (rw is (too_long over))
 
-  pub is_twice : length_of_all p.items ≤ 1048576 → (fault : AsmFault) → IsFault fault (option_map Twice (first_twice [] p.items)) → IsFault fault (fault_in (finished p))
-  is_twice small fault h = rw (short small) (fault_unless Twice (first_twice [] p.items) unknown_answer fault h)
+  module _ (small : length_of_all p.items ≤ 1048576) where
+    short : finished p ≡ twice_answer
+    unfolding finished
+    short = ap (λ b. cond b (Err TooLong) twice_answer) (le-ltb 1048576 (length_of_all p.items) small)
 
-  module _ (small : length_of_all p.items ≤ 1048576) (once : first_twice [] p.items ≡ None) (labels : BTreeMap (Bor (List ℕ)) ℕ) (known : (name : List ℕ) → labelled labels name ≡ place_in p.items name) where
-    same : labelled labels ≡ place_in p.items
-    same = λ i name. known name i
+    pub is_twice : (fault : AsmFault) → option_map Twice (first_twice [] p.items) ≡ Some fault → IsFault fault (fault_in (finished p))
+    is_twice fault h = told p fault (short ∙ fault_unless Twice (first_twice [] p.items) unknown_answer fault h)
 
-    places : labelled_place labels ≡ known_place p.items
-    places = λ i name. unwrap_or (known name i) 0
+    module _ (once : first_twice [] p.items ≡ None) where
+      once_answer : finished p ≡ unknown_answer
+      once_answer = short ∙ ap (λ o. unless Twice o unknown_answer) once
 
-    once_answer : finished p ≡ unknown_answer
-    once_answer = short small ∙ ap (λ o. unless Twice o unknown_answer) once
+      pub is_unknown_name : (fault : AsmFault) → option_map Unknown (first_unknown (place_in p.items) p.items) ≡ Some fault → IsFault fault (fault_in (finished p))
+      is_unknown_name fault h = told p fault (once_answer ∙ fault_unless Unknown (first_unknown (place_in p.items) p.items) far_answer fault h)
 
-    pub is_unknown_name : (fault : AsmFault) → IsFault fault (option_map Unknown (first_unknown (labelled labels) p.items)) → IsFault fault (fault_in (finished p))
-    is_unknown_name fault h = rw once_answer (fault_unless Unknown (first_unknown (place_in p.items) p.items) far_answer fault
-        (subst (λ (place : List ℕ → Option ℕ). IsFault fault (option_map Unknown (first_unknown place p.items))) same h))
+      module _ (named : first_unknown (place_in p.items) p.items ≡ None) where
+        named_answer : finished p ≡ far_answer
+        named_answer = once_answer ∙ ap (λ o. unless Unknown o far_answer) named
 
-    module _ (named : first_unknown (labelled labels) p.items ≡ None) where
-      named_answer : finished p ≡ far_answer
-      named_answer = once_answer ∙ ap (λ o. unless Unknown o far_answer) (ap (λ place. first_unknown place p.items) (sym same) ∙ named)
+        pub is_far_name : (fault : AsmFault) → option_map Far (first_far (known_place p.items) 0 p.items) ≡ Some fault → IsFault fault (fault_in (finished p))
+        is_far_name fault h =
+            told p fault (named_answer ∙ fault_unless Far (first_far (known_place p.items) 0 p.items) (Ok (spelled_from p.base (known_place p.items) 0 p.items)) fault h)
 
-      pub is_far_name : (fault : AsmFault) → IsFault fault (option_map Far (first_far (labelled_place labels) 0 p.items)) → IsFault fault (fault_in (finished p))
-      is_far_name fault h = rw named_answer (fault_unless Far (first_far (known_place p.items) 0 p.items) (Ok (spelled_from p.base (known_place p.items) 0 p.items)) fault
-          (subst (λ (place : List ℕ → ℕ). IsFault fault (option_map Far (first_far place 0 p.items))) places h))
+        module _ (near : first_far (known_place p.items) 0 p.items ≡ None) where
+          answer : finished p ≡ Ok (spelled_from p.base (known_place p.items) 0 p.items)
+          answer = named_answer ∙ ap (λ o. unless Far o (Ok (spelled_from p.base (known_place p.items) 0 p.items))) near
 
-      pub is_laid : (code : List ℕ) → All (λ i. IsTrue (is_item i)) p.items → code ≡ spelled_from p.base (labelled_place labels) 0 p.items → AreLaid p code
-      is_laid code are is = all_laid p code are small once (ap (λ place. first_unknown place p.items) (sym same) ∙ named) (is ∙ ap (λ place. spelled_from p.base place 0 p.items) places)
+          module _ (are : All (λ i. IsTrue (is_item i)) p.items) where
+            len_is : length (spelled_from p.base (known_place p.items) 0 p.items) ≡ length_of_all p.items
+            len_is = spelled_len p.base (known_place p.items) 0 p.items are
 
-      pub is_spelled : (code : List ℕ) → first_far (labelled_place labels) 0 p.items ≡ None → code ≡ spelled_from p.base (labelled_place labels) 0 p.items → finished p ≡ Ok code
-      is_spelled code near is =
-          named_answer ∙ ap (λ o. unless Far o (Ok (spelled_from p.base (known_place p.items) 0 p.items))) (ap (λ place. first_far place 0 p.items) (sym places) ∙ near)
-          ∙ ap Ok (ap (λ place. spelled_from p.base place 0 p.items) (sym places) ∙ sym is)
+            pub has_bytes : 0 < length_of_all p.items → IsOkAnd (finished p) (λ code. 0 < length code)
+            has_bytes some = rw (answer, len_is) some
+
+            module _ (code : List ℕ) (is : code ≡ spelled_from p.base (known_place p.items) 0 p.items) where
+              pub is_spelled : finished p ≡ Ok code
+              is_spelled = answer ∙ ap Ok (sym is)
+
+              pub is_laid : AreLaid p code
+              is_laid = all_laid p code are small once named is
+
+              pub code_small : length code ≤ 1048576
+              code_small = rw (is, len_is) small
 
 abbrev pub program : ℕ → List Item → Program
 program base items = record { base = base; items = items }
-
-pub is_long_fault : (p : Program) (fault : AsmFault) → fault ≡ TooLong → 1048576 < length_of_all p.items → IsFault fault (fault_in (finished p))
-is_long_fault p fault is over = rw (is, too_long p over) refl
-
--- what is spelled is as long as the items
-pub code_small : (p : Program) (place : List ℕ → ℕ) (code : List ℕ) → All (λ i. IsTrue (is_item i)) p.items → code ≡ spelled_from p.base place 0 p.items → length_of_all p.items ≤ 1048576 → length code ≤ 1048576
-code_small p place code are is small = rw (is, spelled_len p.base place 0 p.items are) small

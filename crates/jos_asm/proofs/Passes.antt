@@ -1,10 +1,10 @@
 -- What the passes over the items know when they have come to the item at some index.
-use Rattle.std.proofs.Common.{◌≡◌, ℕ, zero, suc, All, ◌+◌, ◌≤◌, ◌<◌, Bool, true, false, List, ◌∷◌, [], ◌++◌, length, drop, get_or, Option, Some, None, refl, sym, ap, ◌∙◌, arith, append_assoc, append-nil, length-append}
+use Rattle.std.proofs.Common.{◌≡◌, ℕ, zero, suc, All, ◌+◌, ◌≤◌, ◌<◌, Bool, true, false, List, ◌∷◌, [], ◌++◌, length, take, drop, get_or, Option, Some, None, refl, sym, ap, subst, ◌∙◌, arith, append_assoc, append-nil, length-append}
 use Rattle.std.specs.Prelude.{is_some, ◌||◌, unwrap_or, IsTrue, cond}
 use Rattle.std.specs.Option.{option_map}
 use Rattle.std.specs.List.{list_any}
 use Rattle.std.specs.Str.{bytes_eq}
-use Rattle.std.proofs.lemmas.List.{drop_more, drop_all}
+use Rattle.std.proofs.lemmas.List.{take_more, drop_more, drop_all}
 use Rattle.std.proofs.lemmas.Slice.Eq.{bytes_eq-Decides}
 use Rattle.jos_asm.specs.declared.item.Item.{Item}
 use Rattle.jos_asm.specs.declared.item.Item.TheVariants as item
@@ -21,10 +21,19 @@ pub record Counted (items : List Item) (index len : ℕ) : Type 0 where
   pub rest : len + length_of_all (drop index items) ≡ length_of_all items
   pub small : len ≤ 1048576
 
+-- the label of a name, if it is not found yet, is among the items to come, the first of them at `at`
+pub record Sought (name : List ℕ) (items : List Item) (index at : ℕ) : Type 0 where
+  pub rest : at + length_of_all (drop index items) ≡ length_of_all items
+  pub place : place_from at (drop index items) name ≡ place_in items name
+
+-- the first jump that does not reach its label is among the items to come, the first of them at `at`
+pub record Reached (place : List ℕ → ℕ) (items : List Item) (index at : ℕ) : Type 0 where
+  pub rest : at + length_of_all (drop index items) ≡ length_of_all items
+  pub far : first_far place at (drop index items) ≡ first_far place 0 items
+
 -- the bytes written and those of the items to come are all of them
 pub record Written (base : ℕ) (place : List ℕ → ℕ) (items : List Item) (index : ℕ) (code : List ℕ) : Type 0 where
-  pub rest : length code + length_of_all (drop index items) ≡ length_of_all items
-  pub far : first_far place (length code) (drop index items) ≡ first_far place 0 items
+  pub reached : Reached place items index (length code)
   pub bytes : code ++ spelled_from base place (length code) (drop index items) ≡ spelled_from base place 0 items
 
 -- what is found, and else what will be
@@ -52,6 +61,12 @@ fault_first kind false name later first (Twice x) e h = absurd cc
 fault_first kind false name later first (Unknown x) e h = absurd cc
 fault_first kind false name later first (Far x) e h = absurd cc
 
+-- the same where the fault is known exactly
+told_first : (kind : List ℕ → AsmFault) (here : Bool) (name later first : Option (List ℕ)) (fault : AsmFault) → first ≡ cond here name later
+    → cond here (option_map kind name) None ≡ Some fault → option_map kind first ≡ Some fault
+told_first kind true name later first fault e h = rw e h
+told_first kind false name later first fault e h = absurd cc
+
 -- ---- lengths
 
 pub bytes_len : (base : ℕ) (place : List ℕ → ℕ) (at : ℕ) (x : Item) → IsTrue (is_item x) → length (bytes_of base place at x) ≡ length_of x
@@ -78,6 +93,18 @@ place_within (i ∷ items) at name = go (is_label name i) (place_within items (a
     go true later = omega arith
     go false later = omega (arith, later)
 
+-- a jump that is far has a label, so that there is none such where there is no fault
+only_near : (place : List ℕ → ℕ) (at : ℕ) (x : Item) (later : Option (List ℕ)) → cond (is_far place at x) (target_of x) later ≡ None → is_far place at x ≡ false
+only_near place at (item.Label name) later h = refl
+only_near place at (item.Insn insn) later h = refl
+only_near place at (item.Jump row name) later h = near (is_far place at (item.Jump row name)) h
+  where
+    near : (b : Bool) → cond b (Some name) later ≡ None → b ≡ false
+    near true h = absurd cc
+    near false h = refl
+only_near place at (item.Address reg name) later h = refl
+only_near place at (item.Bytes bytes) later h = refl
+
 -- ---- at the item x, and one further
 
 module _ (items : List Item) (i : ℕ) (x : Item) (is : x ≡ get_or items i x) (within : i < length items) where
@@ -102,35 +129,62 @@ module _ (items : List Item) (i : ℕ) (x : Item) (is : x ≡ get_or items i x) 
       → first_unknown place (drop (i + 1) items) ≡ first_unknown place items
   known_more place same known = sym (unknown_more place ∙ ap (λ b. cond b (target_of x) (first_unknown place (drop (i + 1) items))) known) ∙ same
 
-  pub unknown_fault : (place : List ℕ → Option ℕ) (fault : AsmFault) → first_unknown place (drop i items) ≡ first_unknown place items → IsFault fault (unknown_in place x)
-      → IsFault fault (option_map Unknown (first_unknown place items))
+  pub unknown_fault : (place : List ℕ → Option ℕ) (fault : AsmFault) → first_unknown place (drop i items) ≡ first_unknown place items → unknown_in place x ≡ Some fault
+      → option_map Unknown (first_unknown place items) ≡ Some fault
   unknown_fault place fault same h =
-      fault_first Unknown (is_unknown place (target_of x)) (target_of x) (first_unknown place (drop (i + 1) items)) (first_unknown place items) fault (sym same ∙ unknown_more place) h
+      told_first Unknown (is_unknown place (target_of x)) (target_of x) (first_unknown place (drop (i + 1) items)) (first_unknown place items) fault (sym same ∙ unknown_more place) h
+
+  module _ (name : List ℕ) (at : ℕ) (s : Sought name items i at) where
+    place_more : place_from at (drop i items) name ≡ cond (is_label name x) (Some at) (place_from (at + length_of x) (drop (i + 1) items) name)
+    unfolding place_from
+    place_more = ap (λ (l : List Item). place_from at l name) next
+
+    pub sought_room : length_of_all items ≤ 1048576 → at + length_of x ≤ 1048576
+    sought_room small = let e = s.rest in let f = len_more in omega (arith, e, f)
+
+    pub sought_here : is_label name x ≡ true → Some at ≡ place_in items name
+    sought_here here = sym (place_more ∙ ap (λ b. cond b (Some at) (place_from (at + length_of x) (drop (i + 1) items) name)) here) ∙ s.place
+
+    pub sought_more : is_label name x ≡ false → Sought name items (i + 1) (at + length_of x)
+    sought_more other = record {
+      rest = let e = s.rest in let f = len_more in omega (arith, e, f);
+      place = sym (place_more ∙ ap (λ b. cond b (Some at) (place_from (at + length_of x) (drop (i + 1) items) name)) other) ∙ s.place;
+    }
+
+  module _ (place : List ℕ → ℕ) (at : ℕ) (r : Reached place items i at) where
+    far_more : first_far place at (drop i items) ≡ cond (is_far place at x) (target_of x) (first_far place (at + length_of x) (drop (i + 1) items))
+    unfolding first_far
+    far_more = ap (first_far place at) next
+
+    pub reached_room : length_of_all items ≤ 1048576 → at + length_of x ≤ 1048576
+    reached_room small = let e = r.rest in let f = len_more in omega (arith, e, f)
+
+    pub reached_fault : (fault : AsmFault) → far_at place at x ≡ Some fault → option_map Far (first_far place 0 items) ≡ Some fault
+    reached_fault fault h =
+        told_first Far (is_far place at x) (target_of x) (first_far place (at + length_of x) (drop (i + 1) items)) (first_far place 0 items) fault (sym r.far ∙ far_more) h
+
+    pub reached_more : is_far place at x ≡ false → Reached place items (i + 1) (at + length_of x)
+    reached_more near = record {
+      rest = let e = r.rest in let f = len_more in omega (arith, e, f);
+      far = sym (far_more ∙ ap (λ b. cond b (target_of x) (first_far place (at + length_of x) (drop (i + 1) items))) near) ∙ r.far;
+    }
+
+    pub all_near : first_far place 0 items ≡ None → is_far place at x ≡ false
+    all_near none = only_near place at x _ (sym far_more ∙ r.far ∙ none)
 
   module _ (base : ℕ) (place : List ℕ → ℕ) (code : List ℕ) (w : Written base place items i code) where
-    far_more : first_far place (length code) (drop i items) ≡ cond (is_far place (length code) x) (target_of x) (first_far place (length code + length_of x) (drop (i + 1) items))
-    unfolding first_far
-    far_more = ap (first_far place (length code)) next
-
     bytes_more : spelled_from base place (length code) (drop i items) ≡ bytes_of base place (length code) x ++ spelled_from base place (length code + length_of x) (drop (i + 1) items)
     unfolding spelled_from
     bytes_more = ap (spelled_from base place (length code)) next
 
-    pub written_room : length_of_all items ≤ 1048576 → length code + length_of x ≤ 1048576
-    written_room small = let e = w.rest in let f = len_more in omega (arith, e, f)
-
-    pub written_fault : (fault : AsmFault) → IsFault fault (far_at place (length code) x) → IsFault fault (option_map Far (first_far place 0 items))
-    written_fault fault h =
-        fault_first Far (is_far place (length code) x) (target_of x) (first_far place (length code + length_of x) (drop (i + 1) items)) (first_far place 0 items) fault (sym w.far ∙ far_more) h
+    pub written_within : (room : ℕ) → length_of_all items ≤ room → length code + length_of x ≤ room
+    written_within room small = let e = w.reached.rest in let f = len_more in omega (arith, e, f)
 
     pub written_more : (new : List ℕ) → IsTrue (is_item x) → is_far place (length code) x ≡ false → new ≡ code ++ bytes_of base place (length code) x → Written base place items (i + 1) new
     written_more new lawful near e =
         let longer : length new ≡ length code + length_of x = ap length e ∙ length-append code _ ∙ ap (λ n. length code + n) (bytes_len base place (length code) x lawful) in
-        let r = w.rest in let f = len_more in
         record {
-          rest = omega (arith, longer, r, f);
-          far = ap (λ n. first_far place n (drop (i + 1) items)) longer
-              ∙ sym (far_more ∙ ap (λ b. cond b (target_of x) (first_far place (length code + length_of x) (drop (i + 1) items))) near) ∙ w.far;
+          reached = subst (λ (n : ℕ). Reached place items (i + 1) n) (sym longer) (reached_more place (length code) w.reached near);
           bytes = (λ j. e j ++ spelled_from base place (longer j) (drop (i + 1) items))
               ∙ append_assoc code (bytes_of base place (length code) x) _ ∙ ap (λ l. code ++ l) (sym bytes_more) ∙ w.bytes;
         }
@@ -146,9 +200,6 @@ found_at found label name absent e = none (found name) (ap (λ n. is_some (found
 
 pub once_if : {X : Type 0} (o : Option ℕ) (x : X) → o ≡ None → cond (is_some o) (Some x) None ≡ None
 once_if o x e = rw e refl
-
-pub known_if : (place : List ℕ → Option ℕ) (name : List ℕ) → is_some (place name) ≡ true → is_unknown place (Some name) ≡ false
-known_if place name e = rw e refl
 
 absent_if : {X : Type 0} (b : Bool) (x : X) → cond b (Some x) None ≡ None → b ≡ false
 absent_if true x h = absurd cc
@@ -188,6 +239,9 @@ module _ (found later : List ℕ → Option ℕ) (items : List Item) (i at : ℕ
 
   label_fault : (fault : AsmFault) → IsFault fault (cond (is_some (found label)) (Some (Twice label)) None) → IsFault fault (option_map Twice (first_twice [] items))
   label_fault fault h = fault_first Twice (is_some (found label)) (Some label) (first_twice (label ∷ w.before) (drop (i + 1) items)) (first_twice [] items) fault (sym twice_now) h
+
+  label_told : (fault : AsmFault) → cond (is_some (found label)) (Some (Twice label)) None ≡ Some fault → option_map Twice (first_twice [] items) ≡ Some fault
+  label_told fault h = told_first Twice (is_some (found label)) (Some label) (first_twice (label ∷ w.before) (drop (i + 1) items)) (first_twice [] items) fault (sym twice_now) h
 
 -- the step to another item
 abbrev IsOther : Item → Type 0
@@ -234,6 +288,13 @@ module _ (found : List ℕ → Option ℕ) (items : List Item) (i at : ℕ) (w :
   placed_fault fault (item.Address reg name) is h = only_memory fault (option_map Twice (first_twice [] items)) h
   placed_fault fault (item.Bytes bytes) is h = only_memory fault (option_map Twice (first_twice [] items)) h
 
+  pub placed_told : (fault : AsmFault) (x : Item) → x ≡ get_or items i x → twice_in found x ≡ Some fault → option_map Twice (first_twice [] items) ≡ Some fault
+  placed_told fault (item.Label label) is h = label_told found found items i at label w (next items i (item.Label label) is within) fault h
+  placed_told fault (item.Insn insn) is h = absurd cc
+  placed_told fault (item.Jump row name) is h = absurd cc
+  placed_told fault (item.Address reg name) is h = absurd cc
+  placed_told fault (item.Bytes bytes) is h = absurd cc
+
   pub placed_room : (x : Item) → x ≡ get_or items i x → length_of_all items ≤ 1048576 → at + length_of x ≤ 1048576
   placed_room x is small = let r = w.rest in let f = len_more items i x is within in omega (arith, r, f, small)
 
@@ -249,12 +310,76 @@ placed_start found items none = record {
   twice = refl;
 }
 
+-- ---- labels among the items before
+
+place_behind : (items : List Item) (x : Item) (at : ℕ) (name : List ℕ)
+    → place_from at (items ++ x ∷ []) name ≡ or_later (place_from at items name) (cond (is_label name x) (Some (at + length_of_all items)) None)
+unfolding place_from length_of_all
+place_behind [] x at name = ap (λ (n : ℕ). cond (is_label name x) (Some n) None) (plus_zero at)
+  where
+    plus_zero : (n : ℕ) → n ≡ n + 0
+    plus_zero n = omega arith
+place_behind (y ∷ items) x at name = go (is_label name y) (place_behind items x (at + length_of y) name)
+  where
+    further : (a b c : ℕ) → (a + b) + c ≡ a + (b + c)
+    further a b c = omega arith
+
+    go : (b : Bool) → place_from (at + length_of y) (items ++ x ∷ []) name ≡ or_later (place_from (at + length_of y) items name) (cond (is_label name x) (Some ((at + length_of y) + length_of_all items)) None)
+        → cond b (Some at) (place_from (at + length_of y) (items ++ x ∷ []) name)
+        ≡ or_later (cond b (Some at) (place_from (at + length_of y) items name)) (cond (is_label name x) (Some (at + (length_of y + length_of_all items))) None)
+    go true e = refl
+    go false e = e ∙ ap (λ (n : ℕ). or_later (place_from (at + length_of y) items name) (cond (is_label name x) (Some n) None)) (further at (length_of y) (length_of_all items))
+
+len_behind : (items : List Item) (x : Item) → length_of_all (items ++ x ∷ []) ≡ length_of_all items + length_of x
+unfolding length_of_all
+len_behind [] x = omega arith
+len_behind (y ∷ items) x = let e = len_behind items x in omega (arith, e)
+
+or_none : (o : Option ℕ) → or_later o None ≡ o
+or_none None = refl
+or_none (Some x) = refl
+
+-- a label with a new name is found where it stands
+added_label : (found : List ℕ → Option ℕ) (at : ℕ) (x : Item) → twice_in found x ≡ None → (name : List ℕ) → or_later (found name) (cond (is_label name x) (Some at) None) ≡ with_label found at x name
+added_label found at (item.Label label) once name = go (bytes_eq label name) refl
+  where
+    go : (b : Bool) → bytes_eq label name ≡ b → or_later (found name) (cond b (Some at) None) ≡ cond b (Some at) (found name)
+    go true e = ap (λ o. or_later o (Some at)) (found_at found label name (absent_if (is_some (found label)) (Twice label) once) e)
+    go false e = or_none (found name)
+added_label found at (item.Insn insn) once name = or_none (found name)
+added_label found at (item.Jump row label) once name = or_none (found name)
+added_label found at (item.Address reg label) once name = or_none (found name)
+added_label found at (item.Bytes bytes) once name = or_none (found name)
+
+-- the labels before the item at some index, and how long the items before it are
+abbrev pub Before : List Item → ℕ → Type 0
+Before items i = Placed (place_in (take i items)) items i (length_of_all (take i items))
+
+pub before_start : (items : List Item) → Before items 0
+unfolding place_from length_of_all
+before_start items = placed_start (place_in []) items (λ name. refl)
+
+module _ (items : List Item) (i : ℕ) (x : Item) (is : x ≡ get_or items i x) (within : i < length items) (w : Before items i) where
+  taken : take (i + 1) items ≡ take i items ++ x ∷ []
+  taken = take_more items i x within ∙ ap (λ (y : Item). take i items ++ y ∷ []) (sym is)
+
+  pub before_more : twice_in (place_in (take i items)) x ≡ None → Before items (i + 1)
+  before_more once =
+      let longer : length_of_all (take (i + 1) items) ≡ length_of_all (take i items) + length_of x = ap length_of_all taken ∙ len_behind (take i items) x in
+      subst (λ (n : ℕ). Placed (place_in (take (i + 1) items)) items (i + 1) n) (sym longer)
+      (placed_more (place_in (take i items)) items i (length_of_all (take i items)) w within (place_in (take (i + 1) items)) x is once
+      (λ name. ap (λ (l : List Item). place_in l name) taken ∙ place_behind (take i items) x 0 name
+      ∙ ap (λ (n : ℕ). or_later (place_in (take i items) name) (cond (is_label name x) (Some n) None)) (zero_plus (length_of_all (take i items)))
+      ∙ added_label (place_in (take i items)) (length_of_all (take i items)) x once name))
+
 -- ---- at the end
 
 module _ (items : List Item) (i : ℕ) where
-  pub counted_end : (len : ℕ) → length items ≤ i → Counted items i len → length_of_all items ≤ 1048576
+  pub counted_end : (len : ℕ) → length items ≤ i → Counted items i len → (len ≡ length_of_all items) × (length_of_all items ≤ 1048576)
   unfolding length_of_all
-  counted_end len end c = let e = c.rest in let f : length_of_all (drop i items) ≡ 0 = ap length_of_all (drop_all i items end) in let s = c.small in omega (arith, e, f, s)
+  counted_end len end c =
+      let e = c.rest in let f : length_of_all (drop i items) ≡ 0 = ap length_of_all (drop_all i items end) in let s = c.small in
+      (omega (arith, e, f), omega (arith, e, f, s))
 
   pub known_end : (place : List ℕ → Option ℕ) → length items ≤ i → first_unknown place (drop i items) ≡ first_unknown place items → first_unknown place items ≡ None
   unfolding first_unknown
@@ -262,28 +387,29 @@ module _ (items : List Item) (i : ℕ) where
 
   pub placed_end : (found : List ℕ → Option ℕ) (at : ℕ) → length items ≤ i → Placed found items i at → (name : List ℕ) → found name ≡ place_in items name
   unfolding place_from
-  placed_end found at end w name = sym (later_none (found name)) ∙ ap (λ (l : List Item). or_later (found name) (place_from at l name)) (sym (drop_all i items end)) ∙ w.place name
-    where
-      later_none : (o : Option ℕ) → or_later o None ≡ o
-      later_none None = refl
-      later_none (Some x) = refl
+  placed_end found at end w name = sym (or_none (found name)) ∙ ap (λ (l : List Item). or_later (found name) (place_from at l name)) (sym (drop_all i items end)) ∙ w.place name
 
   pub once_end : (found : List ℕ → Option ℕ) (at : ℕ) → length items ≤ i → Placed found items i at → first_twice [] items ≡ None
   unfolding first_twice
   once_end found at end w = sym w.twice ∙ ap (first_twice w.before) (drop_all i items end)
 
-  pub place_small : (found : List ℕ → Option ℕ) (at : ℕ) → length items ≤ i → Placed found items i at → length_of_all items ≤ 1048576 → (name : List ℕ) → unwrap_or (found name) 0 ≤ 1048576
-  place_small found at end w small name =
-      let p = place_within items 0 name in
-      rw (placed_end found at end w name) (omega (arith, p, small))
+  pub sought_end : (name : List ℕ) (at : ℕ) → length items ≤ i → Sought name items i at → None ≡ place_in items name
+  unfolding place_from
+  sought_end name at end s = ap (λ (l : List Item). place_from at l name) (sym (drop_all i items end)) ∙ s.place
 
-  pub written_end : (base : ℕ) (place : List ℕ → ℕ) (code : List ℕ) → length items ≤ i → Written base place items i code
-      → (first_far place 0 items ≡ None) × (code ≡ spelled_from base place 0 items)
-  unfolding first_far spelled_from
-  written_end base place code end w = (
-    sym w.far ∙ ap (first_far place (length code)) (drop_all i items end),
-    sym (append-nil code) ∙ ap (λ l. code ++ spelled_from base place (length code) l) (sym (drop_all i items end)) ∙ w.bytes,
-  )
+  pub near_end : (place : List ℕ → ℕ) (at : ℕ) → length items ≤ i → Reached place items i at → first_far place 0 items ≡ None
+  unfolding first_far
+  near_end place at end r = sym r.far ∙ ap (first_far place at) (drop_all i items end)
+
+  pub written_end : (base : ℕ) (place : List ℕ → ℕ) (code : List ℕ) → length items ≤ i → Written base place items i code → code ≡ spelled_from base place 0 items
+  unfolding spelled_from
+  written_end base place code end w = sym (append-nil code) ∙ ap (λ l. code ++ spelled_from base place (length code) l) (sym (drop_all i items end)) ∙ w.bytes
+
+pub sought_start : (name : List ℕ) (items : List Item) → Sought name items 0 0
+sought_start name items = record { rest = zero_plus (length_of_all items); place = refl }
+
+pub reached_start : (place : List ℕ → ℕ) (items : List Item) → Reached place items 0 0
+reached_start place items = record { rest = zero_plus (length_of_all items); far = refl }
 
 pub written_start : (base : ℕ) (place : List ℕ → ℕ) (items : List Item) → Written base place items 0 []
-written_start base place items = record { rest = zero_plus (length_of_all items); far = refl; bytes = refl }
+written_start base place items = record { reached = reached_start place items; bytes = refl }

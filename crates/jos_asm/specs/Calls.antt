@@ -1,5 +1,5 @@
 -- What a call of the builder has done.
-use Rattle.std.specs.Prelude.{◌≡◌, ℕ, ◌≤◌, ◌<◌, ◌∷◌, [], ◌++◌, List, length, All, Option, Some, None, Result, Ok, Err}
+use Rattle.std.specs.Prelude.{◌≡◌, ℕ, ◌≤◌, ◌<◌, ◌%◌, ◌∷◌, [], ◌++◌, List, length, All, Option, Some, None, Result, Ok, Err}
 use Rattle.jos_asm.specs.declared.item.Item.{Item}
 use Rattle.jos_asm.specs.declared.fault.AsmFault.{AsmFault}
 use Rattle.jos_asm.specs.declared.fault.AsmFault.TheVariants.{TooLong, Twice, Unknown, Far, NoMemory}
@@ -15,6 +15,10 @@ pub record IsName (name : List ℕ) : Type 0 where
 abbrev pub Adds : {E : Type 0} → Program → Item → Result (Unit {0}) E → Program → Type 0
 Adds old i (Ok _) new = new ≡ record old { items = old.items ++ i ∷ [] }
 Adds old i (Err _) new = new ≡ old
+
+-- each block of 32 items is full, so that the next item wants memory
+abbrev pub IsFull : Program → Type 0
+IsFull p = length p.items % 32 ≡ 0
 
 -- the fault is this one, unless there was no memory
 abbrev pub IsFault : AsmFault → Option AsmFault → Type 0

@@ -1,6 +1,6 @@
 -- The items of a program.
 -- (Intel 80386 Programmer's Reference Manual, 1986, chapter 17: CALL, Jcc, JMP and MOV.)
-use Rattle.std.specs.Prelude.{ℕ, Bool, true, false, nat_lt, List, length, Option, Some, None}
+use Rattle.std.specs.Prelude.{ℕ, ◌+◌, ◌*◌, ◌/◌, Bool, true, false, nat_lt, List, length, Option, Some, None}
 use Rattle.jos_isa.specs.declared.instruction.Insn.{Insn}
 use Rattle.jos_isa.specs.declared.instruction.Row.{Row}
 use Rattle.jos_isa.specs.declared.instruction.Row.TheVariants as row
@@ -58,6 +58,10 @@ length_of (item.Insn insn) = length (written insn)
 length_of (item.Jump row name) = relative_length row
 length_of (item.Address reg name) = 5
 length_of (item.Bytes bytes) = length bytes
+
+-- for how many items there is room in the blocks of 32 that so many take
+abbrev pub room_of_blocks : ℕ → ℕ
+room_of_blocks n = 32 * ((n + 31) / 32)
 
 -- the label that an item names, if it is not one itself
 abbrev pub target_of : Item → Option (List ℕ)

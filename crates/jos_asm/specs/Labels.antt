@@ -1,6 +1,6 @@
 -- What the passes over the items know of labels.
 use denote.Ref.{Bor}
-use Rattle.std.specs.Prelude.{ℕ, List, Option, Some, None, unwrap_or, is_some, if◌then◌else◌}
+use Rattle.std.specs.Prelude.{◌≡◌, ℕ, ◌≤◌, IsTrue, All, List, Option, Some, None, is_some, if◌then◌else◌}
 use Rattle.std.specs.Option.{option_map}
 use Rattle.std.specs.Ordering.{nat_cmp}
 use Rattle.std.specs.Cmp.Lexicographic.{slice_cmp}
@@ -9,16 +9,23 @@ use Rattle.jos_asm.specs.declared.item.Item.{Item}
 use Rattle.jos_asm.specs.declared.item.Item.TheVariants as item
 use Rattle.jos_asm.specs.declared.fault.AsmFault.{AsmFault}
 use Rattle.jos_asm.specs.declared.fault.AsmFault.TheVariants.{Twice, Unknown, Far}
-use Rattle.jos_asm.specs.Items.{target_of}
-use Rattle.jos_asm.specs.Program.{is_label, is_far, is_unknown}
+use Rattle.jos_asm.specs.Items.{is_item, target_of}
+use Rattle.jos_asm.specs.Program.{length_of_all, is_label, place_in, is_far, is_unknown}
 
 -- a table of labels as a function of names
 abbrev pub labelled : BTreeMap (Bor (List ℕ)) ℕ → List ℕ → Option ℕ
 labelled labels name = get_by (λ label. slice_cmp nat_cmp name label.now) labels
 
--- the place of each label, of a known one
-abbrev pub labelled_place : BTreeMap (Bor (List ℕ)) ℕ → List ℕ → ℕ
-labelled_place labels name = unwrap_or (labelled labels name) 0
+-- a table, if there is one, says where each label is
+abbrev pub Tells : List Item → Option (BTreeMap (Bor (List ℕ)) ℕ) → Type 0
+Tells items None = Unit {0}
+Tells items (Some table) = (name : List ℕ) → labelled table name ≡ place_in items name
+
+-- items whose labels can be found
+pub record AreTold (items : List Item) (table : Option (BTreeMap (Bor (List ℕ)) ℕ)) : Type 0 where
+  pub lawful : All (λ i. IsTrue (is_item i)) items
+  pub small : length_of_all items ≤ 1048576
+  pub told : Tells items table
 
 -- the fault of an item at `at`
 abbrev pub far_at : (List ℕ → ℕ) → ℕ → Item → Option AsmFault

@@ -3,3 +3,4 @@ pub mod Program
 pub mod Calls
 pub mod Laid
 pub mod Labels
+pub mod FaultTexts

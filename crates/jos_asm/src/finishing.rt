@@ -1,114 +1,23 @@
 //! From the items of a program to its bytes.
 
-ghost use Rattle.std.specs.Prelude.{◌≡◌, ℕ, ◌+◌, ◌%◌, ◌<◌, ◌≤◌, ◌^◌, IsTrue, Ok, IfOk, IfErr, OnOk, true, false, if◌then◌else◌, MatchResult, length, All, [], ◌++◌, take, None, Some, unwrap_or, List};
+ghost use Rattle.std.specs.Prelude.{◌≡◌, ◌+◌, ◌<◌, ◌≤◌, IsTrue, Ok, IfOk, IfErr, OnOk, OnErr, IsOkAnd, false, length, All, ◌++◌, None, Some, vec_capacity};
 ghost use Rattle.std.specs.Option.{option_map};
 ghost use Rattle.jos_isa.specs.Lawful.{is_lawful};
 ghost use Rattle.jos_isa.specs.Writing.{written};
-ghost use Rattle.jos_asm.specs.Items.{is_item, relative_length, length_of, target_of, is_relative, relative};
-ghost use Rattle.jos_asm.specs.Program.{length_of_all, bytes_of, distance, first_twice, is_unknown, first_unknown, first_far, is_near, is_far, reaches, place_in, spelled_from, finished};
+ghost use Rattle.jos_asm.specs.Items.{is_item, length_of, target_of, relative};
+ghost use Rattle.jos_asm.specs.Program.{length_of_all, bytes_of, distance, is_unknown, first_unknown, first_far, is_near, is_far, reaches, place_in, known_place, spelled_from, finished};
 ghost use Rattle.jos_asm.specs.Calls.{IsFault, fault_in};
 ghost use Rattle.jos_asm.specs.Laid.{AreLaid};
-ghost use Rattle.jos_asm.specs.Labels.{far_at, twice_in, unknown_in, with_label, labelled, labelled_place};
+ghost use Rattle.jos_asm.specs.Labels.{far_at, unknown_in};
 
 use crate::fault::AsmFault;
 use crate::item::{Item, address_move, is_byte_jump, relative};
+use crate::labels::Labels;
+use crate::lengths::{item_len, relative_len, total_len};
 use crate::name::Name;
+use jos_base::NoMemory;
 use jos_isa::{Insn, Row, encode};
 use std::alloc::Global;
-use std::collections::BTreeMap;
-
-/// The most bytes that a program has.
-const CODE_MAX: usize = 1_048_576;
-
-/// How many bytes an instruction takes.
-fn insn_len(insn: &Insn) -> usize
-    requires { IsTrue (is_lawful insn.now) }
-    ensures len { result ≡ length (written insn.now) }
-    ensures within { result ≤ 15 }
-{
-    encode(insn, &mut [0; 15])
-}
-
-/// How many bytes a relative jump or call has.
-fn relative_len(row: Row) -> usize
-    ensures { result ≡ relative_length row }
-{
-    match row {
-        Row::JccRel8(_) | Row::JmpRel8 => 2,
-        Row::JccRel32(_) => 6,
-        Row::JmpRel32 | Row::CallRel32 => 5,
-        _ => 0,
-    }
-}
-
-/// How many bytes an item takes.
-fn item_len(item: &Item) -> usize
-    requires { IsTrue (is_item item.now) }
-    ensures len { result ≡ length_of item.now }
-    ensures small { result < 2 ^ 63 }
-{
-    match item {
-        Item::Label(_) => 0,
-        Item::Insn(insn) => insn_len(insn),
-        Item::Jump(row, _) => relative_len(*row),
-        Item::Address(_, _) => 5,
-        Item::Bytes(bytes) => bytes.as_slice().len(),
-    }
-}
-
-/// Refuses items that take too many bytes.
-fn check_len(items: &[Item]) -> Result<(), AsmFault>
-    requires { All (λ i. IsTrue (is_item i)) items.now }
-    ensures { MatchResult result (λ _. length_of_all items.now ≤ 1048576)
-        (λ fault. (fault ≡ AsmFault.TooLong) × (1048576 < length_of_all items.now)) }
-{
-    let mut len = 0;
-    for item in items {
-        len += item_len(item);
-        if len > CODE_MAX {
-            return Err(AsmFault::TooLong);
-        }
-    }
-    Ok(())
-}
-
-/// Adds a label at `at` to those that are found. Another item changes nothing.
-fn add_label<'a>(
-    item: &'a Item,
-    at: u32,
-    labels: &mut BTreeMap<&'a str, u32>,
-) -> Result<(), AsmFault>
-    ensures found { OnOk result ((twice_in (labelled labels.old) item.now ≡ None)
-        × ((name : List ℕ) → labelled labels.new name ≡ with_label (labelled labels.old) at item.now name)) }
-    ensures fault { IfErr result (λ fault. IsFault fault (twice_in (labelled labels.old) item.now)) }
-{
-    match item {
-        Item::Label(name) => match labels.insert(name.as_str(), at) {
-            Ok(None) => Ok(()),
-            Ok(Some(_)) => Err(AsmFault::Twice(name.copy())),
-            Err(_) => Err(AsmFault::NoMemory),
-        },
-        _ => Ok(()),
-    }
-}
-
-/// Where each label is, in bytes from the beginning.
-fn find_labels<'a>(alloc: Global, items: &'a [Item]) -> Result<BTreeMap<&'a str, u32>, AsmFault>
-    requires items { All (λ i. IsTrue (is_item i)) items.now }
-    requires small { length_of_all items.now ≤ 1048576 }
-    ensures labels { IfOk result (λ labels. (name : List ℕ) → labelled labels name ≡ place_in items.now name) }
-    ensures within { IfOk result (λ labels. (name : List ℕ) → labelled_place labels name ≤ 1048576) }
-    ensures once { IfOk result (λ _. first_twice [] items.now ≡ None) }
-    ensures fault { IfErr result (λ fault. IsFault fault (option_map AsmFault.Twice (first_twice [] items.now))) }
-{
-    let mut labels = BTreeMap::new(alloc);
-    let mut at = 0;
-    for item in items {
-        add_label(item, at, &mut labels)?;
-        at += item_len(item) as u32;
-    }
-    Ok(labels)
-}
 
 /// The label that an item names, if it is not one itself.
 fn target_of(item: &Item) -> Option<&Name>
@@ -122,38 +31,35 @@ fn target_of(item: &Item) -> Option<&Name>
 }
 
 /// Refuses the name in an item, if no label has it.
-fn check_name<'a>(item: &'a Item, labels: &BTreeMap<&'a str, u32>) -> Result<(), AsmFault>
-    ensures known { OnOk result (is_unknown (labelled labels.now) (target_of item.now) ≡ false) }
-    ensures fault { IfErr result (λ fault. IsFault fault (unknown_in (labelled labels.now) item.now)) }
+fn check_name<'a>(item: &'a Item, labels: &Labels<'a>) -> Result<(), AsmFault>
+    ensures known { OnOk result (is_unknown (place_in labels.now) (target_of item.now) ≡ false) }
+    ensures fault { IfErr result (λ fault. unknown_in (place_in labels.now) item.now ≡ Some fault) }
 {
     match target_of(item) {
         None => Ok(()),
-        Some(name) => {
-            if labels.contains_key(&name.as_str()) {
-                Ok(())
-            } else {
-                Err(AsmFault::Unknown(name.copy()))
-            }
-        }
+        Some(name) => match labels.place_of(name) {
+            Some(_) => Ok(()),
+            None => Err(AsmFault::Unknown(name.copy())),
+        },
     }
 }
 
 /// Refuses a name that no label has.
-fn check_names<'a>(items: &'a [Item], labels: &BTreeMap<&'a str, u32>) -> Result<(), AsmFault>
-    ensures known { OnOk result (first_unknown (labelled labels.now) items.now ≡ None) }
-    ensures fault { IfErr result (λ fault. IsFault fault (option_map AsmFault.Unknown (first_unknown (labelled labels.now) items.now))) }
+fn check_names(labels: &Labels<'_>) -> Result<(), AsmFault>
+    ensures known { OnOk result (first_unknown (place_in labels.now) labels.now ≡ None) }
+    ensures fault { IfErr result (λ fault. option_map AsmFault.Unknown (first_unknown (place_in labels.now) labels.now) ≡ Some fault) }
 {
-    for item in items {
+    for item in labels.items() {
         check_name(item, labels)?;
     }
     Ok(())
 }
 
 /// Where a label is. Each name is known.
-fn place_of<'a>(labels: &BTreeMap<&'a str, u32>, name: &'a Name) -> u32
-    ensures { result ≡ labelled_place labels.now name.now }
+fn place_of<'a>(labels: &Labels<'a>, name: &'a Name) -> u32
+    ensures { result ≡ known_place labels.now name.now }
 {
-    labels.get(&name.as_str()).copied().unwrap_or(0)
+    labels.place_of(name).unwrap_or(0)
 }
 
 /// The distance to a place from the one behind the jump.
@@ -179,89 +85,99 @@ fn reaches(row: Row, behind: u32, place: u32) -> bool
     !is_byte_jump(row) || is_near(behind, place)
 }
 
-/// Appends the bytes of an instruction.
-fn write_insn(insn: &Insn, code: &mut Vec<u8>) -> Result<(), AsmFault>
-    requires { IsTrue (is_lawful insn.now) }
-    ensures bytes { OnOk result (code.new.items ≡ code.old.items ++ written insn.now) }
-    ensures fault { IfErr result (λ fault. fault ≡ AsmFault.NoMemory) }
+/// Refuses a jump at `at` that does not reach its label.
+fn check_jump<'a>(item: &'a Item, at: u32, labels: &Labels<'a>) -> Result<(), AsmFault>
+    requires { at ≤ 1048576 }
+    ensures near { OnOk result (is_far (known_place labels.now) at item.now ≡ false) }
+    ensures fault { IfErr result (λ fault. far_at (known_place labels.now) at item.now ≡ Some fault) }
+{
+    match item {
+        Item::Jump(row, name) => {
+            let behind = at + relative_len(*row) as u32;
+            if reaches(*row, behind, place_of(labels, name)) {
+                Ok(())
+            } else {
+                Err(AsmFault::Far(name.copy()))
+            }
+        }
+        _ => Ok(()),
+    }
+}
+
+/// Refuses a label that is out of reach of its jump.
+fn check_jumps(labels: &Labels<'_>) -> Result<(), AsmFault>
+    ensures near { OnOk result (first_far (known_place labels.now) 0 labels.now ≡ None) }
+    ensures fault { IfErr result (λ fault. option_map AsmFault.Far (first_far (known_place labels.now) 0 labels.now) ≡ Some fault) }
+{
+    let mut at = 0;
+    for item in labels.items() {
+        check_jump(item, at, labels)?;
+        at += item_len(item) as u32;
+    }
+    Ok(())
+}
+
+/// Appends bytes for which there is room.
+fn write_bytes(bytes: &[u8], code: &mut Vec<u8>)
+    requires { length code.old.items + length bytes.now ≤ vec_capacity code.old }
+    ensures bytes { code.new.items ≡ code.old.items ++ bytes.now }
+    ensures room { vec_capacity code.old ≤ vec_capacity code.new }
+{
+    code.extend_from_slice(bytes).unwrap();
+}
+
+/// Appends the bytes of an instruction, for which there is room.
+fn write_insn(insn: &Insn, code: &mut Vec<u8>)
+    requires lawful { IsTrue (is_lawful insn.now) }
+    requires room { length code.old.items + length (written insn.now) ≤ vec_capacity code.old }
+    ensures bytes { code.new.items ≡ code.old.items ++ written insn.now }
+    ensures room { vec_capacity code.old ≤ vec_capacity code.new }
 {
     let mut bytes = [0; 15];
     let len = encode(insn, &mut bytes);
-    match code.extend_from_slice(&bytes[..len]) {
-        Ok(()) => Ok(()),
-        Err(_) => Err(AsmFault::NoMemory),
-    }
+    write_bytes(&bytes[..len], code);
 }
 
-/// Appends a jump or call to a place, where behind it is `behind`.
-fn write_jump(
-    row: Row,
-    behind: u32,
-    place: u32,
-    name: &Name,
-    code: &mut Vec<u8>,
-) -> Result<(), AsmFault>
-    requires row { IsTrue (is_relative row) }
-    requires behind { behind ≤ 2097152 }
-    requires place { place ≤ 2097152 }
-    ensures written { OnOk result ((reaches row behind place ≡ true) × (code.new.items ≡ code.old.items ++ written (relative row (distance behind place)))) }
-    ensures fault { IfErr result (λ fault. IsFault fault (if reaches row behind place then None else Some (AsmFault.Far name.now))) }
-{
-    if !reaches(row, behind, place) {
-        return Err(AsmFault::Far(name.copy()));
-    }
-    write_insn(&relative(row, distance(behind, place)), code)
-}
-
-/// Appends the bytes of an item.
-fn write_item<'a>(
-    base: u32,
-    item: &'a Item,
-    labels: &BTreeMap<&'a str, u32>,
-    code: &mut Vec<u8>,
-) -> Result<(), AsmFault>
+/// Appends the bytes of an item, for which there is room.
+fn write_item<'a>(base: u32, item: &'a Item, labels: &Labels<'a>, code: &mut Vec<u8>)
     requires lawful { IsTrue (is_item item.now) }
+    requires near { is_far (known_place labels.now) (length code.old.items) item.now ≡ false }
     requires small { length code.old.items + length_of item.now ≤ 1048576 }
-    requires within { (name : List ℕ) → labelled_place labels.now name ≤ 1048576 }
-    ensures written { OnOk result ((is_far (labelled_place labels.now) (length code.old.items) item.now ≡ false)
-        × (code.new.items ≡ code.old.items ++ bytes_of base (labelled_place labels.now) (length code.old.items) item.now)) }
-    ensures fault { IfErr result (λ fault. IsFault fault (far_at (labelled_place labels.now) (length code.old.items) item.now)) }
+    requires room { length code.old.items + length_of item.now ≤ vec_capacity code.old }
+    ensures bytes { code.new.items ≡ code.old.items ++ bytes_of base (known_place labels.now) (length code.old.items) item.now }
+    ensures room { vec_capacity code.old ≤ vec_capacity code.new }
 {
     match item {
-        Item::Label(_) => Ok(()),
+        Item::Label(_) => {}
         Item::Insn(insn) => write_insn(insn, code),
         Item::Jump(row, name) => {
-            let behind = (code.len() + item_len(item)) as u32;
-            write_jump(*row, behind, place_of(labels, name), name, code)
+            let behind = (code.len() + relative_len(*row)) as u32;
+            let distance = distance(behind, place_of(labels, name));
+            write_insn(&relative(*row, distance), code);
         }
         Item::Address(reg, name) => {
             let address = base.wrapping_add(place_of(labels, name));
-            write_insn(&address_move(*reg, address), code)
+            write_insn(&address_move(*reg, address), code);
         }
-        Item::Bytes(bytes) => match code.extend_from_slice(bytes.as_slice()) {
-            Ok(()) => Ok(()),
-            Err(_) => Err(AsmFault::NoMemory),
-        },
+        Item::Bytes(bytes) => write_bytes(bytes.as_slice(), code),
     }
 }
 
-/// The bytes of the items, each label's distance or address in its place.
-fn write_code<'a>(
+/// The bytes of the items, `len` in number, each label's distance or address in its place.
+fn write_code(
     alloc: Global,
     base: u32,
-    items: &'a [Item],
-    labels: &BTreeMap<&'a str, u32>,
-) -> Result<Vec<u8>, AsmFault>
-    requires items { All (λ i. IsTrue (is_item i)) items.now }
-    requires small { length_of_all items.now ≤ 1048576 }
-    requires within { (name : List ℕ) → labelled_place labels.now name ≤ 1048576 }
-    ensures written { IfOk result (λ code. (first_far (labelled_place labels.now) 0 items.now ≡ None)
-        × (code.items ≡ spelled_from base (labelled_place labels.now) 0 items.now)) }
-    ensures fault { IfErr result (λ fault. IsFault fault (option_map AsmFault.Far (first_far (labelled_place labels.now) 0 items.now))) }
+    len: usize,
+    labels: &Labels<'_>,
+) -> Result<Vec<u8>, NoMemory>
+    requires near { first_far (known_place labels.now) 0 labels.now ≡ None }
+    requires len { len ≡ length_of_all labels.now }
+    ensures bytes { IfOk result (λ code. code.items ≡ spelled_from base (known_place labels.now) 0 labels.now) }
+    ensures memory { OnErr result (0 < len) }
 {
-    let mut code = Vec::new(alloc);
-    for item in items {
-        write_item(base, item, labels, &mut code)?;
+    let mut code = Vec::with_capacity(alloc, len)?;
+    for item in labels.items() {
+        write_item(base, item, labels, &mut code);
     }
     Ok(code)
 }
@@ -273,9 +189,19 @@ pub(crate) fn finish(alloc: Global, base: u32, items: &[Item]) -> Result<Vec<u8>
     ensures laid { IfOk result (λ code. AreLaid (record { base = base; items = items.now }) code.items) }
     ensures small { IfOk result (λ code. length code.items ≤ 1048576) }
     ensures fault { IfErr result (λ fault. IsFault fault (fault_in (finished (record { base = base; items = items.now })))) }
+    ensures memory { IfErr result (λ fault. fault ≡ AsmFault.NoMemory
+        → IsOkAnd (finished (record { base = base; items = items.now })) (λ code. 0 < length code)) }
 {
-    check_len(items)?;
-    let labels = find_labels(alloc, items)?;
-    check_names(items, &labels)?;
-    write_code(alloc, base, items, &labels)
+    let len = total_len(items)?;
+    match Labels::find(alloc, items) {
+        Err(fault) => Err(fault),
+        Ok(labels) => {
+            check_names(&labels)?;
+            check_jumps(&labels)?;
+            match write_code(alloc, base, len, &labels) {
+                Ok(code) => Ok(code),
+                Err(_) => Err(AsmFault::NoMemory),
+            }
+        }
+    }
 }

@@ -1,10 +1,10 @@
 //! What a program is made of.
 
-ghost use Rattle.std.specs.Prelude.{◌≡◌, ◌≤◌, ◌<◌, ◌^◌, IsTrue, length, option_copied};
-ghost use Rattle.jos_asm.specs.Items.{is_item, is_relative, is_byte_jump, relative, address_move, length_of, target_of};
+ghost use Rattle.std.specs.Prelude.{◌≡◌};
+ghost use Rattle.jos_asm.specs.Items.{is_byte_jump, relative, address_move};
 
 use crate::name::Name;
-use jos_isa::{Insn, Operand, Repeat, Row, encode};
+use jos_isa::{Insn, Operand, Repeat, Row};
 use std::marker::Model;
 
 /// Bytes as they are.

@@ -10,6 +10,8 @@ mod builder;
 mod fault;
 mod finishing;
 mod item;
+mod labels;
+mod lengths;
 mod name;
 #[cfg(test)]
 mod tests;

@@ -3,6 +3,7 @@
 ghost use Rattle.std.specs.Prelude.{◌≡◌, ◌≤◌, Some, length, nat_eq};
 ghost use Rattle.std.specs.Cmp.{on_equiv, on_per, partial_equiv_from_equiv};
 ghost use Rattle.std.specs.Cmp.Lexicographic.{pointwise, nat_list_eq_equiv};
+ghost use Rattle.std.specs.Fmt.{styled_text};
 
 use arrayvec::ArrayString;
 use std::fmt;
@@ -62,6 +63,8 @@ impl Eq for Name {
 
 impl fmt::Display for Name {
     ghost output = { λ n. Some n };
+
+    ghost styled_output = { λ n spec. Some (styled_text spec n) };
 
     fn fmt<W: fmt::Write>(&self, f: &mut fmt::Formatter<W>) -> fmt::Result {
         f.pad(self.as_str())

@@ -54,3 +54,8 @@ named_file name = go (bytes_eq name (codes "xhello"))
     go : (b : Bool) → b ≡ is_some (file_of_program (cond b (Some xhello) None))
     go true = ap (λ answer. is_some (image_of answer)) (sym xhello_code.1)
     go false = refl
+
+-- a name without a file is that of no program
+pub no_program : (name : List ℕ) → is_some (file_of name) ≡ false → named name ≡ None
+unfolding named
+no_program name none = ap (λ (b : Bool). cond b (Some xhello) None) (named_file name ∙ none)

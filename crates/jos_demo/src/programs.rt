@@ -1,6 +1,6 @@
 //! The programs.
 
-ghost use Rattle.std.specs.Prelude.{◌≡◌, ◌≤◌, IfOk, IsOk, Ok, None, is_some, length};
+ghost use Rattle.std.specs.Prelude.{◌≡◌, ◌≤◌, IfOk, IsOk, Ok, None, false, is_some, length};
 ghost use Rattle.std.specs.Option.{option_map};
 ghost use Rattle.jos_asm.specs.Program.{finished};
 ghost use Rattle.jos_asm.specs.Calls.{IsFault};
@@ -41,7 +41,8 @@ fn xhello(alloc: Global) -> Result<Builder, NoMemory>
 /// The program of a name.
 #[tactic(auto, unfolding(crate::specs::Programs::named))]
 fn build(alloc: Global, name: &str) -> Result<Option<Builder>, NoMemory>
-    ensures { IfOk result (λ program. program ≡ named name.now) }
+    ensures exact { IfOk result (λ program. program ≡ named name.now) }
+    ensures unknown { named name.now ≡ None → result ≡ Ok None }
 {
     if name == "xhello" {
         Ok(Some(xhello(alloc)?))
@@ -79,12 +80,13 @@ fn assemble(program: Builder) -> Result<Vec<u8>, NoMemory>
     }
 }
 
-/// The file of the program of a name, or `None` where no program has it.
+/// The file of the program of a name, or `None` where no program has it. That no program has it takes no memory.
 ///
 /// `xhello` runs on the bare kernel, and prints `hello` and a newline.
 #[tactic(auto, unfolding(crate::specs::Programs::file_of))]
 pub fn program(alloc: Global, name: &str) -> Result<Option<Vec<u8>>, NoMemory>
-    ensures { IfOk result (λ file. option_map (λ bytes. bytes.items) file ≡ file_of name.now) }
+    ensures exact { IfOk result (λ file. option_map (λ bytes. bytes.items) file ≡ file_of name.now) }
+    ensures unknown { is_some (file_of name.now) ≡ false → result ≡ Ok None }
 {
     match build(alloc, name)? {
         None => Ok(None),

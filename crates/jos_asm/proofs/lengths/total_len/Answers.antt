@@ -1,7 +1,7 @@
 use Rattle.std.proofs.Common.{◌<◌, ◌+◌, refl}
 use Rattle.jos_asm.specs.Items.{length_of}
 use Rattle.jos_asm.proofs.Passes.{counted_over, counted_more, counted_end}
-use Rattle.jos_asm.proofs.finishing.check_len.Goals as goal
+use Rattle.jos_asm.proofs.lengths.total_len.Goals as goal
 
 pub returns-then-len-gt-CODE_MAX : goal.returns-then-len-gt-CODE_MAX
 returns-then-len-gt-CODE_MAX c =

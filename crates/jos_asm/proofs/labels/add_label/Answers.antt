@@ -3,7 +3,7 @@ use Rattle.std.proofs.lemmas.Map.Text.{btree_map_updates_str}
 use Rattle.jos_asm.specs.declared.fault.AsmFault.TheVariants.{Twice}
 use Rattle.jos_asm.specs.Labels.{labelled}
 use Rattle.jos_asm.proofs.Passes.{once_if}
-use Rattle.jos_asm.proofs.finishing.add_label.Goals as goal
+use Rattle.jos_asm.proofs.labels.add_label.Goals as goal
 
 pub returns-in-Ok-None-clause-found : goal.returns-in-Ok-None-clause-found
 returns-in-Ok-None-clause-found c =

@@ -2,8 +2,8 @@ use Rattle.std.proofs.Common.{◌≤◌, ◌+◌, arith}
 use Rattle.std.proofs.lemmas.Result.{err_from_is_err_and}
 use Rattle.jos_asm.specs.Items.{length_of}
 use Rattle.jos_asm.specs.Labels.{labelled}
-use Rattle.jos_asm.proofs.Passes.{placed_more, placed_fault, placed_room, placed_end, once_end, place_small}
-use Rattle.jos_asm.proofs.finishing.find_labels.Goals as goal
+use Rattle.jos_asm.proofs.Passes.{placed_more, placed_fault, placed_room, placed_end, once_end}
+use Rattle.jos_asm.proofs.labels.make_table.Goals as goal
 
 pub returns-in_err-add_label-clause-fault : goal.returns-in_err-add_label-clause-fault
 returns-in_err-add_label-clause-fault c =
@@ -29,9 +29,6 @@ loop-item-preserved c = rw c.item_len.ensures.len
 
 pub returns-clause-labels : goal.returns-clause-labels
 returns-clause-labels c = placed_end c.args.items.now c.loop-item.item-index (labelled c.loop-item.labels) c.loop-item.at c.loop-item-test.false c.loop-item.invariant
-
-pub returns-clause-within : goal.returns-clause-within
-returns-clause-within c = place_small c.args.items.now c.loop-item.item-index (labelled c.loop-item.labels) c.loop-item.at c.loop-item-test.false c.loop-item.invariant c.requires.small
 
 pub returns-clause-once : goal.returns-clause-once
 returns-clause-once c = once_end c.args.items.now c.loop-item.item-index (labelled c.loop-item.labels) c.loop-item.at c.loop-item-test.false c.loop-item.invariant
