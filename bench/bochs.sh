@@ -9,8 +9,8 @@
 # Bochs starts from a disk. Its first sector enters protected mode, without paging, puts the loop where the
 # simulator has it, sets the timer of the local APIC and jumps to the loop. In Bochs this timer counts instructions;
 # its interrupt ends Bochs by the port 8900. What it takes to come to the loop is measured with a count of 1, and
-# taken off. Bochs keeps what it has decoded, and the simulator decodes each instruction in each step. Where Bochs
-# is built with its debugger, as Debian's is, it is slower than it could be.
+# taken off. Both keep what they have decoded. Where Bochs is built with its debugger, as Debian's is, it is slower
+# than it could be.
 
 runs=${1:-100}
 if ! command -v bochs >/dev/null; then

@@ -33,12 +33,17 @@ code_of() {
     esac
 }
 
-# image NAME: an ELF file whose one segment, the whole file at 0x00800000, has a page that may be written, and
-# that starts behind its headers
+# image NAME: the program of that name as a file
 image() {
-    name=$1
     # each word is a byte
-    set -- $(code_of "$name")
+    image_of "$1" $(code_of "$1")
+}
+
+# image_of NAME BYTE ..: an ELF file of these bytes of code, whose one segment, the whole file at 0x00800000, has a
+# page that may be written, and that starts behind its headers
+image_of() {
+    name=$1
+    shift
     len=$(printf '%02x' $((84 + $#)))
     {
         bytes 7f 45 4c 46 01 01 01 00 00 00 00 00 00 00 00 00 02 00 03 00 01 00 00 00 54 00 80 00
@@ -52,9 +57,8 @@ now() {
     date +%s.%N
 }
 
-# the seconds that so many runs of a program take
-jos_seconds() {
-    image "$1"
+# the seconds that so many runs of the program in a file take
+seconds_of() {
     begin=$(now)
     k=0
     while [ "$k" -lt "$runs" ]; do
@@ -64,14 +68,26 @@ jos_seconds() {
     echo "$begin $(now)" | awk '{ print $2 - $1 }'
 }
 
-# the million steps a second of a loop
-jos_speed() {
-    took=$(jos_seconds "$1")
+# the same of a loop
+jos_seconds() {
+    image "$1"
+    seconds_of "$1"
+}
+
+# the million steps a second of the program in a file
+speed_of() {
+    took=$(seconds_of "$1")
     case $(cat "$folder/note") in
         'budget steps 1000000 '*) ;;
         *) echo "$1: $(cat "$folder/note")" >&2 && return 1 ;;
     esac
     echo "$runs $took $jos_start" | awk '{ print $1 / ($2 - $3) }'
+}
+
+# and of a loop
+jos_speed() {
+    image "$1"
+    speed_of "$1"
 }
 
 # the first run builds the program where it is not there

@@ -5,3 +5,5 @@ pub mod Runs
 pub mod Outcomes
 pub mod Tops
 pub mod FilesWritten
+pub mod PageWindows
+pub mod Bursting

@@ -1,5 +1,5 @@
 -- The run as a loop: what is written so far and then the rest is what the whole run writes.
-use Rattle.std.proofs.Common.{◌≡◌, ℕ, zero, suc, true, false, List, [], ◌++◌, length, Option, None, Some, Ok, Err, refl, sym, ap, subst, ◌∙◌, append_assoc}
+use Rattle.std.proofs.Common.{◌≡◌, ℕ, ◌+◌, ◌-◌, ◌≤◌, zero, suc, true, false, List, [], ◌++◌, length, Option, None, Some, Ok, Err, refl, sym, ap, subst, ◌∙◌, arith, append_assoc}
 use Rattle.std.proofs.lemmas.List.{append-nil}
 use Rattle.std.specs.Option.{unwrap_or}
 use Rattle.jos_host.specs.declared.host.Failed.{Failed}
@@ -9,23 +9,10 @@ use Rattle.jos_cli.specs.declared.kernel.Kernel.{Kernel}
 use Rattle.jos_cli.specs.Steps.{Stepped, stepped}
 use Rattle.jos_cli.specs.Meanings.{slot_of, Gains}
 use Rattle.jos_cli.specs.ExoRun.{Progress, Ran, state_with, in_turn, end_of, over, progressed, after_test, run_from}
-use Rattle.jos_cli.specs.Progress.{progress_of, next_slot, Counts, Advances, IsRun}
+use Rattle.jos_cli.specs.Progress.{progress_of, Advances, IsRun}
 use Rattle.jos_cli.proofs.ToldBytes.{gains_none, gains_more, gains_part}
 
 -- ---- the definition, one step at a time
-
--- a step that is counted is the run's next
-pub progressed-progress : (before after : Kernel) (step : Stepped) (console : List ℕ) → Counts before after step.memory step.change.slot →
-    progressed (progress_of before console) step ≡ progress_of after (console ++ step.change.written)
-unfolding progressed
-progressed-progress before after step console counts = λ i. record {
-  memory = sym counts.memory_is i;
-  slot = sym counts.slot_is i;
-  console = console ++ step.change.written;
-  steps = sym counts.steps i;
-  turns = sym counts.turns i;
-  made = sym counts.made i;
-}
 
 -- what a run with a step left does
 pub run_from-suc : (left : ℕ) (p : Progress) →
@@ -97,32 +84,25 @@ module _ (whole : Ran) (left later : ℕ) (kernel : Kernel) (first now : Option 
       IsRun (Ok end) whole kernel first now
   on_end end e = is_over whole kernel running.written end first now (rw (← e) at unrolled) running.told
 
-  goes : None ≡ end_of (slot_of kernel.environment kernel.space) (length kernel.turns.items) kernel.made false →
-      run_from later (progressed (progress_of kernel running.written) (stepped kernel.space (next_slot kernel))) ≡ whole
-  goes e = rw (← e) at unrolled
+-- the run's next steps
+pub on_advance : (whole : Ran) (left n : ℕ) (kernel after : Kernel) (first now later : Option (List ℕ)) → IsRunning whole left kernel first now →
+    Advances (Ok n) left kernel after now later → IsRunning whole (left - n) after first later
+on_advance whole left n kernel after first now later running h =
+    let within : n ≤ left = h.1 in
+    let e : n + (left - n) ≡ left = omega arith in
+    record {
+      written = running.written ++ h.3.0;
+      told = gains_more first now later running.written h.3.0 running.told h.3.1;
+      rest = sym (h.3.2 (left - n) running.written) ∙ ap (λ (x : ℕ). run_from x (progress_of kernel running.written)) e ∙ running.rest;
+    }
 
-  pub on_failed : (e : Failed) (after : Kernel) (then_told : Option (List ℕ)) →
-      None ≡ end_of (slot_of kernel.environment kernel.space) (length kernel.turns.items) kernel.made false →
-      Advances (Err e) (stepped kernel.space (next_slot kernel)) kernel after now then_told →
-      IsRun (Err e) whole after first then_told
-  unfolding progressed state_with
-  on_failed e after then_told is h =
-      let step = stepped kernel.space (next_slot kernel) in
-      let begins = run_from-console later (progressed (progress_of kernel running.written) step) in
-      gains_part first now then_told running.written step.change.written begins.0 whole.state.console running.told h
-      (ap (λ (r : Ran). r.state.console) (sym (goes is)) ∙ begins.1)
-
-  pub on_went : (after : Kernel) (then_told : Option (List ℕ)) →
-      None ≡ end_of (slot_of kernel.environment kernel.space) (length kernel.turns.items) kernel.made false →
-      Advances (Ok tt) (stepped kernel.space (next_slot kernel)) kernel after now then_told →
-      IsRunning whole later after first then_told
-  on_went after then_told e h =
-      let step = stepped kernel.space (next_slot kernel) in
-      record {
-        written = running.written ++ step.change.written;
-        told = gains_more first now then_told running.written step.change.written running.told h.1;
-        rest = ap (λ p. run_from later p) (sym (progressed-progress kernel after step running.written h.0)) ∙ goes e;
-      }
+-- or a part of what they write
+pub on_failed : (whole : Ran) (left : ℕ) (e : Failed) (kernel after : Kernel) (first now later : Option (List ℕ)) → IsRunning whole left kernel first now →
+    Advances (Err e) left kernel after now later → IsRun (Err e) whole after first later
+on_failed whole left e kernel after first now later running h =
+    let begins = h.2 running.written in
+    gains_part first now later running.written h.0 begins.0 whole.state.console running.told h.1
+    (ap (λ (r : Ran). r.state.console) (sym running.rest) ∙ begins.1)
 
 -- with no step left
 pub at_end : (whole : Ran) (left : ℕ) (kernel : Kernel) (first now : Option (List ℕ)) → IsRunning whole left kernel first now → left ≡ 0 →

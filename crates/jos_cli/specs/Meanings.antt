@@ -6,7 +6,6 @@ use Rattle.jos_base.specs.KernelState.{Slot}
 use Rattle.jos_base.specs.SystemCalls.{Change}
 use Rattle.jos_cli.specs.declared.environment.Environment.{Environment}
 use Rattle.jos_cli.specs.Space.{Mapped, entries_of}
-use Rattle.jos_cli.specs.Steps.{Stepped}
 
 -- the slot of an environment in whose space these pages are mapped
 abbrev pub slot_of : Environment → Mapped → Slot
@@ -35,8 +34,3 @@ GainsPart old new bytes = (n : ℕ) × (n ≤ length bytes) × Gains old new (ta
 abbrev pub Makes : Result (Unit {0}) Failed → Change → Slot → Option (List ℕ) → Option (List ℕ) → Type 0
 Makes (Ok _) change slot old new = (slot ≡ change.slot) × Gains old new change.written
 Makes (Err _) change slot old new = GainsPart old new change.written
-
--- the same of a step, which leaves memory too
-abbrev pub MakesStep : Result (Unit {0}) Failed → Stepped → Mapped → Slot → Option (List ℕ) → Option (List ℕ) → Type 0
-MakesStep (Ok _) step memory slot old new = (memory ≡ step.memory) × (slot ≡ step.change.slot) × Gains old new step.change.written
-MakesStep (Err _) step memory slot old new = GainsPart old new step.change.written

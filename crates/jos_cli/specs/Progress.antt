@@ -1,13 +1,12 @@
 -- What the kernel's parts mean in a run, and what its calls have done there.
 use Rattle.std.specs.Prelude.{◌≡◌, ℕ, ◌+◌, ◌<◌, ◌≤◌, Bool, List, [], ◌∷◌, ◌++◌, Option, Result, Ok, Err, vec_len, vec_capacity, if◌then◌else◌}
 use Rattle.jos_host.specs.declared.host.Failed.{Failed}
+use Rattle.jos_base.specs.declared.environment.Status.TheVariants.{Running}
 use Rattle.jos_base.specs.KernelState.{Slot}
 use Rattle.jos_cli.specs.declared.outcome.End.{End}
 use Rattle.jos_cli.specs.declared.kernel.Kernel.{Kernel}
-use Rattle.jos_cli.specs.Space.{Mapped}
-use Rattle.jos_cli.specs.Steps.{Stepped}
 use Rattle.jos_cli.specs.Meanings.{slot_of, Gains, GainsPart}
-use Rattle.jos_cli.specs.ExoRun.{Progress, Ran, in_turn, turn_goes_on, paused, turn_of, turns_of}
+use Rattle.jos_cli.specs.ExoRun.{Progress, Ran, turn_goes_on, paused, turn_of, turns_of, run_from}
 
 -- where the kernel stands in a run that has written these bytes
 abbrev pub progress_of : Kernel → List ℕ → Progress
@@ -20,32 +19,37 @@ progress_of kernel console = record {
   made = kernel.made;
 }
 
--- the slot as the next step finds it
-abbrev pub next_slot : Kernel → Slot
-next_slot kernel = in_turn (slot_of kernel.environment kernel.space) kernel.made
+-- whether the turn goes on after so many more steps, of which the last leaves this slot
+abbrev pub goes_on_after : Kernel → ℕ → Slot → Bool
+goes_on_after kernel n slot = turn_goes_on slot kernel.turns.items (kernel.made + n)
 
--- whether the turn goes on after a step that leaves this slot
-abbrev pub goes_on_after : Kernel → Slot → Bool
-goes_on_after kernel slot = turn_goes_on slot kernel.turns.items (kernel.made + 1)
+-- the kernel has counted so many steps of a turn, of which the last leaves this slot
+pub record Counts (old new : Kernel) (n : ℕ) (slot : Slot) : Type 0 where
+  pub memory_is : new.space ≡ old.space
+  pub slot_is : slot_of new.environment old.space ≡ (if goes_on_after old n slot then slot else paused slot)
+  pub steps : new.steps ≡ old.steps + n
+  pub turns : new.turns.items ≡ (if goes_on_after old n slot then old.turns.items else old.turns.items ++ turn_of (old.made + n) ∷ [])
+  pub made : new.made ≡ (if goes_on_after old n slot then old.made + n else 0)
 
--- the kernel has counted a step that leaves this memory and slot
-pub record Counts (old new : Kernel) (memory : Mapped) (slot : Slot) : Type 0 where
-  pub memory_is : new.space ≡ memory
-  pub slot_is : slot_of new.environment new.space ≡ (if goes_on_after old slot then slot else paused slot)
-  pub steps : new.steps ≡ old.steps + 1
-  pub turns : new.turns.items ≡ (if goes_on_after old slot then old.turns.items else old.turns.items ++ turn_of (old.made + 1) ∷ [])
-  pub made : new.made ≡ (if goes_on_after old slot then old.made + 1 else 0)
-
--- The kernel has made a step, and counted it.
-abbrev pub Advances : Result (Unit {0}) Failed → Stepped → Kernel → Kernel → Option (List ℕ) → Option (List ℕ) → Type 0
-Advances (Ok _) step before after old new = Counts before after step.memory step.change.slot × Gains old new step.change.written
-Advances (Err _) step before after old new = GainsPart old new step.change.written
+-- The kernel has made the next steps of a run, one at least and as many as are left at most, and has written what
+-- they write; or it failed in the middle of what they write.
+abbrev pub Advances : Result ℕ Failed → ℕ → Kernel → Kernel → Option (List ℕ) → Option (List ℕ) → Type 0
+Advances (Ok n) left before after old new =
+    (0 < n) × (n ≤ left) × (after.steps ≡ before.steps + n) × ((written : List ℕ) × Gains old new written
+    × ((later : ℕ) (told : List ℕ) → run_from (n + later) (progress_of before told) ≡ run_from later (progress_of after (told ++ written))))
+Advances (Err _) left before after old new =
+    (written : List ℕ) × GainsPart old new written
+    × ((told : List ℕ) → (more : List ℕ) × ((run_from left (progress_of before told)).state.console ≡ (told ++ written) ++ more))
 
 -- The kernel has room for each turn of a run, and one that is under way has its place.
 pub record HasRoom (kernel : Kernel) : Type 0 where
   pub room : 1048576 ≤ vec_capacity kernel.turns
   pub place : 0 < kernel.made → vec_len kernel.turns < 1048576
   pub made : kernel.made < 1000
+
+-- A turn that is under way is that of an environment that is RUNNING.
+abbrev pub RunsItsTurn : Kernel → Type 0
+RunsItsTurn kernel = 0 < kernel.made → kernel.environment.status ≡ Running
 
 -- The run is over as it should be, or failed in the middle of what it writes.
 abbrev pub IsRun : Result End Failed → Ran → Kernel → Option (List ℕ) → Option (List ℕ) → Type 0

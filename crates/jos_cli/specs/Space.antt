@@ -1,7 +1,7 @@
 -- The two pages that are mapped, as maps from frames and from page numbers. Frames are numbered in the order
 -- in which the pages take them; directories and tables take none yet.
 -- (MIT 6.828, inc/memlayout.h)
-use Rattle.std.specs.Prelude.{◌≡◌, ◌<◌, ℕ, ◌-◌, ◌+◌, ◌==◌, Bool, true, List, [], ◌++◌, length, replicate, slice_set, Option, Some, None, Result, Ok, Err, is_ok, if◌then◌else◌}
+use Rattle.std.specs.Prelude.{◌≡◌, ◌<◌, ℕ, ◌-◌, ◌+◌, ◌/◌, ◌%◌, ◌==◌, Bool, true, List, [], ◌++◌, length, replicate, slice_set, Option, Some, None, Result, Ok, Err, is_ok, if◌then◌else◌}
 use Rattle.jos_base.specs.declared.memory.Access.{Access}
 use Rattle.jos_base.specs.declared.memory.PageFault.{PageFault}
 use Rattle.jos_base.specs.Words.{page_number, page_offset, upd}
@@ -65,6 +65,12 @@ with_byte m va byte =
     if page_number va == stack_page then record m { stack = slice_set m.stack (page_offset va) byte }
     else if page_number va == m.page then record m { image = slice_set m.image (page_offset va) byte }
     else m
+
+-- a word is put into a page, the lowest byte first
+unfoldable pub with_word : List ℕ → ℕ → ℕ → List ℕ
+with_word page offset value =
+    slice_set (slice_set (slice_set (slice_set page offset (value % 256)) (offset + 1) (value / 256 % 256))
+    (offset + 2) (value / 65536 % 256)) (offset + 3) (value / 16777216 % 256)
 
 -- The two pages as the memory of the environment. No accessed or dirty bits are kept.
 unfoldable pub space_memory : Memory Mapped

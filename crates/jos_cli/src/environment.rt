@@ -1,6 +1,6 @@
 //! The environment: one program with its registers.
 
-ghost use Rattle.std.specs.Prelude.{◌≡◌};
+ghost use Rattle.std.specs.Prelude.{◌≡◌, ◌<◌};
 
 use jos_base::{EnvId, Errno, Regs, Status};
 
@@ -37,7 +37,9 @@ impl Environment {
 
     /// Begins a turn, where none is under way.
     pub(crate) fn enter_turn(&mut self, made: u32)
-        ensures { (m : Mapped) → slot_of self.new m ≡ in_turn (slot_of self.old m) made }
+        requires { 0 < made → self.old.status ≡ Status.Running }
+        ensures running { self.new.status ≡ Status.Running }
+        ensures slot { (m : Mapped) → slot_of self.new m ≡ in_turn (slot_of self.old m) made }
     {
         if made == 0 {
             self.status = Status::Running;

@@ -1,13 +1,14 @@
 //! The kernel with one environment, and its run in turns.
 
-ghost use Rattle.std.specs.Prelude.{◌≡◌, ℕ, [], ◌+◌, ◌<◌, ◌≤◌, ◌^◌, length, IsNone, OnOk, IfOk, vec_len, vec_capacity};
+ghost use Rattle.std.specs.Prelude.{◌≡◌, [], ◌+◌, ◌<◌, ◌≤◌, ◌^◌, length, false, None, IsNone, OnOk, IfOk, vec_len, vec_capacity};
 ghost use Rattle.jos_host.specs.Told.{HasCause};
 
 use crate::environment::Environment;
 use crate::outcome::{End, Report, Turn};
 use crate::space::Space;
-use crate::stepping::make_step;
+use crate::stepping::follow_event;
 use jos_base::{EnvId, Regs, Status};
+use jos_cpu::{Decodings, Gates, make_burst};
 use jos_elf::Segment;
 use jos_host::{Failed, Host};
 use std::alloc::{AllocError, Global};
@@ -23,6 +24,8 @@ const QUANTUM: u32 = 1000;
 pub(crate) struct Kernel {
     pub(crate) environment: Environment,
     pub(crate) space: Space,
+    /// What was decoded.
+    pub(crate) decodings: Decodings,
     /// The turns that are over.
     pub(crate) turns: Vec<Turn>,
     /// The steps of the turn under way; 0 where none is.
@@ -41,11 +44,10 @@ const STACK_TOP: u32 = 0xeebf_e000;
 const FIRST_FLAGS: u32 = 0x202;
 
 impl Kernel {
-    ghost use Rattle.jos_cli.specs.Steps.{stepped};
     ghost use Rattle.jos_cli.specs.Meanings.{slot_of};
     ghost use Rattle.jos_cli.specs.OnePage.{IsOnePage};
     ghost use Rattle.jos_cli.specs.ExoRun.{boot as boot_of, end_of, run_from};
-    ghost use Rattle.jos_cli.specs.Progress.{progress_of, next_slot, Counts, Advances, HasRoom, IsRun};
+    ghost use Rattle.jos_cli.specs.Progress.{progress_of, Counts, Advances, HasRoom, RunsItsTurn, IsRun};
     ghost use Rattle.jos_cli.specs.Answer.{reported, report_of};
 
     /// Boots the image of one segment: its page and a stack page are mapped, and the environment stands at the
@@ -60,10 +62,12 @@ impl Kernel {
         requires { IsOnePage segment.now (length file.now) }
         ensures booted { IfOk result (λ kernel. progress_of kernel [] ≡ boot_of entry segment.now file.now) }
         ensures room { IfOk result HasRoom }
+        ensures turn { IfOk result RunsItsTurn }
         ensures first { IfOk result (λ kernel. kernel.steps ≡ 0) }
     {
         let turns = Vec::with_capacity(alloc, TURN_MAX)?;
         let space = Space::map(alloc, segment, file)?;
+        let decodings = Decodings::new(alloc)?;
         let environment = Environment {
             id: FIRST_ID,
             status: Status::Runnable,
@@ -84,6 +88,7 @@ impl Kernel {
         Ok(Kernel {
             environment,
             space,
+            decodings,
             turns,
             made: 0,
             steps: 0,
@@ -135,16 +140,18 @@ impl Kernel {
         }
     }
 
-    /// Counts a step that was made, and ends the turn where it is over.
-    fn count_step(&mut self)
+    /// Counts steps that were made, and ends the turn where it is over.
+    fn count_steps(&mut self, steps: u32)
         requires room { HasRoom self.old }
         requires place { vec_len self.old.turns < 1048576 }
         requires steps { self.old.steps < 2 ^ 63 }
-        ensures counted { Counts self.old self.new self.old.space (slot_of self.old.environment self.old.space) }
+        requires within { self.old.made + steps ≤ 1000 }
+        ensures counted { Counts self.old self.new steps (slot_of self.old.environment self.old.space) }
         ensures room { HasRoom self.new }
+        ensures turn { RunsItsTurn self.new }
     {
-        self.steps += 1;
-        let made = self.made + 1;
+        self.steps += steps as u64;
+        let made = self.made + steps;
         if matches!(self.environment.status, Status::Running) && made < QUANTUM {
             self.made = made;
             return;
@@ -160,31 +167,45 @@ impl Kernel {
         self.environment.pause();
     }
 
-    /// Makes one step of the turn under way, or the first of the next turn.
-    fn step<H: Host>(&mut self, host: &mut H) -> Result<(), Failed>
+    /// Makes the next steps, in the turn under way or in the next one: up to the end of the turn or to the first step
+    /// that calls or raises something, and as many as are left at most. The result is their number.
+    fn advance<H: Host>(&mut self, host: &mut H, left: u32) -> Result<u32, Failed>
         requires room { HasRoom self.old }
+        requires turn { RunsItsTurn self.old }
+        requires steps { self.old.steps < 2 ^ 62 }
+        requires left { 0 < left }
+        requires goes_on { end_of (slot_of self.old.environment self.old.space) (length self.old.turns.items) self.old.made false ≡ None }
         requires place { vec_len self.old.turns < 1048576 }
-        requires steps { self.old.steps < 2 ^ 63 }
-        ensures told { Advances result (stepped self.old.space (next_slot self.old)) self.old self.new (H.console host.old) (H.console host.new) }
+        ensures told { Advances result left self.old self.new (H.console host.old) (H.console host.new) }
         ensures room { HasRoom self.new }
+        ensures turn { OnOk result (RunsItsTurn self.new) }
         ensures files { H.files host.new ≡ H.files host.old }
         ensures input { H.input host.new ≡ H.input host.old }
         ensures notes { H.notes host.new ≡ H.notes host.old }
         ensures cause { HasCause (H.faults host.old) (H.faults host.new) result }
     {
         self.environment.enter_turn(self.made);
-        match make_step(&mut self.environment, &mut self.space, host) {
+        let burst = make_burst(
+            &mut self.decodings,
+            &mut self.environment.regs,
+            &mut self.space,
+            Gates::Exo,
+            left.min(QUANTUM - self.made),
+        );
+        match follow_event(&mut self.environment, &self.space, host, burst.event) {
             Ok(()) => {
-                self.count_step();
-                Ok(())
+                self.count_steps(burst.steps);
+                Ok(burst.steps)
             }
             Err(failed) => Err(failed),
         }
     }
 
     /// Runs until an end test holds, with so many steps as its budget. It takes no memory.
+    #[inline(never)]
     pub(crate) fn run<H: Host>(&mut self, host: &mut H, budget: u32) -> Result<End, Failed>
         requires room { HasRoom self.old }
+        requires turn { RunsItsTurn self.old }
         requires first { self.old.steps ≡ 0 }
         ensures told { IsRun result (run_from budget (progress_of self.old [])) self.new (H.console host.old) (H.console host.new) }
         ensures room { HasRoom self.new }
@@ -193,12 +214,13 @@ impl Kernel {
         ensures notes { H.notes host.new ≡ H.notes host.old }
         ensures cause { HasCause (H.faults host.old) (H.faults host.new) result }
     {
-        for _ in 0..budget {
+        let mut left = budget;
+        while left > 0 {
             if let Some(end) = self.end(false) {
                 return Ok(end);
             }
-            match self.step(host) {
-                Ok(()) => {}
+            match self.advance(host, left) {
+                Ok(steps) => left -= steps,
                 Err(failed) => return Err(failed),
             }
         }

@@ -1,12 +1,15 @@
 //! The address space: the image's page and the stack page.
 
-ghost use Rattle.std.specs.Prelude.{◌≡◌, ◌+◌, ◌≤◌, length, IfOk, vec_len};
+ghost use Rattle.std.specs.Prelude.{◌≡◌, ◌+◌, ◌<◌, ◌≤◌, length, slice_set, true, false, None, IfOk, vec_len};
 ghost use Rattle.std.specs.Option.{option_map};
 ghost use Rattle.std.specs.Result.{result_err};
 ghost use Rattle.jos_base.specs.Reach.{read_byte, reach_entry};
+ghost use Rattle.jos_alu.specs.declared.width.Width.TheVariants.{Byte, Word};
 ghost use Rattle.jos_cpu.specs.Memory.{probed};
-ghost use Rattle.jos_cli.specs.Space.{perm_of, pages_of, entries_of, reach_in, with_byte, space_memory, zero_bytes, page_with};
+ghost use Rattle.jos_cpu.specs.Accesses.{IsPut};
+ghost use Rattle.jos_cli.specs.Space.{perm_of, pages_of, entries_of, reach_in, with_byte, space_memory, zero_bytes, page_with, with_word};
 
+use jos_alu::Width;
 use jos_base::{Access, PageFault};
 use jos_cpu::{Mem, MemFault};
 use jos_elf::Segment;
@@ -18,6 +21,9 @@ pub(crate) const PAGE_LEN: u32 = 4096;
 
 /// The number of the stack page, below USTACKTOP, 0xEEBFE000. (MIT 6.828, inc/memlayout.h)
 const STACK_PAGE: u32 = 0xeebfd;
+
+/// Where the last word of a page begins.
+const LAST_WORD: usize = 4092;
 
 /// The error codes of a user's read and write where no page is, and of a write where none is allowed.
 const ABSENT_READ: u32 = 4;
@@ -66,6 +72,27 @@ impl Mem for Space {
         }
     }
 
+    #[inline(always)]
+    fn window(&self, va: u32) -> &[u8] {
+        let offset = (va % PAGE_LEN) as usize;
+        if va / PAGE_LEN == STACK_PAGE {
+            &self.stack[offset..]
+        } else if va / PAGE_LEN == self.page {
+            &self.image[offset..]
+        } else {
+            &[]
+        }
+    }
+
+    #[inline(always)]
+    fn put_at_hand(&mut self, width: Width, va: u32, value: u32) -> bool {
+        match width {
+            Width::Byte => self.put_byte(va, value),
+            Width::Pair => false,
+            Width::Word => self.put_word(va, value),
+        }
+    }
+
     #[tactic(auto, unfolding(crate::specs::Space::space_memory))]
     fn set(&mut self, va: u32, byte: u8) {
         self.write(va, byte);
@@ -108,10 +135,33 @@ impl Space {
         }
     }
 
+    /// Whether so many bytes from an address on lie in one page, which allows the access.
+    #[inline(always)]
+    fn is_open(&self, va: u32, len: u32, access: Access) -> bool
+        ensures { result ≡ true → probed space_memory self.now va len access ≡ record { memory = self.now; refusal = None } }
+    {
+        if len > PAGE_LEN - va % PAGE_LEN {
+            return false;
+        }
+        if va / PAGE_LEN == STACK_PAGE {
+            true
+        } else if va / PAGE_LEN == self.page {
+            match access {
+                Access::Read => true,
+                Access::Write => self.writable,
+            }
+        } else {
+            false
+        }
+    }
+
     /// Reaches for so many bytes from an address on, up to the first that is refused.
     fn probe_pages(&self, va: u32, len: u32, access: Access) -> Result<(), PageFault>
         ensures { probed space_memory self.now va len access ≡ record { memory = self.now; refusal = option_map (λ fault. MemFault.Page fault) (result_err result) } }
     {
+        if self.is_open(va, len, access) {
+            return Ok(());
+        }
         let mut at = va;
         for _ in 0..len {
             match self.reach(at, access) {
@@ -121,6 +171,48 @@ impl Space {
             at = at.wrapping_add(1);
         }
         Ok(())
+    }
+
+    /// Puts the lowest byte of a number into a page that may be written, or changes nothing.
+    #[inline(always)]
+    fn put_byte(&mut self, va: u32, value: u32) -> bool
+        ensures put { result ≡ true → IsPut space_memory self.old Byte va value self.new }
+        ensures left { result ≡ false → self.new ≡ self.old }
+        ensures stays { space_memory.allowed self.new ≡ space_memory.allowed self.old }
+    {
+        let offset = (va % PAGE_LEN) as usize;
+        let byte = (value % 256) as u8;
+        if va / PAGE_LEN == STACK_PAGE {
+            put_byte_at(&mut self.stack, offset, byte);
+            true
+        } else if va / PAGE_LEN == self.page && self.writable {
+            put_byte_at(&mut self.image, offset, byte);
+            true
+        } else {
+            false
+        }
+    }
+
+    /// Puts a word into a page that may be written, where it lies in one page, or changes nothing.
+    #[inline(always)]
+    fn put_word(&mut self, va: u32, value: u32) -> bool
+        ensures put { result ≡ true → IsPut space_memory self.old Word va value self.new }
+        ensures left { result ≡ false → self.new ≡ self.old }
+        ensures stays { space_memory.allowed self.new ≡ space_memory.allowed self.old }
+    {
+        let offset = (va % PAGE_LEN) as usize;
+        if offset > LAST_WORD {
+            return false;
+        }
+        if va / PAGE_LEN == STACK_PAGE {
+            put_word_at(&mut self.stack, offset, value);
+            true
+        } else if va / PAGE_LEN == self.page && self.writable {
+            put_word_at(&mut self.image, offset, value);
+            true
+        } else {
+            false
+        }
     }
 
     /// Puts a byte into the page that is there.
@@ -151,6 +243,32 @@ impl Space {
             stack: zeros(alloc, PAGE_LEN as usize)?,
         })
     }
+}
+
+/// Puts a byte into a page.
+#[inline(always)]
+fn put_byte_at(page: &mut Vec<u8>, offset: usize, byte: u8)
+    requires room { offset < 4096 }
+    requires len { vec_len page.old ≡ 4096 }
+    ensures items { page.new.items ≡ slice_set page.old.items offset byte }
+    ensures len { vec_len page.new ≡ vec_len page.old }
+{
+    page[offset] = byte;
+}
+
+/// Puts a word into a page, the lowest byte first.
+#[inline(always)]
+fn put_word_at(page: &mut Vec<u8>, offset: usize, value: u32)
+    requires room { offset ≤ 4092 }
+    requires len { vec_len page.old ≡ 4096 }
+    ensures items { page.new.items ≡ with_word page.old.items offset value }
+    ensures len { vec_len page.new ≡ vec_len page.old }
+{
+    let [a, b, c, d] = value.to_le_bytes();
+    page[offset] = a;
+    page[offset + 1] = b;
+    page[offset + 2] = c;
+    page[offset + 3] = d;
 }
 
 /// The fault of an access to a page that is there, if it is refused.

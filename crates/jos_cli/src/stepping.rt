@@ -1,16 +1,16 @@
-//! One step of an environment.
+//! What comes of a step of an environment.
 
 ghost use Rattle.std.specs.Prelude.{◌≡◌};
 ghost use Rattle.jos_host.specs.Told.{HasCause};
 ghost use Rattle.jos_cli.specs.Space.{pages_of};
-ghost use Rattle.jos_cli.specs.Steps.{after_trap, after_event as change_after, stepped};
-ghost use Rattle.jos_cli.specs.Meanings.{slot_of, Makes, MakesStep};
+ghost use Rattle.jos_cli.specs.Steps.{after_trap, after_event as change_after};
+ghost use Rattle.jos_cli.specs.Meanings.{slot_of, Makes};
 
 use crate::environment::Environment;
 use crate::space::Space;
 use crate::system_calls::{deliver_other_trap, deliver_page_fault, make_system_call};
 use jos_base::PageFault;
-use jos_cpu::{Event, Gates, step};
+use jos_cpu::Event;
 use jos_host::{Failed, Host};
 
 /// The gate of the system calls.
@@ -23,6 +23,8 @@ const BREAKPOINT_TRAP: u8 = 3;
 const PAGE_FAULT_TRAP: u8 = 14;
 
 /// Destroys the environment by the line of the trap that its instruction at `ip` raised.
+#[cold]
+#[inline(never)]
 fn deliver_raised<H: Host>(
     environment: &mut Environment,
     space: &Space,
@@ -44,27 +46,27 @@ fn deliver_raised<H: Host>(
     }
 }
 
-/// Does what comes of the instruction at `ip`, whose registers are set.
-fn follow_event<H: Host>(
+/// Does what comes of an instruction: the system call or the trap that it raised.
+#[inline(always)]
+pub(crate) fn follow_event<H: Host>(
     environment: &mut Environment,
     space: &Space,
     host: &mut H,
-    ip: u32,
     event: Event,
 ) -> Result<(), Failed>
-    ensures told { Makes result (change_after (pages_of space.now) (slot_of environment.old space.now) ip event) (slot_of environment.new space.now) (H.console host.old) (H.console host.new) }
+    ensures told { Makes result (change_after (pages_of space.now) (slot_of environment.old space.now) environment.old.regs.eip event) (slot_of environment.new space.now) (H.console host.old) (H.console host.new) }
     ensures files { H.files host.new ≡ H.files host.old }
     ensures input { H.input host.new ≡ H.input host.old }
     ensures notes { H.notes host.new ≡ H.notes host.old }
     ensures cause { HasCause (H.faults host.old) (H.faults host.new) result }
 {
+    let ip = environment.regs.eip;
     match event {
         Event::Next => Ok(()),
         Event::Soft(vector) => {
             if vector == SYSTEM_GATE {
                 make_system_call(environment, space, host)
             } else {
-                let ip = environment.regs.eip;
                 deliver_other_trap(environment, host, BREAKPOINT_TRAP, 0, ip)
             }
         }
@@ -72,22 +74,4 @@ fn follow_event<H: Host>(
             deliver_raised(environment, space, host, ip, (trap, error, va))
         }
     }
-}
-
-/// Makes one step: the instruction at EIP, with the system call or the trap that it raises.
-#[tactic(auto, unfolding(crate::specs::Steps::stepped))]
-pub(crate) fn make_step<H: Host>(
-    environment: &mut Environment,
-    space: &mut Space,
-    host: &mut H,
-) -> Result<(), Failed>
-    ensures told { MakesStep result (stepped space.old (slot_of environment.old space.old)) space.new (slot_of environment.new space.new) (H.console host.old) (H.console host.new) }
-    ensures files { H.files host.new ≡ H.files host.old }
-    ensures input { H.input host.new ≡ H.input host.old }
-    ensures notes { H.notes host.new ≡ H.notes host.old }
-    ensures cause { HasCause (H.faults host.old) (H.faults host.new) result }
-{
-    let ip = environment.regs.eip;
-    let event = step(&mut environment.regs, space, Gates::Exo);
-    follow_event(environment, space, host, ip, event)
 }

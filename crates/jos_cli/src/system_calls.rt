@@ -50,6 +50,8 @@ fn destroy<H: Host>(environment: &mut Environment, host: &mut H, line: &[u8]) ->
 }
 
 /// Destroys the environment by the line of a page fault.
+#[cold]
+#[inline(never)]
 pub(crate) fn deliver_page_fault<H: Host>(
     environment: &mut Environment,
     host: &mut H,
@@ -66,6 +68,8 @@ pub(crate) fn deliver_page_fault<H: Host>(
 }
 
 /// Destroys the environment by the line of another trap.
+#[cold]
+#[inline(never)]
 pub(crate) fn deliver_other_trap<H: Host>(
     environment: &mut Environment,
     host: &mut H,
@@ -124,6 +128,8 @@ fn make_env_destroy(environment: &mut Environment)
 
 /// Makes the system call that EAX names.
 #[tactic(auto, unfolding(jos_base::specs::SystemCalls::system_call))]
+#[cold]
+#[inline(never)]
 pub(crate) fn make_system_call<H: Host>(
     environment: &mut Environment,
     space: &Space,

@@ -1,11 +1,8 @@
-pub mod ShiftTimes
-pub mod SignedProducts
 pub mod Fetches
-pub mod SignedQuotients
 pub mod Probing
-pub mod ShiftLaws
-pub mod QuotientLaws
-pub mod ConditionLaws
-pub mod SignedShifts
-pub mod OverflowLaws
-pub mod Rotations
+pub mod Windows
+pub mod Moved
+pub mod Sixteen
+pub mod AtHand
+pub mod GoingOn
+pub mod ComputingAtHand

@@ -2,7 +2,7 @@
 -- how that is probed, read and written.
 -- (Intel 80386 Programmer's Reference Manual, 1986, section 17.2.2, the operation of each instruction; that all
 -- is probed before anything is read or written makes an instruction restartable, section 9.2.)
-use Rattle.std.specs.Prelude.{ℕ, ◌+◌, ◌-◌, ◌/◌, ◌%◌, ◌^◌, ◌==◌, ◌&&◌, ◌||◌, Bool, true, false, List, [], ◌∷◌, ◌++◌, Option, Some, None, if◌then◌else◌}
+use Rattle.std.specs.Prelude.{◌≡◌, ℕ, ◌+◌, ◌-◌, ◌/◌, ◌%◌, ◌^◌, ◌==◌, ◌&&◌, ◌||◌, Bool, true, false, List, [], ◌∷◌, ◌++◌, Option, Some, None, if◌then◌else◌}
 use Rattle.std.specs.Int.{w16, w32, from_le_bytes}
 use Rattle.jos_base.specs.declared.registers.Regs.{Regs}
 use Rattle.jos_base.specs.declared.memory.Access.{Access}
@@ -13,8 +13,8 @@ use Rattle.jos_isa.specs.declared.instruction.Operand.TheVariants as operand
 use Rattle.jos_isa.specs.declared.instruction.Repeat.{Repeat}
 use Rattle.jos_isa.specs.declared.instruction.Repeat.TheVariants.{Once, WhileEqual, WhileNot}
 use Rattle.jos_cpu.specs.declared.memory.MemFault.{MemFault}
-use Rattle.jos_cpu.specs.declared.forms.Width.{Width}
-use Rattle.jos_cpu.specs.declared.forms.Width.TheVariants.{Byte, Pair, Word}
+use Rattle.jos_alu.specs.declared.width.Width.{Width}
+use Rattle.jos_alu.specs.declared.width.Width.TheVariants.{Byte, Pair, Word}
 use Rattle.jos_cpu.specs.declared.forms.Place.{Place}
 use Rattle.jos_cpu.specs.declared.forms.Place.TheVariants as place
 use Rattle.jos_cpu.specs.declared.forms.Text.{Text}
@@ -30,7 +30,7 @@ use Rattle.jos_cpu.specs.declared.accesses.PoppedWords.{PoppedWords}
 use Rattle.jos_cpu.specs.declared.accesses.Inputs.{Inputs}
 use Rattle.jos_cpu.specs.declared.accesses.Inputs.TheVariants.{Numbers, Popped}
 use Rattle.jos_cpu.specs.Memory.{Memory, Probed, after, probed, all_allowed}
-use Rattle.jos_cpu.specs.Registers.{address}
+use Rattle.jos_cpu.specs.Addresses.{address}
 
 -- ---- which accesses
 
@@ -280,3 +280,21 @@ stored_number t m Word va value =
 unfoldable pub stored_all : {M : Type 0} → Memory M → M → List Number → M
 stored_all t m [] = m
 stored_all t m (n ∷ rest) = stored_all t (stored_number t m n.width n.va n.value) rest
+
+-- ---- numbers at hand
+
+-- A number that may be read, and whose bytes nothing changes when they are reached.
+pub record IsAtHand {M : Type 0} (t : Memory M) (m : M) (width : Width) (va value : ℕ) : Type 0 where
+  pub reached : probed t m va (length_of width) Read ≡ record { memory = m; refusal = None }
+  pub value_is : number_at t m va width ≡ value
+
+-- A number that was put where nothing else changes when its bytes are reached for a write.
+pub record IsPut {M : Type 0} (t : Memory M) (old : M) (width : Width) (va value : ℕ) (new : M) : Type 0 where
+  pub reached : probed t old va (length_of width) Write ≡ record { memory = old; refusal = None }
+  pub stored : new ≡ stored_number t old width va value
+
+-- What an access of this usage reads, where that is at hand; 0 where it only writes.
+abbrev pub IsInput : {M : Type 0} → Memory M → M → Usage → Width → ℕ → ℕ → Type 0
+IsInput t m Reads width va value = IsAtHand t m width va value
+IsInput t m Writes width va value = value ≡ 0
+IsInput t m Changes width va value = IsAtHand t m width va value

@@ -11,12 +11,12 @@ use Rattle.jos_cpu.specs.declared.events.Event.{Event}
 use Rattle.jos_cpu.specs.declared.events.Event.TheVariants.{Next, Soft, Raised}
 use Rattle.jos_cpu.specs.declared.events.Gates.{Gates}
 use Rattle.jos_cpu.specs.declared.events.Gates.TheVariants.{Exo, Run}
-use Rattle.jos_cpu.specs.declared.forms.Width.{Width}
-use Rattle.jos_cpu.specs.declared.forms.Width.TheVariants.{Byte, Pair, Word}
+use Rattle.jos_alu.specs.declared.width.Width.{Width}
+use Rattle.jos_alu.specs.declared.width.Width.TheVariants.{Byte, Pair, Word}
 use Rattle.jos_cpu.specs.declared.forms.Place.{Place}
 use Rattle.jos_cpu.specs.declared.forms.Place.TheVariants as place
-use Rattle.jos_cpu.specs.declared.forms.Shift.{Shift}
-use Rattle.jos_cpu.specs.declared.forms.Sign.{Sign}
+use Rattle.jos_alu.specs.declared.shifts.Shift.{Shift}
+use Rattle.jos_alu.specs.declared.products.Sign.{Sign}
 use Rattle.jos_cpu.specs.declared.forms.Act.{Act}
 use Rattle.jos_cpu.specs.declared.forms.Act.TheVariants.{Move, Alu, Test, Increase, Decrease, Complement, ShiftBy, Condition, Multiply}
 use Rattle.jos_cpu.specs.declared.forms.Text.{Text}
@@ -25,14 +25,15 @@ use Rattle.jos_cpu.specs.declared.forms.Change.{Change}
 use Rattle.jos_cpu.specs.declared.forms.Change.TheVariants.{ComplementCarry, ClearCarry, SetCarry, ClearDirection, SetDirection}
 use Rattle.jos_cpu.specs.declared.forms.Form.{Form}
 use Rattle.jos_cpu.specs.declared.forms.Form.TheVariants.{Compute, Exchange, Extend, LoadAddress, LoadFrom, StoreTo, ShiftTwo, Product, Quotient, ExtendAccumulator, ExtendDouble, Push, Pop, PushAll, PopAll, PushFlags, PopFlags, Leave, Branch, Jump, JumpTo, Call, CallTo, Return, Breakpoint, Interrupt, Strings, Flag, Privileged, Nothing}
-use Rattle.jos_cpu.specs.declared.flags.Computed.{Computed}
-use Rattle.jos_cpu.specs.declared.products.Halves.{Halves}
+use Rattle.jos_alu.specs.declared.flags.Computed.{Computed}
+use Rattle.jos_alu.specs.declared.products.Halves.{Halves}
 use Rattle.jos_cpu.specs.declared.accesses.Inputs.{Inputs}
 use Rattle.jos_cpu.specs.declared.accesses.Inputs.TheVariants.{Numbers, Popped}
-use Rattle.jos_cpu.specs.Registers.{register, with_register, register_at, with_register_at, address, moved}
-use Rattle.jos_cpu.specs.Flags.{modulus, is_negative, bit_of, is_set, alu, combined, increased, decreased, subtracted, condition_holds}
-use Rattle.jos_cpu.specs.Shifts.{shifted}
-use Rattle.jos_cpu.specs.Products.{sign_extended, extended, double_register, with_halves, product_of, is_too_long, halves_of, product_flags, multiplied, quotient_of}
+use Rattle.jos_alu.specs.Registers.{register, with_register, register_at, with_register_at, moved}
+use Rattle.jos_cpu.specs.Addresses.{address}
+use Rattle.jos_alu.specs.Flags.{modulus, is_negative, bit_of, is_set, alu, combined, increased, decreased, subtracted, condition_holds}
+use Rattle.jos_alu.specs.Shifts.{shifted}
+use Rattle.jos_alu.specs.Products.{sign_extended, extended, double_register, with_halves, product_of, is_too_long, halves_of, product_flags, multiplied, quotient_of}
 use Rattle.jos_cpu.specs.Accesses.{below_stack, length_of, is_repeated, is_over}
 
 -- the registers after an instruction, the number for the access that it writes, if it has one, and what comes of it

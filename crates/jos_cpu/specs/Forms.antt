@@ -5,14 +5,14 @@ use Rattle.std.specs.Prelude.{ℕ, ◌==◌, if◌then◌else◌}
 use Rattle.jos_isa.specs.declared.instruction.Row.{Row}
 use Rattle.jos_isa.specs.declared.instruction.Row.TheVariants as row
 use Rattle.jos_isa.specs.declared.instruction.Row.TheVariants.{AluRm8R8, AluRm32R32, AluR8Rm8, AluR32Rm32, AluAlImm8, AluEaxImm32, AluRm8Imm8, AluRm32Imm32, AluRm32Imm8, IncR32, DecR32, IncRm8, DecRm8, IncRm32, DecRm32, PushR32, PopR32, PushImm32, PushImm8, PushRm32, PopRm32, Pusha, Popa, Pushf, Popf, ImulR32Rm32Imm32, ImulR32Rm32Imm8, ImulR32Rm32, MulRm8, MulRm32, ImulRm8, ImulRm32, DivRm8, DivRm32, IdivRm8, IdivRm32, Cwde, Cdq, JccRel8, JccRel32, SetccRm8, TestRm8R8, TestRm32R32, TestAlImm8, TestEaxImm32, TestRm8Imm8, TestRm32Imm32, NotRm8, NotRm32, NegRm8, NegRm32, XchgRm8R8, XchgRm32R32, XchgEaxR32, MovRm8R8, MovRm32R32, MovR8Rm8, MovR32Rm32, MovAlAddr, MovEaxAddr, MovAddrAl, MovAddrEax, MovR8Imm8, MovR32Imm32, MovRm8Imm8, MovRm32Imm32, MovzxR32Rm8, MovzxR32Rm16, MovsxR32Rm8, MovsxR32Rm16, LeaR32Mem, Movsb, Movsd, Cmpsb, Cmpsd, Stosb, Stosd, Lodsb, Lodsd, Scasb, Scasd, ShiftRm8Imm8, ShiftRm32Imm8, ShiftRm8One, ShiftRm32One, ShiftRm8Cl, ShiftRm32Cl, ShldRm32R32Imm8, ShldRm32R32Cl, ShrdRm32R32Imm8, ShrdRm32R32Cl, CallRel32, CallRm32, JmpRel32, JmpRel8, JmpRm32, RetImm16, Ret, Int3, IntImm8, Cmc, Clc, Stc, Cld, Std, InAlImm8, InEaxImm8, OutImm8Al, OutImm8Eax, InAlDx, InEaxDx, OutDxAl, OutDxEax, Hlt, Cli, Sti, Nop}
-use Rattle.jos_cpu.specs.declared.forms.Width.{Width}
-use Rattle.jos_cpu.specs.declared.forms.Width.TheVariants.{Byte, Pair, Word}
+use Rattle.jos_alu.specs.declared.width.Width.{Width}
+use Rattle.jos_alu.specs.declared.width.Width.TheVariants.{Byte, Pair, Word}
 use Rattle.jos_cpu.specs.declared.forms.Place.{Place}
 use Rattle.jos_cpu.specs.declared.forms.Place.TheVariants.{Nowhere, Operand, Named, Accumulator, Immediate, One, Cl}
-use Rattle.jos_cpu.specs.declared.forms.Shift.{Shift}
-use Rattle.jos_cpu.specs.declared.forms.Shift.TheVariants.{Rol, Ror, Shl, Shr, Sar, Shld, Shrd}
+use Rattle.jos_alu.specs.declared.shifts.Shift.{Shift}
+use Rattle.jos_alu.specs.declared.shifts.Shift.TheVariants.{Rol, Ror, Shl, Shr, Sar, Shld, Shrd}
 use Rattle.jos_cpu.specs.declared.forms.Act.TheVariants.{Move, Alu, Test, Increase, Decrease, Complement, ShiftBy, Condition, Multiply}
-use Rattle.jos_cpu.specs.declared.forms.Sign.TheVariants.{Unsigned, Signed}
+use Rattle.jos_alu.specs.declared.products.Sign.TheVariants.{Unsigned, Signed}
 use Rattle.jos_cpu.specs.declared.forms.Text.TheVariants.{Movs, Cmps, Stos, Lods, Scas}
 use Rattle.jos_cpu.specs.declared.forms.Change.TheVariants.{ComplementCarry, ClearCarry, SetCarry, ClearDirection, SetDirection}
 use Rattle.jos_cpu.specs.declared.forms.Form.{Form}

@@ -1,12 +1,9 @@
 pub mod Memory
 pub mod Forms
-pub mod Registers
-pub mod Flags
+pub mod Addresses
 pub mod Accesses
-pub mod Shifts
-pub mod Products
 pub mod Effects
 pub mod Fetch
 pub mod Steps
 pub mod Window
-pub mod Laws
+pub mod Bursts

@@ -1,8 +1,9 @@
 -- Memory as an instruction sees it. Addresses are counted modulo 2^32.
 -- (Intel 80386 Programmer's Reference Manual, 1986, sections 5.2 and 9.8.14: an access sets the accessed and
 -- dirty bits of the entries that it uses, and is refused by the first entry that does not allow it.)
-use Rattle.std.specs.Prelude.{ℕ, ◌+◌, ◌%◌, ◌^◌, ◌&&◌, zero, suc, Bool, true, Option, Some, None, Result, Ok, Err, if◌then◌else◌}
+use Rattle.std.specs.Prelude.{◌≡◌, ℕ, ◌+◌, ◌%◌, ◌^◌, ◌<◌, ◌&&◌, zero, suc, Bool, true, List, length, slice_index, Option, Some, None, Result, Ok, Err, if◌then◌else◌}
 use Rattle.jos_base.specs.declared.memory.Access.{Access}
+use Rattle.jos_base.specs.declared.memory.Access.TheVariants.{Read}
 use Rattle.jos_cpu.specs.declared.memory.MemFault.{MemFault}
 
 pub record Memory (M : Type 0) : Type 0 where
@@ -41,3 +42,13 @@ probed t m va (suc n) access =
 unfoldable pub all_allowed : (ℕ → Access → Bool) → ℕ → ℕ → Access → Bool
 all_allowed allowed va zero access = true
 all_allowed allowed va (suc n) access = allowed va access && all_allowed allowed (after va) n access
+
+-- A byte that may be read, and that nothing changes when it is reached.
+pub record IsStill {M : Type 0} (t : Memory M) (m : M) (va : ℕ) (byte : ℕ) : Type 0 where
+  pub allowed : t.allowed m va Read ≡ true
+  pub reached : t.reached m va Read ≡ m
+  pub byte_is : t.byte m va ≡ byte
+
+-- These bytes stand from an address upwards, each of them still.
+abbrev pub StandAt : {M : Type 0} → Memory M → M → ℕ → List ℕ → Type 0
+StandAt t m va bytes = (i : ℕ) → i < length bytes → IsStill t m ((va + i) % 2 ^ 32) (slice_index bytes i)

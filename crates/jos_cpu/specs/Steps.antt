@@ -15,7 +15,7 @@ use Rattle.jos_cpu.specs.declared.accesses.Inputs.{Inputs}
 use Rattle.jos_cpu.specs.declared.fetching.Fetched.{Fetched}
 use Rattle.jos_cpu.specs.declared.fetching.Fetched.TheVariants.{Instruction, Fault, Unknown}
 use Rattle.jos_cpu.specs.Memory.{Memory}
-use Rattle.jos_cpu.specs.Registers.{moved}
+use Rattle.jos_alu.specs.Registers.{moved}
 use Rattle.jos_cpu.specs.Forms.{form_of}
 use Rattle.jos_cpu.specs.Accesses.{Probe, Number, accesses_of, probes_of, probed_all, inputs_of, writes_of, stored_all}
 use Rattle.jos_cpu.specs.Effects.{Done, form_effect}

@@ -1,15 +1,16 @@
 //! What an instruction reaches for in memory, and how it is probed, read and written.
 
 ghost use Rattle.std.specs.Prelude.{◌≡◌, true, OnOk, [], ◌∷◌, ◌++◌};
-ghost use Rattle.jos_cpu.specs.declared.forms.Width.TheVariants.{Word};
+ghost use Rattle.jos_alu.specs.declared.width.Width.TheVariants.{Word};
 ghost use Rattle.jos_cpu.specs.declared.accesses.Usage.TheVariants.{Reads, Writes};
 ghost use Rattle.jos_base.specs.declared.memory.Access.TheVariants.{Read, Write};
 ghost use Rattle.jos_cpu.specs.Memory.{Probed, refusal_of, all_allowed, after};
 ghost use Rattle.jos_cpu.specs.Accesses.{is_operand, usage_of, operand_access, used_operand, below_stack, operand_and_push, push_accesses, pop_to_operand, pop_accesses, text_accesses, is_repeated, is_over, accesses_of, length_of, is_written, is_read, access_of, probe_of, probes_of, probed_all, reach_open, is_open, number_at, input_of, next_word, popped_words, inputs_of, number_for, pushed_numbers, writes_of, stored_number, stored_all};
 
-use crate::forms::{Form, Place, Text, Width};
+use crate::addresses::address_of;
+use crate::forms::{Form, Place, Text};
 use crate::memory::{Mem, MemFault};
-use crate::registers::address_of;
+use jos_alu::Width;
 use jos_base::{Access, Regs};
 use jos_isa::{Insn, Operand, Repeat};
 
@@ -75,7 +76,7 @@ fn names_operand(place: Place) -> bool
     }
 }
 
-fn operand_usage(target: Place, left: Place, right: Place) -> Option<Usage>
+pub(crate) fn operand_usage(target: Place, left: Place, right: Place) -> Option<Usage>
     ensures { result ≡ usage_of target left right }
 {
     if names_operand(target) {
@@ -106,7 +107,12 @@ fn at_operand(width: Width, usage: Usage, operand: &Operand, regs: &Regs) -> Acc
 }
 
 #[inline(always)]
-fn at_used_operand(usage: Option<Usage>, width: Width, operand: &Operand, regs: &Regs) -> Accesses
+pub(crate) fn at_used_operand(
+    usage: Option<Usage>,
+    width: Width,
+    operand: &Operand,
+    regs: &Regs,
+) -> Accesses
     ensures { result ≡ used_operand usage width operand.now regs.now }
 {
     match usage {
@@ -297,7 +303,7 @@ pub(crate) fn len_of(width: Width) -> u32
     }
 }
 
-fn writes(usage: Usage) -> bool
+pub(crate) fn writes(usage: Usage) -> bool
     ensures { result ≡ is_written usage }
 {
     match usage {
@@ -307,7 +313,7 @@ fn writes(usage: Usage) -> bool
     }
 }
 
-fn reads(usage: Usage) -> bool
+pub(crate) fn reads(usage: Usage) -> bool
     ensures { result ≡ is_read usage }
 {
     match usage {
@@ -359,10 +365,14 @@ pub(crate) fn probe_all<M: Mem>(mem: &mut M, accesses: &Accesses) -> Result<(), 
 
 /// The number at an address, the lowest byte first.
 #[tactic(auto, unfolding(crate::specs::Accesses::number_at, crate::specs::Memory::all_allowed))]
+#[inline(always)]
 fn number<M: Mem>(mem: &M, va: u32, width: Width) -> u32
     requires { all_allowed (M.table.allowed mem.now) va (length_of width) Read ≡ true }
     ensures { result ≡ number_at M.table mem.now va width }
 {
+    if let Some(value) = mem.get_at_hand(width, va) {
+        return value;
+    }
     let second = va.wrapping_add(1);
     let third = second.wrapping_add(1);
     let fourth = third.wrapping_add(1);
@@ -393,11 +403,15 @@ fn input<M: Mem>(mem: &M, at: Reach) -> u32
 
 /// Puts a number at an address, the lowest byte first.
 #[tactic(auto, unfolding(crate::specs::Accesses::stored_number, crate::specs::Memory::all_allowed))]
+#[inline(always)]
 fn put_number<M: Mem>(mem: &mut M, width: Width, va: u32, value: u32)
     requires { all_allowed (M.table.allowed mem.old) va (length_of width) Write ≡ true }
     ensures after { mem.new ≡ stored_number M.table mem.old width va value }
     ensures stays { M.table.allowed mem.new ≡ M.table.allowed mem.old }
 {
+    if mem.put_at_hand(width, va, value) {
+        return;
+    }
     let second = va.wrapping_add(1);
     let third = second.wrapping_add(1);
     let fourth = third.wrapping_add(1);

@@ -1,19 +1,18 @@
 //! Moves, arithmetic, logic, shifts and exchanges.
 
 ghost use Rattle.std.specs.Prelude.{◌≡◌, ◌-◌, ◌%◌};
-ghost use Rattle.jos_cpu.specs.Flags.{modulus};
+ghost use Rattle.jos_alu.specs.Flags.{modulus};
 ghost use Rattle.jos_cpu.specs.declared.events.Event.TheVariants.{Next};
 ghost use Rattle.jos_cpu.specs.Effects.{computed, with_computed, compute_effect, shift_two_effect, exchange_effect, address_effect};
 
 use crate::accesses::Inputs;
-use crate::flags::{Computed, bit, combine, decrease, increase, is_condition, lowest, operate};
-use crate::forms::{Act, Place, Shift, Width};
+use crate::addresses::address_of;
+use crate::forms::{Act, Place};
 use crate::places::{read_at_place, set_at_place};
-use crate::products::multiply;
-use crate::registers::{
-    address_of, read_register, read_register_at, set_register, set_register_at,
+use jos_alu::{
+    Computed, Shift, Width, bit, combine, decrease, increase, is_condition, lowest, multiply,
+    operate, read_register, read_register_at, set_register, set_register_at, shift_by,
 };
-use crate::shifts::shift_by;
 use jos_base::Regs;
 use jos_isa::{Insn, Operand};
 

@@ -2,15 +2,14 @@
 
 ghost use Rattle.std.specs.Prelude.{◌≡◌, if◌then◌else◌};
 ghost use Rattle.jos_cpu.specs.declared.events.Event.TheVariants.{Next};
-ghost use Rattle.jos_cpu.specs.Registers.{moved};
-ghost use Rattle.jos_cpu.specs.Flags.{condition_holds};
+ghost use Rattle.jos_alu.specs.Registers.{moved};
+ghost use Rattle.jos_alu.specs.Flags.{condition_holds};
 ghost use Rattle.jos_cpu.specs.Effects.{IfRaised, raised, call_effect, return_effect, gate_of, interrupt_effect, changed_flags};
 
 use crate::accesses::below;
 use crate::events::{Event, Gates};
-use crate::flags::{CARRY, is_condition};
 use crate::forms::Change;
-use crate::registers::advance;
+use jos_alu::{CARRY, advance, is_condition};
 use jos_base::Regs;
 use jos_isa::Insn;
 

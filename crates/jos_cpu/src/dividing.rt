@@ -6,12 +6,12 @@ ghost use Rattle.jos_cpu.specs.Effects.{IfRaised, product_effect, halves_effect,
 
 use crate::accesses::Inputs;
 use crate::events::Event;
-use crate::forms::{Place, Sign, Width};
+use crate::forms::Place;
 use crate::places::read_at_place;
-use crate::products::{
-    Halves, divide, flags_of_product, product, read_double, set_double, split, too_long,
+use jos_alu::{
+    Halves, Sign, Width, divide, flags_of_product, product, read_double, read_register_at,
+    set_double, split, too_long,
 };
-use crate::registers::read_register_at;
 use jos_base::Regs;
 use jos_isa::Insn;
 

@@ -2,8 +2,8 @@
 
 ghost use Rattle.std.specs.Prelude.{◌≡◌, if◌then◌else◌};
 ghost use Rattle.jos_cpu.specs.declared.events.Event.TheVariants.{Next};
-ghost use Rattle.jos_cpu.specs.declared.forms.Width.TheVariants.{Word};
-ghost use Rattle.jos_cpu.specs.Flags.{is_negative};
+ghost use Rattle.jos_alu.specs.declared.width.Width.TheVariants.{Word};
+ghost use Rattle.jos_alu.specs.Flags.{is_negative};
 ghost use Rattle.jos_cpu.specs.Effects.{IfRaised, form_effect};
 
 use crate::accesses::{Inputs, below};
@@ -11,13 +11,14 @@ use crate::computing::{load_address, make_computation, make_exchange, make_shift
 use crate::control::{BREAKPOINT, branch, call, change_flags, interrupt, protect, return_to};
 use crate::dividing::{make_product, make_quotient};
 use crate::events::{Event, Gates};
-use crate::flags::has_sign;
-use crate::forms::{Form, Place, Width};
+use crate::forms::{Form, Place};
 use crate::places::{first, read_at_place};
-use crate::products::{extend, extend_signed};
-use crate::registers::{advance, read_register_at, set_register, set_register_at};
 use crate::stack::{leave, pop, pop_all, push, raise, take_flags};
 use crate::strings::make_strings;
+use jos_alu::{
+    Width, advance, extend, extend_signed, has_sign, read_register_at, set_register,
+    set_register_at,
+};
 use jos_base::Regs;
 use jos_isa::Insn;
 

@@ -55,7 +55,9 @@ fn judge(bytes: &[u8], least: &mut usize) -> Decoded
 
 /// Fetches the instruction at an address, one byte after another.
 #[tactic(auto, unfolding(crate::specs::Fetch::fetched_at))]
-pub(crate) fn fetch<M: Mem>(mem: &mut M, ip: u32) -> Fetched
+#[cold]
+#[inline(never)]
+fn fetch_bytes<M: Mem>(mem: &mut M, ip: u32) -> Fetched
     ensures { fetched_at M.table mem.old ip ≡ record { memory = mem.new; fetched = result } }
 {
     let mut bytes = ArrayVec::<u8, INSTRUCTION_MAX>::new();
@@ -72,4 +74,14 @@ pub(crate) fn fetch<M: Mem>(mem: &mut M, ip: u32) -> Fetched
         }
     }
     Fetched::Unknown
+}
+
+/// Fetches the instruction at an address: from a window, where it is whole there.
+pub(crate) fn fetch<M: Mem>(mem: &mut M, ip: u32) -> Fetched
+    ensures { fetched_at M.table mem.old ip ≡ record { memory = mem.new; fetched = result } }
+{
+    match decode(mem.window(ip)) {
+        Decoded::Found(insn, len) => Fetched::Instruction(insn, len as u32),
+        Decoded::Short | Decoded::Illegal => fetch_bytes(mem, ip),
+    }
 }

@@ -3,18 +3,8 @@
 ghost use Rattle.std.specs.Prelude.{◌≡◌};
 ghost use Rattle.jos_cpu.specs.Forms.{form_of, shift_of, shift_form, alu_form};
 
+use jos_alu::{Shift, Sign, Width};
 use jos_isa::Row;
-
-/// How wide an operand is.
-#[derive(Clone, Copy)]
-pub(crate) enum Width {
-    /// 8 bits.
-    Byte,
-    /// 16 bits.
-    Pair,
-    /// 32 bits.
-    Word,
-}
 
 /// Where an operand comes from, or a result goes.
 #[derive(Clone, Copy)]
@@ -32,18 +22,6 @@ pub(crate) enum Place {
     One,
     /// CL.
     Cl,
-}
-
-/// How bits are shifted by one place.
-#[derive(Clone, Copy)]
-pub(crate) enum Shift {
-    Rol,
-    Ror,
-    Shl,
-    Shr,
-    Sar,
-    Shld,
-    Shrd,
 }
 
 /// What is computed of a left and a right number.
@@ -65,13 +43,6 @@ pub(crate) enum Act {
     Condition(u8),
     /// The signed product.
     Multiply,
-}
-
-/// Whether numbers are read as signed.
-#[derive(Clone, Copy)]
-pub(crate) enum Sign {
-    Unsigned,
-    Signed,
 }
 
 /// An instruction on strings.
@@ -142,7 +113,7 @@ pub(crate) enum Form {
     Nothing,
 }
 
-fn shift_named(k: u8) -> Shift
+pub(crate) fn shift_named(k: u8) -> Shift
     ensures { result ≡ shift_of k }
 {
     match k {

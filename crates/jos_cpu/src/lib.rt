@@ -1,36 +1,37 @@
-//! One step of the modelled 80386, over any memory.
+//! Steps of the modelled 80386, over any memory.
 //!
 //! `step` fetches the instruction at EIP, one byte after another, probes its accesses to memory in their order,
 //! and then does what the instruction does. `specs/Steps.antt` says what a step is, and `step` does exactly
 //! that, for any registers and any memory that keeps `Mem`'s clauses. `specs/Forms.antt` says of each row what
 //! it does in common terms, `specs/Accesses.antt` what it reaches and in which order, `specs/Effects.antt` what
-//! becomes of the registers, what is written and which trap is raised. A step takes no memory and copies none.
+//! becomes of the registers, what is written and which trap is raised.
+//!
+//! `make_burst` makes such steps one after another (`specs/Bursts.antt`), and fast: an instruction is decoded
+//! once for its bytes (`decodings`), and a frequent one whose memory is at hand is done at once (`quick`). A step
+//! takes no memory and copies none.
 #![tactic(auto)]
 
 mod accesses;
+mod addresses;
+mod bursts;
 mod computing;
 mod control;
+mod decodings;
 mod dividing;
 mod effects;
 mod events;
 mod fetching;
-mod flags;
 mod forms;
-mod laws;
 mod memory;
 mod places;
-mod products;
-mod registers;
-mod shifts;
+mod quick;
 mod stack;
 mod stepping;
 mod strings;
 
+pub use bursts::{Burst, make_burst};
+pub use decodings::Decodings;
 pub use events::{Event, Gates};
-pub use laws::{
-    conditions_compare, overflow_is_signed, quotients_give_back_the_dividend, rotations_go_back,
-    shifts_are_products,
-};
 pub use memory::{Mem, MemFault};
 pub use stepping::step;
 

@@ -1,9 +1,11 @@
 //! Memory as the processor sees it.
 
-ghost use Rattle.std.specs.Prelude.{◌≡◌, true, OnOk, is_ok};
+ghost use Rattle.std.specs.Prelude.{◌≡◌, true, false, OnOk, IfSome, is_ok};
 ghost use Rattle.jos_base.specs.declared.memory.Access.TheVariants.{Read, Write};
-ghost use Rattle.jos_cpu.specs.Memory.{Memory, Probed, refusal_of, probed, all_allowed};
+ghost use Rattle.jos_cpu.specs.Memory.{Memory, Probed, refusal_of, probed, all_allowed, StandAt};
+ghost use Rattle.jos_cpu.specs.Accesses.{IsAtHand, IsPut};
 
+use jos_alu::Width;
 use jos_base::{Access, PageFault};
 
 /// Why a byte is not reached.
@@ -31,6 +33,38 @@ pub trait Mem {
     fn get(&self, va: u32) -> u8
         requires { table.allowed self.now va Read ≡ true }
         ensures { result ≡ table.byte self.now va };
+
+    /// Bytes that stand from an address on, and that nothing changes when they are reached. There may be none anywhere.
+    fn window(&self, va: u32) -> &[u8]
+        ensures { StandAt table self.now va result.now };
+
+    /// The number of a width at an address, where it may be read and nothing changes when it is reached.
+    #[inline(always)]
+    fn get_at_hand(&self, width: Width, va: u32) -> Option<u32>
+        ensures { IfSome result (IsAtHand table self.now width va) }
+    {
+        match width {
+            Width::Byte => match self.window(va) {
+                [a, ..] => Some(*a as u32),
+                _ => None,
+            },
+            Width::Pair => match self.window(va) {
+                [a, b, ..] => Some(u16::from_le_bytes([*a, *b]) as u32),
+                _ => None,
+            },
+            Width::Word => match self.window(va) {
+                [a, b, c, d, ..] => Some(u32::from_le_bytes([*a, *b, *c, *d])),
+                _ => None,
+            },
+        }
+    }
+
+    /// Puts a number of a width at an address, where it may be written and nothing else changes when it is reached;
+    /// else it changes nothing, and the result is false. It may be false anywhere.
+    fn put_at_hand(&mut self, width: Width, va: u32, value: u32) -> bool
+        ensures put { result ≡ true → IsPut table self.old width va value self.new }
+        ensures left { result ≡ false → self.new ≡ self.old }
+        ensures stays { table.allowed self.new ≡ table.allowed self.old };
 
     /// Puts a byte at an address that may be written.
     fn set(&mut self, va: u32, byte: u8)

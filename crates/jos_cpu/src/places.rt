@@ -4,9 +4,8 @@ ghost use Rattle.std.specs.Prelude.{◌≡◌};
 ghost use Rattle.jos_cpu.specs.Effects.{first_of, second_of, operand_value, with_operand, value_at, with_value_at};
 
 use crate::accesses::Inputs;
-use crate::flags::lowest;
-use crate::forms::{Place, Width};
-use crate::registers::{read_register_at, set_register_at};
+use crate::forms::Place;
+use jos_alu::{Width, lowest, read_register_at, set_register_at};
 use jos_base::Regs;
 use jos_isa::{Insn, Operand};
 

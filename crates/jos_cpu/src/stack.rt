@@ -5,8 +5,9 @@ ghost use Rattle.jos_cpu.specs.declared.events.Event.TheVariants.{Next};
 ghost use Rattle.jos_cpu.specs.Effects.{push_effect, raised_by, pop_effect, pop_all_effect, popped_flags, leave_effect};
 
 use crate::accesses::{Inputs, below};
-use crate::forms::{Place, Width};
+use crate::forms::Place;
 use crate::places::set_at_place;
+use jos_alu::Width;
 use jos_base::Regs;
 use jos_isa::Insn;
 

@@ -1,7 +1,8 @@
 //! One step.
 
 ghost use Rattle.std.specs.Prelude.{◌≡◌};
-ghost use Rattle.jos_cpu.specs.Registers.{moved};
+ghost use Rattle.jos_alu.specs.Registers.{moved};
+ghost use Rattle.jos_cpu.specs.Forms.{form_of};
 ghost use Rattle.jos_cpu.specs.Effects.{IfRaised, form_effect};
 ghost use Rattle.jos_cpu.specs.Steps.{Stepped, fault_event, executed, step_of};
 
@@ -11,7 +12,7 @@ use crate::events::{Event, Gates};
 use crate::fetching::{Fetched, fetch};
 use crate::forms::{Form, read_form};
 use crate::memory::{Mem, MemFault};
-use crate::registers::advance;
+use jos_alu::advance;
 use jos_base::Regs;
 use jos_isa::Insn;
 
@@ -38,6 +39,7 @@ fn event_of(fault: MemFault) -> Event
     }
 }
 
+#[inline(always)]
 fn take_effect(
     form: Form,
     insn: &Insn,
@@ -55,32 +57,42 @@ fn take_effect(
     apply(form, insn, old, regs, inputs, gates)
 }
 
-/// Executes an instruction that so many bytes spell.
+/// Executes an instruction that so many bytes spell, of the form of its row.
+#[inline(never)]
 #[tactic(auto, unfolding(crate::specs::Steps::executed, crate::specs::Steps::accesses, crate::specs::Steps::done_by))]
-fn execute<M: Mem>(insn: &Insn, len: u32, regs: &mut Regs, mem: &mut M, gates: Gates) -> Event
+pub(crate) fn execute<M: Mem>(
+    insn: &Insn,
+    form: &Form,
+    len: u32,
+    regs: &mut Regs,
+    mem: &mut M,
+    gates: Gates,
+) -> Event
+    requires { form.now ≡ form_of insn.now.row }
     ensures done { executed M.table insn.now len regs.old mem.old gates ≡ record { regs = regs.new; memory = mem.new; event = result } }
     ensures kept { IfRaised result (regs.new ≡ regs.old) }
 {
-    let form = read_form(insn.row);
-    let reach = find_accesses(form, insn, regs);
-    match probe_all(mem, &reach) {
+    let accesses = find_accesses(*form, insn, regs);
+    match probe_all(mem, &accesses) {
         Err(fault) => event_of(fault),
         Ok(()) => {
-            let inputs = read_inputs(mem, &reach);
+            let inputs = read_inputs(mem, &accesses);
             let mut next = *regs;
             let Outcome { value, event } = take_effect(
-                form, insn, len, regs, &mut next, &inputs, gates,
+                *form, insn, len, regs, &mut next, &inputs, gates,
             );
-            write_outputs(mem, &reach, regs, value);
+            write_outputs(mem, &accesses, regs, value);
             *regs = next;
             event
         }
     }
 }
 
-/// Makes one step, which is the instruction at EIP or, of a repeated one, a repetition.
+/// Makes one step: the instruction at EIP or, of a repeated one, one repetition, by `specs/Steps.antt`. A trap
+/// leaves the registers as they were, and the memory as its probes leave it.
+#[inline(never)]
 #[tactic(auto, unfolding(crate::specs::Steps::step_of))]
-fn make_step<M: Mem>(regs: &mut Regs, mem: &mut M, gates: Gates) -> Event
+pub fn step<M: Mem>(regs: &mut Regs, mem: &mut M, gates: Gates) -> Event
     ensures done { step_of M.table regs.old mem.old gates ≡ record { regs = regs.new; memory = mem.new; event = result } }
     ensures kept { IfRaised result (regs.new ≡ regs.old) }
 {
@@ -91,15 +103,8 @@ fn make_step<M: Mem>(regs: &mut Regs, mem: &mut M, gates: Gates) -> Event
             va: 0,
         },
         Fetched::Fault(fault) => event_of(fault),
-        Fetched::Instruction(insn, len) => execute(&insn, len, regs, mem, gates),
+        Fetched::Instruction(insn, len) => {
+            execute(&insn, &read_form(insn.row), len, regs, mem, gates)
+        }
     }
-}
-
-/// Makes one step: the instruction at EIP or, of a repeated one, one repetition, by `specs/Steps.antt`. A trap
-/// leaves the registers as they were, and the memory as its probes leave it.
-pub fn step<M: Mem>(regs: &mut Regs, mem: &mut M, gates: Gates) -> Event
-    ensures done { step_of M.table regs.old mem.old gates ≡ record { regs = regs.new; memory = mem.new; event = result } }
-    ensures kept { IfRaised result (regs.new ≡ regs.old) }
-{
-    make_step(regs, mem, gates)
 }

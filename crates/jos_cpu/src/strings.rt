@@ -5,10 +5,9 @@ ghost use Rattle.jos_cpu.specs.declared.events.Event.TheVariants.{Next};
 ghost use Rattle.jos_cpu.specs.Effects.{gives, text_step, with_esi, with_edi, compared, text_effect, compares, breaks, counted_down, repeated, after_text, strings_effect};
 
 use crate::accesses::{Inputs, is_done, len_of, repeats};
-use crate::flags::{has, subtract};
-use crate::forms::{Text, Width};
+use crate::forms::Text;
 use crate::places::{first, second};
-use crate::registers::{read_register_at, set_register_at};
+use jos_alu::{Width, has, read_register_at, set_register_at, subtract};
 use jos_base::Regs;
 use jos_isa::{Insn, Repeat};
 
@@ -16,6 +15,7 @@ const ZERO: u32 = 0x040;
 
 const DIRECTION: u32 = 0x400;
 
+#[inline(always)]
 fn distance(width: Width, eflags: u32) -> u32
     ensures { result ≡ text_step width eflags }
 {
@@ -26,12 +26,14 @@ fn distance(width: Width, eflags: u32) -> u32
     }
 }
 
+#[inline(always)]
 fn move_esi(width: Width, regs: &mut Regs)
     ensures { regs.new ≡ with_esi width regs.old }
 {
     regs.esi = regs.esi.wrapping_add(distance(width, regs.eflags));
 }
 
+#[inline(always)]
 fn move_edi(width: Width, regs: &mut Regs)
     ensures { regs.new ≡ with_edi width regs.old }
 {
@@ -46,6 +48,7 @@ fn compare(width: Width, a: u32, b: u32, regs: &mut Regs)
 
 /// One repetition; the result is the number that is written.
 #[tactic(auto, unfolding(crate::specs::Effects::text_effect))]
+#[inline(always)]
 fn make_text(text: Text, width: Width, regs: &mut Regs, inputs: &Inputs) -> u32
     ensures { text_effect text width regs.old inputs.now ≡ record { registers = regs.new; value = result; event = Next } }
 {
@@ -80,6 +83,7 @@ fn make_text(text: Text, width: Width, regs: &mut Regs, inputs: &Inputs) -> u32
     }
 }
 
+#[inline(always)]
 fn is_comparison(text: Text) -> bool
     ensures { result ≡ compares text }
 {
@@ -92,6 +96,7 @@ fn is_comparison(text: Text) -> bool
     }
 }
 
+#[inline(always)]
 fn is_broken(repeat: Repeat, eflags: u32) -> bool
     ensures { result ≡ breaks repeat eflags }
 {
@@ -102,6 +107,7 @@ fn is_broken(repeat: Repeat, eflags: u32) -> bool
     }
 }
 
+#[inline(always)]
 fn count_down(regs: &mut Regs)
     ensures { regs.new ≡ counted_down regs.old }
 {
@@ -109,6 +115,7 @@ fn count_down(regs: &mut Regs)
 }
 
 /// Puts EIP back to the instruction, unless this was the last repetition.
+#[inline(always)]
 fn go_back(text: Text, repeat: Repeat, ip: u32, regs: &mut Regs)
     ensures { regs.new ≡ repeated text repeat ip regs.old }
 {
@@ -118,6 +125,7 @@ fn go_back(text: Text, repeat: Repeat, ip: u32, regs: &mut Regs)
 }
 
 /// What comes after one repetition.
+#[inline(always)]
 fn finish_text(text: Text, repeat: Repeat, ip: u32, regs: &mut Regs, value: u32) -> u32
     ensures { after_text text repeat ip (gives regs.old value) ≡ record { registers = regs.new; value = result; event = Next } }
 {
@@ -130,6 +138,7 @@ fn finish_text(text: Text, repeat: Repeat, ip: u32, regs: &mut Regs, value: u32)
     }
 }
 
+#[inline(always)]
 pub(crate) fn make_strings(
     text: Text,
     width: Width,

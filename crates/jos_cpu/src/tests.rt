@@ -6,6 +6,7 @@ use crate::tests::processor::{
 use crate::tests::window::Window;
 use jos_base::Regs;
 use std::process::Abort;
+use std::test::Fail;
 
 mod processor;
 mod window;
@@ -42,7 +43,7 @@ fn words_of(regs: &Regs) -> Words {
 }
 
 /// The code at the base, and below the rest bytes that go up by 37.
-fn window_of(code: [u8; 12]) -> Window {
+fn window_of(code: [u8; 12], standing: bool) -> Window {
     let mut bytes = [0; 128];
     let mut byte = 11u8;
     for k in 0..128usize {
@@ -52,36 +53,62 @@ fn window_of(code: [u8; 12]) -> Window {
     Window {
         base: BASE,
         locked: 16,
+        standing,
         touched: 0,
         bytes,
     }
 }
 
-/// Runs each case up to the end of its bytes.
-fn agree(rt: &impl Abort, cases: &[Case]) {
-    for (code, len, before, mask, after) in cases {
-        let mut window = window_of(*code);
-        let mut regs = regs_of(*before);
-        for _ in 0..6u32 {
-            if regs.eip != BASE.wrapping_add(*len) {
-                let event = step(&mut regs, &mut window, Gates::Exo);
-                assert_eq!(rt; event, Event::Next, "{code:?}");
-            }
+/// The steps by which a case is run: each by itself, with no memory at hand; and in bursts with all memory at hand,
+/// first with nothing decoded and then with what was decoded before.
+const WAYS: [bool; 3] = [false, true, true];
+
+/// Runs the code up to the end of its bytes.
+fn run_case(
+    rt: &impl Abort,
+    decodings: &mut Decodings,
+    case: &Case,
+    standing: bool,
+) -> (Regs, Window) {
+    let (code, len, before, _, _) = case;
+    let mut window = window_of(*code, standing);
+    let mut regs = regs_of(*before);
+    for _ in 0..6u32 {
+        if regs.eip != BASE.wrapping_add(*len) {
+            let event = if standing {
+                make_burst(decodings, &mut regs, &mut window, Gates::Exo, 1).event
+            } else {
+                step(&mut regs, &mut window, Gates::Exo)
+            };
+            assert_eq!(rt; event, Event::Next, "{code:?}");
         }
-        regs.eflags = regs.eflags & *mask;
-        assert_eq!(rt; regs.eip, BASE.wrapping_add(*len), "{code:?}");
-        assert_eq!(rt; words_of(&regs), *after, "{code:?}");
+    }
+    (regs, window)
+}
+
+/// Runs each case, in each way, and compares the registers.
+fn agree(rt: &impl Abort, decodings: &mut Decodings, cases: &[Case]) {
+    for case in cases {
+        let (code, len, _, mask, after) = case;
+        for standing in WAYS {
+            let (mut regs, _) = run_case(rt, decodings, case, standing);
+            regs.eflags = regs.eflags & *mask;
+            assert_eq!(rt; regs.eip, BASE.wrapping_add(*len), "{code:?}");
+            assert_eq!(rt; words_of(&regs), *after, "{code:?}");
+        }
     }
 }
 
 #[test]
-fn agrees_with_a_processor(rt: HostRuntime) {
-    agree(&rt, &MOVES);
-    agree(&rt, &ARITHMETIC);
-    agree(&rt, &ONES);
-    agree(&rt, &SHIFTS);
-    agree(&rt, &PRODUCTS);
-    agree(&rt, &CONDITIONS);
+fn agrees_with_a_processor(rt: HostRuntime) -> Result<(), Fail> {
+    let mut decodings = Decodings::new(rt.alloc())?;
+    agree(&rt, &mut decodings, &MOVES);
+    agree(&rt, &mut decodings, &ARITHMETIC);
+    agree(&rt, &mut decodings, &ONES);
+    agree(&rt, &mut decodings, &SHIFTS);
+    agree(&rt, &mut decodings, &PRODUCTS);
+    agree(&rt, &mut decodings, &CONDITIONS);
+    Ok(())
 }
 
 /// The bytes as one number.
@@ -93,30 +120,80 @@ fn sum_of(window: &Window) -> u32 {
     sum
 }
 
-/// Runs each case up to the end of its bytes, with all repetitions.
-fn agree_in_memory(rt: &impl Abort, cases: &[CaseInMemory]) {
+/// Runs each case, with all repetitions and in each way, and compares registers and bytes.
+fn agree_in_memory(rt: &impl Abort, decodings: &mut Decodings, cases: &[CaseInMemory]) {
     for (case, sum) in cases {
-        let (code, len, before, mask, after) = case;
-        let mut window = window_of(*code);
-        let mut regs = regs_of(*before);
-        for _ in 0..6u32 {
-            if regs.eip != BASE.wrapping_add(*len) {
-                let event = step(&mut regs, &mut window, Gates::Exo);
-                assert_eq!(rt; event, Event::Next, "{code:?}");
-            }
+        let (code, len, _, mask, after) = case;
+        for standing in WAYS {
+            let (mut regs, window) = run_case(rt, decodings, case, standing);
+            regs.eflags = regs.eflags & *mask;
+            assert_eq!(rt; regs.eip, BASE.wrapping_add(*len), "{code:?}");
+            assert_eq!(rt; words_of(&regs), *after, "{code:?}");
+            assert_eq!(rt; sum_of(&window), *sum, "{code:?}");
         }
-        regs.eflags = regs.eflags & *mask;
-        assert_eq!(rt; regs.eip, BASE.wrapping_add(*len), "{code:?}");
-        assert_eq!(rt; words_of(&regs), *after, "{code:?}");
-        assert_eq!(rt; sum_of(&window), *sum, "{code:?}");
     }
 }
 
 #[test]
-fn agrees_with_a_processor_in_memory(rt: HostRuntime) {
-    agree_in_memory(&rt, &MEMORY);
-    agree_in_memory(&rt, &STACK);
-    agree_in_memory(&rt, &STRINGS);
+fn agrees_with_a_processor_in_memory(rt: HostRuntime) -> Result<(), Fail> {
+    let mut decodings = Decodings::new(rt.alloc())?;
+    agree_in_memory(&rt, &mut decodings, &MEMORY);
+    agree_in_memory(&rt, &mut decodings, &STACK);
+    agree_in_memory(&rt, &mut decodings, &STRINGS);
+    Ok(())
+}
+
+// Programs that write into their own code, or that run over the end of memory: the code, where it begins, how many
+// steps it is to make and how many it makes.
+#[rattlefmt::skip]
+const CHANGING: [([u8; 12], u32, u32, u32); 5] = [
+    // INC EAX; MOV the byte of INC EAX to that of DEC EBX; JMP to the beginning
+    ([0x40, 0xc6, 0x05, 0, 0, 0x80, 0, 0x4b, 0xeb, 0xf6, 0, 0], 0, 12, 12),
+    // XOR the byte behind by 3, which makes INC EBX of INC EAX and INC EAX of INC EBX; that byte; JMP to the beginning
+    ([0x80, 0x35, 7, 0, 0x80, 0, 3, 0x40, 0xeb, 0xf6, 0, 0], 0, 12, 12),
+    // MOV ECX,3; MOV EDI,EIP; REP STOSB, whose first repetition makes NOP of its prefix; then it is STOSB alone
+    ([0xb1, 3, 0xbf, 7, 0, 0x80, 0, 0xf3, 0xaa, 0x40, 0x40, 0x40], 0, 7, 7),
+    // bytes of memory itself, up to its end and over it: INC EAX twice, and then there is nothing
+    ([0; 12], 126, 3, 3),
+    // MOV EAX,imm32, of which the last byte is past the end
+    ([0; 12], 124, 1, 1),
+];
+
+// Each program, step by step with no memory at hand and in one burst with all memory at hand, comes to the same.
+#[test]
+fn sees_what_it_writes(rt: HostRuntime) -> Result<(), Fail> {
+    let mut decodings = Decodings::new(rt.alloc())?;
+    for (code, from, steps, made) in CHANGING {
+        for _ in 0..2u32 {
+            let mut plain = window_of(code, false);
+            plain.locked = 0;
+            plain.bytes[124] = 0xb8;
+            plain.bytes[126] = 0x40;
+            plain.bytes[127] = 0x40;
+            let mut quick = plain;
+            quick.standing = true;
+            let mut regs = regs_of([0x90, 0, 0, 0, BASE + 64, 0, 0, 0, 0x0202]);
+            regs.eip = BASE + from;
+            let mut quick_regs = regs;
+            let mut event = Event::Next;
+            for _ in 0..made {
+                assert_eq!(rt; event, Event::Next, "{code:?}");
+                event = step(&mut regs, &mut plain, Gates::Exo);
+            }
+            let burst = make_burst(
+                &mut decodings,
+                &mut quick_regs,
+                &mut quick,
+                Gates::Exo,
+                steps,
+            );
+            assert_eq!(rt; (burst.steps, burst.event), (made, event), "{code:?}");
+            assert_eq!(rt; words_of(&quick_regs), words_of(&regs), "{code:?}");
+            assert_eq!(rt; quick_regs.eip, regs.eip, "{code:?}");
+            assert_eq!(rt; quick.bytes.as_slice(), plain.bytes.as_slice(), "{code:?}");
+        }
+    }
+    Ok(())
 }
 
 // EAX to EDI and EFLAGS of the cases below: ESI is two bytes before the window's end, and EDI is its end.
@@ -202,7 +279,7 @@ fn raises(rt: HostRuntime) {
     for (bytes, gates, want, touched) in events() {
         let [a, b, c, d, e, f, g] = bytes;
         let code = [a, b, c, d, e, f, g, 0, 0, 0, 0, 0];
-        let mut window = window_of(code);
+        let mut window = window_of(code, false);
         let mut regs = regs_of(AT_THE_END);
         let event = step(&mut regs, &mut window, gates);
         assert_eq!(rt; event, want, "{code:?}");
@@ -214,52 +291,11 @@ fn raises(rt: HostRuntime) {
     }
 }
 
-// A byte and a word by each count in CL, whose low five bits are the places.
-#[test]
-fn shifts_by_each_count(rt: HostRuntime) {
-    let word = 0x8123_4567u32;
-    let byte = 0x93u8;
-    for count in 0..256u32 {
-        let places = count % 32;
-        let few = if places < 8 { places } else { 7 };
-        for (modrm, word_after, byte_after) in [
-            (0xc0u8, word.rotate_left(places), byte.rotate_left(places)),
-            (0xc8, word.rotate_right(places), byte.rotate_right(places)),
-            (
-                0xe0,
-                word << places,
-                if places < 8 { byte << places } else { 0 },
-            ),
-            (
-                0xe8,
-                word >> places,
-                if places < 8 { byte >> places } else { 0 },
-            ),
-            (
-                0xf8,
-                (word.cast_signed() >> places).cast_unsigned(),
-                (byte.cast_signed() >> few).cast_unsigned(),
-            ),
-        ] {
-            for (opcode, before, after) in [
-                (0xd3u8, word, word_after),
-                (0xd2, byte as u32, byte_after as u32),
-            ] {
-                let mut window = window_of([opcode, modrm, 0, 0, 0, 0, 0, 0, 0, 0, 0, 0]);
-                let mut regs = regs_of([before, count, 0, 0, BASE, 0, 0, 0, 0x0202]);
-                let event = step(&mut regs, &mut window, Gates::Exo);
-                assert_eq!(rt; event, Event::Next, "{opcode} {modrm} {count}");
-                assert_eq!(rt; regs.eax, after, "{opcode} {modrm} {count}");
-            }
-        }
-    }
-}
-
 // INC at the greatest signed number: OF, SF, AF and PF are set, ZF is cleared, and CF is as it was.
 #[test]
 fn increments_over_the_greatest_number(rt: HostRuntime) {
     for carry in [0, 1u32] {
-        let mut window = window_of([0x40, 0, 0, 0, 0, 0, 0, 0, 0, 0, 0, 0]);
+        let mut window = window_of([0x40, 0, 0, 0, 0, 0, 0, 0, 0, 0, 0, 0], false);
         let mut regs = regs_of([0x7fff_ffff, 0, 0, 0, BASE, 0, 0, 0, 0x0242 + carry]);
         assert_eq!(rt; step(&mut regs, &mut window, Gates::Exo), Event::Next);
         assert_eq!(rt; regs.eax, 0x8000_0000);
@@ -270,7 +306,7 @@ fn increments_over_the_greatest_number(rt: HostRuntime) {
 // REP STOSB writes one byte in a step, and is past when it has written three.
 #[test]
 fn repeats_a_step_at_a_time(rt: HostRuntime) {
-    let mut window = window_of([0xf3, 0xaa, 0, 0, 0, 0, 0, 0, 0, 0, 0, 0]);
+    let mut window = window_of([0xf3, 0xaa, 0, 0, 0, 0, 0, 0, 0, 0, 0, 0], false);
     let mut bytes = window.bytes;
     let mut regs = regs_of([0x5a, 3, 0, 0, BASE, 0, 0, BASE + 32, 0x0202]);
     for (at, left, eip) in [(32usize, 2u32, BASE), (33, 1, BASE), (34, 0, BASE + 2)] {
@@ -287,7 +323,7 @@ fn repeats_a_step_at_a_time(rt: HostRuntime) {
 #[test]
 fn keeps_flags(rt: HostRuntime) {
     for (popped, want) in [(0u8, 0x0202), (0xff, 0x0cd7 | 0x0200)] {
-        let mut window = window_of([0x9d, 0x9c, 0, 0, 0, 0, 0, 0, 0, 0, 0, 0]);
+        let mut window = window_of([0x9d, 0x9c, 0, 0, 0, 0, 0, 0, 0, 0, 0, 0], false);
         for k in 80..84usize {
             window.bytes[k] = popped;
         }

@@ -1,10 +1,11 @@
 //! A small memory.
 
-ghost use Rattle.std.specs.Prelude.{◌≡◌, ◌<◌, ◌+◌, ◌%◌, ◌^◌, slice_index, slice_set};
+ghost use Rattle.std.specs.Prelude.{◌≡◌, ◌<◌, ◌+◌, ◌%◌, ◌^◌, slice_index, slice_set, if◌then◌else◌};
 ghost use Rattle.jos_cpu.specs.Memory.{Memory, after};
 ghost use Rattle.jos_cpu.specs.Window.{offset, window_allows, write_bit, window_fault};
 
 use crate::memory::{Mem, MemFault};
+use jos_alu::Width;
 use jos_base::{Access, PageFault};
 
 const LEN: usize = 128;
@@ -14,7 +15,9 @@ const LEN: usize = 128;
 pub(crate) struct Window {
     pub(crate) base: u32,
     pub(crate) locked: u32,
-    /// How many bytes were reached.
+    /// Whether nothing changes when bytes are reached, so that they are at hand.
+    pub(crate) standing: bool,
+    /// How many bytes were reached, where that is counted.
     pub(crate) touched: u32,
     pub(crate) bytes: [u8; LEN],
 }
@@ -24,6 +27,15 @@ impl Window {
         ensures { result ≡ offset self.now.base va }
     {
         va.wrapping_sub(self.base)
+    }
+
+    // Counts a byte that is reached.
+    fn touch(&mut self)
+        ensures { self.new ≡ (if self.old.standing then self.old else record self.old { touched = (self.old.touched + 1) % 2 ^ 32 }) }
+    {
+        if !self.standing {
+            self.touched = self.touched.wrapping_add(1);
+        }
     }
 
     fn allows(&self, va: u32, access: Access) -> bool
@@ -53,7 +65,7 @@ impl Mem for Window {
       byte = λ w va. slice_index w.bytes (offset w.base va);
       allowed = λ w va access. window_allows w.base w.locked 128 va access;
       fault = λ w va access. window_fault va access;
-      reached = λ w va access. record w { touched = (w.touched + 1) % 2 ^ 32 };
+      reached = λ w va access. if w.standing then w else record w { touched = (w.touched + 1) % 2 ^ 32 };
       stored = λ w va byte. record w { bytes = slice_set w.bytes (offset w.base va) byte };
     } };
 
@@ -63,7 +75,7 @@ impl Mem for Window {
             if !self.allows(at, access) {
                 return Err(fault_at(at, access));
             }
-            self.touched = self.touched.wrapping_add(1);
+            self.touch();
             at = at.wrapping_add(1);
         }
         Ok(())
@@ -71,6 +83,41 @@ impl Mem for Window {
 
     fn get(&self, va: u32) -> u8 {
         self.bytes[self.offset(va) as usize]
+    }
+
+    fn window(&self, va: u32) -> &[u8] {
+        let offset = self.offset(va) as usize;
+        if self.standing && offset < LEN {
+            &self.bytes[offset..]
+        } else {
+            &[]
+        }
+    }
+
+    fn put_at_hand(&mut self, width: Width, va: u32, value: u32) -> bool {
+        let offset = self.offset(va) as usize;
+        match width {
+            Width::Byte => {
+                if self.standing && self.locked as usize <= offset && offset < LEN {
+                    self.bytes[offset] = (value % 256) as u8;
+                    true
+                } else {
+                    false
+                }
+            }
+            Width::Pair => false,
+            Width::Word => {
+                if self.standing && self.locked as usize <= offset && offset < LEN - 3 {
+                    self.bytes[offset] = (value % 256) as u8;
+                    self.bytes[offset + 1] = (value / 256 % 256) as u8;
+                    self.bytes[offset + 2] = (value / 65536 % 256) as u8;
+                    self.bytes[offset + 3] = (value / 16777216 % 256) as u8;
+                    true
+                } else {
+                    false
+                }
+            }
+        }
     }
 
     fn set(&mut self, va: u32, byte: u8) {

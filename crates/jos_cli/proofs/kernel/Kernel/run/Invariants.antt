@@ -1,16 +1,20 @@
-use Rattle.std.proofs.Common.{◌≡◌, ◌-◌, []}
+use Rattle.std.proofs.Common.{◌≡◌, ◌+◌, []}
 use Rattle.jos_cli.specs.ExoRun.{run_from}
-use Rattle.jos_cli.specs.Progress.{progress_of, HasRoom}
+use Rattle.jos_cli.specs.Progress.{progress_of, HasRoom, RunsItsTurn}
 use Rattle.jos_cli.proofs.Runs.{IsRunning}
 use Rattle.jos_cli.proofs.kernel.Kernel.run.Given as goal
 
-abbrev pub invariant-loop : goal.invariant-loop
-invariant-loop g l = record {
-  running : IsRunning (run_from l.budget (progress_of l.fn.self [])) (l.budget - l.counter) l.self (g.H.Host.console l.fn.host) (g.H.Host.console l.host);
-  steps : l.self.steps ≡ l.counter;
+abbrev pub invariant-loop-left : goal.invariant-loop-left
+invariant-loop-left g l = record {
+  running : IsRunning (run_from l.budget (progress_of l.fn.self [])) l.left l.self (g.H.Host.console l.fn.host) (g.H.Host.console l.host);
+  steps : l.self.steps + l.left ≡ l.budget;
   room : HasRoom l.self;
+  turn : RunsItsTurn l.self;
   files : g.H.Host.files l.host ≡ g.H.Host.files l.fn.host;
   input : g.H.Host.input l.host ≡ g.H.Host.input l.fn.host;
   notes : g.H.Host.notes l.host ≡ g.H.Host.notes l.fn.host;
   faults : g.H.Host.faults l.host ≡ g.H.Host.faults l.fn.host;
 }
+
+abbrev pub decreases-loop-left : goal.decreases-loop-left
+decreases-loop-left g l = l.left

@@ -1,4 +1,4 @@
-use Rattle.std.proofs.Common.{◌≡◌, ℕ, ◌+◌, ◌-◌, ◌∙◌, true, refl, sym, ap, arith}
+use Rattle.std.proofs.Common.{◌≡◌, ℕ, ◌+◌, ◌-◌, ◌%◌, ◌^◌, ◌∙◌, Bool, true, false, refl, sym, ap, arith, if◌then◌else◌}
 use Rattle.std.specs.Prelude.{Some}
 use Rattle.std.proofs.lemmas.Bool.Decides.{nat_tests}
 use Rattle.jos_base.specs.declared.memory.Access.{Access}
@@ -31,10 +31,18 @@ returns-then-not-allows-clause-exact c =
 pub returns-then-not-allows-clause-stays : goal.returns-then-not-allows-clause-stays
 returns-then-not-allows-clause-stays c = c.loop.invariant.stays
 
+-- reaching a byte changes no right
+stays : (w : Window) (va : ℕ) (access : Access) → window_table.allowed (window_table.reached w va access) ≡ window_table.allowed w
+stays w va access = by_test w.standing
+  where
+    by_test : (standing : Bool) → window_table.allowed (if standing then w else record w { touched = (w.touched + 1) % 2 ^ 32 }) ≡ window_table.allowed w
+    by_test true = refl
+    by_test false = refl
+
 pub loop-preserved : goal.loop-preserved
 loop-preserved c =
     let allowed = sym c.if-not-allows.ensures in
-    on_byte c.loop.invariant (c.args.len - (c.loop.counter + 1)) (omega arith) allowed (readable _ _ _ _ allowed) refl
+    rw c.touch.ensures (on_byte c.loop.invariant (c.args.len - (c.loop.counter + 1)) (omega arith) allowed (readable _ _ _ _ allowed) (stays c.loop.self c.loop.at c.args.access))
 
 pub returns-clause-after : goal.returns-clause-after
 returns-clause-after c = (at_end c.loop.invariant (omega arith)).0

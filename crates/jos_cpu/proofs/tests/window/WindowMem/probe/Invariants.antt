@@ -1,4 +1,4 @@
-use Rattle.std.specs.Prelude.{◌-◌, ◌+◌, ◌%◌, ◌^◌, slice_index, slice_set}
+use Rattle.std.specs.Prelude.{◌-◌, ◌+◌, ◌%◌, ◌^◌, slice_index, slice_set, if◌then◌else◌}
 use Rattle.jos_cpu.specs.declared.tests.window.Window.{Window}
 use Rattle.jos_cpu.specs.Memory.{Memory}
 use Rattle.jos_cpu.specs.Window.{offset, window_allows, window_fault}
@@ -10,7 +10,7 @@ window_table = record {
   byte = λ w va. slice_index w.bytes (offset w.base va);
   allowed = λ w va access. window_allows w.base w.locked 128 va access;
   fault = λ w va access. window_fault va access;
-  reached = λ w va access. record w { touched = (w.touched + 1) % 2 ^ 32 };
+  reached = λ w va access. if w.standing then w else record w { touched = (w.touched + 1) % 2 ^ 32 };
   stored = λ w va byte. record w { bytes = slice_set w.bytes (offset w.base va) byte };
 }
 

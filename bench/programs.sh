@@ -1,0 +1,36 @@
+#!/bin/sh
+# Measures the simulator on programs of gcc: each of programs/*.c, compiled at -O0 and at -O2 for the 80386 as one
+# segment in one page, is run so often that it makes RUNS million steps (100 without a word). It prints the million
+# steps a second and, where valgrind is installed, the machine instructions a step, counted by callgrind.
+#
+#     sh bench/programs.sh [RUNS]
+
+runs=${1:-100}
+if ! command -v gcc >/dev/null; then
+    echo 'programs.sh: gcc is not installed' >&2
+    exit 2
+fi
+. "$(dirname -- "$0")/jos.sh"
+
+compile() {
+    gcc -m32 -march=i386 "$2" -ffreestanding -fno-pic -no-pie -nostdlib -static -fno-stack-protector \
+        -fno-asynchronous-unwind-tables -fcf-protection=none -mno-sse -Wl,-T,"$here/bench/programs/one-page.ld" \
+        -Wl,--build-id=none,-z,noexecstack,--no-warn-rwx-segments -o "$folder/$1" "$here/bench/programs/$1.c"
+}
+
+counted() {
+    valgrind --tool=callgrind --callgrind-out-file=/dev/null "$program" exo "$folder/$1" 2>&1 >/dev/null |
+        awk '/Collected :/ { print $4 }'
+}
+
+for name in sieve search sort; do
+    for level in -O0 -O2; do
+        compile "$name" "$level" || exit 1
+        speed=$(speed_of "$name") || exit 1
+        if command -v valgrind >/dev/null; then
+            count=$(echo "$(counted "$name") $(counted start)" |
+                awk '{ printf ", %.0f machine instructions a step", ($1 - $2) / 1000000 }')
+        fi
+        echo "$name $level $speed" | awk -v count="$count" '{ printf "%-7s %s %6.1f million steps a second%s\n", $1, $2, $3, count }'
+    done
+done

@@ -1,0 +1,13 @@
+pub mod ShiftTimes
+pub mod SignedProducts
+pub mod SignedQuotients
+pub mod ShiftLaws
+pub mod QuotientLaws
+pub mod ConditionLaws
+pub mod SignedShifts
+pub mod OverflowLaws
+pub mod Rotations
+pub mod ShiftsUp
+pub mod ShiftsDown
+pub mod Turns
+pub mod TurnsBack

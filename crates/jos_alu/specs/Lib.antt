@@ -1,0 +1,5 @@
+pub mod Registers
+pub mod Flags
+pub mod Shifts
+pub mod Products
+pub mod Laws

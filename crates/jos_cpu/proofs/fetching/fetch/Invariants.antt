@@ -1,7 +1,0 @@
-use Rattle.jos_cpu.specs.Fetch.{fetched_at}
-use Rattle.jos_cpu.proofs.Fetches.{IsFetching}
-use Rattle.jos_cpu.proofs.fetching.fetch.Given as goal
-
-abbrev pub invariant-loop-offset : goal.invariant-loop-offset
-invariant-loop-offset g l =
-    IsFetching g.M.Mem.table l.ip (fetched_at g.M.Mem.table l.fn.mem l.ip) l.offset l.mem l.bytes.items l.least

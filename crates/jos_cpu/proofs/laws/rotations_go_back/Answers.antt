@@ -1,5 +1,0 @@
-use Rattle.jos_cpu.proofs.Rotations.{rotates_back}
-use Rattle.jos_cpu.proofs.laws.rotations_go_back.Goals as goal
-
-pub returns : goal.returns
-returns c = rotates_back
