@@ -7,3 +7,4 @@ pub mod Tops
 pub mod FilesWritten
 pub mod PageWindows
 pub mod Bursting
+pub mod PageFilled

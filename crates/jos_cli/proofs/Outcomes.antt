@@ -4,9 +4,9 @@ use Rattle.jos_host.specs.declared.host.Failed.{Failed}
 use Rattle.jos_elf.specs.declared.image.Segment.{Segment}
 use Rattle.jos_cli.specs.declared.outcome.End.{End}
 use Rattle.jos_cli.specs.declared.outcome.Report.{Report}
-use Rattle.jos_cli.specs.declared.outcome.Stopped.{Stopped}
 use Rattle.jos_cli.specs.declared.outcome.Outcome.TheVariants as outcome
 use Rattle.jos_cli.specs.declared.kernel.Kernel.{Kernel}
+use Rattle.jos_cli.specs.Meanings.{GainsPart}
 use Rattle.jos_cli.specs.ExoRun.{Progress, Ran, run_from, boot, exo_run}
 use Rattle.jos_cli.specs.Progress.{IsRun}
 use Rattle.jos_cli.specs.Answer.{ran, report_with, reported, report_of, expected_of_run, Answers}
@@ -24,7 +24,6 @@ on_ended r whole kernel end report old new same h e =
     subst (λ (w : Ran). Answers (expected_of_run w) (outcome.Ran report) old new) same
     ((λ i. ran (report_with (sym h.0 i) (sym h.1 i) (sym h.2 i))) ∙ ap ran (sym e), h.3)
 
-pub on_failed : (r whole : Ran) (kernel : Kernel) (failed : Failed) (stopped : Stopped) (old new : Option (List ℕ)) → r ≡ whole →
-    IsRun (Err failed) r kernel old new → Answers (expected_of_run whole) (outcome.HostFault stopped) old new
-on_failed r whole kernel failed stopped old new same h =
-    subst (λ (w : Ran). Answers (expected_of_run w) (outcome.HostFault stopped) old new) same h
+pub on_failed : (r whole : Ran) (kernel : Kernel) (failed : Failed) (old new : Option (List ℕ)) → r ≡ whole →
+    IsRun (Err failed) r kernel old new → GainsPart old new whole.state.console
+on_failed r whole kernel failed old new same h = subst (λ (w : Ran). GainsPart old new w.state.console) same h

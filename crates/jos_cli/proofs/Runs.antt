@@ -6,7 +6,7 @@ use Rattle.jos_host.specs.declared.host.Failed.{Failed}
 use Rattle.jos_cli.specs.declared.outcome.End.{End}
 use Rattle.jos_cli.specs.declared.outcome.End.TheVariants.{Budget}
 use Rattle.jos_cli.specs.declared.kernel.Kernel.{Kernel}
-use Rattle.jos_cli.specs.Steps.{Stepped, stepped}
+use Rattle.jos_cli.specs.Steps.{stepped}
 use Rattle.jos_cli.specs.Meanings.{slot_of, Gains}
 use Rattle.jos_cli.specs.ExoRun.{Progress, Ran, state_with, in_turn, end_of, over, progressed, after_test, run_from}
 use Rattle.jos_cli.specs.Progress.{progress_of, Advances, IsRun}

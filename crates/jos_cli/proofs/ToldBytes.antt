@@ -32,7 +32,17 @@ gains_part first now later a b more whole one two e =
 -- a second write, of bytes that are known in other words
 pub appended : {E : Type 0} (first now later : Option (List ℕ)) (a b x y : List ℕ) (result : Result (Unit {0}) E) → a ≡ x → b ≡ y →
     Gains first now a → Appends now b result later →
-    MatchResult result (λ _. Gains first later (x ++ y)) (λ _. (bytes : List ℕ) × Gains first later bytes)
+    MatchResult result (λ _. Gains first later (x ++ y)) (λ _. GainsPart first later (x ++ y))
 appended first now later a b x y (Ok u) ax by one two =
     subst (λ (bytes : List ℕ). Gains first later bytes) (λ i. ax i ++ by i) (gains_more first now later a b one two)
-appended first now later a b x y (Err e) ax by one two = (a ++ take two.0 b, gains_more first now later a (take two.0 b) one two.2)
+appended first now later a b x y (Err e) ax by one two =
+    subst (λ (bytes : List ℕ). GainsPart first later bytes) (λ i. ax i ++ by i)
+    (gains_part first now later a b [] (a ++ b) one two (sym (append-nil (a ++ b))))
+
+-- a first write that fails
+pub part_of_first : (first now : Option (List ℕ)) (a x y : List ℕ) → a ≡ x → GainsPart first now a → GainsPart first now (x ++ y)
+part_of_first first now a x y ax one =
+    let within : one.0 ≤ length a = one.1 in
+    let long : length (a ++ y) ≡ length a + length y = length-append a y in
+    subst (λ (bytes : List ℕ). GainsPart first now (bytes ++ y)) ax
+    (one.0, omega arith, subst (λ (bytes : List ℕ). Gains first now bytes) (sym (take-append-le one.0 a y within)) one.2)

@@ -3,6 +3,7 @@
 use Rattle.std.specs.Prelude.{◌≡◌, ℕ, nat_lt, nat_le, ◌+◌, Bool, List, [], ◌∷◌, length, Option, Some, None, Result, Ok, Err, if◌then◌else◌}
 use Rattle.jos_host.specs.Files.{Files}
 use Rattle.jos_host.specs.Told.{Rose}
+use Rattle.jos_host.specs.declared.host.Failed.{Failed}
 use Rattle.jos_base.specs.Words.{page_offset}
 use Rattle.jos_elf.specs.declared.fault.ElfFault.{ElfFault}
 use Rattle.jos_elf.specs.declared.image.Segment.{Segment}
@@ -128,6 +129,11 @@ abbrev pub Answers : Expected → Outcome → Option (List ℕ) → Option (List
 Answers e (HostFault stopped) old new = GainsPart old new e.console
 Answers e NoMemory old new = new ≡ old
 Answers e outcome old new = IsAnswer outcome e.answer × Gains old new e.console
+
+-- The run is reported, and the console has gained what it writes; or a call of the host failed in the middle of that.
+abbrev pub Reports : Result Report Failed → run.Ran → Option (List ℕ) → Option (List ℕ) → Type 0
+Reports (Ok report) r old new = Answers (expected_of_run r) (Ran report) old new
+Reports (Err _) r old new = GainsPart old new r.state.console
 
 -- The same for a command; of a run, where the host tells its files.
 abbrev pub AnswersCommand : Option Files → Option Command → Outcome → Option (List ℕ) → Option (List ℕ) → Type 0

@@ -3,11 +3,15 @@ pub mod Steps
 pub mod OnePage
 pub mod Meanings
 pub mod ExoRun
+pub mod Room
 pub mod Progress
 pub mod Commands
+pub mod Given
 pub mod Asked
 pub mod Answer
+pub mod FilesAsked
 pub mod FilesLeft
 pub mod Notes
+pub mod FaultNotes
 pub mod Reading
 pub mod Statuses

@@ -1,7 +1,6 @@
 -- The note that tells the answer: one line. (This system's own.)
 use Rattle.std.specs.Prelude.{ℕ, List, [], ◌++◌, length, slice_get, unwrap_or, Option, codes, decimal}
-use Rattle.jos_elf.specs.declared.fault.ElfFault.{ElfFault}
-use Rattle.jos_elf.specs.declared.fault.ElfFault.TheVariants.{Truncated, Magic, Class, Kind, Machine, EntrySize, TooMany, SegmentRange, Overlap}
+use Rattle.jos_elf.specs.FaultTexts.{fault_text}
 use Rattle.jos_cli.specs.declared.outcome.End.{End}
 use Rattle.jos_cli.specs.declared.outcome.End.TheVariants.{Done, Stuck, Budget, TurnsFull}
 use Rattle.jos_cli.specs.declared.outcome.Report.{Report}
@@ -29,17 +28,6 @@ limit_text which.Image = codes "limit: image\n"
 
 abbrev pub form_text : Form → List ℕ
 form_text form.Image = codes "unbuilt: image\n"
-
-unfoldable pub fault_text : ElfFault → List ℕ
-fault_text (Truncated len) = codes "truncated " ++ decimal len
-fault_text Magic = codes "magic"
-fault_text Class = codes "class"
-fault_text Kind = codes "kind"
-fault_text Machine = codes "machine"
-fault_text EntrySize = codes "entry size"
-fault_text TooMany = codes "too many"
-fault_text (SegmentRange place) = codes "segment range " ++ decimal place
-fault_text (Overlap place other) = codes "overlap " ++ decimal place ++ codes " " ++ decimal other
 
 -- the line, but for the word that begins it
 abbrev pub note_text : Outcome → List ℕ

@@ -2,27 +2,31 @@
 
 ghost use Rattle.std.specs.Prelude.{◌≡◌, ◌≢◌, ℕ, ◌<◌, ◌≤◌, ◌^◌, [], ◌∷◌, ⊤, Ok, List, MatchOption, length, map, Option, Some, IsSome};
 ghost use Rattle.jos_host.specs.Files.{Files};
-ghost use Rattle.jos_host.specs.Told.{Rose};
+ghost use Rattle.jos_host.specs.Told.{HasCause, Rose};
 ghost use Rattle.jos_elf.specs.Layout.{Layout};
 ghost use Rattle.jos_elf.specs.Parsed.{parsed, Lies};
 ghost use Rattle.jos_cli.specs.OnePage.{IsOnePage};
+ghost use Rattle.jos_cli.specs.Room.{IsRoom};
 ghost use Rattle.jos_cli.specs.ExoRun.{exo_run};
 ghost use Rattle.jos_demo.specs.Programs.{file_of};
 ghost use Rattle.jos_cli.specs.Commands.{exo, demo, command_of};
-ghost use Rattle.jos_cli.specs.Answer.{expected_of_run, expected_of_segments, expected_of_image, expected_of_file, expected_of_program, Answers, AnswersCommand, HasOutcomeCause, IsUsageCase, IsRunCase, IsMadeCase, IsMemoryCase};
+ghost use Rattle.jos_cli.specs.Answer.{expected_of_run, expected_of_segments, expected_of_image, expected_of_file, expected_of_program, Reports, Answers, AnswersCommand, HasOutcomeCause, IsUsageCase, IsRunCase, IsMadeCase, IsMemoryCase};
+ghost use Rattle.jos_cli.specs.FilesAsked.{AsksFor, image_calls, file_calls, calls_of};
 ghost use Rattle.jos_cli.specs.FilesLeft.{LeavesProgram, Leaves};
 ghost use Rattle.jos_cli.specs.Notes.{IsNoted};
+ghost use Rattle.jos_cli.specs.FaultNotes.{IfHostFault, FaultIsNoted};
 
 use crate::command::{Command, read_command};
 use crate::image_file::{FileFault, read_file};
 use crate::kernel::Kernel;
 use crate::notes::write_note;
-use crate::outcome::{Form, Outcome, Stopped, Which};
+use crate::outcome::{Form, Outcome, Report, Stopped, Which};
 use crate::program_file::write_file;
+use crate::room::Room;
 use crate::space::PAGE_LEN;
 use jos_demo::program;
 use jos_elf::{Segment, parse};
-use jos_host::Host;
+use jos_host::{Failed, Host};
 use std::alloc::Global;
 
 /// How many steps a run has.
@@ -42,6 +46,10 @@ pub fn top<'a, H: Host>(alloc: Global, words: &'a [&'a str], host: &mut H) -> Ou
     ensures answer { AnswersCommand (H.files host.old) (command_of (map (λ w. w.now) words.now)) result (H.console host.old) (H.console host.new) }
     // The note is the line of the answer.
     ensures notes { IsNoted (map (λ w. w.now) words.now) result (H.notes host.old) (H.notes host.new) }
+    // Where a call of the host failed, it is the line `host fault`, or a part of that or of the answer's own line where
+    // the note failed.
+    ensures fault { IfHostFault result (FaultIsNoted (H.files host.old) (map (λ w. w.now) words.now) (H.faults host.old) (H.faults host.new)
+        (H.console host.old) (H.console host.new) (H.notes host.old) (H.notes host.new)) }
 
     // Each answer has its cause.
     ensures usage { IsUsageCase (command_of (map (λ w. w.now) words.now)) result }
@@ -57,6 +65,8 @@ pub fn top<'a, H: Host>(alloc: Global, words: &'a [&'a str], host: &mut H) -> Ou
     // Every name keeps its bytes but the one that `demo` writes, which has those of the program; no input is read.
     ensures files { Leaves (H.files host.old) (command_of (map (λ w. w.now) words.now)) result (H.files host.new) }
     ensures input { H.input host.new ≡ H.input host.old }
+    // Only files that the words name are asked for, each call once.
+    ensures asked { AsksFor (H.asked host.old) (calls_of (command_of (map (λ w. w.now) words.now))) (H.asked host.new) }
 {
     let outcome = answer_words(alloc, words, host);
     match write_note(&outcome, words, host) {
@@ -68,10 +78,13 @@ pub fn top<'a, H: Host>(alloc: Global, words: &'a [&'a str], host: &mut H) -> Ou
 /// The answer where there is no memory for the words, with its note.
 pub(crate) fn refuse_words<H: Host>(alloc: Global, host: &mut H) -> Outcome
     ensures notes { IsNoted [] result (H.notes host.old) (H.notes host.new) }
+    ensures fault { IfHostFault result (FaultIsNoted (H.files host.old) [] (H.faults host.old) (H.faults host.new)
+        (H.console host.old) (H.console host.new) (H.notes host.old) (H.notes host.new)) }
     ensures cause { HasOutcomeCause (H.faults host.old) (H.faults host.new) result }
     ensures console { H.console host.new ≡ H.console host.old }
     ensures files { H.files host.new ≡ H.files host.old }
     ensures input { H.input host.new ≡ H.input host.old }
+    ensures asked { H.asked host.new ≡ H.asked host.old }
     ensures memory { IsMemoryCase result }
 {
     match write_note(&Outcome::NoMemory, &[], host) {
@@ -80,33 +93,32 @@ pub(crate) fn refuse_words<H: Host>(alloc: Global, host: &mut H) -> Outcome
     }
 }
 
-/// Boots the image and runs it.
+/// Boots the image in its room and runs it. Nothing more is asked of an allocator, so the run ends as it is defined
+/// to end, unless a call of the host fails.
 fn run_segment<H: Host>(
-    alloc: Global,
+    room: Room,
     entry: u32,
     segment: &Segment,
     file: &[u8],
     host: &mut H,
-) -> Outcome
-    requires { IsOnePage segment.now (length file.now) }
-    ensures told { Answers (expected_of_run (exo_run entry segment.now file.now 1000000)) result (H.console host.old) (H.console host.new) }
+) -> Result<Report, Failed>
+    requires segment { IsOnePage segment.now (length file.now) }
+    requires room { IsRoom room }
+    ensures told { Reports result (exo_run entry segment.now file.now 1000000) (H.console host.old) (H.console host.new) }
     ensures files { H.files host.new ≡ H.files host.old }
     ensures input { H.input host.new ≡ H.input host.old }
+    ensures asked { H.asked host.new ≡ H.asked host.old }
     ensures notes { H.notes host.new ≡ H.notes host.old }
-    ensures cause { HasOutcomeCause (H.faults host.old) (H.faults host.new) result }
-    ensures no_usage { result ≢ Outcome.Usage }
+    ensures cause { HasCause (H.faults host.old) (H.faults host.new) result }
 {
-    let mut kernel = match Kernel::boot(alloc, entry, segment, file) {
-        Ok(kernel) => kernel,
-        Err(_) => return Outcome::NoMemory,
-    };
+    let mut kernel = Kernel::boot(room, entry, segment, file);
     match kernel.run(host, BUDGET) {
-        Ok(end) => Outcome::Ran(kernel.finish(end)),
-        Err(_) => Outcome::HostFault(Stopped::at_no_turn(alloc)),
+        Ok(end) => Ok(kernel.finish(end)),
+        Err(failed) => Err(failed),
     }
 }
 
-/// Runs the image of one segment, if it lies in one page.
+/// Runs the image of one segment, if it lies in one page. All memory is reserved before.
 fn run_alone<H: Host>(
     alloc: Global,
     entry: u32,
@@ -118,14 +130,21 @@ fn run_alone<H: Host>(
     ensures told { Answers (expected_of_segments file.now entry (segment.now ∷ [])) result (H.console host.old) (H.console host.new) }
     ensures files { H.files host.new ≡ H.files host.old }
     ensures input { H.input host.new ≡ H.input host.old }
+    ensures asked { H.asked host.new ≡ H.asked host.old }
     ensures notes { H.notes host.new ≡ H.notes host.old }
     ensures cause { HasOutcomeCause (H.faults host.old) (H.faults host.new) result }
     ensures no_usage { result ≢ Outcome.Usage }
 {
-    if (segment.va % PAGE_LEN) as u64 + segment.mem_len as u64 <= PAGE_LEN as u64 {
-        run_segment(alloc, entry, segment, file, host)
-    } else {
-        Outcome::Unbuilt(Form::Image)
+    if (segment.va % PAGE_LEN) as u64 + segment.mem_len as u64 > PAGE_LEN as u64 {
+        return Outcome::Unbuilt(Form::Image);
+    }
+    let room = match Room::reserve(alloc) {
+        Ok(room) => room,
+        Err(_) => return Outcome::NoMemory,
+    };
+    match run_segment(room, entry, segment, file, host) {
+        Ok(report) => Outcome::Ran(report),
+        Err(_) => Outcome::HostFault(Stopped::at_no_turn(alloc)),
     }
 }
 
@@ -135,6 +154,7 @@ fn run_file<H: Host>(alloc: Global, file: &[u8], host: &mut H) -> Outcome
     ensures told { Answers (expected_of_image file.now (parsed file.now)) result (H.console host.old) (H.console host.new) }
     ensures files { H.files host.new ≡ H.files host.old }
     ensures input { H.input host.new ≡ H.input host.old }
+    ensures asked { H.asked host.new ≡ H.asked host.old }
     ensures notes { H.notes host.new ≡ H.notes host.old }
     ensures cause { HasOutcomeCause (H.faults host.old) (H.faults host.new) result }
     ensures no_usage { result ≢ Outcome.Usage }
@@ -153,6 +173,7 @@ fn run_named<H: Host>(alloc: Global, name: &str, host: &mut H) -> Outcome
     ensures told { MatchOption (H.files host.old) ⊤ (λ files. Answers (expected_of_file (files name.now)) result (H.console host.old) (H.console host.new)) }
     ensures files { H.files host.new ≡ H.files host.old }
     ensures input { H.input host.new ≡ H.input host.old }
+    ensures asked { AsksFor (H.asked host.old) (image_calls name.now) (H.asked host.new) }
     ensures notes { H.notes host.new ≡ H.notes host.old }
     ensures cause { HasOutcomeCause (H.faults host.old) (H.faults host.new) result }
     ensures no_usage { result ≢ Outcome.Usage }
@@ -172,6 +193,7 @@ fn write_program<H: Host>(alloc: Global, name: &str, file: &str, host: &mut H) -
     ensures told { Answers (expected_of_program name.now) result (H.console host.old) (H.console host.new) }
     ensures files { LeavesProgram (H.files host.old) name.now file.now result (H.files host.new) }
     ensures input { H.input host.new ≡ H.input host.old }
+    ensures asked { AsksFor (H.asked host.old) (file_calls file.now) (H.asked host.new) }
     ensures notes { H.notes host.new ≡ H.notes host.old }
     ensures cause { HasOutcomeCause (H.faults host.old) (H.faults host.new) result }
     ensures no_usage { result ≢ Outcome.Usage }
@@ -192,6 +214,7 @@ fn answer_words<H: Host>(alloc: Global, words: &[&str], host: &mut H) -> Outcome
     ensures usage { IsUsageCase (command_of (map (λ w. w.now) words.now)) result }
     ensures files { Leaves (H.files host.old) (command_of (map (λ w. w.now) words.now)) result (H.files host.new) }
     ensures input { H.input host.new ≡ H.input host.old }
+    ensures asked { AsksFor (H.asked host.old) (calls_of (command_of (map (λ w. w.now) words.now))) (H.asked host.new) }
     ensures notes { H.notes host.new ≡ H.notes host.old }
     ensures cause { HasOutcomeCause (H.faults host.old) (H.faults host.new) result }
 {

@@ -1,6 +1,7 @@
 //! Reading a file whole.
 
 ghost use Rattle.std.specs.Prelude.{◌≡◌, ◌≤◌, ⊤, IfOk, vec_len, MatchOption, MatchResult};
+ghost use Rattle.jos_cli.specs.FilesAsked.{AsksFor, image_calls};
 ghost use Rattle.jos_cli.specs.Reading.{IsFile, IsFileFault, HasFileCause};
 
 use jos_host::Host;
@@ -31,6 +32,7 @@ pub(crate) fn read_file<H: Host>(
     ensures cause { MatchResult result (λ _. H.faults host.new ≡ H.faults host.old) (HasFileCause (H.faults host.old) (H.faults host.new)) }
     ensures files { H.files host.new ≡ H.files host.old }
     ensures input { H.input host.new ≡ H.input host.old }
+    ensures asked { AsksFor (H.asked host.old) (image_calls name.now) (H.asked host.new) }
     ensures console { H.console host.new ≡ H.console host.old }
     ensures notes { H.notes host.new ≡ H.notes host.old }
 {

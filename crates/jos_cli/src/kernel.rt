@@ -1,17 +1,17 @@
 //! The kernel with one environment, and its run in turns.
 
-ghost use Rattle.std.specs.Prelude.{◌≡◌, [], ◌+◌, ◌<◌, ◌≤◌, ◌^◌, length, false, None, IsNone, OnOk, IfOk, vec_len, vec_capacity};
+ghost use Rattle.std.specs.Prelude.{◌≡◌, [], ◌+◌, ◌<◌, ◌≤◌, ◌^◌, length, false, None, IsNone, OnOk, vec_len, vec_capacity};
 ghost use Rattle.jos_host.specs.Told.{HasCause};
 
 use crate::environment::Environment;
 use crate::outcome::{End, Report, Turn};
+use crate::room::Room;
 use crate::space::Space;
 use crate::stepping::follow_event;
 use jos_base::{EnvId, Regs, Status};
 use jos_cpu::{Decodings, Gates, make_burst};
 use jos_elf::Segment;
 use jos_host::{Failed, Host};
-use std::alloc::{AllocError, Global};
 
 /// How many turns a run has at most.
 pub(crate) const TURN_MAX: usize = 1_048_576;
@@ -46,28 +46,29 @@ const FIRST_FLAGS: u32 = 0x202;
 impl Kernel {
     ghost use Rattle.jos_cli.specs.Meanings.{slot_of};
     ghost use Rattle.jos_cli.specs.OnePage.{IsOnePage};
+    ghost use Rattle.jos_cli.specs.Room.{IsRoom};
     ghost use Rattle.jos_cli.specs.ExoRun.{boot as boot_of, end_of, run_from};
     ghost use Rattle.jos_cli.specs.Progress.{progress_of, Counts, Advances, HasRoom, RunsItsTurn, IsRun};
     ghost use Rattle.jos_cli.specs.Answer.{reported, report_of};
 
     /// Boots the image of one segment: its page and a stack page are mapped, and the environment stands at the
-    /// entry. It takes all the memory of the run.
+    /// entry.
     #[tactic(auto, unfolding(crate::specs::ExoRun::boot))]
-    pub(crate) fn boot(
-        alloc: Global,
-        entry: u32,
-        segment: &Segment,
-        file: &[u8],
-    ) -> Result<Kernel, AllocError>
-        requires { IsOnePage segment.now (length file.now) }
-        ensures booted { IfOk result (λ kernel. progress_of kernel [] ≡ boot_of entry segment.now file.now) }
-        ensures room { IfOk result HasRoom }
-        ensures turn { IfOk result RunsItsTurn }
-        ensures first { IfOk result (λ kernel. kernel.steps ≡ 0) }
+    pub(crate) fn boot(room: Room, entry: u32, segment: &Segment, file: &[u8]) -> Kernel
+        requires segment { IsOnePage segment.now (length file.now) }
+        requires room { IsRoom room }
+        ensures booted { progress_of result [] ≡ boot_of entry segment.now file.now }
+        ensures room { HasRoom result }
+        ensures turn { RunsItsTurn result }
+        ensures first { result.steps ≡ 0 }
     {
-        let turns = Vec::with_capacity(alloc, TURN_MAX)?;
-        let space = Space::map(alloc, segment, file)?;
-        let decodings = Decodings::new(alloc)?;
+        let Room {
+            turns,
+            decodings,
+            image,
+            stack,
+        } = room;
+        let space = Space::map(image, stack, segment, file);
         let environment = Environment {
             id: FIRST_ID,
             status: Status::Runnable,
@@ -85,14 +86,14 @@ impl Kernel {
                 eflags: FIRST_FLAGS,
             },
         };
-        Ok(Kernel {
+        Kernel {
             environment,
             space,
             decodings,
             turns,
             made: 0,
             steps: 0,
-        })
+        }
     }
 
     /// Reports the run, with its turns.
@@ -181,6 +182,7 @@ impl Kernel {
         ensures turn { OnOk result (RunsItsTurn self.new) }
         ensures files { H.files host.new ≡ H.files host.old }
         ensures input { H.input host.new ≡ H.input host.old }
+        ensures asked { H.asked host.new ≡ H.asked host.old }
         ensures notes { H.notes host.new ≡ H.notes host.old }
         ensures cause { HasCause (H.faults host.old) (H.faults host.new) result }
     {
@@ -211,6 +213,7 @@ impl Kernel {
         ensures room { HasRoom self.new }
         ensures files { H.files host.new ≡ H.files host.old }
         ensures input { H.input host.new ≡ H.input host.old }
+        ensures asked { H.asked host.new ≡ H.asked host.old }
         ensures notes { H.notes host.new ≡ H.notes host.old }
         ensures cause { HasCause (H.faults host.old) (H.faults host.new) result }
     {

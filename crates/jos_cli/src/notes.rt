@@ -1,10 +1,11 @@
 //! The note that tells the answer.
 
-ghost use Rattle.std.specs.Prelude.{◌≡◌, ◌+◌, ◌≤◌, List, ℕ, [], ◌++◌, length, slice_get, unwrap_or, codes, decimal, MatchResult, map};
+ghost use Rattle.std.specs.Prelude.{◌≡◌, ◌+◌, ◌≤◌, [], ◌++◌, length, slice_get, unwrap_or, codes, decimal, MatchResult, map};
 ghost use Rattle.arrayvec.specs.ArrayVec.{array_vec_len};
 ghost use Rattle.jos_host.specs.Told.{HasCause, Appends};
-ghost use Rattle.jos_cli.specs.Meanings.{Gains};
-ghost use Rattle.jos_cli.specs.Notes.{end_text, report_text, fault_text, note_text, word_in_note, note_of};
+ghost use Rattle.jos_cli.specs.Meanings.{Gains, GainsPart};
+ghost use Rattle.jos_elf.specs.FaultTexts.{fault_text};
+ghost use Rattle.jos_cli.specs.Notes.{end_text, report_text, note_text, word_in_note, note_of};
 
 use crate::lines::{Line, push_decimal, push_text};
 use crate::outcome::{End, Form, Outcome, Report, Which};
@@ -58,7 +59,7 @@ fn push_number(line: &mut Line, text: &[u8], number: u32)
     push_decimal(line, number as u64);
 }
 
-#[tactic(auto, unfolding(crate::specs::Notes::fault_text))]
+#[tactic(auto, unfolding(jos_elf::specs::FaultTexts::fault_text))]
 fn push_fault(line: &mut Line, fault: ElfFault)
     requires { array_vec_len line.old + 80 ≤ 128 }
     ensures text { line.new.items ≡ line.old.items ++ fault_text fault }
@@ -139,6 +140,7 @@ fn write_some<H: Host>(host: &mut H, bytes: &[u8]) -> Result<(), Failed>
     ensures told { Appends (H.notes host.old) bytes.now result (H.notes host.new) }
     ensures files { H.files host.new ≡ H.files host.old }
     ensures input { H.input host.new ≡ H.input host.old }
+    ensures asked { H.asked host.new ≡ H.asked host.old }
     ensures console { H.console host.new ≡ H.console host.old }
     ensures cause { HasCause (H.faults host.old) (H.faults host.new) result }
 {
@@ -156,41 +158,15 @@ pub(crate) fn write_note<H: Host>(
 ) -> Result<(), Failed>
     ensures told { MatchResult result
         (λ _. Gains (H.notes host.old) (H.notes host.new) (note_of (map (λ w. w.now) words.now) outcome.now))
-        (λ _. (bytes : List ℕ) × Gains (H.notes host.old) (H.notes host.new) bytes) }
+        (λ _. GainsPart (H.notes host.old) (H.notes host.new) (note_of (map (λ w. w.now) words.now) outcome.now)) }
     ensures files { H.files host.new ≡ H.files host.old }
     ensures input { H.input host.new ≡ H.input host.old }
+    ensures asked { H.asked host.new ≡ H.asked host.old }
     ensures console { H.console host.new ≡ H.console host.old }
     ensures cause { HasCause (H.faults host.old) (H.faults host.new) result }
 {
     match write_some(host, note_word(words, outcome).as_bytes()) {
         Ok(()) => host.note_write(note_line(outcome).as_slice()),
         Err(failed) => Err(failed),
-    }
-}
-
-#[cfg(test)]
-mod tests {
-    use super::*;
-    use std::test::Fail;
-
-    // The line has the fault's own text.
-    #[test]
-    fn tells_faults_in_their_words(rt: HostRuntime) -> Result<(), Fail> {
-        for (fault, text) in [
-            (ElfFault::Truncated(40), "truncated 40"),
-            (ElfFault::Magic, "magic"),
-            (ElfFault::Class, "class"),
-            (ElfFault::Kind, "kind"),
-            (ElfFault::Machine, "machine"),
-            (ElfFault::EntrySize, "entry size"),
-            (ElfFault::TooMany, "too many"),
-            (ElfFault::SegmentRange(3), "segment range 3"),
-            (ElfFault::Overlap(2, 1), "overlap 2 1"),
-        ] {
-            let want = format!(in rt.alloc(); ": bad image: {text}\n")?;
-            assert_eq!(rt; bad_image_line(fault).as_slice(), want.as_bytes());
-            assert_eq!(rt; format!(in rt.alloc(); "{fault}")?.as_str(), text);
-        }
-        Ok(())
     }
 }

@@ -2,6 +2,7 @@
 
 ghost use Rattle.std.specs.Prelude.{◌≡◌, OnOk, OnErr};
 ghost use Rattle.jos_host.specs.Told.{HasCause};
+ghost use Rattle.jos_cli.specs.FilesAsked.{AsksFor, file_calls};
 ghost use Rattle.jos_cli.specs.FilesLeft.{KeepsOthers, told_with};
 
 use jos_host::{Failed, Host};
@@ -12,6 +13,7 @@ pub(crate) fn write_file<H: Host>(name: &str, bytes: &[u8], host: &mut H) -> Res
     ensures kept { OnErr result (KeepsOthers (H.files host.old) name.now (H.files host.new)) }
     ensures cause { HasCause (H.faults host.old) (H.faults host.new) result }
     ensures input { H.input host.new ≡ H.input host.old }
+    ensures asked { AsksFor (H.asked host.old) (file_calls name.now) (H.asked host.new) }
     ensures console { H.console host.new ≡ H.console host.old }
     ensures notes { H.notes host.new ≡ H.notes host.old }
 {

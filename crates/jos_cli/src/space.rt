@@ -7,6 +7,7 @@ ghost use Rattle.jos_base.specs.Reach.{read_byte, reach_entry};
 ghost use Rattle.jos_alu.specs.declared.width.Width.TheVariants.{Byte, Word};
 ghost use Rattle.jos_cpu.specs.Memory.{probed};
 ghost use Rattle.jos_cpu.specs.Accesses.{IsPut};
+ghost use Rattle.jos_cli.specs.Room.{IsZeroPage};
 ghost use Rattle.jos_cli.specs.Space.{perm_of, pages_of, entries_of, reach_in, with_byte, space_memory, zero_bytes, page_with, with_word};
 
 use jos_alu::Width;
@@ -228,20 +229,23 @@ impl Space {
         }
     }
 
-    /// Maps the page of a segment, with its bytes of the file, and a stack page of zeros.
+    /// Maps the page of a segment, with its bytes of the file, and a stack page, in two pages of zeros.
     #[tactic(auto, unfolding(crate::specs::ExoRun::mapped))]
-    pub(crate) fn map(alloc: Global, segment: &Segment, file: &[u8]) -> Result<Space, AllocError>
-        requires { IsOnePage segment.now (length file.now) }
-        ensures { IfOk result (λ space. space ≡ mapped segment.now file.now) }
+    pub(crate) fn map(mut image: Vec<u8>, stack: Vec<u8>, segment: &Segment, file: &[u8]) -> Space
+        requires segment { IsOnePage segment.now (length file.now) }
+        requires image { IsZeroPage (vec_len image) image.items }
+        requires stack { IsZeroPage (vec_len stack) stack.items }
+        ensures { result ≡ mapped segment.now file.now }
     {
         let offset = (segment.va % PAGE_LEN) as usize;
         let bytes = &file[segment.file_at as usize..][..segment.file_len as usize];
-        Ok(Space {
+        fill_page(&mut image, offset, bytes);
+        Space {
             page: segment.va / PAGE_LEN,
             writable: segment.writable,
-            image: filled_page(alloc, offset, bytes)?,
-            stack: zeros(alloc, PAGE_LEN as usize)?,
-        })
+            image,
+            stack,
+        }
     }
 }
 
@@ -306,23 +310,21 @@ fn absent_page(va: u32, access: Access) -> PageFault
     }
 }
 
+/// So many zeros.
 #[tactic(auto, unfolding(crate::specs::Space::zero_bytes))]
-fn zeros(alloc: Global, n: usize) -> Result<Vec<u8>, AllocError>
+pub(crate) fn zeros(alloc: Global, n: usize) -> Result<Vec<u8>, AllocError>
     ensures bytes { IfOk result (λ v. v.items ≡ zero_bytes n) }
     ensures len { IfOk result (λ v. vec_len v ≡ n) }
 {
     vec![in alloc; 0; n]
 }
 
-/// A page with these bytes from an offset on, and zeros round them.
-fn filled_page(alloc: Global, offset: usize, bytes: &[u8]) -> Result<Vec<u8>, AllocError>
-    requires { offset + length bytes.now ≤ 4096 }
-    ensures bytes { IfOk result (λ v. v.items ≡ page_with offset bytes.now) }
-    ensures len { IfOk result (λ v. vec_len v ≡ 4096) }
+/// Puts bytes into a page of zeros, from an offset on.
+fn fill_page(page: &mut Vec<u8>, offset: usize, bytes: &[u8])
+    requires page { IsZeroPage (vec_len page.old) page.old.items }
+    requires room { offset + length bytes.now ≤ 4096 }
+    ensures bytes { page.new.items ≡ page_with offset bytes.now }
+    ensures len { vec_len page.new ≡ 4096 }
 {
-    let mut page = zeros(alloc, offset)?;
-    page.extend_from_slice(bytes)?;
-    let rest = zeros(alloc, PAGE_LEN as usize - (offset + bytes.len()))?;
-    page.extend_from_slice(&rest)?;
-    Ok(page)
+    page[offset..offset + bytes.len()].copy_from_slice(bytes);
 }

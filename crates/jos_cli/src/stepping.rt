@@ -35,6 +35,7 @@ fn deliver_raised<H: Host>(
     ensures told { Makes result (after_trap (slot_of environment.old space.now) ip raised.0 raised.1 raised.2) (slot_of environment.new space.now) (H.console host.old) (H.console host.new) }
     ensures files { H.files host.new ≡ H.files host.old }
     ensures input { H.input host.new ≡ H.input host.old }
+    ensures asked { H.asked host.new ≡ H.asked host.old }
     ensures notes { H.notes host.new ≡ H.notes host.old }
     ensures cause { HasCause (H.faults host.old) (H.faults host.new) result }
 {
@@ -57,6 +58,7 @@ pub(crate) fn follow_event<H: Host>(
     ensures told { Makes result (change_after (pages_of space.now) (slot_of environment.old space.now) environment.old.regs.eip event) (slot_of environment.new space.now) (H.console host.old) (H.console host.new) }
     ensures files { H.files host.new ≡ H.files host.old }
     ensures input { H.input host.new ≡ H.input host.old }
+    ensures asked { H.asked host.new ≡ H.asked host.old }
     ensures notes { H.notes host.new ≡ H.notes host.old }
     ensures cause { HasCause (H.faults host.old) (H.faults host.new) result }
 {

@@ -42,6 +42,7 @@ fn destroy<H: Host>(environment: &mut Environment, host: &mut H, line: &[u8]) ->
     ensures told { (m : Mapped) → Makes result (destroyed (slot_of environment.old m) line.now) (slot_of environment.new m) (H.console host.old) (H.console host.new) }
     ensures files { H.files host.new ≡ H.files host.old }
     ensures input { H.input host.new ≡ H.input host.old }
+    ensures asked { H.asked host.new ≡ H.asked host.old }
     ensures notes { H.notes host.new ≡ H.notes host.old }
     ensures cause { HasCause (H.faults host.old) (H.faults host.new) result }
 {
@@ -60,6 +61,7 @@ pub(crate) fn deliver_page_fault<H: Host>(
     ensures told { (m : Mapped) → Makes result (deliver_fault (slot_of environment.old m) fault) (slot_of environment.new m) (H.console host.old) (H.console host.new) }
     ensures files { H.files host.new ≡ H.files host.old }
     ensures input { H.input host.new ≡ H.input host.old }
+    ensures asked { H.asked host.new ≡ H.asked host.old }
     ensures notes { H.notes host.new ≡ H.notes host.old }
     ensures cause { HasCause (H.faults host.old) (H.faults host.new) result }
 {
@@ -80,6 +82,7 @@ pub(crate) fn deliver_other_trap<H: Host>(
     ensures told { (m : Mapped) → Makes result (deliver_trap (slot_of environment.old m) trap error ip) (slot_of environment.new m) (H.console host.old) (H.console host.new) }
     ensures files { H.files host.new ≡ H.files host.old }
     ensures input { H.input host.new ≡ H.input host.old }
+    ensures asked { H.asked host.new ≡ H.asked host.old }
     ensures notes { H.notes host.new ≡ H.notes host.old }
     ensures cause { HasCause (H.faults host.old) (H.faults host.new) result }
 {
@@ -96,6 +99,7 @@ fn make_cputs<H: Host>(
     ensures told { Makes result (cputs (pages_of space.now) (slot_of environment.old space.now)) (slot_of environment.new space.now) (H.console host.old) (H.console host.new) }
     ensures files { H.files host.new ≡ H.files host.old }
     ensures input { H.input host.new ≡ H.input host.old }
+    ensures asked { H.asked host.new ≡ H.asked host.old }
     ensures notes { H.notes host.new ≡ H.notes host.old }
     ensures cause { HasCause (H.faults host.old) (H.faults host.new) result }
 {
@@ -138,6 +142,7 @@ pub(crate) fn make_system_call<H: Host>(
     ensures told { Makes result (system_call (pages_of space.now) (slot_of environment.old space.now)) (slot_of environment.new space.now) (H.console host.old) (H.console host.new) }
     ensures files { H.files host.new ≡ H.files host.old }
     ensures input { H.input host.new ≡ H.input host.old }
+    ensures asked { H.asked host.new ≡ H.asked host.old }
     ensures notes { H.notes host.new ≡ H.notes host.old }
     ensures cause { HasCause (H.faults host.old) (H.faults host.new) result }
 {

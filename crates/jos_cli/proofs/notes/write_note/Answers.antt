@@ -1,5 +1,5 @@
-use Rattle.std.proofs.Common.{take, ◌∙◌}
-use Rattle.jos_cli.proofs.ToldBytes.{appended}
+use Rattle.std.proofs.Common.{◌∙◌}
+use Rattle.jos_cli.proofs.ToldBytes.{appended, part_of_first}
 use Rattle.jos_cli.proofs.notes.write_note.Goals as goal
 
 pub returns-in-Ok-clause-told : goal.returns-in-Ok-clause-told
@@ -8,4 +8,4 @@ returns-in-Ok-clause-told g c =
     (c.as_bytes.ensures.value ∙ c.note_word.ensures) (c.as_slice.ensures.value ∙ c.note_line.ensures) c.in-Ok.ensures.told c.note_write.ensures.told
 
 pub returns-in-Err-clause-told : goal.returns-in-Err-clause-told
-returns-in-Err-clause-told g c = (take c.in-Err.ensures.told.0 c.as_bytes.result.now, c.in-Err.ensures.told.2)
+returns-in-Err-clause-told g c = part_of_first _ _ c.as_bytes.result.now _ _ (c.as_bytes.ensures.value ∙ c.note_word.ensures) c.in-Err.ensures.told

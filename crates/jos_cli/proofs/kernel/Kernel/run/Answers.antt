@@ -19,6 +19,7 @@ loop-left-preserved g c = record {
   turn = c.in-Ok.ensures.turn;
   files = c.in-Ok.ensures.files ∙ c.loop-left.invariant.files;
   input = c.in-Ok.ensures.input ∙ c.loop-left.invariant.input;
+  asked = c.in-Ok.ensures.asked ∙ c.loop-left.invariant.asked;
   notes = c.in-Ok.ensures.notes ∙ c.loop-left.invariant.notes;
   faults = c.in-Ok.ensures.cause.stayed ∙ c.loop-left.invariant.faults;
 }

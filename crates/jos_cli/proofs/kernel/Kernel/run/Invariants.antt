@@ -12,6 +12,7 @@ invariant-loop-left g l = record {
   turn : RunsItsTurn l.self;
   files : g.H.Host.files l.host ≡ g.H.Host.files l.fn.host;
   input : g.H.Host.input l.host ≡ g.H.Host.input l.fn.host;
+  asked : g.H.Host.asked l.host ≡ g.H.Host.asked l.fn.host;
   notes : g.H.Host.notes l.host ≡ g.H.Host.notes l.fn.host;
   faults : g.H.Host.faults l.host ≡ g.H.Host.faults l.fn.host;
 }

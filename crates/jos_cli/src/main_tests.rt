@@ -1,0 +1,64 @@
+use crate::answer_command_line;
+use jos_host::MemHost;
+use std::alloc::{AllocError, Global};
+use std::env::FillError;
+use std::process::ExitCode;
+use std::rt::Env;
+use std::test::Fail;
+
+const USAGE: &str = "usage: jos COMMAND [OPTIONS] WORDS\n";
+
+// A command line, a word each line, the program's name first.
+#[derive(Drop)]
+struct Words<'a>(&'a [u8]);
+
+impl Env for Words<'_> {
+    fn arg(&self, i: usize, buf: &mut [u8]) -> Result<usize, FillError> {
+        let Some(word) = self.0.split(|byte| *byte == b'\n').nth(i) else {
+            return Err(FillError::NotPresent);
+        };
+        match buf.get_mut(..word.len()) {
+            Some(start) => {
+                start.copy_from_slice(word);
+                Ok(word.len())
+            }
+            None => Err(FillError::TooLong),
+        }
+    }
+
+    fn var(&self, _name: &str, _buf: &mut [u8]) -> Result<usize, FillError> {
+        Err(FillError::NotPresent)
+    }
+
+    fn var_at(&self, _i: usize, _buf: &mut [u8]) -> Result<usize, FillError> {
+        Err(FillError::NotPresent)
+    }
+}
+
+// The words of a command line, the exit status and the notes.
+const CASES: [(&[u8], u8, &str); 8] = [
+    (b"", 1, USAGE),
+    (b"jos", 1, USAGE),
+    (b"jos\nexo\nh", 2, "h: absent\n"),
+    (b"jos\nexo\nh\xff", 1, USAGE),
+    (b"jos\nexo\nh\nx", 1, USAGE),
+    (b"jos\nexo\nh\nx\ny", 1, USAGE),
+    (b"jos\ndemo\nxhello\nf", 0, "made 119\n"),
+    (b"jos\ndemo\nxhello\nf\nf", 1, USAGE),
+];
+
+#[test]
+fn answers_the_words_of_the_command_line(rt: HostRuntime) -> Result<(), Fail> {
+    for (words, status, note) in CASES {
+        let mut host = MemHost::new(
+            rt.alloc(),
+            Vec::new(rt.alloc()),
+            Vec::new(rt.alloc()),
+            Vec::new(rt.alloc()),
+        );
+        let code = answer_command_line(&(Words(words), rt.alloc()), &mut host);
+        assert!(rt; code == ExitCode::from(status), "{words:?}");
+        assert_eq!(rt; host.notes(), note.as_bytes(), "{words:?}");
+    }
+    Ok(())
+}
