@@ -9,9 +9,10 @@ use Rattle.std.proofs.lemmas.Bool.Decides.{nat_tests}
 use Rattle.std.specs.Int.Bits.{and_zero_r}
 use Rattle.std.proofs.Math.Nat.{mod-eq_of_lt, mod-mod}
 use Rattle.jos_alu.specs.declared.width.Width.{Width}
-use Rattle.jos_alu.specs.declared.width.Width.TheVariants.{Byte, Pair, Word}
+use Rattle.jos_alu.specs.declared.width.Width.TheVariants.{Bits8, Bits16, Bits32}
 use Rattle.jos_alu.specs.declared.flags.StatusFlags.{StatusFlags}
-use Rattle.jos_alu.specs.Flags.{modulus, half, flag, is_set, with_status, flags_of_difference, difference_of, condition_holds}
+use Rattle.jos_alu.specs.Flags.{modulus, sign_bit, flag, is_set, with_status, flags_of_difference, difference_of}
+use Rattle.jos_alu.specs.Flags.{condition_holds}
 use Rattle.jos_alu.specs.Products.{signed_of}
 use Rattle.jos_alu.specs.Laws.{ComparesNumbers}
 
@@ -83,9 +84,9 @@ module _ (e : ℕ) (f : StatusFlags) (z : bit_and e 0 ≡ 0) where
 -- what the difference is, without a modulus
 difference_is : (width : Width) (a b : ℕ) → a < modulus width → b < modulus width →
     (b ≤ a → difference_of width a b 0 ≡ a - b) × (a < b → difference_of width a b 0 ≡ a + modulus width - b)
-difference_is Byte a b ha hb = (λ h. omega arith, λ h. omega arith)
-difference_is Pair a b ha hb = (λ h. omega arith, λ h. omega arith)
-difference_is Word a b ha hb = (λ h. omega arith, λ h. omega arith)
+difference_is Bits8 a b ha hb = (λ h. omega arith, λ h. omega arith)
+difference_is Bits16 a b ha hb = (λ h. omega arith, λ h. omega arith)
+difference_is Bits32 a b ha hb = (λ h. omega arith, λ h. omega arith)
 
 -- SF and OF differ where the signed number is less
 abbrev signs_differ : ℕ → ℕ → ℕ → ℕ → Bool
@@ -118,49 +119,45 @@ zero_equal a b m r ha hb ge lt = grind (arith, nat_tests)
 below_equal : (a b m r : ℕ) → a < m → b < m → (b ≤ a → r ≡ a - b) → (a < b → r ≡ a + m - b) → (nat_lt a (b + 0) || (r == 0)) ≡ nat_le a b
 below_equal a b m r ha hb ge lt = grind (arith, nat_tests)
 
-itself : (x : Bool) → not (beq x false) ≡ x
-itself true = refl
-itself false = refl
-
 -- the lowest bits of a small number are the number
 small : (width : Width) (n : ℕ) → n < modulus width → n % modulus width ≡ n
 small width n h = mod-eq_of_lt h
 
 signs_at : (width : Width) (a b : ℕ) → Bool
 signs_at width a b =
-    signs_differ (half width) (a % modulus width) (b % modulus width) (difference_of width a b 0 % modulus width)
+    signs_differ (sign_bit width) (a % modulus width) (b % modulus width) (difference_of width a b 0 % modulus width)
 
 signs_less : (width : Width) (a b : ℕ) → a < modulus width → b < modulus width →
     signs_at width a b ≡ int_lt (signed_of width a) (signed_of width b)
 unfolding signs_at signed_of
-signs_less Byte a b ha hb =
-    let d = difference_is Byte a b ha hb in
-    (λ i. signs_differ 128 (small Byte a ha i) (small Byte b hb i) (mod-mod (a + 2 ^ 33 - (b + 0)) 256 i))
-    ∙ less_byte a b (difference_of Byte a b 0) ha hb d.0 d.1
-    ∙ (λ i. int_lt (cast_signed w8 (sym (small Byte a ha) i)) (cast_signed w8 (sym (small Byte b hb) i)))
-signs_less Pair a b ha hb =
-    let d = difference_is Pair a b ha hb in
-    (λ i. signs_differ 32768 (small Pair a ha i) (small Pair b hb i) (mod-mod (a + 2 ^ 33 - (b + 0)) 65536 i))
-    ∙ less_pair a b (difference_of Pair a b 0) ha hb d.0 d.1
-    ∙ (λ i. int_lt (cast_signed w16 (sym (small Pair a ha) i)) (cast_signed w16 (sym (small Pair b hb) i)))
-signs_less Word a b ha hb =
-    let d = difference_is Word a b ha hb in
-    (λ i. signs_differ (2 ^ 31) (small Word a ha i) (small Word b hb i) (mod-mod (a + 2 ^ 33 - (b + 0)) (2 ^ 32) i))
-    ∙ less_word a b (difference_of Word a b 0) ha hb d.0 d.1
-    ∙ (λ i. int_lt (cast_signed w32 (sym (small Word a ha) i)) (cast_signed w32 (sym (small Word b hb) i)))
+signs_less Bits8 a b ha hb =
+    let d = difference_is Bits8 a b ha hb in
+    (λ i. signs_differ 128 (small Bits8 a ha i) (small Bits8 b hb i) (mod-mod (a + 2 ^ 33 - (b + 0)) 256 i))
+    ∙ less_byte a b (difference_of Bits8 a b 0) ha hb d.0 d.1
+    ∙ (λ i. int_lt (cast_signed w8 (sym (small Bits8 a ha) i)) (cast_signed w8 (sym (small Bits8 b hb) i)))
+signs_less Bits16 a b ha hb =
+    let d = difference_is Bits16 a b ha hb in
+    (λ i. signs_differ 32768 (small Bits16 a ha i) (small Bits16 b hb i) (mod-mod (a + 2 ^ 33 - (b + 0)) 65536 i))
+    ∙ less_pair a b (difference_of Bits16 a b 0) ha hb d.0 d.1
+    ∙ (λ i. int_lt (cast_signed w16 (sym (small Bits16 a ha) i)) (cast_signed w16 (sym (small Bits16 b hb) i)))
+signs_less Bits32 a b ha hb =
+    let d = difference_is Bits32 a b ha hb in
+    (λ i. signs_differ (2 ^ 31) (small Bits32 a ha i) (small Bits32 b hb i) (mod-mod (a + 2 ^ 33 - (b + 0)) (2 ^ 32) i))
+    ∙ less_word a b (difference_of Bits32 a b 0) ha hb d.0 d.1
+    ∙ (λ i. int_lt (cast_signed w32 (sym (small Bits32 a ha) i)) (cast_signed w32 (sym (small Bits32 b hb) i)))
 
 equal_less : (width : Width) (a b : ℕ) → a < modulus width → b < modulus width →
     ((a == b) || int_lt (signed_of width a) (signed_of width b)) ≡ int_le (signed_of width a) (signed_of width b)
 unfolding signed_of
-equal_less Byte a b ha hb =
-    (λ i. (a == b) || int_lt (cast_signed w8 (small Byte a ha i)) (cast_signed w8 (small Byte b hb i))) ∙ equal_byte a b ha hb
-    ∙ (λ i. int_le (cast_signed w8 (sym (small Byte a ha) i)) (cast_signed w8 (sym (small Byte b hb) i)))
-equal_less Pair a b ha hb =
-    (λ i. (a == b) || int_lt (cast_signed w16 (small Pair a ha i)) (cast_signed w16 (small Pair b hb i))) ∙ equal_pair a b ha hb
-    ∙ (λ i. int_le (cast_signed w16 (sym (small Pair a ha) i)) (cast_signed w16 (sym (small Pair b hb) i)))
-equal_less Word a b ha hb =
-    (λ i. (a == b) || int_lt (cast_signed w32 (small Word a ha i)) (cast_signed w32 (small Word b hb i))) ∙ equal_word a b ha hb
-    ∙ (λ i. int_le (cast_signed w32 (sym (small Word a ha) i)) (cast_signed w32 (sym (small Word b hb) i)))
+equal_less Bits8 a b ha hb =
+    (λ i. (a == b) || int_lt (cast_signed w8 (small Bits8 a ha i)) (cast_signed w8 (small Bits8 b hb i))) ∙ equal_byte a b ha hb
+    ∙ (λ i. int_le (cast_signed w8 (sym (small Bits8 a ha) i)) (cast_signed w8 (sym (small Bits8 b hb) i)))
+equal_less Bits16 a b ha hb =
+    (λ i. (a == b) || int_lt (cast_signed w16 (small Bits16 a ha i)) (cast_signed w16 (small Bits16 b hb i))) ∙ equal_pair a b ha hb
+    ∙ (λ i. int_le (cast_signed w16 (sym (small Bits16 a ha) i)) (cast_signed w16 (sym (small Bits16 b hb) i)))
+equal_less Bits32 a b ha hb =
+    (λ i. (a == b) || int_lt (cast_signed w32 (small Bits32 a ha i)) (cast_signed w32 (small Bits32 b hb i))) ∙ equal_word a b ha hb
+    ∙ (λ i. int_le (cast_signed w32 (sym (small Bits32 a ha) i)) (cast_signed w32 (sym (small Bits32 b hb) i)))
 
 pub compares : ComparesNumbers
 unfolding flags_of_difference condition_holds signs_at
@@ -172,9 +169,9 @@ compares width a b e ha hb =
     let is_less : not (beq (is_set (with_status e f) 0x080) (is_set (with_status e f) 0x800)) ≡ int_lt (signed_of width a) (signed_of width b) =
     (λ i. not (beq (sign_is e f z i) (overflow_is e f z i))) ∙ signs_less width a b ha hb in
     record {
-      below = itself _ ∙ carry_is e f z ∙ (let n : b + 0 ≡ b = omega arith in ap (λ x. nat_lt a x) n);
-      equal = itself _ ∙ is_zero;
-      below_or_equal = itself _ ∙ (λ i. carry_is e f z i || zero_is e f z i) ∙ below_equal a b (modulus width) (difference_of width a b 0) ha hb d.0 d.1;
-      less = itself _ ∙ is_less;
-      less_or_equal = itself _ ∙ (λ i. is_zero i || is_less i) ∙ equal_less width a b ha hb;
+      below = carry_is e f z ∙ (let n : b + 0 ≡ b = omega arith in ap (λ x. nat_lt a x) n);
+      equal = is_zero;
+      below_or_equal = (λ i. carry_is e f z i || zero_is e f z i) ∙ below_equal a b (modulus width) (difference_of width a b 0) ha hb d.0 d.1;
+      less = is_less;
+      less_or_equal = (λ i. is_zero i || is_less i) ∙ equal_less width a b ha hb;
     }

@@ -7,7 +7,7 @@ use Rattle.std.proofs.lemmas.Int.{ints}
 use Rattle.std.proofs.lemmas.Bool.Decides.{nat_tests}
 use Rattle.std.proofs.Math.Nat.{mod-eq_of_lt, mod-mod}
 use Rattle.jos_alu.specs.declared.width.Width.{Width}
-use Rattle.jos_alu.specs.declared.width.Width.TheVariants.{Byte, Pair, Word}
+use Rattle.jos_alu.specs.declared.width.Width.TheVariants.{Bits8, Bits16, Bits32}
 use Rattle.jos_alu.specs.Flags.{modulus, flags_of_sum, flags_of_difference}
 use Rattle.jos_alu.specs.Products.{signed_of, fits_in}
 use Rattle.jos_alu.specs.Laws.{OverflowsSigned}
@@ -48,9 +48,9 @@ small width n h = mod-eq_of_lt h
 
 pub overflows : OverflowsSigned
 unfolding flags_of_sum flags_of_difference fits_in signed_of
-overflows Byte a b c ha hb hc =
-    let ea = small Byte a ha in
-    let eb = small Byte b hb in
+overflows Bits8 a b c ha hb hc =
+    let ea = small Bits8 a ha in
+    let eb = small Bits8 b hb in
     record {
       sum =
           (λ i. beq (nat_le 128 (ea i)) (nat_le 128 (eb i)) && not (beq (nat_le 128 (ea i)) (nat_le 128 (mod-mod (a + b + c) 256 i))))
@@ -62,9 +62,9 @@ overflows Byte a b c ha hb hc =
           ∙ difference_byte a b c ha hb hc
           ∙ (λ i. not (int_le (negsuc 127) (cast_signed w8 (sym ea i) -ℤ cast_signed w8 (sym eb i) -ℤ pos c) && int_lt (cast_signed w8 (sym ea i) -ℤ cast_signed w8 (sym eb i) -ℤ pos c) (pos 128)));
     }
-overflows Pair a b c ha hb hc =
-    let ea = small Pair a ha in
-    let eb = small Pair b hb in
+overflows Bits16 a b c ha hb hc =
+    let ea = small Bits16 a ha in
+    let eb = small Bits16 b hb in
     record {
       sum =
           (λ i. beq (nat_le 32768 (ea i)) (nat_le 32768 (eb i)) && not (beq (nat_le 32768 (ea i)) (nat_le 32768 (mod-mod (a + b + c) 65536 i))))
@@ -76,9 +76,9 @@ overflows Pair a b c ha hb hc =
           ∙ difference_pair a b c ha hb hc
           ∙ (λ i. not (int_le (negsuc 32767) (cast_signed w16 (sym ea i) -ℤ cast_signed w16 (sym eb i) -ℤ pos c) && int_lt (cast_signed w16 (sym ea i) -ℤ cast_signed w16 (sym eb i) -ℤ pos c) (pos 32768)));
     }
-overflows Word a b c ha hb hc =
-    let ea = small Word a ha in
-    let eb = small Word b hb in
+overflows Bits32 a b c ha hb hc =
+    let ea = small Bits32 a ha in
+    let eb = small Bits32 b hb in
     record {
       sum =
           (λ i. beq (nat_le (2 ^ 31) (ea i)) (nat_le (2 ^ 31) (eb i)) && not (beq (nat_le (2 ^ 31) (ea i)) (nat_le (2 ^ 31) (mod-mod (a + b + c) (2 ^ 32) i))))

@@ -1,5 +1,6 @@
 -- A quotient and its remainder are the dividend.
-use Rattle.std.proofs.Common.{◌≡◌, ℕ, zero, suc, ◌+◌, ◌*◌, ◌/◌, ◌%◌, ◌<◌, Bool, true, false, Some, None, refl, neg_ℤ, arith, if◌then◌else◌}
+use Rattle.std.proofs.Common.{◌≡◌, ℕ, zero, suc, ◌+◌, ◌*◌, ◌/◌, ◌%◌, ◌<◌, Bool, true, false, Some, None, refl, neg_ℤ}
+use Rattle.std.proofs.Common.{arith, if◌then◌else◌}
 use Rattle.std.specs.Prelude.{◌==◌, nat_le, ℤ, pos, negsuc, unsigned_abs, int_le, int_div, int_rem, IfSome}
 use Rattle.std.proofs.lemmas.Int.{quot-rem, rem_below}
 use Rattle.std.proofs.lemmas.Bool.Decides.{nat_tests}

@@ -1,10 +1,11 @@
 -- ROL undoes ROR, one place after the other.
-use Rattle.std.proofs.Common.{◌≡◌, ℕ, ◌+◌, ◌*◌, ◌/◌, ◌%◌, ◌^◌, ◌<◌, zero, suc, Bool, true, false, refl, ap, ◌∙◌, arith, if◌then◌else◌}
+use Rattle.std.proofs.Common.{◌≡◌, ℕ, ◌+◌, ◌*◌, ◌/◌, ◌%◌, ◌^◌, ◌<◌, zero, suc, Bool, true, false, refl, ap, ◌∙◌}
+use Rattle.std.proofs.Common.{arith, if◌then◌else◌}
 use Rattle.std.specs.Prelude.{nat_le}
 use Rattle.std.proofs.lemmas.Bool.Decides.{nat_tests}
 use Rattle.std.proofs.Math.Nat.{mod-eq_of_lt, add-mod_right}
 use Rattle.jos_alu.specs.declared.width.Width.{Width}
-use Rattle.jos_alu.specs.declared.width.Width.TheVariants.{Byte, Pair, Word}
+use Rattle.jos_alu.specs.declared.width.Width.TheVariants.{Bits8, Bits16, Bits32}
 use Rattle.jos_alu.specs.declared.shifts.Shift.TheVariants.{Rol, Ror}
 use Rattle.jos_alu.specs.declared.shifts.Shifting.{Shifting}
 use Rattle.jos_alu.specs.Flags.{modulus, is_negative, bit_of}
@@ -20,9 +21,9 @@ below h m v true e small = omega arith
 below h m v false e small = omega arith
 
 down_below : (width : Width) (v : ℕ) → v < modulus width → down width (is_odd v) v < modulus width
-down_below Byte v small = below 128 256 v (is_odd v) refl small
-down_below Pair v small = below 32768 65536 v (is_odd v) refl small
-down_below Word v small = below (2 ^ 31) (2 ^ 32) v (is_odd v) refl small
+down_below Bits8 v small = below 128 256 v (is_odd v) refl small
+down_below Bits16 v small = below 32768 65536 v (is_odd v) refl small
+down_below Bits32 v small = below (2 ^ 31) (2 ^ 32) v (is_odd v) refl small
 
 back : (h m v : ℕ) (odd : Bool) → m ≡ h * 2 → v < m → is_odd v ≡ odd →
     (nat_le h ((v / 2 + (if odd then h else 0)) % m) ≡ odd)
@@ -45,9 +46,9 @@ joined : (width : Width) (d v : ℕ) (negative odd : Bool) → negative ≡ odd 
 joined width d v negative odd e h = ap (λ low. up width low d) e ∙ h
 
 up_down : (width : Width) (v : ℕ) → v < modulus width → up width (is_negative width (down width (is_odd v) v)) (down width (is_odd v) v) ≡ v
-up_down Byte v small = let b = back 128 256 v (is_odd v) refl small refl in joined Byte _ v _ (is_odd v) b.0 b.1
-up_down Pair v small = let b = back 32768 65536 v (is_odd v) refl small refl in joined Pair _ v _ (is_odd v) b.0 b.1
-up_down Word v small = let b = back (2 ^ 31) (2 ^ 32) v (is_odd v) refl small refl in joined Word _ v _ (is_odd v) b.0 b.1
+up_down Bits8 v small = let b = back 128 256 v (is_odd v) refl small refl in joined Bits8 _ v _ (is_odd v) b.0 b.1
+up_down Bits16 v small = let b = back 32768 65536 v (is_odd v) refl small refl in joined Bits16 _ v _ (is_odd v) b.0 b.1
+up_down Bits32 v small = let b = back (2 ^ 31) (2 ^ 32) v (is_odd v) refl small refl in joined Bits32 _ v _ (is_odd v) b.0 b.1
 
 -- ---- many places
 

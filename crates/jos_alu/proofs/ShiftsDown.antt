@@ -1,10 +1,11 @@
 -- SHRD, SHR and SAR by many places, in numbers: the number of twice the width, divided by a power of two.
-use Rattle.std.proofs.Common.{◌≡◌, ℕ, ◌+◌, ◌-◌, ◌*◌, ◌/◌, ◌%◌, ◌^◌, ◌<◌, zero, suc, true, false, refl, Bool, sym, ap, ◌∙◌, arith, if◌then◌else◌}
+use Rattle.std.proofs.Common.{◌≡◌, ℕ, ◌+◌, ◌-◌, ◌*◌, ◌/◌, ◌%◌, ◌^◌, ◌<◌, zero, suc, true, false, refl, Bool, sym, ap}
+use Rattle.std.proofs.Common.{◌∙◌, arith, if◌then◌else◌}
 use Rattle.std.proofs.lemmas.Bool.Decides.{nat_tests}
 use Rattle.std.proofs.lemmas.Nat.{div-mul-add, mod-mul-add, pow_pos}
 use Rattle.std.proofs.Math.Nat.{div-div-eq-div-mul, pow-suc, suc-add, mul_comm}
 use Rattle.jos_alu.specs.declared.width.Width.{Width}
-use Rattle.jos_alu.specs.declared.width.Width.TheVariants.{Byte, Pair, Word}
+use Rattle.jos_alu.specs.declared.width.Width.TheVariants.{Bits8, Bits16, Bits32}
 use Rattle.jos_alu.specs.declared.shifts.Shift.TheVariants.{Shr, Sar, Shrd}
 use Rattle.jos_alu.specs.declared.shifts.Shifting.{Shifting}
 use Rattle.jos_alu.specs.Flags.{modulus, is_negative}
@@ -14,19 +15,19 @@ use Rattle.jos_alu.proofs.ShiftTimes.{last}
 -- ---- one place
 
 value_down : (width : Width) (y : ℕ) → down width (is_odd (y / modulus width)) (y % modulus width) ≡ y / 2 % modulus width
-value_down Byte y = grind (arith, nat_tests)
-value_down Pair y = grind (arith, nat_tests)
-value_down Word y = grind (arith, nat_tests)
+value_down Bits8 y = grind (arith, nat_tests)
+value_down Bits16 y = grind (arith, nat_tests)
+value_down Bits32 y = grind (arith, nat_tests)
 
 other_down : (width : Width) (y : ℕ) → down width false (y / modulus width) ≡ y / 2 / modulus width
-other_down Byte y = omega arith
-other_down Pair y = omega arith
-other_down Word y = omega arith
+other_down Bits8 y = omega arith
+other_down Bits16 y = omega arith
+other_down Bits32 y = omega arith
 
 carry_down : (width : Width) (y : ℕ) → is_odd (y % modulus width) ≡ is_odd y
-carry_down Byte y = grind (arith, nat_tests)
-carry_down Pair y = grind (arith, nat_tests)
-carry_down Word y = grind (arith, nat_tests)
+carry_down Bits8 y = grind (arith, nat_tests)
+carry_down Bits16 y = grind (arith, nat_tests)
+carry_down Bits32 y = grind (arith, nat_tests)
 
 -- ---- many places
 
@@ -121,12 +122,12 @@ signs_down width false n value carry = refl
 
 keeps_sign : (width : Width) (negative : Bool) (v : ℕ) → v < modulus width → is_negative width v ≡ negative →
     (down width negative v < modulus width) × (is_negative width (down width negative v) ≡ negative)
-keeps_sign Byte true v small e = (grind (arith, nat_tests), grind (arith, nat_tests))
-keeps_sign Byte false v small e = (grind (arith, nat_tests), grind (arith, nat_tests))
-keeps_sign Pair true v small e = (grind (arith, nat_tests), grind (arith, nat_tests))
-keeps_sign Pair false v small e = (grind (arith, nat_tests), grind (arith, nat_tests))
-keeps_sign Word true v small e = (grind (arith, nat_tests), grind (arith, nat_tests))
-keeps_sign Word false v small e = (grind (arith, nat_tests), grind (arith, nat_tests))
+keeps_sign Bits8 true v small e = (grind (arith, nat_tests), grind (arith, nat_tests))
+keeps_sign Bits8 false v small e = (grind (arith, nat_tests), grind (arith, nat_tests))
+keeps_sign Bits16 true v small e = (grind (arith, nat_tests), grind (arith, nat_tests))
+keeps_sign Bits16 false v small e = (grind (arith, nat_tests), grind (arith, nat_tests))
+keeps_sign Bits32 true v small e = (grind (arith, nat_tests), grind (arith, nat_tests))
+keeps_sign Bits32 false v small e = (grind (arith, nat_tests), grind (arith, nat_tests))
 
 -- with more signs above the number than places, by those that are left
 below_signs : (width : Width) (negative : Bool) (n left value other : ℕ) (carry : Bool) → value < modulus width → is_negative width value ≡ negative →

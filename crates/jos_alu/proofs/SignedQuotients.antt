@@ -1,11 +1,12 @@
 -- The division of 64 bits gives the signed quotient, wherever that fits the width.
-use Rattle.std.proofs.Common.{◌≡◌, ℕ, ◌<◌, ◌%◌, Bool, true, false, Some, None, refl, ap, sym, ◌∙◌, subst, arith, if◌then◌else◌}
+use Rattle.std.proofs.Common.{◌≡◌, ℕ, ◌<◌, ◌%◌, Bool, true, false, Some, None, refl, ap, sym, ◌∙◌, subst, arith}
+use Rattle.std.proofs.Common.{if◌then◌else◌}
 use Rattle.std.specs.Prelude.{ℤ, pos, negsuc, ◌==◌, int_div, int_rem, unsigned_abs, FitsSigned}
 use Rattle.std.specs.Int.{w64, cast_signed, cast_unsigned, CanDivide}
 use Rattle.std.proofs.lemmas.Int.{to_z-of_z, rem_is}
 use Rattle.std.proofs.lemmas.Bool.Decides.{nat_tests}
 use Rattle.jos_alu.specs.declared.width.Width.{Width}
-use Rattle.jos_alu.specs.declared.width.Width.TheVariants.{Byte, Pair, Word}
+use Rattle.jos_alu.specs.declared.width.Width.TheVariants.{Bits8, Bits16, Bits32}
 use Rattle.jos_alu.specs.declared.products.Halves.{Halves}
 use Rattle.jos_alu.specs.Flags.{modulus}
 use Rattle.jos_alu.specs.Products.{bits_of, fits_in, signed_quotient}
@@ -13,12 +14,12 @@ use Rattle.jos_alu.specs.Products.{bits_of, fits_in, signed_quotient}
 -- what fits the width fits 64 bits
 within : (width : Width) (q : ℤ) → fits_in width q ≡ true → FitsSigned w64 q
 unfolding fits_in
-within Byte (pos n) e = record { sfits = grind (arith, nat_tests) }
-within Byte (negsuc n) e = record { sfits = grind (arith, nat_tests) }
-within Pair (pos n) e = record { sfits = grind (arith, nat_tests) }
-within Pair (negsuc n) e = record { sfits = grind (arith, nat_tests) }
-within Word (pos n) e = record { sfits = grind (arith, nat_tests) }
-within Word (negsuc n) e = record { sfits = grind (arith, nat_tests) }
+within Bits8 (pos n) e = record { sfits = grind (arith, nat_tests) }
+within Bits8 (negsuc n) e = record { sfits = grind (arith, nat_tests) }
+within Bits16 (pos n) e = record { sfits = grind (arith, nat_tests) }
+within Bits16 (negsuc n) e = record { sfits = grind (arith, nat_tests) }
+within Bits32 (pos n) e = record { sfits = grind (arith, nat_tests) }
+within Bits32 (negsuc n) e = record { sfits = grind (arith, nat_tests) }
 
 pick_none : (zero fits : Bool) (h : Halves) → (fits ≡ true → ⊥) → None ≡ (if zero then None else if fits then Some h else None)
 pick_none true fits h never = refl

@@ -6,7 +6,7 @@ use Rattle.std.proofs.lemmas.Int.{ints}
 use Rattle.std.proofs.lemmas.Bool.Decides.{nat_tests}
 use Rattle.std.proofs.Math.Nat.{mod-eq_of_lt, div-div-eq-div-mul, pow-succ'}
 use Rattle.jos_alu.specs.declared.width.Width.{Width}
-use Rattle.jos_alu.specs.declared.width.Width.TheVariants.{Byte, Pair, Word}
+use Rattle.jos_alu.specs.declared.width.Width.TheVariants.{Bits8, Bits16, Bits32}
 use Rattle.jos_alu.specs.declared.shifts.Shift.TheVariants.{Sar}
 use Rattle.jos_alu.specs.Flags.{modulus, is_negative}
 use Rattle.jos_alu.specs.Shifts.{down, shift_once, shift_times}
@@ -33,25 +33,25 @@ div_euclid-one (pos a) = let e : a ≡ a / 1 = omega arith in ap pos e
 div_euclid-one (negsuc a) = let e : a ≡ a / 1 = omega arith in ap negsuc e
 
 stays_below : (width : Width) (v : ℕ) → v < modulus width → down width (is_negative width v) v < modulus width
-stays_below Byte v h = grind (arith, nat_tests)
-stays_below Pair v h = grind (arith, nat_tests)
-stays_below Word v h = grind (arith, nat_tests)
+stays_below Bits8 v h = grind (arith, nat_tests)
+stays_below Bits16 v h = grind (arith, nat_tests)
+stays_below Bits32 v h = grind (arith, nat_tests)
 
 once : (width : Width) (v : ℕ) → v < modulus width → signed_of width (down width (is_negative width v) v) ≡ int_div_euclid (signed_of width v) (pos 2)
 unfolding signed_of
-once Byte v h =
+once Bits8 v h =
     let e : v % 256 ≡ v = mod-eq_of_lt h in
-    let f : down Byte (is_negative Byte v) v % 256 ≡ down Byte (is_negative Byte v) v = mod-eq_of_lt (stays_below Byte v h) in
+    let f : down Bits8 (is_negative Bits8 v) v % 256 ≡ down Bits8 (is_negative Bits8 v) v = mod-eq_of_lt (stays_below Bits8 v h) in
     ap (cast_signed w8) f ∙ (λ i. cast_signed w8 (v / 2 + (if nat_le 128 (e i) then 128 else 0))) ∙ once_byte v h
     ∙ (λ i. int_div_euclid (cast_signed w8 (sym e i)) (pos 2))
-once Pair v h =
+once Bits16 v h =
     let e : v % 65536 ≡ v = mod-eq_of_lt h in
-    let f : down Pair (is_negative Pair v) v % 65536 ≡ down Pair (is_negative Pair v) v = mod-eq_of_lt (stays_below Pair v h) in
+    let f : down Bits16 (is_negative Bits16 v) v % 65536 ≡ down Bits16 (is_negative Bits16 v) v = mod-eq_of_lt (stays_below Bits16 v h) in
     ap (cast_signed w16) f ∙ (λ i. cast_signed w16 (v / 2 + (if nat_le 32768 (e i) then 32768 else 0))) ∙ once_pair v h
     ∙ (λ i. int_div_euclid (cast_signed w16 (sym e i)) (pos 2))
-once Word v h =
+once Bits32 v h =
     let e : v % 2 ^ 32 ≡ v = mod-eq_of_lt h in
-    let f : down Word (is_negative Word v) v % 2 ^ 32 ≡ down Word (is_negative Word v) v = mod-eq_of_lt (stays_below Word v h) in
+    let f : down Bits32 (is_negative Bits32 v) v % 2 ^ 32 ≡ down Bits32 (is_negative Bits32 v) v = mod-eq_of_lt (stays_below Bits32 v h) in
     ap (cast_signed w32) f ∙ (λ i. cast_signed w32 (v / 2 + (if nat_le (2 ^ 31) (e i) then 2 ^ 31 else 0))) ∙ once_word v h
     ∙ (λ i. int_div_euclid (cast_signed w32 (sym e i)) (pos 2))
 

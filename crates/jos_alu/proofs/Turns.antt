@@ -4,28 +4,30 @@ use Rattle.std.proofs.Common.{◌≡◌, ℕ, ◌+◌, ◌-◌, ◌*◌, ◌/◌
 use Rattle.std.specs.Prelude.{bit_or}
 use Rattle.std.specs.Int.Bits.{or_self}
 use Rattle.std.proofs.lemmas.Bool.Decides.{nat_tests}
-use Rattle.std.proofs.lemmas.Nat.{mul-add-lt, div_below, pow_pos, pow-add, mod-pow-add, shl-shr, shr_below, div-add-mod', or_shifted}
-use Rattle.std.proofs.Math.Nat.{mod-lt, sub-zero, pow-suc, mul_comm, mul-mod_left, mod_self, mod-one, div-one, add-zero, add_comm, mod-eq_of_lt}
+use Rattle.std.proofs.lemmas.Nat.{mul-add-lt, div_below, pow_pos, pow-add, mod-pow-add, shl-shr, shr_below}
+use Rattle.std.proofs.lemmas.Nat.{div-add-mod', or_shifted}
+use Rattle.std.proofs.Math.Nat.{mod-lt, sub-zero, pow-suc, mul_comm, mul-mod_left, mod_self, mod-one, div-one}
+use Rattle.std.proofs.Math.Nat.{add-zero, add_comm, mod-eq_of_lt}
 use Rattle.jos_alu.specs.declared.width.Width.{Width}
-use Rattle.jos_alu.specs.declared.width.Width.TheVariants.{Byte, Pair, Word}
+use Rattle.jos_alu.specs.declared.width.Width.TheVariants.{Bits8, Bits16, Bits32}
 use Rattle.jos_alu.specs.declared.shifts.Shift.TheVariants.{Rol}
 use Rattle.jos_alu.specs.declared.shifts.Shifting.{Shifting}
-use Rattle.jos_alu.specs.Flags.{modulus, half, is_negative}
+use Rattle.jos_alu.specs.Flags.{modulus, sign_bit, is_negative}
 use Rattle.jos_alu.specs.Shifts.{up, shift_once, shift_times, shift_start}
 use Rattle.jos_alu.proofs.ShiftTimes.{in_parts}
 
 -- ---- one place
 
 -- of a number with the top bit t above w
-one_turn : (width : Width) (t w v : ℕ) → t < 2 → w < half width → v ≡ t * half width + w → up width (is_negative width v) v ≡ w * 2 + t
-one_turn Byte t w v bit low e = grind (arith, nat_tests)
-one_turn Pair t w v bit low e = grind (arith, nat_tests)
-one_turn Word t w v bit low e = grind (arith, nat_tests)
+one_turn : (width : Width) (t w v : ℕ) → t < 2 → w < sign_bit width → v ≡ t * sign_bit width + w → up width (is_negative width v) v ≡ w * 2 + t
+one_turn Bits8 t w v bit low e = grind (arith, nat_tests)
+one_turn Bits16 t w v bit low e = grind (arith, nat_tests)
+one_turn Bits32 t w v bit low e = grind (arith, nat_tests)
 
-half_is : (width : Width) (x : ℕ) → x * 2 ≡ modulus width → x ≡ half width
-half_is Byte x e = omega arith
-half_is Pair x e = omega arith
-half_is Word x e = omega arith
+half_is : (width : Width) (x : ℕ) → x * 2 ≡ modulus width → x ≡ sign_bit width
+half_is Bits8 x e = omega arith
+half_is Bits16 x e = omega arith
+half_is Bits32 x e = omega arith
 
 -- ---- some places, where a is what goes out and b is what stays
 
@@ -60,14 +62,14 @@ turned width (suc n) k a b s full out stays e =
     let up_n : 2 ^ suc n ≡ 2 ^ n * 2 = pow-suc 2 n in
     let up_k : 2 ^ suc k ≡ 2 ^ k * 2 = pow-suc 2 k in
     let p_q : 2 ^ n * 2 * 2 ^ k ≡ modulus width = ap (λ x. x * 2 ^ k) (sym up_n) ∙ full in
-    let is_half : 2 ^ n * 2 ^ k ≡ half width = half_is width (2 ^ n * 2 ^ k) (halves (2 ^ n) (2 ^ k) (modulus width) p_q) in
+    let is_half : 2 ^ n * 2 ^ k ≡ sign_bit width = half_is width (2 ^ n * 2 ^ k) (halves (2 ^ n) (2 ^ k) (modulus width) p_q) in
     let bit : a / 2 ^ n < 2 = div_below a (2 ^ n) 2 (pow_pos n) (omega arith) in
     let rest : a % 2 ^ n < 2 ^ n = mod-lt a (pow_pos n) in
     let parts : a / 2 ^ n * 2 ^ n + a % 2 ^ n ≡ a = div-add-mod' a (2 ^ n) in
     let under : a % 2 ^ n * 2 ^ k + b < 2 ^ k * 2 ^ n = mul-add-lt (a % 2 ^ n) (2 ^ k) b (2 ^ n) rest stays in
-    let low : a % 2 ^ n * 2 ^ k + b < half width = omega (arith, mul_comm (2 ^ n) (2 ^ k)) in
+    let low : a % 2 ^ n * 2 ^ k + b < sign_bit width = omega (arith, mul_comm (2 ^ n) (2 ^ k)) in
     let next = one_turn width (a / 2 ^ n) (a % 2 ^ n * 2 ^ k + b) s.value bit low
-    (e ∙ split (2 ^ n) (2 ^ k) a b (a / 2 ^ n) (a % 2 ^ n) (half width) is_half parts) in
+    (e ∙ split (2 ^ n) (2 ^ k) a b (a / 2 ^ n) (a % 2 ^ n) (sign_bit width) is_half parts) in
     turned width n (suc k) (a % 2 ^ n) (b * 2 + a / 2 ^ n) (shift_once Rol width s)
     (ap (λ x. 2 ^ n * x) up_k ∙ whole (2 ^ n) (2 ^ k) (modulus width) p_q) rest (omega arith)
     (next ∙ one_more (2 ^ n) (2 ^ k) b (a / 2 ^ n) (a % 2 ^ n) ∙ ap (λ x. a % 2 ^ n * x + (b * 2 + a / 2 ^ n)) (sym up_k))
@@ -76,14 +78,14 @@ turned width (suc n) k a b s full out stays e =
 -- ---- whole turns
 
 abbrev pub bits_in : Width → ℕ
-bits_in Byte = 8
-bits_in Pair = 16
-bits_in Word = 32
+bits_in Bits8 = 8
+bits_in Bits16 = 16
+bits_in Bits32 = 32
 
 is_modulus : (width : Width) → 2 ^ bits_in width ≡ modulus width
-is_modulus Byte = refl
-is_modulus Pair = refl
-is_modulus Word = refl
+is_modulus Bits8 = refl
+is_modulus Bits16 = refl
+is_modulus Bits32 = refl
 
 -- some places, at most as many as the width has, which leave k
 some : (width : Width) (n k : ℕ) (s : Shifting) → n + k ≡ bits_in width → s.value < modulus width →
@@ -153,9 +155,9 @@ within width (suc n) v few small =
     ∙ ap (λ x. bit_or ((v * 2 ^ suc n) % 2 ^ bits_in width) (v / 2 ^ x)) (sym (mod-eq_of_lt k))
 
 wide : (width : Width) → 0 < bits_in width
-wide Byte = omega arith
-wide Pair = omega arith
-wide Word = omega arith
+wide Bits8 = omega arith
+wide Bits16 = omega arith
+wide Bits32 = omega arith
 
 -- The left side is `rotate_left`.
 pub turned_left : (width : Width) (n v : ℕ) → v < modulus width →

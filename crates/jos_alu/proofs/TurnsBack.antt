@@ -2,7 +2,7 @@
 use Rattle.std.proofs.Common.{◌≡◌, ℕ, ◌+◌, ◌-◌, ◌*◌, ◌<◌, zero, suc, Bool, true, false, sym, ap, refl, ◌∙◌, arith}
 use Rattle.std.proofs.lemmas.Bool.Decides.{nat_tests}
 use Rattle.jos_alu.specs.declared.width.Width.{Width}
-use Rattle.jos_alu.specs.declared.width.Width.TheVariants.{Byte, Pair, Word}
+use Rattle.jos_alu.specs.declared.width.Width.TheVariants.{Bits8, Bits16, Bits32}
 use Rattle.jos_alu.specs.declared.shifts.Shift.TheVariants.{Rol, Ror}
 use Rattle.jos_alu.specs.declared.shifts.Shifting.{Shifting}
 use Rattle.jos_alu.specs.Flags.{modulus, is_negative}
@@ -14,20 +14,20 @@ use Rattle.jos_alu.proofs.Rotations.{bounded, rotates_back}
 -- ---- the bit that came in
 
 low_bit : (width : Width) (low : Bool) (v : ℕ) → low ≡ is_odd (up width low v)
-low_bit Byte true v = grind (arith, nat_tests)
-low_bit Byte false v = grind (arith, nat_tests)
-low_bit Pair true v = grind (arith, nat_tests)
-low_bit Pair false v = grind (arith, nat_tests)
-low_bit Word true v = grind (arith, nat_tests)
-low_bit Word false v = grind (arith, nat_tests)
+low_bit Bits8 true v = grind (arith, nat_tests)
+low_bit Bits8 false v = grind (arith, nat_tests)
+low_bit Bits16 true v = grind (arith, nat_tests)
+low_bit Bits16 false v = grind (arith, nat_tests)
+low_bit Bits32 true v = grind (arith, nat_tests)
+low_bit Bits32 false v = grind (arith, nat_tests)
 
 top_bit : (width : Width) (high : Bool) (v : ℕ) → v < modulus width → high ≡ is_negative width (down width high v)
-top_bit Byte true v small = grind (arith, nat_tests)
-top_bit Byte false v small = grind (arith, nat_tests)
-top_bit Pair true v small = grind (arith, nat_tests)
-top_bit Pair false v small = grind (arith, nat_tests)
-top_bit Word true v small = grind (arith, nat_tests)
-top_bit Word false v small = grind (arith, nat_tests)
+top_bit Bits8 true v small = grind (arith, nat_tests)
+top_bit Bits8 false v small = grind (arith, nat_tests)
+top_bit Bits16 true v small = grind (arith, nat_tests)
+top_bit Bits16 false v small = grind (arith, nat_tests)
+top_bit Bits32 true v small = grind (arith, nat_tests)
+top_bit Bits32 false v small = grind (arith, nat_tests)
 
 -- ---- ROL
 
@@ -79,9 +79,9 @@ carry_after_right width (suc n) s some small =
     ap (λ t. t.carry) e ∙ carry_right width (shift_times Ror width n s) (bounded width n s small) ∙ sym (ap (λ t. is_negative width t.value) e)
 
 turns_in_32 : (width : Width) → (turns : ℕ) × (turns * bits_in width + 0 ≡ 32)
-turns_in_32 Byte = (4, refl)
-turns_in_32 Pair = (2, refl)
-turns_in_32 Word = (1, refl)
+turns_in_32 Bits8 = (4, refl)
+turns_in_32 Bits16 = (2, refl)
+turns_in_32 Bits32 = (1, refl)
 
 -- The places up that are left of 32 do what the places down do, since all 32 do nothing.
 value_right : (width : Width) (n : ℕ) (s : Shifting) → n < 32 → s.value < modulus width →

@@ -1,27 +1,33 @@
 -- The status flags of sums, differences and results of logic at a width, and the conditions on them.
 -- (Intel 80386 Programmer's Reference Manual, 1986, section 2.3.4.1, and appendices C and D.)
-use Rattle.std.specs.Prelude.{ℕ, ◌+◌, ◌-◌, ◌/◌, ◌%◌, ◌^◌, ◌==◌, ◌&&◌, ◌||◌, nat_lt, nat_le, not, Bool, false, bit_and, bit_or, bit_xor, if◌then◌else◌}
+use Rattle.std.specs.Prelude.{ℕ, ◌+◌, ◌-◌, ◌%◌, ◌^◌, ◌==◌, ◌&&◌, ◌||◌, nat_lt, nat_le, not, Bool, false, bit_and}
+use Rattle.std.specs.Prelude.{bit_or, bit_xor, if◌then◌else◌}
 use Rattle.std.specs.Int.RustNames.{count_ones}
 use Rattle.std.proofs.Math.Bool.{beq}
+use Rattle.jos_base.specs.declared.numbers.TheConstants.{FL_CF, FL_PF, FL_AF, FL_ZF, FL_SF, FL_OF}
 use Rattle.jos_alu.specs.declared.width.Width.{Width}
-use Rattle.jos_alu.specs.declared.width.Width.TheVariants.{Byte, Pair, Word}
+use Rattle.jos_alu.specs.declared.width.Width.TheVariants.{Bits8, Bits16, Bits32}
+use Rattle.jos_alu.specs.declared.operation.Operation.{Operation}
+use Rattle.jos_alu.specs.declared.operation.Operation.TheVariants.{Add, Or, Adc, Sbb, And, Sub, Xor, Cmp}
+use Rattle.jos_alu.specs.declared.condition.Condition.{Condition}
+use Rattle.jos_alu.specs.declared.condition.Condition.TheVariants as condition
 use Rattle.jos_alu.specs.declared.flags.StatusFlags.{StatusFlags}
 use Rattle.jos_alu.specs.declared.flags.Computed.{Computed}
 
 -- how many numbers there are of a width
 abbrev pub modulus : Width → ℕ
-modulus Byte = 256
-modulus Pair = 65536
-modulus Word = 2 ^ 32
+modulus Bits8 = 256
+modulus Bits16 = 65536
+modulus Bits32 = 2 ^ 32
 
--- the least number of a width that is negative in two's complement
-abbrev pub half : Width → ℕ
-half Byte = 128
-half Pair = 32768
-half Word = 2 ^ 31
+-- the top bit of a width, which negative numbers have in two's complement
+abbrev pub sign_bit : Width → ℕ
+sign_bit Bits8 = 128
+sign_bit Bits16 = 32768
+sign_bit Bits32 = 2 ^ 31
 
 abbrev pub is_negative : Width → ℕ → Bool
-is_negative width n = nat_le (half width) (n % modulus width)
+is_negative width n = nat_le (sign_bit width) (n % modulus width)
 
 -- 1 for true
 abbrev pub bit_of : Bool → ℕ
@@ -35,22 +41,22 @@ flag set place = if set then place else 0
 abbrev pub is_set : ℕ → ℕ → Bool
 is_set eflags place = not (bit_and eflags place == 0)
 
--- CF 0x001, PF 0x004, AF 0x010, ZF 0x040, SF 0x080 and OF 0x800
-unfoldable pub status_of : ℕ → StatusFlags
-status_of eflags = record {
-  carry = is_set eflags 0x001;
-  parity = is_set eflags 0x004;
-  auxiliary = is_set eflags 0x010;
-  zero = is_set eflags 0x040;
-  sign = is_set eflags 0x080;
-  overflow = is_set eflags 0x800;
+-- the six flags that arithmetic sets
+unfoldable pub status_flags_of : ℕ → StatusFlags
+status_flags_of eflags = record {
+  carry = is_set eflags FL_CF;
+  parity = is_set eflags FL_PF;
+  auxiliary = is_set eflags FL_AF;
+  zero = is_set eflags FL_ZF;
+  sign = is_set eflags FL_SF;
+  overflow = is_set eflags FL_OF;
 }
 
 -- EFLAGS with these six flags, and all else as it was
 unfoldable pub with_status : ℕ → StatusFlags → ℕ
 with_status eflags f =
     bit_or (bit_or (bit_or (bit_or (bit_or (bit_or (bit_and eflags 0xffff_f72a)
-    (flag f.carry 0x001)) (flag f.parity 0x004)) (flag f.auxiliary 0x010)) (flag f.zero 0x040)) (flag f.sign 0x080)) (flag f.overflow 0x800)
+    (flag f.carry FL_CF)) (flag f.parity FL_PF)) (flag f.auxiliary FL_AF)) (flag f.zero FL_ZF)) (flag f.sign FL_SF)) (flag f.overflow FL_OF)
 
 -- ---- sums, differences and logic
 
@@ -88,10 +94,10 @@ flags_of_difference width a b borrow =
 
 -- Logic clears CF and OF, and keeps AF.
 unfoldable pub flags_of_logic : Width → ℕ → ℕ → StatusFlags
-flags_of_logic width result eflags = flags_of_result width result false (is_set eflags 0x010) false
+flags_of_logic width result eflags = flags_of_result width result false (is_set eflags FL_AF) false
 
 abbrev pub keeping_carry : ℕ → StatusFlags → StatusFlags
-keeping_carry eflags f = record f { carry = is_set eflags 0x001 }
+keeping_carry eflags f = record f { carry = is_set eflags FL_CF }
 
 -- ---- what an operation gives: a number and EFLAGS
 
@@ -114,31 +120,38 @@ abbrev pub decreased : Width → ℕ → ℕ → ℕ → Computed
 decreased width a b eflags =
     record { value = difference_of width a b 0; eflags = with_status eflags (keeping_carry eflags (flags_of_difference width a b 0)) }
 
--- ADC adds CF too, and SBB takes CF away.
-unfoldable pub alu : ℕ → Width → ℕ → ℕ → ℕ → Computed
-alu k width a b eflags =
-    if k == 0 then added width a b 0 eflags
-    else if k == 1 then combined width (bit_or a b) eflags
-    else if k == 2 then added width a b (bit_of (is_set eflags 0x001)) eflags
-    else if k == 3 then subtracted width a b (bit_of (is_set eflags 0x001)) eflags
-    else if k == 4 then combined width (bit_and a b) eflags
-    else if k == 6 then combined width (bit_xor a b) eflags
-    else subtracted width a b 0 eflags
+-- ADC adds CF too, and SBB takes CF away. CMP is SUB; that its difference is dropped is said where it is used.
+unfoldable pub operated : Operation → Width → ℕ → ℕ → ℕ → Computed
+operated Add width a b eflags = added width a b 0 eflags
+operated Or width a b eflags = combined width (bit_or a b) eflags
+operated Adc width a b eflags = added width a b (bit_of (is_set eflags FL_CF)) eflags
+operated Sbb width a b eflags = subtracted width a b (bit_of (is_set eflags FL_CF)) eflags
+operated And width a b eflags = combined width (bit_and a b) eflags
+operated Sub width a b eflags = subtracted width a b 0 eflags
+operated Xor width a b eflags = combined width (bit_xor a b) eflags
+operated Cmp width a b eflags = subtracted width a b 0 eflags
 
 -- ---- conditions
 
--- 0 overflow, 2 below, 4 equal, 6 below or equal, 8 negative, 10 even parity, 12 less, 14 less or equal
-abbrev pub even_condition : ℕ → ℕ → Bool
-even_condition eflags half =
-    if half == 0 then is_set eflags 0x800
-    else if half == 1 then is_set eflags 0x001
-    else if half == 2 then is_set eflags 0x040
-    else if half == 3 then is_set eflags 0x001 || is_set eflags 0x040
-    else if half == 4 then is_set eflags 0x080
-    else if half == 5 then is_set eflags 0x004
-    else if half == 6 then not (beq (is_set eflags 0x080) (is_set eflags 0x800))
-    else is_set eflags 0x040 || not (beq (is_set eflags 0x080) (is_set eflags 0x800))
+-- SF is not OF: the signed difference that CMP leaves is negative
+abbrev pub is_less : ℕ → Bool
+is_less eflags = not (beq (is_set eflags FL_SF) (is_set eflags FL_OF))
 
--- An odd condition is the negation of the even one before it.
-unfoldable pub condition_holds : ℕ → ℕ → Bool
-condition_holds eflags condition = not (beq (even_condition eflags (condition / 2)) (condition % 2 == 1))
+-- whether the flags are such that a jump with this condition is taken
+unfoldable pub condition_holds : ℕ → Condition → Bool
+condition_holds eflags condition.Overflow = is_set eflags FL_OF
+condition_holds eflags condition.NotOverflow = not (is_set eflags FL_OF)
+condition_holds eflags condition.Below = is_set eflags FL_CF
+condition_holds eflags condition.AboveOrEqual = not (is_set eflags FL_CF)
+condition_holds eflags condition.Equal = is_set eflags FL_ZF
+condition_holds eflags condition.NotEqual = not (is_set eflags FL_ZF)
+condition_holds eflags condition.BelowOrEqual = is_set eflags FL_CF || is_set eflags FL_ZF
+condition_holds eflags condition.Above = not (is_set eflags FL_CF || is_set eflags FL_ZF)
+condition_holds eflags condition.Sign = is_set eflags FL_SF
+condition_holds eflags condition.NotSign = not (is_set eflags FL_SF)
+condition_holds eflags condition.ParityEven = is_set eflags FL_PF
+condition_holds eflags condition.ParityOdd = not (is_set eflags FL_PF)
+condition_holds eflags condition.Less = is_less eflags
+condition_holds eflags condition.GreaterOrEqual = not (is_less eflags)
+condition_holds eflags condition.LessOrEqual = is_set eflags FL_ZF || is_less eflags
+condition_holds eflags condition.Greater = not (is_set eflags FL_ZF || is_less eflags)

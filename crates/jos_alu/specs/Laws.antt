@@ -1,8 +1,10 @@
 -- What the definitions mean in numbers: shifts are products and quotients, rotations undo each other, a quotient
 -- with its remainder is the dividend, and the conditions after CMP compare.
-use Rattle.std.specs.Prelude.{◌≡◌, ℕ, ◌+◌, ◌*◌, ◌/◌, ◌%◌, ◌^◌, ◌<◌, ◌==◌, nat_lt, nat_le, true, ℤ, pos, negsuc, unsigned_abs, not, ◌+ℤ◌, ◌-ℤ◌, ◌*ℤ◌, int_lt, int_le, IfSome}
+use Rattle.std.specs.Prelude.{◌≡◌, ℕ, ◌+◌, ◌*◌, ◌/◌, ◌%◌, ◌^◌, ◌<◌, ◌==◌, nat_lt, nat_le, true, ℤ, pos, negsuc}
+use Rattle.std.specs.Prelude.{unsigned_abs, not, ◌+ℤ◌, ◌-ℤ◌, ◌*ℤ◌, int_lt, int_le, IfSome}
 use Rattle.std.specs.Int.{int_div_euclid}
 use Rattle.jos_alu.specs.declared.width.Width.{Width}
+use Rattle.jos_alu.specs.declared.condition.Condition.TheVariants as condition
 use Rattle.jos_alu.specs.declared.shifts.Shift.TheVariants.{Rol, Ror, Shl, Shr, Sar}
 use Rattle.jos_alu.specs.declared.products.Halves.{Halves}
 use Rattle.jos_alu.specs.declared.shifts.Shifting.{Shifting}
@@ -52,11 +54,11 @@ DividesSigned = (width : Width) (n d : ℤ) → IfSome (signed_quotient width n 
 -- The conditions after CMP are the comparisons of the two numbers: below, equal and below or equal of the numbers
 -- themselves, and less and less or equal of the signed ones.
 pub record Compares (width : Width) (a b : ℕ) (eflags : ℕ) : Type 0 where
-  pub below : condition_holds eflags 2 ≡ nat_lt a b
-  pub equal : condition_holds eflags 4 ≡ (a == b)
-  pub below_or_equal : condition_holds eflags 6 ≡ nat_le a b
-  pub less : condition_holds eflags 12 ≡ int_lt (signed_of width a) (signed_of width b)
-  pub less_or_equal : condition_holds eflags 14 ≡ int_le (signed_of width a) (signed_of width b)
+  pub below : condition_holds eflags condition.Below ≡ nat_lt a b
+  pub equal : condition_holds eflags condition.Equal ≡ (a == b)
+  pub below_or_equal : condition_holds eflags condition.BelowOrEqual ≡ nat_le a b
+  pub less : condition_holds eflags condition.Less ≡ int_lt (signed_of width a) (signed_of width b)
+  pub less_or_equal : condition_holds eflags condition.LessOrEqual ≡ int_le (signed_of width a) (signed_of width b)
 
 abbrev pub ComparesNumbers : Type 0
 ComparesNumbers = (width : Width) (a b eflags : ℕ) → a < modulus width → b < modulus width →

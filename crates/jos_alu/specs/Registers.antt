@@ -4,7 +4,7 @@
 use Rattle.std.specs.Prelude.{ℕ, ◌+◌, ◌*◌, ◌-◌, ◌/◌, ◌%◌, ◌^◌, ◌==◌, nat_lt, if◌then◌else◌}
 use Rattle.jos_base.specs.declared.registers.Regs.{Regs}
 use Rattle.jos_alu.specs.declared.width.Width.{Width}
-use Rattle.jos_alu.specs.declared.width.Width.TheVariants.{Byte, Pair, Word}
+use Rattle.jos_alu.specs.declared.width.Width.TheVariants.{Bits8, Bits16, Bits32}
 
 unfoldable pub register : Regs → ℕ → ℕ
 register regs n =
@@ -28,8 +28,8 @@ with_low_byte word value = word / 256 * 256 + value % 256
 abbrev pub with_second_byte : ℕ → ℕ → ℕ
 with_second_byte word value = word / 65536 * 65536 + value % 256 * 256 + word % 256
 
-abbrev pub with_low_pair : ℕ → ℕ → ℕ
-with_low_pair word value = word / 65536 * 65536 + value % 65536
+abbrev pub with_low_half : ℕ → ℕ → ℕ
+with_low_half word value = word / 65536 * 65536 + value % 65536
 
 abbrev pub with_byte_register : Regs → ℕ → ℕ → Regs
 with_byte_register regs n value =
@@ -38,15 +38,15 @@ with_byte_register regs n value =
 
 -- the register of a width
 unfoldable pub register_at : Width → Regs → ℕ → ℕ
-register_at Byte regs n = byte_register regs n
-register_at Pair regs n = register regs n % 65536
-register_at Word regs n = register regs n
+register_at Bits8 regs n = byte_register regs n
+register_at Bits16 regs n = register regs n % 65536
+register_at Bits32 regs n = register regs n
 
 unfoldable pub with_register_at : Width → Regs → ℕ → ℕ → Regs
-with_register_at Byte regs n value = with_byte_register regs n value
-with_register_at Pair regs n value = with_register regs n (with_low_pair (register regs n) value)
-with_register_at Word regs n value = with_register regs n value
+with_register_at Bits8 regs n value = with_byte_register regs n value
+with_register_at Bits16 regs n value = with_register regs n (with_low_half (register regs n) value)
+with_register_at Bits32 regs n value = with_register regs n value
 
 -- the registers at an instruction a distance further on
-abbrev pub moved : Regs → ℕ → Regs
-moved regs distance = record regs { eip = (regs.eip + distance) % 2 ^ 32 }
+abbrev pub advanced : Regs → ℕ → Regs
+advanced regs distance = record regs { eip = (regs.eip + distance) % 2 ^ 32 }

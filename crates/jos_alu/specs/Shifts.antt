@@ -9,7 +9,7 @@ use Rattle.jos_alu.specs.declared.shifts.Shift.TheVariants.{Rol, Ror, Shl, Shr, 
 use Rattle.jos_alu.specs.declared.flags.StatusFlags.{StatusFlags}
 use Rattle.jos_alu.specs.declared.flags.Computed.{Computed}
 use Rattle.jos_alu.specs.declared.shifts.Shifting.{Shifting}
-use Rattle.jos_alu.specs.Flags.{modulus, half, is_negative, bit_of, status_of, with_status, flags_of_result}
+use Rattle.jos_alu.specs.Flags.{modulus, sign_bit, is_negative, bit_of, status_flags_of, with_status, flags_of_result}
 
 abbrev pub is_odd : ℕ → Bool
 is_odd n = n % 2 == 1
@@ -20,7 +20,7 @@ up width low n = (n * 2 + bit_of low) % modulus width
 
 -- one place down, with this bit at the top
 abbrev pub down : Width → Bool → ℕ → ℕ
-down width high n = n / 2 + (if high then half width else 0)
+down width high n = n / 2 + (if high then sign_bit width else 0)
 
 -- By one place: the value, for SHLD and SHRD the register whose bits come in, and in CF the bit that goes out.
 unfoldable pub shift_once : Shift → Width → Shifting → Shifting
@@ -40,7 +40,7 @@ shift_times shift width (suc n) s = shift_times shift width n (shift_once shift 
 
 -- the bit below the top
 abbrev pub second_top : Width → ℕ → Bool
-second_top width n = nat_le (half width / 2) (n % half width)
+second_top width n = nat_le (sign_bit width / 2) (n % sign_bit width)
 
 -- OF of a shift by one place, from the old value, the result and CF
 abbrev pub shift_overflow : Shift → Width → ℕ → ℕ → Bool → Bool → Bool
@@ -72,7 +72,7 @@ shift_flags Shrd width old s count f = flags_of_result width s.value s.carry f.a
 
 abbrev pub shift_result : Shift → Width → ℕ → Shifting → ℕ → ℕ → Computed
 shift_result shift width old s count eflags =
-    record { value = s.value; eflags = with_status eflags (shift_flags shift width old s count (status_of eflags)) }
+    record { value = s.value; eflags = with_status eflags (shift_flags shift width old s count (status_flags_of eflags)) }
 
 abbrev pub shift_start : ℕ → ℕ → Shifting
 shift_start value other = record { value = value; other = other; carry = false }

@@ -1,21 +1,16 @@
 //! Sums, differences and logic at a width, the status flags of the processor, and the conditions on them.
 
 ghost use Rattle.std.specs.Prelude.{◌≡◌, ◌+◌, ◌%◌, ◌==◌, nat_le};
-ghost use Rattle.jos_alu.specs.Flags.{modulus, half, is_negative, bit_of, flag, is_set, status_of, with_status, flags_of_result, sum_of, flags_of_sum, difference_of, flags_of_difference, flags_of_logic, keeping_carry, added, subtracted, combined, increased, decreased, alu, even_condition, condition_holds};
+ghost use Rattle.jos_alu.specs.Flags.{modulus, sign_bit, is_negative, bit_of, flag, is_set, status_flags_of};
+ghost use Rattle.jos_alu.specs.Flags.{with_status};
+ghost use Rattle.jos_alu.specs.Flags.{flags_of_result, sum_of, flags_of_sum, difference_of, flags_of_difference};
+ghost use Rattle.jos_alu.specs.Flags.{flags_of_logic, keeping_carry, added, subtracted, combined, increased};
+ghost use Rattle.jos_alu.specs.Flags.{decreased, operated, is_less, condition_holds};
 
+use crate::condition::Condition;
+use crate::operation::Operation;
 use crate::width::Width;
-
-pub const CARRY: u32 = 0x001;
-
-const PARITY: u32 = 0x004;
-
-const AUXILIARY: u32 = 0x010;
-
-const ZERO: u32 = 0x040;
-
-const SIGN: u32 = 0x080;
-
-const OVERFLOW: u32 = 0x800;
+use jos_base::{FL_AF, FL_CF, FL_OF, FL_PF, FL_SF, FL_ZF};
 
 /// The bits of EFLAGS beside these six.
 const OTHERS: u32 = 0xffff_f72a;
@@ -44,95 +39,100 @@ pub fn lowest(width: Width, n: u64) -> u32
     ensures { result ≡ n % modulus width }
 {
     match width {
-        Width::Byte => (n % 256) as u32,
-        Width::Pair => (n % 65536) as u32,
-        Width::Word => (n % (1 << 32)) as u32,
+        Width::Bits8 => (n % 256) as u32,
+        Width::Bits16 => (n % 65536) as u32,
+        Width::Bits32 => (n % (1 << 32)) as u32,
     }
 }
 
 /// How many numbers there are of a width.
 #[inline(always)]
-pub(crate) fn modulus_of(width: Width) -> u64
+pub(crate) fn modulus(width: Width) -> u64
     ensures { result ≡ modulus width }
 {
     match width {
-        Width::Byte => 256,
-        Width::Pair => 65536,
-        Width::Word => 1 << 32,
+        Width::Bits8 => 256,
+        Width::Bits16 => 65536,
+        Width::Bits32 => 1 << 32,
     }
 }
 
-/// The least negative number of a width.
+/// The top bit of a width, which negative numbers have.
 #[inline(always)]
-pub(crate) fn half_of(width: Width) -> u32
-    ensures { result ≡ half width }
+pub(crate) fn sign_bit(width: Width) -> u32
+    ensures { result ≡ sign_bit width }
 {
     match width {
-        Width::Byte => 128,
-        Width::Pair => 32768,
-        Width::Word => 0x8000_0000,
+        Width::Bits8 => 128,
+        Width::Bits16 => 32768,
+        Width::Bits32 => 0x8000_0000,
     }
 }
 
+/// Whether the top bit of the width is set.
 #[inline(always)]
-pub fn has_sign(width: Width, n: u32) -> bool
+pub fn is_negative(width: Width, n: u32) -> bool
     ensures { result ≡ is_negative width n }
 {
-    lowest(width, n as u64) >= half_of(width)
+    lowest(width, n as u64) >= sign_bit(width)
 }
 
 #[inline(always)]
-pub fn bit(set: bool) -> u32
+pub fn bit_of(set: bool) -> u32
     ensures { result ≡ bit_of set }
 {
     if set { 1 } else { 0 }
 }
 
+/// The bit of a flag, where it is set.
 #[inline(always)]
-fn flag_at(set: bool, place: u32) -> u32
+fn flag(set: bool, place: u32) -> u32
     ensures { result ≡ flag set place }
 {
     if set { place } else { 0 }
 }
 
+/// Whether a flag is set in EFLAGS.
 #[inline(always)]
-pub fn has(eflags: u32, place: u32) -> bool
-    ensures { result ≡ is_set eflags place }
+pub fn is_set(eflags: u32, flag: u32) -> bool
+    ensures { result ≡ is_set eflags flag }
 {
-    eflags & place != 0
+    eflags & flag != 0
 }
 
-#[tactic(auto, unfolding(crate::specs::Flags::status_of))]
-pub(crate) fn status_in(eflags: u32) -> StatusFlags
-    ensures { result ≡ status_of eflags }
+/// The six status flags of EFLAGS.
+#[tactic(auto, unfolding(crate::specs::Flags::status_flags_of))]
+pub(crate) fn status_flags_of(eflags: u32) -> StatusFlags
+    ensures { result ≡ status_flags_of eflags }
 {
     StatusFlags {
-        carry: has(eflags, CARRY),
-        parity: has(eflags, PARITY),
-        auxiliary: has(eflags, AUXILIARY),
-        zero: has(eflags, ZERO),
-        sign: has(eflags, SIGN),
-        overflow: has(eflags, OVERFLOW),
+        carry: is_set(eflags, FL_CF),
+        parity: is_set(eflags, FL_PF),
+        auxiliary: is_set(eflags, FL_AF),
+        zero: is_set(eflags, FL_ZF),
+        sign: is_set(eflags, FL_SF),
+        overflow: is_set(eflags, FL_OF),
     }
 }
 
 /// EFLAGS with these flags, and all else as it was.
 #[tactic(auto, unfolding(crate::specs::Flags::with_status))]
 #[inline(always)]
-pub(crate) fn put_status(eflags: u32, flags: StatusFlags) -> u32
+pub(crate) fn with_status(eflags: u32, flags: StatusFlags) -> u32
     ensures { result ≡ with_status eflags flags }
 {
     eflags & OTHERS
-        | flag_at(flags.carry, CARRY)
-        | flag_at(flags.parity, PARITY)
-        | flag_at(flags.auxiliary, AUXILIARY)
-        | flag_at(flags.zero, ZERO)
-        | flag_at(flags.sign, SIGN)
-        | flag_at(flags.overflow, OVERFLOW)
+        | flag(flags.carry, FL_CF)
+        | flag(flags.parity, FL_PF)
+        | flag(flags.auxiliary, FL_AF)
+        | flag(flags.zero, FL_ZF)
+        | flag(flags.sign, FL_SF)
+        | flag(flags.overflow, FL_OF)
 }
 
+/// SF, ZF and PF by the result, and the others as they are given.
 #[inline(always)]
-pub(crate) fn result_flags(
+pub(crate) fn flags_of_result(
     width: Width,
     result_word: u32,
     carry: bool,
@@ -146,159 +146,180 @@ pub(crate) fn result_flags(
         parity: (result_word % 256).count_ones() % 2 == 0,
         auxiliary,
         zero: result_word == 0,
-        sign: has_sign(width, result_word),
+        sign: is_negative(width, result_word),
         overflow,
     }
 }
 
+/// The sum, modulo the width.
 #[inline(always)]
-fn sum(width: Width, a: u32, b: u32, carry: u32) -> u32
+fn sum_of(width: Width, a: u32, b: u32, carry: u32) -> u32
     ensures { result ≡ sum_of width a b carry }
 {
     lowest(width, a as u64 + b as u64 + carry as u64)
 }
 
+/// AF is the carry out of the low four bits.
 #[tactic(auto, unfolding(crate::specs::Flags::flags_of_sum))]
 #[inline(always)]
-fn sum_flags(width: Width, a: u32, b: u32, carry: u32) -> StatusFlags
+fn flags_of_sum(width: Width, a: u32, b: u32, carry: u32) -> StatusFlags
     ensures { result ≡ flags_of_sum width a b carry }
 {
-    let result_word = sum(width, a, b, carry);
-    let carried = a as u64 + b as u64 + carry as u64 >= modulus_of(width);
+    let result_word = sum_of(width, a, b, carry);
+    let carried = a as u64 + b as u64 + carry as u64 >= modulus(width);
     let auxiliary = (a % 16 + b % 16) as u64 + carry as u64 >= 16;
-    let overflow = has_sign(width, a) == has_sign(width, b)
-        && has_sign(width, a) != has_sign(width, result_word);
-    result_flags(width, result_word, carried, auxiliary, overflow)
+    let overflow = is_negative(width, a) == is_negative(width, b)
+        && is_negative(width, a) != is_negative(width, result_word);
+    flags_of_result(width, result_word, carried, auxiliary, overflow)
 }
 
+/// The difference, modulo the width.
 #[inline(always)]
-fn difference(width: Width, a: u32, b: u32, borrow: u32) -> u32
+fn difference_of(width: Width, a: u32, b: u32, borrow: u32) -> u32
     ensures { result ≡ difference_of width a b borrow }
 {
     lowest(width, a as u64 + (1 << 33) - (b as u64 + borrow as u64))
 }
 
+/// CF and AF are borrows.
 #[tactic(auto, unfolding(crate::specs::Flags::flags_of_difference))]
 #[inline(always)]
-fn difference_flags(width: Width, a: u32, b: u32, borrow: u32) -> StatusFlags
+fn flags_of_difference(width: Width, a: u32, b: u32, borrow: u32) -> StatusFlags
     ensures { result ≡ flags_of_difference width a b borrow }
 {
-    let result_word = difference(width, a, b, borrow);
+    let result_word = difference_of(width, a, b, borrow);
     let borrowed = (a as u64) < b as u64 + borrow as u64;
     let auxiliary = ((a % 16) as u64) < (b % 16) as u64 + borrow as u64;
-    let overflow = has_sign(width, a) != has_sign(width, b)
-        && has_sign(width, a) != has_sign(width, result_word);
-    result_flags(width, result_word, borrowed, auxiliary, overflow)
+    let overflow = is_negative(width, a) != is_negative(width, b)
+        && is_negative(width, a) != is_negative(width, result_word);
+    flags_of_result(width, result_word, borrowed, auxiliary, overflow)
 }
 
+/// CF and OF are cleared, and AF is kept.
 #[tactic(auto, unfolding(crate::specs::Flags::flags_of_logic))]
 #[inline(always)]
-fn logic_flags(width: Width, result_word: u32, eflags: u32) -> StatusFlags
+fn flags_of_logic(width: Width, result_word: u32, eflags: u32) -> StatusFlags
     ensures { result ≡ flags_of_logic width result_word eflags }
 {
-    result_flags(width, result_word, false, has(eflags, AUXILIARY), false)
+    flags_of_result(width, result_word, false, is_set(eflags, FL_AF), false)
 }
 
+/// INC and DEC keep CF.
 #[inline(always)]
-fn keep_carry(eflags: u32, flags: StatusFlags) -> StatusFlags
+fn keeping_carry(eflags: u32, flags: StatusFlags) -> StatusFlags
     ensures { result ≡ keeping_carry eflags flags }
 {
     StatusFlags {
-        carry: has(eflags, CARRY),
+        carry: is_set(eflags, FL_CF),
         ..flags
     }
 }
 
+/// ADD, and ADC with its carry.
 #[inline(always)]
 fn add(width: Width, a: u32, b: u32, carry: u32, eflags: u32) -> Computed
     ensures { result ≡ added width a b carry eflags }
 {
     Computed {
-        value: sum(width, a, b, carry),
-        eflags: put_status(eflags, sum_flags(width, a, b, carry)),
+        value: sum_of(width, a, b, carry),
+        eflags: with_status(eflags, flags_of_sum(width, a, b, carry)),
     }
 }
 
+/// SUB and CMP, and SBB with its borrow.
 #[inline(always)]
 pub fn subtract(width: Width, a: u32, b: u32, borrow: u32, eflags: u32) -> Computed
     ensures { result ≡ subtracted width a b borrow eflags }
 {
     Computed {
-        value: difference(width, a, b, borrow),
-        eflags: put_status(eflags, difference_flags(width, a, b, borrow)),
+        value: difference_of(width, a, b, borrow),
+        eflags: with_status(eflags, flags_of_difference(width, a, b, borrow)),
     }
 }
 
+/// AND, OR, XOR and TEST, by their result.
 #[inline(always)]
 pub fn combine(width: Width, value: u32, eflags: u32) -> Computed
     ensures { result ≡ combined width value eflags }
 {
     Computed {
         value,
-        eflags: put_status(eflags, logic_flags(width, value, eflags)),
+        eflags: with_status(eflags, flags_of_logic(width, value, eflags)),
     }
 }
 
+/// INC, where `b` is 1.
 #[inline(always)]
 pub fn increase(width: Width, a: u32, b: u32, eflags: u32) -> Computed
     ensures { result ≡ increased width a b eflags }
 {
-    let flags = keep_carry(eflags, sum_flags(width, a, b, 0));
+    let flags = keeping_carry(eflags, flags_of_sum(width, a, b, 0));
     Computed {
-        value: sum(width, a, b, 0),
-        eflags: put_status(eflags, flags),
+        value: sum_of(width, a, b, 0),
+        eflags: with_status(eflags, flags),
     }
 }
 
+/// DEC, where `b` is 1.
 #[inline(always)]
 pub fn decrease(width: Width, a: u32, b: u32, eflags: u32) -> Computed
     ensures { result ≡ decreased width a b eflags }
 {
-    let flags = keep_carry(eflags, difference_flags(width, a, b, 0));
+    let flags = keeping_carry(eflags, flags_of_difference(width, a, b, 0));
     Computed {
-        value: difference(width, a, b, 0),
-        eflags: put_status(eflags, flags),
+        value: difference_of(width, a, b, 0),
+        eflags: with_status(eflags, flags),
     }
 }
 
-/// An operation by its number: 0 ADD, 1 OR, 2 ADC, 3 SBB, 4 AND, 5 SUB, 6 XOR and 7 CMP.
-#[tactic(auto, unfolding(crate::specs::Flags::alu))]
+/// What an operation makes of two numbers.
+#[tactic(auto, unfolding(crate::specs::Flags::operated))]
 #[inline(always)]
-pub fn operate(k: u8, width: Width, a: u32, b: u32, eflags: u32) -> Computed
-    ensures { result ≡ alu k width a b eflags }
+pub fn operate(operation: Operation, width: Width, a: u32, b: u32, eflags: u32) -> Computed
+    ensures { result ≡ operated operation width a b eflags }
 {
-    match k {
-        0 => add(width, a, b, 0, eflags),
-        1 => combine(width, a | b, eflags),
-        2 => add(width, a, b, bit(has(eflags, CARRY)), eflags),
-        3 => subtract(width, a, b, bit(has(eflags, CARRY)), eflags),
-        4 => combine(width, a & b, eflags),
-        6 => combine(width, a ^ b, eflags),
-        _ => subtract(width, a, b, 0, eflags),
+    match operation {
+        Operation::Add => add(width, a, b, 0, eflags),
+        Operation::Or => combine(width, a | b, eflags),
+        Operation::Adc => add(width, a, b, bit_of(is_set(eflags, FL_CF)), eflags),
+        Operation::Sbb => subtract(width, a, b, bit_of(is_set(eflags, FL_CF)), eflags),
+        Operation::And => combine(width, a & b, eflags),
+        Operation::Sub => subtract(width, a, b, 0, eflags),
+        Operation::Xor => combine(width, a ^ b, eflags),
+        Operation::Cmp => subtract(width, a, b, 0, eflags),
     }
 }
 
+/// Whether SF and OF differ.
 #[inline(always)]
-fn is_even_condition(eflags: u32, half: u8) -> bool
-    ensures { result ≡ even_condition eflags half }
+fn is_less(eflags: u32) -> bool
+    ensures { result ≡ is_less eflags }
 {
-    match half {
-        0 => has(eflags, OVERFLOW),
-        1 => has(eflags, CARRY),
-        2 => has(eflags, ZERO),
-        3 => has(eflags, CARRY) || has(eflags, ZERO),
-        4 => has(eflags, SIGN),
-        5 => has(eflags, PARITY),
-        6 => has(eflags, SIGN) != has(eflags, OVERFLOW),
-        _ => has(eflags, ZERO) || has(eflags, SIGN) != has(eflags, OVERFLOW),
-    }
+    is_set(eflags, FL_SF) != is_set(eflags, FL_OF)
 }
 
-/// Whether a condition, 0 to 15, holds of EFLAGS.
+/// Whether a condition holds of EFLAGS.
 #[tactic(auto, unfolding(crate::specs::Flags::condition_holds))]
 #[inline(always)]
-pub fn is_condition(eflags: u32, condition: u8) -> bool
+pub fn condition_holds(eflags: u32, condition: Condition) -> bool
     ensures { result ≡ condition_holds eflags condition }
 {
-    is_even_condition(eflags, condition / 2) != (condition % 2 == 1)
+    match condition {
+        Condition::Overflow => is_set(eflags, FL_OF),
+        Condition::NotOverflow => !is_set(eflags, FL_OF),
+        Condition::Below => is_set(eflags, FL_CF),
+        Condition::AboveOrEqual => !is_set(eflags, FL_CF),
+        Condition::Equal => is_set(eflags, FL_ZF),
+        Condition::NotEqual => !is_set(eflags, FL_ZF),
+        Condition::BelowOrEqual => is_set(eflags, FL_CF) || is_set(eflags, FL_ZF),
+        Condition::Above => !(is_set(eflags, FL_CF) || is_set(eflags, FL_ZF)),
+        Condition::Sign => is_set(eflags, FL_SF),
+        Condition::NotSign => !is_set(eflags, FL_SF),
+        Condition::ParityEven => is_set(eflags, FL_PF),
+        Condition::ParityOdd => !is_set(eflags, FL_PF),
+        Condition::Less => is_less(eflags),
+        Condition::GreaterOrEqual => !is_less(eflags),
+        Condition::LessOrEqual => is_set(eflags, FL_ZF) || is_less(eflags),
+        Condition::Greater => !(is_set(eflags, FL_ZF) || is_less(eflags)),
+    }
 }

@@ -1,6 +1,7 @@
 //! What the definitions mean in numbers. Nothing here is to be run: each clause is a theorem.
 
-ghost use Rattle.jos_alu.specs.Laws.{ShiftsUp, ShiftsDown, ShiftsSigned, RotatesBack, DividesUnsigned, DividesSigned, ComparesNumbers, OverflowsSigned};
+ghost use Rattle.jos_alu.specs.Laws.{ShiftsUp, ShiftsDown, ShiftsSigned, RotatesBack, DividesUnsigned, DividesSigned};
+ghost use Rattle.jos_alu.specs.Laws.{ComparesNumbers, OverflowsSigned};
 
 /// SHL by n places is a product by 2^n, SHR the quotient, and SAR the quotient of a signed number, rounded down.
 pub fn shifts_are_products()

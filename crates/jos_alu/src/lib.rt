@@ -7,26 +7,30 @@
 //! jos_cpu. Nothing here fails or takes memory.
 #![tactic(auto)]
 
+mod condition;
 mod flags;
 mod laws;
+mod operation;
 mod products;
 mod registers;
 mod shifts;
 mod width;
 
+pub use condition::Condition;
 pub use flags::{
-    CARRY, Computed, bit, combine, decrease, has, has_sign, increase, is_condition, lowest,
+    Computed, bit_of, combine, condition_holds, decrease, increase, is_negative, is_set, lowest,
     operate, subtract,
 };
 pub use laws::{
     conditions_compare, overflow_is_signed, quotients_give_back_the_dividend, rotations_go_back,
     shifts_are_products,
 };
+pub use operation::Operation;
 pub use products::{
-    Halves, Sign, divide, extend, extend_signed, flags_of_product, multiply, product, read_double,
-    set_double, split, too_long,
+    Halves, Sign, double_register, extend, halves_of, is_too_long, multiply, product_flags,
+    product_of, quotient_of, set_halves, sign_extend,
 };
-pub use registers::{advance, read_register, read_register_at, set_register, set_register_at};
+pub use registers::{advance, register, register_at, set_register, set_register_at};
 pub use shifts::{Shift, shift_by};
 pub use width::Width;
 

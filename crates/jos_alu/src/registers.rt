@@ -1,14 +1,16 @@
 //! The registers by number.
 
 ghost use Rattle.std.specs.Prelude.{◌≡◌};
-ghost use Rattle.jos_alu.specs.Registers.{register, with_register, byte_register, with_byte_register, with_low_byte, with_second_byte, with_low_pair, register_at, with_register_at, moved};
+ghost use Rattle.jos_alu.specs.Registers.{register, with_register, byte_register, with_byte_register, with_low_byte};
+ghost use Rattle.jos_alu.specs.Registers.{with_second_byte, with_low_half, register_at, with_register_at, advanced};
 
 use crate::width::Width;
 use jos_base::Regs;
 
+/// The general register of this number, EAX to EDI.
 #[tactic(auto, unfolding(crate::specs::Registers::register))]
 #[inline(always)]
-pub fn read_register(regs: &Regs, n: u8) -> u32
+pub fn register(regs: &Regs, n: u8) -> u32
     ensures { result ≡ register regs.now n }
 {
     match n {
@@ -40,31 +42,33 @@ pub fn set_register(regs: &mut Regs, n: u8, value: u32)
     }
 }
 
+/// AL, CL, DL and BL, and then AH, CH, DH and BH.
 #[inline(always)]
-fn read_byte_register(regs: &Regs, n: u8) -> u32
+fn byte_register(regs: &Regs, n: u8) -> u32
     ensures { result ≡ byte_register regs.now n }
 {
     if n < 4 {
-        read_register(regs, n) % 256
+        register(regs, n) % 256
     } else {
-        read_register(regs, n - 4) / 256 % 256
+        register(regs, n - 4) / 256 % 256
     }
 }
 
-fn put_low_byte(word: u32, value: u32) -> u32
+fn with_low_byte(word: u32, value: u32) -> u32
     ensures { result ≡ with_low_byte word value }
 {
     word / 256 * 256 + value % 256
 }
 
-fn put_second_byte(word: u32, value: u32) -> u32
+/// Bits 15 to 8.
+fn with_second_byte(word: u32, value: u32) -> u32
     ensures { result ≡ with_second_byte word value }
 {
     word / 65536 * 65536 + value % 256 * 256 + word % 256
 }
 
-fn put_low_pair(word: u32, value: u32) -> u32
-    ensures { result ≡ with_low_pair word value }
+fn with_low_half(word: u32, value: u32) -> u32
+    ensures { result ≡ with_low_half word value }
 {
     word / 65536 * 65536 + value % 65536
 }
@@ -73,10 +77,10 @@ fn set_byte_register(regs: &mut Regs, n: u8, value: u32)
     ensures { regs.new ≡ with_byte_register regs.old n value }
 {
     if n < 4 {
-        let word = put_low_byte(read_register(regs, n), value);
+        let word = with_low_byte(register(regs, n), value);
         set_register(regs, n, word);
     } else {
-        let word = put_second_byte(read_register(regs, n - 4), value);
+        let word = with_second_byte(register(regs, n - 4), value);
         set_register(regs, n - 4, word);
     }
 }
@@ -84,13 +88,13 @@ fn set_byte_register(regs: &mut Regs, n: u8, value: u32)
 /// The register of a width.
 #[tactic(auto, unfolding(crate::specs::Registers::register_at))]
 #[inline(always)]
-pub fn read_register_at(width: Width, regs: &Regs, n: u8) -> u32
+pub fn register_at(width: Width, regs: &Regs, n: u8) -> u32
     ensures { result ≡ register_at width regs.now n }
 {
     match width {
-        Width::Byte => read_byte_register(regs, n),
-        Width::Pair => read_register(regs, n) % 65536,
-        Width::Word => read_register(regs, n),
+        Width::Bits8 => byte_register(regs, n),
+        Width::Bits16 => register(regs, n) % 65536,
+        Width::Bits32 => register(regs, n),
     }
 }
 
@@ -100,19 +104,19 @@ pub fn set_register_at(width: Width, regs: &mut Regs, n: u8, value: u32)
     ensures { regs.new ≡ with_register_at width regs.old n value }
 {
     match width {
-        Width::Byte => set_byte_register(regs, n, value),
-        Width::Pair => {
-            let word = put_low_pair(read_register(regs, n), value);
+        Width::Bits8 => set_byte_register(regs, n, value),
+        Width::Bits16 => {
+            let word = with_low_half(register(regs, n), value);
             set_register(regs, n, word);
         }
-        Width::Word => set_register(regs, n, value),
+        Width::Bits32 => set_register(regs, n, value),
     }
 }
 
 /// Moves EIP by a distance.
 #[inline(always)]
 pub fn advance(regs: &mut Regs, distance: u32)
-    ensures { regs.new ≡ moved regs.old distance }
+    ensures { regs.new ≡ advanced regs.old distance }
 {
     regs.eip = regs.eip.wrapping_add(distance);
 }

@@ -1,12 +1,9 @@
 //! Widths of operands.
 
-/// How wide an operand is.
+/// How many bits an operand has.
 #[derive(Clone, Copy, Debug, PartialEq, Eq)]
 pub enum Width {
-    /// 8 bits.
-    Byte,
-    /// 16 bits.
-    Pair,
-    /// 32 bits.
-    Word,
+    Bits8,
+    Bits16,
+    Bits32,
 }

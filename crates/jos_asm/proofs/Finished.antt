@@ -1,13 +1,16 @@
 -- What the passes over the items say together.
-use Rattle.std.proofs.Common.{◌≡◌, ℕ, All, length, ◌≤◌, ◌<◌, List, [], Option, Some, None, Result, Ok, Err, ap, ◌∙◌, sym, cond}
+use Rattle.std.proofs.Common.{◌≡◌, ℕ, All, length, ◌≤◌, ◌<◌, List, [], Option, Some, None, Result, Ok, Err, ap, ◌∙◌}
+use Rattle.std.proofs.Common.{sym, cond}
 use Rattle.std.specs.Prelude.{IsTrue, IsOkAnd}
 use Rattle.std.specs.Option.{option_map}
 use Rattle.std.proofs.lemmas.Bool.{lt-ltb, le-ltb}
+use Rattle.jos_asm.specs.declared.limits.TheConstants.{CODE_MAX}
 use Rattle.jos_asm.specs.declared.fault.AsmFault.{AsmFault}
 use Rattle.jos_asm.specs.declared.fault.AsmFault.TheVariants.{TooLong, Twice, Unknown, Far, NoMemory}
 use Rattle.jos_asm.specs.declared.item.Item.{Item}
 use Rattle.jos_asm.specs.Items.{is_item}
-use Rattle.jos_asm.specs.Program.{Program, length_of_all, place_in, known_place, first_twice, first_unknown, first_far, spelled_from, unless, finished}
+use Rattle.jos_asm.specs.Program.{Program, length_of_all, place_in, known_place, first_twice, first_unknown}
+use Rattle.jos_asm.specs.Program.{first_far, spelled_from, unless, finished}
 use Rattle.jos_asm.specs.Calls.{IsFault, fault_in}
 use Rattle.jos_asm.specs.Laid.{AreLaid}
 use Rattle.jos_asm.proofs.Laid.{all_laid}
@@ -36,17 +39,17 @@ module _ (p : Program) where
   abbrev twice_answer : Result (List ℕ) AsmFault
   twice_answer = unless Twice (first_twice [] p.items) unknown_answer
 
-  too_long : 1048576 < length_of_all p.items → finished p ≡ Err TooLong
+  too_long : CODE_MAX < length_of_all p.items → finished p ≡ Err TooLong
   unfolding finished
-  too_long over = ap (λ b. cond b (Err TooLong) twice_answer) (lt-ltb 1048576 (length_of_all p.items) over)
+  too_long over = ap (λ b. cond b (Err TooLong) twice_answer) (lt-ltb CODE_MAX (length_of_all p.items) over)
 
-  pub is_long : (fault : AsmFault) → fault ≡ TooLong → 1048576 < length_of_all p.items → IsFault fault (fault_in (finished p))
+  pub is_long : (fault : AsmFault) → fault ≡ TooLong → CODE_MAX < length_of_all p.items → IsFault fault (fault_in (finished p))
   is_long fault is over = told p fault (rw is (too_long over))
 
-  module _ (small : length_of_all p.items ≤ 1048576) where
+  module _ (small : length_of_all p.items ≤ CODE_MAX) where
     short : finished p ≡ twice_answer
     unfolding finished
-    short = ap (λ b. cond b (Err TooLong) twice_answer) (le-ltb 1048576 (length_of_all p.items) small)
+    short = ap (λ b. cond b (Err TooLong) twice_answer) (le-ltb CODE_MAX (length_of_all p.items) small)
 
     pub is_twice : (fault : AsmFault) → option_map Twice (first_twice [] p.items) ≡ Some fault → IsFault fault (fault_in (finished p))
     is_twice fault h = told p fault (short ∙ fault_unless Twice (first_twice [] p.items) unknown_answer fault h)
@@ -84,7 +87,7 @@ module _ (p : Program) where
               pub is_laid : AreLaid p code
               is_laid = all_laid p code are small once named is
 
-              pub code_small : length code ≤ 1048576
+              pub code_small : length code ≤ CODE_MAX
               code_small = rw (is, len_is) small
 
 abbrev pub program : ℕ → List Item → Program

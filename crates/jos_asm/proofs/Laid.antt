@@ -1,5 +1,7 @@
 -- The spelled list has each item's bytes at its place, and its labels where they are said to be.
-use Rattle.std.proofs.Common.{◌≡◌, ℕ, zero, suc, ◌+◌, ◌-◌, ◌%◌, ◌^◌, ◌≤◌, All, Bool, true, false, List, [], ◌∷◌, ◌++◌, length, take, drop, Option, Some, None, refl, sym, ap, ◌∙◌, cond, arith, append_assoc, length-append}
+use Rattle.std.proofs.Common.{◌≡◌, ℕ, zero, suc, ◌+◌, ◌-◌, ◌*◌, ◌%◌, ◌^◌, ◌≤◌, All, Bool, true, false, List, [], ◌∷◌}
+use Rattle.std.proofs.Common.{◌++◌, length, take, drop, Option, Some, None, refl, sym, ap, ◌∙◌, cond, arith}
+use Rattle.std.proofs.Common.{append_assoc, length-append}
 use Rattle.std.specs.Prelude.{is_some, nat_le, not, unwrap_or, ◌||◌, IsTrue}
 use Rattle.std.specs.List.{list_any}
 use Rattle.std.specs.Str.{bytes_eq}
@@ -7,18 +9,20 @@ use Rattle.std.proofs.Math.Seq.{take-append_seam}
 use Rattle.std.proofs.lemmas.List.{drop_at}
 use Rattle.std.proofs.lemmas.Slice.Eq.{bytes_eq-Decides}
 use Rattle.std.proofs.lemmas.Bool.{leb-true, leb-false}
-use Rattle.jos_isa.specs.Writing.{written}
+use Rattle.jos_isa.specs.Encoding.{encoded}
+use Rattle.jos_asm.specs.declared.limits.TheConstants.{CODE_MAX}
 use Rattle.jos_asm.specs.declared.item.Item.{Item}
 use Rattle.jos_asm.specs.declared.item.Item.TheVariants as item
 use Rattle.jos_asm.specs.Items.{is_item, length_of, target_of}
-use Rattle.jos_asm.specs.Program.{Program, length_of_all, bytes_of, distance, place_from, place_in, known_place, is_unknown, first_unknown, first_twice, spelled_from}
+use Rattle.jos_asm.specs.Program.{Program, length_of_all, bytes_of, distance, place_from, place_in, known_place}
+use Rattle.jos_asm.specs.Program.{is_unknown, first_unknown, first_twice, spelled_from}
 use Rattle.jos_asm.specs.Laid.{StandsAt, IsLaid, AreLaidFrom, AreLaid}
 use Rattle.jos_asm.proofs.Passes.{bytes_len, place_within}
 
 stands : (code front bytes rest : List ℕ) (at : ℕ) → length front ≡ at → code ≡ front ++ (bytes ++ rest) → StandsAt code at bytes
 stands code front bytes rest at long is = ap (λ (l : List ℕ). take (length bytes) l) (ap (drop at) is ∙ drop_at front (bytes ++ rest) at long) ∙ take-append_seam bytes rest
 
-leads : (behind place : ℕ) → behind ≤ 2097152 → place ≤ 1048576 → (behind + distance behind place) % 2 ^ 32 ≡ place
+leads : (behind place : ℕ) → behind ≤ 2 * CODE_MAX → place ≤ CODE_MAX → (behind + distance behind place) % 2 ^ 32 ≡ place
 leads behind place low small = go (nat_le behind place) refl
   where
     go : (b : Bool) → nat_le behind place ≡ b → (behind + cond b (place - behind) (2 ^ 32 - (behind - place))) % 2 ^ 32 ≡ place
@@ -92,11 +96,11 @@ label_here p before at label items h once =
 
 -- ---- items
 
-module _ (p : Program) (code : List ℕ) (small : (name : List ℕ) → known_place p.items name ≤ 1048576) where
+module _ (p : Program) (code : List ℕ) (small : (name : List ℕ) → known_place p.items name ≤ CODE_MAX) where
   here : (before : List (List ℕ)) (front rest : List ℕ) (at : ℕ) (i : Item) (items : List Item) → length front ≡ at → code ≡ front ++ (bytes_of p.base (known_place p.items) at i ++ rest)
-      → first_twice before (i ∷ items) ≡ None → is_unknown (place_in p.items) (target_of i) ≡ false → Later p before at (i ∷ items) → at + length_of i ≤ 1048576 → IsLaid p code at i
+      → first_twice before (i ∷ items) ≡ None → is_unknown (place_in p.items) (target_of i) ≡ false → Later p before at (i ∷ items) → at + length_of i ≤ CODE_MAX → IsLaid p code at i
   here before front rest at (item.Label name) items long is once named later room = label_here p before at name items later once
-  here before front rest at (item.Insn insn) items long is once named later room = stands code front (written insn) rest at long is
+  here before front rest at (item.Insn insn) items long is once named later room = stands code front (encoded insn) rest at long is
   here before front rest at (item.Jump row name) items long is once named later room =
       let place = known_place p.items name in let behind = at + length_of (item.Jump row name) in
       (place, distance behind place, known (place_in p.items) name named, leads behind place (omega (arith, room)) (small name), stands code front _ rest at long is)
@@ -105,7 +109,7 @@ module _ (p : Program) (code : List ℕ) (small : (name : List ℕ) → known_pl
   here before front rest at (item.Bytes bytes) items long is once named later room = stands code front bytes rest at long is
 
   laid : (items : List Item) (before : List (List ℕ)) (front : List ℕ) (at : ℕ) → All (λ i. IsTrue (is_item i)) items → length front ≡ at → code ≡ front ++ spelled_from p.base (known_place p.items) at items
-      → first_twice before items ≡ None → first_unknown (place_in p.items) items ≡ None → Later p before at items → at + length_of_all items ≤ 1048576 → AreLaidFrom p code at items
+      → first_twice before items ≡ None → first_unknown (place_in p.items) items ≡ None → Later p before at items → at + length_of_all items ≤ CODE_MAX → AreLaidFrom p code at items
   unfolding spelled_from first_unknown length_of_all
   laid [] before front at are long is once named later room = tt
   laid (i ∷ items) before front at are long is once named later room =
@@ -117,7 +121,7 @@ module _ (p : Program) (code : List ℕ) (small : (name : List ℕ) → known_pl
             (is ∙ sym (append_assoc front bytes rest)) (twice_next before i items once) two.1 (later_next p before at i items later) (omega (arith, room)),
       )
 
-pub all_laid : (p : Program) (code : List ℕ) → All (λ i. IsTrue (is_item i)) p.items → length_of_all p.items ≤ 1048576 → first_twice [] p.items ≡ None → first_unknown (place_in p.items) p.items ≡ None
+pub all_laid : (p : Program) (code : List ℕ) → All (λ i. IsTrue (is_item i)) p.items → length_of_all p.items ≤ CODE_MAX → first_twice [] p.items ≡ None → first_unknown (place_in p.items) p.items ≡ None
     → code ≡ spelled_from p.base (known_place p.items) 0 p.items → AreLaid p code
 unfolding AreLaid
 all_laid p code are room once named is =

@@ -1,15 +1,18 @@
--- Jumps and moves of addresses have spellings, and their distance or address does not change how long they are.
-use Rattle.std.proofs.Common.{◌≡◌, ℕ, zero, suc, ◌<◌, Bool, true, false, refl, sym, subst, arith, inl, inr, length, ◌∙◌, ◌+◌, ◌-◌, ◌^◌, ◌≤◌, cond}
+-- Jumps have spellings, and their distance does not change how long they are; nor does its address a move.
+use Rattle.std.proofs.Common.{◌≡◌, ℕ, zero, suc, ◌<◌, Bool, true, false, refl, sym, subst, arith, inl, inr, length}
+use Rattle.std.proofs.Common.{◌∙◌, ◌+◌, ◌*◌, ◌-◌, ◌^◌, ◌≤◌, cond}
 use Rattle.std.specs.Prelude.{◌||◌, not, nat_lt, nat_le, IsTrue}
 use Rattle.std.proofs.lemmas.Bool.{ltb-true, lt-ltb, leb-true, le-leb}
 use Rattle.jos_isa.specs.declared.instruction.Row.{Row}
 use Rattle.jos_isa.specs.declared.instruction.Row.TheVariants as row
-use Rattle.jos_isa.specs.OpcodeMap.{form_at, entry_at, from_70, from_b0, from_d0, form_behind, two_byte_at}
-use Rattle.jos_isa.specs.Placement.{opcode_of, form_in}
-use Rattle.jos_isa.specs.Lawful.{is_numbered, is_named, is_immediate, fits_form, form_for, is_lawful}
-use Rattle.jos_isa.specs.Writing.{written, immediate_bytes, opcode_bytes, form_bytes}
+use Rattle.jos_isa.specs.OpcodeMap.{format_at, entry_at, from_70, from_b0, from_d0, format_behind, two_byte_at}
+use Rattle.jos_isa.specs.RowOpcodes.{opcode_of, format_in}
+use Rattle.jos_isa.specs.Lawful.{is_numbered, is_named, is_immediate, fits_format, format_for, is_lawful}
+use Rattle.jos_isa.specs.Encoding.{encoded, immediate_bytes, opcode_bytes, format_bytes}
+use Rattle.jos_isa.specs.Moves.{mov}
 use Rattle.jos_isa.proofs.Booleans.{last_or_below, both_true, no_false, left_true, right_true}
-use Rattle.jos_asm.specs.Items.{is_relative, is_byte_jump, relative_length, relative, address_move}
+use Rattle.jos_asm.specs.declared.limits.TheConstants.{CODE_MAX, NEAR_BACK, NEAR_AHEAD}
+use Rattle.jos_asm.specs.Items.{is_relative, is_byte_jump, relative_length, relative}
 use Rattle.jos_asm.specs.Program.{distance, is_near, reaches}
 
 -- P of each number below a bound
@@ -31,36 +34,29 @@ is_signed_byte word = nat_lt word 0x80 || nat_le 0xffff_ff80 word
 -- ---- lawful
 
 jcc8 : (d c : ℕ) → c < 16 → is_lawful (relative (row.JccRel8 c) d) ≡ is_signed_byte d
-unfolding is_lawful is_numbered is_named fits_form form_for form_in opcode_of entry_at form_at from_70 is_immediate
+unfolding is_lawful is_numbered is_named fits_format format_for format_in opcode_of entry_at format_at from_70 is_immediate
 jcc8 d = each_below (λ c. is_lawful (relative (row.JccRel8 c) d) ≡ is_signed_byte d) 16
     (refl, (refl, (refl, (refl, (refl, (refl, (refl, (refl, (refl, (refl, (refl, (refl, (refl, (refl, (refl, (refl, tt))))))))))))))))
 
 jcc32 : (d c : ℕ) → c < 16 → is_lawful (relative (row.JccRel32 c) d) ≡ true
-unfolding is_lawful is_numbered is_named fits_form form_for form_in opcode_of form_behind two_byte_at is_immediate
+unfolding is_lawful is_numbered is_named fits_format format_for format_in opcode_of format_behind two_byte_at is_immediate
 jcc32 d = each_below (λ c. is_lawful (relative (row.JccRel32 c) d) ≡ true) 16
     (refl, (refl, (refl, (refl, (refl, (refl, (refl, (refl, (refl, (refl, (refl, (refl, (refl, (refl, (refl, (refl, tt))))))))))))))))
 
 jmp8 : (d : ℕ) → is_lawful (relative row.JmpRel8 d) ≡ is_signed_byte d
-unfolding is_lawful is_numbered is_named fits_form form_for form_in opcode_of entry_at form_at from_d0 is_immediate
+unfolding is_lawful is_numbered is_named fits_format format_for format_in opcode_of entry_at format_at from_d0 is_immediate
 jmp8 d = refl
 
 jmp32 : (d : ℕ) → is_lawful (relative row.JmpRel32 d) ≡ true
-unfolding is_lawful is_numbered is_named fits_form form_for form_in opcode_of entry_at form_at from_d0 is_immediate
+unfolding is_lawful is_numbered is_named fits_format format_for format_in opcode_of entry_at format_at from_d0 is_immediate
 jmp32 d = refl
 
 call32 : (d : ℕ) → is_lawful (relative row.CallRel32 d) ≡ true
-unfolding is_lawful is_numbered is_named fits_form form_for form_in opcode_of entry_at form_at from_d0 is_immediate
+unfolding is_lawful is_numbered is_named fits_format format_for format_in opcode_of entry_at format_at from_d0 is_immediate
 call32 d = refl
-
-mov32 : (address reg : ℕ) → reg < 8 → is_lawful (address_move reg address) ≡ true
-unfolding is_lawful is_numbered is_named fits_form form_for form_in opcode_of entry_at form_at from_b0 is_immediate
-mov32 address = each_below (λ reg. is_lawful (address_move reg address) ≡ true) 8 (refl, (refl, (refl, (refl, (refl, (refl, (refl, (refl, tt))))))))
 
 below : (n k : ℕ) → IsTrue (nat_lt n k) → n < k
 below n k h = ltb-true n k h
-
-pub lawful_move : (reg address : ℕ) → IsTrue (nat_lt reg 8) → IsTrue (is_lawful (address_move reg address))
-lawful_move reg address h = mov32 address reg (below reg 8 h)
 
 pub lawful_relative : (r : Row) (d : ℕ) → IsTrue (is_relative r) → (is_byte_jump r ≡ true → is_signed_byte d ≡ true) → IsTrue (is_lawful (relative r d))
 lawful_relative (row.JccRel8 c) d h near = jcc8 d c (below c 16 h) ∙ near refl
@@ -72,64 +68,64 @@ lawful_relative _ d h near = no_false h
 
 -- ---- lengths
 
-jcc8_len : (d c : ℕ) → c < 16 → length (written (relative (row.JccRel8 c) d)) ≡ 2
-unfolding written opcode_bytes form_bytes immediate_bytes form_for form_in opcode_of entry_at form_at from_70
-jcc8_len d = each_below (λ c. length (written (relative (row.JccRel8 c) d)) ≡ 2) 16
+jcc8_len : (d c : ℕ) → c < 16 → length (encoded (relative (row.JccRel8 c) d)) ≡ 2
+unfolding encoded opcode_bytes format_bytes immediate_bytes format_for format_in opcode_of entry_at format_at from_70
+jcc8_len d = each_below (λ c. length (encoded (relative (row.JccRel8 c) d)) ≡ 2) 16
     (refl, (refl, (refl, (refl, (refl, (refl, (refl, (refl, (refl, (refl, (refl, (refl, (refl, (refl, (refl, (refl, tt))))))))))))))))
 
-jcc32_len : (d c : ℕ) → c < 16 → length (written (relative (row.JccRel32 c) d)) ≡ 6
-unfolding written opcode_bytes form_bytes immediate_bytes form_for form_in opcode_of form_behind two_byte_at
-jcc32_len d = each_below (λ c. length (written (relative (row.JccRel32 c) d)) ≡ 6) 16
+jcc32_len : (d c : ℕ) → c < 16 → length (encoded (relative (row.JccRel32 c) d)) ≡ 6
+unfolding encoded opcode_bytes format_bytes immediate_bytes format_for format_in opcode_of format_behind two_byte_at
+jcc32_len d = each_below (λ c. length (encoded (relative (row.JccRel32 c) d)) ≡ 6) 16
     (refl, (refl, (refl, (refl, (refl, (refl, (refl, (refl, (refl, (refl, (refl, (refl, (refl, (refl, (refl, (refl, tt))))))))))))))))
 
-jmp8_len : (d : ℕ) → length (written (relative row.JmpRel8 d)) ≡ 2
-unfolding written opcode_bytes form_bytes immediate_bytes form_for form_in opcode_of entry_at form_at from_d0
+jmp8_len : (d : ℕ) → length (encoded (relative row.JmpRel8 d)) ≡ 2
+unfolding encoded opcode_bytes format_bytes immediate_bytes format_for format_in opcode_of entry_at format_at from_d0
 jmp8_len d = refl
 
-jmp32_len : (d : ℕ) → length (written (relative row.JmpRel32 d)) ≡ 5
-unfolding written opcode_bytes form_bytes immediate_bytes form_for form_in opcode_of entry_at form_at from_d0
+jmp32_len : (d : ℕ) → length (encoded (relative row.JmpRel32 d)) ≡ 5
+unfolding encoded opcode_bytes format_bytes immediate_bytes format_for format_in opcode_of entry_at format_at from_d0
 jmp32_len d = refl
 
-call32_len : (d : ℕ) → length (written (relative row.CallRel32 d)) ≡ 5
-unfolding written opcode_bytes form_bytes immediate_bytes form_for form_in opcode_of entry_at form_at from_d0
+call32_len : (d : ℕ) → length (encoded (relative row.CallRel32 d)) ≡ 5
+unfolding encoded opcode_bytes format_bytes immediate_bytes format_for format_in opcode_of entry_at format_at from_d0
 call32_len d = refl
 
-mov32_len : (address reg : ℕ) → reg < 8 → length (written (address_move reg address)) ≡ 5
-unfolding written opcode_bytes form_bytes immediate_bytes form_for form_in opcode_of entry_at form_at from_b0
-mov32_len address = each_below (λ reg. length (written (address_move reg address)) ≡ 5) 8 (refl, (refl, (refl, (refl, (refl, (refl, (refl, (refl, tt))))))))
+mov32_len : (address reg : ℕ) → reg < 8 → length (encoded (mov reg address)) ≡ 5
+unfolding encoded opcode_bytes format_bytes immediate_bytes format_for format_in opcode_of entry_at format_at from_b0
+mov32_len address = each_below (λ reg. length (encoded (mov reg address)) ≡ 5) 8 (refl, (refl, (refl, (refl, (refl, (refl, (refl, (refl, tt))))))))
 
-pub relative_len : (r : Row) (d : ℕ) → IsTrue (is_relative r) → length (written (relative r d)) ≡ relative_length r
-relative_len (row.JccRel8 c) d h = jcc8_len d c (below c 16 h)
-relative_len (row.JccRel32 c) d h = jcc32_len d c (below c 16 h)
-relative_len row.JmpRel8 d h = jmp8_len d
-relative_len row.JmpRel32 d h = jmp32_len d
-relative_len row.CallRel32 d h = call32_len d
-relative_len _ d h = no_false h
+pub length-relative : (r : Row) (d : ℕ) → IsTrue (is_relative r) → length (encoded (relative r d)) ≡ relative_length r
+length-relative (row.JccRel8 c) d h = jcc8_len d c (below c 16 h)
+length-relative (row.JccRel32 c) d h = jcc32_len d c (below c 16 h)
+length-relative row.JmpRel8 d h = jmp8_len d
+length-relative row.JmpRel32 d h = jmp32_len d
+length-relative row.CallRel32 d h = call32_len d
+length-relative _ d h = no_false h
 
-pub move_len : (reg address : ℕ) → IsTrue (nat_lt reg 8) → length (written (address_move reg address)) ≡ 5
-move_len reg address h = mov32_len address reg (below reg 8 h)
+pub length-mov : (reg address : ℕ) → IsTrue (nat_lt reg 8) → length (encoded (mov reg address)) ≡ 5
+length-mov reg address h = mov32_len address reg (below reg 8 h)
 
 -- ---- distances
 
-signed_byte : (behind place : ℕ) → is_near behind place ≡ true → behind ≤ 2097152 → is_signed_byte (distance behind place) ≡ true
+signed_byte : (behind place : ℕ) → is_near behind place ≡ true → behind ≤ 2 * CODE_MAX → is_signed_byte (distance behind place) ≡ true
 signed_byte behind place near small = go (nat_le behind place) refl
   where
-    back : behind ≤ place + 128
-    back = leb-true behind (place + 128) (both_true (nat_le behind (place + 128)) (nat_le place (behind + 127)) near).0
+    back : behind ≤ place + NEAR_BACK
+    back = leb-true behind (place + NEAR_BACK) (both_true (nat_le behind (place + NEAR_BACK)) (nat_le place (behind + NEAR_AHEAD)) near).0
 
-    ahead : place ≤ behind + 127
-    ahead = leb-true place (behind + 127) (both_true (nat_le behind (place + 128)) (nat_le place (behind + 127)) near).1
+    ahead : place ≤ behind + NEAR_AHEAD
+    ahead = leb-true place (behind + NEAR_AHEAD) (both_true (nat_le behind (place + NEAR_BACK)) (nat_le place (behind + NEAR_AHEAD)) near).1
 
     go : (b : Bool) → nat_le behind place ≡ b → is_signed_byte (cond b (place - behind) (2 ^ 32 - (behind - place))) ≡ true
     go true e = let d = place - behind in left_true (nat_lt d 0x80) (nat_le 0xffff_ff80 d) (lt-ltb d 0x80 (omega (arith, ahead)))
     go false e = let d = 2 ^ 32 - (behind - place) in right_true (nat_lt d 0x80) (nat_le 0xffff_ff80 d) (le-leb 0xffff_ff80 d (omega (arith, back)))
 
-reaching : (r : Row) (behind place : ℕ) → reaches r behind place ≡ true → behind ≤ 2097152 → is_byte_jump r ≡ true → is_signed_byte (distance behind place) ≡ true
+reaching : (r : Row) (behind place : ℕ) → reaches r behind place ≡ true → behind ≤ 2 * CODE_MAX → is_byte_jump r ≡ true → is_signed_byte (distance behind place) ≡ true
 reaching r behind place h small byte = signed_byte behind place (only_right (is_byte_jump r) (is_near behind place) byte h) small
   where
     only_right : (a b : Bool) → a ≡ true → (not a || b) ≡ true → b ≡ true
     only_right true b p q = q
     only_right false b p q = absurd cc
 
-pub lawful_jump : (r : Row) (behind place : ℕ) → IsTrue (is_relative r) → reaches r behind place ≡ true → behind ≤ 2097152 → IsTrue (is_lawful (relative r (distance behind place)))
+pub lawful_jump : (r : Row) (behind place : ℕ) → IsTrue (is_relative r) → reaches r behind place ≡ true → behind ≤ 2 * CODE_MAX → IsTrue (is_lawful (relative r (distance behind place)))
 lawful_jump r behind place is h small = lawful_relative r (distance behind place) is (reaching r behind place h small)

@@ -1,25 +1,29 @@
 -- What the passes over the items know when they have come to the item at some index.
-use Rattle.std.proofs.Common.{◌≡◌, ℕ, zero, suc, All, ◌+◌, ◌≤◌, ◌<◌, Bool, true, false, List, ◌∷◌, [], ◌++◌, length, take, drop, get_or, Option, Some, None, refl, sym, ap, subst, ◌∙◌, arith, append_assoc, append-nil, length-append}
+use Rattle.std.proofs.Common.{◌≡◌, ℕ, zero, suc, All, ◌+◌, ◌≤◌, ◌<◌, Bool, true, false, List, ◌∷◌, [], ◌++◌, length}
+use Rattle.std.proofs.Common.{take, drop, get_or, Option, Some, None, refl, sym, ap, subst, ◌∙◌, arith, append_assoc}
+use Rattle.std.proofs.Common.{append-nil, length-append}
 use Rattle.std.specs.Prelude.{is_some, ◌||◌, unwrap_or, IsTrue, cond}
 use Rattle.std.specs.Option.{option_map}
 use Rattle.std.specs.List.{list_any}
 use Rattle.std.specs.Str.{bytes_eq}
 use Rattle.std.proofs.lemmas.List.{take_more, drop_more, drop_all}
 use Rattle.std.proofs.lemmas.Slice.Eq.{bytes_eq-Decides}
+use Rattle.jos_asm.specs.declared.limits.TheConstants.{CODE_MAX}
 use Rattle.jos_asm.specs.declared.item.Item.{Item}
 use Rattle.jos_asm.specs.declared.item.Item.TheVariants as item
 use Rattle.jos_asm.specs.declared.fault.AsmFault.{AsmFault}
 use Rattle.jos_asm.specs.declared.fault.AsmFault.TheVariants.{TooLong, Twice, Unknown, Far, NoMemory}
 use Rattle.jos_asm.specs.Items.{is_item, length_of, target_of}
-use Rattle.jos_asm.specs.Program.{length_of_all, bytes_of, is_label, place_from, place_in, is_unknown, first_unknown, first_twice, is_far, first_far, spelled_from}
+use Rattle.jos_asm.specs.Program.{length_of_all, bytes_of, is_label, place_from, place_in, is_unknown, first_unknown}
+use Rattle.jos_asm.specs.Program.{first_twice, is_far, first_far, spelled_from}
 use Rattle.jos_asm.specs.Calls.{IsFault}
 use Rattle.jos_asm.specs.Labels.{twice_in, unknown_in, far_at, with_label}
-use Rattle.jos_asm.proofs.Lawful.{relative_len, move_len}
+use Rattle.jos_asm.proofs.Lawful.{length-relative, length-mov}
 
 -- `len` bytes are those of the items before
 pub record Counted (items : List Item) (index len : ℕ) : Type 0 where
   pub rest : len + length_of_all (drop index items) ≡ length_of_all items
-  pub small : len ≤ 1048576
+  pub small : len ≤ CODE_MAX
 
 -- the label of a name, if it is not found yet, is among the items to come, the first of them at `at`
 pub record Sought (name : List ℕ) (items : List Item) (index at : ℕ) : Type 0 where
@@ -72,8 +76,8 @@ told_first kind false name later first fault e h = absurd cc
 pub bytes_len : (base : ℕ) (place : List ℕ → ℕ) (at : ℕ) (x : Item) → IsTrue (is_item x) → length (bytes_of base place at x) ≡ length_of x
 bytes_len base place at (item.Label name) h = refl
 bytes_len base place at (item.Insn insn) h = refl
-bytes_len base place at (item.Jump row name) h = relative_len row _ h
-bytes_len base place at (item.Address reg name) h = move_len reg _ h
+bytes_len base place at (item.Jump row name) h = length-relative row _ h
+bytes_len base place at (item.Address reg name) h = length-mov reg _ h
 bytes_len base place at (item.Bytes bytes) h = refl
 
 pub spelled_len : (base : ℕ) (place : List ℕ → ℕ) (at : ℕ) (items : List Item) → All (λ i. IsTrue (is_item i)) items → length (spelled_from base place at items) ≡ length_of_all items
@@ -115,10 +119,10 @@ module _ (items : List Item) (i : ℕ) (x : Item) (is : x ≡ get_or items i x) 
   unfolding length_of_all
   len_more = ap length_of_all next
 
-  pub counted_over : (len : ℕ) → Counted items i len → 1048576 < len + length_of x → 1048576 < length_of_all items
+  pub counted_over : (len : ℕ) → Counted items i len → CODE_MAX < len + length_of x → CODE_MAX < length_of_all items
   counted_over len c over = let e = c.rest in let f = len_more in omega (arith, e, f)
 
-  pub counted_more : (len : ℕ) → Counted items i len → len + length_of x ≤ 1048576 → Counted items (i + 1) (len + length_of x)
+  pub counted_more : (len : ℕ) → Counted items i len → len + length_of x ≤ CODE_MAX → Counted items (i + 1) (len + length_of x)
   counted_more len c small = let e = c.rest in let f = len_more in record { rest = omega (arith, e, f); small = small }
 
   unknown_more : (place : List ℕ → Option ℕ) → first_unknown place (drop i items) ≡ cond (is_unknown place (target_of x)) (target_of x) (first_unknown place (drop (i + 1) items))
@@ -139,7 +143,7 @@ module _ (items : List Item) (i : ℕ) (x : Item) (is : x ≡ get_or items i x) 
     unfolding place_from
     place_more = ap (λ (l : List Item). place_from at l name) next
 
-    pub sought_room : length_of_all items ≤ 1048576 → at + length_of x ≤ 1048576
+    pub sought_room : length_of_all items ≤ CODE_MAX → at + length_of x ≤ CODE_MAX
     sought_room small = let e = s.rest in let f = len_more in omega (arith, e, f)
 
     pub sought_here : is_label name x ≡ true → Some at ≡ place_in items name
@@ -156,7 +160,7 @@ module _ (items : List Item) (i : ℕ) (x : Item) (is : x ≡ get_or items i x) 
     unfolding first_far
     far_more = ap (first_far place at) next
 
-    pub reached_room : length_of_all items ≤ 1048576 → at + length_of x ≤ 1048576
+    pub reached_room : length_of_all items ≤ CODE_MAX → at + length_of x ≤ CODE_MAX
     reached_room small = let e = r.rest in let f = len_more in omega (arith, e, f)
 
     pub reached_fault : (fault : AsmFault) → far_at place at x ≡ Some fault → option_map Far (first_far place 0 items) ≡ Some fault
@@ -295,7 +299,7 @@ module _ (found : List ℕ → Option ℕ) (items : List Item) (i at : ℕ) (w :
   placed_told fault (item.Address reg name) is h = absurd cc
   placed_told fault (item.Bytes bytes) is h = absurd cc
 
-  pub placed_room : (x : Item) → x ≡ get_or items i x → length_of_all items ≤ 1048576 → at + length_of x ≤ 1048576
+  pub placed_room : (x : Item) → x ≡ get_or items i x → length_of_all items ≤ CODE_MAX → at + length_of x ≤ CODE_MAX
   placed_room x is small = let r = w.rest in let f = len_more items i x is within in omega (arith, r, f, small)
 
 zero_plus : (n : ℕ) → 0 + n ≡ n
@@ -375,7 +379,7 @@ module _ (items : List Item) (i : ℕ) (x : Item) (is : x ≡ get_or items i x) 
 -- ---- at the end
 
 module _ (items : List Item) (i : ℕ) where
-  pub counted_end : (len : ℕ) → length items ≤ i → Counted items i len → (len ≡ length_of_all items) × (length_of_all items ≤ 1048576)
+  pub counted_end : (len : ℕ) → length items ≤ i → Counted items i len → (len ≡ length_of_all items) × (length_of_all items ≤ CODE_MAX)
   unfolding length_of_all
   counted_end len end c =
       let e = c.rest in let f : length_of_all (drop i items) ≡ 0 = ap length_of_all (drop_all i items end) in let s = c.small in

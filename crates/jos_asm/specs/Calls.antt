@@ -1,14 +1,16 @@
 -- What a call of the builder has done.
-use Rattle.std.specs.Prelude.{◌≡◌, ℕ, ◌≤◌, ◌<◌, ◌%◌, ◌∷◌, [], ◌++◌, List, length, All, Option, Some, None, Result, Ok, Err}
+use Rattle.std.specs.Prelude.{◌≡◌, ℕ, ◌≤◌, ◌<◌, ◌%◌, ◌∷◌, [], ◌++◌, List, length, All, Option, Some, None, Result, Ok}
+use Rattle.std.specs.Prelude.{Err}
+use Rattle.jos_asm.specs.declared.limits.TheConstants.{BLOCK, NAME_MAX}
 use Rattle.jos_asm.specs.declared.item.Item.{Item}
 use Rattle.jos_asm.specs.declared.fault.AsmFault.{AsmFault}
 use Rattle.jos_asm.specs.declared.fault.AsmFault.TheVariants.{TooLong, Twice, Unknown, Far, NoMemory}
 use Rattle.jos_asm.specs.Program.{Program}
 
--- 1 to 31 ASCII bytes
+-- ASCII bytes, one at least
 pub record IsName (name : List ℕ) : Type 0 where
   pub some : 1 ≤ length name
-  pub short : length name ≤ 31
+  pub short : length name ≤ NAME_MAX
   pub ascii : All (λ byte. byte < 128) name
 
 -- what a call that adds an item has done: where there was no memory, nothing
@@ -16,9 +18,9 @@ abbrev pub Adds : {E : Type 0} → Program → Item → Result (Unit {0}) E → 
 Adds old i (Ok _) new = new ≡ record old { items = old.items ++ i ∷ [] }
 Adds old i (Err _) new = new ≡ old
 
--- each block of 32 items is full, so that the next item wants memory
+-- each block of items is full, so that the next item wants memory
 abbrev pub IsFull : Program → Type 0
-IsFull p = length p.items % 32 ≡ 0
+IsFull p = length p.items % BLOCK ≡ 0
 
 -- the fault is this one, unless there was no memory
 abbrev pub IsFault : AsmFault → Option AsmFault → Type 0

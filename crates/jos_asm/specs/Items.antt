@@ -1,13 +1,14 @@
 -- The items of a program.
 -- (Intel 80386 Programmer's Reference Manual, 1986, chapter 17: CALL, Jcc, JMP and MOV.)
-use Rattle.std.specs.Prelude.{ℕ, ◌+◌, ◌*◌, ◌/◌, Bool, true, false, nat_lt, List, length, Option, Some, None}
+use Rattle.std.specs.Prelude.{ℕ, ◌+◌, ◌-◌, ◌*◌, ◌/◌, Bool, true, false, nat_lt, List, length, Option, Some, None}
 use Rattle.jos_isa.specs.declared.instruction.Insn.{Insn}
 use Rattle.jos_isa.specs.declared.instruction.Row.{Row}
 use Rattle.jos_isa.specs.declared.instruction.Row.TheVariants as row
 use Rattle.jos_isa.specs.declared.instruction.Repeat.TheVariants.{Once}
 use Rattle.jos_isa.specs.declared.instruction.Operand.TheVariants.{Absent}
 use Rattle.jos_isa.specs.Lawful.{is_lawful}
-use Rattle.jos_isa.specs.Writing.{written}
+use Rattle.jos_isa.specs.Encoding.{encoded}
+use Rattle.jos_asm.specs.declared.limits.TheConstants.{BLOCK}
 use Rattle.jos_asm.specs.declared.item.Item.{Item}
 use Rattle.jos_asm.specs.declared.item.Item.TheVariants as item
 
@@ -38,10 +39,6 @@ is_item (item.Bytes bytes) = true
 abbrev pub relative : Row → ℕ → Insn
 relative row distance = record { row = row; repeat = Once; operand = Absent; reg = 0; imm = distance }
 
--- a move of this address into a register
-abbrev pub address_move : ℕ → ℕ → Insn
-address_move reg address = record { row = row.MovR32Imm32; repeat = Once; operand = Absent; reg = reg; imm = address }
-
 -- how many bytes a jump or call has: an opcode of one byte or two, and a distance of one byte or four
 abbrev pub relative_length : Row → ℕ
 relative_length (row.JccRel8 c) = 2
@@ -54,14 +51,14 @@ relative_length _ = 0
 -- how many bytes an item takes
 abbrev pub length_of : Item → ℕ
 length_of (item.Label name) = 0
-length_of (item.Insn insn) = length (written insn)
+length_of (item.Insn insn) = length (encoded insn)
 length_of (item.Jump row name) = relative_length row
 length_of (item.Address reg name) = 5
 length_of (item.Bytes bytes) = length bytes
 
--- for how many items there is room in the blocks of 32 that so many take
+-- for how many items there is room in the blocks that so many take
 abbrev pub room_of_blocks : ℕ → ℕ
-room_of_blocks n = 32 * ((n + 31) / 32)
+room_of_blocks n = BLOCK * ((n + (BLOCK - 1)) / BLOCK)
 
 -- the label that an item names, if it is not one itself
 abbrev pub target_of : Item → Option (List ℕ)

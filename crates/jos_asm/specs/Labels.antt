@@ -5,6 +5,7 @@ use Rattle.std.specs.Option.{option_map}
 use Rattle.std.specs.Ordering.{nat_cmp}
 use Rattle.std.specs.Cmp.Lexicographic.{slice_cmp}
 use Rattle.std.specs.BTreeMap.{BTreeMap, get_by}
+use Rattle.jos_asm.specs.declared.limits.TheConstants.{CODE_MAX}
 use Rattle.jos_asm.specs.declared.item.Item.{Item}
 use Rattle.jos_asm.specs.declared.item.Item.TheVariants as item
 use Rattle.jos_asm.specs.declared.fault.AsmFault.{AsmFault}
@@ -24,7 +25,7 @@ Tells items (Some table) = (name : List ℕ) → labelled table name ≡ place_i
 -- items whose labels can be found
 pub record AreTold (items : List Item) (table : Option (BTreeMap (Bor (List ℕ)) ℕ)) : Type 0 where
   pub lawful : All (λ i. IsTrue (is_item i)) items
-  pub small : length_of_all items ≤ 1048576
+  pub small : length_of_all items ≤ CODE_MAX
   pub told : Tells items table
 
 -- the fault of an item at `at`

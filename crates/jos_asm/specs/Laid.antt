@@ -1,9 +1,10 @@
 -- What the bytes of a program hold at the place of each item. Nothing is said of how they are found.
 use Rattle.std.specs.Prelude.{◌≡◌, ℕ, ◌+◌, ◌%◌, ◌^◌, List, [], ◌∷◌, length, take, drop, Some}
-use Rattle.jos_isa.specs.Writing.{written}
+use Rattle.jos_isa.specs.Encoding.{encoded}
+use Rattle.jos_isa.specs.Moves.{mov}
 use Rattle.jos_asm.specs.declared.item.Item.{Item}
 use Rattle.jos_asm.specs.declared.item.Item.TheVariants as item
-use Rattle.jos_asm.specs.Items.{relative, address_move, length_of}
+use Rattle.jos_asm.specs.Items.{relative, length_of}
 use Rattle.jos_asm.specs.Program.{Program, place_in}
 
 abbrev pub StandsAt : List ℕ → ℕ → List ℕ → Type 0
@@ -13,14 +14,14 @@ StandsAt code at bytes = take (length bytes) (drop at code) ≡ bytes
 -- the next instruction, to its label, modulo 2^32, and a move with its label's address.
 abbrev pub IsLaid : Program → List ℕ → ℕ → Item → Type 0
 IsLaid p code at (item.Label name) = place_in p.items name ≡ Some at
-IsLaid p code at (item.Insn insn) = StandsAt code at (written insn)
+IsLaid p code at (item.Insn insn) = StandsAt code at (encoded insn)
 IsLaid p code at (item.Jump row name) =
     (place distance : ℕ) × (place_in p.items name ≡ Some place)
     × ((at + length_of (item.Jump row name) + distance) % 2 ^ 32 ≡ place)
-    × StandsAt code at (written (relative row distance))
+    × StandsAt code at (encoded (relative row distance))
 IsLaid p code at (item.Address reg name) =
     (place : ℕ) × (place_in p.items name ≡ Some place)
-    × StandsAt code at (written (address_move reg ((p.base + place) % 2 ^ 32)))
+    × StandsAt code at (encoded (mov reg ((p.base + place) % 2 ^ 32)))
 IsLaid p code at (item.Bytes bytes) = StandsAt code at bytes
 
 -- each item, behind those before it, the first of these at `at`

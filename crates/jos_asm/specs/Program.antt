@@ -1,14 +1,17 @@
 -- What a program is spelled as, or which fault it has. (This system's own.)
-use Rattle.std.specs.Prelude.{ℕ, ◌+◌, ◌-◌, ◌%◌, ◌^◌, ◌&&◌, ◌||◌, not, is_some, nat_le, nat_lt, Bool, false, List, [], ◌∷◌, ◌++◌, Option, Some, None, unwrap_or, Result, Ok, Err, if◌then◌else◌}
+use Rattle.std.specs.Prelude.{ℕ, ◌+◌, ◌-◌, ◌%◌, ◌^◌, ◌&&◌, ◌||◌, not, is_some, nat_le, nat_lt, Bool, false, List, []}
+use Rattle.std.specs.Prelude.{◌∷◌, ◌++◌, Option, Some, None, unwrap_or, Result, Ok, Err, if◌then◌else◌}
 use Rattle.std.specs.List.{list_any}
 use Rattle.std.specs.Str.{bytes_eq}
 use Rattle.jos_isa.specs.declared.instruction.Row.{Row}
-use Rattle.jos_isa.specs.Writing.{written}
+use Rattle.jos_isa.specs.Encoding.{encoded}
+use Rattle.jos_isa.specs.Moves.{mov}
+use Rattle.jos_asm.specs.declared.limits.TheConstants.{CODE_MAX, NEAR_BACK, NEAR_AHEAD}
 use Rattle.jos_asm.specs.declared.item.Item.{Item}
 use Rattle.jos_asm.specs.declared.item.Item.TheVariants as item
 use Rattle.jos_asm.specs.declared.fault.AsmFault.{AsmFault}
 use Rattle.jos_asm.specs.declared.fault.AsmFault.TheVariants.{TooLong, Twice, Unknown, Far}
-use Rattle.jos_asm.specs.Items.{is_byte_jump, relative, address_move, length_of, target_of}
+use Rattle.jos_asm.specs.Items.{is_byte_jump, relative, length_of, target_of}
 
 -- where code begins in memory, and its items
 pub record Program : Type 0 where
@@ -46,9 +49,9 @@ distance behind place = if nat_le behind place then place - behind else 2 ^ 32 -
 -- the bytes of an item at `at`, where `place` says where each label is
 abbrev pub bytes_of : ℕ → (List ℕ → ℕ) → ℕ → Item → List ℕ
 bytes_of base place at (item.Label name) = []
-bytes_of base place at (item.Insn insn) = written insn
-bytes_of base place at (item.Jump row name) = written (relative row (distance (at + length_of (item.Jump row name)) (place name)))
-bytes_of base place at (item.Address reg name) = written (address_move reg ((base + place name) % 2 ^ 32))
+bytes_of base place at (item.Insn insn) = encoded insn
+bytes_of base place at (item.Jump row name) = encoded (relative row (distance (at + length_of (item.Jump row name)) (place name)))
+bytes_of base place at (item.Address reg name) = encoded (mov reg ((base + place name) % 2 ^ 32))
 bytes_of base place at (item.Bytes bytes) = bytes
 
 unfoldable pub spelled_from : ℕ → (List ℕ → ℕ) → ℕ → List Item → List ℕ
@@ -75,9 +78,9 @@ unfoldable pub first_unknown : (List ℕ → Option ℕ) → List Item → Optio
 first_unknown place [] = None
 first_unknown place (i ∷ items) = if is_unknown place (target_of i) then target_of i else first_unknown place items
 
--- a signed byte spans from 128 bytes backwards to 127 forwards
+-- what a signed byte spans, backwards and forwards
 abbrev pub is_near : ℕ → ℕ → Bool
-is_near behind place = nat_le behind (place + 128) && nat_le place (behind + 127)
+is_near behind place = nat_le behind (place + NEAR_BACK) && nat_le place (behind + NEAR_AHEAD)
 
 abbrev pub reaches : Row → ℕ → ℕ → Bool
 reaches row behind place = not (is_byte_jump row) || is_near behind place
@@ -108,7 +111,7 @@ known_place items name = unwrap_or (place_in items name) 0
 
 unfoldable pub finished : Program → Result (List ℕ) AsmFault
 finished p =
-    if nat_lt 1048576 (length_of_all p.items) then Err TooLong
+    if nat_lt CODE_MAX (length_of_all p.items) then Err TooLong
     else unless Twice (first_twice [] p.items) (
     unless Unknown (first_unknown (place_in p.items) p.items) (
     unless Far (first_far (known_place p.items) 0 p.items) (

@@ -10,16 +10,14 @@ ghost use Rattle.jos_asm.specs.Calls.{Adds, IsFault, IsFull, IsName, fault_in};
 use crate::fault::AsmFault;
 use crate::finishing::finish;
 use crate::item::{ByteRun, Item};
+use crate::limits::{BLOCK, CODE_MAX};
 use crate::name::Name;
 use jos_base::NoMemory;
 use jos_isa::{Insn, Row};
 use std::alloc::Global;
 use std::marker::Model;
 
-/// How many items memory is asked for at once.
-const BLOCK: usize = 32;
-
-/// A program that is being built, item by item. Memory for items is asked for in blocks of 32.
+/// A program that is being built, item by item. Memory for items is asked for `BLOCK` at a time.
 #[derive(Drop)]
 pub struct Builder {
     alloc: Global,
@@ -52,6 +50,7 @@ impl Builder {
         }
     }
 
+    /// Adds an item. Where each block is full it asks for another one first, so that a refusal changes nothing.
     fn add(&mut self, item: Item) -> Result<(), NoMemory>
         requires { IsTrue (is_item item) }
         ensures added { Adds self.old item result self.new }
@@ -64,7 +63,7 @@ impl Builder {
         Ok(())
     }
 
-    /// Gives the place of the next item a name of 1 to 31 ASCII bytes. It takes memory only where each block of
+    /// Gives the place of the next item a name of 1 to `NAME_MAX` ASCII bytes. It takes memory only where each block of
     /// items is full.
     pub fn label(&mut self, name: &str) -> Result<(), NoMemory>
         requires { IsName name.now }
@@ -121,7 +120,7 @@ impl Builder {
         ensures exact { IfOk result (λ code. finished self ≡ Ok code.items) }
         // Each item stands at its place.
         ensures laid { IfOk result (λ code. AreLaid self code.items) }
-        ensures small { IfOk result (λ code. length code.items ≤ 1048576) }
+        ensures small { IfOk result (λ code. length code.items ≤ CODE_MAX) }
         ensures fault { IfErr result (λ fault. IsFault fault (fault_in (finished self))) }
         ensures memory { IfErr result (λ fault. fault ≡ AsmFault.NoMemory → IsOkAnd (finished self) (λ code. 0 < length code)) }
     {

@@ -7,7 +7,7 @@ use std::fmt;
 /// Why a program has no bytes: the first of these that it has, and of one kind the one of the earliest item.
 #[derive(Debug, Drop, PartialEq, Eq)]
 pub enum AsmFault {
-    /// It has more than 1,048,576 bytes.
+    /// It has more than `CODE_MAX` bytes.
     TooLong,
     /// An earlier label has this name.
     Twice(Name),

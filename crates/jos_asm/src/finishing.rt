@@ -1,22 +1,25 @@
 //! From the items of a program to its bytes.
 
-ghost use Rattle.std.specs.Prelude.{◌≡◌, ◌+◌, ◌<◌, ◌≤◌, IsTrue, Ok, IfOk, IfErr, OnOk, OnErr, IsOkAnd, false, length, All, ◌++◌, None, Some, vec_capacity};
+ghost use Rattle.std.specs.Prelude.{◌≡◌, ◌+◌, ◌*◌, ◌<◌, ◌≤◌, IsTrue, Ok, IfOk, IfErr, OnOk, OnErr, IsOkAnd, false};
+ghost use Rattle.std.specs.Prelude.{length, All, ◌++◌, None, Some, vec_capacity};
 ghost use Rattle.std.specs.Option.{option_map};
 ghost use Rattle.jos_isa.specs.Lawful.{is_lawful};
-ghost use Rattle.jos_isa.specs.Writing.{written};
+ghost use Rattle.jos_isa.specs.Encoding.{encoded};
 ghost use Rattle.jos_asm.specs.Items.{is_item, length_of, target_of, relative};
-ghost use Rattle.jos_asm.specs.Program.{length_of_all, bytes_of, distance, is_unknown, first_unknown, first_far, is_near, is_far, reaches, place_in, known_place, spelled_from, finished};
+ghost use Rattle.jos_asm.specs.Program.{length_of_all, bytes_of, distance, is_unknown, first_unknown, first_far};
+ghost use Rattle.jos_asm.specs.Program.{is_near, is_far, reaches, place_in, known_place, spelled_from, finished};
 ghost use Rattle.jos_asm.specs.Calls.{IsFault, fault_in};
 ghost use Rattle.jos_asm.specs.Laid.{AreLaid};
 ghost use Rattle.jos_asm.specs.Labels.{far_at, unknown_in};
 
 use crate::fault::AsmFault;
-use crate::item::{Item, address_move, is_byte_jump, relative};
+use crate::item::{Item, is_byte_jump, relative};
 use crate::labels::Labels;
-use crate::lengths::{item_len, relative_len, total_len};
+use crate::lengths::{length_of, length_of_all, relative_length};
+use crate::limits::{CODE_MAX, NEAR_AHEAD, NEAR_BACK};
 use crate::name::Name;
-use jos_base::NoMemory;
-use jos_isa::{Insn, Row, encode};
+use jos_base::{INSTRUCTION_MAX, NoMemory};
+use jos_isa::{Insn, Row, encode, mov};
 use std::alloc::Global;
 
 /// The label that an item names, if it is not one itself.
@@ -56,7 +59,7 @@ fn check_names(labels: &Labels<'_>) -> Result<(), AsmFault>
 }
 
 /// Where a label is. Each name is known.
-fn place_of<'a>(labels: &Labels<'a>, name: &'a Name) -> u32
+fn known_place<'a>(labels: &Labels<'a>, name: &'a Name) -> u32
     ensures { result ≡ known_place labels.now name.now }
 {
     labels.place_of(name).unwrap_or(0)
@@ -71,15 +74,15 @@ fn distance(behind: u32, place: u32) -> u32
 
 /// Whether a signed byte spans the distance to a place from the one behind the jump.
 fn is_near(behind: u32, place: u32) -> bool
-    requires { behind ≤ 2097152 }
+    requires { behind ≤ 2 * CODE_MAX }
     ensures { result ≡ is_near behind place }
 {
-    behind <= place.saturating_add(128) && place <= behind + 127
+    behind <= place.saturating_add(NEAR_BACK) && place <= behind + NEAR_AHEAD
 }
 
 /// Whether a jump reaches a place from the one behind it.
 fn reaches(row: Row, behind: u32, place: u32) -> bool
-    requires { behind ≤ 2097152 }
+    requires { behind ≤ 2 * CODE_MAX }
     ensures { result ≡ reaches row behind place }
 {
     !is_byte_jump(row) || is_near(behind, place)
@@ -87,14 +90,14 @@ fn reaches(row: Row, behind: u32, place: u32) -> bool
 
 /// Refuses a jump at `at` that does not reach its label.
 fn check_jump<'a>(item: &'a Item, at: u32, labels: &Labels<'a>) -> Result<(), AsmFault>
-    requires { at ≤ 1048576 }
+    requires { at ≤ CODE_MAX }
     ensures near { OnOk result (is_far (known_place labels.now) at item.now ≡ false) }
     ensures fault { IfErr result (λ fault. far_at (known_place labels.now) at item.now ≡ Some fault) }
 {
     match item {
         Item::Jump(row, name) => {
-            let behind = at + relative_len(*row) as u32;
-            if reaches(*row, behind, place_of(labels, name)) {
+            let behind = at + relative_length(*row) as u32;
+            if reaches(*row, behind, known_place(labels, name)) {
                 Ok(())
             } else {
                 Err(AsmFault::Far(name.copy()))
@@ -112,7 +115,7 @@ fn check_jumps(labels: &Labels<'_>) -> Result<(), AsmFault>
     let mut at = 0;
     for item in labels.items() {
         check_jump(item, at, labels)?;
-        at += item_len(item) as u32;
+        at += length_of(item) as u32;
     }
     Ok(())
 }
@@ -129,11 +132,11 @@ fn write_bytes(bytes: &[u8], code: &mut Vec<u8>)
 /// Appends the bytes of an instruction, for which there is room.
 fn write_insn(insn: &Insn, code: &mut Vec<u8>)
     requires lawful { IsTrue (is_lawful insn.now) }
-    requires room { length code.old.items + length (written insn.now) ≤ vec_capacity code.old }
-    ensures bytes { code.new.items ≡ code.old.items ++ written insn.now }
+    requires room { length code.old.items + length (encoded insn.now) ≤ vec_capacity code.old }
+    ensures bytes { code.new.items ≡ code.old.items ++ encoded insn.now }
     ensures room { vec_capacity code.old ≤ vec_capacity code.new }
 {
-    let mut bytes = [0; 15];
+    let mut bytes = [0; INSTRUCTION_MAX];
     let len = encode(insn, &mut bytes);
     write_bytes(&bytes[..len], code);
 }
@@ -142,7 +145,7 @@ fn write_insn(insn: &Insn, code: &mut Vec<u8>)
 fn write_item<'a>(base: u32, item: &'a Item, labels: &Labels<'a>, code: &mut Vec<u8>)
     requires lawful { IsTrue (is_item item.now) }
     requires near { is_far (known_place labels.now) (length code.old.items) item.now ≡ false }
-    requires small { length code.old.items + length_of item.now ≤ 1048576 }
+    requires small { length code.old.items + length_of item.now ≤ CODE_MAX }
     requires room { length code.old.items + length_of item.now ≤ vec_capacity code.old }
     ensures bytes { code.new.items ≡ code.old.items ++ bytes_of base (known_place labels.now) (length code.old.items) item.now }
     ensures room { vec_capacity code.old ≤ vec_capacity code.new }
@@ -151,25 +154,20 @@ fn write_item<'a>(base: u32, item: &'a Item, labels: &Labels<'a>, code: &mut Vec
         Item::Label(_) => {}
         Item::Insn(insn) => write_insn(insn, code),
         Item::Jump(row, name) => {
-            let behind = (code.len() + relative_len(*row)) as u32;
-            let distance = distance(behind, place_of(labels, name));
+            let behind = (code.len() + relative_length(*row)) as u32;
+            let distance = distance(behind, known_place(labels, name));
             write_insn(&relative(*row, distance), code);
         }
         Item::Address(reg, name) => {
-            let address = base.wrapping_add(place_of(labels, name));
-            write_insn(&address_move(*reg, address), code);
+            let address = base.wrapping_add(known_place(labels, name));
+            write_insn(&mov(*reg, address), code);
         }
         Item::Bytes(bytes) => write_bytes(bytes.as_slice(), code),
     }
 }
 
 /// The bytes of the items, `len` in number, each label's distance or address in its place.
-fn write_code(
-    alloc: Global,
-    base: u32,
-    len: usize,
-    labels: &Labels<'_>,
-) -> Result<Vec<u8>, NoMemory>
+fn spell(alloc: Global, base: u32, len: usize, labels: &Labels<'_>) -> Result<Vec<u8>, NoMemory>
     requires near { first_far (known_place labels.now) 0 labels.now ≡ None }
     requires len { len ≡ length_of_all labels.now }
     ensures bytes { IfOk result (λ code. code.items ≡ spelled_from base (known_place labels.now) 0 labels.now) }
@@ -187,18 +185,18 @@ pub(crate) fn finish(alloc: Global, base: u32, items: &[Item]) -> Result<Vec<u8>
     requires { All (λ i. IsTrue (is_item i)) items.now }
     ensures exact { IfOk result (λ code. finished (record { base = base; items = items.now }) ≡ Ok code.items) }
     ensures laid { IfOk result (λ code. AreLaid (record { base = base; items = items.now }) code.items) }
-    ensures small { IfOk result (λ code. length code.items ≤ 1048576) }
+    ensures small { IfOk result (λ code. length code.items ≤ CODE_MAX) }
     ensures fault { IfErr result (λ fault. IsFault fault (fault_in (finished (record { base = base; items = items.now })))) }
     ensures memory { IfErr result (λ fault. fault ≡ AsmFault.NoMemory
         → IsOkAnd (finished (record { base = base; items = items.now })) (λ code. 0 < length code)) }
 {
-    let len = total_len(items)?;
+    let len = length_of_all(items)?;
     match Labels::find(alloc, items) {
         Err(fault) => Err(fault),
         Ok(labels) => {
             check_names(&labels)?;
             check_jumps(&labels)?;
-            match write_code(alloc, base, len, &labels) {
+            match spell(alloc, base, len, &labels) {
                 Ok(code) => Ok(code),
                 Err(_) => Err(AsmFault::NoMemory),
             }

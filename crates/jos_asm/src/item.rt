@@ -1,7 +1,7 @@
 //! What a program is made of.
 
 ghost use Rattle.std.specs.Prelude.{◌≡◌};
-ghost use Rattle.jos_asm.specs.Items.{is_byte_jump, relative, address_move};
+ghost use Rattle.jos_asm.specs.Items.{is_byte_jump, relative};
 
 use crate::name::Name;
 use jos_isa::{Insn, Operand, Repeat, Row};
@@ -56,19 +56,6 @@ pub(crate) fn relative(row: Row, distance: u32) -> Insn
         operand: Operand::Absent,
         reg: 0,
         imm: distance,
-    }
-}
-
-/// A move of this address into a register.
-pub(crate) fn address_move(reg: u8, address: u32) -> Insn
-    ensures { result ≡ address_move reg address }
-{
-    Insn {
-        row: Row::MovR32Imm32,
-        repeat: Repeat::Once,
-        operand: Operand::Absent,
-        reg,
-        imm: address,
     }
 }
 

@@ -9,7 +9,8 @@ ghost use Rattle.jos_asm.specs.Labels.{twice_in, with_label, labelled};
 
 use crate::fault::AsmFault;
 use crate::item::Item;
-use crate::lengths::item_len;
+use crate::lengths::length_of;
+use crate::limits::CODE_MAX;
 use crate::name::Name;
 use std::alloc::Global;
 use std::collections::BTreeMap;
@@ -26,9 +27,9 @@ fn is_label(item: &Item, name: &Name) -> bool
 }
 
 /// Where the label of this name is, found by going over the items.
-fn find_place(items: &[Item], name: &Name) -> Option<u32>
+fn place_in(items: &[Item], name: &Name) -> Option<u32>
     requires items { All (λ i. IsTrue (is_item i)) items.now }
-    requires small { length_of_all items.now ≤ 1048576 }
+    requires small { length_of_all items.now ≤ CODE_MAX }
     ensures { result ≡ place_in items.now name.now }
 {
     let mut at = 0;
@@ -36,7 +37,7 @@ fn find_place(items: &[Item], name: &Name) -> Option<u32>
         if is_label(item, name) {
             return Some(at);
         }
-        at += item_len(item) as u32;
+        at += length_of(item) as u32;
     }
     None
 }
@@ -44,12 +45,12 @@ fn find_place(items: &[Item], name: &Name) -> Option<u32>
 /// Refuses an item that is a label with the name of one before it.
 fn check_label(before: &[Item], item: &Item) -> Result<(), AsmFault>
     requires items { All (λ i. IsTrue (is_item i)) before.now }
-    requires small { length_of_all before.now ≤ 1048576 }
+    requires small { length_of_all before.now ≤ CODE_MAX }
     ensures once { OnOk result (twice_in (place_in before.now) item.now ≡ None) }
     ensures fault { IfErr result (λ fault. twice_in (place_in before.now) item.now ≡ Some fault) }
 {
     match item {
-        Item::Label(name) => match find_place(before, name) {
+        Item::Label(name) => match place_in(before, name) {
             None => Ok(()),
             Some(_) => Err(AsmFault::Twice(name.copy())),
         },
@@ -60,7 +61,7 @@ fn check_label(before: &[Item], item: &Item) -> Result<(), AsmFault>
 /// Refuses a label that has the name of one before it. It takes no memory.
 fn check_labels(items: &[Item]) -> Result<(), AsmFault>
     requires items { All (λ i. IsTrue (is_item i)) items.now }
-    requires small { length_of_all items.now ≤ 1048576 }
+    requires small { length_of_all items.now ≤ CODE_MAX }
     ensures once { OnOk result (first_twice [] items.now ≡ None) }
     ensures fault { IfErr result (λ fault. option_map AsmFault.Twice (first_twice [] items.now) ≡ Some fault) }
 {
@@ -93,7 +94,7 @@ fn add_label<'a>(
 /// A table of where each label is, in bytes from the beginning.
 fn make_table<'a>(alloc: Global, items: &'a [Item]) -> Result<BTreeMap<&'a str, u32>, AsmFault>
     requires items { All (λ i. IsTrue (is_item i)) items.now }
-    requires small { length_of_all items.now ≤ 1048576 }
+    requires small { length_of_all items.now ≤ CODE_MAX }
     ensures labels { IfOk result (λ labels. (name : List ℕ) → labelled labels name ≡ place_in items.now name) }
     ensures once { IfOk result (λ _. first_twice [] items.now ≡ None) }
     ensures fault { IfErr result (λ fault. IsFault fault (option_map AsmFault.Twice (first_twice [] items.now))) }
@@ -102,7 +103,7 @@ fn make_table<'a>(alloc: Global, items: &'a [Item]) -> Result<BTreeMap<&'a str, 
     let mut at = 0;
     for item in items {
         add_label(item, at, &mut labels)?;
-        at += item_len(item) as u32;
+        at += length_of(item) as u32;
     }
     Ok(labels)
 }
@@ -133,7 +134,7 @@ impl<'a> Labels<'a> {
     /// Finds the labels of these items.
     pub(crate) fn find(alloc: Global, items: &'a [Item]) -> Result<Labels<'a>, AsmFault>
         requires items { All (λ i. IsTrue (is_item i)) items.now }
-        requires small { length_of_all items.now ≤ 1048576 }
+        requires small { length_of_all items.now ≤ CODE_MAX }
         ensures items { IfOk result (λ labels. labels ≡ items.now) }
         ensures once { OnOk result (first_twice [] items.now ≡ None) }
         ensures fault { IfErr result (λ fault. option_map AsmFault.Twice (first_twice [] items.now) ≡ Some fault) }
@@ -155,7 +156,7 @@ impl<'a> Labels<'a> {
     pub(crate) fn items(&self) -> &'a [Item]
         ensures items { result.now ≡ self.now }
         ensures lawful { All (λ i. IsTrue (is_item i)) self.now }
-        ensures small { length_of_all self.now ≤ 1048576 }
+        ensures small { length_of_all self.now ≤ CODE_MAX }
     {
         self.items
     }
@@ -166,7 +167,7 @@ impl<'a> Labels<'a> {
     {
         match &self.table {
             Some(table) => table.get(&name.as_str()).copied(),
-            None => find_place(self.items, name),
+            None => place_in(self.items, name),
         }
     }
 }

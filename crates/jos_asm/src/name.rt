@@ -5,13 +5,14 @@ ghost use Rattle.std.specs.Cmp.{on_equiv, on_per, partial_equiv_from_equiv};
 ghost use Rattle.std.specs.Cmp.Lexicographic.{pointwise, nat_list_eq_equiv};
 ghost use Rattle.std.specs.Fmt.{styled_text};
 
+use crate::limits::NAME_MAX;
 use arrayvec::ArrayString;
 use std::fmt;
 use std::marker::Model;
 
-/// The name of a label: 1 to 31 ASCII bytes.
+/// The name of a label: 1 to `NAME_MAX` ASCII bytes.
 #[derive(Drop)]
-pub struct Name(ArrayString<31>);
+pub struct Name(ArrayString<NAME_MAX>);
 
 impl Model for Name {
     ghost use Rattle.std.specs.Prelude.{ℕ, List};
@@ -22,9 +23,9 @@ impl Model for Name {
 }
 
 impl Name {
-    /// A name of this text, which has at most 31 bytes.
+    /// A name of this text, which has at most `NAME_MAX` bytes.
     pub(crate) fn new(text: &str) -> Name
-        requires { length text.now ≤ 31 }
+        requires { length text.now ≤ NAME_MAX }
         ensures { result ≡ text.now }
     {
         let mut name = ArrayString::new();

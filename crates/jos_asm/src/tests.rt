@@ -3,7 +3,7 @@
 ghost use Rattle.std.specs.Prelude.{IsTrue};
 ghost use Rattle.jos_asm.specs.Items.{is_relative};
 
-use crate::Builder;
+use crate::{Builder, CODE_MAX};
 use jos_base::NoMemory;
 use jos_isa::{Decoded, Row, decode};
 use std::alloc::{AllocError, Global};
@@ -133,7 +133,7 @@ fn tells_the_first_fault(rt: HostRuntime) -> Result<(), Fail> {
 #[test]
 fn ends_at_a_mebibyte(rt: HostRuntime) -> Result<(), Fail> {
     let alloc = rt.alloc();
-    let bytes = nops(alloc, 1_048_575)?;
+    let bytes = nops(alloc, CODE_MAX - 1)?;
     let mut program = Builder::new(alloc, 0);
     program.bytes(&bytes)?;
     program.bytes(&[0xc3])?;

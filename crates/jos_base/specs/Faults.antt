@@ -1,5 +1,5 @@
--- What becomes of an environment whose instruction faults: no upcall can be set, so each fault destroys it
--- with its line. (MIT 6.828, kern/trap.c.)
+-- What a fault or a trap does to its environment: it ends it, and a line tells why. There are no upcalls yet.
+-- (MIT 6.828, kern/trap.c.)
 use Rattle.std.specs.Prelude.{ℕ}
 use Rattle.jos_base.specs.declared.memory.PageFault.{PageFault}
 use Rattle.jos_base.specs.KernelState.{Slot}

@@ -6,7 +6,7 @@ use Rattle.jos_base.specs.declared.registers.Regs.{Regs}
 use Rattle.jos_base.specs.declared.environment.Status.{Status}
 use Rattle.jos_base.specs.declared.environment.Status.TheVariants.{Free}
 
--- a page's entry: the frame that it names, and its permission bits P 0x001, W 0x002 and U 0x004
+-- a page's entry: the frame that it names, and its permission bits PTE_P, PTE_W and PTE_U
 pub record Entry : Type 0 where
   pub frame : ℕ
   pub perm : ℕ

@@ -1,5 +1,4 @@
 pub mod Words
-pub mod Errors
 pub mod KernelState
 pub mod Reach
 pub mod Lines

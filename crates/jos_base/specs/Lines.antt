@@ -1,7 +1,8 @@
 -- The lines that the kernel prints when it destroys an environment. `%08x` is eight hexadecimal digits in
 -- lower case, `%x` has no leading zeros, and `%u` is decimal.
 -- (MIT 6.828, kern/trap.c and kern/pmap.c; the line of a trap is this system's own.)
-use Rattle.std.specs.Prelude.{ℕ, ◌+◌, ◌/◌, ◌%◌, ◌^◌, ◌==◌, nat_lt, not, List, [], ◌∷◌, ◌++◌, take, drop, position, unwrap_or, codes, decimal, if◌then◌else◌}
+use Rattle.std.specs.Prelude.{ℕ, ◌+◌, ◌/◌, ◌%◌, ◌^◌, ◌==◌, nat_lt, not, List, [], ◌∷◌, ◌++◌, take, drop, position}
+use Rattle.std.specs.Prelude.{unwrap_or, codes, decimal, if◌then◌else◌}
 
 abbrev pub hex_digit : ℕ → ℕ
 hex_digit n = if nat_lt n 10 then n + 48 else n + 87

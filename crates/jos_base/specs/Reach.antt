@@ -1,40 +1,41 @@
--- Which byte a user access reaches, by the entries as they stand.
+-- Where a user's access to an address leads: to a byte of a frame, or to a page fault.
 -- (Intel 80386 Programmer's Reference Manual, 1986, sections 5.2 and 6.4.)
-use Rattle.std.specs.Prelude.{ℕ, ◌+◌, ◌^◌, ◌%◌, ◌==◌, suc, zero, Bool, List, [], ◌∷◌, slice_index, Option, Some, None, Result, Ok, Err, bit_and, if◌then◌else◌}
+use Rattle.std.specs.Prelude.{ℕ, ◌+◌, ◌^◌, ◌%◌, ◌==◌, suc, zero, Bool, List, [], ◌∷◌, slice_index, Option, Some, None}
+use Rattle.std.specs.Prelude.{Result, Ok, Err, bit_and, if◌then◌else◌}
 use Rattle.jos_base.specs.declared.memory.Access.{Access}
 use Rattle.jos_base.specs.declared.memory.Access.TheVariants.{Read, Write}
 use Rattle.jos_base.specs.declared.memory.PageFault.{PageFault}
+use Rattle.jos_base.specs.declared.numbers.TheConstants.{PTE_P, PTE_W, PTE_U, FEC_PR, FEC_WR, FEC_U}
 use Rattle.jos_base.specs.Words.{page_number, page_offset}
 use Rattle.jos_base.specs.KernelState.{Entry}
 
 -- where a byte lies
-pub record Place : Type 0 where
+pub record Location : Type 0 where
   pub frame : ℕ
   pub offset : ℕ
 
--- A user access needs P and U, and a write W too.
+-- P and U for any access, and W for a write
 abbrev pub allows : ℕ → Access → Bool
-allows perm Read = bit_and perm 0x005 == 0x005
-allows perm Write = bit_and perm 0x007 == 0x007
+allows perm Read = bit_and perm (PTE_P + PTE_U) == PTE_P + PTE_U
+allows perm Write = bit_and perm (PTE_P + PTE_W + PTE_U) == PTE_P + PTE_W + PTE_U
 
 abbrev pub write_bit : Access → ℕ
 write_bit Read = 0
-write_bit Write = 2
+write_bit Write = FEC_WR
 
--- the byte's place, or the fault: bit 0 of its error is set where an entry is there, bit 1 for a write, and
--- bit 2 always
-abbrev pub reach_entry : Option Entry → ℕ → Access → Result Place PageFault
-reach_entry None va access = Err (record { va = va; error = 4 + write_bit access })
+-- by the entry of its page, if there is one; the error code tells a write, a user, and whether there was an entry
+abbrev pub reach_entry : Option Entry → ℕ → Access → Result Location PageFault
+reach_entry None va access = Err (record { va = va; error = FEC_U + write_bit access })
 reach_entry (Some entry) va access =
     if allows entry.perm access then Ok (record { frame = entry.frame; offset = page_offset va })
-    else Err (record { va = va; error = 5 + write_bit access })
+    else Err (record { va = va; error = FEC_U + FEC_PR + write_bit access })
 
-abbrev pub reach : (ℕ → Option Entry) → ℕ → Access → Result Place PageFault
+abbrev pub reach : (ℕ → Option Entry) → ℕ → Access → Result Location PageFault
 reach entries va access = reach_entry (entries (page_number va)) va access
 
 -- the byte that is read at an address, or the fault
-abbrev pub byte_read : (ℕ → List ℕ) → Result Place PageFault → Result ℕ PageFault
-byte_read pages (Ok place) = Ok (slice_index (pages place.frame) place.offset)
+abbrev pub byte_read : (ℕ → List ℕ) → Result Location PageFault → Result ℕ PageFault
+byte_read pages (Ok location) = Ok (slice_index (pages location.frame) location.offset)
 byte_read pages (Err fault) = Err fault
 
 unfoldable pub read_byte : (ℕ → List ℕ) → (ℕ → Option Entry) → ℕ → Result ℕ PageFault

@@ -1,15 +1,20 @@
--- The system calls: a number in EAX, arguments in EDX and ECX, the answer in EAX. Refusals are tried in the
--- written order, and an error is answered negated. (MIT 6.828, inc/syscall.h and kern/syscall.c.)
+-- What each system call does. Which one is asked for stands in EAX, what it is given in EDX and ECX, and what it
+-- answers in EAX. Of several refusals the one that stands first here is told.
+-- (MIT 6.828, inc/syscall.h, inc/error.h and kern/syscall.c.)
 use Rattle.std.specs.Prelude.{ℕ, ◌==◌, ◌||◌, nat_lt, List, [], Result, Ok, Err, if◌then◌else◌}
 use Rattle.jos_base.specs.declared.memory.PageFault.{PageFault}
 use Rattle.jos_base.specs.declared.environment.Status.TheVariants.{Free}
 use Rattle.jos_base.specs.declared.errno.Errno.{Errno}
 use Rattle.jos_base.specs.declared.errno.Errno.TheVariants.{BadEnv, Invalid}
+use Rattle.jos_base.specs.declared.numbers.TheConstants.{SYS_CPUTS, SYS_ENV_DESTROY, E_BAD_ENV, E_INVAL, CPUTS_MAX}
 use Rattle.jos_base.specs.Words.{negated}
-use Rattle.jos_base.specs.Errors.{error_number}
 use Rattle.jos_base.specs.KernelState.{Slot}
 use Rattle.jos_base.specs.Reach.{read_byte, bytes_read}
 use Rattle.jos_base.specs.Lines.{user_mem_check_line}
+
+abbrev pub error_number : Errno → ℕ
+error_number BadEnv = E_BAD_ENV
+error_number Invalid = E_INVAL
 
 -- what a step of an environment changes: its own slot, and the bytes that it writes to the console
 pub record Change : Type 0 where
@@ -30,27 +35,26 @@ refused slot error = answered slot (negated (error_number error)) []
 abbrev pub destroyed : Slot → List ℕ → Change
 destroyed slot line = record { slot = record slot { status = Free }; written = line }
 
--- 0 cputs(va, len): over 4,096 bytes are refused. A byte that can't be read destroys the caller. Else the
--- bytes are written.
+-- cputs(va, len), with va in EDX and len in ECX: a caller that asks for too many bytes is refused, one whose bytes
+-- can't all be read is destroyed, and else they go to the console.
 abbrev pub cputs_of : Slot → Result (List ℕ) PageFault → Change
 cputs_of slot (Ok bytes) = answered slot 0 bytes
 cputs_of slot (Err fault) = destroyed slot (user_mem_check_line slot.last_id fault.va)
 
 abbrev pub cputs : (ℕ → List ℕ) → Slot → Change
 cputs pages slot =
-    if nat_lt 4096 slot.registers.ecx then refused slot Invalid
+    if nat_lt CPUTS_MAX slot.registers.ecx then refused slot Invalid
     else cputs_of slot (bytes_read (read_byte pages slot.entries) slot.registers.edx slot.registers.ecx)
 
--- 3 env_destroy(id): 0 names the caller, as its own id does. No other environment is live, so another id is
--- refused.
+-- env_destroy(id), with id in EDX: the caller is named by 0 and by its own id. There is no other to be destroyed yet.
 abbrev pub env_destroy : Slot → Change
 env_destroy slot =
     if (slot.registers.edx == 0) || (slot.registers.edx == slot.last_id) then destroyed slot []
     else refused slot BadEnv
 
--- Every other number is refused.
+-- No other call is built yet.
 unfoldable pub system_call : (ℕ → List ℕ) → Slot → Change
 system_call pages slot =
-    if slot.registers.eax == 0 then cputs pages slot
-    else if slot.registers.eax == 3 then env_destroy slot
+    if slot.registers.eax == SYS_CPUTS then cputs pages slot
+    else if slot.registers.eax == SYS_ENV_DESTROY then env_destroy slot
     else refused slot Invalid

@@ -1,15 +1,16 @@
--- Words and pages, and maps as functions.
--- A word is a number below 2^32, a page is a list of 4,096 bytes, and an address has the number of its page
--- in the bits from 12 on and its offset below them. (MIT 6.828, inc/mmu.h)
+-- Words, pages and maps.
+-- Words have 32 bits. Pages are lists of bytes. What an address says is the page, and the place in it.
+-- (MIT 6.828, inc/mmu.h: PGNUM and PGOFF)
 use Rattle.std.specs.Prelude.{ℕ, ◌-◌, ◌/◌, ◌%◌, ◌^◌, ◌==◌, if◌then◌else◌}
+use Rattle.jos_base.specs.declared.numbers.TheConstants.{PGSIZE}
 
 abbrev pub page_number : ℕ → ℕ
-page_number va = va / 4096
+page_number va = va / PGSIZE
 
 abbrev pub page_offset : ℕ → ℕ
-page_offset va = va % 4096
+page_offset va = va % PGSIZE
 
--- an error's number, negated as a word
+-- what an error's number is answered as
 abbrev pub negated : ℕ → ℕ
 negated error = 2 ^ 32 - error
 

@@ -1,8 +1,9 @@
 //! Why a call is refused.
 
 ghost use Rattle.std.specs.Prelude.{◌≡◌};
-ghost use Rattle.jos_base.specs.Errors.{error_number};
+ghost use Rattle.jos_base.specs.SystemCalls.{error_number};
 
+use crate::numbers::{E_BAD_ENV, E_INVAL};
 use std::alloc::{AllocError, AllocFailed};
 
 /// The error of a system call, which is answered as its number, negated as a word. (MIT 6.828, inc/error.h)
@@ -20,8 +21,8 @@ impl Errno {
         ensures { result ≡ error_number self }
     {
         match self {
-            Errno::BadEnv => 2,
-            Errno::Invalid => 3,
+            Errno::BadEnv => E_BAD_ENV,
+            Errno::Invalid => E_INVAL,
         }
     }
 }
@@ -49,8 +50,8 @@ mod tests {
     // E_BAD_ENV and E_INVAL of MIT 6.828's inc/error.h
     #[test]
     fn numbers_the_errors(rt: HostRuntime) {
-        for (errno, code) in [(Errno::BadEnv, 2), (Errno::Invalid, 3)] {
-            assert_eq!(rt; errno.code(), code, "{errno:?}");
+        for (errno, number) in [(Errno::BadEnv, 2), (Errno::Invalid, 3)] {
+            assert_eq!(rt; errno.code(), number, "{errno:?}");
         }
     }
 }

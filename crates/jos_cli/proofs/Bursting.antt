@@ -1,5 +1,6 @@
 -- Steps of a turn at once: what a burst does is what the run does in as many steps.
-use Rattle.std.proofs.Common.{◌≡◌, ℕ, ◌+◌, ◌-◌, ◌<◌, ◌≤◌, ◌==◌, Option, None, Ok, Err, zero, suc, true, false, List, [], ◌∷◌, ◌++◌, length, refl, sym, ap, ◌∙◌, arith, if◌then◌else◌}
+use Rattle.std.proofs.Common.{◌≡◌, ℕ, ◌+◌, ◌-◌, ◌<◌, ◌≤◌, ◌==◌, Option, None, Ok, Err, zero, suc, true, false, List}
+use Rattle.std.proofs.Common.{[], ◌∷◌, ◌++◌, length, refl, sym, ap, ◌∙◌, arith, if◌then◌else◌}
 use Rattle.std.specs.Prelude.{nat_lt}
 use Rattle.std.proofs.lemmas.Bool.Decides.{nat_tests}
 use Rattle.std.proofs.lemmas.List.{append-nil}
@@ -10,16 +11,18 @@ use Rattle.jos_cpu.specs.declared.events.Event.{Event}
 use Rattle.jos_cpu.specs.declared.events.Event.TheVariants.{Next, Soft, Raised}
 use Rattle.jos_cpu.specs.declared.events.Gates.TheVariants.{Exo}
 use Rattle.jos_cpu.specs.Effects.{IfRaised}
-use Rattle.jos_cpu.specs.Steps.{step_of}
-use Rattle.jos_cpu.specs.Bursts.{GoesOn, IsBurst}
+use Rattle.jos_cpu.specs.Bursts.{StepsTo, GoesOn, IsBurst}
 use Rattle.jos_host.specs.declared.host.Failed.{Failed}
 use Rattle.jos_cli.specs.declared.environment.Environment.{Environment}
 use Rattle.jos_cli.specs.declared.kernel.Kernel.{Kernel}
 use Rattle.jos_cli.specs.Space.{Mapped, pages_of, entries_of, space_memory}
-use Rattle.jos_cli.specs.Meanings.{slot_of, GainsPart, Makes}
-use Rattle.jos_cli.specs.Steps.{Stepped, after_event, stepped}
-use Rattle.jos_cli.specs.ExoRun.{Progress, Ran, in_turn, turn_goes_on, paused, turn_of, end_of, progressed_in, progressed, run_from}
-use Rattle.jos_cli.specs.Progress.{progress_of, Counts, Advances}
+use Rattle.jos_cli.specs.Frames.{from_to}
+use Rattle.jos_cli.specs.Environments.{slot_of, Makes}
+use Rattle.jos_cli.specs.Gains.{GainsPart}
+use Rattle.jos_cli.specs.Steps.{EnvStep, after_event, env_step}
+use Rattle.jos_cli.specs.ExoRun.{Progress, Ran, in_turn, turn_goes_on, paused, turn_of, end_of, progressed_in}
+use Rattle.jos_cli.specs.ExoRun.{progressed, run_from}
+use Rattle.jos_cli.specs.Kernel.{progress_of, Counts, Advances}
 use Rattle.jos_cli.proofs.Runs.{run_from-suc, run_from-console}
 
 -- the slot of an environment that is running
@@ -42,7 +45,7 @@ went p id runs regs m = record {
 }
 
 -- what a step makes of where a turn stands does not hang on memory and slot
-progressed-same : (p q : Progress) (s : Stepped) → p.console ≡ q.console → p.turns ≡ q.turns → p.steps ≡ q.steps → p.made ≡ q.made →
+progressed-same : (p q : Progress) (s : EnvStep) → p.console ≡ q.console → p.turns ≡ q.turns → p.steps ≡ q.steps → p.made ≡ q.made →
     progressed p s ≡ progressed q s
 unfolding progressed
 progressed-same p q s c t a b =
@@ -52,9 +55,9 @@ module _ (id runs later : ℕ) where
   -- the first step of those that go on
   one : (p : Progress) (regs r : Regs) (k : Mapped) (left : ℕ) → p.made + 1 < 1000 →
       end_of p.slot (length p.turns) p.made false ≡ None → in_turn p.slot p.made ≡ running id runs regs p.memory →
-      step_of space_memory regs p.memory Exo ≡ record { regs = r; memory = k; event = Next } →
+      StepsTo space_memory Exo (record { regs = regs; memory = p.memory }) Next (record { regs = r; memory = k }) →
       run_from (suc left) p ≡ run_from left (went p id runs r k)
-  unfolding run_from stepped progressed
+  unfolding run_from env_step progressed
   one p regs r k left below e t s =
       let lt : nat_lt (p.made + 1) 1000 ≡ true = grind (arith, nat_tests) in
       rw (e, t, s, lt, append-nil p.console) refl
@@ -74,21 +77,21 @@ module _ (id runs later : ℕ) where
   -- so many steps that go on, and one more
   pub many : (n : ℕ) (p : Progress) (regs r : Regs) (k : Mapped) → p.made + n < 1000 →
       end_of p.slot (length p.turns) p.made false ≡ None → in_turn p.slot p.made ≡ running id runs regs p.memory →
-      GoesOn space_memory Exo n regs p.memory r k →
-      run_from (suc n + later) p ≡ run_from later (progressed (further p n) (stepped k (running id runs r k)))
+      GoesOn space_memory Exo n (record { regs = regs; memory = p.memory }) (record { regs = r; memory = k }) →
+      run_from (suc n + later) p ≡ run_from later (progressed (further p n) (env_step k (running id runs r k)))
   many zero p regs r k below e t h =
-      let first : run_from (suc later) p ≡ run_from later (progressed p (stepped p.memory (running id runs regs p.memory))) =
+      let first : run_from (suc later) p ≡ run_from later (progressed p (env_step p.memory (running id runs regs p.memory))) =
       run_from-suc later p ∙ rw (e, t) refl in
       let a : suc zero + later ≡ suc later = omega arith in
       ap (λ (x : ℕ). run_from x p) a ∙ first
-      ∙ (λ i. run_from later (progressed p (stepped (sym h.1 i) (running id runs (sym h.0 i) (sym h.1 i)))))
+      ∙ (λ i. run_from later (progressed p (env_step (sym h i).memory (running id runs (sym h i).regs (sym h i).memory))))
       ∙ ap (run_from later) (progressed-same p (further p 0) _ refl refl (omega arith) (omega arith))
   many (suc n) p regs r k below e t h =
       let a : suc (suc n) + later ≡ suc (suc n + later) = omega arith in
-      let q = went p id runs h.0 h.1 in
+      let q = went p id runs h.0.regs h.0.memory in
       ap (λ (x : ℕ). run_from x p) a
-      ∙ one p regs h.0 h.1 (suc n + later) (omega arith) e t h.2
-      ∙ many n q h.0 r k (omega arith) (went-goes_on p h.0 h.1) (went-in_turn p h.0 h.1) h.3
+      ∙ one p regs h.0.regs h.0.memory (suc n + later) (omega arith) e t h.1
+      ∙ many n q h.0.regs r k (omega arith) (went-goes_on p h.0.regs h.0.memory) (went-in_turn p h.0.regs h.0.memory) h.2
       ∙ ap (run_from later) (progressed-same (further q n) (further p (suc n)) _ refl refl (omega arith) (omega arith))
 
 -- what comes of a trap is told for the address at which the registers stand, and that of other events for no other
@@ -99,20 +102,20 @@ after_event-there pages slot regs new (Soft n) kept = refl
 after_event-there pages slot regs new (Raised trap error va) kept = ap (λ (r : Regs). after_event pages slot r.eip (Raised trap error va)) (sym kept)
 
 -- the last step of a burst, with what comes of it
-pub stepped-last : (id runs : ℕ) (regs new : Regs) (m next : Mapped) (event : Event) →
-    step_of space_memory regs m Exo ≡ record { regs = new; memory = next; event = event } → IfRaised event (new ≡ regs) →
-    stepped m (running id runs regs m) ≡ record { memory = next; change = after_event (pages_of next) (running id runs new next) new.eip event }
-unfolding stepped
-stepped-last id runs regs new m next event s kept =
+pub env_step-last : (id runs : ℕ) (regs new : Regs) (m next : Mapped) (event : Event) →
+    StepsTo space_memory Exo (record { regs = regs; memory = m }) event (record { regs = new; memory = next }) → IfRaised event (new ≡ regs) →
+    env_step m (running id runs regs m) ≡ record { memory = next; change = after_event (pages_of next) (running id runs new next) new.eip event }
+unfolding env_step
+env_step-last id runs regs new m next event s kept =
     rw s (ap (λ c. record { memory = next; change = c }) (after_event-there (pages_of next) (running id runs new next) regs new event kept))
 
 module _ (before : Kernel) (entered : Environment) (is_running : entered.status ≡ Running)
     (enters : (m : Mapped) → slot_of entered m ≡ in_turn (slot_of before.environment m) before.made)
     (goes_on : end_of (slot_of before.environment before.space) (length before.turns.items) before.made false ≡ None)
     (limit steps : ℕ) (event : Event) (new : Regs) (next : Mapped)
-    (burst : IsBurst space_memory Exo limit steps event entered.regs before.space new next) (room : before.made + limit ≤ 1000) where
+    (burst : IsBurst space_memory Exo limit steps event (record { regs = entered.regs; memory = before.space }) (record { regs = new; memory = next })) (room : before.made + limit ≤ 1000) where
   -- what comes of the last step
-  abbrev last : Stepped
+  abbrev last : EnvStep
   last = record {
     memory = next;
     change = after_event (pages_of next) (slot_of (record entered { regs = new }) next) new.eip event;
@@ -128,31 +131,31 @@ module _ (before : Kernel) (entered : Environment) (is_running : entered.status 
   }
 
   pub burst_steps : (later : ℕ) (told : List ℕ) →
-      run_from (steps + later) (progress_of before told) ≡ run_from later (progressed (further (progress_of before told) burst.before) last)
+      run_from (steps + later) (progress_of before told) ≡ run_from later (progressed (further (progress_of before told) burst.going) last)
   burst_steps later told =
-      let count : steps ≡ burst.before + 1 = burst.count in
+      let count : steps ≡ burst.going + 1 = burst.count in
       let within : steps ≤ limit = burst.within in
-      let a : steps + later ≡ suc burst.before + later = omega arith in
-      let fits : before.made + burst.before < 1000 = omega arith in
-      let made : stepped burst.memory (running entered.id.0 entered.runs burst.regs burst.memory) ≡ last =
-      stepped-last entered.id.0 entered.runs burst.regs new burst.memory next event burst.last burst.kept
+      let a : steps + later ≡ suc burst.going + later = omega arith in
+      let fits : before.made + burst.going < 1000 = omega arith in
+      let made : env_step burst.reached.memory (running entered.id.0 entered.runs burst.reached.regs burst.reached.memory) ≡ last =
+      env_step-last entered.id.0 entered.runs burst.reached.regs new burst.reached.memory next event burst.last burst.kept
       ∙ (λ i. record { memory = next; change = after_event (pages_of next) (sym (in_running new next) i) new.eip event }) in
       ap (λ (x : ℕ). run_from x (progress_of before told)) a
-      ∙ many entered.id.0 entered.runs later burst.before (progress_of before told) entered.regs burst.regs burst.memory fits goes_on
+      ∙ many entered.id.0 entered.runs later burst.going (progress_of before told) entered.regs burst.reached.regs burst.reached.memory fits goes_on
       (sym (enters before.space) ∙ in_running entered.regs before.space) burst.went
-      ∙ ap (λ (s : Stepped). run_from later (progressed (further (progress_of before told) burst.before) s)) made
+      ∙ ap (λ (s : EnvStep). run_from later (progressed (further (progress_of before told) burst.going) s)) made
 
   -- the steps are counted
   counted : (between after : Kernel) (told : List ℕ) →
       between.steps ≡ before.steps → between.turns.items ≡ before.turns.items → between.made ≡ before.made →
       between.space ≡ next → slot_of between.environment between.space ≡ last.change.slot →
       Counts between after steps (slot_of between.environment between.space) →
-      progressed (further (progress_of before told) burst.before) last ≡ progress_of after (told ++ last.change.written)
+      progressed (further (progress_of before told) burst.going) last ≡ progress_of after (told ++ last.change.written)
   unfolding progressed
   counted between after told a b c m t counts =
-      let count : steps ≡ burst.before + 1 = burst.count in
-      let x : before.made + burst.before + 1 ≡ between.made + steps = omega (arith, count, c) in
-      let all : before.steps + burst.before + 1 ≡ after.steps = omega (arith, count, a, counts.steps) in
+      let count : steps ≡ burst.going + 1 = burst.count in
+      let x : before.made + burst.going + 1 ≡ between.made + steps = omega (arith, count, c) in
+      let all : before.steps + burst.going + 1 ≡ after.steps = omega (arith, count, a, counts.steps) in
       λ i. record {
         memory = sym (counts.memory_is ∙ m) i;
         slot = ((λ j. if turn_goes_on (sym t j) (sym b j) (x j) then sym t j else paused (sym t j))
@@ -165,11 +168,11 @@ module _ (before : Kernel) (entered : Environment) (is_running : entered.status 
 
   pub on_counted : (left : ℕ) (between after : Kernel) (first now : Option (List ℕ)) → limit ≤ left →
       between.steps ≡ before.steps → between.turns.items ≡ before.turns.items → between.made ≡ before.made →
-      between.space ≡ next → Makes (Ok tt) last.change (slot_of between.environment between.space) first now →
+      between.space ≡ next → Makes (Ok tt) last.change (slot_of between.environment between.space) (from_to first now) →
       Counts between after steps (slot_of between.environment between.space) →
-      Advances (Ok steps) left before after first now
+      Advances (Ok steps) left (from_to before after) (from_to first now)
   on_counted left between after first now fits a b c m made counts =
-      let count : steps ≡ burst.before + 1 = burst.count in
+      let count : steps ≡ burst.going + 1 = burst.count in
       let within : steps ≤ limit = burst.within in
       let all : after.steps ≡ before.steps + steps = omega (arith, a, counts.steps) in (
         omega arith,
@@ -183,7 +186,7 @@ module _ (before : Kernel) (entered : Environment) (is_running : entered.status 
       )
 
   pub on_failed_write : (left : ℕ) (after : Kernel) (failed : Failed) (first now : Option (List ℕ)) → limit ≤ left →
-      GainsPart first now last.change.written → Advances (Err failed) left before after first now
+      GainsPart (from_to first now) last.change.written → Advances (Err failed) left (from_to before after) (from_to first now)
   unfolding progressed
   on_failed_write left after failed first now fits made =
       let within : steps ≤ limit = burst.within in
@@ -191,7 +194,7 @@ module _ (before : Kernel) (entered : Environment) (is_running : entered.status 
         last.change.written,
         made,
         λ told.
-            let begins = run_from-console (left - steps) (progressed (further (progress_of before told) burst.before) last) in (
+            let begins = run_from-console (left - steps) (progressed (further (progress_of before told) burst.going) last) in (
               begins.0,
               ap (λ (x : ℕ). (run_from x (progress_of before told)).state.console) e
                   ∙ ap (λ (r : Ran). r.state.console) (burst_steps (left - steps) told) ∙ begins.1,

@@ -1,5 +1,6 @@
 -- A file that is made and then written from its beginning.
-use Rattle.std.proofs.Common.{◌≡◌, ℕ, ◌+◌, Bool, true, false, List, [], ◌++◌, length, Option, Some, None, Result, Ok, Err, refl, sym, ap, ◌∙◌, subst, cond, append-nil, arith}
+use Rattle.std.proofs.Common.{◌≡◌, ℕ, ◌+◌, Bool, true, false, List, [], ◌++◌, length, Option, Some, None, Result, Ok}
+use Rattle.std.proofs.Common.{Err, refl, sym, ap, ◌∙◌, subst, cond, append-nil, arith}
 use Rattle.std.specs.Prelude.{unwrap_or, OnOk}
 use Rattle.std.specs.Str.{bytes_eq}
 use Rattle.std.proofs.lemmas.Slice.Eq.{bytes_eq-Decides}
@@ -9,6 +10,7 @@ use Rattle.jos_host.specs.Told.{Creates, WritesAt}
 use Rattle.jos_cli.specs.declared.outcome.Outcome.{Outcome}
 use Rattle.jos_cli.specs.declared.outcome.Outcome.TheVariants as outcome
 use Rattle.jos_cli.specs.declared.outcome.Stopped.{Stopped}
+use Rattle.jos_cli.specs.Frames.{from_to}
 use Rattle.jos_cli.specs.Commands.{Command, exo, demo, program_file}
 use Rattle.jos_cli.specs.FilesLeft.{KeepsOthers, told_with, LeavesProgram, Leaves}
 
@@ -37,11 +39,11 @@ file_written old mid new name bytes (Err e) u c w = tt
 
 -- ---- what is left where the note could not be written
 
-keeps_all : (old new : Option Files) (name : List ℕ) → new ≡ old → KeepsOthers old name new
+keeps_all : (old new : Option Files) (name : List ℕ) → new ≡ old → KeepsOthers name (from_to old new)
 keeps_all None new name e = e
 keeps_all (Some files) new name e = (files, e, λ q apart. refl)
 
-keeps_others : (old new : Option Files) (name bytes : List ℕ) → new ≡ told_with old name bytes → KeepsOthers old name new
+keeps_others : (old new : Option Files) (name bytes : List ℕ) → new ≡ told_with old name bytes → KeepsOthers name (from_to old new)
 keeps_others None new name bytes e = e
 keeps_others (Some files) new name bytes e = (with_bytes files name bytes, e, λ q apart. elsewhere q apart (bytes_eq q name) refl)
   where
@@ -49,7 +51,7 @@ keeps_others (Some files) new name bytes e = (with_bytes files name bytes, e, λ
     elsewhere q apart true e = absurd (apart ((bytes_eq-Decides q name).0 e))
     elsewhere q apart false e = refl
 
-program_fault : (old new : Option Files) (program file : List ℕ) (result : Outcome) → LeavesProgram old program file result new → KeepsOthers old file new
+program_fault : (old new : Option Files) (program file : List ℕ) (result : Outcome) → LeavesProgram program file result (from_to old new) → KeepsOthers file (from_to old new)
 program_fault old new program file (outcome.Made bytes) h = keeps_others old new file (program_file program) h
 program_fault old new program file (outcome.HostFault stopped) h = h
 program_fault old new program file (outcome.Ran report) h = keeps_all old new file h
@@ -58,9 +60,10 @@ program_fault old new program file (outcome.Absent word) h = keeps_all old new f
 program_fault old new program file (outcome.Limit which) h = keeps_all old new file h
 program_fault old new program file (outcome.BadImage word fault) h = keeps_all old new file h
 program_fault old new program file outcome.NoMemory h = keeps_all old new file h
-program_fault old new program file (outcome.Unbuilt form) h = keeps_all old new file h
+program_fault old new program file (outcome.Unbuilt feature) h = keeps_all old new file h
 
-pub leaves_fault : (old new later : Option Files) (command : Option Command) (result : Outcome) (stopped : Stopped) → Leaves old command result new → later ≡ new → Leaves old command (outcome.HostFault stopped) later
+pub leaves_fault : (old new later : Option Files) (command : Option Command) (result : Outcome) (stopped : Stopped) → Leaves command result (from_to old new) → later ≡ new →
+    Leaves command (outcome.HostFault stopped) (from_to old later)
 leaves_fault old new later None result stopped h same = same ∙ h
 leaves_fault old new later (Some (exo image)) result stopped h same = same ∙ h
-leaves_fault old new later (Some (demo program file)) result stopped h same = subst (λ (f : Option Files). KeepsOthers old file f) (sym same) (program_fault old new program file result h)
+leaves_fault old new later (Some (demo program file)) result stopped h same = subst (λ (f : Option Files). KeepsOthers file (from_to old f)) (sym same) (program_fault old new program file result h)

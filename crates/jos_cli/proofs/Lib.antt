@@ -1,3 +1,4 @@
+pub mod Frames
 pub mod Probes
 pub mod Buffers
 pub mod ToldBytes
@@ -8,3 +9,4 @@ pub mod FilesWritten
 pub mod PageWindows
 pub mod Bursting
 pub mod PageFilled
+pub mod BytesPut

@@ -1,5 +1,6 @@
 -- The bytes of a page from an address on, and a word that is put into it.
-use Rattle.std.proofs.Common.{◌≡◌, ℕ, ◌+◌, ◌-◌, ◌<◌, ◌≤◌, ◌/◌, ◌%◌, ◌^◌, ◌==◌, ◌≢◌, zero, suc, Bool, true, false, None, List, length, take, drop, refl, sym, ap, subst, ◌∙◌, arith}
+use Rattle.std.proofs.Common.{◌≡◌, ℕ, ◌+◌, ◌-◌, ◌<◌, ◌≤◌, ◌/◌, ◌%◌, ◌^◌, ◌==◌, ◌≢◌, zero, suc, Bool, true, false}
+use Rattle.std.proofs.Common.{None, List, length, take, drop, refl, sym, ap, subst, ◌∙◌, arith}
 use Rattle.std.proofs.lemmas.Bool.Decides.{nat_tests}
 use Rattle.std.proofs.lemmas.List.{length-drop, get_or-drop}
 use Rattle.std.proofs.Math.Seq.{take-length}
@@ -8,9 +9,10 @@ use Rattle.jos_base.specs.declared.memory.Access.{Access}
 use Rattle.jos_base.specs.declared.memory.Access.TheVariants.{Read, Write}
 use Rattle.jos_base.specs.Words.{upd}
 use Rattle.jos_base.specs.Reach.{read_byte}
-use Rattle.jos_alu.specs.declared.width.Width.TheVariants.{Byte, Word}
+use Rattle.jos_alu.specs.declared.width.Width.TheVariants.{Bits8, Bits32}
 use Rattle.jos_cpu.specs.Memory.{IsStill, StandAt, after, probed}
-use Rattle.jos_cpu.specs.Accesses.{IsPut, stored_number}
+use Rattle.jos_cpu.specs.Transfers.{stored_number}
+use Rattle.jos_cpu.specs.AtHand.{IsPut}
 use Rattle.jos_cli.specs.Space.{Mapped, stack_page, entries_of, pages_of, with_byte, with_word, space_memory}
 
 -- ---- bytes
@@ -66,7 +68,7 @@ is_not n k e = grind (arith, nat_tests)
 put_at_stack : (m : Mapped) (a b c d value : ℕ) (o : ℕ) → b ≡ after a → c ≡ after b → d ≡ after c →
     (a / 4096 == stack_page) ≡ true → (b / 4096 == stack_page) ≡ true → (c / 4096 == stack_page) ≡ true → (d / 4096 == stack_page) ≡ true →
     a % 4096 ≡ o → b % 4096 ≡ o + 1 → c % 4096 ≡ o + 2 → d % 4096 ≡ o + 3 →
-    IsPut space_memory m Word a value (record m { stack = with_word m.stack o value })
+    IsPut space_memory m Bits32 a value (record m { stack = with_word m.stack o value })
 unfolding space_memory entries_of upd probed stored_number with_byte with_word
 put_at_stack m a b c d value o eb ec ed pa pb pc pd oa ob oc od = record {
   reached = rw (← eb, ← ec, ← ed, pa, pb, pc, pd) refl;
@@ -74,7 +76,7 @@ put_at_stack m a b c d value o eb ec ed pa pb pc pd oa ob oc od = record {
 }
 
 pub put_in_stack : (m : Mapped) (va value : ℕ) → va < 2 ^ 32 → va % 4096 ≤ 4092 → va / 4096 ≡ stack_page →
-    IsPut space_memory m Word va value (record m { stack = with_word m.stack (va % 4096) value })
+    IsPut space_memory m Bits32 va value (record m { stack = with_word m.stack (va % 4096) value })
 put_in_stack m va value small room at =
     let one : after va / 4096 ≡ va / 4096 = omega arith in
     let two : after (after va) / 4096 ≡ va / 4096 = omega arith in
@@ -87,7 +89,7 @@ put_at_page : (page : ℕ) (image stack : List ℕ) (a b c d value : ℕ) (o : �
     (a / 4096 == stack_page) ≡ false → (b / 4096 == stack_page) ≡ false → (c / 4096 == stack_page) ≡ false → (d / 4096 == stack_page) ≡ false →
     (a / 4096 == page) ≡ true → (b / 4096 == page) ≡ true → (c / 4096 == page) ≡ true → (d / 4096 == page) ≡ true →
     a % 4096 ≡ o → b % 4096 ≡ o + 1 → c % 4096 ≡ o + 2 → d % 4096 ≡ o + 3 →
-    IsPut space_memory (record { page = page; writable = true; image = image; stack = stack }) Word a value
+    IsPut space_memory (record { page = page; writable = true; image = image; stack = stack }) Bits32 a value
     (record { page = page; writable = true; image = with_word image o value; stack = stack })
 unfolding space_memory entries_of upd probed stored_number with_byte with_word
 put_at_page page image stack a b c d value o eb ec ed na nb nc nd pa pb pc pd oa ob oc od = record {
@@ -96,39 +98,39 @@ put_at_page page image stack a b c d value o eb ec ed na nb nc nd pa pb pc pd oa
 }
 
 pub put_in_image : (m : Mapped) (va value : ℕ) → va < 2 ^ 32 → va % 4096 ≤ 4092 → va / 4096 ≢ stack_page → va / 4096 ≡ m.page → m.writable ≡ true →
-    IsPut space_memory m Word va value (record m { image = with_word m.image (va % 4096) value })
+    IsPut space_memory m Bits32 va value (record m { image = with_word m.image (va % 4096) value })
 put_in_image m va value small room apart at w =
     let one : after va / 4096 ≡ va / 4096 = omega arith in
     let two : after (after va) / 4096 ≡ va / 4096 = omega arith in
     let three : after (after (after va)) / 4096 ≡ va / 4096 = omega arith in
-    let put : IsPut space_memory (record { page = m.page; writable = true; image = m.image; stack = m.stack }) Word va value
+    let put : IsPut space_memory (record { page = m.page; writable = true; image = m.image; stack = m.stack }) Bits32 va value
     (record { page = m.page; writable = true; image = with_word m.image (va % 4096) value; stack = m.stack }) =
     put_at_page m.page m.image m.stack va (after va) (after (after va)) (after (after (after va))) value (va % 4096) refl refl refl
     (is_not _ _ apart) (rw one (is_not _ _ apart)) (rw two (is_not _ _ apart)) (rw three (is_not _ _ apart))
     (is_it _ _ at) (is_it _ _ (one ∙ at)) (is_it _ _ (two ∙ at)) (is_it _ _ (three ∙ at))
     refl (omega arith) (omega arith) (omega arith) in
-    subst (λ (x : Bool). IsPut space_memory (record { page = m.page; writable = x; image = m.image; stack = m.stack }) Word va value
+    subst (λ (x : Bool). IsPut space_memory (record { page = m.page; writable = x; image = m.image; stack = m.stack }) Bits32 va value
     (record { page = m.page; writable = x; image = with_word m.image (va % 4096) value; stack = m.stack })) (sym w) put
 
 -- ---- one byte
 
 pub byte_in_stack : (m : Mapped) (va value : ℕ) → va / 4096 ≡ stack_page →
-    IsPut space_memory m Byte va value (record m { stack = slice_set m.stack (va % 4096) (value % 256) })
+    IsPut space_memory m Bits8 va value (record m { stack = slice_set m.stack (va % 4096) (value % 256) })
 unfolding space_memory entries_of upd probed with_byte stored_number
 byte_in_stack m va value at =
     let e : (va / 4096 == stack_page) ≡ true = is_it _ _ at in
     record { reached = rw e refl; stored = rw e refl }
 
 byte_in_page : (page : ℕ) (image stack : List ℕ) (va value : ℕ) → (va / 4096 == stack_page) ≡ false → (va / 4096 == page) ≡ true →
-    IsPut space_memory (record { page = page; writable = true; image = image; stack = stack }) Byte va value
+    IsPut space_memory (record { page = page; writable = true; image = image; stack = stack }) Bits8 va value
     (record { page = page; writable = true; image = slice_set image (va % 4096) (value % 256); stack = stack })
 unfolding space_memory entries_of upd probed with_byte stored_number
 byte_in_page page image stack va value n e = record { reached = rw (n, e) refl; stored = rw (n, e) refl }
 
 pub byte_in_image : (m : Mapped) (va value : ℕ) → va / 4096 ≢ stack_page → va / 4096 ≡ m.page → m.writable ≡ true →
-    IsPut space_memory m Byte va value (record m { image = slice_set m.image (va % 4096) (value % 256) })
+    IsPut space_memory m Bits8 va value (record m { image = slice_set m.image (va % 4096) (value % 256) })
 byte_in_image m va value apart at w =
-    subst (λ (x : Bool). IsPut space_memory (record { page = m.page; writable = x; image = m.image; stack = m.stack }) Byte va value
+    subst (λ (x : Bool). IsPut space_memory (record { page = m.page; writable = x; image = m.image; stack = m.stack }) Bits8 va value
     (record { page = m.page; writable = x; image = slice_set m.image (va % 4096) (value % 256); stack = m.stack })) (sym w)
     (byte_in_page m.page m.image m.stack va value (is_not _ _ apart) (is_it _ _ at))
 

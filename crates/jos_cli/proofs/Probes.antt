@@ -1,22 +1,23 @@
 -- A probe of the two pages: one turn of its loop, and what it says of the bytes together.
-use Rattle.std.proofs.Common.{◌≡◌, ℕ, ◌+◌, ◌-◌, ◌<◌, ◌≤◌, ◌%◌, ◌^◌, ◌==◌, ◌&&◌, suc, zero, Bool, true, false, cond, None, Some, Result, Ok, Err, refl, sym, arith}
+use Rattle.std.proofs.Common.{◌≡◌, ℕ, ◌+◌, ◌-◌, ◌<◌, ◌≤◌, ◌%◌, ◌^◌, ◌==◌, ◌&&◌, suc, zero, Bool, true, false, cond}
+use Rattle.std.proofs.Common.{None, Some, Result, Ok, Err, refl, sym, arith}
 use Rattle.std.specs.Prelude.{slice_set, is_none}
 use Rattle.std.specs.Result.{result_err, is_ok}
 use Rattle.jos_base.specs.declared.memory.Access.{Access}
 use Rattle.jos_base.specs.declared.memory.Access.TheVariants.{Read}
 use Rattle.jos_base.specs.declared.memory.PageFault.{PageFault}
 use Rattle.jos_base.specs.Words.{page_number, page_offset, upd}
-use Rattle.jos_base.specs.Reach.{Place, reach, reach_entry}
+use Rattle.jos_base.specs.Reach.{Location, reach, reach_entry}
 use Rattle.jos_cpu.specs.declared.memory.MemFault.TheVariants.{Page}
 use Rattle.jos_cpu.specs.Memory.{Probed, probed, all_allowed, after}
 use Rattle.jos_cli.specs.Space.{Mapped, stack_page, perm_of, entries_of, reach_in, with_byte, space_memory, fault_or}
 
-ok_of : (r : Result Place PageFault) → None ≡ result_err r → is_ok r ≡ true
-ok_of (Ok place) e = refl
+ok_of : (r : Result Location PageFault) → None ≡ result_err r → is_ok r ≡ true
+ok_of (Ok location) e = refl
 ok_of (Err fault) e = absurd cc
 
-err_of : (r : Result Place PageFault) (fault : PageFault) → Some fault ≡ result_err r → r ≡ Err fault
-err_of (Ok place) fault e = absurd cc
+err_of : (r : Result Location PageFault) (fault : PageFault) → Some fault ≡ result_err r → r ≡ Err fault
+err_of (Ok location) fault e = absurd cc
 err_of (Err other) fault e = cc
 
 -- the bytes from here on are probed as all are

@@ -1,41 +1,33 @@
 -- What the program answers, where nothing fails, as a function of its words and of the files; and what its
 -- outcome says of that. Refusals are tried in the order in which they stand. (This system's own.)
-use Rattle.std.specs.Prelude.{◌≡◌, ℕ, nat_lt, nat_le, ◌+◌, Bool, List, [], ◌∷◌, length, Option, Some, None, Result, Ok, Err, if◌then◌else◌}
+use Rattle.std.specs.Prelude.{◌≡◌, ◌≢◌, ℕ, nat_lt, nat_le, ◌+◌, Bool, List, [], ◌∷◌, length, Option, Some, None}
+use Rattle.std.specs.Prelude.{Result, Ok, Err, if◌then◌else◌}
 use Rattle.jos_host.specs.Files.{Files}
 use Rattle.jos_host.specs.Told.{Rose}
-use Rattle.jos_host.specs.declared.host.Failed.{Failed}
+use Rattle.jos_base.specs.declared.numbers.TheConstants.{PGSIZE, BUDGET, IMAGE_MAX}
 use Rattle.jos_base.specs.Words.{page_offset}
 use Rattle.jos_elf.specs.declared.fault.ElfFault.{ElfFault}
 use Rattle.jos_elf.specs.declared.image.Segment.{Segment}
-use Rattle.jos_elf.specs.Layout.{Layout}
-use Rattle.jos_elf.specs.Parsed.{parsed}
+use Rattle.jos_elf.specs.Parsed.{Layout, parsed}
 use Rattle.jos_cli.specs.declared.outcome.End.{End}
+use Rattle.jos_cli.specs.declared.outcome.End.TheVariants.{Done, Stuck, Budget, TurnsFull}
 use Rattle.jos_cli.specs.declared.outcome.Turn.{Turn}
-use Rattle.jos_cli.specs.declared.outcome.Refusal.{Refusal}
-use Rattle.jos_cli.specs.declared.outcome.Report.{Report}
 use Rattle.jos_cli.specs.declared.outcome.Which.{Which}
 use Rattle.jos_cli.specs.declared.outcome.Which.TheVariants as which
-use Rattle.jos_cli.specs.declared.outcome.Form.{Form}
-use Rattle.jos_cli.specs.declared.outcome.Form.TheVariants as form
+use Rattle.jos_cli.specs.declared.outcome.Feature.{Feature}
+use Rattle.jos_cli.specs.declared.outcome.Feature.TheVariants as feature
 use Rattle.jos_cli.specs.declared.outcome.Outcome.{Outcome}
-use Rattle.jos_cli.specs.declared.outcome.Outcome.TheVariants.{Ran, Usage, Absent, Limit, BadImage, HostFault, NoMemory, Unbuilt, Made}
+use Rattle.jos_cli.specs.declared.outcome.Outcome.TheVariants.{Ran, Usage, Absent, Limit, BadImage, HostFault}
+use Rattle.jos_cli.specs.declared.outcome.Outcome.TheVariants.{NoMemory, Unbuilt, Made}
 use Rattle.jos_cli.specs.declared.kernel.Kernel.{Kernel}
-use Rattle.jos_cli.specs.Meanings.{Gains, GainsPart}
+use Rattle.jos_cli.specs.Frames.{Around}
+use Rattle.jos_cli.specs.Reports.{Reported}
+use Rattle.jos_cli.specs.Gains.{Gains, GainsPart}
 use Rattle.jos_cli.specs.ExoRun.{exo_run}
 use Rattle.jos_cli.specs.ExoRun as run
 use Rattle.jos_cli.specs.Commands.{Command, exo, demo, program_file}
 
 -- THE ANSWER
-
--- what a run is reported as
-pub record Reported : Type 0 where
-  pub end : End
-  pub steps : ℕ
-  pub turns : List Turn
-  pub closing : ℕ
-  pub refused : ℕ
-  pub first_refused : Option Refusal
-  pub upcalls : ℕ
 
 pub data Answer : Type 0 where
   usage : Answer
@@ -43,7 +35,7 @@ pub data Answer : Type 0 where
   absent : ℕ → Answer
   limit : Which → Answer
   bad_image : ℕ → ElfFault → Answer
-  unbuilt : Form → Answer
+  unbuilt : Feature → Answer
   ran : Reported → Answer
   -- the number of bytes that are written
   made : ℕ → Answer
@@ -74,13 +66,13 @@ expected_of_run r = record { answer = ran (report_with r.end r.steps r.turns); c
 
 -- a segment whose memory lies in one page
 abbrev pub is_one_page : Segment → Bool
-is_one_page segment = nat_le (page_offset segment.va + segment.mem_len) 4096
+is_one_page segment = nat_le (page_offset segment.va + segment.mem_len) PGSIZE
 
--- An image of one segment in one page is run; the budget is 1,000,000 steps. No other is built.
+-- An image of one segment in one page is run. No other is built.
 abbrev pub expected_of_segments : List ℕ → ℕ → List Segment → Expected
 expected_of_segments file entry (segment ∷ []) =
-    if is_one_page segment then expected_of_run (exo_run entry segment file 1000000) else refused (unbuilt form.Image)
-expected_of_segments file entry _ = refused (unbuilt form.Image)
+    if is_one_page segment then expected_of_run (exo_run entry segment file BUDGET) else refused (unbuilt feature.Image)
+expected_of_segments file entry _ = refused (unbuilt feature.Image)
 
 abbrev pub expected_of_image : List ℕ → Result Layout ElfFault → Expected
 expected_of_image file (Err fault) = refused (bad_image 1 fault)
@@ -89,23 +81,12 @@ expected_of_image file (Ok layout) = expected_of_segments file layout.entry layo
 abbrev pub expected_of_file : Option (List ℕ) → Expected
 expected_of_file None = refused (absent 1)
 expected_of_file (Some file) =
-    if nat_lt 16777216 (length file) then refused (limit which.Image) else expected_of_image file (parsed file)
+    if nat_lt IMAGE_MAX (length file) then refused (limit which.Image) else expected_of_image file (parsed file)
 
 abbrev pub expected_of_program : List ℕ → Expected
 expected_of_program program = refused (made (length (program_file program)))
 
 -- THE OUTCOME
-
-abbrev pub reported : Report → Reported
-reported r = record {
-  end = r.end;
-  steps = r.steps;
-  turns = r.turns.items;
-  closing = r.closing;
-  refused = r.refused;
-  first_refused = r.first_refused;
-  upcalls = r.upcalls;
-}
 
 -- what the kernel reports
 abbrev pub report_of : Kernel → End → Reported
@@ -113,47 +94,42 @@ report_of kernel end = report_with end kernel.steps (run.turns_of kernel.turns.i
 
 -- the outcome is this answer
 abbrev pub IsAnswer : Outcome → Answer → Type 0
-IsAnswer (Ran report) answer = answer ≡ ran (reported report)
+IsAnswer (Ran report) answer = answer ≡ ran report
 IsAnswer Usage answer = answer ≡ usage
 IsAnswer (Absent word) answer = answer ≡ absent word
 IsAnswer (Limit which) answer = answer ≡ limit which
 IsAnswer (BadImage word fault) answer = answer ≡ bad_image word fault
-IsAnswer (Unbuilt form) answer = answer ≡ unbuilt form
+IsAnswer (Unbuilt feature) answer = answer ≡ unbuilt feature
 IsAnswer (Made bytes) answer = answer ≡ made bytes
 IsAnswer (HostFault stopped) answer = ⊥
 IsAnswer NoMemory answer = ⊥
 
 -- The outcome is what is expected, and the console has gained what is expected; a failed call of the host leaves
 -- a part of that, and want of memory comes before anything is written.
-abbrev pub Answers : Expected → Outcome → Option (List ℕ) → Option (List ℕ) → Type 0
-Answers e (HostFault stopped) old new = GainsPart old new e.console
-Answers e NoMemory old new = new ≡ old
-Answers e outcome old new = IsAnswer outcome e.answer × Gains old new e.console
-
--- The run is reported, and the console has gained what it writes; or a call of the host failed in the middle of that.
-abbrev pub Reports : Result Report Failed → run.Ran → Option (List ℕ) → Option (List ℕ) → Type 0
-Reports (Ok report) r old new = Answers (expected_of_run r) (Ran report) old new
-Reports (Err _) r old new = GainsPart old new r.state.console
+abbrev pub Answers : Expected → Outcome → Around (Option (List ℕ)) → Type 0
+Answers e (HostFault stopped) console = GainsPart console e.console
+Answers e NoMemory console = console.after ≡ console.before
+Answers e outcome console = IsAnswer outcome e.answer × Gains console e.console
 
 -- The same for a command; of a run, where the host tells its files.
-abbrev pub AnswersCommand : Option Files → Option Command → Outcome → Option (List ℕ) → Option (List ℕ) → Type 0
-AnswersCommand told None outcome old new = Answers (refused usage) outcome old new
-AnswersCommand None (Some (exo image)) outcome old new = Unit {0}
-AnswersCommand (Some files) (Some (exo image)) outcome old new = Answers (expected_of_file (files image)) outcome old new
-AnswersCommand told (Some (demo program file)) outcome old new = Answers (expected_of_program program) outcome old new
+abbrev pub AnswersCommand : Option Files → Option Command → Outcome → Around (Option (List ℕ)) → Type 0
+AnswersCommand told None outcome console = Answers (refused usage) outcome console
+AnswersCommand None (Some (exo image)) outcome console = Unit {0}
+AnswersCommand (Some files) (Some (exo image)) outcome console = Answers (expected_of_file (files image)) outcome console
+AnswersCommand told (Some (demo program file)) outcome console = Answers (expected_of_program program) outcome console
 
 -- A failed call of the host is the answer only where the count of its faults rose, and every other answer leaves
 -- the count. What is handed out beside it is empty.
-abbrev pub HasOutcomeCause : ℕ → ℕ → Outcome → Type 0
-HasOutcomeCause before now (HostFault stopped) = Rose before now × (stopped.turns.items ≡ []) × (stopped.first_refused ≡ None)
-HasOutcomeCause before now (Ran report) = now ≡ before
-HasOutcomeCause before now Usage = now ≡ before
-HasOutcomeCause before now (Absent word) = now ≡ before
-HasOutcomeCause before now (Limit which) = now ≡ before
-HasOutcomeCause before now (BadImage word fault) = now ≡ before
-HasOutcomeCause before now (Unbuilt form) = now ≡ before
-HasOutcomeCause before now (Made bytes) = now ≡ before
-HasOutcomeCause before now NoMemory = now ≡ before
+abbrev pub HasOutcomeCause : Around ℕ → Outcome → Type 0
+HasOutcomeCause faults (HostFault stopped) = Rose faults.before faults.after × (stopped.turns ≡ []) × (stopped.first_refused ≡ None)
+HasOutcomeCause faults (Ran report) = faults.after ≡ faults.before
+HasOutcomeCause faults Usage = faults.after ≡ faults.before
+HasOutcomeCause faults (Absent word) = faults.after ≡ faults.before
+HasOutcomeCause faults (Limit which) = faults.after ≡ faults.before
+HasOutcomeCause faults (BadImage word fault) = faults.after ≡ faults.before
+HasOutcomeCause faults (Unbuilt feature) = faults.after ≡ faults.before
+HasOutcomeCause faults (Made bytes) = faults.after ≡ faults.before
+HasOutcomeCause faults NoMemory = faults.after ≡ faults.before
 
 -- the words alone decide this answer, whatever the host tells
 abbrev pub IsUsageCase : Option Command → Outcome → Type 0
@@ -167,7 +143,7 @@ IsUsageCase (Some command) _ = Unit {0}
 abbrev pub IsRunCase : Outcome → Type 0
 IsRunCase (Ran report) = Unit {0}
 IsRunCase NoMemory = Unit {0}
-IsRunCase (Unbuilt form) = Unit {0}
+IsRunCase (Unbuilt feature) = Unit {0}
 IsRunCase _ = ⊥
 
 -- it was written, or there was no memory to begin with
@@ -181,3 +157,28 @@ abbrev pub IsMemoryCase : Outcome → Type 0
 IsMemoryCase NoMemory = Unit {0}
 IsMemoryCase (HostFault stopped) = Unit {0}
 IsMemoryCase _ = ⊥
+
+-- THE EXIT STATUS
+
+abbrev pub end_status : End → ℕ
+end_status Done = 0
+end_status Stuck = 9
+end_status Budget = 10
+end_status TurnsFull = 11
+
+abbrev pub status_of : Outcome → ℕ
+status_of (Ran report) = end_status report.end
+status_of Usage = 1
+status_of (Absent word) = 2
+status_of (Limit which) = 3
+status_of (BadImage word fault) = 4
+status_of (HostFault stopped) = 7
+status_of NoMemory = 8
+status_of (Unbuilt feature) = 14
+status_of (Made bytes) = 0
+
+-- The status of a failed call of the host is answered only where the count of its faults rose, and every other leaves
+-- the count.
+pub record HasStatusCause (faults : Around ℕ) (status : ℕ) : Type 0 where
+  pub fault : status ≡ 7 → Rose faults.before faults.after
+  pub other : status ≢ 7 → faults.after ≡ faults.before

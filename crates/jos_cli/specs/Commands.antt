@@ -1,9 +1,12 @@
 -- What the words of the command line ask. (This system's own.)
-use Rattle.std.specs.Prelude.{ℕ, ◌&&◌, not, Bool, false, ◌==◌, List, [], ◌∷◌, Option, Some, None, is_some, unwrap_or, codes, if◌then◌else◌}
+use Rattle.std.specs.Prelude.{ℕ, ◌&&◌, not, Bool, false, ◌==◌, List, [], ◌∷◌, Option, Some, None, is_some, unwrap_or}
+use Rattle.std.specs.Prelude.{codes, if◌then◌else◌}
 use Rattle.std.specs.Str.{bytes_eq}
 use Rattle.jos_demo.specs.Programs.{file_of}
+use Rattle.jos_cli.specs.declared.command.Command.{Command as Read}
+use Rattle.jos_cli.specs.declared.command.Command.TheVariants.{Exo, Demo}
 
--- a word that begins with `-` and is longer
+-- a word of two bytes at least, the first of which is `-`
 abbrev pub is_option : List ℕ → Bool
 is_option (first ∷ second ∷ rest) = first == 45
 is_option _ = false
@@ -13,6 +16,11 @@ pub data Command : Type 0 where
   exo : List ℕ → Command
   -- writes the example program of the first name as the file of the second
   demo : List ℕ → List ℕ → Command
+
+-- a command that was read, with its words in bytes
+abbrev pub in_bytes : Read → Command
+in_bytes (Exo image) = exo image.now
+in_bytes (Demo program file) = demo program.now file.now
 
 -- `exo IMAGE`, and `demo NAME FILE` where an example program has the name; no file's name is an option
 abbrev pub exo_of : List ℕ → List ℕ → Option Command

@@ -2,10 +2,13 @@
 -- holds.
 -- (MIT 6.828, kern/env.c and kern/sched.c, and inc/memlayout.h; turns of a number of steps, the budget and the ends
 -- are this system's own.)
-use Rattle.std.specs.Prelude.{ℕ, ◌+◌, ◌%◌, ◌^◌, ◌==◌, ◌&&◌, nat_lt, nat_le, not, zero, suc, Bool, true, false, List, [], ◌∷◌, ◌++◌, length, take, drop, Option, Some, None, unwrap_or, if◌then◌else◌}
+use Rattle.std.specs.Prelude.{ℕ, ◌+◌, ◌%◌, ◌^◌, ◌==◌, ◌&&◌, nat_lt, nat_le, not, zero, suc, Bool, true, false, List}
+use Rattle.std.specs.Prelude.{[], ◌∷◌, ◌++◌, length, take, drop, Option, Some, None, unwrap_or, if◌then◌else◌}
 use Rattle.jos_base.specs.declared.registers.Regs.{Regs}
 use Rattle.jos_base.specs.declared.environment.Status.{Status}
 use Rattle.jos_base.specs.declared.environment.Status.TheVariants.{Free, Runnable, Running}
+use Rattle.jos_base.specs.declared.numbers.TheConstants.{PGSIZE, USTACKTOP, FL_IF, FL_1, FIRST_ENV_ID, QUANTUM}
+use Rattle.jos_base.specs.declared.numbers.TheConstants.{TURN_MAX}
 use Rattle.jos_base.specs.Words.{page_number, page_offset, upd}
 use Rattle.jos_base.specs.KernelState.{KernelState, Slot, is_live}
 use Rattle.jos_elf.specs.declared.image.Segment.{Segment}
@@ -13,7 +16,7 @@ use Rattle.jos_cli.specs.declared.outcome.End.{End}
 use Rattle.jos_cli.specs.declared.outcome.End.TheVariants.{Done, Stuck, Budget, TurnsFull}
 use Rattle.jos_cli.specs.declared.outcome.Turn.{Turn}
 use Rattle.jos_cli.specs.Space.{Mapped, pages_of, entries_of, page_with, zero_bytes}
-use Rattle.jos_cli.specs.Steps.{Stepped, stepped}
+use Rattle.jos_cli.specs.Steps.{EnvStep, env_step}
 
 -- BOOT
 
@@ -23,28 +26,28 @@ mapped segment file = record {
   page = page_number segment.va;
   writable = segment.writable;
   image = page_with (page_offset segment.va) (take segment.file_len (drop segment.file_at file));
-  stack = zero_bytes 4096;
+  stack = zero_bytes PGSIZE;
 }
 
--- EIP is the entry, ESP is USTACKTOP, EFLAGS has IF and bit 1, and all else is 0
+-- all that is not named here is 0
 abbrev pub first_registers : ℕ → Regs
 first_registers entry = record {
   eax = 0;
   ecx = 0;
   edx = 0;
   ebx = 0;
-  esp = 0xeebf_e000;
+  esp = USTACKTOP;
   ebp = 0;
   esi = 0;
   edi = 0;
   eip = entry;
-  eflags = 0x202;
+  eflags = FL_IF + FL_1;
 }
 
 -- the environment with the first id
 abbrev pub first_slot : ℕ → Mapped → Slot
 first_slot entry m = record {
-  last_id = 0x1000;
+  last_id = FIRST_ENV_ID;
   status = Runnable;
   runs = 0;
   registers = first_registers entry;
@@ -69,7 +72,7 @@ state_with m slot console = record { pages = pages_of m; slots = upd (λ _. unus
 
 -- the steps of a turn at most
 abbrev pub quantum : ℕ → ℕ
-quantum turn = 1000
+quantum turn = QUANTUM
 
 -- where a run stands
 pub record Progress : Type 0 where
@@ -88,7 +91,7 @@ pub record Progress : Type 0 where
 abbrev pub turn_of : ℕ → Turn
 turn_of made = record { slot = 0; visible = made; hidden = 0 }
 
--- A turn stands in the list from its first step on.
+-- The turn under way is listed too, once it has a step.
 abbrev pub turns_of : List Turn → ℕ → List Turn
 turns_of turns made = if made == 0 then turns else turns ++ turn_of made ∷ []
 
@@ -126,7 +129,7 @@ end_of slot over made spent =
     if not (is_live slot) then Some Done
     else if not (can_run slot.status) then Some Stuck
     else if spent then Some Budget
-    else if (made == 0) && nat_le 1048576 over then Some TurnsFull
+    else if (made == 0) && nat_le TURN_MAX over then Some TurnsFull
     else None
 
 -- a run that is over
@@ -142,7 +145,7 @@ over p end = record { end = end; state = state_with p.memory p.slot p.console; s
 -- THE RUN
 
 -- after a step, where its turn goes on or not
-abbrev pub progressed_in : Bool → Progress → Stepped → Progress
+abbrev pub progressed_in : Bool → Progress → EnvStep → Progress
 progressed_in goes_on p step = record {
   memory = step.memory;
   slot = if goes_on then step.change.slot else paused step.change.slot;
@@ -152,12 +155,12 @@ progressed_in goes_on p step = record {
   made = if goes_on then p.made + 1 else 0;
 }
 
-unfoldable pub progressed : Progress → Stepped → Progress
+unfoldable pub progressed : Progress → EnvStep → Progress
 progressed p step = progressed_in (turn_goes_on step.change.slot p.turns (p.made + 1)) p step
 
 abbrev pub after_test : Progress → Option End → (Progress → Ran) → Ran
 after_test p (Some end) rest = over p end
-after_test p None rest = rest (progressed p (stepped p.memory (in_turn p.slot p.made)))
+after_test p None rest = rest (progressed p (env_step p.memory (in_turn p.slot p.made)))
 
 -- the run from here, with so many steps of the budget left
 unfoldable pub run_from : ℕ → Progress → Ran

@@ -4,7 +4,8 @@ use Rattle.jos_host.specs.Files.{Files}
 use Rattle.jos_host.specs.Told.{Rose}
 use Rattle.jos_cli.specs.declared.outcome.Outcome.{Outcome}
 use Rattle.jos_cli.specs.declared.outcome.Outcome.TheVariants.{HostFault}
-use Rattle.jos_cli.specs.Meanings.{Gains, GainsPart}
+use Rattle.jos_cli.specs.Frames.{Around}
+use Rattle.jos_cli.specs.Gains.{Gains, GainsPart}
 use Rattle.jos_cli.specs.Commands.{command_of}
 use Rattle.jos_cli.specs.Answer.{AnswersCommand}
 use Rattle.jos_cli.specs.Notes.{note_of}
@@ -20,13 +21,13 @@ IfNoFault (HostFault stopped) P = ⊥
 IfNoFault outcome P = P
 
 -- a second call failed, after the first
-abbrev pub RoseTwice : ℕ → ℕ → Type 0
-RoseTwice before now = (between : ℕ) × Rose before between × Rose between now
+abbrev pub RoseTwice : Around ℕ → Type 0
+RoseTwice faults = (between : ℕ) × Rose faults.before between × Rose between faults.after
 
 -- The line `host fault` is noted; or a part of it, where a second call failed; or a part of the line of the answer that
 -- the words and the files decide, where it was its note that failed.
-unfoldable pub FaultIsNoted : Option Files → List (List ℕ) → ℕ → ℕ → Option (List ℕ) → Option (List ℕ) → Option (List ℕ) → Option (List ℕ) → Type 0
-FaultIsNoted files words before now console_old console_new old new =
-    Gains old new (codes "host fault\n")
-    ⊎ ((RoseTwice before now × GainsPart old new (codes "host fault\n"))
-    ⊎ ((own : Outcome) × IfNoFault own (AnswersCommand files (command_of words) own console_old console_new) × GainsPart old new (note_of words own)))
+unfoldable pub FaultIsNoted : Option Files → List (List ℕ) → Around ℕ → Around (Option (List ℕ)) → Around (Option (List ℕ)) → Type 0
+FaultIsNoted files words faults console notes =
+    Gains notes (codes "host fault\n")
+    ⊎ ((RoseTwice faults × GainsPart notes (codes "host fault\n"))
+    ⊎ ((own : Outcome) × IfNoFault own (AnswersCommand files (command_of words) own console) × GainsPart notes (note_of words own)))

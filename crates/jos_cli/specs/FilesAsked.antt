@@ -2,6 +2,7 @@
 use Rattle.std.specs.Prelude.{◌≡◌, ℕ, ◌⊎◌, List, [], ◌∷◌, Option, Some, None}
 use Rattle.jos_host.specs.declared.host.FileCall.TheVariants.{Size, Read, Create, Write}
 use Rattle.jos_host.specs.Asked.{Asked, and_asked}
+use Rattle.jos_cli.specs.Frames.{Around, from_to}
 use Rattle.jos_cli.specs.Commands.{Command, exo, demo}
 
 -- an image is asked for its size, and read whole by one call
@@ -18,6 +19,6 @@ calls_of (Some (exo image)) = image_calls image
 calls_of (Some (demo program file)) = file_calls file
 
 -- The calls are made in their order, each once; it may end before any of them, and no other call is made.
-abbrev pub AsksFor : Option (List Asked) → List Asked → Option (List Asked) → Type 0
-AsksFor old [] new = new ≡ old
-AsksFor old (c ∷ rest) new = (new ≡ old) ⊎ AsksFor (and_asked old c.call c.name) rest new
+abbrev pub AsksFor : List Asked → Around (Option (List Asked)) → Type 0
+AsksFor [] log = log.after ≡ log.before
+AsksFor (c ∷ rest) log = (log.after ≡ log.before) ⊎ AsksFor rest (from_to (and_asked log.before c.call c.name) log.after)

@@ -1,9 +1,8 @@
 //! The words of the command line.
 
-ghost use Rattle.std.specs.Prelude.{◌≡◌, IsTrue, IfSome, map};
+ghost use Rattle.std.specs.Prelude.{◌≡◌, map};
 ghost use Rattle.std.specs.Option.{option_map};
-ghost use Rattle.jos_cli.specs.Commands.{is_option, exo_of, demo_of, command_of};
-ghost use Rattle.jos_cli.specs.Asked.{asked};
+ghost use Rattle.jos_cli.specs.Commands.{in_bytes, is_option, command_of};
 
 use jos_demo::is_program;
 
@@ -16,8 +15,8 @@ pub(crate) enum Command<'a> {
     Demo(&'a str, &'a str),
 }
 
-/// Whether a word begins with `-` and is longer.
-fn is_option_word(word: &str) -> bool
+/// Whether a word has two bytes at least, the first of which is `-`.
+fn is_option(word: &str) -> bool
     ensures { result ≡ is_option word.now }
 {
     match word.as_bytes() {
@@ -27,19 +26,19 @@ fn is_option_word(word: &str) -> bool
 }
 
 /// The command that the words are, if they are one.
-pub(crate) fn read_command<'a>(words: &[&'a str]) -> Option<Command<'a>>
-    ensures { option_map asked result ≡ command_of (map (λ w. w.now) words.now) }
+pub(crate) fn command_of<'a>(words: &[&'a str]) -> Option<Command<'a>>
+    ensures { option_map in_bytes result ≡ command_of (map (λ w. w.now) words.now) }
 {
     match words {
         [command, image] => {
-            if *command == "exo" && !is_option_word(image) {
+            if *command == "exo" && !is_option(image) {
                 Some(Command::Exo(*image))
             } else {
                 None
             }
         }
         [command, program, file] => {
-            if *command == "demo" && is_program(program) && !is_option_word(file) {
+            if *command == "demo" && is_program(program) && !is_option(file) {
                 Some(Command::Demo(*program, *file))
             } else {
                 None

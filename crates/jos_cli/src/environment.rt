@@ -16,9 +16,9 @@ pub(crate) struct Environment {
 
 impl Environment {
     ghost use Rattle.jos_base.specs.Words.{negated};
-    ghost use Rattle.jos_base.specs.Errors.{error_number};
+    ghost use Rattle.jos_base.specs.SystemCalls.{error_number};
     ghost use Rattle.jos_cli.specs.Space.{Mapped};
-    ghost use Rattle.jos_cli.specs.Meanings.{slot_of, with_answer};
+    ghost use Rattle.jos_cli.specs.Environments.{slot_of, with_answer};
     ghost use Rattle.jos_cli.specs.ExoRun.{in_turn, paused};
 
     /// Answers a system call.

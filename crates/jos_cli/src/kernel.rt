@@ -1,23 +1,17 @@
 //! The kernel with one environment, and its run in turns.
 
-ghost use Rattle.std.specs.Prelude.{◌≡◌, [], ◌+◌, ◌<◌, ◌≤◌, ◌^◌, length, false, None, IsNone, OnOk, vec_len, vec_capacity};
+ghost use Rattle.std.specs.Prelude.{◌≡◌, [], ◌+◌, ◌<◌, ◌≤◌, ◌^◌, length, false, None, IsNone, OnOk, vec_len};
 ghost use Rattle.jos_host.specs.Told.{HasCause};
 
 use crate::environment::Environment;
-use crate::outcome::{End, Report, Turn};
+use crate::outcome::{End, Report, Stopped, Turn};
 use crate::room::Room;
 use crate::space::Space;
 use crate::stepping::follow_event;
-use jos_base::{EnvId, Regs, Status};
+use jos_base::{EnvId, FIRST_ENV_ID, FL_1, FL_IF, QUANTUM, Regs, Status, TURN_MAX, USTACKTOP};
 use jos_cpu::{Decodings, Gates, make_burst};
 use jos_elf::Segment;
 use jos_host::{Failed, Host};
-
-/// How many turns a run has at most.
-pub(crate) const TURN_MAX: usize = 1_048_576;
-
-/// How many steps a turn has at most.
-const QUANTUM: u32 = 1000;
 
 /// The kernel: its environment, what is mapped, and the turns of its run.
 #[derive(Drop)]
@@ -34,22 +28,14 @@ pub(crate) struct Kernel {
     pub(crate) steps: u64,
 }
 
-/// The id of the first environment, in slot 0.
-const FIRST_ID: EnvId = EnvId(0x1000);
-
-/// The end of the stack. (MIT 6.828, inc/memlayout.h)
-const STACK_TOP: u32 = 0xeebf_e000;
-
-/// IF, and the bit that is always set.
-const FIRST_FLAGS: u32 = 0x202;
-
 impl Kernel {
-    ghost use Rattle.jos_cli.specs.Meanings.{slot_of};
-    ghost use Rattle.jos_cli.specs.OnePage.{IsOnePage};
+    ghost use Rattle.jos_cli.specs.Frames.{Unchanged, around, from_to};
+    ghost use Rattle.jos_cli.specs.Environments.{slot_of};
+    ghost use Rattle.jos_cli.specs.Space.{IsOnePage};
     ghost use Rattle.jos_cli.specs.Room.{IsRoom};
-    ghost use Rattle.jos_cli.specs.ExoRun.{boot as boot_of, end_of, run_from};
-    ghost use Rattle.jos_cli.specs.Progress.{progress_of, Counts, Advances, HasRoom, RunsItsTurn, IsRun};
-    ghost use Rattle.jos_cli.specs.Answer.{reported, report_of};
+    ghost use Rattle.jos_cli.specs.ExoRun.{boot, end_of, run_from};
+    ghost use Rattle.jos_cli.specs.Kernel.{progress_of, Counts, Advances, HasRoom, RunsItsTurn, IsRun};
+    ghost use Rattle.jos_cli.specs.Answer.{report_of};
 
     /// Boots the image of one segment: its page and a stack page are mapped, and the environment stands at the
     /// entry.
@@ -57,7 +43,7 @@ impl Kernel {
     pub(crate) fn boot(room: Room, entry: u32, segment: &Segment, file: &[u8]) -> Kernel
         requires segment { IsOnePage segment.now (length file.now) }
         requires room { IsRoom room }
-        ensures booted { progress_of result [] ≡ boot_of entry segment.now file.now }
+        ensures booted { progress_of result [] ≡ boot entry segment.now file.now }
         ensures room { HasRoom result }
         ensures turn { RunsItsTurn result }
         ensures first { result.steps ≡ 0 }
@@ -70,7 +56,7 @@ impl Kernel {
         } = room;
         let space = Space::map(image, stack, segment, file);
         let environment = Environment {
-            id: FIRST_ID,
+            id: EnvId(FIRST_ENV_ID),
             status: Status::Runnable,
             runs: 0,
             regs: Regs {
@@ -78,12 +64,12 @@ impl Kernel {
                 ecx: 0,
                 edx: 0,
                 ebx: 0,
-                esp: STACK_TOP,
+                esp: USTACKTOP,
                 ebp: 0,
                 esi: 0,
                 edi: 0,
                 eip: entry,
-                eflags: FIRST_FLAGS,
+                eflags: FL_IF | FL_1,
             },
         };
         Kernel {
@@ -97,9 +83,9 @@ impl Kernel {
     }
 
     /// Reports the run, with its turns.
-    pub(crate) fn finish(mut self, end: End) -> Report
+    pub(crate) fn report(mut self, end: End) -> Report
         requires { HasRoom self }
-        ensures { reported result ≡ report_of self end }
+        ensures { result ≡ report_of self end }
     {
         if self.made > 0 {
             self.turns
@@ -121,11 +107,23 @@ impl Kernel {
         }
     }
 
+    /// What is told of the run where a call of the host failed: nothing.
+    pub(crate) fn cut_off(mut self) -> Stopped
+        ensures turns { result.turns ≡ [] }
+        ensures first_refused { result.first_refused ≡ None }
+    {
+        self.turns.clear();
+        Stopped {
+            turns: self.turns,
+            first_refused: None,
+        }
+    }
+
     /// The first end test that holds, where one does; `spent` says that the budget is used up.
     #[tactic(auto, unfolding(crate::specs::ExoRun::end_of))]
     fn end(&self, spent: bool) -> Option<End>
         ensures exact { result ≡ end_of (slot_of self.now.environment self.now.space) (length self.now.turns.items) self.now.made spent }
-        ensures room { IsNone result → self.now.made ≡ 0 → vec_len self.now.turns < 1048576 }
+        ensures room { IsNone result → self.now.made ≡ 0 → vec_len self.now.turns < TURN_MAX }
     {
         match self.environment.status {
             Status::Free => return Some(End::Done),
@@ -144,9 +142,9 @@ impl Kernel {
     /// Counts steps that were made, and ends the turn where it is over.
     fn count_steps(&mut self, steps: u32)
         requires room { HasRoom self.old }
-        requires place { vec_len self.old.turns < 1048576 }
+        requires place { vec_len self.old.turns < TURN_MAX }
         requires steps { self.old.steps < 2 ^ 63 }
-        requires within { self.old.made + steps ≤ 1000 }
+        requires within { self.old.made + steps ≤ QUANTUM }
         ensures counted { Counts self.old self.new steps (slot_of self.old.environment self.old.space) }
         ensures room { HasRoom self.new }
         ensures turn { RunsItsTurn self.new }
@@ -176,14 +174,11 @@ impl Kernel {
         requires steps { self.old.steps < 2 ^ 62 }
         requires left { 0 < left }
         requires goes_on { end_of (slot_of self.old.environment self.old.space) (length self.old.turns.items) self.old.made false ≡ None }
-        requires place { vec_len self.old.turns < 1048576 }
-        ensures told { Advances result left self.old self.new (H.console host.old) (H.console host.new) }
+        requires place { vec_len self.old.turns < TURN_MAX }
+        ensures told { Advances result left (from_to self.old self.new) (around H.console host.old host.new) }
         ensures room { HasRoom self.new }
         ensures turn { OnOk result (RunsItsTurn self.new) }
-        ensures files { H.files host.new ≡ H.files host.old }
-        ensures input { H.input host.new ≡ H.input host.old }
-        ensures asked { H.asked host.new ≡ H.asked host.old }
-        ensures notes { H.notes host.new ≡ H.notes host.old }
+        ensures rest { Unchanged H.files H.input H.asked H.notes host.old host.new }
         ensures cause { HasCause (H.faults host.old) (H.faults host.new) result }
     {
         self.environment.enter_turn(self.made);
@@ -209,12 +204,9 @@ impl Kernel {
         requires room { HasRoom self.old }
         requires turn { RunsItsTurn self.old }
         requires first { self.old.steps ≡ 0 }
-        ensures told { IsRun result (run_from budget (progress_of self.old [])) self.new (H.console host.old) (H.console host.new) }
+        ensures told { IsRun result (run_from budget (progress_of self.old [])) self.new (around H.console host.old host.new) }
         ensures room { HasRoom self.new }
-        ensures files { H.files host.new ≡ H.files host.old }
-        ensures input { H.input host.new ≡ H.input host.old }
-        ensures asked { H.asked host.new ≡ H.asked host.old }
-        ensures notes { H.notes host.new ≡ H.notes host.old }
+        ensures rest { Unchanged H.files H.input H.asked H.notes host.old host.new }
         ensures cause { HasCause (H.faults host.old) (H.faults host.new) result }
     {
         let mut left = budget;

@@ -7,21 +7,22 @@ ghost use Rattle.jos_base.specs.Lines.{hex_digit, hex_word, hex, user_fault_line
 use arrayvec::ArrayVec;
 use itoa::Buffer;
 
-/// The longest line has fewer bytes.
-const LINE_MAX: usize = 128;
+/// The room for a line; the longest has fewer bytes.
+pub(crate) const LINE_MAX: usize = 128;
 
 /// A line as it is built.
 pub(crate) type Line = ArrayVec<u8, LINE_MAX>;
 
 /// Adds a text.
 pub(crate) fn push_text(line: &mut Line, text: &[u8])
-    requires { array_vec_len line.old + length text.now ≤ 128 }
+    requires { array_vec_len line.old + length text.now ≤ LINE_MAX }
     ensures { line.new.items ≡ line.old.items ++ text.now }
 {
     line.try_extend_from_slice(text).unwrap();
 }
 
-fn hex_digit_of(n: u32) -> u8
+/// A digit in lower case.
+fn hex_digit(n: u32) -> u8
     requires { n < 16 }
     ensures { result ≡ hex_digit n }
 {
@@ -32,29 +33,30 @@ fn hex_digit_of(n: u32) -> u8
     }
 }
 
+/// The eight digits of a word, the highest first.
 #[tactic(auto, unfolding(jos_base::specs::Lines::hex_word))]
-fn hex_digits(n: u32) -> [u8; 8]
+fn hex_word(n: u32) -> [u8; 8]
     ensures { result ≡ hex_word n }
 {
     [
-        hex_digit_of(n / (1 << 28)),
-        hex_digit_of(n / (1 << 24) % 16),
-        hex_digit_of(n / (1 << 20) % 16),
-        hex_digit_of(n / (1 << 16) % 16),
-        hex_digit_of(n / (1 << 12) % 16),
-        hex_digit_of(n / (1 << 8) % 16),
-        hex_digit_of(n / (1 << 4) % 16),
-        hex_digit_of(n % 16),
+        hex_digit(n / (1 << 28)),
+        hex_digit(n / (1 << 24) % 16),
+        hex_digit(n / (1 << 20) % 16),
+        hex_digit(n / (1 << 16) % 16),
+        hex_digit(n / (1 << 12) % 16),
+        hex_digit(n / (1 << 8) % 16),
+        hex_digit(n / (1 << 4) % 16),
+        hex_digit(n % 16),
     ]
 }
 
 /// Adds a word as eight hexadecimal digits.
 pub(crate) fn push_hex_word(line: &mut Line, n: u32)
-    requires { array_vec_len line.old + 8 ≤ 128 }
+    requires { array_vec_len line.old + 8 ≤ LINE_MAX }
     ensures text { line.new.items ≡ line.old.items ++ hex_word n }
     ensures len { array_vec_len line.new ≡ array_vec_len line.old + 8 }
 {
-    let digits = hex_digits(n);
+    let digits = hex_word(n);
     push_text(line, &digits);
 }
 
@@ -69,18 +71,18 @@ fn first_digit(digits: &[u8]) -> Option<usize>
 /// Adds a word in hexadecimal digits without leading zeros.
 #[tactic(auto, unfolding(jos_base::specs::Lines::hex, jos_base::specs::Lines::hex_word))]
 fn push_hex(line: &mut Line, n: u32)
-    requires { array_vec_len line.old + 8 ≤ 128 }
+    requires { array_vec_len line.old + 8 ≤ LINE_MAX }
     ensures text { line.new.items ≡ line.old.items ++ hex n }
     ensures len { array_vec_len line.new ≤ array_vec_len line.old + 8 }
 {
-    let digits = hex_digits(n);
+    let digits = hex_word(n);
     let first = first_digit(&digits[..7]).unwrap_or(7);
     push_text(line, &digits[first..]);
 }
 
 /// Adds a number in decimal digits.
 pub(crate) fn push_decimal(line: &mut Line, n: u64)
-    requires { array_vec_len line.old + 20 ≤ 128 }
+    requires { array_vec_len line.old + 20 ≤ LINE_MAX }
     ensures text { line.new.items ≡ line.old.items ++ decimal n }
     ensures len { array_vec_len line.new ≤ array_vec_len line.old + 20 }
 {
@@ -90,7 +92,7 @@ pub(crate) fn push_decimal(line: &mut Line, n: u64)
 
 /// The line of a page fault.
 #[tactic(auto, unfolding(jos_base::specs::Lines::user_fault_line))]
-pub(crate) fn user_fault(id: u32, va: u32, ip: u32) -> Line
+pub(crate) fn user_fault_line(id: u32, va: u32, ip: u32) -> Line
     ensures { result.items ≡ user_fault_line id va ip }
 {
     let mut line = Line::new();
@@ -106,7 +108,7 @@ pub(crate) fn user_fault(id: u32, va: u32, ip: u32) -> Line
 
 /// The line of a buffer that can't be read.
 #[tactic(auto, unfolding(jos_base::specs::Lines::user_mem_check_line))]
-pub(crate) fn user_mem_check(id: u32, va: u32) -> Line
+pub(crate) fn user_mem_check_line(id: u32, va: u32) -> Line
     ensures { result.items ≡ user_mem_check_line id va }
 {
     let mut line = Line::new();
@@ -120,7 +122,7 @@ pub(crate) fn user_mem_check(id: u32, va: u32) -> Line
 
 /// The line of any other trap.
 #[tactic(auto, unfolding(jos_base::specs::Lines::trap_line))]
-pub(crate) fn trap(id: u32, trap: u8, error: u32, ip: u32) -> Line
+pub(crate) fn trap_line(id: u32, trap: u8, error: u32, ip: u32) -> Line
     ensures { result.items ≡ trap_line id trap error ip }
 {
     let mut line = Line::new();

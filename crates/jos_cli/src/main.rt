@@ -7,25 +7,19 @@
 //! run's loop (`proofs/Runs.antt`): what is written so far and the rest of the run are the whole run.
 #![tactic(auto)]
 
-ghost use Rattle.std.specs.Prelude.{◌≡◌, ℕ, List};
+ghost use Rattle.std.specs.Prelude.{◌≡◌};
 ghost use Rattle.std.specs.Process.{exit_status};
-ghost use Rattle.jos_cli.specs.declared.outcome.Outcome.{Outcome};
-ghost use Rattle.jos_cli.specs.Answer.{AnswersCommand, HasOutcomeCause};
-ghost use Rattle.jos_cli.specs.Commands.{command_of};
-ghost use Rattle.jos_cli.specs.FilesAsked.{AsksFor, calls_of};
-ghost use Rattle.jos_cli.specs.FilesLeft.{Leaves};
-ghost use Rattle.jos_cli.specs.Notes.{IsNoted};
-ghost use Rattle.jos_cli.specs.Statuses.{status_of};
+ghost use Rattle.jos_cli.specs.Frames.{around};
+ghost use Rattle.jos_cli.specs.Answer.{HasStatusCause, status_of};
 
 mod answer;
 mod command;
 mod environment;
-mod image_file;
+mod files;
 mod kernel;
 mod lines;
 mod notes;
 mod outcome;
-mod program_file;
 mod room;
 mod space;
 mod stepping;
@@ -39,20 +33,6 @@ use std::env;
 use std::process::ExitCode;
 use std::rt::Env;
 
-/// Does what the command line asks. A word that is no text makes the words no command.
-fn run_words<R: Env + AllocGlobal, H: Host>(rt: &R, host: &mut H) -> Outcome
-    // There are words whose answer, console, notes and files these are.
-    ensures some_words { (words : List (List ℕ))
-        × AnswersCommand (H.files host.old) (command_of words) result (H.console host.old) (H.console host.new)
-        × IsNoted words result (H.notes host.old) (H.notes host.new)
-        × Leaves (H.files host.old) (command_of words) result (H.files host.new)
-        × AsksFor (H.asked host.old) (calls_of (command_of words)) (H.asked host.new) }
-    ensures cause { HasOutcomeCause (H.faults host.old) (H.faults host.new) result }
-    ensures input { H.input host.new ≡ H.input host.old }
-{
-    answer_texts(rt.alloc(), env::args(rt), host)
-}
-
 /// What the program exits with.
 fn exit_code(outcome: &Outcome) -> ExitCode
     ensures { exit_status result ≡ status_of outcome.now }
@@ -62,17 +42,10 @@ fn exit_code(outcome: &Outcome) -> ExitCode
 
 /// Does what the command line asks, and gives what the program exits with.
 fn answer_command_line<R: Env + AllocGlobal, H: Host>(rt: &R, host: &mut H) -> ExitCode
-    // There are words and an outcome of theirs with this exit status.
-    ensures some_words { (words : List (List ℕ)) × (outcome : Outcome)
-        × (exit_status result ≡ status_of outcome)
-        × HasOutcomeCause (H.faults host.old) (H.faults host.new) outcome
-        × AnswersCommand (H.files host.old) (command_of words) outcome (H.console host.old) (H.console host.new)
-        × IsNoted words outcome (H.notes host.old) (H.notes host.new)
-        × Leaves (H.files host.old) (command_of words) outcome (H.files host.new)
-        × AsksFor (H.asked host.old) (calls_of (command_of words)) (H.asked host.new) }
+    ensures cause { HasStatusCause (around H.faults host.old host.new) (exit_status result) }
     ensures input { H.input host.new ≡ H.input host.old }
 {
-    exit_code(&run_words(rt, host))
+    exit_code(&answer_texts(rt.alloc(), env::args(rt), host))
 }
 
 fn main(rt: HostRuntime) -> ExitCode {

@@ -1,18 +1,19 @@
 //! The note that tells the answer.
 
-ghost use Rattle.std.specs.Prelude.{◌≡◌, ◌+◌, ◌≤◌, [], ◌++◌, length, slice_get, unwrap_or, codes, decimal, MatchResult, map};
-ghost use Rattle.arrayvec.specs.ArrayVec.{array_vec_len};
+ghost use Rattle.std.specs.Prelude.{◌≡◌, ◌≤◌, [], length, slice_get, unwrap_or, MatchResult, map};
 ghost use Rattle.jos_host.specs.Told.{HasCause, Appends};
-ghost use Rattle.jos_cli.specs.Meanings.{Gains, GainsPart};
-ghost use Rattle.jos_elf.specs.FaultTexts.{fault_text};
-ghost use Rattle.jos_cli.specs.Notes.{end_text, report_text, note_text, word_in_note, note_of};
+ghost use Rattle.jos_cli.specs.Frames.{Unchanged, around};
+ghost use Rattle.jos_cli.specs.Gains.{Gains, GainsPart};
+ghost use Rattle.jos_cli.specs.Notes.{end_text, report_text, bad_image_text, made_text, note_text, word_in_note};
+ghost use Rattle.jos_cli.specs.Notes.{note_of};
 
-use crate::lines::{Line, push_decimal, push_text};
-use crate::outcome::{End, Form, Outcome, Report, Which};
+use crate::lines::{LINE_MAX, Line, push_decimal, push_text};
+use crate::outcome::{End, Feature, Outcome, Report, Which};
 use jos_elf::ElfFault;
 use jos_host::{Failed, Host};
 
-fn end_word(end: End) -> &'static [u8]
+/// How a run has ended.
+fn end_text(end: End) -> &'static [u8]
     ensures { result.now ≡ end_text end }
 {
     match end {
@@ -23,12 +24,13 @@ fn end_word(end: End) -> &'static [u8]
     }
 }
 
+/// The line of a run that is over: its end and its counts.
 #[tactic(auto, unfolding(crate::specs::Notes::report_text))]
-fn report_line(report: &Report) -> Line
+fn report_text(report: &Report) -> Line
     ensures { result.items ≡ report_text report.now }
 {
     let mut line = Line::new();
-    push_text(&mut line, end_word(report.end));
+    push_text(&mut line, end_text(report.end));
     push_text(&mut line, b" steps ");
     push_decimal(&mut line, report.steps);
     push_text(&mut line, b" turns ");
@@ -41,8 +43,9 @@ fn report_line(report: &Report) -> Line
     line
 }
 
+/// A line of one text.
 fn text_line(text: &[u8]) -> Line
-    requires { length text.now ≤ 128 }
+    requires { length text.now ≤ LINE_MAX }
     ensures { result.items ≡ text.now }
 {
     let mut line = Line::new();
@@ -50,48 +53,17 @@ fn text_line(text: &[u8]) -> Line
     line
 }
 
-fn push_number(line: &mut Line, text: &[u8], number: u32)
-    requires { array_vec_len line.old + length text.now + 20 ≤ 128 }
-    ensures text { line.new.items ≡ line.old.items ++ text.now ++ decimal number }
-    ensures len { array_vec_len line.new ≤ array_vec_len line.old + length text.now + 20 }
-{
-    push_text(line, text);
-    push_decimal(line, number as u64);
-}
-
-#[tactic(auto, unfolding(jos_elf::specs::FaultTexts::fault_text))]
-fn push_fault(line: &mut Line, fault: ElfFault)
-    requires { array_vec_len line.old + 80 ≤ 128 }
-    ensures text { line.new.items ≡ line.old.items ++ fault_text fault }
-    ensures len { array_vec_len line.new ≤ array_vec_len line.old + 80 }
-{
-    match fault {
-        ElfFault::Truncated(len) => push_number(line, b"truncated ", len),
-        ElfFault::Magic => push_text(line, b"magic"),
-        ElfFault::Class => push_text(line, b"class"),
-        ElfFault::Kind => push_text(line, b"kind"),
-        ElfFault::Machine => push_text(line, b"machine"),
-        ElfFault::EntrySize => push_text(line, b"entry size"),
-        ElfFault::TooMany => push_text(line, b"too many"),
-        ElfFault::SegmentRange(place) => push_number(line, b"segment range ", place),
-        ElfFault::Overlap(place, other) => {
-            push_number(line, b"overlap ", place);
-            push_number(line, b" ", other);
-        }
-    }
-}
-
-fn bad_image_line(fault: ElfFault) -> Line
-    ensures { result.items ≡ codes ": bad image: " ++ fault_text fault ++ codes "\n" }
+fn bad_image_text(fault: ElfFault) -> Line
+    ensures { result.items ≡ bad_image_text fault }
 {
     let mut line = text_line(b": bad image: ");
-    push_fault(&mut line, fault);
+    push_text(&mut line, fault.text().as_str().as_bytes());
     push_text(&mut line, b"\n");
     line
 }
 
-fn made_line(bytes: u64) -> Line
-    ensures { result.items ≡ codes "made " ++ decimal bytes ++ codes "\n" }
+fn made_text(bytes: u64) -> Line
+    ensures { result.items ≡ made_text bytes }
 {
     let mut line = text_line(b"made ");
     push_decimal(&mut line, bytes);
@@ -100,24 +72,24 @@ fn made_line(bytes: u64) -> Line
 }
 
 /// The line, but for the word that begins it.
-fn note_line(outcome: &Outcome) -> Line
+fn note_text(outcome: &Outcome) -> Line
     ensures { result.items ≡ note_text outcome.now }
 {
     match outcome {
-        Outcome::Ran(report) => report_line(report),
+        Outcome::Ran(report) => report_text(report),
         Outcome::Usage => text_line(b"usage: jos COMMAND [OPTIONS] WORDS\n"),
         Outcome::Absent(_) => text_line(b": absent\n"),
         Outcome::Limit(Which::Image) => text_line(b"limit: image\n"),
-        Outcome::BadImage(_, fault) => bad_image_line(*fault),
+        Outcome::BadImage(_, fault) => bad_image_text(*fault),
         Outcome::HostFault(_) => text_line(b"host fault\n"),
         Outcome::NoMemory => text_line(b"out of memory\n"),
-        Outcome::Unbuilt(Form::Image) => text_line(b"unbuilt: image\n"),
-        Outcome::Made(bytes) => made_line(*bytes),
+        Outcome::Unbuilt(Feature::Image) => text_line(b"unbuilt: image\n"),
+        Outcome::Made(bytes) => made_text(*bytes),
     }
 }
 
 /// The word that begins the line, or nothing.
-fn note_word<'a>(words: &[&'a str], outcome: &Outcome) -> &'a str
+fn word_in_note<'a>(words: &[&'a str], outcome: &Outcome) -> &'a str
     ensures { result.now ≡ word_in_note (map (λ w. w.now) words.now) outcome.now }
 {
     match outcome {
@@ -126,6 +98,7 @@ fn note_word<'a>(words: &[&'a str], outcome: &Outcome) -> &'a str
     }
 }
 
+/// The word at a place, or nothing where there are fewer.
 fn word_at<'a>(words: &[&'a str], place: u32) -> &'a str
     ensures { result.now ≡ unwrap_or (slice_get (map (λ w. w.now) words.now) place) [] }
 {
@@ -138,10 +111,7 @@ fn word_at<'a>(words: &[&'a str], place: u32) -> &'a str
 /// Writes some bytes to the notes, by no call where there are none.
 fn write_some<H: Host>(host: &mut H, bytes: &[u8]) -> Result<(), Failed>
     ensures told { Appends (H.notes host.old) bytes.now result (H.notes host.new) }
-    ensures files { H.files host.new ≡ H.files host.old }
-    ensures input { H.input host.new ≡ H.input host.old }
-    ensures asked { H.asked host.new ≡ H.asked host.old }
-    ensures console { H.console host.new ≡ H.console host.old }
+    ensures rest { Unchanged H.files H.input H.asked H.console host.old host.new }
     ensures cause { HasCause (H.faults host.old) (H.faults host.new) result }
 {
     if bytes.is_empty() {
@@ -157,16 +127,13 @@ pub(crate) fn write_note<H: Host>(
     host: &mut H,
 ) -> Result<(), Failed>
     ensures told { MatchResult result
-        (λ _. Gains (H.notes host.old) (H.notes host.new) (note_of (map (λ w. w.now) words.now) outcome.now))
-        (λ _. GainsPart (H.notes host.old) (H.notes host.new) (note_of (map (λ w. w.now) words.now) outcome.now)) }
-    ensures files { H.files host.new ≡ H.files host.old }
-    ensures input { H.input host.new ≡ H.input host.old }
-    ensures asked { H.asked host.new ≡ H.asked host.old }
-    ensures console { H.console host.new ≡ H.console host.old }
+        (λ _. Gains (around H.notes host.old host.new) (note_of (map (λ w. w.now) words.now) outcome.now))
+        (λ _. GainsPart (around H.notes host.old host.new) (note_of (map (λ w. w.now) words.now) outcome.now)) }
+    ensures rest { Unchanged H.files H.input H.asked H.console host.old host.new }
     ensures cause { HasCause (H.faults host.old) (H.faults host.new) result }
 {
-    match write_some(host, note_word(words, outcome).as_bytes()) {
-        Ok(()) => host.note_write(note_line(outcome).as_slice()),
+    match write_some(host, word_in_note(words, outcome).as_bytes()) {
+        Ok(()) => host.note_write(note_text(outcome).as_slice()),
         Err(failed) => Err(failed),
     }
 }

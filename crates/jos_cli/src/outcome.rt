@@ -4,6 +4,7 @@ ghost use Rattle.std.specs.Prelude.{◌≡◌, [], None};
 
 use jos_elf::ElfFault;
 use std::alloc::Global;
+use std::marker::Model;
 
 /// How a run has ended by itself.
 #[derive(Clone, Copy, Debug, PartialEq, Eq)]
@@ -14,7 +15,7 @@ pub enum End {
     Stuck,
     /// The steps of the budget are made.
     Budget,
-    /// 1,048,576 turns stand, and another would start.
+    /// The list of turns is full (`TURN_MAX`), and another would begin.
     TurnsFull,
 }
 
@@ -53,6 +54,22 @@ pub struct Report {
     pub upcalls: u64,
 }
 
+impl Model for Report {
+    ghost use Rattle.jos_cli.specs.Reports.{Reported};
+
+    ghost Value = { Reported };
+
+    ghost view = { λ r. record {
+      end = r.end;
+      steps = r.steps;
+      turns = r.turns.items;
+      closing = r.closing;
+      refused = r.refused;
+      first_refused = r.first_refused;
+      upcalls = r.upcalls;
+    } };
+}
+
 /// What was done before a failed call of the host; under `exo`, both are empty.
 #[derive(Debug, Drop)]
 pub struct Stopped {
@@ -60,17 +77,25 @@ pub struct Stopped {
     pub first_refused: Option<Refusal>,
 }
 
+impl Model for Stopped {
+    ghost use Rattle.jos_cli.specs.Reports.{CutOff};
+
+    ghost Value = { CutOff };
+
+    ghost view = { λ s. record { turns = s.turns.items; first_refused = s.first_refused } };
+}
+
 /// Which limit is passed.
 #[derive(Clone, Copy, Debug, PartialEq, Eq)]
 pub enum Which {
-    /// The length of an image file, 16,777,216 bytes.
+    /// The length of an image file (`IMAGE_MAX`).
     Image,
 }
 
-/// Which form is not built yet.
+/// What is not built yet.
 #[derive(Clone, Copy, Debug, PartialEq, Eq)]
-pub enum Form {
-    /// That of the image: more segments than one, or memory in more pages than one.
+pub enum Feature {
+    /// An image of more segments than one, or of none, or with memory in more pages than one.
     Image,
 }
 
@@ -92,7 +117,7 @@ pub enum Outcome {
     /// There was no memory to begin with.
     NoMemory,
     /// Something is not built yet.
-    Unbuilt(Form),
+    Unbuilt(Feature),
     /// A file is written, of so many bytes.
     Made(u64),
 }
@@ -100,7 +125,7 @@ pub enum Outcome {
 impl Stopped {
     /// Nothing was done.
     pub(crate) fn at_no_turn(alloc: Global) -> Stopped
-        ensures turns { result.turns.items ≡ [] }
+        ensures turns { result.turns ≡ [] }
         ensures first_refused { result.first_refused ≡ None }
     {
         Stopped {
@@ -111,7 +136,7 @@ impl Stopped {
 }
 
 impl Outcome {
-    ghost use Rattle.jos_cli.specs.Statuses.{status_of};
+    ghost use Rattle.jos_cli.specs.Answer.{status_of};
 
     /// The exit status of the program.
     pub fn status(&self) -> u8

@@ -2,10 +2,9 @@
 
 ghost use Rattle.std.specs.Prelude.{IfOk};
 
-use crate::kernel::TURN_MAX;
 use crate::outcome::Turn;
-use crate::space::{PAGE_LEN, zeros};
-use jos_base::NoMemory;
+use crate::space::zero_bytes;
+use jos_base::{NoMemory, PGSIZE, TURN_MAX};
 use jos_cpu::Decodings;
 use std::alloc::Global;
 
@@ -30,8 +29,8 @@ impl Room {
     {
         let turns = Vec::with_capacity(alloc, TURN_MAX)?;
         let decodings = Decodings::new(alloc)?;
-        let image = zeros(alloc, PAGE_LEN as usize)?;
-        let stack = zeros(alloc, PAGE_LEN as usize)?;
+        let image = zero_bytes(alloc, PGSIZE as usize)?;
+        let stack = zero_bytes(alloc, PGSIZE as usize)?;
         Ok(Room {
             turns,
             decodings,

@@ -1,5 +1,6 @@
 use crate::answer::top;
 use crate::outcome::{Outcome, Which};
+use jos_base::IMAGE_MAX;
 use jos_elf::ElfFault;
 use jos_host::{MemHost, NamedBytes};
 use std::alloc::{AllocError, Global};
@@ -274,8 +275,8 @@ fn runs_one_page_alone(rt: HostRuntime) -> Result<(), Fail> {
 
 #[test]
 fn refuses_a_file_that_is_too_long(rt: HostRuntime) -> Result<(), Fail> {
-    for (len, status) in [(16_777_216, 4), (16_777_217, 3)] {
-        let mut host = host_with(rt.alloc(), vec![in rt.alloc(); 0; len]?, &[])?;
+    for (len, status) in [(IMAGE_MAX, 4), (IMAGE_MAX + 1, 3)] {
+        let mut host = host_with(rt.alloc(), vec![in rt.alloc(); 0; len as usize]?, &[])?;
         let outcome = top(rt.alloc(), &["exo", "h"], &mut host);
         assert_eq!(rt; outcome.status(), status, "{len} bytes");
         assert_eq!(rt;

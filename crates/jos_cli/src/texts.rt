@@ -3,8 +3,8 @@
 ghost use Rattle.std.specs.Prelude.{◌≡◌, ℕ, ◌≤◌, [], ◌∷◌, Ok, List, length, drop, Some, MatchOption, string_bytes};
 ghost use Rattle.jos_host.specs.Files.{Files};
 ghost use Rattle.jos_host.specs.Told.{Rose};
-ghost use Rattle.jos_elf.specs.Layout.{Layout};
-ghost use Rattle.jos_elf.specs.Parsed.{parsed};
+ghost use Rattle.jos_elf.specs.Parsed.{Layout, parsed};
+ghost use Rattle.jos_cli.specs.Frames.{around};
 ghost use Rattle.jos_cli.specs.Commands.{exo, demo, command_of};
 ghost use Rattle.jos_cli.specs.Given.{words_left, given_words, HadMemory};
 ghost use Rattle.jos_cli.specs.Answer.{AnswersCommand, HasOutcomeCause, IsUsageCase, IsRunCase, IsMadeCase};
@@ -15,6 +15,7 @@ ghost use Rattle.jos_cli.specs.FaultNotes.{IfHostFault, FaultIsNoted};
 
 use crate::answer::{refuse_words, top};
 use crate::outcome::Outcome;
+use jos_base::IMAGE_MAX;
 use jos_host::Host;
 use std::alloc::Global;
 use std::env::Args;
@@ -43,20 +44,21 @@ fn skip_text(arguments: &mut Args)
 pub fn answer_texts<H: Host>(alloc: Global, read: io::Result<Args>, host: &mut H) -> Outcome
     // These are the clauses of `top`, of the words that std hands out. Want of memory comes in place of usage only
     // where std had no memory for the words.
-    ensures answer { AnswersCommand (H.files host.old) (command_of (given_words read)) result (H.console host.old) (H.console host.new) }
-    ensures notes { IsNoted (given_words read) result (H.notes host.old) (H.notes host.new) }
-    ensures fault { IfHostFault result (FaultIsNoted (H.files host.old) (given_words read) (H.faults host.old) (H.faults host.new)
-        (H.console host.old) (H.console host.new) (H.notes host.old) (H.notes host.new)) }
+    ensures answer { AnswersCommand (H.files host.old) (command_of (given_words read)) result (around H.console host.old host.new) }
+    ensures notes { IsNoted (given_words read) result (around H.notes host.old host.new) }
+    ensures fault { IfHostFault result (FaultIsNoted (H.files host.old) (given_words read) (around H.faults host.old host.new)
+        (around H.console host.old host.new) (around H.notes host.old host.new)) }
     ensures usage { HadMemory read → IsUsageCase (command_of (given_words read)) result }
-    ensures cause { HasOutcomeCause (H.faults host.old) (H.faults host.new) result }
+    ensures cause { HasOutcomeCause (around H.faults host.old host.new) result }
+    ensures memory { result ≡ Outcome.NoMemory → H.console host.new ≡ H.console host.old }
     ensures complete { (files : Files) (name file : List ℕ) (image : Layout) →
         H.files host.old ≡ Some files → command_of (given_words read) ≡ Some (exo name) → files name ≡ Some file →
-        length file ≤ 16777216 → parsed file ≡ Ok image → (Rose (H.faults host.old) (H.faults host.new) → ⊥) → IsRunCase result }
+        length file ≤ IMAGE_MAX → parsed file ≡ Ok image → (Rose (H.faults host.old) (H.faults host.new) → ⊥) → IsRunCase result }
     ensures made { (name file : List ℕ) → command_of (given_words read) ≡ Some (demo name file) →
         (Rose (H.faults host.old) (H.faults host.new) → ⊥) → IsMadeCase result }
-    ensures files { Leaves (H.files host.old) (command_of (given_words read)) result (H.files host.new) }
+    ensures files { Leaves (command_of (given_words read)) result (around H.files host.old host.new) }
     ensures input { H.input host.new ≡ H.input host.old }
-    ensures asked { AsksFor (H.asked host.old) (calls_of (command_of (given_words read))) (H.asked host.new) }
+    ensures asked { AsksFor (calls_of (command_of (given_words read))) (around H.asked host.old host.new) }
 {
     let mut arguments = match read {
         Ok(arguments) => arguments,

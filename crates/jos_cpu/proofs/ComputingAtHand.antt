@@ -3,7 +3,7 @@ use Rattle.std.proofs.Common.{◌≡◌, ℕ, true, false, None, refl, ap, sym, 
 use Rattle.jos_base.specs.declared.registers.Regs.{Regs}
 use Rattle.jos_isa.specs.declared.instruction.Insn.{Insn}
 use Rattle.jos_alu.specs.declared.width.Width.{Width}
-use Rattle.jos_alu.specs.Registers.{moved}
+use Rattle.jos_alu.specs.Registers.{advanced}
 use Rattle.jos_cpu.specs.declared.forms.Act.{Act}
 use Rattle.jos_cpu.specs.declared.forms.Place.{Place}
 use Rattle.jos_cpu.specs.declared.forms.Form.TheVariants.{Compute}
@@ -13,11 +13,14 @@ use Rattle.jos_cpu.specs.declared.accesses.Usage.{Usage}
 use Rattle.jos_cpu.specs.declared.accesses.Usage.TheVariants.{Reads, Writes, Changes}
 use Rattle.jos_cpu.specs.declared.accesses.Accesses.{Accesses}
 use Rattle.jos_cpu.specs.declared.accesses.Accesses.TheVariants as reach
-use Rattle.jos_cpu.specs.declared.accesses.Inputs.{Inputs}
-use Rattle.jos_cpu.specs.declared.accesses.Inputs.TheVariants.{Numbers}
+use Rattle.jos_cpu.specs.declared.transfers.Inputs.{Inputs}
+use Rattle.jos_cpu.specs.declared.transfers.Inputs.TheVariants.{Numbers}
 use Rattle.jos_cpu.specs.Memory.{Memory, probed}
 use Rattle.jos_cpu.specs.Forms.{form_of}
-use Rattle.jos_cpu.specs.Accesses.{usage_of, used_operand, accesses_of, length_of, access_of, is_written, probes_of, probed_all, inputs_of, number_for, writes_of, stored_all, IsInput, IsPut}
+use Rattle.jos_cpu.specs.Accesses.{usage_of, used_operand, accesses_of, length_of, access_of, is_written}
+use Rattle.jos_cpu.specs.Probes.{probes_of, probed_all}
+use Rattle.jos_cpu.specs.Transfers.{inputs_of, number_for, writes_of, stored_all}
+use Rattle.jos_cpu.specs.AtHand.{IsInput, IsPut}
 use Rattle.jos_cpu.specs.Effects.{Done, compute_effect, form_effect}
 use Rattle.jos_cpu.specs.Steps.{accesses, done_by, executed}
 
@@ -33,12 +36,12 @@ module _ {M : Type 0} (t : Memory M) (gates : Gates) (insn : Insn) (len : ℕ) (
   unfolding accesses accesses_of
   reached_for a e = rw is e
 
-  done_for : (inputs : Inputs) (d : Done) → compute_effect act width target left right insn (moved old len) inputs ≡ d → done_by insn len old inputs gates ≡ d
+  done_for : (inputs : Inputs) (d : Done) → compute_effect act width target left right insn (advanced old len) inputs ≡ d → done_by insn len old inputs gates ≡ d
   unfolding done_by form_effect
   done_for inputs d done = rw is done
 
   pub without_access : {new : Regs} {value : ℕ} → used_operand (usage_of target left right) width insn.operand old ≡ reach.None →
-      compute_effect act width target left right insn (moved old len) (Numbers 0 0) ≡ record { registers = new; value = value; event = Next } →
+      compute_effect act width target left right insn (advanced old len) (Numbers 0 0) ≡ record { registers = new; value = value; event = Next } →
       executed t insn len old m gates ≡ record { regs = new; memory = m; event = Next }
   unfolding probed_all inputs_of writes_of stored_all
   without_access e done = executed_with reach.None (Numbers 0 0) _ (reached_for _ e) refl refl (done_for _ _ done)
@@ -47,7 +50,7 @@ module _ {M : Type 0} (t : Memory M) (gates : Gates) (insn : Insn) (len : ℕ) (
   pub with_access : (usage : Usage) (w : Width) (va input value : ℕ) (new : Regs) →
       used_operand (usage_of target left right) width insn.operand old ≡ reach.One (record { va = va; width = w; usage = usage }) →
       IsInput t m usage w va input → probed t m va (length_of w) (access_of usage) ≡ record { memory = m; refusal = None } →
-      compute_effect act width target left right insn (moved old len) (Numbers input 0) ≡ record { registers = new; value = value; event = Next } →
+      compute_effect act width target left right insn (advanced old len) (Numbers input 0) ≡ record { registers = new; value = value; event = Next } →
       executed t insn len old m gates ≡ record { regs = new; memory = stored_all t m (number_for (record { va = va; width = w; usage = usage }) value); event = Next }
   unfolding probed_all inputs_of writes_of
   with_access Reads w va input value new e hand reached done =
@@ -60,7 +63,7 @@ module _ {M : Type 0} (t : Memory M) (gates : Gates) (insn : Insn) (len : ℕ) (
   pub with_read : (usage : Usage) (w : Width) (va input value : ℕ) (new : Regs) →
       used_operand (usage_of target left right) width insn.operand old ≡ reach.One (record { va = va; width = w; usage = usage }) →
       is_written usage ≡ false → IsInput t m usage w va input →
-      compute_effect act width target left right insn (moved old len) (Numbers input 0) ≡ record { registers = new; value = value; event = Next } →
+      compute_effect act width target left right insn (advanced old len) (Numbers input 0) ≡ record { registers = new; value = value; event = Next } →
       executed t insn len old m gates ≡ record { regs = new; memory = m; event = Next }
   unfolding stored_all
   with_read Reads w va input value new e unwritten hand done = with_access Reads w va input value new e hand hand.reached done
@@ -70,7 +73,7 @@ module _ {M : Type 0} (t : Memory M) (gates : Gates) (insn : Insn) (len : ℕ) (
   pub with_write : (usage : Usage) (w : Width) (va input value : ℕ) (new : Regs) (next : M) →
       used_operand (usage_of target left right) width insn.operand old ≡ reach.One (record { va = va; width = w; usage = usage }) →
       is_written usage ≡ true → IsInput t m usage w va input →
-      compute_effect act width target left right insn (moved old len) (Numbers input 0) ≡ record { registers = new; value = value; event = Next } →
+      compute_effect act width target left right insn (advanced old len) (Numbers input 0) ≡ record { registers = new; value = value; event = Next } →
       IsPut t m w va value next →
       executed t insn len old m gates ≡ record { regs = new; memory = next; event = Next }
   unfolding stored_all

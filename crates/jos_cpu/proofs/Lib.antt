@@ -4,5 +4,6 @@ pub mod Windows
 pub mod Moved
 pub mod Sixteen
 pub mod AtHand
+pub mod Untouched
 pub mod GoingOn
 pub mod ComputingAtHand

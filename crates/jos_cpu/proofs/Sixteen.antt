@@ -1,10 +1,11 @@
 -- Sixteen bytes and the two numbers that they are.
-use Rattle.std.proofs.Common.{◌≡◌, ℕ, ◌+◌, ◌<◌, ◌≤◌, zero, suc, List, [], ◌∷◌, ◌++◌, length, take, drop, get_or, refl, ap, sym, ◌∙◌, arith}
+use Rattle.std.proofs.Common.{◌≡◌, ℕ, ◌+◌, ◌<◌, ◌≤◌, zero, suc, List, [], ◌∷◌, ◌++◌, length, take, drop, get_or, refl}
+use Rattle.std.proofs.Common.{ap, sym, ◌∙◌, arith}
 use Rattle.std.specs.Int.{w64, from_le_bytes, to_le_bytes}
 use Rattle.std.proofs.Math.Seq.{drop-cons}
 use Rattle.std.proofs.lemmas.Nat.{le_bytes_8}
 use Rattle.jos_isa.specs.declared.decoder.Decoded.{Decoded}
-use Rattle.jos_isa.specs.Reading.{decoded}
+use Rattle.jos_isa.specs.Decoding.{decoded}
 
 -- so many from a place on
 abbrev from : List ℕ → ℕ → ℕ → List ℕ

@@ -1,13 +1,14 @@
 -- An instruction that stands in a window is what is fetched.
-use Rattle.std.proofs.Common.{◌≡◌, ℕ, ◌+◌, ◌≤◌, ◌%◌, ◌^◌, zero, suc, List, [], ◌∷◌, ◌++◌, length, take, drop, Ok, refl, ap, sym, subst, ◌∙◌, append_assoc, arith, length-append}
+use Rattle.std.proofs.Common.{◌≡◌, ℕ, ◌+◌, ◌≤◌, ◌%◌, ◌^◌, zero, suc, List, [], ◌∷◌, ◌++◌, length, take, drop, Ok}
+use Rattle.std.proofs.Common.{refl, ap, sym, subst, ◌∙◌, append_assoc, arith, length-append}
 use Rattle.std.specs.Prelude.{min}
 use Rattle.std.proofs.lemmas.List.{append-nil, take-append-drop, get_or-take, length-take}
 use Rattle.std.proofs.Math.Seq.{get_or-append_seam}
 use Rattle.jos_isa.specs.declared.instruction.Insn.{Insn}
 use Rattle.jos_isa.specs.declared.decoder.Decoded.TheVariants.{Found, Short}
-use Rattle.jos_isa.specs.Reading.{opcode_at, instruction_at, decoded}
+use Rattle.jos_isa.specs.Decoding.{opcode_at, instruction_at, decoded}
 use Rattle.jos_isa.specs.Spelling.{Spells}
-use Rattle.jos_isa.specs.Laws.{IfFound}
+use Rattle.jos_isa.specs.ClauseWords.{IfFound}
 use Rattle.jos_isa.specs.declared.decoder.Decoded.{Decoded}
 use Rattle.jos_isa.proofs.Instructions.{instructions, found, only, only_short}
 use Rattle.jos_cpu.specs.declared.fetching.Fetched.TheVariants.{Instruction}

@@ -21,6 +21,6 @@ disp_word disp.Zero = 0
 disp_word (disp.Byte value) = cast_unsigned w32 value
 disp_word (disp.Word value) = value
 
--- base plus index times 1, 2, 4 or 8 plus displacement
-unfoldable pub address : MemArg → Regs → ℕ
-address arg regs = (base_word regs arg.base + base_word regs arg.index * factor_of arg.scale + disp_word arg.disp) % 2 ^ 32
+-- the base, the index times 2^scale, and the displacement
+unfoldable pub address_of : MemArg → Regs → ℕ
+address_of arg regs = (base_word regs arg.base + base_word regs arg.index * factor_of arg.scale + disp_word arg.disp) % 2 ^ 32

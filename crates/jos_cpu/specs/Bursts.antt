@@ -7,30 +7,41 @@ use Rattle.jos_cpu.specs.declared.events.Event.TheVariants.{Next}
 use Rattle.jos_cpu.specs.declared.events.Gates.{Gates}
 use Rattle.jos_cpu.specs.Memory.{Memory}
 use Rattle.jos_cpu.specs.Effects.{IfRaised}
-use Rattle.jos_cpu.specs.Steps.{executed, step_of}
+use Rattle.jos_cpu.specs.Steps.{executed, step_of, probes_left}
+
+-- the registers and the memory between two steps
+pub record Machine (M : Type 0) : Type 0 where
+  pub regs : Regs
+  pub memory : M
 
 -- An instruction is executed and the program goes on, or nothing is changed.
-abbrev pub IsQuick : {M : Type 0} → Memory M → Insn → ℕ → Gates → Bool → Regs → Regs → M → M → Type 0
-IsQuick t insn len gates true old new m next = executed t insn len old m gates ≡ record { regs = new; memory = next; event = Next }
-IsQuick t insn len gates false old new m next = (new ≡ old) × (next ≡ m)
+abbrev pub IsQuick : {M : Type 0} → Memory M → Insn → ℕ → Gates → Bool → Machine M → Machine M → Type 0
+IsQuick t insn len gates true before after =
+    executed t insn len before.regs before.memory gates ≡ record { regs = after.regs; memory = after.memory; event = Next }
+IsQuick t insn len gates false before after = (after.regs ≡ before.regs) × (after.memory ≡ before.memory)
+
+-- One step, and what comes of it.
+abbrev pub StepsTo : {M : Type 0} → Memory M → Gates → Machine M → Event → Machine M → Type 0
+StepsTo t gates before event after =
+    step_of t before.regs before.memory gates ≡ record { regs = after.regs; memory = after.memory; event = event }
 
 -- So many steps, after each of which the program goes on.
-abbrev pub GoesOn : {M : Type 0} → Memory M → Gates → ℕ → Regs → M → Regs → M → Type 0
-GoesOn t gates zero old m new next = (new ≡ old) × (next ≡ m)
-GoesOn {M} t gates (suc n) old m new next =
-    (regs : Regs) × (mem : M) × (step_of t old m gates ≡ record { regs = regs; memory = mem; event = Next }) × GoesOn t gates n regs mem new next
+abbrev pub GoesOn : {M : Type 0} → Memory M → Gates → ℕ → Machine M → Machine M → Type 0
+GoesOn t gates zero before after = after ≡ before
+GoesOn {M} t gates (suc n) before after =
+    (next : Machine M) × StepsTo t gates before Next next × GoesOn t gates n next after
 
 -- A burst: steps up to the first that raises or calls something, and no more than a limit says. All but the last
 -- go on; the last has this event. Where no event ends the burst, as many steps are made as the limit says.
-pub record IsBurst {M : Type 0} (t : Memory M) (gates : Gates) (limit steps : ℕ) (event : Event) (old : Regs) (m : M) (new : Regs) (next : M) : Type 0 where
-  -- the steps before the last, and where that begins
-  pub before : ℕ
-  pub count : steps ≡ before + 1
-  pub regs : Regs
-  pub memory : M
-  pub went : GoesOn t gates before old m regs memory
-  pub last : step_of t regs memory gates ≡ record { regs = new; memory = next; event = event }
-  -- a trap leaves the registers
-  pub kept : IfRaised event (new ≡ regs)
+pub record IsBurst {M : Type 0} (t : Memory M) (gates : Gates) (limit steps : ℕ) (event : Event) (before after : Machine M) : Type 0 where
+  -- the steps that go on, and where the last begins
+  pub going : ℕ
+  pub count : steps ≡ going + 1
+  pub reached : Machine M
+  pub went : GoesOn t gates going before reached
+  pub last : StepsTo t gates reached event after
+  -- a trap changes no register, and of memory only what probes set
+  pub kept : IfRaised event (after.regs ≡ reached.regs)
+  pub untouched : IfRaised event (after.memory ≡ probes_left t reached.regs reached.memory)
   pub within : steps ≤ limit
   pub whole : event ≡ Next → steps ≡ limit

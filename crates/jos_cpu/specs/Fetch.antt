@@ -1,11 +1,13 @@
 -- The probes of an instruction's own bytes: one byte after another is reached and read, from EIP upwards
 -- modulo 2^32, until the bytes so far are an instruction or no instruction begins so.
 -- (Intel 80386 Programmer's Reference Manual, 1986, sections 9.8.6 and 9.8.14; bytes beyond are not touched.)
-use Rattle.std.specs.Prelude.{ℕ, ◌+◌, ◌%◌, ◌^◌, zero, suc, List, [], ◌∷◌, ◌++◌, length, Option, Some, None, Result, Ok, Err}
+use Rattle.std.specs.Prelude.{ℕ, ◌+◌, ◌%◌, ◌^◌, zero, suc, List, [], ◌∷◌, ◌++◌, length, Option, Some, None, Result}
+use Rattle.std.specs.Prelude.{Ok, Err}
 use Rattle.jos_base.specs.declared.memory.Access.TheVariants.{Read}
+use Rattle.jos_base.specs.declared.numbers.TheConstants.{INSTRUCTION_MAX}
 use Rattle.jos_isa.specs.declared.decoder.Decoded.{Decoded}
 use Rattle.jos_isa.specs.declared.decoder.Decoded.TheVariants.{Found, Short, Illegal}
-use Rattle.jos_isa.specs.Reading.{decoded}
+use Rattle.jos_isa.specs.Decoding.{decoded}
 use Rattle.jos_cpu.specs.declared.memory.MemFault.{MemFault}
 use Rattle.jos_cpu.specs.declared.fetching.Fetched.{Fetched}
 use Rattle.jos_cpu.specs.declared.fetching.Fetched.TheVariants.{Instruction, Fault, Unknown}
@@ -53,6 +55,6 @@ fetched_from t ip (suc room) m bytes =
     let r = byte_reached t m (next_address ip bytes) in
     on_byte r.byte r.memory bytes (λ longer. fetched_from t ip room r.memory longer)
 
--- No instruction is longer than 15 bytes.
+-- No instruction is longer than this.
 unfoldable pub fetched_at : {M : Type 0} → Memory M → M → ℕ → FetchedFrom M
-fetched_at t m ip = fetched_from t ip 15 m []
+fetched_at t m ip = fetched_from t ip INSTRUCTION_MAX m []

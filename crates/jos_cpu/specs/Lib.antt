@@ -1,9 +1,13 @@
 pub mod Memory
+pub mod MemoryLaws
 pub mod Forms
 pub mod Addresses
 pub mod Accesses
+pub mod Probes
+pub mod Transfers
+pub mod AtHand
 pub mod Effects
 pub mod Fetch
 pub mod Steps
-pub mod Window
+pub mod TestMemory
 pub mod Bursts

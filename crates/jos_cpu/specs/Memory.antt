@@ -1,7 +1,8 @@
 -- Memory as an instruction sees it. Addresses are counted modulo 2^32.
 -- (Intel 80386 Programmer's Reference Manual, 1986, sections 5.2 and 9.8.14: an access sets the accessed and
 -- dirty bits of the entries that it uses, and is refused by the first entry that does not allow it.)
-use Rattle.std.specs.Prelude.{◌≡◌, ℕ, ◌+◌, ◌%◌, ◌^◌, ◌<◌, ◌&&◌, zero, suc, Bool, true, List, length, slice_index, Option, Some, None, Result, Ok, Err, if◌then◌else◌}
+use Rattle.std.specs.Prelude.{◌≡◌, ◌⊎◌, ℕ, ◌+◌, ◌%◌, ◌^◌, ◌<◌, ◌&&◌, zero, suc, Bool, true, List, length, slice_index}
+use Rattle.std.specs.Prelude.{Option, Some, None, Result, Ok, Err, if◌then◌else◌}
 use Rattle.jos_base.specs.declared.memory.Access.{Access}
 use Rattle.jos_base.specs.declared.memory.Access.TheVariants.{Read}
 use Rattle.jos_cpu.specs.declared.memory.MemFault.{MemFault}
@@ -13,10 +14,22 @@ pub record Memory (M : Type 0) : Type 0 where
   pub allowed : M → ℕ → Access → Bool
   -- the fault of a byte that may not be reached
   pub fault : M → ℕ → Access → MemFault
-  -- the memory after a byte was reached: nothing but accessed and dirty bits changes
+  -- the memory after a byte was reached
   pub reached : M → ℕ → Access → M
   -- the memory with this byte at an address
   pub stored : M → ℕ → ℕ → M
+
+-- What holds of every memory. Reaching a byte changes no byte and no right: accessed and dirty bits at most. Putting
+-- one changes no right. Where several addresses lead to it, each of them may come to have the byte that is put; no
+-- address comes to have another.
+pub record IsLawful {M : Type 0} (t : Memory M) : Type 0 where
+  pub reached_bytes : (m : M) (va q : ℕ) (access : Access) → t.byte (t.reached m va access) q ≡ t.byte m q
+  pub reached_rights : (m : M) (va : ℕ) (access : Access) → t.allowed (t.reached m va access) ≡ t.allowed m
+  pub reached_faults : (m : M) (va : ℕ) (access : Access) → t.fault (t.reached m va access) ≡ t.fault m
+  pub stored_bytes : (m : M) (va byte q : ℕ) →
+      (t.byte (t.stored m va byte) q ≡ t.byte m q) ⊎ (t.byte (t.stored m va byte) q ≡ byte)
+  pub stored_rights : (m : M) (va byte : ℕ) → t.allowed (t.stored m va byte) ≡ t.allowed m
+  pub stored_faults : (m : M) (va byte : ℕ) → t.fault (t.stored m va byte) ≡ t.fault m
 
 abbrev pub after : ℕ → ℕ
 after va = (va + 1) % 2 ^ 32

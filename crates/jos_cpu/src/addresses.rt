@@ -1,24 +1,26 @@
 //! The addresses that registers make.
 
 ghost use Rattle.std.specs.Prelude.{◌≡◌, ◌*◌, ◌%◌, ◌^◌};
-ghost use Rattle.jos_cpu.specs.Addresses.{base_word, factor_of, disp_word, address};
+ghost use Rattle.jos_cpu.specs.Addresses.{base_word, factor_of, disp_word, address_of};
 
-use jos_alu::read_register;
+use jos_alu::register;
 use jos_base::Regs;
 use jos_isa::{Disp, MemArg};
 
+/// The register that the operand names, or 0.
 #[inline(always)]
-fn read_base(regs: &Regs, base: Option<u8>) -> u32
+fn base_word(regs: &Regs, base: Option<u8>) -> u32
     ensures { result ≡ base_word regs.now base }
 {
     match base {
         None => 0,
-        Some(n) => read_register(regs, n),
+        Some(n) => register(regs, n),
     }
 }
 
+/// By what the index is multiplied.
 #[inline(always)]
-fn factor(scale: u8) -> u32
+fn factor_of(scale: u8) -> u32
     ensures { result ≡ factor_of scale }
 {
     match scale {
@@ -29,8 +31,9 @@ fn factor(scale: u8) -> u32
     }
 }
 
+/// A signed byte is extended.
 #[inline(always)]
-fn displacement(disp: Disp) -> u32
+fn disp_word(disp: Disp) -> u32
     ensures { result ≡ disp_word disp }
 {
     match disp {
@@ -44,16 +47,16 @@ fn displacement(disp: Disp) -> u32
 fn scaled_index(regs: &Regs, arg: &MemArg) -> u32
     ensures { result ≡ (base_word regs.now arg.now.index * factor_of arg.now.scale) % 2 ^ 32 }
 {
-    read_base(regs, arg.index).wrapping_mul(factor(arg.scale))
+    base_word(regs, arg.index).wrapping_mul(factor_of(arg.scale))
 }
 
 /// The address of an operand in memory.
-#[tactic(auto, unfolding(crate::specs::Addresses::address))]
+#[tactic(auto, unfolding(crate::specs::Addresses::address_of))]
 #[inline(always)]
 pub fn address_of(arg: &MemArg, regs: &Regs) -> u32
-    ensures { result ≡ address arg.now regs.now }
+    ensures { result ≡ address_of arg.now regs.now }
 {
-    read_base(regs, arg.base)
+    base_word(regs, arg.base)
         .wrapping_add(scaled_index(regs, arg))
-        .wrapping_add(displacement(arg.disp))
+        .wrapping_add(disp_word(arg.disp))
 }

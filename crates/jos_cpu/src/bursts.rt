@@ -63,7 +63,7 @@ pub fn make_burst<M: Mem>(
     limit: u32,
 ) -> Burst
     requires { 0 < limit }
-    ensures { IsBurst M.table gates limit result.steps result.event regs.old mem.old regs.new mem.new }
+    ensures { IsBurst M.table gates limit result.steps result.event (record { regs = regs.old; memory = mem.old }) (record { regs = regs.new; memory = mem.new }) }
 {
     for before in 0..limit {
         match decodings.find(regs.eip, mem.window(regs.eip)) {

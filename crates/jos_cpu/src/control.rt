@@ -2,29 +2,23 @@
 
 ghost use Rattle.std.specs.Prelude.{◌≡◌, if◌then◌else◌};
 ghost use Rattle.jos_cpu.specs.declared.events.Event.TheVariants.{Next};
-ghost use Rattle.jos_alu.specs.Registers.{moved};
+ghost use Rattle.jos_alu.specs.Registers.{advanced};
 ghost use Rattle.jos_alu.specs.Flags.{condition_holds};
-ghost use Rattle.jos_cpu.specs.Effects.{IfRaised, raised, call_effect, return_effect, gate_of, interrupt_effect, changed_flags};
+ghost use Rattle.jos_cpu.specs.Effects.{IfRaised, raised, call_effect, return_effect, gate_of, interrupt_effect};
+ghost use Rattle.jos_cpu.specs.Effects.{changed_flags};
 
-use crate::accesses::below;
+use crate::accesses::below_stack;
 use crate::events::{Event, Gates};
-use crate::forms::Change;
-use jos_alu::{CARRY, advance, is_condition};
-use jos_base::Regs;
+use crate::forms::FlagChange;
+use jos_alu::{Condition, advance, condition_holds};
+use jos_base::{FL_CF, FL_DF, Regs, T_BRKPT, T_GPFLT, T_SERVICE, T_SYSCALL};
 use jos_isa::Insn;
 
-/// The breakpoint's interrupt.
-pub(crate) const BREAKPOINT: u8 = 3;
-
-/// General protection.
-const PROTECTION_TRAP: u8 = 13;
-
-const DIRECTION: u32 = 0x400;
-
-pub(crate) fn branch(condition: u8, insn: &Insn, regs: &mut Regs)
-    ensures { regs.new ≡ (if condition_holds regs.old.eflags condition then moved regs.old insn.now.imm else regs.old) }
+/// Jcc.
+pub(crate) fn branch(condition: Condition, insn: &Insn, regs: &mut Regs)
+    ensures { regs.new ≡ (if condition_holds regs.old.eflags condition then advanced regs.old insn.now.imm else regs.old) }
 {
-    if is_condition(regs.eflags, condition) {
+    if condition_holds(regs.eflags, condition) {
         advance(regs, insn.imm);
     }
 }
@@ -34,11 +28,12 @@ pub(crate) fn call(regs: &mut Regs, target: u32) -> u32
     ensures { call_effect regs.old target ≡ record { registers = regs.new; value = result; event = Next } }
 {
     let back = regs.eip;
-    regs.esp = below(regs, 4);
+    regs.esp = below_stack(regs, 4);
     regs.eip = target;
     back
 }
 
+/// RET: past the word and as many further bytes as the immediate says.
 pub(crate) fn return_to(insn: &Insn, regs: &mut Regs, value: u32)
     ensures { return_effect insn.now regs.old value ≡ record { registers = regs.new; value = 0; event = Next } }
 {
@@ -46,47 +41,50 @@ pub(crate) fn return_to(insn: &Insn, regs: &mut Regs, value: u32)
     regs.eip = value;
 }
 
-fn gate(gates: Gates) -> u8
+/// The interrupt whose gate is open beside the breakpoint's.
+fn gate_of(gates: Gates) -> u8
     ensures { result ≡ gate_of gates }
 {
     match gates {
-        Gates::Exo => 0x30,
-        Gates::Run => 0x40,
+        Gates::Exo => T_SYSCALL,
+        Gates::Run => T_SERVICE,
     }
 }
 
 /// A general protection fault, which leaves the registers as they were.
-pub(crate) fn protect(error: u32, old: &Regs, regs: &mut Regs) -> Event
-    ensures done { raised old.now 13 error ≡ record { registers = regs.new; value = 0; event = result } }
+pub(crate) fn raise_protection_fault(error: u32, old: &Regs, regs: &mut Regs) -> Event
+    ensures done { raised old.now T_GPFLT error ≡ record { registers = regs.new; value = 0; event = result } }
     ensures kept { IfRaised result (regs.new ≡ old.now) }
 {
     *regs = *old;
     Event::Raised {
-        trap: PROTECTION_TRAP,
+        trap: T_GPFLT,
         error,
         va: 0,
     }
 }
 
+/// INT n. Where the gate is closed, the error code names the number.
 pub(crate) fn interrupt(gates: Gates, n: u8, old: &Regs, regs: &mut Regs) -> Event
     ensures done { interrupt_effect gates n old.now regs.old ≡ record { registers = regs.new; value = 0; event = result } }
     ensures kept { IfRaised result (regs.new ≡ old.now) }
 {
-    if n == BREAKPOINT || n == gate(gates) {
+    if n == T_BRKPT || n == gate_of(gates) {
         Event::Soft(n)
     } else {
-        protect(8 * n as u32 + 2, old, regs)
+        raise_protection_fault(8 * n as u32 + 2, old, regs)
     }
 }
 
-pub(crate) fn change_flags(change: Change, eflags: u32) -> u32
+/// CMC, CLC, STC, CLD and STD.
+pub(crate) fn change_flags(change: FlagChange, eflags: u32) -> u32
     ensures { result ≡ changed_flags change eflags }
 {
     match change {
-        Change::ComplementCarry => eflags ^ CARRY,
-        Change::ClearCarry => eflags & 0xffff_fffe,
-        Change::SetCarry => eflags | CARRY,
-        Change::ClearDirection => eflags & 0xffff_fbff,
-        Change::SetDirection => eflags | DIRECTION,
+        FlagChange::ComplementCarry => eflags ^ FL_CF,
+        FlagChange::ClearCarry => eflags & (0xffff_ffff - FL_CF),
+        FlagChange::SetCarry => eflags | FL_CF,
+        FlagChange::ClearDirection => eflags & (0xffff_ffff - FL_DF),
+        FlagChange::SetDirection => eflags | FL_DF,
     }
 }

@@ -3,15 +3,15 @@
 ghost use Rattle.std.specs.Prelude.{◌≡◌, ◌++◌, take, IfSome, vec_len};
 ghost use Rattle.std.specs.Int.{w64, to_le_bytes};
 ghost use Rattle.jos_isa.specs.declared.decoder.Decoded.TheVariants.{Found};
-ghost use Rattle.jos_isa.specs.Reading.{decoded};
+ghost use Rattle.jos_isa.specs.Decoding.{decoded};
 ghost use Rattle.jos_cpu.specs.Forms.{form_of};
 
-use crate::forms::{Form, read_form};
+use crate::forms::{Form, form_of};
 use jos_isa::{Decoded, Disp, Insn, MemArg, Operand, Repeat, Row, decode};
 use std::alloc::{AllocError, Global};
 
 /// How many decodings are kept.
-const SLOTS: usize = 1024;
+const KEPT: usize = 1024;
 
 /// The instruction that 16 bytes begin with, and its length.
 #[derive(Clone, Copy)]
@@ -28,8 +28,8 @@ pub(crate) struct Decoding {
 /// Decodings, each by the address at which the bytes were last seen.
 #[derive(Drop)]
 pub struct Decodings {
-    slots: Vec<Decoding>,
-    ghost full: { vec_len slots ≡ 1024 },
+    kept: Vec<Decoding>,
+    ghost full: { vec_len kept ≡ 1024 },
 }
 
 impl Decodings {
@@ -51,11 +51,11 @@ impl Decodings {
                 reg: 0,
                 imm: 0,
             },
-            form: read_form(row),
+            form: form_of(row),
             len: 2,
         };
-        let slots = vec![in alloc; zeros; SLOTS]?;
-        Ok(Decodings { slots })
+        let kept = vec![in alloc; zeros; KEPT]?;
+        Ok(Decodings { kept })
     }
 
     /// What the first 16 bytes begin with, where it is kept.
@@ -68,7 +68,7 @@ impl Decodings {
             [a, b, c, d, e, f, g, h, i, j, k, l, m, n, o, p, ..] => {
                 let front = u64::from_le_bytes([*a, *b, *c, *d, *e, *f, *g, *h]);
                 let back = u64::from_le_bytes([*i, *j, *k, *l, *m, *n, *o, *p]);
-                let decoding = &self.slots[ip as usize % SLOTS];
+                let decoding = &self.kept[ip as usize % KEPT];
                 if decoding.front == front && decoding.back == back {
                     Some(decoding)
                 } else {
@@ -95,10 +95,10 @@ impl Decodings {
                             front,
                             back,
                             insn,
-                            form: read_form(insn.row),
+                            form: form_of(insn.row),
                             len: len as u32,
                         };
-                        self.slots[ip as usize % SLOTS] = known;
+                        self.kept[ip as usize % KEPT] = known;
                     }
                     Decoded::Short | Decoded::Illegal => {}
                 }

@@ -2,52 +2,54 @@
 
 ghost use Rattle.std.specs.Prelude.{◌≡◌, if◌then◌else◌};
 ghost use Rattle.jos_cpu.specs.declared.events.Event.TheVariants.{Next};
-ghost use Rattle.jos_alu.specs.declared.width.Width.TheVariants.{Word};
+ghost use Rattle.jos_alu.specs.declared.width.Width.TheVariants.{Bits32};
 ghost use Rattle.jos_alu.specs.Flags.{is_negative};
 ghost use Rattle.jos_cpu.specs.Effects.{IfRaised, form_effect};
 
-use crate::accesses::{Inputs, below};
-use crate::computing::{load_address, make_computation, make_exchange, make_shift_of_two};
-use crate::control::{BREAKPOINT, branch, call, change_flags, interrupt, protect, return_to};
-use crate::dividing::{make_product, make_quotient};
+use crate::accesses::below_stack;
+use crate::acts::{make_computation, make_shift_two};
+use crate::control::{branch, call, change_flags, interrupt, raise_protection_fault, return_to};
 use crate::events::{Event, Gates};
 use crate::forms::{Form, Place};
-use crate::places::{first, read_at_place};
-use crate::stack::{leave, pop, pop_all, push, raise, take_flags};
+use crate::moves::{load_address, make_exchange};
+use crate::places::{first_of, value_at};
+use crate::products::{make_product, make_quotient};
+use crate::stack::{leave, move_esp_up, pop, pop_all, popped_flags, push};
 use crate::strings::make_strings;
+use crate::transfers::Inputs;
 use jos_alu::{
-    Width, advance, extend, extend_signed, has_sign, read_register_at, set_register,
-    set_register_at,
+    Width, advance, extend, is_negative, register_at, set_register, set_register_at, sign_extend,
 };
-use jos_base::Regs;
+use jos_base::{Regs, T_BRKPT};
 use jos_isa::Insn;
 
 /// What comes of an instruction, and the number that it writes, if it writes one.
 #[derive(Clone, Copy)]
-pub(crate) struct Outcome {
+pub(crate) struct Completion {
     pub(crate) value: u32,
     pub(crate) event: Event,
 }
 
-fn going_on(value: u32) -> Outcome
+fn going_on(value: u32) -> Completion
     ensures { result ≡ record { value = value; event = Next } }
 {
-    Outcome {
+    Completion {
         value,
         event: Event::Next,
     }
 }
 
-fn ending(event: Event) -> Outcome
+fn ending(event: Event) -> Completion
     ensures { result ≡ record { value = 0; event = event } }
 {
-    Outcome { value: 0, event }
+    Completion { value: 0, event }
 }
 
+/// The sign in each bit.
 fn sign_word(n: u32) -> u32
-    ensures { result ≡ (if is_negative Word n then 0xffff_ffff else 0) }
+    ensures { result ≡ (if is_negative Bits32 n then 0xffff_ffff else 0) }
 {
-    if has_sign(Width::Word, n) {
+    if is_negative(Width::Bits32, n) {
         0xffff_ffff
     } else {
         0
@@ -56,14 +58,14 @@ fn sign_word(n: u32) -> u32
 
 /// Does what a form does. `old` are the registers before the instruction, and `regs` those with EIP past it.
 #[tactic(auto, unfolding(crate::specs::Effects::form_effect))]
-pub(crate) fn apply(
+pub(crate) fn apply_form(
     form: Form,
     insn: &Insn,
     old: &Regs,
     regs: &mut Regs,
     inputs: &Inputs,
     gates: Gates,
-) -> Outcome
+) -> Completion
     ensures done { form_effect form insn.now old.now regs.old inputs.now gates ≡ record { registers = regs.new; value = result.value; event = result.event } }
     ensures kept { IfRaised result.event (regs.new ≡ old.now) }
 {
@@ -73,7 +75,7 @@ pub(crate) fn apply(
         )),
         Form::Exchange(width, other) => going_on(make_exchange(width, other, insn, regs, inputs)),
         Form::Extend(sign, width) => {
-            let value = read_at_place(Place::Operand, width, insn, regs, inputs);
+            let value = value_at(Place::Operand, width, insn, regs, inputs);
             set_register(regs, insn.reg, extend(sign, width, value));
             going_on(0)
         }
@@ -82,12 +84,12 @@ pub(crate) fn apply(
             going_on(0)
         }
         Form::LoadFrom(width) => {
-            set_register_at(width, regs, 0, first(inputs));
+            set_register_at(width, regs, 0, first_of(inputs));
             going_on(0)
         }
-        Form::StoreTo(width) => going_on(read_register_at(width, regs, 0)),
+        Form::StoreTo(width) => going_on(register_at(width, regs, 0)),
         Form::ShiftTwo(shift, count) => {
-            going_on(make_shift_of_two(shift, count, insn, regs, inputs))
+            going_on(make_shift_two(shift, count, insn, regs, inputs))
         }
         Form::Product(sign, width) => {
             make_product(sign, width, insn, regs, inputs);
@@ -97,7 +99,7 @@ pub(crate) fn apply(
             ending(make_quotient(sign, width, insn, old, regs, inputs))
         }
         Form::ExtendAccumulator => {
-            regs.eax = extend_signed(Width::Pair, regs.eax);
+            regs.eax = sign_extend(Width::Bits16, regs.eax);
             going_on(0)
         }
         Form::ExtendDouble => {
@@ -105,12 +107,12 @@ pub(crate) fn apply(
             going_on(0)
         }
         Form::Push(source) => {
-            let value = read_at_place(source, Width::Word, insn, regs, inputs);
+            let value = value_at(source, Width::Bits32, insn, regs, inputs);
             going_on(push(regs, value))
         }
-        Form::Pop(target) => going_on(pop(target, insn, regs, first(inputs))),
+        Form::Pop(target) => going_on(pop(target, insn, regs, first_of(inputs))),
         Form::PushAll => {
-            regs.esp = below(regs, 32);
+            regs.esp = below_stack(regs, 32);
             going_on(0)
         }
         Form::PopAll => {
@@ -122,13 +124,13 @@ pub(crate) fn apply(
             going_on(push(regs, eflags))
         }
         Form::PopFlags => {
-            let eflags = take_flags(regs.eflags, first(inputs));
-            raise(regs, 4);
+            let eflags = popped_flags(regs.eflags, first_of(inputs));
+            move_esp_up(regs, 4);
             regs.eflags = eflags;
             going_on(0)
         }
         Form::Leave => {
-            leave(regs, first(inputs));
+            leave(regs, first_of(inputs));
             going_on(0)
         }
         Form::Branch(condition) => {
@@ -140,7 +142,7 @@ pub(crate) fn apply(
             going_on(0)
         }
         Form::JumpTo => {
-            regs.eip = read_at_place(Place::Operand, Width::Word, insn, regs, inputs);
+            regs.eip = value_at(Place::Operand, Width::Bits32, insn, regs, inputs);
             going_on(0)
         }
         Form::Call => {
@@ -148,23 +150,23 @@ pub(crate) fn apply(
             going_on(call(regs, target))
         }
         Form::CallTo => {
-            let target = read_at_place(Place::Operand, Width::Word, insn, regs, inputs);
+            let target = value_at(Place::Operand, Width::Bits32, insn, regs, inputs);
             going_on(call(regs, target))
         }
         Form::Return => {
-            return_to(insn, regs, first(inputs));
+            return_to(insn, regs, first_of(inputs));
             going_on(0)
         }
-        Form::Breakpoint => ending(Event::Soft(BREAKPOINT)),
+        Form::Breakpoint => ending(Event::Soft(T_BRKPT)),
         Form::Interrupt => ending(interrupt(gates, (insn.imm % 256) as u8, old, regs)),
-        Form::Strings(text, width) => {
-            going_on(make_strings(text, width, insn, old, regs, inputs))
+        Form::Strings(operation, width) => {
+            going_on(make_strings(operation, width, insn, old, regs, inputs))
         }
         Form::Flag(change) => {
             regs.eflags = change_flags(change, regs.eflags);
             going_on(0)
         }
-        Form::Privileged => ending(protect(0, old, regs)),
+        Form::Privileged => ending(raise_protection_fault(0, old, regs)),
         Form::Nothing => going_on(0),
     }
 }

@@ -1,14 +1,14 @@
 //! Fetching an instruction from memory.
 
 ghost use Rattle.std.specs.Prelude.{◌≡◌, ◌≤◌, length};
-ghost use Rattle.jos_isa.specs.Reading.{decoded};
-ghost use Rattle.jos_isa.specs.Laws.{IfFound};
+ghost use Rattle.jos_isa.specs.Decoding.{decoded};
+ghost use Rattle.jos_isa.specs.ClauseWords.{IfFound};
 ghost use Rattle.jos_isa.specs.Lengths.{AreShortBelow};
 ghost use Rattle.jos_cpu.specs.Fetch.{FetchedFrom, Reached, byte_reached, fetched_at};
 
 use crate::memory::{Mem, MemFault};
 use arrayvec::ArrayVec;
-use jos_base::Access;
+use jos_base::{Access, INSTRUCTION_MAX};
 use jos_isa::{Decoded, Insn, decode, least_length};
 
 /// What stands at an address.
@@ -21,9 +21,6 @@ pub(crate) enum Fetched {
     /// The beginning of no instruction.
     Unknown,
 }
-
-/// The most bytes that an instruction has.
-const INSTRUCTION_MAX: usize = 15;
 
 /// Reaches for a byte and reads it.
 #[tactic(auto, unfolding(crate::specs::Fetch::byte_reached, crate::specs::Memory::all_allowed))]

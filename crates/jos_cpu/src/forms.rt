@@ -1,9 +1,10 @@
 //! What each row does, in common terms.
 
 ghost use Rattle.std.specs.Prelude.{◌≡◌};
-ghost use Rattle.jos_cpu.specs.Forms.{form_of, shift_of, shift_form, alu_form};
+ghost use Rattle.jos_cpu.specs.Forms.{form_of, operation_of, condition_of, shift_of, drops_result, operation_form};
+ghost use Rattle.jos_cpu.specs.Forms.{shift_form};
 
-use jos_alu::{Shift, Sign, Width};
+use jos_alu::{Condition, Operation, Shift, Sign, Width};
 use jos_isa::Row;
 
 /// Where an operand comes from, or a result goes.
@@ -29,8 +30,7 @@ pub(crate) enum Place {
 pub(crate) enum Act {
     /// The right one.
     Move,
-    /// By its number: 0 ADD, 1 OR, 2 ADC, 3 SBB, 4 AND, 5 SUB, 6 XOR and 7 CMP.
-    Alu(u8),
+    Operate(Operation),
     Test,
     /// The sum; CF is kept.
     Increase,
@@ -39,15 +39,15 @@ pub(crate) enum Act {
     Complement,
     /// The left one shifted by as many places as the right one says.
     ShiftBy(Shift),
-    /// 1 where a condition holds, else 0.
-    Condition(u8),
+    /// 1 where the condition holds, else 0.
+    SetIf(Condition),
     /// The signed product.
     Multiply,
 }
 
 /// An instruction on strings.
 #[derive(Clone, Copy)]
-pub(crate) enum Text {
+pub(crate) enum StringOperation {
     Movs,
     Cmps,
     Stos,
@@ -57,7 +57,7 @@ pub(crate) enum Text {
 
 /// A change of one flag.
 #[derive(Clone, Copy)]
-pub(crate) enum Change {
+pub(crate) enum FlagChange {
     ComplementCarry,
     ClearCarry,
     SetCarry,
@@ -96,7 +96,7 @@ pub(crate) enum Form {
     PopFlags,
     Leave,
     /// A jump by a distance where a condition holds.
-    Branch(u8),
+    Branch(Condition),
     /// By a distance.
     Jump,
     /// To the r/m operand.
@@ -106,14 +106,59 @@ pub(crate) enum Form {
     Return,
     Breakpoint,
     Interrupt,
-    Strings(Text, Width),
-    Flag(Change),
+    Strings(StringOperation, Width),
+    Flag(FlagChange),
     /// What a user program may not do.
     Privileged,
     Nothing,
 }
 
-pub(crate) fn shift_named(k: u8) -> Shift
+/// The operation of this number: bits 5, 4 and 3 of its opcode, or reg of its ModRM byte.
+#[tactic(auto, unfolding(crate::specs::Forms::operation_of))]
+#[inline(always)]
+pub(crate) fn operation_of(k: u8) -> Operation
+    ensures { result ≡ operation_of k }
+{
+    match k {
+        0 => Operation::Add,
+        1 => Operation::Or,
+        2 => Operation::Adc,
+        3 => Operation::Sbb,
+        4 => Operation::And,
+        5 => Operation::Sub,
+        6 => Operation::Xor,
+        _ => Operation::Cmp,
+    }
+}
+
+/// The condition of this number: the low four bits of its opcode.
+#[tactic(auto, unfolding(crate::specs::Forms::condition_of))]
+#[inline(always)]
+pub(crate) fn condition_of(c: u8) -> Condition
+    ensures { result ≡ condition_of c }
+{
+    match c {
+        0 => Condition::Overflow,
+        1 => Condition::NotOverflow,
+        2 => Condition::Below,
+        3 => Condition::AboveOrEqual,
+        4 => Condition::Equal,
+        5 => Condition::NotEqual,
+        6 => Condition::BelowOrEqual,
+        7 => Condition::Above,
+        8 => Condition::Sign,
+        9 => Condition::NotSign,
+        10 => Condition::ParityEven,
+        11 => Condition::ParityOdd,
+        12 => Condition::Less,
+        13 => Condition::GreaterOrEqual,
+        14 => Condition::LessOrEqual,
+        _ => Condition::Greater,
+    }
+}
+
+/// The shift of this number: reg of its ModRM byte.
+pub(crate) fn shift_of(k: u8) -> Shift
     ensures { result ≡ shift_of k }
 {
     match k {
@@ -125,11 +170,39 @@ pub(crate) fn shift_named(k: u8) -> Shift
     }
 }
 
-fn shifted(k: u8, width: Width, count: Place) -> Form
+/// Whether an operation sets flags alone.
+#[inline(always)]
+pub(crate) fn drops_result(operation: Operation) -> bool
+    ensures { result ≡ drops_result operation }
+{
+    match operation {
+        Operation::Cmp => true,
+        Operation::Add
+        | Operation::Or
+        | Operation::Adc
+        | Operation::Sbb
+        | Operation::And
+        | Operation::Sub
+        | Operation::Xor => false,
+    }
+}
+
+fn operation_form(k: u8, width: Width, left: Place, right: Place) -> Form
+    ensures { result ≡ operation_form k width left right }
+{
+    let operation = operation_of(k);
+    if drops_result(operation) {
+        Form::Compute(Act::Operate(operation), width, Place::Nowhere, left, right)
+    } else {
+        Form::Compute(Act::Operate(operation), width, left, left, right)
+    }
+}
+
+fn shift_form(k: u8, width: Width, count: Place) -> Form
     ensures { result ≡ shift_form k width count }
 {
     Form::Compute(
-        Act::ShiftBy(shift_named(k)),
+        Act::ShiftBy(shift_of(k)),
         width,
         Place::Operand,
         Place::Operand,
@@ -137,73 +210,68 @@ fn shifted(k: u8, width: Width, count: Place) -> Form
     )
 }
 
-fn alu(k: u8, width: Width, left: Place, right: Place) -> Form
-    ensures { result ≡ alu_form k width left right }
-{
-    if k == 7 {
-        Form::Compute(Act::Alu(k), width, Place::Nowhere, left, right)
-    } else {
-        Form::Compute(Act::Alu(k), width, left, left, right)
-    }
-}
-
 /// What a row does.
 #[tactic(auto, unfolding(crate::specs::Forms::form_of))]
-pub(crate) fn read_form(row: Row) -> Form
+pub(crate) fn form_of(row: Row) -> Form
     ensures { result ≡ form_of row }
 {
     match row {
-        Row::AluRm8R8(k) => alu(k, Width::Byte, Place::Operand, Place::Named),
-        Row::AluRm32R32(k) => alu(k, Width::Word, Place::Operand, Place::Named),
-        Row::AluR8Rm8(k) => alu(k, Width::Byte, Place::Named, Place::Operand),
-        Row::AluR32Rm32(k) => alu(k, Width::Word, Place::Named, Place::Operand),
-        Row::AluAlImm8(k) => alu(k, Width::Byte, Place::Accumulator, Place::Immediate),
-        Row::AluEaxImm32(k) => alu(k, Width::Word, Place::Accumulator, Place::Immediate),
-        Row::AluRm8Imm8(k) => alu(k, Width::Byte, Place::Operand, Place::Immediate),
-        Row::AluRm32Imm32(k) | Row::AluRm32Imm8(k) => alu(
+        Row::AluRm8R8(k) => operation_form(k, Width::Bits8, Place::Operand, Place::Named),
+        Row::AluRm32R32(k) => operation_form(k, Width::Bits32, Place::Operand, Place::Named),
+        Row::AluR8Rm8(k) => operation_form(k, Width::Bits8, Place::Named, Place::Operand),
+        Row::AluR32Rm32(k) => operation_form(k, Width::Bits32, Place::Named, Place::Operand),
+        Row::AluAlImm8(k) => operation_form(k, Width::Bits8, Place::Accumulator, Place::Immediate),
+        Row::AluEaxImm32(k) => operation_form(
             k,
-            Width::Word,
+            Width::Bits32,
+            Place::Accumulator,
+            Place::Immediate,
+        ),
+        Row::AluRm8Imm8(k) => operation_form(k, Width::Bits8, Place::Operand, Place::Immediate),
+        Row::AluRm32Imm32(k) | Row::AluRm32Imm8(k) => operation_form(
+            k,
+            Width::Bits32,
             Place::Operand,
             Place::Immediate,
         ),
         Row::IncR32 => Form::Compute(
             Act::Increase,
-            Width::Word,
+            Width::Bits32,
             Place::Named,
             Place::Named,
             Place::One,
         ),
         Row::DecR32 => Form::Compute(
             Act::Decrease,
-            Width::Word,
+            Width::Bits32,
             Place::Named,
             Place::Named,
             Place::One,
         ),
         Row::IncRm8 => Form::Compute(
             Act::Increase,
-            Width::Byte,
+            Width::Bits8,
             Place::Operand,
             Place::Operand,
             Place::One,
         ),
         Row::DecRm8 => Form::Compute(
             Act::Decrease,
-            Width::Byte,
+            Width::Bits8,
             Place::Operand,
             Place::Operand,
             Place::One,
         ),
         Row::IncRm32 => Form::Compute(
             Act::Increase,
-            Width::Word,
+            Width::Bits32,
             Place::Operand,
             Place::Operand,
             Place::One,
         ),
         Row::DecRm32 => Form::Compute(
             Act::Decrease,
-            Width::Word,
+            Width::Bits32,
             Place::Operand,
             Place::Operand,
             Place::One,
@@ -219,190 +287,190 @@ pub(crate) fn read_form(row: Row) -> Form
         Row::Popf => Form::PopFlags,
         Row::ImulR32Rm32Imm32 | Row::ImulR32Rm32Imm8 => Form::Compute(
             Act::Multiply,
-            Width::Word,
+            Width::Bits32,
             Place::Named,
             Place::Operand,
             Place::Immediate,
         ),
         Row::ImulR32Rm32 => Form::Compute(
             Act::Multiply,
-            Width::Word,
+            Width::Bits32,
             Place::Named,
             Place::Named,
             Place::Operand,
         ),
-        Row::MulRm8 => Form::Product(Sign::Unsigned, Width::Byte),
-        Row::MulRm32 => Form::Product(Sign::Unsigned, Width::Word),
-        Row::ImulRm8 => Form::Product(Sign::Signed, Width::Byte),
-        Row::ImulRm32 => Form::Product(Sign::Signed, Width::Word),
-        Row::DivRm8 => Form::Quotient(Sign::Unsigned, Width::Byte),
-        Row::DivRm32 => Form::Quotient(Sign::Unsigned, Width::Word),
-        Row::IdivRm8 => Form::Quotient(Sign::Signed, Width::Byte),
-        Row::IdivRm32 => Form::Quotient(Sign::Signed, Width::Word),
+        Row::MulRm8 => Form::Product(Sign::Unsigned, Width::Bits8),
+        Row::MulRm32 => Form::Product(Sign::Unsigned, Width::Bits32),
+        Row::ImulRm8 => Form::Product(Sign::Signed, Width::Bits8),
+        Row::ImulRm32 => Form::Product(Sign::Signed, Width::Bits32),
+        Row::DivRm8 => Form::Quotient(Sign::Unsigned, Width::Bits8),
+        Row::DivRm32 => Form::Quotient(Sign::Unsigned, Width::Bits32),
+        Row::IdivRm8 => Form::Quotient(Sign::Signed, Width::Bits8),
+        Row::IdivRm32 => Form::Quotient(Sign::Signed, Width::Bits32),
         Row::Cwde => Form::ExtendAccumulator,
         Row::Cdq => Form::ExtendDouble,
-        Row::JccRel8(c) | Row::JccRel32(c) => Form::Branch(c),
+        Row::JccRel8(c) | Row::JccRel32(c) => Form::Branch(condition_of(c)),
         Row::SetccRm8(c) => Form::Compute(
-            Act::Condition(c),
-            Width::Byte,
+            Act::SetIf(condition_of(c)),
+            Width::Bits8,
             Place::Operand,
             Place::Nowhere,
             Place::Nowhere,
         ),
         Row::TestRm8R8 => Form::Compute(
             Act::Test,
-            Width::Byte,
+            Width::Bits8,
             Place::Nowhere,
             Place::Operand,
             Place::Named,
         ),
         Row::TestRm32R32 => Form::Compute(
             Act::Test,
-            Width::Word,
+            Width::Bits32,
             Place::Nowhere,
             Place::Operand,
             Place::Named,
         ),
         Row::TestAlImm8 => Form::Compute(
             Act::Test,
-            Width::Byte,
+            Width::Bits8,
             Place::Nowhere,
             Place::Accumulator,
             Place::Immediate,
         ),
         Row::TestEaxImm32 => Form::Compute(
             Act::Test,
-            Width::Word,
+            Width::Bits32,
             Place::Nowhere,
             Place::Accumulator,
             Place::Immediate,
         ),
         Row::TestRm8Imm8 => Form::Compute(
             Act::Test,
-            Width::Byte,
+            Width::Bits8,
             Place::Nowhere,
             Place::Operand,
             Place::Immediate,
         ),
         Row::TestRm32Imm32 => Form::Compute(
             Act::Test,
-            Width::Word,
+            Width::Bits32,
             Place::Nowhere,
             Place::Operand,
             Place::Immediate,
         ),
         Row::NotRm8 => Form::Compute(
             Act::Complement,
-            Width::Byte,
+            Width::Bits8,
             Place::Operand,
             Place::Operand,
             Place::Nowhere,
         ),
         Row::NotRm32 => Form::Compute(
             Act::Complement,
-            Width::Word,
+            Width::Bits32,
             Place::Operand,
             Place::Operand,
             Place::Nowhere,
         ),
         Row::NegRm8 => Form::Compute(
-            Act::Alu(5),
-            Width::Byte,
+            Act::Operate(Operation::Sub),
+            Width::Bits8,
             Place::Operand,
             Place::Nowhere,
             Place::Operand,
         ),
         Row::NegRm32 => Form::Compute(
-            Act::Alu(5),
-            Width::Word,
+            Act::Operate(Operation::Sub),
+            Width::Bits32,
             Place::Operand,
             Place::Nowhere,
             Place::Operand,
         ),
-        Row::XchgRm8R8 => Form::Exchange(Width::Byte, Place::Operand),
-        Row::XchgRm32R32 => Form::Exchange(Width::Word, Place::Operand),
-        Row::XchgEaxR32 => Form::Exchange(Width::Word, Place::Accumulator),
+        Row::XchgRm8R8 => Form::Exchange(Width::Bits8, Place::Operand),
+        Row::XchgRm32R32 => Form::Exchange(Width::Bits32, Place::Operand),
+        Row::XchgEaxR32 => Form::Exchange(Width::Bits32, Place::Accumulator),
         Row::MovRm8R8 => Form::Compute(
             Act::Move,
-            Width::Byte,
+            Width::Bits8,
             Place::Operand,
             Place::Nowhere,
             Place::Named,
         ),
         Row::MovRm32R32 => Form::Compute(
             Act::Move,
-            Width::Word,
+            Width::Bits32,
             Place::Operand,
             Place::Nowhere,
             Place::Named,
         ),
         Row::MovR8Rm8 => Form::Compute(
             Act::Move,
-            Width::Byte,
+            Width::Bits8,
             Place::Named,
             Place::Nowhere,
             Place::Operand,
         ),
         Row::MovR32Rm32 => Form::Compute(
             Act::Move,
-            Width::Word,
+            Width::Bits32,
             Place::Named,
             Place::Nowhere,
             Place::Operand,
         ),
-        Row::MovAlAddr => Form::LoadFrom(Width::Byte),
-        Row::MovEaxAddr => Form::LoadFrom(Width::Word),
-        Row::MovAddrAl => Form::StoreTo(Width::Byte),
-        Row::MovAddrEax => Form::StoreTo(Width::Word),
+        Row::MovAlAddr => Form::LoadFrom(Width::Bits8),
+        Row::MovEaxAddr => Form::LoadFrom(Width::Bits32),
+        Row::MovAddrAl => Form::StoreTo(Width::Bits8),
+        Row::MovAddrEax => Form::StoreTo(Width::Bits32),
         Row::MovR8Imm8 => Form::Compute(
             Act::Move,
-            Width::Byte,
+            Width::Bits8,
             Place::Named,
             Place::Nowhere,
             Place::Immediate,
         ),
         Row::MovR32Imm32 => Form::Compute(
             Act::Move,
-            Width::Word,
+            Width::Bits32,
             Place::Named,
             Place::Nowhere,
             Place::Immediate,
         ),
         Row::MovRm8Imm8 => Form::Compute(
             Act::Move,
-            Width::Byte,
+            Width::Bits8,
             Place::Operand,
             Place::Nowhere,
             Place::Immediate,
         ),
         Row::MovRm32Imm32 => Form::Compute(
             Act::Move,
-            Width::Word,
+            Width::Bits32,
             Place::Operand,
             Place::Nowhere,
             Place::Immediate,
         ),
-        Row::MovzxR32Rm8 => Form::Extend(Sign::Unsigned, Width::Byte),
-        Row::MovzxR32Rm16 => Form::Extend(Sign::Unsigned, Width::Pair),
-        Row::MovsxR32Rm8 => Form::Extend(Sign::Signed, Width::Byte),
-        Row::MovsxR32Rm16 => Form::Extend(Sign::Signed, Width::Pair),
+        Row::MovzxR32Rm8 => Form::Extend(Sign::Unsigned, Width::Bits8),
+        Row::MovzxR32Rm16 => Form::Extend(Sign::Unsigned, Width::Bits16),
+        Row::MovsxR32Rm8 => Form::Extend(Sign::Signed, Width::Bits8),
+        Row::MovsxR32Rm16 => Form::Extend(Sign::Signed, Width::Bits16),
         Row::LeaR32Mem => Form::LoadAddress,
-        Row::Movsb => Form::Strings(Text::Movs, Width::Byte),
-        Row::Movsd => Form::Strings(Text::Movs, Width::Word),
-        Row::Cmpsb => Form::Strings(Text::Cmps, Width::Byte),
-        Row::Cmpsd => Form::Strings(Text::Cmps, Width::Word),
-        Row::Stosb => Form::Strings(Text::Stos, Width::Byte),
-        Row::Stosd => Form::Strings(Text::Stos, Width::Word),
-        Row::Lodsb => Form::Strings(Text::Lods, Width::Byte),
-        Row::Lodsd => Form::Strings(Text::Lods, Width::Word),
-        Row::Scasb => Form::Strings(Text::Scas, Width::Byte),
-        Row::Scasd => Form::Strings(Text::Scas, Width::Word),
-        Row::ShiftRm8Imm8(k) => shifted(k, Width::Byte, Place::Immediate),
-        Row::ShiftRm32Imm8(k) => shifted(k, Width::Word, Place::Immediate),
-        Row::ShiftRm8One(k) => shifted(k, Width::Byte, Place::One),
-        Row::ShiftRm32One(k) => shifted(k, Width::Word, Place::One),
-        Row::ShiftRm8Cl(k) => shifted(k, Width::Byte, Place::Cl),
-        Row::ShiftRm32Cl(k) => shifted(k, Width::Word, Place::Cl),
+        Row::Movsb => Form::Strings(StringOperation::Movs, Width::Bits8),
+        Row::Movsd => Form::Strings(StringOperation::Movs, Width::Bits32),
+        Row::Cmpsb => Form::Strings(StringOperation::Cmps, Width::Bits8),
+        Row::Cmpsd => Form::Strings(StringOperation::Cmps, Width::Bits32),
+        Row::Stosb => Form::Strings(StringOperation::Stos, Width::Bits8),
+        Row::Stosd => Form::Strings(StringOperation::Stos, Width::Bits32),
+        Row::Lodsb => Form::Strings(StringOperation::Lods, Width::Bits8),
+        Row::Lodsd => Form::Strings(StringOperation::Lods, Width::Bits32),
+        Row::Scasb => Form::Strings(StringOperation::Scas, Width::Bits8),
+        Row::Scasd => Form::Strings(StringOperation::Scas, Width::Bits32),
+        Row::ShiftRm8Imm8(k) => shift_form(k, Width::Bits8, Place::Immediate),
+        Row::ShiftRm32Imm8(k) => shift_form(k, Width::Bits32, Place::Immediate),
+        Row::ShiftRm8One(k) => shift_form(k, Width::Bits8, Place::One),
+        Row::ShiftRm32One(k) => shift_form(k, Width::Bits32, Place::One),
+        Row::ShiftRm8Cl(k) => shift_form(k, Width::Bits8, Place::Cl),
+        Row::ShiftRm32Cl(k) => shift_form(k, Width::Bits32, Place::Cl),
         Row::ShldRm32R32Imm8 => Form::ShiftTwo(Shift::Shld, Place::Immediate),
         Row::ShldRm32R32Cl => Form::ShiftTwo(Shift::Shld, Place::Cl),
         Row::ShrdRm32R32Imm8 => Form::ShiftTwo(Shift::Shrd, Place::Immediate),
@@ -415,11 +483,11 @@ pub(crate) fn read_form(row: Row) -> Form
         Row::Leave => Form::Leave,
         Row::Int3 => Form::Breakpoint,
         Row::IntImm8 => Form::Interrupt,
-        Row::Cmc => Form::Flag(Change::ComplementCarry),
-        Row::Clc => Form::Flag(Change::ClearCarry),
-        Row::Stc => Form::Flag(Change::SetCarry),
-        Row::Cld => Form::Flag(Change::ClearDirection),
-        Row::Std => Form::Flag(Change::SetDirection),
+        Row::Cmc => Form::Flag(FlagChange::ComplementCarry),
+        Row::Clc => Form::Flag(FlagChange::ClearCarry),
+        Row::Stc => Form::Flag(FlagChange::SetCarry),
+        Row::Cld => Form::Flag(FlagChange::ClearDirection),
+        Row::Std => Form::Flag(FlagChange::SetDirection),
         Row::InAlImm8
         | Row::InEaxImm8
         | Row::OutImm8Al

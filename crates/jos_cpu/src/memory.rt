@@ -2,8 +2,8 @@
 
 ghost use Rattle.std.specs.Prelude.{◌≡◌, true, false, OnOk, IfSome, is_ok};
 ghost use Rattle.jos_base.specs.declared.memory.Access.TheVariants.{Read, Write};
-ghost use Rattle.jos_cpu.specs.Memory.{Memory, Probed, refusal_of, probed, all_allowed, StandAt};
-ghost use Rattle.jos_cpu.specs.Accesses.{IsAtHand, IsPut};
+ghost use Rattle.jos_cpu.specs.Memory.{Memory, IsLawful, Probed, refusal_of, probed, all_allowed, StandAt};
+ghost use Rattle.jos_cpu.specs.AtHand.{IsAtHand, IsPut};
 
 use jos_alu::Width;
 use jos_base::{Access, PageFault};
@@ -44,15 +44,15 @@ pub trait Mem {
         ensures { IfSome result (IsAtHand table self.now width va) }
     {
         match width {
-            Width::Byte => match self.window(va) {
+            Width::Bits8 => match self.window(va) {
                 [a, ..] => Some(*a as u32),
                 _ => None,
             },
-            Width::Pair => match self.window(va) {
+            Width::Bits16 => match self.window(va) {
                 [a, b, ..] => Some(u16::from_le_bytes([*a, *b]) as u32),
                 _ => None,
             },
-            Width::Word => match self.window(va) {
+            Width::Bits32 => match self.window(va) {
                 [a, b, c, d, ..] => Some(u32::from_le_bytes([*a, *b, *c, *d])),
                 _ => None,
             },
@@ -70,5 +70,8 @@ pub trait Mem {
     fn set(&mut self, va: u32, byte: u8)
         requires { table.allowed self.old va Write ≡ true }
         ensures after { self.new ≡ table.stored self.old va byte }
+        ensures put { table.byte self.new va ≡ byte }
         ensures stays { table.allowed self.new ≡ table.allowed self.old };
+
+    ghost lawful: { IsLawful table };
 }

@@ -3,13 +3,14 @@
 ghost use Rattle.std.specs.Prelude.{◌≡◌};
 ghost use Rattle.jos_cpu.specs.Effects.{first_of, second_of, operand_value, with_operand, value_at, with_value_at};
 
-use crate::accesses::Inputs;
 use crate::forms::Place;
-use jos_alu::{Width, lowest, read_register_at, set_register_at};
+use crate::transfers::Inputs;
+use jos_alu::{Width, lowest, register_at, set_register_at};
 use jos_base::Regs;
 use jos_isa::{Insn, Operand};
 
-pub(crate) fn first(inputs: &Inputs) -> u32
+/// The number that the first access reads.
+pub(crate) fn first_of(inputs: &Inputs) -> u32
     ensures { result ≡ first_of inputs.now }
 {
     match inputs {
@@ -18,7 +19,8 @@ pub(crate) fn first(inputs: &Inputs) -> u32
     }
 }
 
-pub(crate) fn second(inputs: &Inputs) -> u32
+/// The number that the second access reads.
+pub(crate) fn second_of(inputs: &Inputs) -> u32
     ensures { result ≡ second_of inputs.now }
 {
     match inputs {
@@ -27,16 +29,18 @@ pub(crate) fn second(inputs: &Inputs) -> u32
     }
 }
 
-fn read_operand(width: Width, operand: &Operand, regs: &Regs, inputs: &Inputs) -> u32
+/// The r/m operand: a register, or what was read.
+fn operand_value(width: Width, operand: &Operand, regs: &Regs, inputs: &Inputs) -> u32
     ensures { result ≡ operand_value width operand.now regs.now inputs.now }
 {
     match operand {
-        Operand::Reg(n) => read_register_at(width, regs, *n),
-        Operand::Mem(_) => first(inputs),
+        Operand::Reg(n) => register_at(width, regs, *n),
+        Operand::Mem(_) => first_of(inputs),
         Operand::Absent => 0,
     }
 }
 
+/// Puts a number into the r/m operand, if that is a register.
 fn set_operand(width: Width, operand: &Operand, value: u32, regs: &mut Regs)
     ensures { regs.new ≡ with_operand width operand.now value regs.old }
 {
@@ -50,20 +54,14 @@ fn set_operand(width: Width, operand: &Operand, value: u32, regs: &mut Regs)
 /// The number at a place.
 #[tactic(auto, unfolding(crate::specs::Effects::value_at))]
 #[inline(always)]
-pub(crate) fn read_at_place(
-    place: Place,
-    width: Width,
-    insn: &Insn,
-    regs: &Regs,
-    inputs: &Inputs,
-) -> u32
+pub(crate) fn value_at(place: Place, width: Width, insn: &Insn, regs: &Regs, inputs: &Inputs) -> u32
     ensures { result ≡ value_at place width insn.now regs.now inputs.now }
 {
     match place {
         Place::Nowhere => 0,
-        Place::Operand => read_operand(width, &insn.operand, regs, inputs),
-        Place::Named => read_register_at(width, regs, insn.reg),
-        Place::Accumulator => read_register_at(width, regs, 0),
+        Place::Operand => operand_value(width, &insn.operand, regs, inputs),
+        Place::Named => register_at(width, regs, insn.reg),
+        Place::Accumulator => register_at(width, regs, 0),
         Place::Immediate => lowest(width, insn.imm as u64),
         Place::One => 1,
         Place::Cl => regs.ecx % 256,
@@ -72,7 +70,7 @@ pub(crate) fn read_at_place(
 
 /// Puts a number into a register that is a place. Memory is written when the registers are done.
 #[tactic(auto, unfolding(crate::specs::Effects::with_value_at))]
-pub(crate) fn set_at_place(place: Place, width: Width, insn: &Insn, value: u32, regs: &mut Regs)
+pub(crate) fn set_value_at(place: Place, width: Width, insn: &Insn, value: u32, regs: &mut Regs)
     ensures { regs.new ≡ with_value_at place width insn.now value regs.old }
 {
     match place {

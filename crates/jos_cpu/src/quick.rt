@@ -5,11 +5,11 @@
 //! so that one load or store is the probe as well. Rows stand in the manual's families; those that are not here cost
 //! no more by `execute` than their place would be worth.
 //! (Intel 80386 Programmer's Reference Manual, 1986, chapter 3.)
-#![tactic(auto, using(crate::proofs::Moved::register_moved, crate::proofs::Moved::address_moved), unfolding(crate::specs::Steps::executed, crate::specs::Steps::accesses, crate::specs::Steps::done_by, crate::specs::Forms::form_of, crate::specs::Accesses::accesses_of, crate::specs::Accesses::probes_of, crate::specs::Accesses::probed_all, crate::specs::Accesses::inputs_of, crate::specs::Accesses::writes_of, crate::specs::Accesses::stored_all, crate::specs::Effects::form_effect, crate::specs::Effects::value_at, crate::specs::Effects::with_value_at, crate::specs::Effects::computed, crate::specs::Effects::text_effect, jos_alu::specs::Registers::register_at, jos_alu::specs::Registers::with_register_at))]
+#![tactic(auto, using(crate::proofs::Moved::register_moved, crate::proofs::Moved::address_moved), unfolding(crate::specs::Steps::executed, crate::specs::Steps::accesses, crate::specs::Steps::done_by, crate::specs::Forms::form_of, crate::specs::Accesses::accesses_of, crate::specs::Probes::probes_of, crate::specs::Probes::probed_all, crate::specs::Transfers::inputs_of, crate::specs::Transfers::writes_of, crate::specs::Transfers::stored_all, crate::specs::Effects::form_effect, crate::specs::Effects::value_at, crate::specs::Effects::with_value_at, crate::specs::Effects::computed, crate::specs::Effects::repetition_effect, jos_alu::specs::Registers::register_at, jos_alu::specs::Registers::with_register_at))]
 
 ghost use Rattle.std.specs.Prelude.{◌≡◌, true, false};
-ghost use Rattle.jos_alu.specs.declared.width.Width.TheVariants.{Byte, Word};
-ghost use Rattle.jos_alu.specs.Flags.{alu};
+ghost use Rattle.jos_alu.specs.declared.width.Width.TheVariants.{Bits8, Bits32};
+ghost use Rattle.jos_alu.specs.Flags.{operated};
 ghost use Rattle.jos_cpu.specs.Bursts.{IsQuick};
 
 mod at_hand;
@@ -21,36 +21,34 @@ pub(crate) use self::at_hand::execute_at_hand;
 use self::bytes::change_bytes_quickly;
 use self::shifts_and_products::shift_or_multiply_quickly;
 use self::strings::repeat_quickly;
-use crate::accesses::{Inputs, is_done};
+use crate::accesses::is_over;
 use crate::addresses::address_of;
 use crate::events::Gates;
-use crate::forms::Text;
+use crate::forms::{StringOperation, condition_of, drops_result, operation_of};
 use crate::memory::Mem;
 use crate::strings::make_strings;
+use crate::transfers::Inputs;
 use jos_alu::{
-    Computed, Width, advance, combine, decrease, increase, is_condition, operate, read_register,
-    set_register,
+    Computed, Operation, Width, advance, combine, condition_holds, decrease, increase, operate,
+    register, set_register,
 };
 use jos_base::Regs;
 use jos_isa::{Insn, Operand, Row};
 
-/// The number of CMP among the operations, which drops its result.
-const CMP: u8 = 7;
-
-/// An operation on words by its number. It is many instructions, and stands here once for all rows.
+/// An operation on words. It is many instructions, and stands here once for all rows.
 #[inline(never)]
-fn operate_words(k: u8, a: u32, b: u32, eflags: u32) -> Computed
-    ensures { result ≡ alu k Word a b eflags }
+fn operate_words(operation: Operation, a: u32, b: u32, eflags: u32) -> Computed
+    ensures { result ≡ operated operation Bits32 a b eflags }
 {
-    operate(k, Width::Word, a, b, eflags)
+    operate(operation, Width::Bits32, a, b, eflags)
 }
 
 /// The same on bytes.
 #[inline(never)]
-fn operate_bytes(k: u8, a: u32, b: u32, eflags: u32) -> Computed
-    ensures { result ≡ alu k Byte a b eflags }
+fn operate_bytes(operation: Operation, a: u32, b: u32, eflags: u32) -> Computed
+    ensures { result ≡ operated operation Bits8 a b eflags }
 {
-    operate(k, Width::Byte, a, b, eflags)
+    operate(operation, Width::Bits8, a, b, eflags)
 }
 
 /// Executes a frequent instruction. Of any other, and where memory is not at hand, nothing is done and the result
@@ -63,7 +61,7 @@ pub(crate) fn execute_quickly<M: Mem>(
     mem: &mut M,
     gates: Gates,
 ) -> bool
-    ensures { IsQuick M.table insn.now len gates result regs.old regs.new mem.old mem.new }
+    ensures { IsQuick M.table insn.now len gates result (record { regs = regs.old; memory = mem.old }) (record { regs = regs.new; memory = mem.new }) }
 {
     match insn.row {
         // ---- data movement
@@ -72,13 +70,13 @@ pub(crate) fn execute_quickly<M: Mem>(
         Row::MovRm32R32 => match &insn.operand {
             Operand::Reg(n) => {
                 advance(regs, len);
-                let value = read_register(regs, insn.reg);
+                let value = register(regs, insn.reg);
                 set_register(regs, *n, value);
                 true
             }
             Operand::Mem(arg) => {
-                let value = read_register(regs, insn.reg);
-                if mem.put_at_hand(Width::Word, address_of(arg, regs), value) {
+                let value = register(regs, insn.reg);
+                if mem.put_at_hand(Width::Bits32, address_of(arg, regs), value) {
                     advance(regs, len);
                     true
                 } else {
@@ -90,11 +88,11 @@ pub(crate) fn execute_quickly<M: Mem>(
         Row::MovR32Rm32 => match &insn.operand {
             Operand::Reg(n) => {
                 advance(regs, len);
-                let value = read_register(regs, *n);
+                let value = register(regs, *n);
                 set_register(regs, insn.reg, value);
                 true
             }
-            Operand::Mem(arg) => match mem.get_at_hand(Width::Word, address_of(arg, regs)) {
+            Operand::Mem(arg) => match mem.get_at_hand(Width::Bits32, address_of(arg, regs)) {
                 Some(value) => {
                     advance(regs, len);
                     set_register(regs, insn.reg, value);
@@ -116,7 +114,7 @@ pub(crate) fn execute_quickly<M: Mem>(
                 true
             }
             Operand::Mem(arg) => {
-                if mem.put_at_hand(Width::Word, address_of(arg, regs), insn.imm) {
+                if mem.put_at_hand(Width::Bits32, address_of(arg, regs), insn.imm) {
                     advance(regs, len);
                     true
                 } else {
@@ -125,7 +123,7 @@ pub(crate) fn execute_quickly<M: Mem>(
             }
             Operand::Absent => false,
         },
-        Row::MovEaxAddr => match mem.get_at_hand(Width::Word, insn.imm) {
+        Row::MovEaxAddr => match mem.get_at_hand(Width::Bits32, insn.imm) {
             Some(value) => {
                 advance(regs, len);
                 set_register(regs, 0, value);
@@ -134,7 +132,7 @@ pub(crate) fn execute_quickly<M: Mem>(
             None => false,
         },
         Row::MovAddrEax => {
-            if mem.put_at_hand(Width::Word, insn.imm, read_register(regs, 0)) {
+            if mem.put_at_hand(Width::Bits32, insn.imm, register(regs, 0)) {
                 advance(regs, len);
                 true
             } else {
@@ -156,9 +154,9 @@ pub(crate) fn execute_quickly<M: Mem>(
 
         // PUSH, POP and LEAVE
         Row::PushR32 => {
-            let value = read_register(regs, insn.reg);
+            let value = register(regs, insn.reg);
             let at = regs.esp.wrapping_sub(4);
-            if mem.put_at_hand(Width::Word, at, value) {
+            if mem.put_at_hand(Width::Bits32, at, value) {
                 regs.esp = at;
                 advance(regs, len);
                 true
@@ -168,7 +166,7 @@ pub(crate) fn execute_quickly<M: Mem>(
         }
         Row::PushImm32 | Row::PushImm8 => {
             let at = regs.esp.wrapping_sub(4);
-            if mem.put_at_hand(Width::Word, at, insn.imm) {
+            if mem.put_at_hand(Width::Bits32, at, insn.imm) {
                 regs.esp = at;
                 advance(regs, len);
                 true
@@ -176,7 +174,7 @@ pub(crate) fn execute_quickly<M: Mem>(
                 false
             }
         }
-        Row::PopR32 => match mem.get_at_hand(Width::Word, regs.esp) {
+        Row::PopR32 => match mem.get_at_hand(Width::Bits32, regs.esp) {
             Some(value) => {
                 advance(regs, len);
                 regs.esp = regs.esp.wrapping_add(4);
@@ -185,7 +183,7 @@ pub(crate) fn execute_quickly<M: Mem>(
             }
             None => false,
         },
-        Row::Leave => match mem.get_at_hand(Width::Word, regs.ebp) {
+        Row::Leave => match mem.get_at_hand(Width::Bits32, regs.ebp) {
             Some(value) => {
                 advance(regs, len);
                 regs.esp = regs.ebp.wrapping_add(4);
@@ -201,22 +199,29 @@ pub(crate) fn execute_quickly<M: Mem>(
         Row::AluRm32R32(k) => match &insn.operand {
             Operand::Reg(n) => {
                 advance(regs, len);
-                let a = read_register(regs, *n);
-                let b = read_register(regs, insn.reg);
-                let Computed { value, eflags } = operate_words(k, a, b, regs.eflags);
+                let a = register(regs, *n);
+                let b = register(regs, insn.reg);
+                let operation = operation_of(k);
+                let Computed { value, eflags } = operate_words(operation, a, b, regs.eflags);
                 regs.eflags = eflags;
-                if k != CMP {
+                if !drops_result(operation) {
                     set_register(regs, *n, value);
                 }
                 true
             }
             Operand::Mem(arg) => {
                 let va = address_of(arg, regs);
-                match mem.get_at_hand(Width::Word, va) {
+                match mem.get_at_hand(Width::Bits32, va) {
                     Some(a) => {
-                        let b = read_register(regs, insn.reg);
-                        let Computed { value, eflags } = operate_words(k, a, b, regs.eflags);
-                        if k == CMP || mem.put_at_hand(Width::Word, va, value) {
+                        let b = register(regs, insn.reg);
+                        let operation = operation_of(k);
+                        let Computed { value, eflags } = operate_words(
+                            operation,
+                            a,
+                            b,
+                            regs.eflags,
+                        );
+                        if drops_result(operation) || mem.put_at_hand(Width::Bits32, va, value) {
                             advance(regs, len);
                             regs.eflags = eflags;
                             true
@@ -232,22 +237,24 @@ pub(crate) fn execute_quickly<M: Mem>(
         Row::AluR32Rm32(k) => match &insn.operand {
             Operand::Reg(n) => {
                 advance(regs, len);
-                let a = read_register(regs, insn.reg);
-                let b = read_register(regs, *n);
-                let Computed { value, eflags } = operate_words(k, a, b, regs.eflags);
+                let a = register(regs, insn.reg);
+                let b = register(regs, *n);
+                let operation = operation_of(k);
+                let Computed { value, eflags } = operate_words(operation, a, b, regs.eflags);
                 regs.eflags = eflags;
-                if k != CMP {
+                if !drops_result(operation) {
                     set_register(regs, insn.reg, value);
                 }
                 true
             }
-            Operand::Mem(arg) => match mem.get_at_hand(Width::Word, address_of(arg, regs)) {
+            Operand::Mem(arg) => match mem.get_at_hand(Width::Bits32, address_of(arg, regs)) {
                 Some(b) => {
                     advance(regs, len);
-                    let a = read_register(regs, insn.reg);
-                    let Computed { value, eflags } = operate_words(k, a, b, regs.eflags);
+                    let a = register(regs, insn.reg);
+                    let operation = operation_of(k);
+                    let Computed { value, eflags } = operate_words(operation, a, b, regs.eflags);
                     regs.eflags = eflags;
-                    if k != CMP {
+                    if !drops_result(operation) {
                         set_register(regs, insn.reg, value);
                     }
                     true
@@ -259,20 +266,27 @@ pub(crate) fn execute_quickly<M: Mem>(
         Row::AluRm32Imm32(k) | Row::AluRm32Imm8(k) => match &insn.operand {
             Operand::Reg(n) => {
                 advance(regs, len);
-                let a = read_register(regs, *n);
-                let Computed { value, eflags } = operate_words(k, a, insn.imm, regs.eflags);
+                let a = register(regs, *n);
+                let operation = operation_of(k);
+                let Computed { value, eflags } = operate_words(operation, a, insn.imm, regs.eflags);
                 regs.eflags = eflags;
-                if k != CMP {
+                if !drops_result(operation) {
                     set_register(regs, *n, value);
                 }
                 true
             }
             Operand::Mem(arg) => {
                 let va = address_of(arg, regs);
-                match mem.get_at_hand(Width::Word, va) {
+                match mem.get_at_hand(Width::Bits32, va) {
                     Some(a) => {
-                        let Computed { value, eflags } = operate_words(k, a, insn.imm, regs.eflags);
-                        if k == CMP || mem.put_at_hand(Width::Word, va, value) {
+                        let operation = operation_of(k);
+                        let Computed { value, eflags } = operate_words(
+                            operation,
+                            a,
+                            insn.imm,
+                            regs.eflags,
+                        );
+                        if drops_result(operation) || mem.put_at_hand(Width::Bits32, va, value) {
                             advance(regs, len);
                             regs.eflags = eflags;
                             true
@@ -287,10 +301,11 @@ pub(crate) fn execute_quickly<M: Mem>(
         },
         Row::AluEaxImm32(k) => {
             advance(regs, len);
-            let a = read_register(regs, 0);
-            let Computed { value, eflags } = operate_words(k, a, insn.imm, regs.eflags);
+            let a = register(regs, 0);
+            let operation = operation_of(k);
+            let Computed { value, eflags } = operate_words(operation, a, insn.imm, regs.eflags);
             regs.eflags = eflags;
-            if k != CMP {
+            if !drops_result(operation) {
                 set_register(regs, 0, value);
             }
             true
@@ -299,16 +314,16 @@ pub(crate) fn execute_quickly<M: Mem>(
         // INC and DEC
         Row::IncR32 => {
             advance(regs, len);
-            let a = read_register(regs, insn.reg);
-            let Computed { value, eflags } = increase(Width::Word, a, 1, regs.eflags);
+            let a = register(regs, insn.reg);
+            let Computed { value, eflags } = increase(Width::Bits32, a, 1, regs.eflags);
             regs.eflags = eflags;
             set_register(regs, insn.reg, value);
             true
         }
         Row::DecR32 => {
             advance(regs, len);
-            let a = read_register(regs, insn.reg);
-            let Computed { value, eflags } = decrease(Width::Word, a, 1, regs.eflags);
+            let a = register(regs, insn.reg);
+            let Computed { value, eflags } = decrease(Width::Bits32, a, 1, regs.eflags);
             regs.eflags = eflags;
             set_register(regs, insn.reg, value);
             true
@@ -318,9 +333,9 @@ pub(crate) fn execute_quickly<M: Mem>(
         Row::TestRm32R32 => match &insn.operand {
             Operand::Reg(n) => {
                 advance(regs, len);
-                let a = read_register(regs, *n);
-                let b = read_register(regs, insn.reg);
-                regs.eflags = combine(Width::Word, a & b, regs.eflags).eflags;
+                let a = register(regs, *n);
+                let b = register(regs, insn.reg);
+                regs.eflags = combine(Width::Bits32, a & b, regs.eflags).eflags;
                 true
             }
             Operand::Mem(_) => false,
@@ -336,10 +351,10 @@ pub(crate) fn execute_quickly<M: Mem>(
         }
         Row::JmpRm32 => match &insn.operand {
             Operand::Reg(n) => {
-                regs.eip = read_register(regs, *n);
+                regs.eip = register(regs, *n);
                 true
             }
-            Operand::Mem(arg) => match mem.get_at_hand(Width::Word, address_of(arg, regs)) {
+            Operand::Mem(arg) => match mem.get_at_hand(Width::Bits32, address_of(arg, regs)) {
                 Some(value) => {
                     regs.eip = value;
                     true
@@ -350,7 +365,7 @@ pub(crate) fn execute_quickly<M: Mem>(
         },
         Row::JccRel8(c) | Row::JccRel32(c) => {
             advance(regs, len);
-            if is_condition(regs.eflags, c) {
+            if condition_holds(regs.eflags, condition_of(c)) {
                 advance(regs, insn.imm);
             }
             true
@@ -358,7 +373,7 @@ pub(crate) fn execute_quickly<M: Mem>(
         Row::CallRel32 => {
             let back = regs.eip.wrapping_add(len);
             let at = regs.esp.wrapping_sub(4);
-            if mem.put_at_hand(Width::Word, at, back) {
+            if mem.put_at_hand(Width::Bits32, at, back) {
                 regs.esp = at;
                 regs.eip = back.wrapping_add(insn.imm);
                 true
@@ -366,7 +381,7 @@ pub(crate) fn execute_quickly<M: Mem>(
                 false
             }
         }
-        Row::Ret | Row::RetImm16 => match mem.get_at_hand(Width::Word, regs.esp) {
+        Row::Ret | Row::RetImm16 => match mem.get_at_hand(Width::Bits32, regs.esp) {
             Some(value) => {
                 regs.esp = regs.esp.wrapping_add(4).wrapping_add(insn.imm);
                 regs.eip = value;
@@ -378,16 +393,23 @@ pub(crate) fn execute_quickly<M: Mem>(
         // ---- strings, one repetition
 
         Row::Movsb => {
-            if is_done(insn.repeat, regs) {
+            if is_over(insn.repeat, regs) {
                 false
             } else {
-                match mem.get_at_hand(Width::Byte, regs.esi) {
+                match mem.get_at_hand(Width::Bits8, regs.esi) {
                     Some(value) => {
-                        if mem.put_at_hand(Width::Byte, regs.edi, value) {
+                        if mem.put_at_hand(Width::Bits8, regs.edi, value) {
                             let old = *regs;
                             advance(regs, len);
                             let inputs = Inputs::Numbers(value, 0);
-                            make_strings(Text::Movs, Width::Byte, insn, &old, regs, &inputs);
+                            make_strings(
+                                StringOperation::Movs,
+                                Width::Bits8,
+                                insn,
+                                &old,
+                                regs,
+                                &inputs,
+                            );
                             true
                         } else {
                             false
@@ -398,16 +420,23 @@ pub(crate) fn execute_quickly<M: Mem>(
             }
         }
         Row::Movsd => {
-            if is_done(insn.repeat, regs) {
+            if is_over(insn.repeat, regs) {
                 false
             } else {
-                match mem.get_at_hand(Width::Word, regs.esi) {
+                match mem.get_at_hand(Width::Bits32, regs.esi) {
                     Some(value) => {
-                        if mem.put_at_hand(Width::Word, regs.edi, value) {
+                        if mem.put_at_hand(Width::Bits32, regs.edi, value) {
                             let old = *regs;
                             advance(regs, len);
                             let inputs = Inputs::Numbers(value, 0);
-                            make_strings(Text::Movs, Width::Word, insn, &old, regs, &inputs);
+                            make_strings(
+                                StringOperation::Movs,
+                                Width::Bits32,
+                                insn,
+                                &old,
+                                regs,
+                                &inputs,
+                            );
                             true
                         } else {
                             false
@@ -418,13 +447,20 @@ pub(crate) fn execute_quickly<M: Mem>(
             }
         }
         Row::Stosd => {
-            if is_done(insn.repeat, regs) {
+            if is_over(insn.repeat, regs) {
                 false
-            } else if mem.put_at_hand(Width::Word, regs.edi, read_register(regs, 0)) {
+            } else if mem.put_at_hand(Width::Bits32, regs.edi, register(regs, 0)) {
                 let old = *regs;
                 advance(regs, len);
                 let inputs = Inputs::Numbers(0, 0);
-                make_strings(Text::Stos, Width::Word, insn, &old, regs, &inputs);
+                make_strings(
+                    StringOperation::Stos,
+                    Width::Bits32,
+                    insn,
+                    &old,
+                    regs,
+                    &inputs,
+                );
                 true
             } else {
                 false

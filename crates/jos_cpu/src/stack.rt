@@ -2,42 +2,45 @@
 
 ghost use Rattle.std.specs.Prelude.{◌≡◌};
 ghost use Rattle.jos_cpu.specs.declared.events.Event.TheVariants.{Next};
-ghost use Rattle.jos_cpu.specs.Effects.{push_effect, raised_by, pop_effect, pop_all_effect, popped_flags, leave_effect};
+ghost use Rattle.jos_cpu.specs.Effects.{push_effect, with_esp_up, pop_effect, pop_all_effect, popped_flags};
+ghost use Rattle.jos_cpu.specs.Effects.{leave_effect};
 
-use crate::accesses::{Inputs, below};
+use crate::accesses::below_stack;
 use crate::forms::Place;
-use crate::places::set_at_place;
+use crate::places::set_value_at;
+use crate::transfers::Inputs;
 use jos_alu::Width;
-use jos_base::Regs;
+use jos_base::{FL_AF, FL_CF, FL_DF, FL_OF, FL_PF, FL_SF, FL_ZF, Regs};
 use jos_isa::Insn;
 
-/// The bits of EFLAGS that POPF takes.
-const POPPED: u32 = 0x0000_0cd5;
-
-const KEPT: u32 = 0xffff_f32a;
+/// The flags that POPF takes.
+const POPPED: u32 = FL_CF + FL_PF + FL_AF + FL_ZF + FL_SF + FL_DF + FL_OF;
 
 /// Makes room for a word, which is the number that is written.
 pub(crate) fn push(regs: &mut Regs, value: u32) -> u32
     ensures { push_effect regs.old value ≡ record { registers = regs.new; value = result; event = Next } }
 {
-    regs.esp = below(regs, 4);
+    regs.esp = below_stack(regs, 4);
     value
 }
 
-pub(crate) fn raise(regs: &mut Regs, n: u32)
-    ensures { regs.new ≡ raised_by regs.old n }
+/// By so many bytes.
+pub(crate) fn move_esp_up(regs: &mut Regs, n: u32)
+    ensures { regs.new ≡ with_esp_up regs.old n }
 {
     regs.esp = regs.esp.wrapping_add(n);
 }
 
+/// POP; the result is the number for an operand in memory.
 pub(crate) fn pop(target: Place, insn: &Insn, regs: &mut Regs, value: u32) -> u32
     ensures { pop_effect target insn.now regs.old value ≡ record { registers = regs.new; value = result; event = Next } }
 {
-    raise(regs, 4);
-    set_at_place(target, Width::Word, insn, value, regs);
+    move_esp_up(regs, 4);
+    set_value_at(target, Width::Bits32, insn, value, regs);
     value
 }
 
+/// POPA: ESP goes past the eight words.
 pub(crate) fn pop_all(inputs: &Inputs, regs: &mut Regs)
     ensures { pop_all_effect inputs.now regs.old ≡ record { registers = regs.new; value = 0; event = Next } }
 {
@@ -56,12 +59,14 @@ pub(crate) fn pop_all(inputs: &Inputs, regs: &mut Regs)
     }
 }
 
-pub(crate) fn take_flags(eflags: u32, value: u32) -> u32
+/// What POPF takes of a word, and what it keeps.
+pub(crate) fn popped_flags(eflags: u32, value: u32) -> u32
     ensures { result ≡ popped_flags eflags value }
 {
-    eflags & KEPT | value & POPPED
+    eflags & (0xffff_ffff - POPPED) | value & POPPED
 }
 
+/// LEAVE: ESP is EBP, and then EBP is popped.
 pub(crate) fn leave(regs: &mut Regs, value: u32)
     ensures { leave_effect regs.old value ≡ record { registers = regs.new; value = 0; event = Next } }
 {

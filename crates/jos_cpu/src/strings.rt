@@ -2,27 +2,26 @@
 
 ghost use Rattle.std.specs.Prelude.{◌≡◌};
 ghost use Rattle.jos_cpu.specs.declared.events.Event.TheVariants.{Next};
-ghost use Rattle.jos_cpu.specs.Effects.{gives, text_step, with_esi, with_edi, compared, text_effect, compares, breaks, counted_down, repeated, after_text, strings_effect};
+ghost use Rattle.jos_cpu.specs.Effects.{gives, string_step, with_esi, with_edi, compared, repetition_effect};
+ghost use Rattle.jos_cpu.specs.Effects.{compares, breaks, counted_down, gone_back, after_repetition, strings_effect};
 
-use crate::accesses::{Inputs, is_done, len_of, repeats};
-use crate::forms::Text;
-use crate::places::{first, second};
-use jos_alu::{Width, has, read_register_at, set_register_at, subtract};
-use jos_base::Regs;
+use crate::accesses::{is_over, is_repeated, length_of};
+use crate::forms::StringOperation;
+use crate::places::{first_of, second_of};
+use crate::transfers::Inputs;
+use jos_alu::{Width, is_set, register_at, set_register_at, subtract};
+use jos_base::{FL_DF, FL_ZF, Regs};
 use jos_isa::{Insn, Repeat};
 
-const ZERO: u32 = 0x040;
-
-const DIRECTION: u32 = 0x400;
-
+/// What ESI and EDI move by: the width, or its negative where DF is set.
 #[inline(always)]
-fn distance(width: Width, eflags: u32) -> u32
-    ensures { result ≡ text_step width eflags }
+fn string_step(width: Width, eflags: u32) -> u32
+    ensures { result ≡ string_step width eflags }
 {
-    if has(eflags, DIRECTION) {
-        0u32.wrapping_sub(len_of(width))
+    if is_set(eflags, FL_DF) {
+        0u32.wrapping_sub(length_of(width))
     } else {
-        len_of(width)
+        length_of(width)
     }
 }
 
@@ -30,16 +29,17 @@ fn distance(width: Width, eflags: u32) -> u32
 fn move_esi(width: Width, regs: &mut Regs)
     ensures { regs.new ≡ with_esi width regs.old }
 {
-    regs.esi = regs.esi.wrapping_add(distance(width, regs.eflags));
+    regs.esi = regs.esi.wrapping_add(string_step(width, regs.eflags));
 }
 
 #[inline(always)]
 fn move_edi(width: Width, regs: &mut Regs)
     ensures { regs.new ≡ with_edi width regs.old }
 {
-    regs.edi = regs.edi.wrapping_add(distance(width, regs.eflags));
+    regs.edi = regs.edi.wrapping_add(string_step(width, regs.eflags));
 }
 
+/// The flags of `a` less `b`.
 fn compare(width: Width, a: u32, b: u32, regs: &mut Regs)
     ensures { regs.new ≡ compared width a b regs.old }
 {
@@ -47,63 +47,70 @@ fn compare(width: Width, a: u32, b: u32, regs: &mut Regs)
 }
 
 /// One repetition; the result is the number that is written.
-#[tactic(auto, unfolding(crate::specs::Effects::text_effect))]
+#[tactic(auto, unfolding(crate::specs::Effects::repetition_effect))]
 #[inline(always)]
-fn make_text(text: Text, width: Width, regs: &mut Regs, inputs: &Inputs) -> u32
-    ensures { text_effect text width regs.old inputs.now ≡ record { registers = regs.new; value = result; event = Next } }
+fn make_repetition(
+    operation: StringOperation,
+    width: Width,
+    regs: &mut Regs,
+    inputs: &Inputs,
+) -> u32
+    ensures { repetition_effect operation width regs.old inputs.now ≡ record { registers = regs.new; value = result; event = Next } }
 {
-    match text {
-        Text::Movs => {
+    match operation {
+        StringOperation::Movs => {
             move_esi(width, regs);
             move_edi(width, regs);
-            first(inputs)
+            first_of(inputs)
         }
-        Text::Cmps => {
-            compare(width, first(inputs), second(inputs), regs);
+        StringOperation::Cmps => {
+            compare(width, first_of(inputs), second_of(inputs), regs);
             move_esi(width, regs);
             move_edi(width, regs);
             0
         }
-        Text::Stos => {
-            let value = read_register_at(width, regs, 0);
+        StringOperation::Stos => {
+            let value = register_at(width, regs, 0);
             move_edi(width, regs);
             value
         }
-        Text::Lods => {
-            set_register_at(width, regs, 0, first(inputs));
+        StringOperation::Lods => {
+            set_register_at(width, regs, 0, first_of(inputs));
             move_esi(width, regs);
             0
         }
-        Text::Scas => {
-            let value = read_register_at(width, regs, 0);
-            compare(width, value, first(inputs), regs);
+        StringOperation::Scas => {
+            let value = register_at(width, regs, 0);
+            compare(width, value, first_of(inputs), regs);
             move_edi(width, regs);
             0
         }
     }
 }
 
+/// Whether it is CMPS or SCAS.
 #[inline(always)]
-fn is_comparison(text: Text) -> bool
-    ensures { result ≡ compares text }
+fn compares(operation: StringOperation) -> bool
+    ensures { result ≡ compares operation }
 {
-    match text {
-        Text::Movs => false,
-        Text::Cmps => true,
-        Text::Stos => false,
-        Text::Lods => false,
-        Text::Scas => true,
+    match operation {
+        StringOperation::Movs => false,
+        StringOperation::Cmps => true,
+        StringOperation::Stos => false,
+        StringOperation::Lods => false,
+        StringOperation::Scas => true,
     }
 }
 
+/// Whether a comparison ends the repetition.
 #[inline(always)]
-fn is_broken(repeat: Repeat, eflags: u32) -> bool
+fn breaks(repeat: Repeat, eflags: u32) -> bool
     ensures { result ≡ breaks repeat eflags }
 {
     match repeat {
         Repeat::Once => false,
-        Repeat::WhileEqual => !has(eflags, ZERO),
-        Repeat::WhileNot => has(eflags, ZERO),
+        Repeat::WhileEqual => !is_set(eflags, FL_ZF),
+        Repeat::WhileNot => is_set(eflags, FL_ZF),
     }
 }
 
@@ -116,43 +123,50 @@ fn count_down(regs: &mut Regs)
 
 /// Puts EIP back to the instruction, unless this was the last repetition.
 #[inline(always)]
-fn go_back(text: Text, repeat: Repeat, ip: u32, regs: &mut Regs)
-    ensures { regs.new ≡ repeated text repeat ip regs.old }
+fn go_back(operation: StringOperation, repeat: Repeat, ip: u32, regs: &mut Regs)
+    ensures { regs.new ≡ gone_back operation repeat ip regs.old }
 {
-    if regs.ecx == 0 || is_comparison(text) && is_broken(repeat, regs.eflags) {} else {
+    if regs.ecx == 0 || compares(operation) && breaks(repeat, regs.eflags) {} else {
         regs.eip = ip;
     }
 }
 
 /// What comes after one repetition.
 #[inline(always)]
-fn finish_text(text: Text, repeat: Repeat, ip: u32, regs: &mut Regs, value: u32) -> u32
-    ensures { after_text text repeat ip (gives regs.old value) ≡ record { registers = regs.new; value = result; event = Next } }
+fn finish_repetition(
+    operation: StringOperation,
+    repeat: Repeat,
+    ip: u32,
+    regs: &mut Regs,
+    value: u32,
+) -> u32
+    ensures { after_repetition operation repeat ip (gives regs.old value) ≡ record { registers = regs.new; value = result; event = Next } }
 {
-    if repeats(repeat) {
+    if is_repeated(repeat) {
         count_down(regs);
-        go_back(text, repeat, ip, regs);
+        go_back(operation, repeat, ip, regs);
         value
     } else {
         value
     }
 }
 
+/// One repetition, if there is one; the result is the number for memory.
 #[inline(always)]
 pub(crate) fn make_strings(
-    text: Text,
+    operation: StringOperation,
     width: Width,
     insn: &Insn,
     old: &Regs,
     regs: &mut Regs,
     inputs: &Inputs,
 ) -> u32
-    ensures { strings_effect text width insn.now old.now regs.old inputs.now ≡ record { registers = regs.new; value = result; event = Next } }
+    ensures { strings_effect operation width insn.now old.now regs.old inputs.now ≡ record { registers = regs.new; value = result; event = Next } }
 {
-    if is_done(insn.repeat, old) {
+    if is_over(insn.repeat, old) {
         0
     } else {
-        let value = make_text(text, width, regs, inputs);
-        finish_text(text, insn.repeat, old.eip, regs, value)
+        let value = make_repetition(operation, width, regs, inputs);
+        finish_repetition(operation, insn.repeat, old.eip, regs, value)
     }
 }

@@ -3,15 +3,18 @@ use crate::tests::processor::{
     ARITHMETIC, CONDITIONS, Case, CaseInMemory, MEMORY, MOVES, ONES, PRODUCTS, SHIFTS, STACK,
     STRINGS, Words,
 };
-use crate::tests::window::Window;
-use jos_base::Regs;
+use crate::tests::test_memory::TestMemory;
+use jos_base::{
+    FEC_U, FEC_WR, FL_1, FL_AF, FL_CF, FL_DF, FL_IF, FL_OF, FL_PF, FL_SF, FL_ZF, Regs, T_BRKPT,
+    T_DIVIDE, T_GPFLT, T_ILLOP, T_PGFLT, T_SERVICE, T_SYSCALL, UTEXT,
+};
 use std::process::Abort;
 use std::test::Fail;
 
 mod processor;
-mod window;
+mod test_memory;
 
-const BASE: u32 = 0x0080_0000;
+const BASE: u32 = UTEXT;
 
 fn regs_of(words: Words) -> Regs {
     Regs {
@@ -43,14 +46,14 @@ fn words_of(regs: &Regs) -> Words {
 }
 
 /// The code at the base, and below the rest bytes that go up by 37.
-fn window_of(code: [u8; 12], standing: bool) -> Window {
+fn memory_of(code: [u8; 12], standing: bool) -> TestMemory {
     let mut bytes = [0; 128];
     let mut byte = 11u8;
     for k in 0..128usize {
         bytes[k] = if k < 12 { code[k] } else { byte };
         byte = byte.wrapping_add(37);
     }
-    Window {
+    TestMemory {
         base: BASE,
         locked: 16,
         standing,
@@ -69,21 +72,21 @@ fn run_case(
     decodings: &mut Decodings,
     case: &Case,
     standing: bool,
-) -> (Regs, Window) {
+) -> (Regs, TestMemory) {
     let (code, len, before, _, _) = case;
-    let mut window = window_of(*code, standing);
+    let mut memory = memory_of(*code, standing);
     let mut regs = regs_of(*before);
     for _ in 0..6u32 {
         if regs.eip != BASE.wrapping_add(*len) {
             let event = if standing {
-                make_burst(decodings, &mut regs, &mut window, Gates::Exo, 1).event
+                make_burst(decodings, &mut regs, &mut memory, Gates::Exo, 1).event
             } else {
-                step(&mut regs, &mut window, Gates::Exo)
+                step(&mut regs, &mut memory, Gates::Exo)
             };
             assert_eq!(rt; event, Event::Next, "{code:?}");
         }
     }
-    (regs, window)
+    (regs, memory)
 }
 
 /// Runs each case, in each way, and compares the registers.
@@ -112,9 +115,9 @@ fn agrees_with_a_processor(rt: HostRuntime) -> Result<(), Fail> {
 }
 
 /// The bytes as one number.
-fn sum_of(window: &Window) -> u32 {
+fn sum_of(memory: &TestMemory) -> u32 {
     let mut sum = 0u32;
-    for byte in window.bytes {
+    for byte in memory.bytes {
         sum = sum.wrapping_mul(31).wrapping_add(byte as u32);
     }
     sum
@@ -125,11 +128,11 @@ fn agree_in_memory(rt: &impl Abort, decodings: &mut Decodings, cases: &[CaseInMe
     for (case, sum) in cases {
         let (code, len, _, mask, after) = case;
         for standing in WAYS {
-            let (mut regs, window) = run_case(rt, decodings, case, standing);
+            let (mut regs, memory) = run_case(rt, decodings, case, standing);
             regs.eflags = regs.eflags & *mask;
             assert_eq!(rt; regs.eip, BASE.wrapping_add(*len), "{code:?}");
             assert_eq!(rt; words_of(&regs), *after, "{code:?}");
-            assert_eq!(rt; sum_of(&window), *sum, "{code:?}");
+            assert_eq!(rt; sum_of(&memory), *sum, "{code:?}");
         }
     }
 }
@@ -165,14 +168,14 @@ fn sees_what_it_writes(rt: HostRuntime) -> Result<(), Fail> {
     let mut decodings = Decodings::new(rt.alloc())?;
     for (code, from, steps, made) in CHANGING {
         for _ in 0..2u32 {
-            let mut plain = window_of(code, false);
+            let mut plain = memory_of(code, false);
             plain.locked = 0;
             plain.bytes[124] = 0xb8;
             plain.bytes[126] = 0x40;
             plain.bytes[127] = 0x40;
             let mut quick = plain;
             quick.standing = true;
-            let mut regs = regs_of([0x90, 0, 0, 0, BASE + 64, 0, 0, 0, 0x0202]);
+            let mut regs = regs_of([0x90, 0, 0, 0, BASE + 64, 0, 0, 0, FL_IF + FL_1]);
             regs.eip = BASE + from;
             let mut quick_regs = regs;
             let mut event = Event::Next;
@@ -196,22 +199,22 @@ fn sees_what_it_writes(rt: HostRuntime) -> Result<(), Fail> {
     Ok(())
 }
 
-// EAX to EDI and EFLAGS of the cases below: ESI is two bytes before the window's end, and EDI is its end.
+// EAX to EDI and EFLAGS of the cases below: ESI is two bytes before the memory's end, and EDI is its end.
 const AT_THE_END: Words = [
     7,
     2,
     0,
     0,
-    0x0080_0050,
-    0x0080_0040,
-    0x0080_007e,
-    0x0080_0080,
-    0x0202,
+    BASE + 0x50,
+    BASE + 0x40,
+    BASE + 0x7e,
+    BASE + 0x80,
+    FL_IF + FL_1,
 ];
 
 fn page_fault(va: u32, error: u32) -> Event {
     Event::Raised {
-        trap: 14,
+        trap: T_PGFLT,
         error,
         va,
     }
@@ -227,47 +230,47 @@ fn raised(trap: u8, error: u32) -> Event {
 fn events() -> [([u8; 7], Gates, Event, u32); 32] {
     [
         // INT 3 in both spellings, the open gates, and others
-        ([0xcc, 0, 0, 0, 0, 0, 0], Gates::Exo, Event::Soft(3), 1),
-        ([0xcd, 3, 0, 0, 0, 0, 0], Gates::Run, Event::Soft(3), 2),
-        ([0xcd, 0x30, 0, 0, 0, 0, 0], Gates::Exo, Event::Soft(0x30), 2),
-        ([0xcd, 0x40, 0, 0, 0, 0, 0], Gates::Run, Event::Soft(0x40), 2),
-        ([0xcd, 0x40, 0, 0, 0, 0, 0], Gates::Exo, raised(13, 0x202), 2),
-        ([0xcd, 0x30, 0, 0, 0, 0, 0], Gates::Run, raised(13, 0x182), 2),
+        ([0xcc, 0, 0, 0, 0, 0, 0], Gates::Exo, Event::Soft(T_BRKPT), 1),
+        ([0xcd, 3, 0, 0, 0, 0, 0], Gates::Run, Event::Soft(T_BRKPT), 2),
+        ([0xcd, 0x30, 0, 0, 0, 0, 0], Gates::Exo, Event::Soft(T_SYSCALL), 2),
+        ([0xcd, 0x40, 0, 0, 0, 0, 0], Gates::Run, Event::Soft(T_SERVICE), 2),
+        ([0xcd, 0x40, 0, 0, 0, 0, 0], Gates::Exo, raised(T_GPFLT, 0x202), 2),
+        ([0xcd, 0x30, 0, 0, 0, 0, 0], Gates::Run, raised(T_GPFLT, 0x182), 2),
         // HLT, CLI, IN and OUT
-        ([0xf4, 0, 0, 0, 0, 0, 0], Gates::Exo, raised(13, 0), 1),
-        ([0xfa, 0, 0, 0, 0, 0, 0], Gates::Exo, raised(13, 0), 1),
-        ([0xe4, 0x60, 0, 0, 0, 0, 0], Gates::Exo, raised(13, 0), 2),
-        ([0xef, 0, 0, 0, 0, 0, 0], Gates::Exo, raised(13, 0), 1),
+        ([0xf4, 0, 0, 0, 0, 0, 0], Gates::Exo, raised(T_GPFLT, 0), 1),
+        ([0xfa, 0, 0, 0, 0, 0, 0], Gates::Exo, raised(T_GPFLT, 0), 1),
+        ([0xe4, 0x60, 0, 0, 0, 0, 0], Gates::Exo, raised(T_GPFLT, 0), 2),
+        ([0xef, 0, 0, 0, 0, 0, 0], Gates::Exo, raised(T_GPFLT, 0), 1),
         // what no instruction begins with, told at its last byte
-        ([0x0f, 0xff, 0, 0, 0, 0, 0], Gates::Exo, raised(6, 0), 2),
-        ([0xf3, 0x40, 0, 0, 0, 0, 0], Gates::Exo, raised(6, 0), 2),
-        ([0xc6, 0x08, 0, 0, 0, 0, 0], Gates::Exo, raised(6, 0), 2),
+        ([0x0f, 0xff, 0, 0, 0, 0, 0], Gates::Exo, raised(T_ILLOP, 0), 2),
+        ([0xf3, 0x40, 0, 0, 0, 0, 0], Gates::Exo, raised(T_ILLOP, 0), 2),
+        ([0xc6, 0x08, 0, 0, 0, 0, 0], Gates::Exo, raised(T_ILLOP, 0), 2),
         // DIV by EDX, which is 0, and by a zero word, which is reached; IDIV by what is not there
-        ([0xf7, 0xf2, 0, 0, 0, 0, 0], Gates::Exo, raised(0, 0), 2),
-        ([0xf7, 0x35, 0x08, 0x00, 0x80, 0x00, 0], Gates::Exo, raised(0, 0), 10),
-        ([0xf7, 0x3d, 0x80, 0x00, 0x80, 0x00, 0], Gates::Exo, page_fault(0x0080_0080, 4), 6),
+        ([0xf7, 0xf2, 0, 0, 0, 0, 0], Gates::Exo, raised(T_DIVIDE, 0), 2),
+        ([0xf7, 0x35, 0x08, 0x00, 0x80, 0x00, 0], Gates::Exo, raised(T_DIVIDE, 0), 10),
+        ([0xf7, 0x3d, 0x80, 0x00, 0x80, 0x00, 0], Gates::Exo, page_fault(BASE + 0x80, FEC_U), 6),
         // MOV EAX,[ESI] runs over the end: two bytes are reached before
-        ([0x8b, 0x06, 0, 0, 0, 0, 0], Gates::Exo, page_fault(0x0080_0080, 4), 4),
-        ([0x89, 0x06, 0, 0, 0, 0, 0], Gates::Exo, page_fault(0x0080_0080, 6), 4),
+        ([0x8b, 0x06, 0, 0, 0, 0, 0], Gates::Exo, page_fault(BASE + 0x80, FEC_U), 4),
+        ([0x89, 0x06, 0, 0, 0, 0, 0], Gates::Exo, page_fault(BASE + 0x80, FEC_U + FEC_WR), 4),
         // INC [ESI] and SHL [ESI] by 0 are one access for a write, CMP [ESI],EAX is one for a read
-        ([0xff, 0x06, 0, 0, 0, 0, 0], Gates::Exo, page_fault(0x0080_0080, 6), 4),
-        ([0xc1, 0x26, 0x20, 0, 0, 0, 0], Gates::Exo, page_fault(0x0080_0080, 6), 5),
-        ([0x39, 0x06, 0, 0, 0, 0, 0], Gates::Exo, page_fault(0x0080_0080, 4), 4),
+        ([0xff, 0x06, 0, 0, 0, 0, 0], Gates::Exo, page_fault(BASE + 0x80, FEC_U + FEC_WR), 4),
+        ([0xc1, 0x26, 0x20, 0, 0, 0, 0], Gates::Exo, page_fault(BASE + 0x80, FEC_U + FEC_WR), 5),
+        ([0x39, 0x06, 0, 0, 0, 0, 0], Gates::Exo, page_fault(BASE + 0x80, FEC_U), 4),
         // MOV EAX,[0F0000000h], outside of the fence
-        ([0xa1, 0, 0, 0, 0xf0, 0, 0], Gates::Exo, raised(13, 0), 5),
+        ([0xa1, 0, 0, 0, 0xf0, 0, 0], Gates::Exo, raised(T_GPFLT, 0), 5),
         // ADD [code],EAX: bytes that may only be read
-        ([0x01, 0x05, 0x08, 0x00, 0x80, 0x00, 0], Gates::Exo, page_fault(0x0080_0008, 6), 6),
+        ([0x01, 0x05, 0x08, 0x00, 0x80, 0x00, 0], Gates::Exo, page_fault(BASE + 0x08, FEC_U + FEC_WR), 6),
         // LEA EAX,[ESI+4] reaches for nothing
         ([0x8d, 0x46, 0x04, 0, 0, 0, 0], Gates::Exo, Event::Next, 3),
         // MOVSB reads the byte at ESI before it fails at EDI, CMPSD fails at ESI
-        ([0xa4, 0, 0, 0, 0, 0, 0], Gates::Exo, page_fault(0x0080_0080, 6), 2),
-        ([0xa7, 0, 0, 0, 0, 0, 0], Gates::Exo, page_fault(0x0080_0080, 4), 3),
-        ([0xf3, 0xab, 0, 0, 0, 0, 0], Gates::Exo, page_fault(0x0080_0080, 6), 2),
+        ([0xa4, 0, 0, 0, 0, 0, 0], Gates::Exo, page_fault(BASE + 0x80, FEC_U + FEC_WR), 2),
+        ([0xa7, 0, 0, 0, 0, 0, 0], Gates::Exo, page_fault(BASE + 0x80, FEC_U), 3),
+        ([0xf3, 0xab, 0, 0, 0, 0, 0], Gates::Exo, page_fault(BASE + 0x80, FEC_U + FEC_WR), 2),
         // PUSH [code] reads and then writes; POP [ESI] fails at the operand, when the stack is reached
         ([0xff, 0x35, 0, 0, 0x80, 0, 0], Gates::Exo, Event::Next, 14),
-        ([0x8f, 0x06, 0, 0, 0, 0, 0], Gates::Exo, page_fault(0x0080_0080, 6), 8),
-        // POP [ESP+2Ch] goes to the word at the old ESP plus 30h, the window's end
-        ([0x8f, 0x44, 0x24, 0x2c, 0, 0, 0], Gates::Exo, page_fault(0x0080_0080, 6), 8),
+        ([0x8f, 0x06, 0, 0, 0, 0, 0], Gates::Exo, page_fault(BASE + 0x80, FEC_U + FEC_WR), 8),
+        // POP [ESP+2Ch] goes to the word at the old ESP plus 30h, the memory's end
+        ([0x8f, 0x44, 0x24, 0x2c, 0, 0, 0], Gates::Exo, page_fault(BASE + 0x80, FEC_U + FEC_WR), 8),
         ([0x8f, 0x44, 0x24, 0x28, 0, 0, 0], Gates::Exo, Event::Next, 12),
         // PUSHA goes up from 32 bytes below ESP
         ([0x60, 0, 0, 0, 0, 0, 0], Gates::Exo, Event::Next, 33),
@@ -279,11 +282,11 @@ fn raises(rt: HostRuntime) {
     for (bytes, gates, want, touched) in events() {
         let [a, b, c, d, e, f, g] = bytes;
         let code = [a, b, c, d, e, f, g, 0, 0, 0, 0, 0];
-        let mut window = window_of(code, false);
+        let mut memory = memory_of(code, false);
         let mut regs = regs_of(AT_THE_END);
-        let event = step(&mut regs, &mut window, gates);
+        let event = step(&mut regs, &mut memory, gates);
         assert_eq!(rt; event, want, "{code:?}");
-        assert_eq!(rt; window.touched, touched, "{code:?}");
+        assert_eq!(rt; memory.touched, touched, "{code:?}");
         if let Event::Raised { .. } = event {
             assert_eq!(rt; words_of(&regs), AT_THE_END, "{code:?}");
             assert_eq!(rt; regs.eip, BASE, "{code:?}");
@@ -295,50 +298,65 @@ fn raises(rt: HostRuntime) {
 #[test]
 fn increments_over_the_greatest_number(rt: HostRuntime) {
     for carry in [0, 1u32] {
-        let mut window = window_of([0x40, 0, 0, 0, 0, 0, 0, 0, 0, 0, 0, 0], false);
-        let mut regs = regs_of([0x7fff_ffff, 0, 0, 0, BASE, 0, 0, 0, 0x0242 + carry]);
-        assert_eq!(rt; step(&mut regs, &mut window, Gates::Exo), Event::Next);
+        let mut memory = memory_of([0x40, 0, 0, 0, 0, 0, 0, 0, 0, 0, 0, 0], false);
+        let mut regs = regs_of([
+            0x7fff_ffff,
+            0,
+            0,
+            0,
+            BASE,
+            0,
+            0,
+            0,
+            FL_IF + FL_ZF + FL_1 + carry,
+        ]);
+        assert_eq!(rt; step(&mut regs, &mut memory, Gates::Exo), Event::Next);
         assert_eq!(rt; regs.eax, 0x8000_0000);
-        assert_eq!(rt; regs.eflags, 0x0a96 + carry);
+        assert_eq!(rt;
+            regs.eflags,
+            FL_OF + FL_IF + FL_SF + FL_AF + FL_PF + FL_1 + carry
+        );
     }
 }
 
 // REP STOSB writes one byte in a step, and is past when it has written three.
 #[test]
 fn repeats_a_step_at_a_time(rt: HostRuntime) {
-    let mut window = window_of([0xf3, 0xaa, 0, 0, 0, 0, 0, 0, 0, 0, 0, 0], false);
-    let mut bytes = window.bytes;
-    let mut regs = regs_of([0x5a, 3, 0, 0, BASE, 0, 0, BASE + 32, 0x0202]);
+    let mut memory = memory_of([0xf3, 0xaa, 0, 0, 0, 0, 0, 0, 0, 0, 0, 0], false);
+    let mut bytes = memory.bytes;
+    let mut regs = regs_of([0x5a, 3, 0, 0, BASE, 0, 0, BASE + 32, FL_IF + FL_1]);
     for (at, left, eip) in [(32usize, 2u32, BASE), (33, 1, BASE), (34, 0, BASE + 2)] {
-        assert_eq!(rt; step(&mut regs, &mut window, Gates::Exo), Event::Next);
+        assert_eq!(rt; step(&mut regs, &mut memory, Gates::Exo), Event::Next);
         bytes[at] = 0x5a;
-        assert_eq!(rt; window.bytes.as_slice(), bytes.as_slice());
+        assert_eq!(rt; memory.bytes.as_slice(), bytes.as_slice());
         assert_eq!(rt; regs.ecx, left);
         assert_eq!(rt; regs.edi, BASE + 33 + at as u32 - 32);
         assert_eq!(rt; regs.eip, eip);
     }
 }
 
+const ALL_FLAGS: u32 = FL_OF + FL_DF + FL_IF + FL_SF + FL_ZF + FL_AF + FL_PF + FL_1 + FL_CF;
+
 // POPF takes the seven flags, and PUSHF pushes them with bit 1 and IF.
 #[test]
 fn keeps_flags(rt: HostRuntime) {
-    for (popped, want) in [(0u8, 0x0202), (0xff, 0x0cd7 | 0x0200)] {
-        let mut window = window_of([0x9d, 0x9c, 0, 0, 0, 0, 0, 0, 0, 0, 0, 0], false);
+    for (popped, want) in [(0u8, FL_IF + FL_1), (0xff, ALL_FLAGS)] {
+        let mut memory = memory_of([0x9d, 0x9c, 0, 0, 0, 0, 0, 0, 0, 0, 0, 0], false);
         for k in 80..84usize {
-            window.bytes[k] = popped;
+            memory.bytes[k] = popped;
         }
         let mut regs = regs_of(AT_THE_END);
-        assert_eq!(rt; step(&mut regs, &mut window, Gates::Exo), Event::Next);
-        assert_eq!(rt; regs.esp, 0x0080_0054);
+        assert_eq!(rt; step(&mut regs, &mut memory, Gates::Exo), Event::Next);
+        assert_eq!(rt; regs.esp, BASE + 0x54);
         assert_eq!(rt; regs.eflags, want);
-        assert_eq!(rt; step(&mut regs, &mut window, Gates::Exo), Event::Next);
-        assert_eq!(rt; regs.esp, 0x0080_0050);
+        assert_eq!(rt; step(&mut regs, &mut memory, Gates::Exo), Event::Next);
+        assert_eq!(rt; regs.esp, BASE + 0x50);
         assert_eq!(rt;
             u32::from_le_bytes([
-                window.bytes[80],
-                window.bytes[81],
-                window.bytes[82],
-                window.bytes[83]
+                memory.bytes[80],
+                memory.bytes[81],
+                memory.bytes[82],
+                memory.bytes[83]
             ]),
             want
         );

@@ -1,19 +1,21 @@
 -- Each program has no fault.
-use Rattle.std.proofs.Common.{◌≡◌, ℕ, ◌<◌, Bool, true, false, List, length, Some, None, Ok, Result, refl, sym, ap, ◌∙◌, subst, cond, arith}
+use Rattle.std.proofs.Common.{◌≡◌, ℕ, ◌<◌, Bool, true, false, List, length, Some, None, Ok, Result, refl, sym, ap}
+use Rattle.std.proofs.Common.{◌∙◌, subst, cond, arith}
 use Rattle.std.specs.Prelude.{codes, is_some, IsTrue, IsOk}
 use Rattle.std.specs.Str.{bytes_eq}
 use Rattle.std.proofs.lemmas.Bool.{lt-ltb}
-use Rattle.jos_isa.specs.OpcodeMap.{form_at, entry_at, from_b0}
-use Rattle.jos_isa.specs.Placement.{opcode_of, form_in}
-use Rattle.jos_isa.specs.Lawful.{is_numbered, is_named, is_immediate, fits_form, form_for, is_lawful}
-use Rattle.jos_isa.specs.Writing.{written, immediate_bytes, opcode_bytes, form_bytes}
+use Rattle.jos_isa.specs.OpcodeMap.{format_at, entry_at, from_b0}
+use Rattle.jos_isa.specs.RowOpcodes.{opcode_of, format_in}
+use Rattle.jos_isa.specs.Lawful.{is_numbered, is_named, is_immediate, fits_format, format_for, is_lawful}
+use Rattle.jos_isa.specs.Encoding.{encoded, immediate_bytes, opcode_bytes, format_bytes}
 use Rattle.jos_asm.specs.declared.fault.AsmFault.{AsmFault}
-use Rattle.jos_asm.specs.Program.{Program, finished, length_of_all, place_from, first_twice, first_unknown, first_far, spelled_from}
+use Rattle.jos_asm.specs.Program.{Program, finished, length_of_all, place_from, first_twice, first_unknown, first_far}
+use Rattle.jos_asm.specs.Program.{spelled_from}
 use Rattle.jos_demo.specs.Code.{int}
 use Rattle.jos_demo.specs.Programs.{xhello, named, image_of, file_of_program, file_of}
 
 pub lawful_int : (vector : ℕ) → vector < 256 → IsTrue (is_lawful (int vector))
-unfolding is_lawful is_numbered is_named fits_form form_for form_in opcode_of entry_at form_at from_b0 is_immediate
+unfolding is_lawful is_numbered is_named fits_format format_for format_in opcode_of entry_at format_at from_b0 is_immediate
 lawful_int vector small = lt-ltb vector 256 small
 
 abbrev ok : List ℕ → Result (List ℕ) AsmFault
@@ -24,7 +26,7 @@ abbrev pub HasCode : Program → Type 0
 HasCode p = (code : List ℕ) × (finished p ≡ Ok code) × (0 < length code)
 
 xhello_code : HasCode xhello
-unfolding xhello finished length_of_all place_from first_twice first_unknown first_far spelled_from written opcode_bytes form_bytes immediate_bytes form_for form_in opcode_of entry_at form_at from_b0
+unfolding xhello finished length_of_all place_from first_twice first_unknown first_far spelled_from encoded opcode_bytes format_bytes immediate_bytes format_for format_in opcode_of entry_at format_at from_b0
 xhello_code = (_, refl, omega arith)
 
 pub named_code : (name : List ℕ) (p : Program) → named name ≡ Some p → HasCode p

@@ -1,23 +1,26 @@
 -- The programs, as an assembler reads them, and the files of their names.
 use Rattle.std.specs.Prelude.{List, [], ◌∷◌, ℕ, Option, Some, None, codes, Result, Ok, Err, if◌then◌else◌}
 use Rattle.std.specs.Str.{bytes_eq}
+use Rattle.jos_base.specs.declared.numbers.TheConstants.{T_SYSCALL, SYS_CPUTS, SYS_ENV_DESTROY}
+use Rattle.jos_isa.specs.Moves.{mov}
 use Rattle.jos_asm.specs.declared.item.Item.TheVariants.{Label, Insn, Address, Bytes}
 use Rattle.jos_asm.specs.declared.fault.AsmFault.{AsmFault}
 use Rattle.jos_asm.specs.Program.{Program, finished}
-use Rattle.jos_demo.specs.Code.{eax, ecx, edx, mov, int, text, image}
+use Rattle.jos_demo.specs.declared.code.TheConstants.{TEXT, EAX, ECX, EDX}
+use Rattle.jos_demo.specs.Code.{int, image}
 
 -- on the bare kernel: cputs("hello\n", 6), and env_destroy(0)
 unfoldable pub xhello : Program
 xhello = record {
-  base = text;
+  base = TEXT;
   items =
-      Insn (mov eax 0)
-      ∷ Address edx (codes "text")
-      ∷ Insn (mov ecx 6)
-      ∷ Insn (int 0x30)
-      ∷ Insn (mov eax 3)
-      ∷ Insn (mov edx 0)
-      ∷ Insn (int 0x30)
+      Insn (mov EAX SYS_CPUTS)
+      ∷ Address EDX (codes "text")
+      ∷ Insn (mov ECX 6)
+      ∷ Insn (int T_SYSCALL)
+      ∷ Insn (mov EAX SYS_ENV_DESTROY)
+      ∷ Insn (mov EDX 0)
+      ∷ Insn (int T_SYSCALL)
       ∷ Label (codes "text")
       ∷ Bytes (codes "hello\n")
       ∷ [];

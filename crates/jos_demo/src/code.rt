@@ -1,17 +1,18 @@
-//! Instructions that programs are made of, and the image of a program.
+//! What programs are made of, and the image of a program.
 
 ghost use Rattle.std.specs.Prelude.{◌≡◌, ◌<◌, ◌≤◌, ◌^◌, IsTrue, IfOk, [], ◌∷◌, length};
 ghost use Rattle.jos_isa.specs.Lawful.{is_lawful};
 ghost use Rattle.jos_elf.specs.Written.{written};
-ghost use Rattle.jos_demo.specs.Code.{mov, int, image};
+ghost use Rattle.jos_demo.specs.Code.{int, image};
 
-use jos_base::NoMemory;
+use jos_asm::CODE_MAX;
+use jos_base::{NoMemory, UTEXT};
 use jos_elf::{Part, write};
 use jos_isa::{Insn, Operand, Repeat, Row};
 use std::alloc::Global;
 
-/// Where programs begin. (MIT 6.828, user/user.ld)
-pub(crate) const TEXT: u32 = 0x0080_0020;
+/// Where the code of programs begins. (MIT 6.828, user/user.ld)
+pub(crate) const TEXT: u32 = UTEXT + 0x20;
 
 /// The number of EAX.
 pub(crate) const EAX: u8 = 0;
@@ -22,22 +23,7 @@ pub(crate) const ECX: u8 = 1;
 /// The number of EDX.
 pub(crate) const EDX: u8 = 2;
 
-/// A move of a number into a register.
-pub(crate) fn mov(reg: u8, value: u32) -> Insn
-    requires { reg < 8 }
-    ensures value { result ≡ mov reg value }
-    ensures lawful { IsTrue (is_lawful result) }
-{
-    Insn {
-        row: Row::MovR32Imm32,
-        repeat: Repeat::Once,
-        operand: Operand::Absent,
-        reg,
-        imm: value,
-    }
-}
-
-/// An interrupt.
+/// A software interrupt.
 pub(crate) fn int(vector: u8) -> Insn
     ensures value { result ≡ int vector }
     ensures lawful { IsTrue (is_lawful result) }
@@ -55,7 +41,7 @@ pub(crate) fn int(vector: u8) -> Insn
 #[tactic(auto, unfolding(crate::specs::Code::image))]
 pub(crate) fn image(alloc: Global, code: &[u8]) -> Result<Vec<u8>, NoMemory>
     requires some { 0 < length code.now }
-    requires small { length code.now ≤ 1048576 }
+    requires small { length code.now ≤ CODE_MAX }
     ensures { IfOk result (λ file. file.items ≡ image code.now) }
 {
     let len = code.len() as u32;

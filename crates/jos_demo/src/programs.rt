@@ -1,38 +1,32 @@
 //! The programs.
 
-ghost use Rattle.std.specs.Prelude.{◌≡◌, ◌≤◌, IfOk, IsOk, Ok, None, false, is_some, length};
+ghost use Rattle.std.specs.Prelude.{◌≡◌, ◌≤◌, IfOk, IsOk, Ok, None, false, is_some, length, codes};
+ghost use Rattle.std.specs.Str.{bytes_eq};
 ghost use Rattle.std.specs.Option.{option_map};
 ghost use Rattle.jos_asm.specs.Program.{finished};
 ghost use Rattle.jos_asm.specs.Calls.{IsFault};
 ghost use Rattle.jos_demo.specs.Programs.{xhello, named, file_of};
 
-use crate::code::{EAX, ECX, EDX, TEXT, image, int, mov};
-use jos_asm::{AsmFault, Builder};
-use jos_base::NoMemory;
+use crate::code::{EAX, ECX, EDX, TEXT, image, int};
+use jos_asm::{AsmFault, Builder, CODE_MAX};
+use jos_base::{NoMemory, SYS_CPUTS, SYS_ENV_DESTROY, T_SYSCALL};
+use jos_isa::mov;
 use std::alloc::Global;
 
-/// The vector of a system call.
-const SYSTEM_CALL: u8 = 0x30;
-
-/// The number of the system call that writes to the console.
-const CPUTS: u32 = 0;
-
-/// The number of the system call that destroys an environment.
-const ENV_DESTROY: u32 = 3;
-
+/// Prints a line on the bare kernel, and ends.
 #[tactic(auto, unfolding(crate::specs::Programs::xhello))]
 fn xhello(alloc: Global) -> Result<Builder, NoMemory>
     ensures { IfOk result (λ program. program ≡ xhello) }
 {
     let line = b"hello\n";
     let mut program = Builder::new(alloc, TEXT);
-    program.insn(mov(EAX, CPUTS))?;
+    program.insn(mov(EAX, SYS_CPUTS))?;
     program.address(EDX, "text")?;
     program.insn(mov(ECX, line.len() as u32))?;
-    program.insn(int(SYSTEM_CALL))?;
-    program.insn(mov(EAX, ENV_DESTROY))?;
+    program.insn(int(T_SYSCALL))?;
+    program.insn(mov(EAX, SYS_ENV_DESTROY))?;
     program.insn(mov(EDX, 0))?;
-    program.insn(int(SYSTEM_CALL))?;
+    program.insn(int(T_SYSCALL))?;
     program.label("text")?;
     program.bytes(line)?;
     Ok(program)
@@ -40,7 +34,7 @@ fn xhello(alloc: Global) -> Result<Builder, NoMemory>
 
 /// The program of a name.
 #[tactic(auto, unfolding(crate::specs::Programs::named))]
-fn build(alloc: Global, name: &str) -> Result<Option<Builder>, NoMemory>
+fn named(alloc: Global, name: &str) -> Result<Option<Builder>, NoMemory>
     ensures exact { IfOk result (λ program. program ≡ named name.now) }
     ensures unknown { named name.now ≡ None → result ≡ Ok None }
 {
@@ -53,7 +47,9 @@ fn build(alloc: Global, name: &str) -> Result<Option<Builder>, NoMemory>
 
 /// Whether a program has this name.
 pub fn is_program(name: &str) -> bool
-    ensures { result ≡ is_some (file_of name.now) }
+    ensures file { result ≡ is_some (file_of name.now) }
+    // There is one program.
+    ensures named { result ≡ bytes_eq name.now (codes "xhello") }
 {
     name == "xhello"
 }
@@ -72,7 +68,7 @@ fn only_memory(fault: AsmFault) -> NoMemory
 fn assemble(program: Builder) -> Result<Vec<u8>, NoMemory>
     requires { IsOk (finished program) }
     ensures exact { IfOk result (λ code. finished program ≡ Ok code.items) }
-    ensures small { IfOk result (λ code. length code.items ≤ 1048576) }
+    ensures small { IfOk result (λ code. length code.items ≤ CODE_MAX) }
 {
     match program.finish() {
         Ok(code) => Ok(code),
@@ -88,7 +84,7 @@ pub fn program(alloc: Global, name: &str) -> Result<Option<Vec<u8>>, NoMemory>
     ensures exact { IfOk result (λ file. option_map (λ bytes. bytes.items) file ≡ file_of name.now) }
     ensures unknown { is_some (file_of name.now) ≡ false → result ≡ Ok None }
 {
-    match build(alloc, name)? {
+    match named(alloc, name)? {
         None => Ok(None),
         Some(program) => {
             let code = assemble(program)?;

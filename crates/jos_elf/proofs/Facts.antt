@@ -5,20 +5,22 @@ use Rattle.std.specs.Bool.{Decides}
 use Rattle.std.proofs.lemmas.Bool.{leb-true, le-leb}
 use Rattle.std.proofs.lemmas.Bool.Decides.{Decides-and, Decides-or, Decides-eqb, Decides-ltb}
 use Rattle.jos_elf.specs.declared.header.ProgramHeader.{ProgramHeader}
+use Rattle.jos_base.specs.declared.numbers.TheConstants.{USTABDATA, UTEMP, UTEXT, FDTABLE}
+use Rattle.jos_elf.specs.declared.numbers.TheConstants.{PT_LOAD}
 use Rattle.jos_elf.specs.Tests.{is_loaded, is_placed, are_apart, leaves_free}
 
 Decides-le : (a b : ℕ) → Decides (nat_le a b) (a ≤ b)
 Decides-le a b = (leb-true a b, le-leb a b)
 
-pub loaded : (h : ProgramHeader) → Decides (is_loaded h) ((h.kind ≡ 1) × (0 < h.mem_len))
+pub loaded : (h : ProgramHeader) → Decides (is_loaded h) ((h.kind ≡ PT_LOAD) × (0 < h.mem_len))
 unfolding is_loaded
-loaded h = Decides-and (h.kind == 1) (nat_lt 0 h.mem_len) (Decides-eqb h.kind 1) (Decides-ltb 0 h.mem_len)
+loaded h = Decides-and (h.kind == PT_LOAD) (nat_lt 0 h.mem_len) (Decides-eqb h.kind PT_LOAD) (Decides-ltb 0 h.mem_len)
 
-pub placed : (h : ProgramHeader) → Decides (is_placed h) ((h.file_len ≤ h.mem_len) × (((0x0020_0000 ≤ h.va) × (h.va + h.mem_len ≤ 0x0040_0000)) ⊎ ((0x0080_0000 ≤ h.va) × (h.va + h.mem_len ≤ 0xd000_0000))))
+pub placed : (h : ProgramHeader) → Decides (is_placed h) ((h.file_len ≤ h.mem_len) × (((USTABDATA ≤ h.va) × (h.va + h.mem_len ≤ UTEMP)) ⊎ ((UTEXT ≤ h.va) × (h.va + h.mem_len ≤ FDTABLE))))
 unfolding is_placed
 placed h = Decides-and _ _ (Decides-le h.file_len h.mem_len) (Decides-or _ _
-    (Decides-and _ _ (Decides-le 0x0020_0000 h.va) (Decides-le (h.va + h.mem_len) 0x0040_0000))
-    (Decides-and _ _ (Decides-le 0x0080_0000 h.va) (Decides-le (h.va + h.mem_len) 0xd000_0000)))
+    (Decides-and _ _ (Decides-le USTABDATA h.va) (Decides-le (h.va + h.mem_len) UTEMP))
+    (Decides-and _ _ (Decides-le UTEXT h.va) (Decides-le (h.va + h.mem_len) FDTABLE)))
 
 pub apart : (a b : ProgramHeader) → Decides (are_apart a b) ((a.va + a.mem_len ≤ b.va) ⊎ (b.va + b.mem_len ≤ a.va))
 apart a b = Decides-or _ _ (Decides-le (a.va + a.mem_len) b.va) (Decides-le (b.va + b.mem_len) a.va)

@@ -1,5 +1,6 @@
 -- What the tests show of the segments that a file says of.
-use Rattle.std.proofs.Common.{◌≡◌, ℕ, zero, suc, ◌+◌, Bool, true, false, List, [], ◌∷◌, ◌++◌, length, All, AllPairs, Result, Ok, Err, Option, Some, None, refl, ◌∙◌, sym, arith}
+use Rattle.std.proofs.Common.{◌≡◌, ℕ, zero, suc, ◌+◌, Bool, true, false, List, [], ◌∷◌, ◌++◌, All, AllPairs, Result}
+use Rattle.std.proofs.Common.{Ok, Err, Option, Some, None, refl, ◌∙◌, sym, arith}
 use Rattle.std.proofs.lemmas.List.{append-nil}
 use Rattle.std.proofs.lemmas.List.Elements.{All-push}
 use Rattle.std.proofs.lemmas.List.Quantifiers.{all_pairs_push}
@@ -8,10 +9,10 @@ use Rattle.std.proofs.lemmas.Bool.{leb-true}
 use Rattle.jos_elf.specs.declared.fault.ElfFault.{ElfFault}
 use Rattle.jos_elf.specs.declared.fault.ElfFault.TheVariants.{Truncated, SegmentRange, Overlap}
 use Rattle.jos_elf.specs.declared.image.Segment.{Segment}
-use Rattle.jos_elf.specs.Layout.{Layout}
 use Rattle.jos_elf.specs.Headers.{entry_of, entry_count_of, header_of}
-use Rattle.jos_elf.specs.Tests.{first_failed, is_loaded, is_placed, leaves_free, header_tests, overlap_tests, segment_tests, table_tests, tests}
-use Rattle.jos_elf.specs.Parsed.{segment_of, segments_of, parsed, Lies, Apart}
+use Rattle.jos_elf.specs.Tests.{first_failed, is_loaded, is_placed, leaves_free, header_tests, overlap_tests}
+use Rattle.jos_elf.specs.Tests.{segment_tests, table_tests, tests}
+use Rattle.jos_elf.specs.Parsed.{Layout, segment_of, segments_of, parsed_bytes, Lies, Apart}
 use Rattle.jos_elf.proofs.Tests.{passed-append, failed-append, append-passed, cons-passed}
 use Rattle.jos_elf.proofs.Facts.{loaded, placed, free}
 
@@ -23,92 +24,92 @@ failed f = Err f
 
 -- ---- the answer
 
-pub parsed-header_failed : (file : List ℕ) (f : ElfFault) → first_failed (header_tests file) ≡ Some f → failed f ≡ parsed file
-unfolding parsed tests
-parsed-header_failed file f e = rw (failed-append (header_tests file) (table_tests file (entry_count_of file)) f e) refl
+pub parsed-header_failed : (total : ℕ) (byte : ℕ → ℕ) (f : ElfFault) → first_failed (header_tests total byte) ≡ Some f → failed f ≡ parsed_bytes total byte
+unfolding parsed_bytes tests
+parsed-header_failed total byte f e = rw (failed-append (header_tests total byte) (table_tests total byte (entry_count_of byte)) f e) refl
 
-pub parsed-table_failed : (file : List ℕ) (f : ElfFault) → first_failed (header_tests file) ≡ none → first_failed (table_tests file (entry_count_of file)) ≡ Some f → failed f ≡ parsed file
-unfolding parsed tests
-parsed-table_failed file f e t = rw (passed-append (header_tests file) (table_tests file (entry_count_of file)) e, t) refl
+pub parsed-table_failed : (total : ℕ) (byte : ℕ → ℕ) (f : ElfFault) → first_failed (header_tests total byte) ≡ none → first_failed (table_tests total byte (entry_count_of byte)) ≡ Some f → failed f ≡ parsed_bytes total byte
+unfolding parsed_bytes tests
+parsed-table_failed total byte f e t = rw (passed-append (header_tests total byte) (table_tests total byte (entry_count_of byte)) e, t) refl
 
-pub parsed-passed : (file : List ℕ) (entry : ℕ) (segments : List Segment) → first_failed (header_tests file) ≡ none → first_failed (table_tests file (entry_count_of file)) ≡ none
-    → entry ≡ entry_of file → segments ≡ segments_of file (entry_count_of file) → Ok (record { entry = entry; segments = segments }) ≡ parsed file
-unfolding parsed tests
-parsed-passed file entry segments e t p q = rw (passed-append (header_tests file) (table_tests file (entry_count_of file)) e, t, p, q) refl
+pub parsed-passed : (total : ℕ) (byte : ℕ → ℕ) (entry : ℕ) (segments : List Segment) → first_failed (header_tests total byte) ≡ none → first_failed (table_tests total byte (entry_count_of byte)) ≡ none
+    → entry ≡ entry_of byte → segments ≡ segments_of byte (entry_count_of byte) → Ok (record { entry = entry; segments = segments }) ≡ parsed_bytes total byte
+unfolding parsed_bytes tests
+parsed-passed total byte entry segments e t p q = rw (passed-append (header_tests total byte) (table_tests total byte (entry_count_of byte)) e, t, p, q) refl
 
 -- ---- the segments
 
-pub segments-none : (file : List ℕ) → segments_of file 0 ≡ []
+pub segments-none : (byte : ℕ → ℕ) → segments_of byte 0 ≡ []
 unfolding segments_of
-segments-none file = refl
+segments-none byte = refl
 
-pub segments-passed_over : (file : List ℕ) (n : ℕ) (segments : List Segment) → segments ≡ segments_of file n → is_loaded (header_of file n) ≡ false → segments ≡ segments_of file (n + 1)
+pub segments-passed_over : (byte : ℕ → ℕ) (n : ℕ) (segments : List Segment) → segments ≡ segments_of byte n → is_loaded (header_of byte n) ≡ false → segments ≡ segments_of byte (n + 1)
 unfolding segments_of
-segments-passed_over file n segments e h =
+segments-passed_over byte n segments e h =
     let q : n + 1 ≡ suc n = omega arith in
-    rw (q, h) (e ∙ sym (append-nil (segments_of file n)))
+    rw (q, h) (e ∙ sym (append-nil (segments_of byte n)))
 
-pub segments-more : (file : List ℕ) (n : ℕ) (segments : List Segment) → segments ≡ segments_of file n → is_loaded (header_of file n) ≡ true
-    → segments ++ segment_of (header_of file n) ∷ [] ≡ segments_of file (n + 1)
+pub segments-more : (byte : ℕ → ℕ) (n : ℕ) (segments : List Segment) → segments ≡ segments_of byte n → is_loaded (header_of byte n) ≡ true
+    → segments ++ segment_of (header_of byte n) ∷ [] ≡ segments_of byte (n + 1)
 unfolding segments_of
-segments-more file n segments e h =
+segments-more byte n segments e h =
     let q : n + 1 ≡ suc n = omega arith in
     rw (q, h, e) refl
 
 -- ---- where they lie
 
-pub tests-lie : (file : List ℕ) (n : ℕ) → is_loaded (header_of file n) ≡ true → first_failed (segment_tests file n) ≡ none → Lies (length file) (segment_of (header_of file n))
+pub tests-lie : (total : ℕ) (byte : ℕ → ℕ) (n : ℕ) → is_loaded (header_of byte n) ≡ true → first_failed (segment_tests total byte n) ≡ none → Lies total (segment_of (header_of byte n))
 unfolding segment_tests
-tests-lie file n h e =
-    let header = header_of file n in
-    let one = cons-passed (nat_le (header.file_at + header.file_len) (length file)) (Truncated (length file)) ((is_placed header, SegmentRange n) ∷ overlap_tests file n n) e in
-    let two = cons-passed (is_placed header) (SegmentRange n) (overlap_tests file n n) one.1 in
+tests-lie total byte n h e =
+    let header = header_of byte n in
+    let one = cons-passed (nat_le (header.file_at + header.file_len) total) (Truncated total) ((is_placed header, SegmentRange n) ∷ overlap_tests byte n n) e in
+    let two = cons-passed (is_placed header) (SegmentRange n) (overlap_tests byte n n) one.1 in
     let place = (placed header).0 two.0 in
     record { file = leb-true _ _ one.0; room = place.0; some = ((loaded header).0 h).1; range = place.1 }
 
-lie-step : (file : List ℕ) (n : ℕ) (b : Bool) → is_loaded (header_of file n) ≡ b → first_failed (if b then segment_tests file n else []) ≡ none
-    → All (Lies (length file)) (segments_of file n) → All (Lies (length file)) (segments_of file n ++ (if b then segment_of (header_of file n) ∷ [] else []))
-lie-step file n true h e all = All-push (Lies (length file)) (segments_of file n) (segment_of (header_of file n)) all (tests-lie file n h e)
-lie-step file n false h e all = rw (append-nil (segments_of file n)) all
+lie-step : (total : ℕ) (byte : ℕ → ℕ) (n : ℕ) (b : Bool) → is_loaded (header_of byte n) ≡ b → first_failed (if b then segment_tests total byte n else []) ≡ none
+    → All (Lies total) (segments_of byte n) → All (Lies total) (segments_of byte n ++ (if b then segment_of (header_of byte n) ∷ [] else []))
+lie-step total byte n true h e all = All-push (Lies total) (segments_of byte n) (segment_of (header_of byte n)) all (tests-lie total byte n h e)
+lie-step total byte n false h e all = rw (append-nil (segments_of byte n)) all
 
-pub segments-lie : (file : List ℕ) (n : ℕ) → first_failed (table_tests file n) ≡ none → All (Lies (length file)) (segments_of file n)
+pub segments-lie : (total : ℕ) (byte : ℕ → ℕ) (n : ℕ) → first_failed (table_tests total byte n) ≡ none → All (Lies total) (segments_of byte n)
 unfolding table_tests segments_of
-segments-lie file zero e = λ k d lt. absurd (omega arith)
-segments-lie file (suc n) e =
-    let both = append-passed (table_tests file n) (if is_loaded (header_of file n) then segment_tests file n else []) e in
-    lie-step file n (is_loaded (header_of file n)) refl both.1 (segments-lie file n both.0)
+segments-lie total byte zero e = λ k d lt. absurd (omega arith)
+segments-lie total byte (suc n) e =
+    let both = append-passed (table_tests total byte n) (if is_loaded (header_of byte n) then segment_tests total byte n else []) e in
+    lie-step total byte n (is_loaded (header_of byte n)) refl both.1 (segments-lie total byte n both.0)
 
 -- ---- no two share a byte
 
-free-step : (file : List ℕ) (place n : ℕ) (b : Bool) → is_loaded (header_of file n) ≡ b → leaves_free (header_of file n) (header_of file place) ≡ true
-    → All (λ s. Apart s (segment_of (header_of file place))) (segments_of file n)
-    → All (λ s. Apart s (segment_of (header_of file place))) (segments_of file n ++ (if b then segment_of (header_of file n) ∷ [] else []))
-free-step file place n true h e all = All-push (λ s. Apart s (segment_of (header_of file place))) (segments_of file n) (segment_of (header_of file n)) all (free (header_of file n) (header_of file place) e h)
-free-step file place n false h e all = rw (append-nil (segments_of file n)) all
+free-step : (byte : ℕ → ℕ) (place n : ℕ) (b : Bool) → is_loaded (header_of byte n) ≡ b → leaves_free (header_of byte n) (header_of byte place) ≡ true
+    → All (λ s. Apart s (segment_of (header_of byte place))) (segments_of byte n)
+    → All (λ s. Apart s (segment_of (header_of byte place))) (segments_of byte n ++ (if b then segment_of (header_of byte n) ∷ [] else []))
+free-step byte place n true h e all = All-push (λ s. Apart s (segment_of (header_of byte place))) (segments_of byte n) (segment_of (header_of byte n)) all (free (header_of byte n) (header_of byte place) e h)
+free-step byte place n false h e all = rw (append-nil (segments_of byte n)) all
 
-earlier-apart : (file : List ℕ) (place n : ℕ) → first_failed (overlap_tests file place n) ≡ none → All (λ s. Apart s (segment_of (header_of file place))) (segments_of file n)
+earlier-apart : (byte : ℕ → ℕ) (place n : ℕ) → first_failed (overlap_tests byte place n) ≡ none → All (λ s. Apart s (segment_of (header_of byte place))) (segments_of byte n)
 unfolding overlap_tests segments_of
-earlier-apart file place zero e = λ k d lt. absurd (omega arith)
-earlier-apart file place (suc n) e =
-    let both = append-passed (overlap_tests file place n) ((leaves_free (header_of file n) (header_of file place), Overlap place n) ∷ []) e in
-    free-step file place n (is_loaded (header_of file n)) refl (cons-passed _ (Overlap place n) [] both.1).0 (earlier-apart file place n both.0)
+earlier-apart byte place zero e = λ k d lt. absurd (omega arith)
+earlier-apart byte place (suc n) e =
+    let both = append-passed (overlap_tests byte place n) ((leaves_free (header_of byte n) (header_of byte place), Overlap place n) ∷ []) e in
+    free-step byte place n (is_loaded (header_of byte n)) refl (cons-passed _ (Overlap place n) [] both.1).0 (earlier-apart byte place n both.0)
 
-tests-apart : (file : List ℕ) (n : ℕ) → first_failed (segment_tests file n) ≡ none → All (λ s. Apart s (segment_of (header_of file n))) (segments_of file n)
+tests-apart : (total : ℕ) (byte : ℕ → ℕ) (n : ℕ) → first_failed (segment_tests total byte n) ≡ none → All (λ s. Apart s (segment_of (header_of byte n))) (segments_of byte n)
 unfolding segment_tests
-tests-apart file n e =
-    let header = header_of file n in
-    let one = cons-passed (nat_le (header.file_at + header.file_len) (length file)) (Truncated (length file)) ((is_placed header, SegmentRange n) ∷ overlap_tests file n n) e in
-    let two = cons-passed (is_placed header) (SegmentRange n) (overlap_tests file n n) one.1 in
-    earlier-apart file n n two.1
+tests-apart total byte n e =
+    let header = header_of byte n in
+    let one = cons-passed (nat_le (header.file_at + header.file_len) total) (Truncated total) ((is_placed header, SegmentRange n) ∷ overlap_tests byte n n) e in
+    let two = cons-passed (is_placed header) (SegmentRange n) (overlap_tests byte n n) one.1 in
+    earlier-apart byte n n two.1
 
-apart-step : (file : List ℕ) (n : ℕ) (b : Bool) → first_failed (if b then segment_tests file n else []) ≡ none
-    → AllPairs Apart (segments_of file n) → AllPairs Apart (segments_of file n ++ (if b then segment_of (header_of file n) ∷ [] else []))
-apart-step file n true e all = all_pairs_push Apart (segments_of file n) (segment_of (header_of file n)) all (tests-apart file n e)
-apart-step file n false e all = rw (append-nil (segments_of file n)) all
+apart-step : (total : ℕ) (byte : ℕ → ℕ) (n : ℕ) (b : Bool) → first_failed (if b then segment_tests total byte n else []) ≡ none
+    → AllPairs Apart (segments_of byte n) → AllPairs Apart (segments_of byte n ++ (if b then segment_of (header_of byte n) ∷ [] else []))
+apart-step total byte n true e all = all_pairs_push Apart (segments_of byte n) (segment_of (header_of byte n)) all (tests-apart total byte n e)
+apart-step total byte n false e all = rw (append-nil (segments_of byte n)) all
 
-pub segments-apart : (file : List ℕ) (n : ℕ) → first_failed (table_tests file n) ≡ none → AllPairs Apart (segments_of file n)
+pub segments-apart : (total : ℕ) (byte : ℕ → ℕ) (n : ℕ) → first_failed (table_tests total byte n) ≡ none → AllPairs Apart (segments_of byte n)
 unfolding table_tests segments_of
-segments-apart file zero e = λ i j d lt within. absurd (omega arith)
-segments-apart file (suc n) e =
-    let both = append-passed (table_tests file n) (if is_loaded (header_of file n) then segment_tests file n else []) e in
-    apart-step file n (is_loaded (header_of file n)) both.1 (segments-apart file n both.0)
+segments-apart total byte zero e = λ i j d lt within. absurd (omega arith)
+segments-apart total byte (suc n) e =
+    let both = append-passed (table_tests total byte n) (if is_loaded (header_of byte n) then segment_tests total byte n else []) e in
+    apart-step total byte n (is_loaded (header_of byte n)) both.1 (segments-apart total byte n both.0)

@@ -1,5 +1,6 @@
 -- Which test of a list is the first that fails, as a list of tests grows.
-use Rattle.std.proofs.Common.{◌≡◌, ℕ, zero, suc, ◌+◌, ◌-◌, ◌<◌, Bool, true, false, List, [], ◌∷◌, ◌++◌, Option, Some, None, refl, ◌∙◌, arith}
+use Rattle.std.proofs.Common.{◌≡◌, ℕ, zero, suc, ◌+◌, ◌-◌, ◌<◌, Bool, true, false, List, [], ◌∷◌, ◌++◌, Option, Some}
+use Rattle.std.proofs.Common.{None, refl, ◌∙◌, arith}
 use Rattle.jos_elf.specs.declared.fault.ElfFault.{ElfFault}
 use Rattle.jos_elf.specs.declared.fault.ElfFault.TheVariants.{Overlap}
 use Rattle.jos_elf.specs.Headers.{header_of}
@@ -28,68 +29,68 @@ one-failed false f e = refl
 
 -- ---- those of overlap
 
-pub overlap-none : (file : List ℕ) (place : ℕ) → first_failed (overlap_tests file place 0) ≡ none
+pub overlap-none : (byte : ℕ → ℕ) (place : ℕ) → first_failed (overlap_tests byte place 0) ≡ none
 unfolding overlap_tests
-overlap-none file place = refl
+overlap-none byte place = refl
 
-pub overlap-passed : (file : List ℕ) (place n : ℕ) → first_failed (overlap_tests file place n) ≡ none
-    → leaves_free (header_of file n) (header_of file place) ≡ true
-    → first_failed (overlap_tests file place (n + 1)) ≡ none
+pub overlap-passed : (byte : ℕ → ℕ) (place n : ℕ) → first_failed (overlap_tests byte place n) ≡ none
+    → leaves_free (header_of byte n) (header_of byte place) ≡ true
+    → first_failed (overlap_tests byte place (n + 1)) ≡ none
 unfolding overlap_tests
-overlap-passed file place n e h =
+overlap-passed byte place n e h =
     let q : n + 1 ≡ suc n = omega arith in
-    rw q (passed-append (overlap_tests file place n) _ e ∙ one-passed _ (Overlap place n) h)
+    rw q (passed-append (overlap_tests byte place n) _ e ∙ one-passed _ (Overlap place n) h)
 
-overlap-keeps : (file : List ℕ) (place n k : ℕ) (f : ElfFault) → first_failed (overlap_tests file place n) ≡ Some f → first_failed (overlap_tests file place (k + n)) ≡ Some f
+overlap-keeps : (byte : ℕ → ℕ) (place n k : ℕ) (f : ElfFault) → first_failed (overlap_tests byte place n) ≡ Some f → first_failed (overlap_tests byte place (k + n)) ≡ Some f
 unfolding overlap_tests
-overlap-keeps file place n zero f e = let q : 0 + n ≡ n = omega arith in rw q e
-overlap-keeps file place n (suc k) f e =
+overlap-keeps byte place n zero f e = let q : 0 + n ≡ n = omega arith in rw q e
+overlap-keeps byte place n (suc k) f e =
     let q : suc k + n ≡ suc (k + n) = omega arith in
-    rw q (failed-append (overlap_tests file place (k + n)) _ f (overlap-keeps file place n k f e))
+    rw q (failed-append (overlap_tests byte place (k + n)) _ f (overlap-keeps byte place n k f e))
 
-pub overlap-failed : (file : List ℕ) (place n m : ℕ) → n < m → first_failed (overlap_tests file place n) ≡ none
-    → leaves_free (header_of file n) (header_of file place) ≡ false
-    → first_failed (overlap_tests file place m) ≡ Some (Overlap place n)
+pub overlap-failed : (byte : ℕ → ℕ) (place n m : ℕ) → n < m → first_failed (overlap_tests byte place n) ≡ none
+    → leaves_free (header_of byte n) (header_of byte place) ≡ false
+    → first_failed (overlap_tests byte place m) ≡ Some (Overlap place n)
 unfolding overlap_tests
-overlap-failed file place n m lt e h =
+overlap-failed byte place n m lt e h =
     let q : m ≡ (m - suc n) + suc n = omega arith in
-    let here : first_failed (overlap_tests file place (suc n)) ≡ Some (Overlap place n) = passed-append (overlap_tests file place n) _ e ∙ one-failed _ (Overlap place n) h in
-    let more = overlap-keeps file place (suc n) (m - suc n) (Overlap place n) here in
+    let here : first_failed (overlap_tests byte place (suc n)) ≡ Some (Overlap place n) = passed-append (overlap_tests byte place n) _ e ∙ one-failed _ (Overlap place n) h in
+    let more = overlap-keeps byte place (suc n) (m - suc n) (Overlap place n) here in
     rw (← q) at more
 
 -- ---- those of the table
 
-pub table-none : (file : List ℕ) → first_failed (table_tests file 0) ≡ none
+pub table-none : (total : ℕ) (byte : ℕ → ℕ) → first_failed (table_tests total byte 0) ≡ none
 unfolding table_tests
-table-none file = refl
+table-none total byte = refl
 
-pub table-passed_over : (file : List ℕ) (n : ℕ) → first_failed (table_tests file n) ≡ none → is_loaded (header_of file n) ≡ false → first_failed (table_tests file (n + 1)) ≡ none
+pub table-passed_over : (total : ℕ) (byte : ℕ → ℕ) (n : ℕ) → first_failed (table_tests total byte n) ≡ none → is_loaded (header_of byte n) ≡ false → first_failed (table_tests total byte (n + 1)) ≡ none
 unfolding table_tests
-table-passed_over file n e h =
+table-passed_over total byte n e h =
     let q : n + 1 ≡ suc n = omega arith in
-    rw (q, h) (passed-append (table_tests file n) [] e)
+    rw (q, h) (passed-append (table_tests total byte n) [] e)
 
-pub table-passed : (file : List ℕ) (n : ℕ) → first_failed (table_tests file n) ≡ none → is_loaded (header_of file n) ≡ true → first_failed (segment_tests file n) ≡ none
-    → first_failed (table_tests file (n + 1)) ≡ none
+pub table-passed : (total : ℕ) (byte : ℕ → ℕ) (n : ℕ) → first_failed (table_tests total byte n) ≡ none → is_loaded (header_of byte n) ≡ true → first_failed (segment_tests total byte n) ≡ none
+    → first_failed (table_tests total byte (n + 1)) ≡ none
 unfolding table_tests
-table-passed file n e h s =
+table-passed total byte n e h s =
     let q : n + 1 ≡ suc n = omega arith in
-    rw (q, h) (passed-append (table_tests file n) (segment_tests file n) e ∙ s)
+    rw (q, h) (passed-append (table_tests total byte n) (segment_tests total byte n) e ∙ s)
 
-table-keeps : (file : List ℕ) (n k : ℕ) (f : ElfFault) → first_failed (table_tests file n) ≡ Some f → first_failed (table_tests file (k + n)) ≡ Some f
+table-keeps : (total : ℕ) (byte : ℕ → ℕ) (n k : ℕ) (f : ElfFault) → first_failed (table_tests total byte n) ≡ Some f → first_failed (table_tests total byte (k + n)) ≡ Some f
 unfolding table_tests
-table-keeps file n zero f e = let q : 0 + n ≡ n = omega arith in rw q e
-table-keeps file n (suc k) f e =
+table-keeps total byte n zero f e = let q : 0 + n ≡ n = omega arith in rw q e
+table-keeps total byte n (suc k) f e =
     let q : suc k + n ≡ suc (k + n) = omega arith in
-    rw q (failed-append (table_tests file (k + n)) _ f (table-keeps file n k f e))
+    rw q (failed-append (table_tests total byte (k + n)) _ f (table-keeps total byte n k f e))
 
-pub table-failed : (file : List ℕ) (n m : ℕ) (f : ElfFault) → n < m → first_failed (table_tests file n) ≡ none → is_loaded (header_of file n) ≡ true
-    → first_failed (segment_tests file n) ≡ Some f → first_failed (table_tests file m) ≡ Some f
+pub table-failed : (total : ℕ) (byte : ℕ → ℕ) (n m : ℕ) (f : ElfFault) → n < m → first_failed (table_tests total byte n) ≡ none → is_loaded (header_of byte n) ≡ true
+    → first_failed (segment_tests total byte n) ≡ Some f → first_failed (table_tests total byte m) ≡ Some f
 unfolding table_tests
-table-failed file n m f lt e h s =
+table-failed total byte n m f lt e h s =
     let q : m ≡ (m - suc n) + suc n = omega arith in
-    let here : first_failed (table_tests file (suc n)) ≡ Some f = rw h (passed-append (table_tests file n) (segment_tests file n) e ∙ s) in
-    let more = table-keeps file (suc n) (m - suc n) f here in
+    let here : first_failed (table_tests total byte (suc n)) ≡ Some f = rw h (passed-append (table_tests total byte n) (segment_tests total byte n) e ∙ s) in
+    let more = table-keeps total byte (suc n) (m - suc n) f here in
     rw (← q) at more
 
 -- ---- all of them

@@ -1,7 +1,8 @@
 -- How a fault is told. (This system's own.)
 use Rattle.std.specs.Prelude.{ℕ, List, ◌++◌, codes, decimal}
 use Rattle.jos_elf.specs.declared.fault.ElfFault.{ElfFault}
-use Rattle.jos_elf.specs.declared.fault.ElfFault.TheVariants.{Truncated, Magic, Class, Kind, Machine, EntrySize, TooMany, SegmentRange, Overlap}
+use Rattle.jos_elf.specs.declared.fault.ElfFault.TheVariants.{Truncated, Magic, Class, Kind, Machine, EntrySize}
+use Rattle.jos_elf.specs.declared.fault.ElfFault.TheVariants.{TooMany, SegmentRange, Overlap}
 
 unfoldable pub fault_text : ElfFault → List ℕ
 fault_text (Truncated len) = codes "truncated " ++ decimal len

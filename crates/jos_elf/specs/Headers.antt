@@ -1,52 +1,59 @@
--- The fields of an ELF file's headers, numbers of two or four bytes, the lowest first.
+-- The fields of an ELF file's headers, numbers of two or four bytes, the lowest first. A file is seen as a
+-- function from each place to the byte there.
 -- (System V ABI, edition 4.1, chapters 4 and 5: "ELF Header" and "Program Header", for 32-bit files.)
-use Rattle.std.specs.Prelude.{ℕ, ◌+◌, ◌*◌, List, drop, slice_index}
-use Rattle.byteorder.specs.Endian.{little_number}
+use Rattle.std.specs.Prelude.{ℕ, ◌+◌, ◌*◌, [], ◌∷◌}
+use Rattle.std.specs.Int.{w16, w32, from_le_bytes}
 use Rattle.jos_elf.specs.declared.header.ProgramHeader.{ProgramHeader}
+use Rattle.jos_elf.specs.declared.numbers.TheConstants.{EI_CLASS, EI_DATA, E_TYPE, E_MACHINE, E_ENTRY, E_PHOFF}
+use Rattle.jos_elf.specs.declared.numbers.TheConstants.{E_PHENTSIZE, E_PHNUM}
+use Rattle.jos_elf.specs.declared.numbers.TheConstants.{P_TYPE, P_OFFSET, P_VADDR, P_FILESZ, P_MEMSZ, P_FLAGS, PHDR_LEN}
 
-abbrev pub half_at : List ℕ → ℕ → ℕ
-half_at file at = little_number 2 (drop at file)
+-- the numbers in the two and in the four bytes at a place
+abbrev pub half_at : (ℕ → ℕ) → ℕ → ℕ
+half_at byte at = from_le_bytes w16 (byte at ∷ byte (at + 1) ∷ [])
 
-abbrev pub word_at : List ℕ → ℕ → ℕ
-word_at file at = little_number 4 (drop at file)
+abbrev pub word_at : (ℕ → ℕ) → ℕ → ℕ
+word_at byte at = from_le_bytes w32 (byte at ∷ byte (at + 1) ∷ byte (at + 2) ∷ byte (at + 3) ∷ [])
 
--- e_ident's bytes EI_CLASS and EI_DATA
-abbrev pub class_of : List ℕ → ℕ
-class_of file = slice_index file 4
+-- ---- the ELF header
 
-abbrev pub byte_order_of : List ℕ → ℕ
-byte_order_of file = slice_index file 5
+abbrev pub class_of : (ℕ → ℕ) → ℕ
+class_of byte = byte EI_CLASS
 
--- e_type, e_machine, e_entry, e_phoff, e_phentsize and e_phnum
-abbrev pub kind_of : List ℕ → ℕ
-kind_of file = half_at file 16
+abbrev pub byte_order_of : (ℕ → ℕ) → ℕ
+byte_order_of byte = byte EI_DATA
 
-abbrev pub machine_of : List ℕ → ℕ
-machine_of file = half_at file 18
+abbrev pub kind_of : (ℕ → ℕ) → ℕ
+kind_of byte = half_at byte E_TYPE
 
-abbrev pub entry_of : List ℕ → ℕ
-entry_of file = word_at file 24
+abbrev pub machine_of : (ℕ → ℕ) → ℕ
+machine_of byte = half_at byte E_MACHINE
 
-abbrev pub table_of : List ℕ → ℕ
-table_of file = word_at file 28
+abbrev pub entry_of : (ℕ → ℕ) → ℕ
+entry_of byte = word_at byte E_ENTRY
 
-abbrev pub entry_size_of : List ℕ → ℕ
-entry_size_of file = half_at file 42
+abbrev pub table_of : (ℕ → ℕ) → ℕ
+table_of byte = word_at byte E_PHOFF
 
-abbrev pub entry_count_of : List ℕ → ℕ
-entry_count_of file = half_at file 44
+abbrev pub entry_size_of : (ℕ → ℕ) → ℕ
+entry_size_of byte = half_at byte E_PHENTSIZE
 
--- p_type, p_offset, p_vaddr, p_filesz, p_memsz and p_flags of the program header at a place of the file
-unfoldable pub program_header_at : List ℕ → ℕ → ProgramHeader
-program_header_at file at = record {
-  kind = word_at file at;
-  file_at = word_at file (at + 4);
-  va = word_at file (at + 8);
-  file_len = word_at file (at + 16);
-  mem_len = word_at file (at + 20);
-  flags = word_at file (at + 24);
+abbrev pub entry_count_of : (ℕ → ℕ) → ℕ
+entry_count_of byte = half_at byte E_PHNUM
+
+-- ---- the program headers
+
+-- the program header at a place of the file
+unfoldable pub program_header_at : (ℕ → ℕ) → ℕ → ProgramHeader
+program_header_at byte at = record {
+  kind = word_at byte (at + P_TYPE);
+  file_at = word_at byte (at + P_OFFSET);
+  va = word_at byte (at + P_VADDR);
+  file_len = word_at byte (at + P_FILESZ);
+  mem_len = word_at byte (at + P_MEMSZ);
+  flags = word_at byte (at + P_FLAGS);
 }
 
 -- the program header at a place of the table, counted from 0
-abbrev pub header_of : List ℕ → ℕ → ProgramHeader
-header_of file place = program_header_at file (table_of file + 32 * place)
+abbrev pub header_of : (ℕ → ℕ) → ℕ → ProgramHeader
+header_of byte place = program_header_at byte (table_of byte + PHDR_LEN * place)

@@ -1,4 +1,3 @@
-pub mod Layout
 pub mod Headers
 pub mod Tests
 pub mod Parsed

@@ -1,41 +1,51 @@
 -- Which files are read as images, and what they say.
-use Rattle.std.specs.Prelude.{ℕ, zero, suc, ◌+◌, ◌<◌, ◌≤◌, ◌⊎◌, ◌==◌, not, List, [], ◌∷◌, ◌++◌, Option, Some, None, Result, Ok, Err, bit_and, if◌then◌else◌}
+use Rattle.std.specs.Prelude.{ℕ, zero, suc, ◌+◌, ◌<◌, ◌≤◌, ◌⊎◌, ◌==◌, not, List, [], ◌∷◌, ◌++◌, length, slice_index}
+use Rattle.std.specs.Prelude.{Option, Some, None, Result, Ok, Err, bit_and, if◌then◌else◌}
 use Rattle.jos_elf.specs.declared.fault.ElfFault.{ElfFault}
 use Rattle.jos_elf.specs.declared.header.ProgramHeader.{ProgramHeader}
 use Rattle.jos_elf.specs.declared.image.Segment.{Segment}
-use Rattle.jos_elf.specs.Layout.{Layout}
 use Rattle.jos_elf.specs.Headers.{entry_of, entry_count_of, header_of}
 use Rattle.jos_elf.specs.Tests.{is_loaded, first_failed, tests}
+use Rattle.jos_elf.specs.declared.numbers.TheConstants.{PF_W}
+use Rattle.jos_base.specs.declared.numbers.TheConstants.{USTABDATA, UTEMP, UTEXT, FDTABLE}
 
--- flag bit 1 is that for writing
+-- What an image says: where it starts, and which bytes of the file stand where.
+pub record Layout : Type 0 where
+  pub entry : ℕ
+  pub segments : List Segment
+
 abbrev pub segment_of : ProgramHeader → Segment
 segment_of header = record {
   va = header.va;
   mem_len = header.mem_len;
   file_at = header.file_at;
   file_len = header.file_len;
-  writable = not (bit_and header.flags 2 == 0);
+  writable = not (bit_and header.flags PF_W == 0);
 }
 
 -- the segments that the first so many program headers say of, in their order
-unfoldable pub segments_of : List ℕ → ℕ → List Segment
-segments_of file zero = []
-segments_of file (suc n) = segments_of file n ++ (if is_loaded (header_of file n) then segment_of (header_of file n) ∷ [] else [])
+unfoldable pub segments_of : (ℕ → ℕ) → ℕ → List Segment
+segments_of byte zero = []
+segments_of byte (suc n) = segments_of byte n ++ (if is_loaded (header_of byte n) then segment_of (header_of byte n) ∷ [] else [])
 
 abbrev pub unless_failed : Option ElfFault → Layout → Result Layout ElfFault
 unless_failed None image = Ok image
 unless_failed (Some fault) image = Err fault
 
--- A file that passes each of the tests is an image.
+-- A file of so many bytes that passes each of the tests is an image.
+unfoldable pub parsed_bytes : ℕ → (ℕ → ℕ) → Result Layout ElfFault
+parsed_bytes total byte =
+    unless_failed (first_failed (tests total byte)) (record { entry = entry_of byte; segments = segments_of byte (entry_count_of byte) })
+
 unfoldable pub parsed : List ℕ → Result Layout ElfFault
-parsed file = unless_failed (first_failed (tests file)) (record { entry = entry_of file; segments = segments_of file (entry_count_of file) })
+parsed file = parsed_bytes (length file) (slice_index file)
 
 -- what is known of a segment that is accepted, in a file of so many bytes
 pub record Lies (total : ℕ) (segment : Segment) : Type 0 where
   pub file : segment.file_at + segment.file_len ≤ total
   pub room : segment.file_len ≤ segment.mem_len
   pub some : 0 < segment.mem_len
-  pub range : ((0x0020_0000 ≤ segment.va) × (segment.va + segment.mem_len ≤ 0x0040_0000)) ⊎ ((0x0080_0000 ≤ segment.va) × (segment.va + segment.mem_len ≤ 0xd000_0000))
+  pub range : ((USTABDATA ≤ segment.va) × (segment.va + segment.mem_len ≤ UTEMP)) ⊎ ((UTEXT ≤ segment.va) × (segment.va + segment.mem_len ≤ FDTABLE))
 
 -- no byte of memory is in both
 abbrev pub Apart : Segment → Segment → Type 0

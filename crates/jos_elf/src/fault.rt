@@ -1,5 +1,10 @@
 //! Why a file is not read.
 
+ghost use Rattle.std.specs.Prelude.{◌≡◌, ◌+◌, ◌≤◌, ◌++◌, length, decimal};
+ghost use Rattle.arrayvec.specs.ArrayString.{array_string_len};
+
+use arrayvec::ArrayString;
+use itoa::Buffer;
 use std::error::Error;
 use std::fmt;
 
@@ -18,14 +23,65 @@ pub enum ElfFault {
     Kind,
     /// It is not for the 80386.
     Machine,
-    /// A program header has not 32 bytes.
+    /// A program header has not `PHDR_LEN` bytes.
     EntrySize,
-    /// There are more than 16 program headers.
+    /// There are more than `SEGMENT_MAX` program headers.
     TooMany,
     /// This segment has less memory than bytes, or lies where no program may.
     SegmentRange(u32),
     /// The first segment shares a byte of memory with the second, the first in the table that does.
     Overlap(u32, u32),
+}
+
+/// The text of a fault.
+pub type FaultText = ArrayString<FAULT_TEXT_MAX>;
+
+/// The bytes of the longest text, `overlap` with two numbers of ten digits.
+const FAULT_TEXT_MAX: usize = 29;
+
+/// Adds a number in decimal digits, of which a `u32` has ten at most.
+fn push_number(text: &mut FaultText, number: u32)
+    requires { array_string_len text.old + 10 ≤ FAULT_TEXT_MAX }
+    ensures bytes { text.new.bytes ≡ text.old.bytes ++ decimal number }
+    ensures len { array_string_len text.new ≤ array_string_len text.old + 10 }
+{
+    text.push_str(Buffer::new().format(number));
+}
+
+impl ElfFault {
+    ghost use Rattle.jos_elf.specs.FaultTexts.{fault_text};
+
+    /// The text by which the fault is told, made without memory.
+    #[tactic(auto, unfolding(crate::specs::FaultTexts::fault_text))]
+    pub fn text(&self) -> FaultText
+        ensures text { result.bytes ≡ fault_text self.now }
+        ensures len { length result.bytes ≤ FAULT_TEXT_MAX }
+    {
+        let mut text = FaultText::new();
+        match self {
+            ElfFault::Truncated(len) => {
+                text.push_str("truncated ");
+                push_number(&mut text, *len);
+            }
+            ElfFault::Magic => text.push_str("magic"),
+            ElfFault::Class => text.push_str("class"),
+            ElfFault::Kind => text.push_str("kind"),
+            ElfFault::Machine => text.push_str("machine"),
+            ElfFault::EntrySize => text.push_str("entry size"),
+            ElfFault::TooMany => text.push_str("too many"),
+            ElfFault::SegmentRange(place) => {
+                text.push_str("segment range ");
+                push_number(&mut text, *place);
+            }
+            ElfFault::Overlap(place, other) => {
+                text.push_str("overlap ");
+                push_number(&mut text, *place);
+                text.push_str(" ");
+                push_number(&mut text, *other);
+            }
+        }
+        text
+    }
 }
 
 impl fmt::Display for ElfFault {
@@ -34,19 +90,8 @@ impl fmt::Display for ElfFault {
 
     ghost output = { λ fault. Some (fault_text fault) };
 
-    #[tactic(auto, unfolding(crate::specs::FaultTexts::fault_text))]
     fn fmt<W: fmt::Write>(&self, f: &mut fmt::Formatter<W>) -> fmt::Result {
-        match self {
-            ElfFault::Truncated(len) => write!(f, "truncated {len}"),
-            ElfFault::Magic => f.write_str("magic"),
-            ElfFault::Class => f.write_str("class"),
-            ElfFault::Kind => f.write_str("kind"),
-            ElfFault::Machine => f.write_str("machine"),
-            ElfFault::EntrySize => f.write_str("entry size"),
-            ElfFault::TooMany => f.write_str("too many"),
-            ElfFault::SegmentRange(place) => write!(f, "segment range {place}"),
-            ElfFault::Overlap(place, other) => write!(f, "overlap {place} {other}"),
-        }
+        f.write_str(self.text().as_str())
     }
 }
 
@@ -70,7 +115,12 @@ mod tests {
             (ElfFault::SegmentRange(1), "segment range 1"),
             (ElfFault::Overlap(1, 0), "overlap 1 0"),
             (ElfFault::Truncated(u32::MAX), "truncated 4294967295"),
+            (
+                ElfFault::Overlap(u32::MAX, u32::MAX),
+                "overlap 4294967295 4294967295",
+            ),
         ] {
+            assert_eq!(rt; fault.text().as_str(), text);
             let told = format!(in rt.alloc(); "{fault}")?;
             assert_eq!(rt; told.as_str(), text);
         }

@@ -1,73 +1,85 @@
 //! The headers' fields.
 
-ghost use Rattle.std.specs.Prelude.{◌≡◌, ◌+◌, ◌*◌, ◌<◌, ◌≤◌, length};
-ghost use Rattle.jos_elf.specs.Headers.{half_at, word_at};
+ghost use Rattle.std.specs.Prelude.{◌≡◌, ◌+◌, ◌*◌, ◌<◌, ◌≤◌, length, slice_index};
+ghost use Rattle.jos_elf.specs.Headers.{half_at, word_at, program_header_at, header_of, table_of, entry_count_of};
 
-use byteorder::{ByteOrder, LittleEndian};
+use crate::numbers::{
+    E_PHOFF, EHDR_LEN, P_FILESZ, P_FLAGS, P_MEMSZ, P_OFFSET, P_TYPE, P_VADDR, PHDR_LEN, PT_LOAD,
+};
+use jos_base::{FDTABLE, USTABDATA, UTEMP, UTEXT};
 
 /// What a program header says. (System V ABI, edition 4.1, chapter 5)
 #[derive(Clone, Copy)]
 pub(crate) struct ProgramHeader {
+    /// p_type: what it says of.
     pub(crate) kind: u32,
+    /// p_offset: the place of the segment's bytes in the file.
     pub(crate) file_at: u32,
+    /// p_vaddr: the segment's first address.
     pub(crate) va: u32,
+    /// p_filesz: how many bytes of the file it has.
     pub(crate) file_len: u32,
+    /// p_memsz: how many bytes of memory it has.
     pub(crate) mem_len: u32,
+    /// p_flags: what may be done with its memory.
     pub(crate) flags: u32,
 }
 
 /// The number in the two bytes at a place.
-pub(crate) fn read_half(file: &[u8], at: usize) -> u16
+pub(crate) fn half_at(file: &[u8], at: usize) -> u16
     requires { at + 2 ≤ length file.now }
-    ensures { result ≡ half_at file.now at }
+    ensures { result ≡ half_at (slice_index file.now) at }
 {
-    LittleEndian::read_u16(&file[at..])
+    u16::from_le_bytes([file[at], file[at + 1]])
 }
 
 /// The number in the four bytes at a place.
-pub(crate) fn read_word(file: &[u8], at: usize) -> u32
+pub(crate) fn word_at(file: &[u8], at: usize) -> u32
     requires { at + 4 ≤ length file.now }
-    ensures { result ≡ word_at file.now at }
+    ensures { result ≡ word_at (slice_index file.now) at }
 {
-    LittleEndian::read_u32(&file[at..])
+    u32::from_le_bytes([file[at], file[at + 1], file[at + 2], file[at + 3]])
+}
+
+/// The program header at a place of the file.
+#[tactic(auto, unfolding(crate::specs::Headers::program_header_at))]
+fn program_header_at(file: &[u8], at: usize) -> ProgramHeader
+    requires { at + PHDR_LEN ≤ length file.now }
+    ensures { result ≡ program_header_at (slice_index file.now) at }
+{
+    ProgramHeader {
+        kind: word_at(file, at + P_TYPE),
+        file_at: word_at(file, at + P_OFFSET),
+        va: word_at(file, at + P_VADDR),
+        file_len: word_at(file, at + P_FILESZ),
+        mem_len: word_at(file, at + P_MEMSZ),
+        flags: word_at(file, at + P_FLAGS),
+    }
+}
+
+/// The program header at a place of the table, counted from 0.
+pub(crate) fn header_of(file: &[u8], place: u32) -> ProgramHeader
+    requires sized { EHDR_LEN ≤ length file.now }
+    requires table { table_of (slice_index file.now) + PHDR_LEN * entry_count_of (slice_index file.now)
+        ≤ length file.now }
+    requires within { place < entry_count_of (slice_index file.now) }
+    ensures { result ≡ header_of (slice_index file.now) place }
+{
+    program_header_at(
+        file,
+        word_at(file, E_PHOFF) as usize + PHDR_LEN * place as usize,
+    )
 }
 
 impl ProgramHeader {
-    ghost use Rattle.jos_elf.specs.Headers.{program_header_at, header_of, table_of, entry_count_of};
     ghost use Rattle.jos_elf.specs.Tests.{is_loaded, is_placed, leaves_free};
-
-    /// The program header at a place of the file.
-    #[tactic(auto, unfolding(crate::specs::Headers::program_header_at))]
-    fn read(file: &[u8], at: usize) -> ProgramHeader
-        requires { at + 32 ≤ length file.now }
-        ensures { result ≡ program_header_at file.now at }
-    {
-        ProgramHeader {
-            kind: read_word(file, at),
-            file_at: read_word(file, at + 4),
-            va: read_word(file, at + 8),
-            file_len: read_word(file, at + 16),
-            mem_len: read_word(file, at + 20),
-            flags: read_word(file, at + 24),
-        }
-    }
-
-    /// The program header at a place of the table.
-    pub(crate) fn in_table(file: &[u8], place: u32) -> ProgramHeader
-        requires sized { 52 ≤ length file.now }
-        requires table { table_of file.now + 32 * entry_count_of file.now ≤ length file.now }
-        requires within { place < entry_count_of file.now }
-        ensures { result ≡ header_of file.now place }
-    {
-        ProgramHeader::read(file, read_word(file, 28) as usize + 32 * place as usize)
-    }
 
     /// Whether it says of a segment.
     #[tactic(auto, unfolding(crate::specs::Tests::is_loaded))]
     pub(crate) fn is_loaded(&self) -> bool
         ensures { result ≡ is_loaded self.now }
     {
-        self.kind == 1 && self.mem_len > 0
+        self.kind == PT_LOAD && self.mem_len > 0
     }
 
     /// The first address behind its memory.
@@ -83,8 +95,8 @@ impl ProgramHeader {
         ensures { result ≡ is_placed self.now }
     {
         self.file_len <= self.mem_len
-            && (self.va >= 0x0020_0000 && self.end() <= 0x0040_0000
-                || self.va >= 0x0080_0000 && self.end() <= 0xd000_0000)
+            && (self.va >= USTABDATA && self.end() <= UTEMP as u64
+                || self.va >= UTEXT && self.end() <= FDTABLE as u64)
     }
 
     /// Whether no byte of memory is both in its segment, if it says of one, and in another.

@@ -3,7 +3,11 @@
 ghost use Rattle.std.specs.Prelude.{◌≡◌};
 
 use arrayvec::ArrayVec;
+use jos_base::SEGMENT_MAX;
 use std::marker::Model;
+
+/// The most segments, each of which has a program header.
+const SEGMENTS: usize = SEGMENT_MAX as usize;
 
 /// A run of memory and the bytes of the file that begin it.
 #[derive(Clone, Copy, Debug, Default, PartialEq, Eq)]
@@ -24,11 +28,11 @@ pub struct Segment {
 #[derive(Debug, Drop)]
 pub struct Image {
     pub entry: u32,
-    pub segments: ArrayVec<Segment, 16>,
+    pub segments: ArrayVec<Segment, SEGMENTS>,
 }
 
 impl Model for Image {
-    ghost use Rattle.jos_elf.specs.Layout.{Layout};
+    ghost use Rattle.jos_elf.specs.Parsed.{Layout};
 
     ghost Value = { Layout };
 

@@ -8,10 +8,11 @@
 mod fault;
 mod header;
 mod image;
+mod numbers;
 mod parser;
 mod writer;
 
-pub use fault::ElfFault;
+pub use fault::{ElfFault, FaultText};
 pub use image::{Image, Segment};
 pub use parser::parse;
 pub use writer::{Part, write};

@@ -2,9 +2,14 @@
 
 ghost use Rattle.std.specs.Prelude.{◌≡◌, ◌+◌, ◌^◌, ◌<◌, Ok, All, IfOk, length};
 ghost use Rattle.jos_elf.specs.Parsed.{parsed};
-ghost use Rattle.jos_elf.specs.Written.{elf_header, program_header, headers_len, image_of, written, AreParts, Holds};
+ghost use Rattle.jos_elf.specs.Written.{elf_header, flags_of, program_header, headers_len, image_of, written};
+ghost use Rattle.jos_elf.specs.Written.{AreParts, Holds};
 
 use crate::image::Segment;
+use crate::numbers::{
+    EHDR_LEN, ELFCLASS32, ELFDATA2LSB, EM_386, ET_EXEC, EV_CURRENT, PF_R, PF_W, PF_X, PHDR_LEN,
+    PT_LOAD,
+};
 use jos_base::NoMemory;
 use std::alloc::Global;
 
@@ -23,42 +28,59 @@ pub struct Part {
     pub writable: bool,
 }
 
+/// The ELF header of a file with so many program headers, which stand behind it.
 #[tactic(auto, unfolding(crate::specs::Written::elf_header))]
-fn elf_header(entry: u32, count: u16) -> [u8; 52]
+fn elf_header(entry: u32, count: u16) -> [u8; EHDR_LEN]
     ensures { result ≡ elf_header entry count }
 {
+    let (class, order) = (ELFCLASS32, ELFDATA2LSB);
+    let (kind, machine) = (ET_EXEC as u8, EM_386 as u8);
+    let (ehdr, phdr) = (EHDR_LEN as u8, PHDR_LEN as u8);
     let [e0, e1, e2, e3] = entry.to_le_bytes();
     let [c0, c1] = count.to_le_bytes();
     [
-        0x7f, b'E', b'L', b'F', 1, 1, 1, 0, 0, 0, 0, 0, 0, 0, 0, 0, // e_ident
-        2, 0, 3, 0, // e_type, e_machine
-        1, 0, 0, 0, // e_version
+        0x7f, b'E', b'L', b'F', class, order, EV_CURRENT, 0, 0, 0, 0, 0, 0, 0, 0, 0, // e_ident
+        kind, 0, machine, 0, // e_type, e_machine
+        EV_CURRENT, 0, 0, 0, // e_version
         e0, e1, e2, e3, // e_entry
-        52, 0, 0, 0, // e_phoff
+        ehdr, 0, 0, 0, // e_phoff
         0, 0, 0, 0, // e_shoff
         0, 0, 0, 0, // e_flags
-        52, 0, 32, 0, c0, c1, // e_ehsize, e_phentsize, e_phnum
+        ehdr, 0, phdr, 0, c0, c1, // e_ehsize, e_phentsize, e_phnum
         0, 0, 0, 0, 0, 0, // e_shentsize, e_shnum, e_shstrndx
     ]
 }
 
+/// What may be done with the memory of a segment: it may be read and run.
+fn flags_of(writable: bool) -> u32
+    ensures { result ≡ flags_of writable }
+{
+    if writable {
+        PF_R + PF_W + PF_X
+    } else {
+        PF_R + PF_X
+    }
+}
+
+/// The program header of a segment.
 #[tactic(auto, unfolding(crate::specs::Written::program_header))]
-fn program_header(segment: Segment) -> [u8; 32]
+fn program_header(segment: Segment) -> [u8; PHDR_LEN]
     ensures { result ≡ program_header segment }
 {
+    let kind = PT_LOAD as u8;
     let [f0, f1, f2, f3] = segment.file_at.to_le_bytes();
     let [v0, v1, v2, v3] = segment.va.to_le_bytes();
     let [l0, l1, l2, l3] = segment.file_len.to_le_bytes();
     let [m0, m1, m2, m3] = segment.mem_len.to_le_bytes();
-    let flags = if segment.writable { 7 } else { 5 };
+    let [p0, p1, p2, p3] = flags_of(segment.writable).to_le_bytes();
     [
-        1, 0, 0, 0, // p_type
+        kind, 0, 0, 0, // p_type
         f0, f1, f2, f3, // p_offset
         v0, v1, v2, v3, // p_vaddr
         v0, v1, v2, v3, // p_paddr
         l0, l1, l2, l3, // p_filesz
         m0, m1, m2, m3, // p_memsz
-        flags, 0, 0, 0, // p_flags
+        p0, p1, p2, p3, // p_flags
         1, 0, 0, 0, // p_align
     ]
 }
@@ -74,7 +96,7 @@ pub fn write(alloc: Global, entry: u32, parts: &[Part], bytes: &[u8]) -> Result<
     ensures read { IfOk result (λ file. parsed file.items ≡ Ok (image_of entry parts.now)) }
     ensures bytes { IfOk result (λ file. All (Holds file.items (headers_len parts.now) bytes.now) parts.now) }
 {
-    let before = 52 + 32 * parts.len() as u32;
+    let before = EHDR_LEN as u32 + PHDR_LEN as u32 * parts.len() as u32;
     let mut file = Vec::new(alloc);
     file.extend_from_slice(&elf_header(entry, parts.len() as u16))?;
     for part in parts {

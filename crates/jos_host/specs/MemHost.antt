@@ -1,15 +1,20 @@
 -- A host in memory, as clauses see it.
-use Rattle.std.specs.Prelude.{ℕ, ◌-◌, ◌↔◌, List, [], ◌∷◌, ◌++◌, map, None, Result, IsErr, Contains, string_bytes, vec_len, vec_capacity}
+use Rattle.std.specs.Prelude.{ℕ, ◌-◌, ◌↔◌, List, [], ◌∷◌, ◌++◌, None, Result, IsErr, Contains}
+use Rattle.std.specs.Prelude.{vec_len, vec_capacity}
 use Rattle.std.specs.declared.vec.Vec.{Vec}
 use Rattle.jos_host.specs.Asked.{Asked}
 use Rattle.jos_host.specs.Count.{risen}
 use Rattle.jos_host.specs.Files.{Files, with_bytes}
 use Rattle.jos_host.specs.declared.host.FileCall.{FileCall}
-use Rattle.jos_host.specs.declared.mem.NamedBytes.{NamedBytes}
+
+-- bytes under a name
+pub record Named : Type 0 where
+  pub name : List ℕ
+  pub bytes : List ℕ
 
 pub record Held : Type 0 where
   -- the names with their bytes; of a name that stands twice the first counts
-  pub named : List (List ℕ × List ℕ)
+  pub named : List Named
   -- the console input that is left
   pub input : List ℕ
   pub console : List ℕ
@@ -25,14 +30,10 @@ pub record Held : Type 0 where
   pub calls : ℕ
   pub faults : ℕ
 
--- the names with their bytes, as a list of pairs
-abbrev pub named_of : List NamedBytes → List (List ℕ × List ℕ)
-named_of files = map (λ (f : NamedBytes). (string_bytes f.name, f.bytes.items)) files
-
--- the bytes under each name: those of the first pair that has it
-abbrev pub files_of : List (List ℕ × List ℕ) → Files
+-- the bytes under each name: those of the first in the list that has it
+abbrev pub files_of : List Named → Files
 files_of [] = λ _. None
-files_of (file ∷ rest) = with_bytes (files_of rest) file.0 file.1
+files_of (file ∷ rest) = with_bytes (files_of rest) file.name file.bytes
 
 -- the host that has noted this call on a file
 abbrev pub asking : Held → FileCall → List ℕ → Held

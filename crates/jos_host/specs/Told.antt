@@ -1,12 +1,14 @@
 -- What a call of a host says of the host before it and after it. A host may tell a meaning or not: of what
 -- is not told nothing is claimed, and it stays untold.
-use Rattle.std.specs.Prelude.{◌≡◌, ℕ, ◌-◌, ◌≤◌, ◌<◌, ◌^◌, ◌⊎◌, List, [], ◌++◌, length, take, drop, min, Option, None, Some, Result, Ok, Err, OnOk, OnErr}
+use Rattle.std.specs.Prelude.{◌≡◌, ℕ, ◌-◌, ◌≤◌, ◌<◌, ◌⊎◌, List, [], ◌++◌, length, take, drop, min, Option, None}
+use Rattle.std.specs.Prelude.{Some, Result, Ok, Err, OnOk, OnErr}
 use Rattle.std.specs.Option.{option_map}
+use Rattle.jos_host.specs.Count.{most}
 use Rattle.jos_host.specs.Files.{Files, with_bytes, bytes_of, overwritten, SameElsewhere, Torn}
 
 -- The count of faults rose, or stands at the end of its type, where it cannot rise.
 abbrev pub Rose : ℕ → ℕ → Type 0
-Rose before now = (before < now) ⊎ (now ≡ 2 ^ 64 - 1)
+Rose before now = (before < now) ⊎ (now ≡ most)
 
 -- A call fails only where the count of faults rose in it, and leaves the count where it succeeds.
 pub record HasCause {T E : Type 0} (before now : ℕ) (result : Result T E) : Type 0 where
@@ -19,7 +21,7 @@ abbrev pub ReadsSize : Option Files → List ℕ → Option ℕ → Type 0
 ReadsSize None name size = Unit {0}
 ReadsSize (Some files) name size = size ≡ option_map length (files name)
 
--- The buffer is filled from the place on, short only at the end of the list.
+-- The buffer has the bytes from the place on, as many as it holds, and fewer only where the list ends.
 abbrev pub ReadsAt : Option Files → List ℕ → ℕ → List ℕ → List ℕ → ℕ → Type 0
 ReadsAt None name at old new n = Unit {0}
 ReadsAt (Some files) name at old new n =

@@ -6,7 +6,7 @@ ghost use Rattle.jos_host.specs.Count.{risen};
 
 use crate::Failed;
 
-// Counts a fault.
+/// Counts a fault.
 pub(crate) fn refuse(faults: &mut u64) -> Failed
     ensures { faults.new ≡ risen faults.old }
 {
@@ -14,7 +14,7 @@ pub(crate) fn refuse(faults: &mut u64) -> Failed
     Failed
 }
 
-// Counts a fault where something failed, of which no more is told.
+/// Counts a fault where something failed, of which no more is told.
 pub(crate) fn settle<T, E: Drop>(done: Result<T, E>, faults: &mut u64) -> Result<T, Failed>
     ensures same { result_ok result ≡ result_ok done }
     ensures went { OnOk result (faults.new ≡ faults.old) }

@@ -1,11 +1,12 @@
 //! A host all in memory, that tells everything.
 
-ghost use Rattle.std.specs.Prelude.{◌≡◌, ◌↔◌, ◌+◌, ◌≤◌, [], ◌∷◌, ◌++◌, length, option_map, take, drop, min, Some, IsSome, IsOk, IsErr, IfOk, OnOk, OnErr, Contains, position, option_copied, string_bytes};
+ghost use Rattle.std.specs.Prelude.{◌≡◌, ◌↔◌, ◌+◌, ◌≤◌, [], ◌∷◌, ◌++◌, length, option_map, take, drop, min, Some};
+ghost use Rattle.std.specs.Prelude.{IsSome, IsOk, IsErr, IfOk, OnOk, OnErr, Contains, position, option_copied};
 ghost use Rattle.std.specs.Str.{bytes_eq};
 ghost use Rattle.jos_host.specs.Count.{counted, risen};
 ghost use Rattle.jos_host.specs.Files.{with_bytes, bytes_of, overwritten};
 ghost use Rattle.jos_host.specs.Told.{ReadsAt};
-ghost use Rattle.jos_host.specs.MemHost.{named_of, files_of, asking, called, refused, FailsAsListed, room_of};
+ghost use Rattle.jos_host.specs.MemHost.{files_of, asking, called, refused, FailsAsListed, room_of};
 
 use crate::asked_log::AskedLog;
 use crate::faults::{refuse, settle};
@@ -13,11 +14,20 @@ use crate::{Failed, FileCall, Host};
 use std::alloc::{AllocError, Global};
 use std::marker::Model;
 
-/// Bytes under a name.
+/// A file: bytes under a name.
 #[derive(Debug, Drop)]
 pub struct NamedBytes {
     pub name: String,
     pub bytes: Vec<u8>,
+}
+
+impl Model for NamedBytes {
+    ghost use Rattle.std.specs.Prelude.{string_bytes};
+    ghost use Rattle.jos_host.specs.MemHost.{Named};
+
+    ghost Value = { Named };
+
+    ghost view = { λ f. record { name = string_bytes f.name; bytes = f.bytes.items } };
 }
 
 /// A host all in memory: named byte lists, an input that is given at the start, and what was written.
@@ -31,24 +41,25 @@ pub struct MemHost {
     alloc: Global,
     files: Vec<NamedBytes>,
     input: Vec<u8>,
-    // How many bytes of the input were read.
+    /// How many bytes of the input were read.
     taken: usize,
     console: Vec<u8>,
     notes: Vec<u8>,
     asked: AskedLog,
     fails: Vec<u64>,
+    /// The number of the next call.
     calls: u64,
     faults: u64,
 }
 
 impl Model for MemHost {
     ghost use Rattle.std.specs.Prelude.{◌≤◌, length, drop};
-    ghost use Rattle.jos_host.specs.MemHost.{Held, named_of, room_of};
+    ghost use Rattle.jos_host.specs.MemHost.{Held, room_of};
 
     ghost Value = { Held };
 
     ghost view = { λ h. record {
-      named = named_of h.files.items;
+      named = h.files.items;
       input = drop h.taken h.input.items;
       console = h.console.items;
       notes = h.notes.items;
@@ -68,7 +79,7 @@ impl MemHost {
     /// for itself. Of two files with one name the first counts.
     pub fn new(alloc: Global, files: Vec<NamedBytes>, input: Vec<u8>, fails: Vec<u64>) -> MemHost
         ensures { result ≡ record {
-          named = named_of files.items;
+          named = files.items;
           input = input.items;
           console = [];
           notes = [];
@@ -115,7 +126,7 @@ impl MemHost {
     pub fn file(&self, name: &str) -> Option<&[u8]>
         ensures { option_copied result ≡ files_of self.now.named name.now }
     {
-        find(&self.files, name)
+        file_of(&self.files, name)
     }
 
     /// The console bytes written.
@@ -165,7 +176,7 @@ impl Host for MemHost {
     {
         self.asked.note(&FileCall::Size, name.as_bytes());
         begin(&self.fails, &mut self.calls, &mut self.faults)?;
-        Ok(find(&self.files, name).map(|bytes| bytes.len() as u64))
+        Ok(file_of(&self.files, name).map(|bytes| bytes.len() as u64))
     }
 
     fn read_at(&mut self, name: &str, at: u64, buf: &mut [u8]) -> Result<usize, Failed>
@@ -179,7 +190,7 @@ impl Host for MemHost {
     {
         self.asked.note(&FileCall::Read, name.as_bytes());
         begin(&self.fails, &mut self.calls, &mut self.faults)?;
-        let bytes = find(&self.files, name).unwrap_or(&[]);
+        let bytes = file_of(&self.files, name).unwrap_or(&[]);
         Ok(fill(buf, after(bytes, at)))
     }
 
@@ -266,23 +277,27 @@ impl Host for MemHost {
     }
 }
 
-// The place of the first file of this name.
+/// The place of the first file of this name.
 fn place(files: &[NamedBytes], name: &str) -> Option<usize>
-    ensures { result ≡ position (λ file. bytes_eq name.now (string_bytes file.name)) files.now }
+    ensures { result ≡ position (λ file. bytes_eq name.now file.name) files.now }
 {
     files.iter().position(|file| name == file.name.as_str())
 }
 
-fn find<'a>(files: &'a [NamedBytes], name: &str) -> Option<&'a [u8]>
-    ensures { option_copied result ≡ files_of (named_of files.now) name.now }
+/// The bytes of the first file of this name.
+fn file_of<'a>(files: &'a [NamedBytes], name: &str) -> Option<&'a [u8]>
+    ensures { option_copied result ≡ files_of files.now name.now }
 {
     match place(files, name) {
-        Some(at) => Some(&files[at].bytes),
+        Some(at) => {
+            let file = &files[at];
+            Some(&file.bytes)
+        }
         None => None,
     }
 }
 
-// Counts a call, which fails where its number is listed.
+/// Counts a call, which fails where its number is listed.
 fn begin(fails: &[u64], calls: &mut u64, faults: &mut u64) -> Result<(), Failed>
     ensures listed { IsErr result ↔ Contains fails.now calls.old }
     ensures calls { calls.new ≡ risen calls.old }
@@ -298,7 +313,7 @@ fn begin(fails: &[u64], calls: &mut u64, faults: &mut u64) -> Result<(), Failed>
     }
 }
 
-// Adds the bytes at the end. The memory is found first.
+/// Adds the bytes at the end. The memory is found first.
 fn append(kept: &mut Vec<u8>, bytes: &[u8]) -> Result<(), AllocError>
     ensures ok { OnOk result (kept.new.items ≡ kept.old.items ++ bytes.now) }
     ensures err { OnErr result (kept.new.items ≡ kept.old.items) }
@@ -310,7 +325,7 @@ fn append(kept: &mut Vec<u8>, bytes: &[u8]) -> Result<(), AllocError>
     kept.extend_from_slice(bytes)
 }
 
-// The bytes from a place on.
+/// The bytes from a place on.
 fn after(bytes: &[u8], at: u64) -> &[u8]
     ensures { result.now ≡ drop at bytes.now }
 {
@@ -321,7 +336,7 @@ fn after(bytes: &[u8], at: u64) -> &[u8]
     }
 }
 
-// Copies as many of the bytes as the buffer has room for, and says how many.
+/// Copies as many of the bytes as the buffer has room for, and says how many.
 fn fill(buf: &mut [u8], bytes: &[u8]) -> usize
     ensures count { result ≡ min (length buf.old) (length bytes.now) }
     ensures filled { buf.new ≡ take result bytes.now ++ drop result buf.old }
@@ -331,7 +346,7 @@ fn fill(buf: &mut [u8], bytes: &[u8]) -> usize
     count
 }
 
-// Writes the bytes over what stands from `at` on. The memory is found first.
+/// Writes the bytes over what stands from `at` on. The memory is found first.
 fn overwrite(kept: &mut Vec<u8>, at: usize, bytes: &[u8]) -> Result<(), AllocError>
     requires { at ≤ length kept.old.items }
     ensures ok { OnOk result (kept.new.items ≡ overwritten kept.old.items at bytes.now) }
@@ -344,7 +359,7 @@ fn overwrite(kept: &mut Vec<u8>, at: usize, bytes: &[u8]) -> Result<(), AllocErr
     Ok(())
 }
 
-// Adds a file. The memory is found first.
+/// Adds a file. The memory is found first.
 fn add(
     alloc: Global,
     files: &mut Vec<NamedBytes>,
@@ -352,7 +367,7 @@ fn add(
     bytes: &[u8],
 ) -> Result<(), AllocError>
     ensures ok { OnOk result
-        (named_of files.new.items ≡ named_of files.old.items ++ (name.now, bytes.now) ∷ []) }
+        (files.new.items ≡ files.old.items ++ record { name = name.now; bytes = bytes.now } ∷ []) }
     ensures err { OnErr result (files.new.items ≡ files.old.items) }
 {
     let name = String::from_str(alloc, name)?;
@@ -361,12 +376,12 @@ fn add(
     Ok(())
 }
 
-// Makes the name an empty file.
+/// Makes the name an empty file.
 fn empty(alloc: Global, files: &mut Vec<NamedBytes>, name: &str) -> Result<(), AllocError>
-    ensures ok { OnOk result (files_of (named_of files.new.items)
-        ≡ with_bytes (files_of (named_of files.old.items)) name.now []) }
-    ensures err { OnErr result (named_of files.new.items ≡ named_of files.old.items) }
-    ensures there { IsSome (files_of (named_of files.old.items) name.now) → IsOk result }
+    ensures ok { OnOk result (files_of files.new.items
+        ≡ with_bytes (files_of files.old.items) name.now []) }
+    ensures err { OnErr result (files.new.items ≡ files.old.items) }
+    ensures there { IsSome (files_of files.old.items name.now) → IsOk result }
 {
     match place(files, name) {
         Some(found) => {
@@ -377,7 +392,7 @@ fn empty(alloc: Global, files: &mut Vec<NamedBytes>, name: &str) -> Result<(), A
     }
 }
 
-// Writes into the file of this name, which is added where it is absent.
+/// Writes into the file of this name, which is added where it is absent.
 fn store(
     alloc: Global,
     files: &mut Vec<NamedBytes>,
@@ -385,13 +400,13 @@ fn store(
     at: u64,
     bytes: &[u8],
 ) -> Result<(), AllocError>
-    requires { at ≤ length (bytes_of (files_of (named_of files.old.items)) name.now) }
-    ensures ok { OnOk result (files_of (named_of files.new.items)
-        ≡ with_bytes (files_of (named_of files.old.items)) name.now
-        (overwritten (bytes_of (files_of (named_of files.old.items)) name.now) at bytes.now)) }
-    ensures err { OnErr result (named_of files.new.items ≡ named_of files.old.items) }
-    ensures there { IsSome (files_of (named_of files.old.items) name.now) →
-        at + length bytes.now ≤ length (bytes_of (files_of (named_of files.old.items)) name.now) →
+    requires { at ≤ length (bytes_of (files_of files.old.items) name.now) }
+    ensures ok { OnOk result (files_of files.new.items
+        ≡ with_bytes (files_of files.old.items) name.now
+        (overwritten (bytes_of (files_of files.old.items) name.now) at bytes.now)) }
+    ensures err { OnErr result (files.new.items ≡ files.old.items) }
+    ensures there { IsSome (files_of files.old.items name.now) →
+        at + length bytes.now ≤ length (bytes_of (files_of files.old.items) name.now) →
         IsOk result }
 {
     match place(files, name) {

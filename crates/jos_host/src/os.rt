@@ -104,13 +104,13 @@ impl<R: Files + Input + Print, N: Print> Host for OsHost<R, N> {
     }
 }
 
-// The length of the file in bytes, or `None` where there is none of this name.
+/// The length of the file in bytes, or `None` where there is none of this name.
 fn file_size(files: &impl Files, name: &str) -> io::Result<Option<u64>> {
     let found = unless_absent(fs::metadata(files, name))?;
     Ok(found.map(|metadata| metadata.len()))
 }
 
-// Fills the buffer from byte `at` on. A file that is absent has no bytes.
+/// Fills the buffer from byte `at` on. A file that is absent has no bytes.
 fn read_file(files: &impl Files, name: &str, at: u64, buf: &mut [u8]) -> io::Result<usize>
     ensures within { IfOk result (λ n. n ≤ length buf.old) }
 {
@@ -120,7 +120,7 @@ fn read_file(files: &impl Files, name: &str, at: u64, buf: &mut [u8]) -> io::Res
     }
 }
 
-// Writes from byte `at` on, into a file that is made where it is absent.
+/// Writes from byte `at` on, into a file that is made where it is absent.
 fn write_file(files: &impl Files, name: &str, at: u64, bytes: &[u8]) -> io::Result<()> {
     let mut file = OpenOptions::new()
         .write(true)

@@ -1,6 +1,7 @@
 //! Reads and writes over any stream, which go on until all is done, the stream ends or it fails.
 
-ghost use Rattle.std.specs.Prelude.{◌≡◌, ◌≢◌, ℕ, ◌<◌, ◌≤◌, Ok, Err, IfOk, IfErr, IfSome, IfNone, IsErrAnd, OnOk, OnErr, length, take};
+ghost use Rattle.std.specs.Prelude.{◌≡◌, ◌≢◌, ℕ, ◌<◌, ◌≤◌, Ok, Err, IfOk, IfErr, IfSome, IfNone, IsErrAnd, OnOk};
+ghost use Rattle.std.specs.Prelude.{OnErr, length, take};
 ghost use Rattle.std.specs.IoError.{error_kind};
 ghost use Rattle.std.specs.Io.KnownBytes.{Consumes, ReadConsumes, IsAtEnd, Appends, WriteAppends};
 

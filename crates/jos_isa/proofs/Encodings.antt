@@ -1,5 +1,6 @@
 -- What `written` gives for a lawful instruction spells it, and is read again.
-use Rattle.std.proofs.Common.{◌≡◌, ℕ, ◌+◌, ◌*◌, ◌^◌, ◌<◌, nat_eq, Bool, true, false, List, [], ◌∷◌, ◌++◌, Option, Some, None, refl, sym, ap, subst, ◌∙◌}
+use Rattle.std.proofs.Common.{◌≡◌, ℕ, ◌+◌, ◌*◌, ◌^◌, ◌<◌, nat_eq, Bool, true, false, List, [], ◌∷◌, ◌++◌, Option}
+use Rattle.std.proofs.Common.{Some, None, refl, sym, ap, subst, ◌∙◌}
 use Rattle.std.specs.Prelude.{◌&&◌}
 use Rattle.jos_isa.specs.declared.instruction.Insn.{Insn}
 use Rattle.jos_isa.specs.declared.instruction.Row.{Row}
@@ -9,27 +10,29 @@ use Rattle.jos_isa.specs.declared.instruction.Operand.{Operand}
 use Rattle.jos_isa.specs.declared.instruction.Operand.TheVariants.{Absent, Reg, Mem}
 use Rattle.jos_isa.specs.declared.instruction.Disp.{Disp}
 use Rattle.jos_isa.specs.declared.instruction.Disp.TheVariants as disp
-use Rattle.jos_isa.specs.declared.opcode.Form.{Form}
-use Rattle.jos_isa.specs.declared.opcode.Form.TheVariants.{Plain, ModRm}
-use Rattle.jos_isa.specs.declared.opcode.Fields.{Fields}
-use Rattle.jos_isa.specs.declared.opcode.Fields.TheVariants.{Register, MemoryOnly, NoRegister, Group}
-use Rattle.jos_isa.specs.declared.opcode.Choice.{Choice}
-use Rattle.jos_isa.specs.declared.opcode.Immediate.{Immediate}
-use Rattle.jos_isa.specs.declared.opcode.Map.TheVariants.{TwoByte, Repne, Rep}
-use Rattle.jos_isa.specs.declared.opcode.Entry.{Entry}
-use Rattle.jos_isa.specs.declared.opcode.Entry.TheVariants.{Unassigned, Complete, Behind}
-use Rattle.jos_isa.specs.declared.placement.Opcode.{Opcode}
-use Rattle.jos_isa.specs.declared.placement.Opcode.TheVariants.{One, Two}
-use Rattle.jos_isa.specs.declared.parts.Chosen.{Chosen}
+use Rattle.jos_isa.specs.declared.opcode_map.Format.{Format}
+use Rattle.jos_isa.specs.declared.opcode_map.Format.TheVariants.{Plain, ModRm}
+use Rattle.jos_isa.specs.declared.opcode_map.Fields.{Fields}
+use Rattle.jos_isa.specs.declared.opcode_map.Fields.TheVariants.{Register, MemoryOnly, NoRegister, Group}
+use Rattle.jos_isa.specs.declared.opcode_map.Choice.{Choice}
+use Rattle.jos_isa.specs.declared.opcode_map.Immediate.{Immediate}
+use Rattle.jos_isa.specs.declared.opcode_map.Map.TheVariants.{TwoByte, Repne, Rep}
+use Rattle.jos_isa.specs.declared.opcode_map.Entry.{Entry}
+use Rattle.jos_isa.specs.declared.opcode_map.Entry.TheVariants.{Unassigned, Complete, Behind}
+use Rattle.jos_isa.specs.declared.row_opcodes.Opcode.{Opcode}
+use Rattle.jos_isa.specs.declared.row_opcodes.Opcode.TheVariants.{One, Two}
+use Rattle.jos_isa.specs.declared.behind_opcode.Chosen.{Chosen}
 use Rattle.jos_isa.specs.OpcodeMap.{entry_at, choice_of}
-use Rattle.jos_isa.specs.Spelling.{SpellsImmediate, SpellsOperand, SpellsForm, SpellsOpcode, Spells}
-use Rattle.jos_isa.specs.Placement.{opcode_of, whole_form, form_in, field_of}
-use Rattle.jos_isa.specs.Lawful.{is_numbered, is_named, is_immediate, is_operand, is_absent, is_register, is_same_repeat, fits_choice, fits_form, form_for, is_lawful}
-use Rattle.jos_isa.specs.Writing.{opcode_bytes, immediate_bytes, disp_bytes, mode_of, rm_of, sib_bytes, operand_bytes, chosen_bytes, form_bytes, written}
+use Rattle.jos_isa.specs.Spelling.{SpellsImmediate, SpellsOperand, SpellsFormat, SpellsOpcode, Spells}
+use Rattle.jos_isa.specs.RowOpcodes.{opcode_of, whole_format, format_in, field_of}
+use Rattle.jos_isa.specs.Lawful.{is_numbered, is_named, is_immediate, is_operand, is_absent, is_register}
+use Rattle.jos_isa.specs.Lawful.{is_same_repeat, fits_choice, fits_format, format_for, is_lawful}
+use Rattle.jos_isa.specs.Encoding.{opcode_bytes, immediate_bytes, disp_bytes, mode_of, rm_of, sib_bytes}
+use Rattle.jos_isa.specs.Encoding.{operand_bytes, chosen_bytes, format_bytes, encoded}
 use Rattle.jos_isa.proofs.Booleans.{both_true, no_false}
 use Rattle.jos_isa.proofs.Readers.{eqb-is}
 use Rattle.jos_isa.proofs.Places.{leads_back, row_in, row_in_fields, field_small}
-use Rattle.jos_isa.specs.Laws.{OperandFits, NumbersFit}
+use Rattle.jos_isa.specs.ClauseWords.{OperandFits, NumbersFit}
 use Rattle.jos_isa.proofs.Writers.{immediate_spelled, rm_small, memory_spelled}
 use Rattle.std.proofs.lemmas.Bool.{ltb-true}
 
@@ -47,19 +50,19 @@ rep_is : entry_at 0xf3 ≡ Behind Rep
 unfolding entry_at
 rep_is = refl
 
-whole : (opcode : ℕ) (form : Form) (entry : Entry) → entry_at opcode ≡ entry → whole_form entry ≡ Some form → entry_at opcode ≡ Complete form
-whole opcode form Unassigned is e = absurd cc
-whole opcode form (Complete f) is e = cc
-whole opcode form (Behind map) is e = absurd cc
+whole : (opcode : ℕ) (format : Format) (entry : Entry) → entry_at opcode ≡ entry → whole_format entry ≡ Some format → entry_at opcode ≡ Complete format
+whole opcode format Unassigned is e = absurd cc
+whole opcode format (Complete f) is e = cc
+whole opcode format (Behind map) is e = absurd cc
 
-opcode_spelled : (repeat : Repeat) (opcode : Opcode) (form : Form) → form_in repeat opcode ≡ Some form → SpellsOpcode form (opcode_bytes repeat opcode)
-unfolding form_in opcode_bytes
-opcode_spelled Once (One opcode) form e = whole opcode form (entry_at opcode) refl e
-opcode_spelled Once (Two opcode) form e = (TwoByte, two_byte_is, e)
-opcode_spelled WhileEqual (One opcode) form e = (Rep, rep_is, e)
-opcode_spelled WhileEqual (Two opcode) form e = absurd cc
-opcode_spelled WhileNot (One opcode) form e = (Repne, repne_is, e)
-opcode_spelled WhileNot (Two opcode) form e = absurd cc
+opcode_spelled : (repeat : Repeat) (opcode : Opcode) (format : Format) → format_in repeat opcode ≡ Some format → SpellsOpcode format (opcode_bytes repeat opcode)
+unfolding format_in opcode_bytes
+opcode_spelled Once (One opcode) format e = whole opcode format (entry_at opcode) refl e
+opcode_spelled Once (Two opcode) format e = (TwoByte, two_byte_is, e)
+opcode_spelled WhileEqual (One opcode) format e = (Rep, rep_is, e)
+opcode_spelled WhileEqual (Two opcode) format e = absurd cc
+opcode_spelled WhileNot (One opcode) format e = (Repne, repne_is, e)
+opcode_spelled WhileNot (Two opcode) format e = absurd cc
 
 -- ---- an instruction by its fields
 
@@ -79,8 +82,8 @@ absent_is (Reg r) h = absurd cc
 absent_is (Mem arg) h = absurd cc
 
 plain_spelled : (insn : Insn) (row : Row) (repeat : Repeat) (register : ℕ) (immediate : Immediate) → insn.imm < 2 ^ 32
-    → row ≡ insn.row → fits_form insn (Some (Plain row repeat register immediate)) ≡ true → SpellsForm (Plain row repeat register immediate) insn (immediate_bytes immediate insn.imm)
-unfolding fits_form
+    → row ≡ insn.row → fits_format insn (Some (Plain row repeat register immediate)) ≡ true → SpellsFormat (Plain row repeat register immediate) insn (immediate_bytes immediate insn.imm)
+unfolding fits_format
 plain_spelled insn row repeat register immediate fits same h =
     let outer = both_true (is_same_repeat repeat insn.repeat && is_absent insn.operand && nat_eq register insn.reg) (is_immediate immediate insn.imm) h in
     let middle = both_true (is_same_repeat repeat insn.repeat && is_absent insn.operand) (nat_eq register insn.reg) outer.0 in
@@ -110,7 +113,7 @@ module _ (fields : Fields) (choice : Choice) (insn : Insn) (field : ℕ) (small 
     (whole_is : insn ≡ record { row = choice.row; repeat = Once; operand = insn.operand; reg = choice.reg; imm = insn.imm }) where
   -- the ModRM byte, the operand and the immediate
   behind_modrm : (chosen : Chosen) → chosen.choice ≡ choice → chosen.rm < 8 → choice_of fields (nat_eq chosen.mode 3) field ≡ Some choice → (bytes : List ℕ) → SpellsOperand chosen.mode chosen.rm insn.operand bytes
-      → SpellsForm (ModRm fields) insn ((64 * chosen.mode + 8 * field + chosen.rm) ∷ bytes ++ immediate_bytes choice.immediate insn.imm)
+      → SpellsFormat (ModRm fields) insn ((64 * chosen.mode + 8 * field + chosen.rm) ∷ bytes ++ immediate_bytes choice.immediate insn.imm)
   behind_modrm chosen same rm e bytes operand = (
     chosen,
     (64 * chosen.mode + 8 * field + chosen.rm) ∷ [],
@@ -128,7 +131,7 @@ module _ (fields : Fields) (choice : Choice) (insn : Insn) (field : ℕ) (small 
   )
 
   operand_spelled : (operand : Operand) → insn.operand ≡ operand → is_operand operand ≡ true → OperandFits operand → choice_of fields (is_register operand) field ≡ Some choice
-      → SpellsForm (ModRm fields) insn (operand_bytes operand field ++ immediate_bytes choice.immediate insn.imm)
+      → SpellsFormat (ModRm fields) insn (operand_bytes operand field ++ immediate_bytes choice.immediate insn.imm)
   unfolding is_operand operand_bytes
   operand_spelled Absent is h fits e = no_false h
   operand_spelled (Reg r) is h fits e =
@@ -140,15 +143,15 @@ module _ (fields : Fields) (choice : Choice) (insn : Insn) (field : ℕ) (small 
       ((λ e. absurd (cc (mode_is_memory arg.base arg.disp, ap (λ (k : ℕ). nat_eq k 3) e))), memory_spelled arg h fits))
 
 modrm_spelled : (insn : Insn) (fields : Fields) → insn.imm < 2 ^ 32 → OperandFits insn.operand → is_numbered insn.row ≡ true → is_named insn.row insn.reg ≡ true
-    → row_in_fields fields insn.row ≡ insn.row → fits_form insn (Some (ModRm fields)) ≡ true → SpellsForm (ModRm fields) insn (form_bytes (Some (ModRm fields)) insn)
-unfolding fits_form fits_choice form_bytes chosen_bytes
+    → row_in_fields fields insn.row ≡ insn.row → fits_format insn (Some (ModRm fields)) ≡ true → SpellsFormat (ModRm fields) insn (format_bytes (Some (ModRm fields)) insn)
+unfolding fits_format fits_choice format_bytes chosen_bytes
 modrm_spelled insn fields imm_fits fits numbered named same h =
     let outer = both_true (is_same_repeat Once insn.repeat && is_operand insn.operand) (fits_choice insn (choice_of fields (is_register insn.operand) (field_of fields insn.row insn.reg))) h in
     let inner = both_true (is_same_repeat Once insn.repeat) (is_operand insn.operand) outer.0 in
     go (choice_of fields (is_register insn.operand) (field_of fields insn.row insn.reg)) refl (same_repeat Once insn.repeat inner.0) inner.1 outer.1
   where
     go : (o : Option Choice) → choice_of fields (is_register insn.operand) (field_of fields insn.row insn.reg) ≡ o → Once ≡ insn.repeat → is_operand insn.operand ≡ true → fits_choice insn o ≡ true
-        → SpellsForm (ModRm fields) insn (operand_bytes insn.operand (field_of fields insn.row insn.reg) ++ chosen_bytes o insn.imm)
+        → SpellsFormat (ModRm fields) insn (operand_bytes insn.operand (field_of fields insn.row insn.reg) ++ chosen_bytes o insn.imm)
     go None e once operand f = no_false f
     go (Some choice) e once operand f =
         let parts = both_true (nat_eq choice.reg insn.reg) (is_immediate choice.immediate insn.imm) f in
@@ -160,17 +163,17 @@ modrm_spelled insn fields imm_fits fits numbered named same h =
 
 -- ---- instructions
 
-no_form : (insn : Insn) → fits_form insn None ≡ false
-unfolding fits_form
-no_form insn = refl
+no_format : (insn : Insn) → fits_format insn None ≡ false
+unfolding fits_format
+no_format insn = refl
 
-form_spelled : (insn : Insn) → insn.imm < 2 ^ 32 → OperandFits insn.operand → is_numbered insn.row ≡ true → is_named insn.row insn.reg ≡ true
-    → (o : Option Form) → form_in insn.repeat (opcode_of insn.row insn.reg) ≡ o → fits_form insn o ≡ true → Spells insn (opcode_bytes insn.repeat (opcode_of insn.row insn.reg) ++ form_bytes o insn)
-unfolding form_bytes
-form_spelled insn imm_fits fits numbered named None e h = no_false (sym (no_form insn) ∙ h)
-form_spelled insn imm_fits fits numbered named (Some (Plain row repeat register immediate)) e h =
-    let back : row_in (form_in insn.repeat (opcode_of insn.row insn.reg)) insn.row ≡ insn.row = leads_back insn.row insn.repeat insn.reg numbered named in
-    let same : row ≡ insn.row = sym (ap (λ (o : Option Form). row_in o insn.row) e) ∙ back in (
+format_spelled : (insn : Insn) → insn.imm < 2 ^ 32 → OperandFits insn.operand → is_numbered insn.row ≡ true → is_named insn.row insn.reg ≡ true
+    → (o : Option Format) → format_in insn.repeat (opcode_of insn.row insn.reg) ≡ o → fits_format insn o ≡ true → Spells insn (opcode_bytes insn.repeat (opcode_of insn.row insn.reg) ++ format_bytes o insn)
+unfolding format_bytes
+format_spelled insn imm_fits fits numbered named None e h = no_false (sym (no_format insn) ∙ h)
+format_spelled insn imm_fits fits numbered named (Some (Plain row repeat register immediate)) e h =
+    let back : row_in (format_in insn.repeat (opcode_of insn.row insn.reg)) insn.row ≡ insn.row = leads_back insn.row insn.repeat insn.reg numbered named in
+    let same : row ≡ insn.row = sym (ap (λ (o : Option Format). row_in o insn.row) e) ∙ back in (
       Plain row repeat register immediate,
       opcode_bytes insn.repeat (opcode_of insn.row insn.reg),
       immediate_bytes immediate insn.imm,
@@ -178,28 +181,28 @@ form_spelled insn imm_fits fits numbered named (Some (Plain row repeat register 
       opcode_spelled insn.repeat (opcode_of insn.row insn.reg) (Plain row repeat register immediate) e,
       plain_spelled insn row repeat register immediate imm_fits same h,
     )
-form_spelled insn imm_fits fits numbered named (Some (ModRm fields)) e h =
-    let back : row_in (form_in insn.repeat (opcode_of insn.row insn.reg)) insn.row ≡ insn.row = leads_back insn.row insn.repeat insn.reg numbered named in
-    let same : row_in_fields fields insn.row ≡ insn.row = sym (ap (λ (o : Option Form). row_in o insn.row) e) ∙ back in (
+format_spelled insn imm_fits fits numbered named (Some (ModRm fields)) e h =
+    let back : row_in (format_in insn.repeat (opcode_of insn.row insn.reg)) insn.row ≡ insn.row = leads_back insn.row insn.repeat insn.reg numbered named in
+    let same : row_in_fields fields insn.row ≡ insn.row = sym (ap (λ (o : Option Format). row_in o insn.row) e) ∙ back in (
       ModRm fields,
       opcode_bytes insn.repeat (opcode_of insn.row insn.reg),
-      form_bytes (Some (ModRm fields)) insn,
+      format_bytes (Some (ModRm fields)) insn,
       refl,
       opcode_spelled insn.repeat (opcode_of insn.row insn.reg) (ModRm fields) e,
       modrm_spelled insn fields imm_fits fits numbered named same h,
     )
 
-pub lawful_spelled : (insn : Insn) → NumbersFit insn → is_lawful insn ≡ true → Spells insn (written insn)
-unfolding is_lawful written form_for
+pub lawful_spelled : (insn : Insn) → NumbersFit insn → is_lawful insn ≡ true → Spells insn (encoded insn)
+unfolding is_lawful encoded format_for
 lawful_spelled insn fits h =
-    let outer = both_true (is_numbered insn.row && is_named insn.row insn.reg) (fits_form insn (form_in insn.repeat (opcode_of insn.row insn.reg))) h in
+    let outer = both_true (is_numbered insn.row && is_named insn.row insn.reg) (fits_format insn (format_in insn.repeat (opcode_of insn.row insn.reg))) h in
     let inner = both_true (is_numbered insn.row) (is_named insn.row insn.reg) outer.0 in
-    form_spelled insn fits.imm fits.operand inner.0 inner.1 (form_in insn.repeat (opcode_of insn.row insn.reg)) refl outer.1
+    format_spelled insn fits.imm fits.operand inner.0 inner.1 (format_in insn.repeat (opcode_of insn.row insn.reg)) refl outer.1
 
 -- what a lawful instruction is
-pub lawful_parts : (insn : Insn) → is_lawful insn ≡ true → (is_numbered insn.row ≡ true) × (is_named insn.row insn.reg ≡ true) × (fits_form insn (form_for insn) ≡ true)
+pub lawful_parts : (insn : Insn) → is_lawful insn ≡ true → (is_numbered insn.row ≡ true) × (is_named insn.row insn.reg ≡ true) × (fits_format insn (format_for insn) ≡ true)
 unfolding is_lawful
 lawful_parts insn h =
-    let outer = both_true (is_numbered insn.row && is_named insn.row insn.reg) (fits_form insn (form_for insn)) h in
+    let outer = both_true (is_numbered insn.row && is_named insn.row insn.reg) (fits_format insn (format_for insn)) h in
     let inner = both_true (is_numbered insn.row) (is_named insn.row insn.reg) outer.0 in
     (inner.0, inner.1, outer.1)

@@ -1,5 +1,7 @@
 -- What bytes spell is lawful.
-use Rattle.std.proofs.Common.{◌≡◌, ◌≢◌, ℕ, zero, suc, ◌+◌, ◌*◌, ◌<◌, ◌≤◌, nat_eq, nat_lt, nat_le, Bool, true, false, cond, List, [], ◌∷◌, ◌++◌, length, get_or, Option, Some, None, refl, sym, subst, arith, inl, inr, Ok, Err, Result}
+use Rattle.std.proofs.Common.{◌≡◌, ◌≢◌, ℕ, zero, suc, ◌+◌, ◌*◌, ◌<◌, ◌≤◌, nat_eq, nat_lt, nat_le, Bool, true, false}
+use Rattle.std.proofs.Common.{cond, List, [], ◌∷◌, ◌++◌, length, get_or, Option, Some, None, refl, sym, subst, arith}
+use Rattle.std.proofs.Common.{inl, inr, Ok, Err, Result}
 use Rattle.std.specs.Prelude.{◌&&◌, ◌||◌}
 use Rattle.std.specs.Int.{w16, from_le_bytes}
 use Rattle.std.proofs.lemmas.Bool.{lt-ltb, ltb-false, le-leb}
@@ -11,26 +13,30 @@ use Rattle.jos_isa.specs.declared.instruction.Operand.{Operand}
 use Rattle.jos_isa.specs.declared.instruction.Operand.TheVariants.{Absent, Reg, Mem}
 use Rattle.jos_isa.specs.declared.instruction.MemArg.{MemArg}
 use Rattle.jos_isa.specs.declared.instruction.Disp.{Disp}
-use Rattle.jos_isa.specs.declared.opcode.Form.{Form}
-use Rattle.jos_isa.specs.declared.opcode.Form.TheVariants.{Plain, ModRm}
-use Rattle.jos_isa.specs.declared.opcode.Fields.{Fields}
-use Rattle.jos_isa.specs.declared.opcode.Choice.{Choice}
-use Rattle.jos_isa.specs.declared.opcode.Immediate.{Immediate}
-use Rattle.jos_isa.specs.declared.opcode.Immediate.TheVariants.{Nothing, Byte, SignedByte, Pair, Word}
-use Rattle.jos_isa.specs.declared.opcode.Entry.{Entry}
-use Rattle.jos_isa.specs.declared.parts.Sib.{Sib}
-use Rattle.jos_isa.specs.declared.parts.Distance.TheVariants as distance
-use Rattle.jos_isa.specs.declared.parts.Stop.{Stop}
-use Rattle.jos_isa.specs.declared.parts.Stop.TheVariants as stop
+use Rattle.jos_isa.specs.declared.opcode_map.Format.{Format}
+use Rattle.jos_isa.specs.declared.opcode_map.Format.TheVariants.{Plain, ModRm}
+use Rattle.jos_isa.specs.declared.opcode_map.Fields.{Fields}
+use Rattle.jos_isa.specs.declared.opcode_map.Choice.{Choice}
+use Rattle.jos_isa.specs.declared.opcode_map.Immediate.{Immediate}
+use Rattle.jos_isa.specs.declared.opcode_map.Immediate.TheVariants.{Nothing, Imm8, SignedImm8, Imm16, Imm32}
+use Rattle.jos_isa.specs.declared.opcode_map.Entry.{Entry}
+use Rattle.jos_isa.specs.declared.behind_opcode.Sib.{Sib}
+use Rattle.jos_isa.specs.declared.behind_opcode.DispKind.TheVariants as disp_kind
+use Rattle.jos_isa.specs.declared.behind_opcode.Stop.{Stop}
+use Rattle.jos_isa.specs.declared.behind_opcode.Stop.TheVariants as stop
 use Rattle.jos_isa.specs.OpcodeMap.{choice_of}
-use Rattle.jos_isa.specs.Spelling.{sign_extended, SpellsImmediate, SpellsDisp, distance_of, base_of, sib_of, SpellsSib, SpellsMemory, SpellsOperand, SpellsForm, SpellsOpcode, Spells}
-use Rattle.jos_isa.specs.Reading.{instruction_at, answer_of, decoded}
-use Rattle.jos_isa.specs.Placement.{opcode_of, form_in, field_of}
-use Rattle.jos_isa.specs.Lawful.{is_numbered, is_named, is_immediate, is_base, is_index, is_mem_arg, is_operand, is_register, is_same_repeat, fits_choice, fits_form, form_for, is_lawful}
-use Rattle.jos_isa.specs.Laws.{AreBytes, IfFound}
+use Rattle.jos_isa.specs.Spelling.{sign_extended, SpellsImmediate, SpellsDisp, disp_kind_of, base_of, sib_of}
+use Rattle.jos_isa.specs.Spelling.{SpellsSib, SpellsMemory, SpellsOperand, SpellsFormat, SpellsOpcode, Spells}
+use Rattle.jos_isa.specs.Decoding.{instruction_at, answer_of, decoded}
+use Rattle.jos_isa.specs.RowOpcodes.{opcode_of, format_in, field_of}
+use Rattle.jos_isa.specs.Lawful.{is_numbered, is_named, is_immediate, is_base, is_index, is_mem_arg, is_operand}
+use Rattle.jos_isa.specs.Lawful.{is_register, is_same_repeat, fits_choice, fits_format, format_for, is_lawful}
+use Rattle.jos_isa.specs.ClauseWords.{AreBytes, IfFound}
 use Rattle.jos_isa.proofs.Booleans.{both_true, and_true, left_true, right_true, no_false, all_at}
 use Rattle.jos_isa.proofs.Readers.{eqb-is}
-use Rattle.jos_isa.proofs.Places.{is_same_immediate, is_plain, is_same_choice, is_chosen, choice_returns, fields_return, form_returns, some_returns, entry_returns, first_returns, second_returns}
+use Rattle.jos_isa.proofs.Places.{is_same_immediate, is_plain, is_same_choice, is_chosen, choice_returns}
+use Rattle.jos_isa.proofs.Places.{fields_return, format_returns, some_returns, entry_returns, first_returns}
+use Rattle.jos_isa.proofs.Places.{second_returns}
 use Rattle.jos_isa.proofs.Instructions.{instructions}
 
 -- ---- bytes
@@ -52,8 +58,8 @@ as_bytes bytes other e h = subst AreBytes e h
 
 -- ---- immediates
 
-pair_small : (a b : ℕ) → a < 256 → b < 256 → from_le_bytes w16 (a ∷ b ∷ []) < 0x1_0000
-pair_small a b p q = omega arith
+u16_small : (a b : ℕ) → a < 256 → b < 256 → from_le_bytes w16 (a ∷ b ∷ []) < 0x1_0000
+u16_small a b p q = omega arith
 
 extended_lawful : (byte : ℕ) → byte < 256 → (nat_lt (sign_extended byte) 0x80 || nat_le 0xffff_ff80 (sign_extended byte)) ≡ true
 extended_lawful byte small = go (nat_lt byte 128) refl
@@ -67,20 +73,20 @@ extended_lawful byte small = go (nat_lt byte 128) refl
 immediate_lawful : (immediate : Immediate) (value : ℕ) (bytes : List ℕ) → SpellsImmediate immediate value bytes → AreBytes bytes → is_immediate immediate value ≡ true
 unfolding is_immediate
 immediate_lawful Nothing value bytes h are = rw h.0 refl
-immediate_lawful Byte value bytes h are = lt-ltb value 0x100 (as_bytes bytes (value ∷ []) h are).0
-immediate_lawful SignedByte value bytes h are = rw h.1 (extended_lawful h.0 (as_bytes bytes (h.0 ∷ []) h.2 are).0)
-immediate_lawful Pair value bytes h are =
+immediate_lawful Imm8 value bytes h are = lt-ltb value 0x100 (as_bytes bytes (value ∷ []) h are).0
+immediate_lawful SignedImm8 value bytes h are = rw h.1 (extended_lawful h.0 (as_bytes bytes (h.0 ∷ []) h.2 are).0)
+immediate_lawful Imm16 value bytes h are =
     let two = as_bytes bytes (h.0 ∷ h.1 ∷ []) h.3 are in
-    rw h.2 (lt-ltb (from_le_bytes w16 (h.0 ∷ h.1 ∷ [])) 0x1_0000 (pair_small h.0 h.1 two.0 two.1.0))
-immediate_lawful Word value bytes h are = refl
+    rw h.2 (lt-ltb (from_le_bytes w16 (h.0 ∷ h.1 ∷ [])) 0x1_0000 (u16_small h.0 h.1 two.0 two.1.0))
+immediate_lawful Imm32 value bytes h are = refl
 
 -- ---- operands
 
-base_lawful : (mode number : ℕ) (d : Disp) (bytes : List ℕ) → number < 8 → SpellsDisp (distance_of mode number) d bytes → is_base (base_of mode number) d ≡ true
+base_lawful : (mode number : ℕ) (d : Disp) (bytes : List ℕ) → number < 8 → SpellsDisp (disp_kind_of mode number) d bytes → is_base (base_of mode number) d ≡ true
 unfolding is_base
 base_lawful mode number d bytes small h = go (nat_eq mode 0) (nat_eq number 5) (nat_eq mode 1) refl h
   where
-    go : (zeroth fifth first : Bool) → nat_eq number 5 ≡ fifth → SpellsDisp (cond zeroth (cond fifth distance.Word distance.Nothing) (cond first distance.Byte distance.Word)) d bytes
+    go : (zeroth fifth first : Bool) → nat_eq number 5 ≡ fifth → SpellsDisp (cond zeroth (cond fifth disp_kind.Disp32 disp_kind.Nothing) (cond first disp_kind.Disp8 disp_kind.Disp32)) d bytes
         → is_base (cond (zeroth && fifth) None (Some number)) d ≡ true
     go true true first e h = rw h.4 refl
     go true false first e h = rw (h.0, lt-ltb number 8 small, e) refl
@@ -131,19 +137,19 @@ operand_lawful mode rm (Reg r) bytes small h are = (rw h.1 (lt-ltb rm 8 small), 
 operand_lawful mode rm (Mem arg) bytes small h are = (memory_lawful mode rm arg bytes small h.1 are, sym (isnt-eqb mode 3 h.0))
 operand_lawful mode rm Absent bytes small h are = absurd h
 
--- ---- forms
+-- ---- formats
 
 same_immediate : (a b : Immediate) → is_same_immediate a b ≡ true → a ≡ b
 same_immediate Nothing Nothing h = refl
-same_immediate Byte Byte h = refl
-same_immediate SignedByte SignedByte h = refl
-same_immediate Pair Pair h = refl
-same_immediate Word Word h = refl
+same_immediate Imm8 Imm8 h = refl
+same_immediate SignedImm8 SignedImm8 h = refl
+same_immediate Imm16 Imm16 h = refl
+same_immediate Imm32 Imm32 h = refl
 same_immediate a b h = absurd cc
 
-plain_fits : (o : Option Form) (row : Row) (repeat : Repeat) (register : ℕ) (immediate : Immediate) (value : ℕ) → is_plain o repeat register immediate ≡ true → is_immediate immediate value ≡ true
-    → fits_form (record { row = row; repeat = repeat; operand = Absent; reg = register; imm = value }) o ≡ true
-unfolding fits_form
+plain_fits : (o : Option Format) (row : Row) (repeat : Repeat) (register : ℕ) (immediate : Immediate) (value : ℕ) → is_plain o repeat register immediate ≡ true → is_immediate immediate value ≡ true
+    → fits_format (record { row = row; repeat = repeat; operand = Absent; reg = register; imm = value }) o ≡ true
+unfolding fits_format
 plain_fits None row repeat register immediate value h fits = no_false h
 plain_fits (Some (Plain r p g i)) row repeat register immediate value h fits =
     let outer = both_true (is_same_repeat p repeat && nat_eq g register) (is_same_immediate i immediate) h in
@@ -158,9 +164,9 @@ choice_fits (Some other) choice insn h reg fits =
     let parts = both_true (nat_eq other.reg choice.reg) (is_same_immediate other.immediate choice.immediate) h in
     and_true _ _ (subst (λ (n : ℕ). nat_eq other.reg n ≡ true) reg parts.0) (rw (same_immediate other.immediate choice.immediate parts.1) fits)
 
-modrm_fits : (o : Option Form) (choice : Choice) (operand : Operand) (value : ℕ) → is_chosen (is_register operand) choice o ≡ true → is_operand operand ≡ true → is_immediate choice.immediate value ≡ true
-    → fits_form (record { row = choice.row; repeat = Once; operand = operand; reg = choice.reg; imm = value }) o ≡ true
-unfolding fits_form
+modrm_fits : (o : Option Format) (choice : Choice) (operand : Operand) (value : ℕ) → is_chosen (is_register operand) choice o ≡ true → is_operand operand ≡ true → is_immediate choice.immediate value ≡ true
+    → fits_format (record { row = choice.row; repeat = Once; operand = operand; reg = choice.reg; imm = value }) o ≡ true
+unfolding fits_format
 modrm_fits None choice operand value h is fits = no_false h
 modrm_fits (Some (Plain r p g i)) choice operand value h is fits = no_false h
 modrm_fits (Some (ModRm fields)) choice operand value h is fits =
@@ -173,19 +179,19 @@ chosen_returns : (fields : Fields) (register : Bool) (reg : ℕ) → fields_retu
 chosen_returns fields true reg h = (both_true (choice_returns true (choice_of fields true reg)) (choice_returns false (choice_of fields false reg)) h).0
 chosen_returns fields false reg h = (both_true (choice_returns true (choice_of fields true reg)) (choice_returns false (choice_of fields false reg)) h).1
 
-opcode_returns : (form : Form) (bytes : List ℕ) → SpellsOpcode form bytes → AreBytes bytes → form_returns form ≡ true
-opcode_returns form [] h are = absurd h
-opcode_returns form (b ∷ []) h are = subst (λ (e : Entry). entry_returns e ≡ true) h (first_returns b are.0)
-opcode_returns form (b ∷ s ∷ []) h are = subst (λ (o : Option Form). some_returns o ≡ true) h.2 (second_returns h.0 s are.1.0)
-opcode_returns form (b ∷ s ∷ t ∷ bytes) h are = absurd h
+opcode_returns : (format : Format) (bytes : List ℕ) → SpellsOpcode format bytes → AreBytes bytes → format_returns format ≡ true
+opcode_returns format [] h are = absurd h
+opcode_returns format (b ∷ []) h are = subst (λ (e : Entry). entry_returns e ≡ true) h (first_returns b are.0)
+opcode_returns format (b ∷ s ∷ []) h are = subst (λ (o : Option Format). some_returns o ≡ true) h.2 (second_returns h.0 s are.1.0)
+opcode_returns format (b ∷ s ∷ t ∷ bytes) h are = absurd h
 
-form_lawful : (form : Form) (insn : Insn) (bytes : List ℕ) → form_returns form ≡ true → SpellsForm form insn bytes → AreBytes bytes → is_lawful insn ≡ true
-unfolding is_lawful form_for
-form_lawful (Plain row repeat register immediate) insn bytes returns h are =
-    let parts = both_true (is_numbered row && is_named row register) (is_plain (form_in repeat (opcode_of row register)) repeat register immediate) returns in
-    subst (λ (i : Insn). (is_numbered i.row && is_named i.row i.reg && fits_form i (form_in i.repeat (opcode_of i.row i.reg))) ≡ true) (sym h.1)
-    (and_true _ _ parts.0 (plain_fits (form_in repeat (opcode_of row register)) row repeat register immediate insn.imm parts.1 (immediate_lawful immediate insn.imm bytes h.0 are)))
-form_lawful (ModRm fields) insn bytes returns h are =
+format_lawful : (format : Format) (insn : Insn) (bytes : List ℕ) → format_returns format ≡ true → SpellsFormat format insn bytes → AreBytes bytes → is_lawful insn ≡ true
+unfolding is_lawful format_for
+format_lawful (Plain row repeat register immediate) insn bytes returns h are =
+    let parts = both_true (is_numbered row && is_named row register) (is_plain (format_in repeat (opcode_of row register)) repeat register immediate) returns in
+    subst (λ (i : Insn). (is_numbered i.row && is_named i.row i.reg && fits_format i (format_in i.repeat (opcode_of i.row i.reg))) ≡ true) (sym h.1)
+    (and_true _ _ parts.0 (plain_fits (format_in repeat (opcode_of row register)) row repeat register immediate insn.imm parts.1 (immediate_lawful immediate insn.imm bytes h.0 are)))
+format_lawful (ModRm fields) insn bytes returns h are =
     let chosen = h.0 in
     let modrm = h.4 in
     let rest = h.5 in
@@ -197,16 +203,16 @@ form_lawful (ModRm fields) insn bytes returns h are =
     let some : choice_returns (is_register insn.operand) (Some chosen.choice) ≡ true =
     subst (λ (b : Bool). choice_returns b (Some chosen.choice) ≡ true) (sym operand.1) (subst (λ (o : Option Choice). choice_returns (nat_eq chosen.mode 3) o ≡ true) modrm.3 one)
     in
-    let parts = both_true (is_numbered chosen.choice.row && is_named chosen.choice.row chosen.choice.reg) (is_chosen (is_register insn.operand) chosen.choice (form_in Once (opcode_of chosen.choice.row chosen.choice.reg))) some in
-    subst (λ (i : Insn). (is_numbered i.row && is_named i.row i.reg && fits_form i (form_in i.repeat (opcode_of i.row i.reg))) ≡ true) (sym rest.5)
+    let parts = both_true (is_numbered chosen.choice.row && is_named chosen.choice.row chosen.choice.reg) (is_chosen (is_register insn.operand) chosen.choice (format_in Once (opcode_of chosen.choice.row chosen.choice.reg))) some in
+    subst (λ (i : Insn). (is_numbered i.row && is_named i.row i.reg && fits_format i (format_in i.repeat (opcode_of i.row i.reg))) ≡ true) (sym rest.5)
     (and_true _ _ parts.0
-    (modrm_fits (form_in Once (opcode_of chosen.choice.row chosen.choice.reg)) chosen.choice insn.operand insn.imm parts.1 operand.0
+    (modrm_fits (format_in Once (opcode_of chosen.choice.row chosen.choice.reg)) chosen.choice insn.operand insn.imm parts.1 operand.0
     (immediate_lawful chosen.choice.immediate insn.imm rest.1 rest.4 (back_bytes rest.0 rest.1 parted))))
 
 pub spelled_lawful : (insn : Insn) (bytes : List ℕ) → Spells insn bytes → AreBytes bytes → is_lawful insn ≡ true
 spelled_lawful insn bytes h are =
     let parts : AreBytes (h.1 ++ h.2) = as_bytes bytes (h.1 ++ h.2) h.3 are in
-    form_lawful h.0 insn h.2 (opcode_returns h.0 h.1 h.4 (front_bytes h.1 h.2 parts)) h.5 (back_bytes h.1 h.2 parts)
+    format_lawful h.0 insn h.2 (opcode_returns h.0 h.1 h.4 (front_bytes h.1 h.2 parts)) h.5 (back_bytes h.1 h.2 parts)
 
 lawful_of : (bytes : List ℕ) (read : Result (Insn × List ℕ) Stop) → instruction_at bytes ≡ read → AreBytes bytes → IfFound (answer_of (length bytes) read) (λ insn len. is_lawful insn ≡ true)
 lawful_of bytes (Ok x) e are =

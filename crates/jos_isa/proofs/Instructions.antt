@@ -1,30 +1,31 @@
 -- The reader of an instruction, and what `decoded` answers.
-use Rattle.std.proofs.Common.{◌≡◌, ℕ, ◌+◌, ◌-◌, ◌<◌, ◌≤◌, List, [], ◌∷◌, ◌++◌, length, take, Result, Ok, Err, refl, sym, ap, subst, ◌∙◌, arith}
+use Rattle.std.proofs.Common.{◌≡◌, ℕ, ◌+◌, ◌-◌, ◌≤◌, List, [], ◌∷◌, ◌++◌, length, take, Result, Ok, Err, refl}
+use Rattle.std.proofs.Common.{sym, ap, subst, ◌∙◌, arith}
 use Rattle.std.proofs.Math.Seq.{take-append_seam}
 use Rattle.std.proofs.lemmas.List.{length-append, append-nil}
 use Rattle.jos_isa.specs.declared.instruction.Insn.{Insn}
-use Rattle.jos_isa.specs.declared.parts.Stop.{Stop}
-use Rattle.jos_isa.specs.declared.parts.Stop.TheVariants as stop
+use Rattle.jos_isa.specs.declared.behind_opcode.Stop.{Stop}
+use Rattle.jos_isa.specs.declared.behind_opcode.Stop.TheVariants as stop
 use Rattle.jos_isa.specs.declared.decoder.Decoded.TheVariants.{Found, Short}
-use Rattle.jos_isa.specs.Spelling.{Spells, SpellsOpcode, SpellsForm}
-use Rattle.jos_isa.specs.Reading.{opcode_at, form_read, instruction_at, answer_of, decoded}
-use Rattle.jos_isa.specs.Laws.{AreBytes, IfFound}
+use Rattle.jos_isa.specs.Spelling.{Spells, SpellsOpcode, SpellsFormat}
+use Rattle.jos_isa.specs.Decoding.{opcode_at, insn_in_format, instruction_at, answer_of, decoded}
+use Rattle.jos_isa.specs.ClauseWords.{AreBytes, IfFound}
 use Rattle.jos_isa.proofs.Readers.{Reads, Joins, after, second_of, ok_is}
-use Rattle.jos_isa.proofs.Forms.{forms, any_form}
+use Rattle.jos_isa.proofs.Formats.{formats, any_format}
 use Rattle.jos_isa.proofs.Opcodes.{opcodes}
 
--- ---- an opcode and its form
+-- ---- an opcode and its format
 
-opcode_joins : Joins SpellsOpcode SpellsForm second_of Spells
+opcode_joins : Joins SpellsOpcode SpellsFormat second_of Spells
 opcode_joins = record {
   joined = λ a b front back p q. (a, front, back, refl, p, q);
   parted = λ insn bytes h. record { a = h.0; b = insn; front = h.1; back = h.2; is = refl; bytes_are = h.3; front_spells = h.4; back_spells = h.5 };
-  follows = any_form;
+  follows = any_format;
 }
 
 pub instructions : Reads instruction_at Spells 12
 unfolding instruction_at
-instructions = after opcode_at form_read SpellsOpcode SpellsForm Spells 2 10 opcodes forms opcode_joins
+instructions = after opcode_at insn_in_format SpellsOpcode SpellsFormat Spells 2 10 opcodes formats opcode_joins
 
 -- ---- answers
 
@@ -71,13 +72,6 @@ unfolding decoded
 only_short bytes insn next more h =
     let read : instruction_at bytes ≡ Err stop.Short = instructions.stops insn bytes next more h in
     rw read refl
-
-pub bounded : (bytes : List ℕ) → decoded bytes ≡ Short → length bytes < 15
-bounded bytes e =
-    let s = short bytes e in
-    let long : length (bytes ++ s.1 ∷ s.2) ≤ 12 = instructions.within s.0 (bytes ++ s.1 ∷ s.2) s.4 in
-    let sum : length (bytes ++ s.1 ∷ s.2) ≡ length bytes + length (s.1 ∷ s.2) = length-append bytes (s.1 ∷ s.2) in
-    omega arith
 
 pub alone : (insn other : Insn) (front more : List ℕ) → Spells insn front → Spells other (front ++ more) → (more ≡ []) × (insn ≡ other)
 alone insn other front more p q =

@@ -1,13 +1,15 @@
 pub mod Readers
 pub mod Immediates
 pub mod Operands
-pub mod Forms
+pub mod Formats
 pub mod Opcodes
 pub mod Instructions
+pub mod Longest
 pub mod Booleans
 pub mod Places
 pub mod Writers
 pub mod Kept
 pub mod Encodings
 pub mod FoundLawful
-pub mod SureLengths
+pub mod LawfulMoves
+pub mod LeastLengths

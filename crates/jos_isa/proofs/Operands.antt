@@ -1,14 +1,16 @@
 -- The reader of an operand behind its ModRM byte.
-use Rattle.std.proofs.Common.{◌≡◌, ◌≢◌, ℕ, ◌+◌, ◌*◌, ◌/◌, ◌%◌, ◌<◌, Bool, true, false, cond, nat_eq, List, [], ◌∷◌, ◌++◌, None, Ok, refl, ap, ◌∙◌, arith, inl, inr}
+use Rattle.std.proofs.Common.{◌≡◌, ◌≢◌, ℕ, ◌+◌, ◌*◌, ◌/◌, ◌%◌, ◌<◌, Bool, true, false, cond, nat_eq, List, [], ◌∷◌}
+use Rattle.std.proofs.Common.{◌++◌, None, Ok, refl, ap, ◌∙◌, arith, inl, inr}
 use Rattle.jos_isa.specs.declared.instruction.Operand.{Operand}
 use Rattle.jos_isa.specs.declared.instruction.Operand.TheVariants.{Absent, Reg, Mem}
 use Rattle.jos_isa.specs.declared.instruction.MemArg.{MemArg}
 use Rattle.jos_isa.specs.declared.instruction.Disp.{Disp}
-use Rattle.jos_isa.specs.declared.parts.Sib.{Sib}
-use Rattle.jos_isa.specs.Spelling.{distance_of, base_of, sib_of, SpellsDisp, SpellsSib, SpellsMemory, SpellsOperand}
-use Rattle.jos_isa.specs.Laws.{AreBytes}
-use Rattle.jos_isa.specs.Reading.{byte_at, disp_at, sib_byte_at, sib_at, memory_at, in_memory, operand_at}
-use Rattle.jos_isa.proofs.Readers.{are_append, one_zero, Reads, Joins, both, always, respelled, mapped, widened, byte, IsByte, eqb-is, eqb-isnt, fields_of, ThreeFields, three_fields}
+use Rattle.jos_isa.specs.declared.behind_opcode.Sib.{Sib}
+use Rattle.jos_isa.specs.Spelling.{disp_kind_of, base_of, sib_of, SpellsDisp, SpellsSib, SpellsMemory, SpellsOperand}
+use Rattle.jos_isa.specs.ClauseWords.{AreBytes}
+use Rattle.jos_isa.specs.Decoding.{byte_at, disp_at, sib_byte_at, sib_at, memory_at, in_memory, operand_at}
+use Rattle.jos_isa.proofs.Readers.{are_append, one_zero, Reads, Joins, both, always, respelled, mapped, widened, byte}
+use Rattle.jos_isa.proofs.Readers.{IsByte, eqb-is, eqb-isnt, fields_of, ThreeFields, three_fields}
 use Rattle.jos_isa.proofs.Immediates.{displacements, any_displacement}
 
 -- ---- base, index and scale
@@ -67,23 +69,23 @@ any_sib rm = go (nat_eq rm 4) refl
 abbrev arg_of : ℕ → Sib → Disp → MemArg
 arg_of mode sib away = record { base = base_of mode sib.base; index = sib.index; scale = sib.scale; disp = away }
 
-memory_joins : (mode rm : ℕ) → Joins (SpellsSib rm) (λ s. SpellsDisp (distance_of mode s.base)) (arg_of mode) (SpellsMemory mode rm)
+memory_joins : (mode rm : ℕ) → Joins (SpellsSib rm) (λ s. SpellsDisp (disp_kind_of mode s.base)) (arg_of mode) (SpellsMemory mode rm)
 memory_joins mode rm = record {
   joined = λ s d front back p q. (s, front, back, refl, p, q, refl);
   parted = λ c bytes h. record { a = h.0; b = c.disp; front = h.1; back = h.2; is = h.6; bytes_are = h.3; front_spells = h.4; back_spells = h.5 };
-  follows = λ s. any_displacement (distance_of mode s.base);
+  follows = λ s. any_displacement (disp_kind_of mode s.base);
 }
 
 memories : (mode rm : ℕ) → Reads (memory_at mode rm) (SpellsMemory mode rm) 5
 unfolding memory_at
 memories mode rm =
-    both (sib_at rm) (λ s. disp_at (distance_of mode s.base)) (arg_of mode) (SpellsSib rm) (λ s. SpellsDisp (distance_of mode s.base)) (SpellsMemory mode rm) 1 4
-    (sibs rm) (λ s. displacements (distance_of mode s.base)) (memory_joins mode rm)
+    both (sib_at rm) (λ s. disp_at (disp_kind_of mode s.base)) (arg_of mode) (SpellsSib rm) (λ s. SpellsDisp (disp_kind_of mode s.base)) (SpellsMemory mode rm) 1 4
+    (sibs rm) (λ s. displacements (disp_kind_of mode s.base)) (memory_joins mode rm)
 
 any_memory : (mode rm : ℕ) → (x : MemArg) × (bytes : List ℕ) × AreBytes bytes × SpellsMemory mode rm x bytes
 any_memory mode rm =
     let s = any_sib rm in
-    let d = any_displacement (distance_of mode s.0.base) in
+    let d = any_displacement (disp_kind_of mode s.0.base) in
     (arg_of mode s.0 d.0, s.1 ++ d.1, are_append s.1 d.1 s.2 d.2, (s.0, s.1, d.1, refl, s.3, d.3, refl))
 
 -- ---- a register or memory

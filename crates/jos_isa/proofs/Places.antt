@@ -1,24 +1,27 @@
 -- The two tables lead to each other: from a row to its opcode and back, and from an opcode to its row and back.
-use Rattle.std.proofs.Common.{◌≡◌, ℕ, zero, suc, ◌<◌, nat_lt, Bool, true, false, List, [], ◌∷◌, Option, Some, None, refl, sym, ap, ◌∙◌, arith, inl, inr}
+use Rattle.std.proofs.Common.{◌≡◌, ℕ, zero, suc, ◌<◌, nat_lt, Bool, true, false, List, [], ◌∷◌, Option, Some, None}
+use Rattle.std.proofs.Common.{refl, sym, ap, ◌∙◌, arith, inl, inr}
 use Rattle.std.specs.Prelude.{◌&&◌, ◌==◌}
 use Rattle.std.proofs.lemmas.Bool.{ltb-true}
 use Rattle.jos_isa.specs.declared.instruction.Row.{Row}
 use Rattle.jos_isa.specs.declared.instruction.Row.TheVariants as row
 use Rattle.jos_isa.specs.declared.instruction.Repeat.{Repeat}
 use Rattle.jos_isa.specs.declared.instruction.Repeat.TheVariants.{Once, WhileEqual, WhileNot}
-use Rattle.jos_isa.specs.declared.opcode.Form.{Form}
-use Rattle.jos_isa.specs.declared.opcode.Form.TheVariants.{Plain, ModRm}
-use Rattle.jos_isa.specs.declared.opcode.Fields.{Fields}
-use Rattle.jos_isa.specs.declared.opcode.Fields.TheVariants.{Register, MemoryOnly, NoRegister, Group}
-use Rattle.jos_isa.specs.declared.opcode.Choice.{Choice}
-use Rattle.jos_isa.specs.declared.opcode.Immediate.{Immediate}
-use Rattle.jos_isa.specs.declared.opcode.Immediate.TheVariants.{Nothing, Byte, SignedByte, Pair, Word}
-use Rattle.jos_isa.specs.declared.opcode.Map.{Map}
-use Rattle.jos_isa.specs.declared.opcode.Map.TheVariants.{TwoByte, OperandSize, Repne, Rep}
-use Rattle.jos_isa.specs.declared.opcode.Entry.{Entry}
-use Rattle.jos_isa.specs.declared.opcode.Entry.TheVariants.{Unassigned, Complete, Behind}
-use Rattle.jos_isa.specs.OpcodeMap.{is_shift, alu_at, from_40, from_70, from_90, from_a0, from_b0, from_d0, from_f0, form_at, entry_at, two_byte_at, operand_size_at, repne_at, rep_at, form_behind, unary_f6, unary_f7, step_fe, step_ff, of_group, choice_of}
-use Rattle.jos_isa.specs.Placement.{opcode_of, digit_of, form_in, field_of}
+use Rattle.jos_isa.specs.declared.opcode_map.Format.{Format}
+use Rattle.jos_isa.specs.declared.opcode_map.Format.TheVariants.{Plain, ModRm}
+use Rattle.jos_isa.specs.declared.opcode_map.Fields.{Fields}
+use Rattle.jos_isa.specs.declared.opcode_map.Fields.TheVariants.{Register, MemoryOnly, NoRegister, Group}
+use Rattle.jos_isa.specs.declared.opcode_map.Choice.{Choice}
+use Rattle.jos_isa.specs.declared.opcode_map.Immediate.{Immediate}
+use Rattle.jos_isa.specs.declared.opcode_map.Immediate.TheVariants.{Nothing, Imm8, SignedImm8, Imm16, Imm32}
+use Rattle.jos_isa.specs.declared.opcode_map.Map.{Map}
+use Rattle.jos_isa.specs.declared.opcode_map.Map.TheVariants.{TwoByte, OperandSize, Repne, Rep}
+use Rattle.jos_isa.specs.declared.opcode_map.Entry.{Entry}
+use Rattle.jos_isa.specs.declared.opcode_map.Entry.TheVariants.{Unassigned, Complete, Behind}
+use Rattle.jos_isa.specs.OpcodeMap.{is_shift, from_00, from_40, from_70, from_90, from_a0, from_b0, from_d0, from_f0}
+use Rattle.jos_isa.specs.OpcodeMap.{format_at, entry_at, two_byte_at, operand_size_at, repne_at, rep_at}
+use Rattle.jos_isa.specs.OpcodeMap.{format_behind, unary_f6, unary_f7, step_fe, step_ff, of_group, choice_of}
+use Rattle.jos_isa.specs.RowOpcodes.{opcode_of, digit_of, format_in, field_of}
 use Rattle.jos_isa.specs.Lawful.{is_numbered, is_named, is_same_repeat}
 use Rattle.std.proofs.lemmas.Bool.Decides.{nat_tests}
 use Rattle.jos_isa.proofs.Booleans.{all_below, all_at, last_or_below, both_true}
@@ -35,14 +38,14 @@ row_in_fields (MemoryOnly r) row = r
 row_in_fields (NoRegister r) row = r
 row_in_fields (Group group) row = row_chosen (of_group group (digit_of row)) row
 
--- the row of a form, in a group that of the row's own digit
-abbrev pub row_in : Option Form → Row → Row
+-- the row of a format, in a group that of the row's own digit
+abbrev pub row_in : Option Format → Row → Row
 row_in None row = row
 row_in (Some (Plain r _ _ _)) row = r
 row_in (Some (ModRm fields)) row = row_in_fields fields row
 
 abbrev row_back : Row → Repeat → ℕ → Row
-row_back row repeat reg = row_in (form_in repeat (opcode_of row reg)) row
+row_back row repeat reg = row_in (format_in repeat (opcode_of row reg)) row
 
 -- the values of a function at each of the first numbers
 abbrev listed : {A : Type 0} → (ℕ → A) → ℕ → List A
@@ -69,10 +72,10 @@ each f g n once equal not WhileNot i small = listed_at (f WhileNot) (g WhileNot)
 pub shift_small : (k : ℕ) → is_shift k ≡ true → k < 8
 shift_small k h = grind (arith, nat_tests)
 
--- Whatever form stands at a row's opcode is of that row. The rows with a number and those with a register in the
+-- Whatever format stands at a row's opcode is of that row. The rows with a number and those with a register in the
 -- opcode are computed at each number; all others by themselves.
 pub leads_back : (row : Row) (repeat : Repeat) (reg : ℕ) → is_numbered row ≡ true → is_named row reg ≡ true → row_back row repeat reg ≡ row
-unfolding is_numbered is_named form_in opcode_of digit_of entry_at form_at alu_at from_40 from_70 from_90 from_a0 from_b0 from_d0 from_f0 form_behind two_byte_at operand_size_at repne_at rep_at of_group unary_f6 unary_f7 step_fe step_ff
+unfolding is_numbered is_named format_in opcode_of digit_of entry_at format_at from_00 from_40 from_70 from_90 from_a0 from_b0 from_d0 from_f0 format_behind two_byte_at operand_size_at repne_at rep_at of_group unary_f6 unary_f7 step_fe step_ff
 leads_back (row.AluRm8R8 k) repeat reg h s = each (λ r k. row_back (row.AluRm8R8 k) r reg) (λ r k. row.AluRm8R8 k) 8 refl refl refl repeat k (ltb-true k 8 h)
 leads_back (row.AluRm32R32 k) repeat reg h s = each (λ r k. row_back (row.AluRm32R32 k) r reg) (λ r k. row.AluRm32R32 k) 8 refl refl refl repeat k (ltb-true k 8 h)
 leads_back (row.AluR8Rm8 k) repeat reg h s = each (λ r k. row_back (row.AluR8Rm8 k) r reg) (λ r k. row.AluR8Rm8 k) 8 refl refl refl repeat k (ltb-true k 8 h)
@@ -109,13 +112,13 @@ leads_back row WhileNot reg h s = refl
 
 abbrev pub is_same_immediate : Immediate → Immediate → Bool
 is_same_immediate Nothing Nothing = true
-is_same_immediate Byte Byte = true
-is_same_immediate SignedByte SignedByte = true
-is_same_immediate Pair Pair = true
-is_same_immediate Word Word = true
+is_same_immediate Imm8 Imm8 = true
+is_same_immediate SignedImm8 SignedImm8 = true
+is_same_immediate Imm16 Imm16 = true
+is_same_immediate Imm32 Imm32 = true
 is_same_immediate _ _ = false
 
-abbrev pub is_plain : Option Form → Repeat → ℕ → Immediate → Bool
+abbrev pub is_plain : Option Format → Repeat → ℕ → Immediate → Bool
 is_plain None repeat register immediate = false
 is_plain (Some (Plain _ p g i)) repeat register immediate = is_same_repeat p repeat && g == register && is_same_immediate i immediate
 is_plain (Some (ModRm _)) repeat register immediate = false
@@ -124,7 +127,7 @@ abbrev pub is_same_choice : Choice → Option Choice → Bool
 is_same_choice choice None = false
 is_same_choice choice (Some other) = other.reg == choice.reg && is_same_immediate other.immediate choice.immediate
 
-abbrev pub is_chosen : Bool → Choice → Option Form → Bool
+abbrev pub is_chosen : Bool → Choice → Option Format → Bool
 is_chosen register choice None = false
 is_chosen register choice (Some (Plain _ _ _ _)) = false
 is_chosen register choice (Some (ModRm fields)) = is_same_choice choice (choice_of fields register (field_of fields choice.row choice.reg))
@@ -132,36 +135,36 @@ is_chosen register choice (Some (ModRm fields)) = is_same_choice choice (choice_
 -- What stands at the opcode of a row that was read is of the same kind.
 abbrev pub plain_returns : Row → Repeat → ℕ → Immediate → Bool
 plain_returns row repeat register immediate =
-    is_numbered row && is_named row register && is_plain (form_in repeat (opcode_of row register)) repeat register immediate
+    is_numbered row && is_named row register && is_plain (format_in repeat (opcode_of row register)) repeat register immediate
 
 abbrev pub choice_returns : Bool → Option Choice → Bool
 choice_returns register None = true
 choice_returns register (Some choice) =
-    is_numbered choice.row && is_named choice.row choice.reg && is_chosen register choice (form_in Once (opcode_of choice.row choice.reg))
+    is_numbered choice.row && is_named choice.row choice.reg && is_chosen register choice (format_in Once (opcode_of choice.row choice.reg))
 
 abbrev pub fields_return : Fields → ℕ → Bool
 fields_return fields reg = choice_returns true (choice_of fields true reg) && choice_returns false (choice_of fields false reg)
 
-abbrev pub form_returns : Form → Bool
-form_returns (Plain row repeat register immediate) = plain_returns row repeat register immediate
-form_returns (ModRm fields) = all_below (fields_return fields) 8
+abbrev pub format_returns : Format → Bool
+format_returns (Plain row repeat register immediate) = plain_returns row repeat register immediate
+format_returns (ModRm fields) = all_below (fields_return fields) 8
 
-abbrev pub some_returns : Option Form → Bool
+abbrev pub some_returns : Option Format → Bool
 some_returns None = true
-some_returns (Some form) = form_returns form
+some_returns (Some format) = format_returns format
 
 abbrev pub entry_returns : Entry → Bool
 entry_returns Unassigned = true
-entry_returns (Complete form) = form_returns form
+entry_returns (Complete format) = format_returns format
 entry_returns (Behind map) = true
 
 -- computed over all entries of each map
 first_bytes : all_below (λ byte. entry_returns (entry_at byte)) 256 ≡ true
-unfolding is_numbered is_named choice_of field_of form_in opcode_of digit_of entry_at form_at alu_at from_40 from_70 from_90 from_a0 from_b0 from_d0 from_f0 form_behind two_byte_at operand_size_at repne_at rep_at of_group unary_f6 unary_f7 step_fe step_ff
+unfolding is_numbered is_named choice_of field_of format_in opcode_of digit_of entry_at format_at from_00 from_40 from_70 from_90 from_a0 from_b0 from_d0 from_f0 format_behind two_byte_at operand_size_at repne_at rep_at of_group unary_f6 unary_f7 step_fe step_ff
 first_bytes = refl
 
-second_bytes : (map : Map) → all_below (λ byte. some_returns (form_behind map byte)) 256 ≡ true
-unfolding is_numbered is_named choice_of field_of form_in opcode_of digit_of entry_at form_at alu_at from_40 from_70 from_90 from_a0 from_b0 from_d0 from_f0 form_behind two_byte_at operand_size_at repne_at rep_at of_group unary_f6 unary_f7 step_fe step_ff
+second_bytes : (map : Map) → all_below (λ byte. some_returns (format_behind map byte)) 256 ≡ true
+unfolding is_numbered is_named choice_of field_of format_in opcode_of digit_of entry_at format_at from_00 from_40 from_70 from_90 from_a0 from_b0 from_d0 from_f0 format_behind two_byte_at operand_size_at repne_at rep_at of_group unary_f6 unary_f7 step_fe step_ff
 second_bytes TwoByte = refl
 second_bytes OperandSize = refl
 second_bytes Repne = refl
@@ -170,8 +173,8 @@ second_bytes Rep = refl
 pub first_returns : (byte : ℕ) → byte < 256 → entry_returns (entry_at byte) ≡ true
 first_returns byte small = all_at (λ byte. entry_returns (entry_at byte)) 256 first_bytes byte small
 
-pub second_returns : (map : Map) (byte : ℕ) → byte < 256 → some_returns (form_behind map byte) ≡ true
-second_returns map byte small = all_at (λ byte. some_returns (form_behind map byte)) 256 (second_bytes map) byte small
+pub second_returns : (map : Map) (byte : ℕ) → byte < 256 → some_returns (format_behind map byte) ≡ true
+second_returns map byte small = all_at (λ byte. some_returns (format_behind map byte)) 256 (second_bytes map) byte small
 
 -- ---- registers and digits
 

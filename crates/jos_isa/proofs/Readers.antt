@@ -1,10 +1,11 @@
 -- A reader and the spellings of what it reads, held together by five laws; and readers one after the other.
-use Rattle.std.proofs.Common.{◌≡◌, ℕ, ◌+◌, ◌*◌, ◌/◌, ◌%◌, ◌<◌, ◌≤◌, List, [], ◌∷◌, ◌++◌, length, Result, Ok, Err, refl, sym, ap, subst, ◌∙◌, append_assoc, arith, ◌⊎◌, inl, inr, true, false, nat_eq, ◌≢◌}
+use Rattle.std.proofs.Common.{◌≡◌, ℕ, ◌+◌, ◌*◌, ◌/◌, ◌%◌, ◌<◌, ◌≤◌, List, [], ◌∷◌, ◌++◌, length, Result, Ok, Err}
+use Rattle.std.proofs.Common.{refl, sym, ap, subst, ◌∙◌, append_assoc, arith, ◌⊎◌, inl, inr, true, false, nat_eq, ◌≢◌}
 use Rattle.std.proofs.lemmas.List.{length-append, append-nil}
-use Rattle.jos_isa.specs.declared.parts.Stop.{Stop}
-use Rattle.jos_isa.specs.declared.parts.Stop.TheVariants.{Short}
-use Rattle.jos_isa.specs.Laws.{AreBytes}
-use Rattle.jos_isa.specs.Reading.{◌>>=◌, byte_at}
+use Rattle.jos_isa.specs.declared.behind_opcode.Stop.{Stop}
+use Rattle.jos_isa.specs.declared.behind_opcode.Stop.TheVariants.{Short}
+use Rattle.jos_isa.specs.ClauseWords.{AreBytes}
+use Rattle.jos_isa.specs.Decoding.{◌>>=◌, byte_at}
 
 pub record Reads {A : Type 0} (read : List ℕ → Result (A × List ℕ) Stop) (IsSpelling : A → List ℕ → Type 0) (longest : ℕ) : Type 0 where
   -- what is read is spelled, and the rest is what follows

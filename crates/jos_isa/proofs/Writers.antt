@@ -1,5 +1,7 @@
 -- What is written spells a lawful instruction.
-use Rattle.std.proofs.Common.{◌≡◌, ◌≢◌, ℕ, ◌+◌, ◌%◌, ◌^◌, ◌<◌, ◌≤◌, nat_eq, nat_lt, nat_le, Bool, true, false, cond, List, [], ◌∷◌, ◌++◌, Option, Some, None, refl, sym, ap, subst, ◌∙◌, append_assoc, arith, ◌⊎◌, inl, inr}
+use Rattle.std.proofs.Common.{◌≡◌, ◌≢◌, ℕ, ◌+◌, ◌%◌, ◌^◌, ◌<◌, ◌≤◌, nat_eq, nat_lt, nat_le, Bool, true, false, cond}
+use Rattle.std.proofs.Common.{List, [], ◌∷◌, ◌++◌, Option, Some, None, refl, sym, ap, subst, ◌∙◌, append_assoc, arith}
+use Rattle.std.proofs.Common.{◌⊎◌, inl, inr}
 use Rattle.std.specs.Prelude.{◌&&◌, ◌||◌, not, is_some}
 use Rattle.std.specs.Int.{w8, w16, w32, to_le_bytes, cast_unsigned}
 use Rattle.std.proofs.lemmas.Bool.{ltb-true, ltb-false}
@@ -9,13 +11,15 @@ use Rattle.std.proofs.lemmas.Nat.{from_le_bytes-to_le_bytes_2, from_le_bytes-to_
 use Rattle.jos_isa.specs.declared.instruction.MemArg.{MemArg}
 use Rattle.jos_isa.specs.declared.instruction.Disp.{Disp}
 use Rattle.jos_isa.specs.declared.instruction.Disp.TheVariants as disp
-use Rattle.jos_isa.specs.declared.opcode.Immediate.{Immediate}
-use Rattle.jos_isa.specs.declared.opcode.Immediate.TheVariants.{Nothing, Byte, SignedByte, Pair, Word}
-use Rattle.jos_isa.specs.declared.parts.Sib.{Sib}
-use Rattle.jos_isa.specs.Spelling.{sign_extended, SpellsImmediate, SpellsDisp, distance_of, base_of, sib_of, SpellsSib, SpellsMemory}
+use Rattle.jos_isa.specs.declared.opcode_map.Immediate.{Immediate}
+use Rattle.jos_isa.specs.declared.opcode_map.Immediate.TheVariants.{Nothing, Imm8, SignedImm8, Imm16, Imm32}
+use Rattle.jos_isa.specs.declared.behind_opcode.Sib.{Sib}
+use Rattle.jos_isa.specs.Spelling.{sign_extended, SpellsImmediate, SpellsDisp, disp_kind_of, base_of, sib_of}
+use Rattle.jos_isa.specs.Spelling.{SpellsSib, SpellsMemory}
 use Rattle.jos_isa.specs.Lawful.{is_immediate, is_base, is_index, is_mem_arg}
-use Rattle.jos_isa.specs.Laws.{DispFits}
-use Rattle.jos_isa.specs.Writing.{immediate_bytes, disp_bytes, base_number, index_number, mode_of, has_sib, rm_of, sib_byte, sib_bytes}
+use Rattle.jos_isa.specs.ClauseWords.{DispFits}
+use Rattle.jos_isa.specs.Encoding.{immediate_bytes, disp_bytes, base_number, index_number, mode_of, has_sib, rm_of}
+use Rattle.jos_isa.specs.Encoding.{sib_byte, sib_bytes}
 use Rattle.jos_isa.proofs.Booleans.{both_true, one_true, not_true, no_false}
 use Rattle.jos_isa.proofs.Readers.{eqb-is, eqb-isnt}
 
@@ -27,10 +31,10 @@ three_behind start first second third a b c p q r = rw (r, q, p) (append_assoc (
 -- ---- immediates
 
 -- a list of two bytes is its bytes
-two_bytes : (n : ℕ) → n < 2 ^ 16 → SpellsImmediate Pair n (to_le_bytes w16 n)
+two_bytes : (n : ℕ) → n < 2 ^ 16 → SpellsImmediate Imm16 n (to_le_bytes w16 n)
 two_bytes n small = (_, _, sym (from_le_bytes-to_le_bytes_2 n small), refl)
 
-four_bytes : (n : ℕ) → n < 2 ^ 32 → SpellsImmediate Word n (to_le_bytes w32 n)
+four_bytes : (n : ℕ) → n < 2 ^ 32 → SpellsImmediate Imm32 n (to_le_bytes w32 n)
 four_bytes n small = (_, _, _, _, sym (from_le_bytes-to_le_bytes_4 n small), refl)
 
 extended_again : (n : ℕ) → n < 2 ^ 32 → (nat_lt n 0x80 || nat_le 0xffff_ff80 n) ≡ true → n ≡ sign_extended (n % 0x100)
@@ -45,21 +49,21 @@ extended_again n small h = go (nat_lt (n % 0x100) 128) refl (one_true (nat_lt n 
 pub immediate_spelled : (immediate : Immediate) (value : ℕ) → value < 2 ^ 32 → is_immediate immediate value ≡ true → SpellsImmediate immediate value (immediate_bytes immediate value)
 unfolding is_immediate immediate_bytes
 immediate_spelled Nothing value fits h = (eqb-is value 0 h, refl)
-immediate_spelled Byte value fits h =
+immediate_spelled Imm8 value fits h =
     let small : value < 0x100 = ltb-true value 0x100 h in
     let same : value % 0x100 ≡ value = omega arith in
     ap (λ (n : ℕ). n ∷ []) same
-immediate_spelled SignedByte value fits h = (value % 0x100, extended_again value fits h, refl)
-immediate_spelled Pair value fits h =
+immediate_spelled SignedImm8 value fits h = (value % 0x100, extended_again value fits h, refl)
+immediate_spelled Imm16 value fits h =
     let small : value < 0x1_0000 = ltb-true value 0x1_0000 h in
     let same : value % 0x1_0000 ≡ value = omega arith in
     let fits16 : value < 2 ^ 16 = omega arith in
-    subst (λ (n : ℕ). SpellsImmediate Pair value (to_le_bytes w16 n)) (sym same) (two_bytes value fits16)
-immediate_spelled Word value fits h = four_bytes value fits
+    subst (λ (n : ℕ). SpellsImmediate Imm16 value (to_le_bytes w16 n)) (sym same) (two_bytes value fits16)
+immediate_spelled Imm32 value fits h = four_bytes value fits
 
 -- ---- operands
 
-displacement_spelled : (base : Option ℕ) (d : Disp) → is_base base d ≡ true → DispFits d → SpellsDisp (distance_of (mode_of base d) (base_number base)) d (disp_bytes d)
+displacement_spelled : (base : Option ℕ) (d : Disp) → is_base base d ≡ true → DispFits d → SpellsDisp (disp_kind_of (mode_of base d) (base_number base)) d (disp_bytes d)
 unfolding is_base disp_bytes
 displacement_spelled None disp.Zero h fits = no_false h
 displacement_spelled None (disp.Byte z) h fits = no_false h

@@ -11,13 +11,13 @@ use Rattle.jos_isa.specs.declared.instruction.Operand.TheVariants.{Absent, Reg, 
 use Rattle.jos_isa.specs.declared.instruction.MemArg.{MemArg}
 use Rattle.jos_isa.specs.declared.instruction.Disp.{Disp}
 use Rattle.jos_isa.specs.declared.instruction.Disp.TheVariants as disp
-use Rattle.jos_isa.specs.declared.opcode.Form.{Form}
-use Rattle.jos_isa.specs.declared.opcode.Form.TheVariants.{Plain, ModRm}
-use Rattle.jos_isa.specs.declared.opcode.Choice.{Choice}
-use Rattle.jos_isa.specs.declared.opcode.Immediate.{Immediate}
-use Rattle.jos_isa.specs.declared.opcode.Immediate.TheVariants.{Nothing, Byte, SignedByte, Pair, Word}
+use Rattle.jos_isa.specs.declared.opcode_map.Format.{Format}
+use Rattle.jos_isa.specs.declared.opcode_map.Format.TheVariants.{Plain, ModRm}
+use Rattle.jos_isa.specs.declared.opcode_map.Choice.{Choice}
+use Rattle.jos_isa.specs.declared.opcode_map.Immediate.{Immediate}
+use Rattle.jos_isa.specs.declared.opcode_map.Immediate.TheVariants.{Nothing, Imm8, SignedImm8, Imm16, Imm32}
 use Rattle.jos_isa.specs.OpcodeMap.{is_shift, choice_of}
-use Rattle.jos_isa.specs.Placement.{opcode_of, form_in, field_of}
+use Rattle.jos_isa.specs.RowOpcodes.{opcode_of, format_in, field_of}
 
 -- an operation 0 to 7, a condition 0 to 15, a shift that the map has
 unfoldable pub is_numbered : Row → Bool
@@ -49,10 +49,10 @@ is_named _ reg = nat_lt reg 8
 -- An immediate that is extended is held extended.
 unfoldable pub is_immediate : Immediate → ℕ → Bool
 is_immediate Nothing value = value == 0
-is_immediate Byte value = nat_lt value 0x100
-is_immediate SignedByte value = nat_lt value 0x80 || nat_le 0xffff_ff80 value
-is_immediate Pair value = nat_lt value 0x1_0000
-is_immediate Word value = true
+is_immediate Imm8 value = nat_lt value 0x100
+is_immediate SignedImm8 value = nat_lt value 0x80 || nat_le 0xffff_ff80 value
+is_immediate Imm16 value = nat_lt value 0x1_0000
+is_immediate Imm32 value = true
 
 -- Without base there is a displacement word, and with the base EBP a byte or a word.
 unfoldable pub is_base : Option ℕ → Disp → Bool
@@ -98,17 +98,17 @@ unfoldable pub fits_choice : Insn → Option Choice → Bool
 fits_choice insn None = false
 fits_choice insn (Some choice) = choice.reg == insn.reg && is_immediate choice.immediate insn.imm
 
--- the fields of the form that the map has for the instruction
-unfoldable pub fits_form : Insn → Option Form → Bool
-fits_form insn None = false
-fits_form insn (Some (Plain _ repeat register immediate)) =
+-- the fields of the format that the map has for the instruction
+unfoldable pub fits_format : Insn → Option Format → Bool
+fits_format insn None = false
+fits_format insn (Some (Plain _ repeat register immediate)) =
     is_same_repeat repeat insn.repeat && is_absent insn.operand && register == insn.reg && is_immediate immediate insn.imm
-fits_form insn (Some (ModRm fields)) =
+fits_format insn (Some (ModRm fields)) =
     is_same_repeat Once insn.repeat && is_operand insn.operand
     && fits_choice insn (choice_of fields (is_register insn.operand) (field_of fields insn.row insn.reg))
 
-unfoldable pub form_for : Insn → Option Form
-form_for insn = form_in insn.repeat (opcode_of insn.row insn.reg)
+unfoldable pub format_for : Insn → Option Format
+format_for insn = format_in insn.repeat (opcode_of insn.row insn.reg)
 
 unfoldable pub is_lawful : Insn → Bool
-is_lawful insn = is_numbered insn.row && is_named insn.row insn.reg && fits_form insn (form_for insn)
+is_lawful insn = is_numbered insn.row && is_named insn.row insn.reg && fits_format insn (format_for insn)

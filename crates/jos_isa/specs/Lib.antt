@@ -1,8 +1,9 @@
 pub mod OpcodeMap
 pub mod Spelling
-pub mod Reading
-pub mod Placement
+pub mod Decoding
+pub mod RowOpcodes
 pub mod Lawful
-pub mod Writing
-pub mod Laws
+pub mod Encoding
+pub mod ClauseWords
 pub mod Lengths
+pub mod Moves

@@ -1,23 +1,24 @@
 -- The opcode map: what stands behind each byte with which an instruction can begin, in the order of the bytes.
 -- (Intel 80386 Programmer's Reference Manual, 1986, appendix A, "One-Byte Opcode Map", "Two-Byte Opcode Map"
 -- and "Opcodes determined by bits 5,4,3 of modR/M byte"; of them the instructions of the profile.)
-use Rattle.std.specs.Prelude.{ℕ, ◌-◌, ◌/◌, ◌%◌, ◌==◌, nat_le, ◌&&◌, ◌||◌, Bool, true, false, Option, Some, None, if◌then◌else◌}
+use Rattle.std.specs.Prelude.{ℕ, ◌-◌, ◌/◌, ◌%◌, ◌==◌, nat_le, ◌&&◌, ◌||◌, Bool, true, false, Option, Some, None}
+use Rattle.std.specs.Prelude.{if◌then◌else◌}
 use Rattle.jos_isa.specs.declared.instruction.Row.{Row}
 use Rattle.jos_isa.specs.declared.instruction.Row.TheVariants as row
 use Rattle.jos_isa.specs.declared.instruction.Repeat.TheVariants.{Once, WhileEqual, WhileNot}
-use Rattle.jos_isa.specs.declared.opcode.Form.{Form}
-use Rattle.jos_isa.specs.declared.opcode.Form.TheVariants.{Plain, ModRm}
-use Rattle.jos_isa.specs.declared.opcode.Fields.{Fields}
-use Rattle.jos_isa.specs.declared.opcode.Fields.TheVariants.{Register, MemoryOnly, NoRegister, Group}
-use Rattle.jos_isa.specs.declared.opcode.Digits.{Digits}
-use Rattle.jos_isa.specs.declared.opcode.Digits.TheVariants as digits
-use Rattle.jos_isa.specs.declared.opcode.Choice.{Choice}
-use Rattle.jos_isa.specs.declared.opcode.Immediate.{Immediate}
-use Rattle.jos_isa.specs.declared.opcode.Immediate.TheVariants.{Nothing, Byte, SignedByte, Pair, Word}
-use Rattle.jos_isa.specs.declared.opcode.Map.{Map}
-use Rattle.jos_isa.specs.declared.opcode.Map.TheVariants.{TwoByte, OperandSize, Repne, Rep}
-use Rattle.jos_isa.specs.declared.opcode.Entry.{Entry}
-use Rattle.jos_isa.specs.declared.opcode.Entry.TheVariants.{Unassigned, Complete, Behind}
+use Rattle.jos_isa.specs.declared.opcode_map.Format.{Format}
+use Rattle.jos_isa.specs.declared.opcode_map.Format.TheVariants.{Plain, ModRm}
+use Rattle.jos_isa.specs.declared.opcode_map.Fields.{Fields}
+use Rattle.jos_isa.specs.declared.opcode_map.Fields.TheVariants.{Register, MemoryOnly, NoRegister, Group}
+use Rattle.jos_isa.specs.declared.opcode_map.OpcodeGroup.{OpcodeGroup}
+use Rattle.jos_isa.specs.declared.opcode_map.OpcodeGroup.TheVariants as opcode_group
+use Rattle.jos_isa.specs.declared.opcode_map.Choice.{Choice}
+use Rattle.jos_isa.specs.declared.opcode_map.Immediate.{Immediate}
+use Rattle.jos_isa.specs.declared.opcode_map.Immediate.TheVariants.{Nothing, Imm8, SignedImm8, Imm16, Imm32}
+use Rattle.jos_isa.specs.declared.opcode_map.Map.{Map}
+use Rattle.jos_isa.specs.declared.opcode_map.Map.TheVariants.{TwoByte, OperandSize, Repne, Rep}
+use Rattle.jos_isa.specs.declared.opcode_map.Entry.{Entry}
+use Rattle.jos_isa.specs.declared.opcode_map.Entry.TheVariants.{Unassigned, Complete, Behind}
 
 -- low ≤ opcode ≤ high
 abbrev pub is_among : ℕ → ℕ → ℕ → Bool
@@ -26,18 +27,18 @@ is_among low high opcode = nat_le low opcode && nat_le opcode high
 -- ---- the one-byte map
 
 -- 00 to 3F: eight operations, each in six forms
-unfoldable pub alu_at : ℕ → Option Form
-alu_at opcode =
+unfoldable pub from_00 : ℕ → Option Format
+from_00 opcode =
     if opcode % 8 == 0 then Some (ModRm (Register (row.AluRm8R8 (opcode / 8)) Nothing))
     else if opcode % 8 == 1 then Some (ModRm (Register (row.AluRm32R32 (opcode / 8)) Nothing))
     else if opcode % 8 == 2 then Some (ModRm (Register (row.AluR8Rm8 (opcode / 8)) Nothing))
     else if opcode % 8 == 3 then Some (ModRm (Register (row.AluR32Rm32 (opcode / 8)) Nothing))
-    else if opcode % 8 == 4 then Some (Plain (row.AluAlImm8 (opcode / 8)) Once 0 Byte)
-    else if opcode % 8 == 5 then Some (Plain (row.AluEaxImm32 (opcode / 8)) Once 0 Word)
+    else if opcode % 8 == 4 then Some (Plain (row.AluAlImm8 (opcode / 8)) Once 0 Imm8)
+    else if opcode % 8 == 5 then Some (Plain (row.AluEaxImm32 (opcode / 8)) Once 0 Imm32)
     else None
 
 -- 40 to 6F
-unfoldable pub from_40 : ℕ → Option Form
+unfoldable pub from_40 : ℕ → Option Format
 from_40 opcode =
     if is_among 0x40 0x47 opcode then Some (Plain row.IncR32 Once (opcode - 0x40) Nothing)
     else if is_among 0x48 0x4f opcode then Some (Plain row.DecR32 Once (opcode - 0x48) Nothing)
@@ -45,19 +46,19 @@ from_40 opcode =
     else if is_among 0x58 0x5f opcode then Some (Plain row.PopR32 Once (opcode - 0x58) Nothing)
     else if opcode == 0x60 then Some (Plain row.Pusha Once 0 Nothing)
     else if opcode == 0x61 then Some (Plain row.Popa Once 0 Nothing)
-    else if opcode == 0x68 then Some (Plain row.PushImm32 Once 0 Word)
-    else if opcode == 0x69 then Some (ModRm (Register row.ImulR32Rm32Imm32 Word))
-    else if opcode == 0x6a then Some (Plain row.PushImm8 Once 0 SignedByte)
-    else if opcode == 0x6b then Some (ModRm (Register row.ImulR32Rm32Imm8 SignedByte))
+    else if opcode == 0x68 then Some (Plain row.PushImm32 Once 0 Imm32)
+    else if opcode == 0x69 then Some (ModRm (Register row.ImulR32Rm32Imm32 Imm32))
+    else if opcode == 0x6a then Some (Plain row.PushImm8 Once 0 SignedImm8)
+    else if opcode == 0x6b then Some (ModRm (Register row.ImulR32Rm32Imm8 SignedImm8))
     else None
 
 -- 70 to 8F
-unfoldable pub from_70 : ℕ → Option Form
+unfoldable pub from_70 : ℕ → Option Format
 from_70 opcode =
-    if is_among 0x70 0x7f opcode then Some (Plain (row.JccRel8 (opcode - 0x70)) Once 0 SignedByte)
-    else if opcode == 0x80 then Some (ModRm (Group digits.Alu80))
-    else if opcode == 0x81 then Some (ModRm (Group digits.Alu81))
-    else if opcode == 0x83 then Some (ModRm (Group digits.Alu83))
+    if is_among 0x70 0x7f opcode then Some (Plain (row.JccRel8 (opcode - 0x70)) Once 0 SignedImm8)
+    else if opcode == 0x80 then Some (ModRm (Group opcode_group.Alu80))
+    else if opcode == 0x81 then Some (ModRm (Group opcode_group.Alu81))
+    else if opcode == 0x83 then Some (ModRm (Group opcode_group.Alu83))
     else if opcode == 0x84 then Some (ModRm (Register row.TestRm8R8 Nothing))
     else if opcode == 0x85 then Some (ModRm (Register row.TestRm32R32 Nothing))
     else if opcode == 0x86 then Some (ModRm (Register row.XchgRm8R8 Nothing))
@@ -67,11 +68,11 @@ from_70 opcode =
     else if opcode == 0x8a then Some (ModRm (Register row.MovR8Rm8 Nothing))
     else if opcode == 0x8b then Some (ModRm (Register row.MovR32Rm32 Nothing))
     else if opcode == 0x8d then Some (ModRm (MemoryOnly row.LeaR32Mem))
-    else if opcode == 0x8f then Some (ModRm (Group digits.Pop8f))
+    else if opcode == 0x8f then Some (ModRm (Group opcode_group.Pop8f))
     else None
 
 -- 90 to 9F
-unfoldable pub from_90 : ℕ → Option Form
+unfoldable pub from_90 : ℕ → Option Format
 from_90 opcode =
     if opcode == 0x90 then Some (Plain row.Nop Once 0 Nothing)
     else if is_among 0x91 0x97 opcode then Some (Plain row.XchgEaxR32 Once (opcode - 0x90) Nothing)
@@ -82,18 +83,18 @@ from_90 opcode =
     else None
 
 -- A0 to AF
-unfoldable pub from_a0 : ℕ → Option Form
+unfoldable pub from_a0 : ℕ → Option Format
 from_a0 opcode =
-    if opcode == 0xa0 then Some (Plain row.MovAlAddr Once 0 Word)
-    else if opcode == 0xa1 then Some (Plain row.MovEaxAddr Once 0 Word)
-    else if opcode == 0xa2 then Some (Plain row.MovAddrAl Once 0 Word)
-    else if opcode == 0xa3 then Some (Plain row.MovAddrEax Once 0 Word)
+    if opcode == 0xa0 then Some (Plain row.MovAlAddr Once 0 Imm32)
+    else if opcode == 0xa1 then Some (Plain row.MovEaxAddr Once 0 Imm32)
+    else if opcode == 0xa2 then Some (Plain row.MovAddrAl Once 0 Imm32)
+    else if opcode == 0xa3 then Some (Plain row.MovAddrEax Once 0 Imm32)
     else if opcode == 0xa4 then Some (Plain row.Movsb Once 0 Nothing)
     else if opcode == 0xa5 then Some (Plain row.Movsd Once 0 Nothing)
     else if opcode == 0xa6 then Some (Plain row.Cmpsb Once 0 Nothing)
     else if opcode == 0xa7 then Some (Plain row.Cmpsd Once 0 Nothing)
-    else if opcode == 0xa8 then Some (Plain row.TestAlImm8 Once 0 Byte)
-    else if opcode == 0xa9 then Some (Plain row.TestEaxImm32 Once 0 Word)
+    else if opcode == 0xa8 then Some (Plain row.TestAlImm8 Once 0 Imm8)
+    else if opcode == 0xa9 then Some (Plain row.TestEaxImm32 Once 0 Imm32)
     else if opcode == 0xaa then Some (Plain row.Stosb Once 0 Nothing)
     else if opcode == 0xab then Some (Plain row.Stosd Once 0 Nothing)
     else if opcode == 0xac then Some (Plain row.Lodsb Once 0 Nothing)
@@ -103,35 +104,35 @@ from_a0 opcode =
     else None
 
 -- B0 to CF
-unfoldable pub from_b0 : ℕ → Option Form
+unfoldable pub from_b0 : ℕ → Option Format
 from_b0 opcode =
-    if is_among 0xb0 0xb7 opcode then Some (Plain row.MovR8Imm8 Once (opcode - 0xb0) Byte)
-    else if is_among 0xb8 0xbf opcode then Some (Plain row.MovR32Imm32 Once (opcode - 0xb8) Word)
-    else if opcode == 0xc0 then Some (ModRm (Group digits.ShiftC0))
-    else if opcode == 0xc1 then Some (ModRm (Group digits.ShiftC1))
-    else if opcode == 0xc2 then Some (Plain row.RetImm16 Once 0 Pair)
+    if is_among 0xb0 0xb7 opcode then Some (Plain row.MovR8Imm8 Once (opcode - 0xb0) Imm8)
+    else if is_among 0xb8 0xbf opcode then Some (Plain row.MovR32Imm32 Once (opcode - 0xb8) Imm32)
+    else if opcode == 0xc0 then Some (ModRm (Group opcode_group.ShiftC0))
+    else if opcode == 0xc1 then Some (ModRm (Group opcode_group.ShiftC1))
+    else if opcode == 0xc2 then Some (Plain row.RetImm16 Once 0 Imm16)
     else if opcode == 0xc3 then Some (Plain row.Ret Once 0 Nothing)
-    else if opcode == 0xc6 then Some (ModRm (Group digits.MovC6))
-    else if opcode == 0xc7 then Some (ModRm (Group digits.MovC7))
+    else if opcode == 0xc6 then Some (ModRm (Group opcode_group.MovC6))
+    else if opcode == 0xc7 then Some (ModRm (Group opcode_group.MovC7))
     else if opcode == 0xc9 then Some (Plain row.Leave Once 0 Nothing)
     else if opcode == 0xcc then Some (Plain row.Int3 Once 0 Nothing)
-    else if opcode == 0xcd then Some (Plain row.IntImm8 Once 0 Byte)
+    else if opcode == 0xcd then Some (Plain row.IntImm8 Once 0 Imm8)
     else None
 
 -- D0 to EF
-unfoldable pub from_d0 : ℕ → Option Form
+unfoldable pub from_d0 : ℕ → Option Format
 from_d0 opcode =
-    if opcode == 0xd0 then Some (ModRm (Group digits.ShiftD0))
-    else if opcode == 0xd1 then Some (ModRm (Group digits.ShiftD1))
-    else if opcode == 0xd2 then Some (ModRm (Group digits.ShiftD2))
-    else if opcode == 0xd3 then Some (ModRm (Group digits.ShiftD3))
-    else if opcode == 0xe4 then Some (Plain row.InAlImm8 Once 0 Byte)
-    else if opcode == 0xe5 then Some (Plain row.InEaxImm8 Once 0 Byte)
-    else if opcode == 0xe6 then Some (Plain row.OutImm8Al Once 0 Byte)
-    else if opcode == 0xe7 then Some (Plain row.OutImm8Eax Once 0 Byte)
-    else if opcode == 0xe8 then Some (Plain row.CallRel32 Once 0 Word)
-    else if opcode == 0xe9 then Some (Plain row.JmpRel32 Once 0 Word)
-    else if opcode == 0xeb then Some (Plain row.JmpRel8 Once 0 SignedByte)
+    if opcode == 0xd0 then Some (ModRm (Group opcode_group.ShiftD0))
+    else if opcode == 0xd1 then Some (ModRm (Group opcode_group.ShiftD1))
+    else if opcode == 0xd2 then Some (ModRm (Group opcode_group.ShiftD2))
+    else if opcode == 0xd3 then Some (ModRm (Group opcode_group.ShiftD3))
+    else if opcode == 0xe4 then Some (Plain row.InAlImm8 Once 0 Imm8)
+    else if opcode == 0xe5 then Some (Plain row.InEaxImm8 Once 0 Imm8)
+    else if opcode == 0xe6 then Some (Plain row.OutImm8Al Once 0 Imm8)
+    else if opcode == 0xe7 then Some (Plain row.OutImm8Eax Once 0 Imm8)
+    else if opcode == 0xe8 then Some (Plain row.CallRel32 Once 0 Imm32)
+    else if opcode == 0xe9 then Some (Plain row.JmpRel32 Once 0 Imm32)
+    else if opcode == 0xeb then Some (Plain row.JmpRel8 Once 0 SignedImm8)
     else if opcode == 0xec then Some (Plain row.InAlDx Once 0 Nothing)
     else if opcode == 0xed then Some (Plain row.InEaxDx Once 0 Nothing)
     else if opcode == 0xee then Some (Plain row.OutDxAl Once 0 Nothing)
@@ -139,26 +140,26 @@ from_d0 opcode =
     else None
 
 -- F0 to FF
-unfoldable pub from_f0 : ℕ → Option Form
+unfoldable pub from_f0 : ℕ → Option Format
 from_f0 opcode =
     if opcode == 0xf4 then Some (Plain row.Hlt Once 0 Nothing)
     else if opcode == 0xf5 then Some (Plain row.Cmc Once 0 Nothing)
-    else if opcode == 0xf6 then Some (ModRm (Group digits.UnaryF6))
-    else if opcode == 0xf7 then Some (ModRm (Group digits.UnaryF7))
+    else if opcode == 0xf6 then Some (ModRm (Group opcode_group.UnaryF6))
+    else if opcode == 0xf7 then Some (ModRm (Group opcode_group.UnaryF7))
     else if opcode == 0xf8 then Some (Plain row.Clc Once 0 Nothing)
     else if opcode == 0xf9 then Some (Plain row.Stc Once 0 Nothing)
     else if opcode == 0xfa then Some (Plain row.Cli Once 0 Nothing)
     else if opcode == 0xfb then Some (Plain row.Sti Once 0 Nothing)
     else if opcode == 0xfc then Some (Plain row.Cld Once 0 Nothing)
     else if opcode == 0xfd then Some (Plain row.Std Once 0 Nothing)
-    else if opcode == 0xfe then Some (ModRm (Group digits.StepFe))
-    else if opcode == 0xff then Some (ModRm (Group digits.StepFf))
+    else if opcode == 0xfe then Some (ModRm (Group opcode_group.StepFe))
+    else if opcode == 0xff then Some (ModRm (Group opcode_group.StepFf))
     else None
 
 -- an instruction whose opcode is one byte
-unfoldable pub form_at : ℕ → Option Form
-form_at opcode =
-    if is_among 0x00 0x3f opcode then alu_at opcode
+unfoldable pub format_at : ℕ → Option Format
+format_at opcode =
+    if is_among 0x00 0x3f opcode then from_00 opcode
     else if is_among 0x40 0x6f opcode then from_40 opcode
     else if is_among 0x70 0x8f opcode then from_70 opcode
     else if is_among 0x90 0x9f opcode then from_90 opcode
@@ -167,8 +168,8 @@ form_at opcode =
     else if is_among 0xd0 0xef opcode then from_d0 opcode
     else from_f0 opcode
 
-abbrev pub complete : Option Form → Entry
-complete (Some form) = Complete form
+abbrev pub complete : Option Format → Entry
+complete (Some format) = Complete format
 complete None = Unassigned
 
 -- The first byte: of four the second byte decides.
@@ -178,18 +179,18 @@ entry_at byte =
     else if byte == 0x66 then Behind OperandSize
     else if byte == 0xf2 then Behind Repne
     else if byte == 0xf3 then Behind Rep
-    else complete (form_at byte)
+    else complete (format_at byte)
 
 -- ---- the maps of the second byte
 
 -- behind 0F
-unfoldable pub two_byte_at : ℕ → Option Form
+unfoldable pub two_byte_at : ℕ → Option Format
 two_byte_at opcode =
-    if is_among 0x80 0x8f opcode then Some (Plain (row.JccRel32 (opcode - 0x80)) Once 0 Word)
+    if is_among 0x80 0x8f opcode then Some (Plain (row.JccRel32 (opcode - 0x80)) Once 0 Imm32)
     else if is_among 0x90 0x9f opcode then Some (ModRm (NoRegister (row.SetccRm8 (opcode - 0x90))))
-    else if opcode == 0xa4 then Some (ModRm (Register row.ShldRm32R32Imm8 Byte))
+    else if opcode == 0xa4 then Some (ModRm (Register row.ShldRm32R32Imm8 Imm8))
     else if opcode == 0xa5 then Some (ModRm (Register row.ShldRm32R32Cl Nothing))
-    else if opcode == 0xac then Some (ModRm (Register row.ShrdRm32R32Imm8 Byte))
+    else if opcode == 0xac then Some (ModRm (Register row.ShrdRm32R32Imm8 Imm8))
     else if opcode == 0xad then Some (ModRm (Register row.ShrdRm32R32Cl Nothing))
     else if opcode == 0xaf then Some (ModRm (Register row.ImulR32Rm32 Nothing))
     else if opcode == 0xb6 then Some (ModRm (Register row.MovzxR32Rm8 Nothing))
@@ -199,11 +200,11 @@ two_byte_at opcode =
     else None
 
 -- behind 66, which changes nothing here
-unfoldable pub operand_size_at : ℕ → Option Form
+unfoldable pub operand_size_at : ℕ → Option Format
 operand_size_at opcode = if opcode == 0x90 then Some (Plain row.Nop Once 0 Nothing) else None
 
 -- behind F2
-unfoldable pub repne_at : ℕ → Option Form
+unfoldable pub repne_at : ℕ → Option Format
 repne_at opcode =
     if opcode == 0xa6 then Some (Plain row.Cmpsb WhileNot 0 Nothing)
     else if opcode == 0xa7 then Some (Plain row.Cmpsd WhileNot 0 Nothing)
@@ -212,7 +213,7 @@ repne_at opcode =
     else None
 
 -- behind F3, which changes nothing at 90 and C3
-unfoldable pub rep_at : ℕ → Option Form
+unfoldable pub rep_at : ℕ → Option Format
 rep_at opcode =
     if opcode == 0x90 then Some (Plain row.Nop Once 0 Nothing)
     else if opcode == 0xa4 then Some (Plain row.Movsb WhileEqual 0 Nothing)
@@ -228,11 +229,11 @@ rep_at opcode =
     else if opcode == 0xc3 then Some (Plain row.Ret Once 0 Nothing)
     else None
 
-unfoldable pub form_behind : Map → ℕ → Option Form
-form_behind TwoByte opcode = two_byte_at opcode
-form_behind OperandSize opcode = operand_size_at opcode
-form_behind Repne opcode = repne_at opcode
-form_behind Rep opcode = rep_at opcode
+unfoldable pub format_behind : Map → ℕ → Option Format
+format_behind TwoByte opcode = two_byte_at opcode
+format_behind OperandSize opcode = operand_size_at opcode
+format_behind Repne opcode = repne_at opcode
+format_behind Rep opcode = rep_at opcode
 
 -- ---- the fields of a ModRM byte
 
@@ -244,8 +245,8 @@ one_of chosen immediate = Some (record { row = chosen; reg = 0; immediate = imme
 abbrev pub is_shift : ℕ → Bool
 is_shift k = k == 0 || k == 1 || k == 4 || k == 5 || k == 7
 
-abbrev pub shift_of : Row → Immediate → ℕ → Option Choice
-shift_of chosen immediate k = if is_shift k then one_of chosen immediate else None
+abbrev pub shift_choice : Row → Immediate → ℕ → Option Choice
+shift_choice chosen immediate k = if is_shift k then one_of chosen immediate else None
 
 abbrev pub only_first : Row → Immediate → ℕ → Option Choice
 only_first chosen immediate reg = if reg == 0 then one_of chosen immediate else None
@@ -253,7 +254,7 @@ only_first chosen immediate reg = if reg == 0 then one_of chosen immediate else 
 -- F6
 unfoldable pub unary_f6 : ℕ → Option Choice
 unary_f6 reg =
-    if reg == 0 then one_of row.TestRm8Imm8 Byte
+    if reg == 0 then one_of row.TestRm8Imm8 Imm8
     else if reg == 2 then one_of row.NotRm8 Nothing
     else if reg == 3 then one_of row.NegRm8 Nothing
     else if reg == 4 then one_of row.MulRm8 Nothing
@@ -265,7 +266,7 @@ unary_f6 reg =
 -- F7
 unfoldable pub unary_f7 : ℕ → Option Choice
 unary_f7 reg =
-    if reg == 0 then one_of row.TestRm32Imm32 Word
+    if reg == 0 then one_of row.TestRm32Imm32 Imm32
     else if reg == 2 then one_of row.NotRm32 Nothing
     else if reg == 3 then one_of row.NegRm32 Nothing
     else if reg == 4 then one_of row.MulRm32 Nothing
@@ -292,23 +293,23 @@ step_ff reg =
     else None
 
 -- Of a group reg chooses the instruction.
-unfoldable pub of_group : Digits → ℕ → Option Choice
-of_group digits.Alu80 reg = one_of (row.AluRm8Imm8 reg) Byte
-of_group digits.Alu81 reg = one_of (row.AluRm32Imm32 reg) Word
-of_group digits.Alu83 reg = one_of (row.AluRm32Imm8 reg) SignedByte
-of_group digits.Pop8f reg = only_first row.PopRm32 Nothing reg
-of_group digits.ShiftC0 reg = shift_of (row.ShiftRm8Imm8 reg) Byte reg
-of_group digits.ShiftC1 reg = shift_of (row.ShiftRm32Imm8 reg) Byte reg
-of_group digits.ShiftD0 reg = shift_of (row.ShiftRm8One reg) Nothing reg
-of_group digits.ShiftD1 reg = shift_of (row.ShiftRm32One reg) Nothing reg
-of_group digits.ShiftD2 reg = shift_of (row.ShiftRm8Cl reg) Nothing reg
-of_group digits.ShiftD3 reg = shift_of (row.ShiftRm32Cl reg) Nothing reg
-of_group digits.MovC6 reg = only_first row.MovRm8Imm8 Byte reg
-of_group digits.MovC7 reg = only_first row.MovRm32Imm32 Word reg
-of_group digits.UnaryF6 reg = unary_f6 reg
-of_group digits.UnaryF7 reg = unary_f7 reg
-of_group digits.StepFe reg = step_fe reg
-of_group digits.StepFf reg = step_ff reg
+unfoldable pub of_group : OpcodeGroup → ℕ → Option Choice
+of_group opcode_group.Alu80 reg = one_of (row.AluRm8Imm8 reg) Imm8
+of_group opcode_group.Alu81 reg = one_of (row.AluRm32Imm32 reg) Imm32
+of_group opcode_group.Alu83 reg = one_of (row.AluRm32Imm8 reg) SignedImm8
+of_group opcode_group.Pop8f reg = only_first row.PopRm32 Nothing reg
+of_group opcode_group.ShiftC0 reg = shift_choice (row.ShiftRm8Imm8 reg) Imm8 reg
+of_group opcode_group.ShiftC1 reg = shift_choice (row.ShiftRm32Imm8 reg) Imm8 reg
+of_group opcode_group.ShiftD0 reg = shift_choice (row.ShiftRm8One reg) Nothing reg
+of_group opcode_group.ShiftD1 reg = shift_choice (row.ShiftRm32One reg) Nothing reg
+of_group opcode_group.ShiftD2 reg = shift_choice (row.ShiftRm8Cl reg) Nothing reg
+of_group opcode_group.ShiftD3 reg = shift_choice (row.ShiftRm32Cl reg) Nothing reg
+of_group opcode_group.MovC6 reg = only_first row.MovRm8Imm8 Imm8 reg
+of_group opcode_group.MovC7 reg = only_first row.MovRm32Imm32 Imm32 reg
+of_group opcode_group.UnaryF6 reg = unary_f6 reg
+of_group opcode_group.UnaryF7 reg = unary_f7 reg
+of_group opcode_group.StepFe reg = step_fe reg
+of_group opcode_group.StepFf reg = step_ff reg
 
 -- What a ModRM byte chooses whose operand is a register or not, and whose reg this is. LEA takes no register,
 -- and a SETcc does not read reg.

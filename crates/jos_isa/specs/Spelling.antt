@@ -1,7 +1,8 @@
 -- Which bytes spell which instruction. Nothing is said of how they are read.
 -- (Intel 80386 Programmer's Reference Manual, 1986, section 17.2, "Instruction Format": 17.2.1, "ModR/M and SIB
 -- Bytes", with its tables 17-3 and 17-4.)
-use Rattle.std.specs.Prelude.{◌≡◌, ◌≢◌, ℕ, ◌+◌, ◌*◌, ◌<◌, ◌==◌, ◌&&◌, List, [], ◌∷◌, ◌++◌, Option, Some, None, nat_lt, if◌then◌else◌, ◌⊎◌}
+use Rattle.std.specs.Prelude.{◌≡◌, ◌≢◌, ℕ, ◌+◌, ◌*◌, ◌<◌, ◌==◌, ◌&&◌, List, [], ◌∷◌, ◌++◌, Option, Some, None, nat_lt}
+use Rattle.std.specs.Prelude.{if◌then◌else◌, ◌⊎◌}
 use Rattle.std.specs.Int.{w8, w16, w32, from_le_bytes, cast_signed}
 use Rattle.jos_isa.specs.declared.instruction.Insn.{Insn}
 use Rattle.jos_isa.specs.declared.instruction.Repeat.TheVariants.{Once}
@@ -10,18 +11,18 @@ use Rattle.jos_isa.specs.declared.instruction.Operand.TheVariants.{Absent, Reg, 
 use Rattle.jos_isa.specs.declared.instruction.MemArg.{MemArg}
 use Rattle.jos_isa.specs.declared.instruction.Disp.{Disp}
 use Rattle.jos_isa.specs.declared.instruction.Disp.TheVariants as disp
-use Rattle.jos_isa.specs.declared.opcode.Form.{Form}
-use Rattle.jos_isa.specs.declared.opcode.Form.TheVariants.{Plain, ModRm}
-use Rattle.jos_isa.specs.declared.opcode.Fields.{Fields}
-use Rattle.jos_isa.specs.declared.opcode.Immediate.{Immediate}
-use Rattle.jos_isa.specs.declared.opcode.Immediate.TheVariants.{Nothing, Byte, SignedByte, Pair, Word}
-use Rattle.jos_isa.specs.declared.opcode.Map.{Map}
-use Rattle.jos_isa.specs.declared.opcode.Entry.TheVariants.{Complete, Behind}
-use Rattle.jos_isa.specs.declared.parts.Distance.{Distance}
-use Rattle.jos_isa.specs.declared.parts.Distance.TheVariants as distance
-use Rattle.jos_isa.specs.declared.parts.Sib.{Sib}
-use Rattle.jos_isa.specs.declared.parts.Chosen.{Chosen}
-use Rattle.jos_isa.specs.OpcodeMap.{entry_at, form_behind, choice_of}
+use Rattle.jos_isa.specs.declared.opcode_map.Format.{Format}
+use Rattle.jos_isa.specs.declared.opcode_map.Format.TheVariants.{Plain, ModRm}
+use Rattle.jos_isa.specs.declared.opcode_map.Fields.{Fields}
+use Rattle.jos_isa.specs.declared.opcode_map.Immediate.{Immediate}
+use Rattle.jos_isa.specs.declared.opcode_map.Immediate.TheVariants.{Nothing, Imm8, SignedImm8, Imm16, Imm32}
+use Rattle.jos_isa.specs.declared.opcode_map.Map.{Map}
+use Rattle.jos_isa.specs.declared.opcode_map.Entry.TheVariants.{Complete, Behind}
+use Rattle.jos_isa.specs.declared.behind_opcode.DispKind.{DispKind}
+use Rattle.jos_isa.specs.declared.behind_opcode.DispKind.TheVariants as disp_kind
+use Rattle.jos_isa.specs.declared.behind_opcode.Sib.{Sib}
+use Rattle.jos_isa.specs.declared.behind_opcode.Chosen.{Chosen}
+use Rattle.jos_isa.specs.OpcodeMap.{entry_at, format_behind, choice_of}
 
 -- ---- immediates
 
@@ -32,35 +33,35 @@ sign_extended byte = if nat_lt byte 128 then byte else byte + 0xffff_ff00
 -- no byte; a byte; a byte that is extended with its sign; two bytes or four, the lowest first
 abbrev pub SpellsImmediate : Immediate → ℕ → List ℕ → Type 0
 SpellsImmediate Nothing value bytes = (value ≡ 0) × (bytes ≡ [])
-SpellsImmediate Byte value bytes = bytes ≡ value ∷ []
-SpellsImmediate SignedByte value bytes = (byte : ℕ) × (value ≡ sign_extended byte) × (bytes ≡ byte ∷ [])
-SpellsImmediate Pair value bytes = (a b : ℕ) × (value ≡ from_le_bytes w16 (a ∷ b ∷ [])) × (bytes ≡ a ∷ b ∷ [])
-SpellsImmediate Word value bytes =
+SpellsImmediate Imm8 value bytes = bytes ≡ value ∷ []
+SpellsImmediate SignedImm8 value bytes = (byte : ℕ) × (value ≡ sign_extended byte) × (bytes ≡ byte ∷ [])
+SpellsImmediate Imm16 value bytes = (a b : ℕ) × (value ≡ from_le_bytes w16 (a ∷ b ∷ [])) × (bytes ≡ a ∷ b ∷ [])
+SpellsImmediate Imm32 value bytes =
     (a b c d : ℕ) × (value ≡ from_le_bytes w32 (a ∷ b ∷ c ∷ d ∷ [])) × (bytes ≡ a ∷ b ∷ c ∷ d ∷ [])
 
 -- ---- operands
 
 -- no byte; a signed byte; four bytes, the lowest first
-abbrev pub SpellsDisp : Distance → Disp → List ℕ → Type 0
-SpellsDisp distance.Nothing value bytes = (value ≡ disp.Zero) × (bytes ≡ [])
-SpellsDisp distance.Byte value bytes = (byte : ℕ) × (value ≡ disp.Byte (cast_signed w8 byte)) × (bytes ≡ byte ∷ [])
-SpellsDisp distance.Word value bytes =
+abbrev pub SpellsDisp : DispKind → Disp → List ℕ → Type 0
+SpellsDisp disp_kind.Nothing value bytes = (value ≡ disp.Zero) × (bytes ≡ [])
+SpellsDisp disp_kind.Disp8 value bytes = (byte : ℕ) × (value ≡ disp.Byte (cast_signed w8 byte)) × (bytes ≡ byte ∷ [])
+SpellsDisp disp_kind.Disp32 value bytes =
     (a b c d : ℕ) × (value ≡ disp.Word (from_le_bytes w32 (a ∷ b ∷ c ∷ d ∷ []))) × (bytes ≡ a ∷ b ∷ c ∷ d ∷ [])
 
 -- Here and below mod is called mode.
 
 -- How mod and the number of the base say what displacement follows: none with mod 0, a byte with mod 1 and a
 -- word with mod 2. But with mod 0 the number 5 is a word without base.
-abbrev pub distance_of : ℕ → ℕ → Distance
-distance_of mode number =
-    if mode == 0 then (if number == 5 then distance.Word else distance.Nothing)
-    else if mode == 1 then distance.Byte
-    else distance.Word
+abbrev pub disp_kind_of : ℕ → ℕ → DispKind
+disp_kind_of mode number =
+    if mode == 0 then (if number == 5 then disp_kind.Disp32 else disp_kind.Nothing)
+    else if mode == 1 then disp_kind.Disp8
+    else disp_kind.Disp32
 
 abbrev pub base_of : ℕ → ℕ → Option ℕ
 base_of mode number = if mode == 0 && number == 5 then None else Some number
 
--- The index 4 is no index, whatever the scale.
+-- An index field of 4 means that there is none; its scale says nothing.
 abbrev pub sib_of : ℕ → ℕ → ℕ → Sib
 sib_of scale index base =
     if index == 4 then record { base = base; index = None; scale = 0 }
@@ -79,7 +80,7 @@ abbrev pub SpellsMemory : ℕ → ℕ → MemArg → List ℕ → Type 0
 SpellsMemory mode rm arg bytes =
     (sib : Sib) × (front back : List ℕ) × (bytes ≡ front ++ back)
     × SpellsSib rm sib front
-    × SpellsDisp (distance_of mode sib.base) arg.disp back
+    × SpellsDisp (disp_kind_of mode sib.base) arg.disp back
     × (arg ≡ record { base = base_of mode sib.base; index = sib.index; scale = sib.scale; disp = arg.disp })
 
 -- With mod 3 the operand is the register rm, else memory.
@@ -106,23 +107,23 @@ SpellsRest chosen insn bytes =
     × (insn ≡ record { row = chosen.choice.row; repeat = Once; operand = insn.operand; reg = chosen.choice.reg; imm = insn.imm })
 
 -- what stands behind the opcode
-abbrev pub SpellsForm : Form → Insn → List ℕ → Type 0
-SpellsForm (Plain row repeat register immediate) insn bytes =
+abbrev pub SpellsFormat : Format → Insn → List ℕ → Type 0
+SpellsFormat (Plain row repeat register immediate) insn bytes =
     SpellsImmediate immediate insn.imm bytes
     × (insn ≡ record { row = row; repeat = repeat; operand = Absent; reg = register; imm = insn.imm })
-SpellsForm (ModRm fields) insn bytes =
+SpellsFormat (ModRm fields) insn bytes =
     (chosen : Chosen) × (front back : List ℕ) × (bytes ≡ front ++ back)
     × SpellsModRm fields chosen front
     × SpellsRest chosen insn back
 
 -- an opcode of one byte, or of one that leads to a map and one of that map
-abbrev pub SpellsOpcode : Form → List ℕ → Type 0
-SpellsOpcode form (byte ∷ []) = entry_at byte ≡ Complete form
-SpellsOpcode form (byte ∷ second ∷ []) = (map : Map) × (entry_at byte ≡ Behind map) × (form_behind map second ≡ Some form)
-SpellsOpcode form _ = ⊥
+abbrev pub SpellsOpcode : Format → List ℕ → Type 0
+SpellsOpcode format (byte ∷ []) = entry_at byte ≡ Complete format
+SpellsOpcode format (byte ∷ second ∷ []) = (map : Map) × (entry_at byte ≡ Behind map) × (format_behind map second ≡ Some format)
+SpellsOpcode format _ = ⊥
 
 abbrev pub Spells : Insn → List ℕ → Type 0
 Spells insn bytes =
-    (form : Form) × (front back : List ℕ) × (bytes ≡ front ++ back)
-    × SpellsOpcode form front
-    × SpellsForm form insn back
+    (format : Format) × (front back : List ℕ) × (bytes ≡ front ++ back)
+    × SpellsOpcode format front
+    × SpellsFormat format insn back

@@ -3,13 +3,14 @@
 ghost use Rattle.std.specs.Prelude.{◌≡◌, ℕ, ◌<◌, ◌≤◌, List, [], ◌∷◌, ◌++◌, length, Result, Ok, Err, IfOk, IsTrue, take};
 ghost use Rattle.jos_isa.specs.declared.instruction.Insn.{Insn};
 ghost use Rattle.jos_isa.specs.Spelling.{Spells};
-ghost use Rattle.jos_isa.specs.Reading.{rest_at, form_read, entry_read, opcode_at, instruction_at, decoded};
+ghost use Rattle.jos_isa.specs.Decoding.{rest_at, insn_in_format, format_in_entry, opcode_at, instruction_at, decoded};
 ghost use Rattle.jos_isa.specs.Lawful.{is_lawful};
-ghost use Rattle.jos_isa.specs.Laws.{Gives, IfFound, AreBytes};
+ghost use Rattle.jos_isa.specs.ClauseWords.{Gives, IfFound, AreBytes};
 
+use crate::behind_opcode::{Chosen, Stop, byte_at, immediate_at, modrm_at, operand_at};
 use crate::instruction::{Insn, Operand, Repeat};
-use crate::opcode::{Entry, Form, entry_of, second_form};
-use crate::parts::{Chosen, Stop, read_byte, read_immediate, read_modrm, read_operand};
+use crate::lengths::LONGEST;
+use crate::opcode_map::{Entry, Format, entry_at, format_behind};
 
 /// What some bytes begin with.
 #[derive(Clone, Copy, Debug, PartialEq, Eq)]
@@ -22,41 +23,43 @@ pub enum Decoded {
     Illegal,
 }
 
-#[tactic(auto, unfolding(crate::specs::Reading::entry_read))]
-fn read_entry(entry: Entry, bytes: &[u8]) -> Result<(Form, &[u8]), Stop>
-    ensures gives { Gives (λ x. (x.0, x.1.now)) result (entry_read entry bytes.now) }
+/// The format of an entry of the first byte, or, where that leads to a map, of the second byte.
+#[tactic(auto, unfolding(crate::specs::Decoding::format_in_entry))]
+fn format_in_entry(entry: Entry, bytes: &[u8]) -> Result<(Format, &[u8]), Stop>
+    ensures gives { Gives (λ x. (x.0, x.1.now)) result (format_in_entry entry bytes.now) }
     ensures shorter { IfOk result (λ x. length x.1.now ≤ length bytes.now) }
 {
     match entry {
         Entry::Unassigned => Err(Stop::Illegal),
-        Entry::Complete(form) => Ok((form, bytes)),
+        Entry::Complete(format) => Ok((format, bytes)),
         Entry::Behind(map) => {
-            let (second, rest) = read_byte(bytes)?;
-            match second_form(map, second) {
-                Some(form) => Ok((form, rest)),
+            let (second, rest) = byte_at(bytes)?;
+            match format_behind(map, second) {
+                Some(format) => Ok((format, rest)),
                 None => Err(Stop::Illegal),
             }
         }
     }
 }
 
-#[tactic(auto, unfolding(crate::specs::Reading::opcode_at))]
-fn read_opcode(bytes: &[u8]) -> Result<(Form, &[u8]), Stop>
+#[tactic(auto, unfolding(crate::specs::Decoding::opcode_at))]
+fn opcode_at(bytes: &[u8]) -> Result<(Format, &[u8]), Stop>
     ensures gives { Gives (λ x. (x.0, x.1.now)) result (opcode_at bytes.now) }
     ensures shorter { IfOk result (λ x. length x.1.now ≤ length bytes.now) }
 {
-    let (byte, rest) = read_byte(bytes)?;
-    read_entry(entry_of(byte), rest)
+    let (byte, rest) = byte_at(bytes)?;
+    format_in_entry(entry_at(byte), rest)
 }
 
-#[tactic(auto, unfolding(crate::specs::Reading::rest_at))]
-fn read_rest(chosen: Chosen, bytes: &[u8]) -> Result<(Insn, &[u8]), Stop>
+/// The operand and the immediate behind a ModRM byte.
+#[tactic(auto, unfolding(crate::specs::Decoding::rest_at))]
+fn rest_at(chosen: Chosen, bytes: &[u8]) -> Result<(Insn, &[u8]), Stop>
     ensures gives { Gives (λ x. (x.0, x.1.now)) result (rest_at chosen bytes.now) }
     ensures shorter { IfOk result (λ x. length x.1.now ≤ length bytes.now) }
 {
     let Chosen { choice, mode, rm } = chosen;
-    let (operand, rest) = read_operand(mode, rm, bytes)?;
-    let (imm, rest) = read_immediate(choice.immediate, rest)?;
+    let (operand, rest) = operand_at(mode, rm, bytes)?;
+    let (imm, rest) = immediate_at(choice.immediate, rest)?;
     Ok((
         Insn {
             row: choice.row,
@@ -69,14 +72,15 @@ fn read_rest(chosen: Chosen, bytes: &[u8]) -> Result<(Insn, &[u8]), Stop>
     ))
 }
 
-#[tactic(auto, unfolding(crate::specs::Reading::form_read))]
-fn read_form(form: Form, bytes: &[u8]) -> Result<(Insn, &[u8]), Stop>
-    ensures gives { Gives (λ x. (x.0, x.1.now)) result (form_read form bytes.now) }
+/// What stands behind an opcode of this format.
+#[tactic(auto, unfolding(crate::specs::Decoding::insn_in_format))]
+fn insn_in_format(format: Format, bytes: &[u8]) -> Result<(Insn, &[u8]), Stop>
+    ensures gives { Gives (λ x. (x.0, x.1.now)) result (insn_in_format format bytes.now) }
     ensures shorter { IfOk result (λ x. length x.1.now ≤ length bytes.now) }
 {
-    match form {
-        Form::Plain(row, repeat, reg, immediate) => {
-            let (imm, rest) = read_immediate(immediate, bytes)?;
+    match format {
+        Format::Plain(row, repeat, reg, immediate) => {
+            let (imm, rest) = immediate_at(immediate, bytes)?;
             let operand = Operand::Absent;
             Ok((
                 Insn {
@@ -89,28 +93,28 @@ fn read_form(form: Form, bytes: &[u8]) -> Result<(Insn, &[u8]), Stop>
                 rest,
             ))
         }
-        Form::ModRm(fields) => {
-            let (chosen, rest) = read_modrm(fields, bytes)?;
-            read_rest(chosen, rest)
+        Format::ModRm(fields) => {
+            let (chosen, rest) = modrm_at(fields, bytes)?;
+            rest_at(chosen, rest)
         }
     }
 }
 
-#[tactic(auto, unfolding(crate::specs::Reading::instruction_at))]
-fn read_instruction(bytes: &[u8]) -> Result<(Insn, &[u8]), Stop>
+#[tactic(auto, unfolding(crate::specs::Decoding::instruction_at))]
+fn instruction_at(bytes: &[u8]) -> Result<(Insn, &[u8]), Stop>
     ensures gives { Gives (λ x. (x.0, x.1.now)) result (instruction_at bytes.now) }
     ensures shorter { IfOk result (λ x. length x.1.now ≤ length bytes.now) }
 {
-    let (form, rest) = read_opcode(bytes)?;
-    read_form(form, rest)
+    let (format, rest) = opcode_at(bytes)?;
+    insn_in_format(format, rest)
 }
 
-/// What the bytes begin with, by `decoded` of `specs/Reading.antt`.
-#[tactic(auto, unfolding(crate::specs::Reading::decoded))]
+/// What the bytes begin with, by `decoded` of `specs/Decoding.antt`.
+#[tactic(auto, unfolding(crate::specs::Decoding::decoded))]
 fn decode_exactly(bytes: &[u8]) -> Decoded
     ensures { result ≡ decoded bytes.now }
 {
-    match read_instruction(bytes) {
+    match instruction_at(bytes) {
         Ok((insn, rest)) => Decoded::Found(insn, bytes.len() - rest.len()),
         Err(Stop::Short) => Decoded::Short,
         Err(Stop::Illegal) => Decoded::Illegal,
@@ -135,13 +139,14 @@ pub fn decode(bytes: &[u8]) -> Decoded
     ensures short { result ≡ Decoded.Short → (insn : Insn) × (next : ℕ) × (more : List ℕ)
         × AreBytes (next ∷ more) × Spells insn (bytes.now ++ next ∷ more) }
     ensures only_short { (insn : Insn) (next : ℕ) (more : List ℕ) → Spells insn (bytes.now ++ next ∷ more) → result ≡ Decoded.Short }
-    // No instruction is longer than 15 bytes.
-    ensures bounded { result ≡ Decoded.Short → length bytes.now < 15 }
+    // No instruction has more bytes than that.
+    ensures longest { IfFound result (λ _ len. len ≤ LONGEST) }
+    ensures bounded { result ≡ Decoded.Short → length bytes.now < LONGEST }
 {
     decode_exactly(bytes)
 }
 
-/// No spelling is a proper prefix of another, and bytes spell one instruction at most.
+/// Behind the spelling of an instruction no other goes on: where bytes and some more both spell, there are no more.
 pub fn no_spelling_begins_another()
     ensures { (insn other : Insn) (front more : List ℕ) → Spells insn front → Spells other (front ++ more) →
         (more ≡ []) × (insn ≡ other) }

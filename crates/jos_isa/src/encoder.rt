@@ -1,22 +1,27 @@
 //! An instruction to bytes.
 
-ghost use Rattle.std.specs.Prelude.{◌≡◌, ℕ, ◌+◌, ◌*◌, ◌^◌, ◌<◌, ◌≤◌, List, [], ◌∷◌, ◌++◌, length, take, drop, Option, Some, IsTrue, FitsSigned};
+ghost use Rattle.std.specs.Prelude.{◌≡◌, ℕ, ◌+◌, ◌*◌, ◌^◌, ◌<◌, ◌≤◌, List, [], ◌∷◌, ◌++◌, length, take, drop, Option};
+ghost use Rattle.std.specs.Prelude.{Some, IsTrue, FitsSigned};
 ghost use Rattle.std.specs.Int.{w8, w16, w32, to_le_bytes};
 ghost use Rattle.jos_isa.specs.Spelling.{Spells};
-ghost use Rattle.jos_isa.specs.Reading.{decoded};
-ghost use Rattle.jos_isa.specs.Laws.{DispFits, OperandFits, NumbersFit};
-ghost use Rattle.jos_isa.specs.Lawful.{is_numbered, is_named, is_mem_arg, is_operand, fits_form, is_lawful};
-ghost use Rattle.jos_isa.specs.Writing.{opcode_bytes, immediate_bytes, disp_bytes, base_number, index_number, mode_of, has_sib, rm_of, sib_bytes, operand_bytes, chosen_bytes, form_bytes, written};
+ghost use Rattle.jos_isa.specs.Decoding.{decoded};
+ghost use Rattle.jos_isa.specs.ClauseWords.{DispFits, OperandFits, NumbersFit};
+ghost use Rattle.jos_isa.specs.Lawful.{is_numbered, is_named, is_mem_arg, is_operand, fits_format, is_lawful};
+ghost use Rattle.jos_isa.specs.Encoding.{opcode_bytes, immediate_bytes, disp_bytes, sib_bytes, operand_bytes};
+ghost use Rattle.jos_isa.specs.Encoding.{base_number, index_number, mode_of, has_sib, rm_of};
+ghost use Rattle.jos_isa.specs.Encoding.{chosen_bytes, format_bytes, encoded};
 
 use crate::decoder::Decoded;
 use crate::instruction::{Disp, Insn, MemArg, Operand, Repeat};
-use crate::lawfulness::{form_of_insn, is_register};
-use crate::opcode::{Choice, Form, Immediate, choose};
-use crate::placement::{Opcode, place_of, reg_field};
+use crate::lawfulness::{format_for, is_register};
+use crate::lengths::LONGEST;
+use crate::opcode_map::{Choice, Format, Immediate, choice_of};
+use crate::row_opcodes::{Opcode, field_of, opcode_of};
+use jos_base::INSTRUCTION_MAX;
 
 // Each of these writes from place `at` on, gives the place behind what it wrote, and keeps what is behind it.
-fn put_byte(byte: u8, out: &mut [u8; 15], at: usize) -> usize
-    requires room { at < 15 }
+fn put_byte(byte: u8, out: &mut [u8; INSTRUCTION_MAX], at: usize) -> usize
+    requires room { at < INSTRUCTION_MAX }
     ensures written { take result out.new ≡ take at out.old ++ byte ∷ [] }
     ensures behind { result ≡ at + 1 }
     ensures kept { drop result out.new ≡ drop result out.old }
@@ -25,8 +30,8 @@ fn put_byte(byte: u8, out: &mut [u8; 15], at: usize) -> usize
     at + 1
 }
 
-fn put_pair(number: u16, out: &mut [u8; 15], at: usize) -> usize
-    requires room { at ≤ 13 }
+fn put_u16(number: u16, out: &mut [u8; INSTRUCTION_MAX], at: usize) -> usize
+    requires room { at + 2 ≤ INSTRUCTION_MAX }
     ensures written { take result out.new ≡ take at out.old ++ to_le_bytes w16 number }
     ensures behind { result ≡ at + 2 }
     ensures kept { drop result out.new ≡ drop result out.old }
@@ -36,8 +41,8 @@ fn put_pair(number: u16, out: &mut [u8; 15], at: usize) -> usize
     put_byte(b, out, at)
 }
 
-fn put_word(number: u32, out: &mut [u8; 15], at: usize) -> usize
-    requires room { at ≤ 11 }
+fn put_u32(number: u32, out: &mut [u8; INSTRUCTION_MAX], at: usize) -> usize
+    requires room { at + 4 ≤ INSTRUCTION_MAX }
     ensures written { take result out.new ≡ take at out.old ++ to_le_bytes w32 number }
     ensures behind { result ≡ at + 4 }
     ensures kept { drop result out.new ≡ drop result out.old }
@@ -49,8 +54,8 @@ fn put_word(number: u32, out: &mut [u8; 15], at: usize) -> usize
     put_byte(d, out, at)
 }
 
-#[tactic(auto, unfolding(crate::specs::Writing::opcode_bytes))]
-fn put_opcode(repeat: Repeat, opcode: Opcode, out: &mut [u8; 15]) -> usize
+#[tactic(auto, unfolding(crate::specs::Encoding::opcode_bytes))]
+fn put_opcode(repeat: Repeat, opcode: Opcode, out: &mut [u8; INSTRUCTION_MAX]) -> usize
     ensures written { take result out.new ≡ opcode_bytes repeat opcode }
     ensures within { result ≤ 2 }
     ensures kept { drop result out.new ≡ drop result out.old }
@@ -74,9 +79,14 @@ fn put_opcode(repeat: Repeat, opcode: Opcode, out: &mut [u8; 15]) -> usize
     }
 }
 
-#[tactic(auto, unfolding(crate::specs::Writing::immediate_bytes))]
-fn put_immediate(immediate: Immediate, value: u32, out: &mut [u8; 15], at: usize) -> usize
-    requires room { at ≤ 11 }
+#[tactic(auto, unfolding(crate::specs::Encoding::immediate_bytes))]
+fn put_immediate(
+    immediate: Immediate,
+    value: u32,
+    out: &mut [u8; INSTRUCTION_MAX],
+    at: usize,
+) -> usize
+    requires room { at + 4 ≤ INSTRUCTION_MAX }
     ensures written { take result out.new ≡ take at out.old ++ immediate_bytes immediate value }
     ensures within { result ≤ at + 4 }
     ensures behind { at ≤ result }
@@ -84,18 +94,18 @@ fn put_immediate(immediate: Immediate, value: u32, out: &mut [u8; 15], at: usize
 {
     match immediate {
         Immediate::Nothing => at,
-        Immediate::Byte => put_byte((value % 0x100) as u8, out, at),
-        Immediate::SignedByte => put_byte((value % 0x100) as u8, out, at),
-        Immediate::Pair => put_pair((value % 0x1_0000) as u16, out, at),
-        Immediate::Word => put_word(value, out, at),
+        Immediate::Imm8 => put_byte((value % 0x100) as u8, out, at),
+        Immediate::SignedImm8 => put_byte((value % 0x100) as u8, out, at),
+        Immediate::Imm16 => put_u16((value % 0x1_0000) as u16, out, at),
+        Immediate::Imm32 => put_u32(value, out, at),
     }
 }
 
 // ---- operands
 
-#[tactic(auto, unfolding(crate::specs::Writing::disp_bytes))]
-fn put_disp(disp: Disp, out: &mut [u8; 15], at: usize) -> usize
-    requires room { at ≤ 11 }
+#[tactic(auto, unfolding(crate::specs::Encoding::disp_bytes))]
+fn put_disp(disp: Disp, out: &mut [u8; INSTRUCTION_MAX], at: usize) -> usize
+    requires room { at + 4 ≤ INSTRUCTION_MAX }
     ensures written { take result out.new ≡ take at out.old ++ disp_bytes disp }
     ensures within { result ≤ at + 4 }
     ensures behind { at ≤ result }
@@ -104,10 +114,11 @@ fn put_disp(disp: Disp, out: &mut [u8; 15], at: usize) -> usize
     match disp {
         Disp::Zero => at,
         Disp::Byte(value) => put_byte(value.cast_unsigned(), out, at),
-        Disp::Word(value) => put_word(value, out, at),
+        Disp::Word(value) => put_u32(value, out, at),
     }
 }
 
+/// A base is written by its number, and no base as 5.
 fn base_number(base: Option<u8>) -> u8
     ensures { result ≡ base_number base }
 {
@@ -117,6 +128,7 @@ fn base_number(base: Option<u8>) -> u8
     }
 }
 
+/// No index is written as 4.
 fn index_number(index: Option<u8>) -> u8
     ensures { result ≡ index_number index }
 {
@@ -126,6 +138,7 @@ fn index_number(index: Option<u8>) -> u8
     }
 }
 
+/// mod: 0 without base or displacement, 1 with a byte of displacement, 2 with four.
 fn mode_of(base: Option<u8>, disp: Disp) -> u8
     ensures { result ≡ mode_of base disp }
 {
@@ -139,6 +152,7 @@ fn mode_of(base: Option<u8>, disp: Disp) -> u8
     }
 }
 
+/// A SIB byte is written only where there is an index or the base is ESP.
 fn has_sib(arg: MemArg) -> bool
     ensures { result ≡ has_sib arg }
 {
@@ -155,7 +169,7 @@ fn rm_of(arg: MemArg) -> u8
     }
 }
 
-// A byte of three fields, of two, three and three bits.
+/// A byte of three fields, of two, three and three bits.
 fn three_fields(high: u8, middle: u8, low: u8) -> u8
     requires high { high < 4 }
     requires middle { middle < 8 }
@@ -165,9 +179,9 @@ fn three_fields(high: u8, middle: u8, low: u8) -> u8
     64 * high + 8 * middle + low
 }
 
-fn put_sib(arg: MemArg, out: &mut [u8; 15], at: usize) -> usize
+fn put_sib(arg: MemArg, out: &mut [u8; INSTRUCTION_MAX], at: usize) -> usize
     requires lawful { IsTrue (is_mem_arg arg) }
-    requires room { at < 15 }
+    requires room { at < INSTRUCTION_MAX }
     ensures written { take result out.new ≡ take at out.old ++ sib_bytes arg }
     ensures within { result ≤ at + 1 }
     ensures behind { at ≤ result }
@@ -181,7 +195,7 @@ fn put_sib(arg: MemArg, out: &mut [u8; 15], at: usize) -> usize
     }
 }
 
-fn put_memory(arg: MemArg, reg: u8, out: &mut [u8; 15], at: usize) -> usize
+fn put_memory(arg: MemArg, reg: u8, out: &mut [u8; INSTRUCTION_MAX], at: usize) -> usize
     requires lawful { IsTrue (is_mem_arg arg) }
     requires reg { reg < 8 }
     requires room { at ≤ 2 }
@@ -196,8 +210,8 @@ fn put_memory(arg: MemArg, reg: u8, out: &mut [u8; 15], at: usize) -> usize
     put_disp(arg.disp, out, at)
 }
 
-#[tactic(auto, unfolding(crate::specs::Writing::operand_bytes, crate::specs::Lawful::is_operand))]
-fn put_operand(operand: Operand, reg: u8, out: &mut [u8; 15], at: usize) -> usize
+#[tactic(auto, unfolding(crate::specs::Encoding::operand_bytes, crate::specs::Lawful::is_operand))]
+fn put_operand(operand: Operand, reg: u8, out: &mut [u8; INSTRUCTION_MAX], at: usize) -> usize
     requires lawful { IsTrue (is_operand operand) }
     requires reg { reg < 8 }
     requires room { at ≤ 2 }
@@ -215,8 +229,13 @@ fn put_operand(operand: Operand, reg: u8, out: &mut [u8; 15], at: usize) -> usiz
 
 // ---- instructions
 
-#[tactic(auto, unfolding(crate::specs::Writing::chosen_bytes))]
-fn put_chosen(choice: Option<Choice>, value: u32, out: &mut [u8; 15], at: usize) -> usize
+#[tactic(auto, unfolding(crate::specs::Encoding::chosen_bytes))]
+fn put_chosen(
+    choice: Option<Choice>,
+    value: u32,
+    out: &mut [u8; INSTRUCTION_MAX],
+    at: usize,
+) -> usize
     requires room { at ≤ 8 }
     ensures written { take result out.new ≡ take at out.old ++ chosen_bytes choice value }
     ensures within { result ≤ at + 4 }
@@ -229,41 +248,46 @@ fn put_chosen(choice: Option<Choice>, value: u32, out: &mut [u8; 15], at: usize)
     }
 }
 
-#[tactic(auto, unfolding(crate::specs::Writing::form_bytes, crate::specs::Lawful::fits_form))]
-fn put_form(form: Option<Form>, insn: Insn, out: &mut [u8; 15], at: usize) -> usize
+#[tactic(auto, unfolding(crate::specs::Encoding::format_bytes, crate::specs::Lawful::fits_format))]
+fn put_format(
+    format: Option<Format>,
+    insn: Insn,
+    out: &mut [u8; INSTRUCTION_MAX],
+    at: usize,
+) -> usize
     requires numbered { IsTrue (is_numbered insn.row) }
     requires named { IsTrue (is_named insn.row insn.reg) }
-    requires lawful { IsTrue (fits_form insn form) }
+    requires lawful { IsTrue (fits_format insn format) }
     requires room { at ≤ 2 }
-    ensures written { take result out.new ≡ take at out.old ++ form_bytes form insn }
+    ensures written { take result out.new ≡ take at out.old ++ format_bytes format insn }
     ensures within { result ≤ at + 10 }
     ensures behind { at ≤ result }
     ensures kept { drop result out.new ≡ drop result out.old }
 {
-    match form {
+    match format {
         None => at,
-        Some(Form::Plain(_, _, _, immediate)) => put_immediate(immediate, insn.imm, out, at),
-        Some(Form::ModRm(fields)) => {
-            let field = reg_field(fields, insn.row, insn.reg);
+        Some(Format::Plain(_, _, _, immediate)) => put_immediate(immediate, insn.imm, out, at),
+        Some(Format::ModRm(fields)) => {
+            let field = field_of(fields, insn.row, insn.reg);
             let at = put_operand(insn.operand, field, out, at);
-            let choice = choose(fields, is_register(insn.operand), field);
+            let choice = choice_of(fields, is_register(insn.operand), field);
             put_chosen(choice, insn.imm, out, at)
         }
     }
 }
 
-#[tactic(auto, unfolding(crate::specs::Writing::written))]
-fn write(insn: Insn, out: &mut [u8; 15]) -> usize
+#[tactic(auto, unfolding(crate::specs::Encoding::encoded))]
+fn put_instruction(insn: Insn, out: &mut [u8; INSTRUCTION_MAX]) -> usize
     requires lawful { IsTrue (is_lawful insn) }
-    ensures written { take result out.new ≡ written insn }
+    ensures written { take result out.new ≡ encoded insn }
     ensures within { result ≤ 12 }
     ensures kept { drop result out.new ≡ drop result out.old }
 {
-    let at = put_opcode(insn.repeat, place_of(insn.row, insn.reg), out);
-    put_form(form_of_insn(insn), insn, out, at)
+    let at = put_opcode(insn.repeat, opcode_of(insn.row, insn.reg), out);
+    put_format(format_for(insn), insn, out, at)
 }
 
-// What the types say of an instruction's numbers.
+// What the types say of an instruction's numbers, one function for each.
 fn word_fits(number: u32)
     ensures { number < 2 ^ 32 }
 {}
@@ -300,12 +324,12 @@ fn numbers_fit(insn: Insn)
 }
 
 /// Writes a lawful instruction to the first bytes of `out`, and gives their number. Of its spellings it is one
-/// with a SIB byte only where there is an index or the base is ESP. The bytes of `out` behind the instruction stay as
-/// they were. It takes no memory.
-pub fn encode(insn: &Insn, out: &mut [u8; 15]) -> usize
+/// with a SIB byte only where there is an index or the base is ESP. The bytes of `out` behind the instruction stay
+/// as they were. It takes no memory.
+pub fn encode(insn: &Insn, out: &mut [u8; INSTRUCTION_MAX]) -> usize
     requires lawful { IsTrue (is_lawful insn.now) }
-    ensures within { result ≤ 15 }
-    ensures written { take result out.new ≡ written insn.now }
+    ensures within { result ≤ LONGEST }
+    ensures written { take result out.new ≡ encoded insn.now }
     // What is behind them stays.
     ensures kept { drop result out.new ≡ drop result out.old }
 
@@ -316,5 +340,5 @@ pub fn encode(insn: &Insn, out: &mut [u8; 15]) -> usize
 {
     let insn = *insn;
     numbers_fit(insn);
-    write(insn, out)
+    put_instruction(insn, out)
 }

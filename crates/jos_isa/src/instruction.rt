@@ -164,19 +164,19 @@ pub enum Repeat {
 /// Where an instruction's r/m operand is.
 #[derive(Clone, Copy, Debug, PartialEq, Eq)]
 pub enum Operand {
-    /// The form has none.
+    /// The instruction has none.
     Absent,
     /// A register, 0 to 7: EAX, ECX, EDX, EBX, ESP, EBP, ESI, EDI; of bytes AL, CL, DL, BL, AH, CH, DH, BH.
     Reg(u8),
     Mem(MemArg),
 }
 
-/// An operand in memory: at base plus index times 1, 2, 4 or 8, as scale is 0 to 3, plus displacement.
+/// An operand in memory, at the sum of base, index times 2^scale, and displacement.
 #[derive(Clone, Copy, Debug, PartialEq, Eq)]
 pub struct MemArg {
     pub base: Option<u8>,
     pub index: Option<u8>,
-    /// 0 where there is no index.
+    /// 0 to 3; 0 where there is no index.
     pub scale: u8,
     pub disp: Disp,
 }
@@ -184,7 +184,9 @@ pub struct MemArg {
 /// A displacement, and how it is spelled.
 #[derive(Clone, Copy, Debug, PartialEq, Eq)]
 pub enum Disp {
+    /// None is spelled.
     Zero,
+    /// A byte, which is extended with its sign.
     Byte(i8),
     Word(u32),
 }
@@ -195,8 +197,9 @@ pub struct Insn {
     pub row: Row,
     pub repeat: Repeat,
     pub operand: Operand,
-    /// The register that the opcode or the reg field names, 0 to 7; 0 where the form has none.
+    /// The register that the opcode or the reg field names, 0 to 7; 0 where neither names one.
     pub reg: u8,
-    /// The immediate, the distance or the address, extended to a word; 0 where the form has none.
+    /// What ends the instruction, extended to 32 bits: its immediate, the distance of a relative jump or call, or
+    /// its address; 0 where there is none.
     pub imm: u32,
 }

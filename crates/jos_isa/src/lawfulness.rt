@@ -2,13 +2,16 @@
 
 ghost use Rattle.std.specs.Prelude.{◌≡◌, ℕ, List, IsTrue};
 ghost use Rattle.jos_isa.specs.Spelling.{Spells};
-ghost use Rattle.jos_isa.specs.Laws.{AreBytes};
-ghost use Rattle.jos_isa.specs.Lawful.{is_numbered, is_named, is_immediate, is_base, is_index, is_operand, is_absent, is_register, is_same_repeat, fits_choice, fits_form, form_for, is_lawful};
+ghost use Rattle.jos_isa.specs.ClauseWords.{AreBytes};
+ghost use Rattle.jos_isa.specs.Lawful.{is_numbered, is_named, is_immediate, is_base, is_index, is_operand};
+ghost use Rattle.jos_isa.specs.Lawful.{is_absent, is_register, is_same_repeat, fits_choice, fits_format};
+ghost use Rattle.jos_isa.specs.Lawful.{format_for, is_lawful};
 
 use crate::instruction::{Disp, Insn, Operand, Repeat, Row};
-use crate::opcode::{Choice, Form, Immediate, choose, is_shift};
-use crate::placement::{find_form, place_of, reg_field};
+use crate::opcode_map::{Choice, Format, Immediate, choice_of, is_shift};
+use crate::row_opcodes::{field_of, format_in, opcode_of};
 
+/// An operation is 0 to 7, a condition 0 to 15, and a shift one that the map has.
 #[tactic(auto, unfolding(crate::specs::Lawful::is_numbered))]
 fn is_numbered(row: Row) -> bool
     ensures { result ≡ is_numbered row }
@@ -36,6 +39,7 @@ fn is_numbered(row: Row) -> bool
     }
 }
 
+/// A register is below 8, and EAX is not exchanged with itself.
 #[tactic(auto, unfolding(crate::specs::Lawful::is_named))]
 fn is_named(row: Row, reg: u8) -> bool
     ensures { result ≡ is_named row reg }
@@ -46,19 +50,21 @@ fn is_named(row: Row, reg: u8) -> bool
     }
 }
 
+/// An immediate that is extended is held extended.
 #[tactic(auto, unfolding(crate::specs::Lawful::is_immediate))]
 fn is_immediate(immediate: Immediate, value: u32) -> bool
     ensures { result ≡ is_immediate immediate value }
 {
     match immediate {
         Immediate::Nothing => value == 0,
-        Immediate::Byte => value < 0x100,
-        Immediate::SignedByte => value < 0x80 || value >= 0xffff_ff80,
-        Immediate::Pair => value < 0x1_0000,
-        Immediate::Word => true,
+        Immediate::Imm8 => value < 0x100,
+        Immediate::SignedImm8 => value < 0x80 || value >= 0xffff_ff80,
+        Immediate::Imm16 => value < 0x1_0000,
+        Immediate::Imm32 => true,
     }
 }
 
+/// Without base there is a displacement of four bytes, and with the base EBP one of a byte or four.
 #[tactic(auto, unfolding(crate::specs::Lawful::is_base))]
 fn is_base(base: Option<u8>, disp: Disp) -> bool
     ensures { result ≡ is_base base disp }
@@ -77,6 +83,7 @@ fn is_base(base: Option<u8>, disp: Disp) -> bool
     }
 }
 
+/// ESP is no index, and without index the scale is 0.
 #[tactic(auto, unfolding(crate::specs::Lawful::is_index))]
 fn is_index(index: Option<u8>, scale: u8) -> bool
     ensures { result ≡ is_index index scale }
@@ -87,6 +94,7 @@ fn is_index(index: Option<u8>, scale: u8) -> bool
     }
 }
 
+/// An operand that a ModRM byte can name.
 #[tactic(auto, unfolding(crate::specs::Lawful::is_operand))]
 fn is_operand(operand: Operand) -> bool
     ensures { result ≡ is_operand operand }
@@ -129,6 +137,7 @@ fn is_same_repeat(one: Repeat, other: Repeat) -> bool
     }
 }
 
+/// The register and the immediate are those of what the ModRM byte chooses.
 #[tactic(auto, unfolding(crate::specs::Lawful::fits_choice))]
 fn fits_choice(insn: Insn, choice: Option<Choice>) -> bool
     ensures { result ≡ fits_choice insn choice }
@@ -139,21 +148,22 @@ fn fits_choice(insn: Insn, choice: Option<Choice>) -> bool
     }
 }
 
-#[tactic(auto, unfolding(crate::specs::Lawful::fits_form))]
-fn fits_form(insn: Insn, form: Option<Form>) -> bool
-    ensures { result ≡ fits_form insn form }
+/// The fields are those of the format that the map has for the instruction.
+#[tactic(auto, unfolding(crate::specs::Lawful::fits_format))]
+fn fits_format(insn: Insn, format: Option<Format>) -> bool
+    ensures { result ≡ fits_format insn format }
 {
-    match form {
+    match format {
         None => false,
-        Some(Form::Plain(_, repeat, register, immediate)) => {
+        Some(Format::Plain(_, repeat, register, immediate)) => {
             is_same_repeat(repeat, insn.repeat)
                 && is_absent(insn.operand)
                 && register == insn.reg
                 && is_immediate(immediate, insn.imm)
         }
-        Some(Form::ModRm(fields)) => {
-            let field = reg_field(fields, insn.row, insn.reg);
-            let choice = choose(fields, is_register(insn.operand), field);
+        Some(Format::ModRm(fields)) => {
+            let field = field_of(fields, insn.row, insn.reg);
+            let choice = choice_of(fields, is_register(insn.operand), field);
             is_same_repeat(Repeat::Once, insn.repeat)
                 && is_operand(insn.operand)
                 && fits_choice(insn, choice)
@@ -161,29 +171,23 @@ fn fits_form(insn: Insn, form: Option<Form>) -> bool
     }
 }
 
-/// The form that the opcode map has for an instruction.
-#[tactic(auto, unfolding(crate::specs::Lawful::form_for))]
-pub(crate) fn form_of_insn(insn: Insn) -> Option<Form>
-    ensures { result ≡ form_for insn }
+/// The format that the opcode map has for an instruction.
+#[tactic(auto, unfolding(crate::specs::Lawful::format_for))]
+pub(crate) fn format_for(insn: Insn) -> Option<Format>
+    ensures { result ≡ format_for insn }
 {
-    find_form(insn.repeat, place_of(insn.row, insn.reg))
-}
-
-#[tactic(auto, unfolding(crate::specs::Lawful::is_lawful))]
-fn fits(insn: Insn) -> bool
-    ensures { result ≡ is_lawful insn }
-{
-    is_numbered(insn.row) && is_named(insn.row, insn.reg) && fits_form(insn, form_of_insn(insn))
+    format_in(insn.repeat, opcode_of(insn.row, insn.reg))
 }
 
 /// Whether an instruction has a spelling: its row's number is one that the map has, its operand, register,
 /// immediate and repetition are such as its row takes, and unused fields are 0 or absent. A lawful one can be
 /// given to `encode`.
+#[tactic(auto, unfolding(crate::specs::Lawful::is_lawful))]
 pub fn lawful(insn: &Insn) -> bool
     ensures exact { result ≡ is_lawful insn.now }
 
     // What bytes spell is lawful.
     ensures spelled { (bytes : List ℕ) → AreBytes bytes → Spells insn.now bytes → IsTrue result }
 {
-    fits(*insn)
+    is_numbered(insn.row) && is_named(insn.row, insn.reg) && fits_format(*insn, format_for(*insn))
 }

@@ -2,74 +2,83 @@
 
 ghost use Rattle.std.specs.Prelude.{◌≡◌, ◌+◌, ◌/◌, ◌==◌, if◌then◌else◌};
 ghost use Rattle.jos_isa.specs.OpcodeMap.{entry_at};
-ghost use Rattle.jos_isa.specs.Lengths.{immediate_size, form_rest, entry_rest, distance_size, memory_rest, choice_rest, second_rest, sure_length, AreShortBelow};
+ghost use Rattle.jos_isa.specs.Lengths.{immediate_size, format_rest, entry_rest, disp_size, memory_rest, choice_rest};
+ghost use Rattle.jos_isa.specs.Lengths.{second_rest, least_length, AreShortBelow};
 
-use crate::opcode::{Choice, Entry, Form, Immediate, choose, entry_of};
-use crate::parts::{Distance, distance_behind};
+use crate::behind_opcode::{DispKind, disp_kind_of};
+use crate::opcode_map::{Choice, Entry, Format, Immediate, choice_of, entry_at};
 
-fn size_of_immediate(immediate: Immediate) -> usize
+/// The most bytes that an instruction has: one each of opcode, ModRM and SIB, four of displacement and four of
+/// immediate.
+pub const LONGEST: usize = 11;
+
+fn immediate_size(immediate: Immediate) -> usize
     ensures { result ≡ immediate_size immediate }
 {
     match immediate {
         Immediate::Nothing => 0,
-        Immediate::Byte => 1,
-        Immediate::SignedByte => 1,
-        Immediate::Pair => 2,
-        Immediate::Word => 4,
+        Immediate::Imm8 => 1,
+        Immediate::SignedImm8 => 1,
+        Immediate::Imm16 => 2,
+        Immediate::Imm32 => 4,
     }
 }
 
-fn rest_of_form(form: Form) -> usize
-    ensures { result ≡ form_rest form }
+/// Behind the opcode: an immediate, or a ModRM byte.
+fn format_rest(format: Format) -> usize
+    ensures { result ≡ format_rest format }
 {
-    match form {
-        Form::Plain(_, _, _, immediate) => size_of_immediate(immediate),
-        Form::ModRm(_) => 1,
+    match format {
+        Format::Plain(_, _, _, immediate) => immediate_size(immediate),
+        Format::ModRm(_) => 1,
     }
 }
 
-fn rest_of_entry(entry: Entry) -> usize
+/// Behind the first byte.
+fn entry_rest(entry: Entry) -> usize
     ensures { result ≡ entry_rest entry }
 {
     match entry {
         Entry::Unassigned => 0,
-        Entry::Complete(form) => rest_of_form(form),
+        Entry::Complete(format) => format_rest(format),
         Entry::Behind(_) => 1,
     }
 }
 
-fn size_of_distance(distance: Distance) -> usize
-    ensures { result ≡ distance_size distance }
+fn disp_size(kind: DispKind) -> usize
+    ensures { result ≡ disp_size kind }
 {
-    match distance {
-        Distance::Nothing => 0,
-        Distance::Byte => 1,
-        Distance::Word => 4,
+    match kind {
+        DispKind::Nothing => 0,
+        DispKind::Disp8 => 1,
+        DispKind::Disp32 => 4,
     }
 }
 
-fn rest_of_memory(mode: u8, rm: u8) -> usize
+/// Behind the ModRM byte of an operand in memory: a SIB byte and a displacement.
+fn memory_rest(mode: u8, rm: u8) -> usize
     ensures { result ≡ memory_rest mode rm }
 {
     let sib = if rm == 4 { 1 } else { 0 };
-    sib + size_of_distance(distance_behind(mode, rm))
+    sib + disp_size(disp_kind_of(mode, rm))
 }
 
-fn rest_of_choice(choice: Option<Choice>, mode: u8, rm: u8) -> usize
+fn choice_rest(choice: Option<Choice>, mode: u8, rm: u8) -> usize
     ensures { result ≡ choice_rest choice mode rm }
 {
     match choice {
         None => 0,
-        Some(choice) => rest_of_memory(mode, rm) + size_of_immediate(choice.immediate),
+        Some(choice) => memory_rest(mode, rm) + immediate_size(choice.immediate),
     }
 }
 
-fn rest_of_second(entry: Entry, second: u8) -> usize
+/// Behind a second byte, where it is the ModRM byte of an operand in memory.
+fn second_rest(entry: Entry, second: u8) -> usize
     ensures { result ≡ second_rest entry second }
 {
     match entry {
-        Entry::Complete(Form::ModRm(fields)) => rest_of_choice(
-            choose(fields, false, second / 8 % 8),
+        Entry::Complete(Format::ModRm(fields)) => choice_rest(
+            choice_of(fields, false, second / 8 % 8),
             second / 64,
             second % 8,
         ),
@@ -77,32 +86,27 @@ fn rest_of_second(entry: Entry, second: u8) -> usize
     }
 }
 
+/// By two bytes. With mod 3 the operand is a register, and the length is not looked for.
 fn length_by_two(first: u8, second: u8) -> usize
     ensures { result ≡ (if second / 64 == 3 then 0 else 2 + second_rest (entry_at first) second) }
 {
     if second / 64 == 3 {
         0
     } else {
-        2 + rest_of_second(entry_of(first), second)
-    }
-}
-
-#[tactic(auto, unfolding(crate::specs::Lengths::sure_length))]
-fn find_length(bytes: &[u8]) -> usize
-    ensures { result ≡ sure_length bytes.now }
-{
-    match bytes {
-        [first] => 1 + rest_of_entry(entry_of(*first)),
-        [first, second] => length_by_two(*first, *second),
-        _ => 0,
+        2 + second_rest(entry_at(first), second)
     }
 }
 
 /// A length that is surely needed: what begins with these bytes and has fewer is `Short`. It is found for a
 /// first byte, and for two of which the second is the ModRM byte of an operand in memory; else it is 0.
+#[tactic(auto, unfolding(crate::specs::Lengths::least_length))]
 pub fn least_length(bytes: &[u8]) -> usize
-    ensures exact { result ≡ sure_length bytes.now }
+    ensures exact { result ≡ least_length bytes.now }
     ensures short { AreShortBelow result bytes.now }
 {
-    find_length(bytes)
+    match bytes {
+        [first] => 1 + entry_rest(entry_at(*first)),
+        [first, second] => length_by_two(*first, *second),
+        _ => 0,
+    }
 }

@@ -6,9 +6,10 @@ mod texts;
 ghost use Rattle.std.specs.Prelude.{◌<◌, ◌≤◌};
 
 use crate::{
-    Decoded, Disp, Insn, MemArg, Operand, Repeat, Row, decode, encode, lawful, least_length,
+    Decoded, Disp, Insn, MemArg, Operand, Repeat, Row, decode, encode, lawful, least_length, mov,
     no_spelling_begins_another,
 };
+use jos_base::INSTRUCTION_MAX;
 use std::process::Abort;
 
 fn digit(code: u8) -> u8
@@ -63,10 +64,10 @@ fn finds(rt: &impl Abort, text: &str, want: usize) {
         answer(rt, &bytes[..end], Decoded::Short);
     }
     assert!(rt; lawful(&insn), "of {text}");
-    let mut out = [0; 15];
-    let written = encode(&insn, &mut out);
-    answer(rt, &out[..written], Decoded::Found(insn, written));
-    assert!(rt; written <= want, "of {text}");
+    let mut out = [0; INSTRUCTION_MAX];
+    let encoded = encode(&insn, &mut out);
+    answer(rt, &out[..encoded], Decoded::Found(insn, encoded));
+    assert!(rt; encoded <= want, "of {text}");
 }
 
 #[test]
@@ -77,13 +78,14 @@ fn other_programs_agree(rt: HostRuntime) {
             finds(&rt, text, len);
         }
     }
-    for text in texts::ILLEGAL.split(' ') {
-        let (bytes, len) = read_hex(text);
-        answer(&rt, &bytes[..len], Decoded::Illegal);
-    }
-    for text in texts::SHORT.split(' ') {
-        let (bytes, len) = read_hex(text);
-        answer(&rt, &bytes[..len], Decoded::Short);
+    for (all, want) in [
+        (texts::ILLEGAL, Decoded::Illegal),
+        (texts::SHORT, Decoded::Short),
+    ] {
+        for text in all.split(' ') {
+            let (bytes, len) = read_hex(text);
+            answer(&rt, &bytes[..len], want);
+        }
     }
 }
 
@@ -155,9 +157,16 @@ fn spells(rt: &impl Abort, text: &str, insn: Insn, canonical: &str) {
     answer(rt, &bytes[..len], Decoded::Found(insn, len));
     let (bytes, len) = read_hex(canonical);
     assert!(rt; lawful(&insn), "of {text}");
-    let mut out = [0; 15];
-    let written = encode(&insn, &mut out);
-    assert_eq!(rt; &out[..written], &bytes[..len], "of {text}");
+    let mut out = [0; INSTRUCTION_MAX];
+    let encoded = encode(&insn, &mut out);
+    assert_eq!(rt; &out[..encoded], &bytes[..len], "of {text}");
+}
+
+// Each instruction is written with the bytes from which it is read.
+fn all_spell(rt: &impl Abort, cases: &[(&str, Insn)]) {
+    for (text, insn) in cases {
+        spells(rt, text, *insn, text);
+    }
 }
 
 // The comments are GNU objdump's.
@@ -185,14 +194,14 @@ fn plain_fields_are_read(rt: HostRuntime) {
         ("f2ae", repeated(Row::Scasb, Repeat::WhileNot)),
         ("a5", repeated(Row::Movsd, Repeat::Once)),
     ];
-    for (text, insn) in cases {
-        spells(&rt, text, insn, text);
-    }
+    all_spell(&rt, &cases);
     // nop; pause; xchg %ax,%ax; repz ret
     spells(&rt, "90", NOP, "90");
     spells(&rt, "f390", NOP, "90");
     spells(&rt, "6690", NOP, "90");
     spells(&rt, "f3c3", plain(Row::Ret, 0, 0), "c3");
+    // mov $0x1,%ecx
+    spells(&rt, "b901000000", mov(1, 1), "b901000000");
 }
 
 #[test]
@@ -258,9 +267,7 @@ fn operands_are_read(rt: HostRuntime) {
             indexed(Row::IncRm32, esp, Some(1), 1, Disp::Zero, 0, 0),
         ),
     ];
-    for (text, insn) in cases {
-        spells(&rt, text, insn, text);
-    }
+    all_spell(&rt, &cases);
     // A SIB byte without need, a scale without index, a SETcc whose reg says something.
     let eax = memory(Row::MovR32Rm32, Some(3), Disp::Zero, 0, 0);
     spells(&rt, "8b0423", eax, "8b03");
@@ -450,29 +457,24 @@ fn every_beginning_is_read(rt: HostRuntime) {
 // Instructions that are refused are not waited for.
 #[test]
 fn first_bytes_tell_a_length(rt: HostRuntime) {
-    let ones = [
-        (0x90u8, 1usize),
-        (0x74, 2),
-        (0xc2, 3),
-        (0xe8, 5),
-        (0x8b, 2),
-        (0x0f, 2),
-        (0xd6, 1),
+    let cases: [(&[u8], usize); 15] = [
+        (&[], 0),
+        (&[0x90], 1),
+        (&[0x74], 2),
+        (&[0xc2], 3),
+        (&[0xe8], 5),
+        (&[0x8b], 2),
+        (&[0x0f], 2),
+        (&[0xd6], 1),
+        (&[0x8b, 0x45], 3),
+        (&[0x8b, 0x0d], 6),
+        (&[0x8b, 0x04], 3),
+        (&[0xc7, 0x45], 7),
+        (&[0xc6, 0x48], 2),
+        (&[0x74, 0x05], 2),
+        (&[0x81, 0xec], 0),
     ];
-    for (first, want) in ones {
-        assert_eq!(rt; least_length(&[first]), want, "of {first}");
+    for (bytes, want) in cases {
+        assert_eq!(rt; least_length(bytes), want, "of {bytes:?}");
     }
-    let twos = [
-        ([0x8b, 0x45], 3usize),
-        ([0x8b, 0x0d], 6),
-        ([0x8b, 0x04], 3),
-        ([0xc7, 0x45], 7),
-        ([0xc6, 0x48], 2),
-        ([0x74, 0x05], 2),
-        ([0x81, 0xec], 0),
-    ];
-    for (two, want) in twos {
-        assert_eq!(rt; least_length(&two), want, "of {two:?}");
-    }
-    assert_eq!(rt; least_length(&[]), 0);
 }

@@ -4,24 +4,25 @@
 ghost use Rattle.std.specs.Prelude.{◌≡◌, IfSome};
 ghost use Rattle.jos_cpu.specs.declared.forms.Form.TheVariants.{Compute};
 ghost use Rattle.jos_cpu.specs.Forms.{form_of};
-ghost use Rattle.jos_cpu.specs.Accesses.{IsInput};
+ghost use Rattle.jos_cpu.specs.AtHand.{IsInput};
 ghost use Rattle.jos_cpu.specs.Bursts.{IsQuick};
 
-use crate::accesses::{Accesses, Inputs, Reach, at_used_operand, operand_usage, reads, writes};
-use crate::computing::make_computation;
+use crate::accesses::{AccessAt, Accesses, is_read, is_written, usage_of, used_operand};
+use crate::acts::make_computation;
 use crate::events::Gates;
 use crate::forms::{Act, Form, Place};
 use crate::memory::Mem;
+use crate::transfers::Inputs;
 use jos_alu::{Width, advance};
 use jos_base::Regs;
 use jos_isa::Insn;
 
 /// What an access reads, where that is at hand: 0 where it only writes.
 #[inline(always)]
-fn input_at_hand<M: Mem>(mem: &M, reach: Reach) -> Option<u32>
+fn input_at_hand<M: Mem>(mem: &M, reach: AccessAt) -> Option<u32>
     ensures { IfSome result (IsInput M.table mem.now reach.usage reach.width reach.va) }
 {
-    if reads(reach.usage) {
+    if is_read(reach.usage) {
         mem.get_at_hand(reach.width, reach.va)
     } else {
         Some(0)
@@ -40,11 +41,11 @@ fn compute_at_hand<M: Mem>(
     gates: Gates,
 ) -> bool
     requires { form_of insn.now.row ≡ Compute act width places.0 places.1 places.2 }
-    ensures { IsQuick M.table insn.now len gates result regs.old regs.new mem.old mem.new }
+    ensures { IsQuick M.table insn.now len gates result (record { regs = regs.old; memory = mem.old }) (record { regs = regs.new; memory = mem.new }) }
 {
     let (target, left, right) = places;
-    let usage = operand_usage(target, left, right);
-    match at_used_operand(usage, width, &insn.operand, regs) {
+    let usage = usage_of(target, left, right);
+    match used_operand(usage, width, &insn.operand, regs) {
         Accesses::None => {
             advance(regs, len);
             let inputs = Inputs::Numbers(0, 0);
@@ -60,7 +61,7 @@ fn compute_at_hand<M: Mem>(
                 let value = make_computation(
                     act, width, target, left, right, insn, &mut next, &inputs,
                 );
-                if writes(reach.usage) {
+                if is_written(reach.usage) {
                     if !mem.put_at_hand(reach.width, reach.va, value) {
                         return false;
                     }
@@ -85,7 +86,7 @@ pub(crate) fn execute_at_hand<M: Mem>(
     gates: Gates,
 ) -> bool
     requires { form.now ≡ form_of insn.now.row }
-    ensures { IsQuick M.table insn.now len gates result regs.old regs.new mem.old mem.new }
+    ensures { IsQuick M.table insn.now len gates result (record { regs = regs.old; memory = mem.old }) (record { regs = regs.new; memory = mem.new }) }
 {
     match form {
         Form::Compute(act, width, target, left, right) => compute_at_hand(

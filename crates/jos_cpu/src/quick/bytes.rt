@@ -5,15 +5,17 @@ ghost use Rattle.jos_cpu.specs.Bursts.{IsQuick};
 
 use crate::addresses::address_of;
 use crate::events::Gates;
+use crate::forms::{condition_of, drops_result, operation_of};
 use crate::memory::Mem;
-use crate::quick::{CMP, operate_bytes};
+use crate::quick::operate_bytes;
 use jos_alu::{
-    Computed, Width, advance, bit, combine, extend_signed, is_condition, lowest, read_register_at,
-    set_register, set_register_at,
+    Computed, Width, advance, bit_of, combine, condition_holds, lowest, register_at, set_register,
+    set_register_at, sign_extend,
 };
 use jos_base::Regs;
 use jos_isa::{Insn, Operand, Row};
 
+/// As `execute_quickly`, of bytes.
 #[inline(never)]
 pub(crate) fn change_bytes_quickly<M: Mem>(
     insn: &Insn,
@@ -22,20 +24,20 @@ pub(crate) fn change_bytes_quickly<M: Mem>(
     mem: &mut M,
     gates: Gates,
 ) -> bool
-    ensures { IsQuick M.table insn.now len gates result regs.old regs.new mem.old mem.new }
+    ensures { IsQuick M.table insn.now len gates result (record { regs = regs.old; memory = mem.old }) (record { regs = regs.new; memory = mem.new }) }
 {
     match insn.row {
         // MOV
         Row::MovRm8R8 => match &insn.operand {
             Operand::Reg(n) => {
                 advance(regs, len);
-                let value = read_register_at(Width::Byte, regs, insn.reg);
-                set_register_at(Width::Byte, regs, *n, value);
+                let value = register_at(Width::Bits8, regs, insn.reg);
+                set_register_at(Width::Bits8, regs, *n, value);
                 true
             }
             Operand::Mem(arg) => {
-                let value = read_register_at(Width::Byte, regs, insn.reg);
-                if mem.put_at_hand(Width::Byte, address_of(arg, regs), value) {
+                let value = register_at(Width::Bits8, regs, insn.reg);
+                if mem.put_at_hand(Width::Bits8, address_of(arg, regs), value) {
                     advance(regs, len);
                     true
                 } else {
@@ -47,14 +49,14 @@ pub(crate) fn change_bytes_quickly<M: Mem>(
         Row::MovR8Rm8 => match &insn.operand {
             Operand::Reg(n) => {
                 advance(regs, len);
-                let value = read_register_at(Width::Byte, regs, *n);
-                set_register_at(Width::Byte, regs, insn.reg, value);
+                let value = register_at(Width::Bits8, regs, *n);
+                set_register_at(Width::Bits8, regs, insn.reg, value);
                 true
             }
-            Operand::Mem(arg) => match mem.get_at_hand(Width::Byte, address_of(arg, regs)) {
+            Operand::Mem(arg) => match mem.get_at_hand(Width::Bits8, address_of(arg, regs)) {
                 Some(value) => {
                     advance(regs, len);
-                    set_register_at(Width::Byte, regs, insn.reg, value);
+                    set_register_at(Width::Bits8, regs, insn.reg, value);
                     true
                 }
                 None => false,
@@ -63,20 +65,20 @@ pub(crate) fn change_bytes_quickly<M: Mem>(
         },
         Row::MovR8Imm8 => {
             advance(regs, len);
-            let value = lowest(Width::Byte, insn.imm as u64);
-            set_register_at(Width::Byte, regs, insn.reg, value);
+            let value = lowest(Width::Bits8, insn.imm as u64);
+            set_register_at(Width::Bits8, regs, insn.reg, value);
             true
         }
         Row::MovRm8Imm8 => match &insn.operand {
             Operand::Reg(n) => {
                 advance(regs, len);
-                let value = lowest(Width::Byte, insn.imm as u64);
-                set_register_at(Width::Byte, regs, *n, value);
+                let value = lowest(Width::Bits8, insn.imm as u64);
+                set_register_at(Width::Bits8, regs, *n, value);
                 true
             }
             Operand::Mem(arg) => {
-                let value = lowest(Width::Byte, insn.imm as u64);
-                if mem.put_at_hand(Width::Byte, address_of(arg, regs), value) {
+                let value = lowest(Width::Bits8, insn.imm as u64);
+                if mem.put_at_hand(Width::Bits8, address_of(arg, regs), value) {
                     advance(regs, len);
                     true
                 } else {
@@ -85,10 +87,10 @@ pub(crate) fn change_bytes_quickly<M: Mem>(
             }
             Operand::Absent => false,
         },
-        Row::MovAlAddr => match mem.get_at_hand(Width::Byte, insn.imm) {
+        Row::MovAlAddr => match mem.get_at_hand(Width::Bits8, insn.imm) {
             Some(value) => {
                 advance(regs, len);
-                set_register_at(Width::Byte, regs, 0, value);
+                set_register_at(Width::Bits8, regs, 0, value);
                 true
             }
             None => false,
@@ -98,14 +100,14 @@ pub(crate) fn change_bytes_quickly<M: Mem>(
         Row::MovzxR32Rm8 => match &insn.operand {
             Operand::Reg(n) => {
                 advance(regs, len);
-                let value = read_register_at(Width::Byte, regs, *n);
-                set_register(regs, insn.reg, lowest(Width::Byte, value as u64));
+                let value = register_at(Width::Bits8, regs, *n);
+                set_register(regs, insn.reg, lowest(Width::Bits8, value as u64));
                 true
             }
-            Operand::Mem(arg) => match mem.get_at_hand(Width::Byte, address_of(arg, regs)) {
+            Operand::Mem(arg) => match mem.get_at_hand(Width::Bits8, address_of(arg, regs)) {
                 Some(value) => {
                     advance(regs, len);
-                    set_register(regs, insn.reg, lowest(Width::Byte, value as u64));
+                    set_register(regs, insn.reg, lowest(Width::Bits8, value as u64));
                     true
                 }
                 None => false,
@@ -115,14 +117,14 @@ pub(crate) fn change_bytes_quickly<M: Mem>(
         Row::MovsxR32Rm8 => match &insn.operand {
             Operand::Reg(n) => {
                 advance(regs, len);
-                let value = read_register_at(Width::Byte, regs, *n);
-                set_register(regs, insn.reg, extend_signed(Width::Byte, value));
+                let value = register_at(Width::Bits8, regs, *n);
+                set_register(regs, insn.reg, sign_extend(Width::Bits8, value));
                 true
             }
-            Operand::Mem(arg) => match mem.get_at_hand(Width::Byte, address_of(arg, regs)) {
+            Operand::Mem(arg) => match mem.get_at_hand(Width::Bits8, address_of(arg, regs)) {
                 Some(value) => {
                     advance(regs, len);
-                    set_register(regs, insn.reg, extend_signed(Width::Byte, value));
+                    set_register(regs, insn.reg, sign_extend(Width::Bits8, value));
                     true
                 }
                 None => false,
@@ -134,22 +136,29 @@ pub(crate) fn change_bytes_quickly<M: Mem>(
         Row::AluRm8R8(k) => match &insn.operand {
             Operand::Reg(n) => {
                 advance(regs, len);
-                let a = read_register_at(Width::Byte, regs, *n);
-                let b = read_register_at(Width::Byte, regs, insn.reg);
-                let Computed { value, eflags } = operate_bytes(k, a, b, regs.eflags);
+                let a = register_at(Width::Bits8, regs, *n);
+                let b = register_at(Width::Bits8, regs, insn.reg);
+                let operation = operation_of(k);
+                let Computed { value, eflags } = operate_bytes(operation, a, b, regs.eflags);
                 regs.eflags = eflags;
-                if k != CMP {
-                    set_register_at(Width::Byte, regs, *n, value);
+                if !drops_result(operation) {
+                    set_register_at(Width::Bits8, regs, *n, value);
                 }
                 true
             }
             Operand::Mem(arg) => {
                 let va = address_of(arg, regs);
-                match mem.get_at_hand(Width::Byte, va) {
+                match mem.get_at_hand(Width::Bits8, va) {
                     Some(a) => {
-                        let b = read_register_at(Width::Byte, regs, insn.reg);
-                        let Computed { value, eflags } = operate_bytes(k, a, b, regs.eflags);
-                        if k == CMP || mem.put_at_hand(Width::Byte, va, value) {
+                        let b = register_at(Width::Bits8, regs, insn.reg);
+                        let operation = operation_of(k);
+                        let Computed { value, eflags } = operate_bytes(
+                            operation,
+                            a,
+                            b,
+                            regs.eflags,
+                        );
+                        if drops_result(operation) || mem.put_at_hand(Width::Bits8, va, value) {
                             advance(regs, len);
                             regs.eflags = eflags;
                             true
@@ -165,22 +174,29 @@ pub(crate) fn change_bytes_quickly<M: Mem>(
         Row::AluRm8Imm8(k) => match &insn.operand {
             Operand::Reg(n) => {
                 advance(regs, len);
-                let a = read_register_at(Width::Byte, regs, *n);
-                let b = lowest(Width::Byte, insn.imm as u64);
-                let Computed { value, eflags } = operate_bytes(k, a, b, regs.eflags);
+                let a = register_at(Width::Bits8, regs, *n);
+                let b = lowest(Width::Bits8, insn.imm as u64);
+                let operation = operation_of(k);
+                let Computed { value, eflags } = operate_bytes(operation, a, b, regs.eflags);
                 regs.eflags = eflags;
-                if k != CMP {
-                    set_register_at(Width::Byte, regs, *n, value);
+                if !drops_result(operation) {
+                    set_register_at(Width::Bits8, regs, *n, value);
                 }
                 true
             }
             Operand::Mem(arg) => {
                 let va = address_of(arg, regs);
-                match mem.get_at_hand(Width::Byte, va) {
+                match mem.get_at_hand(Width::Bits8, va) {
                     Some(a) => {
-                        let b = lowest(Width::Byte, insn.imm as u64);
-                        let Computed { value, eflags } = operate_bytes(k, a, b, regs.eflags);
-                        if k == CMP || mem.put_at_hand(Width::Byte, va, value) {
+                        let b = lowest(Width::Bits8, insn.imm as u64);
+                        let operation = operation_of(k);
+                        let Computed { value, eflags } = operate_bytes(
+                            operation,
+                            a,
+                            b,
+                            regs.eflags,
+                        );
+                        if drops_result(operation) || mem.put_at_hand(Width::Bits8, va, value) {
                             advance(regs, len);
                             regs.eflags = eflags;
                             true
@@ -196,23 +212,25 @@ pub(crate) fn change_bytes_quickly<M: Mem>(
         Row::AluR8Rm8(k) => match &insn.operand {
             Operand::Reg(n) => {
                 advance(regs, len);
-                let a = read_register_at(Width::Byte, regs, insn.reg);
-                let b = read_register_at(Width::Byte, regs, *n);
-                let Computed { value, eflags } = operate_bytes(k, a, b, regs.eflags);
+                let a = register_at(Width::Bits8, regs, insn.reg);
+                let b = register_at(Width::Bits8, regs, *n);
+                let operation = operation_of(k);
+                let Computed { value, eflags } = operate_bytes(operation, a, b, regs.eflags);
                 regs.eflags = eflags;
-                if k != CMP {
-                    set_register_at(Width::Byte, regs, insn.reg, value);
+                if !drops_result(operation) {
+                    set_register_at(Width::Bits8, regs, insn.reg, value);
                 }
                 true
             }
-            Operand::Mem(arg) => match mem.get_at_hand(Width::Byte, address_of(arg, regs)) {
+            Operand::Mem(arg) => match mem.get_at_hand(Width::Bits8, address_of(arg, regs)) {
                 Some(b) => {
                     advance(regs, len);
-                    let a = read_register_at(Width::Byte, regs, insn.reg);
-                    let Computed { value, eflags } = operate_bytes(k, a, b, regs.eflags);
+                    let a = register_at(Width::Bits8, regs, insn.reg);
+                    let operation = operation_of(k);
+                    let Computed { value, eflags } = operate_bytes(operation, a, b, regs.eflags);
                     regs.eflags = eflags;
-                    if k != CMP {
-                        set_register_at(Width::Byte, regs, insn.reg, value);
+                    if !drops_result(operation) {
+                        set_register_at(Width::Bits8, regs, insn.reg, value);
                     }
                     true
                 }
@@ -222,12 +240,13 @@ pub(crate) fn change_bytes_quickly<M: Mem>(
         },
         Row::AluAlImm8(k) => {
             advance(regs, len);
-            let a = read_register_at(Width::Byte, regs, 0);
-            let b = lowest(Width::Byte, insn.imm as u64);
-            let Computed { value, eflags } = operate_bytes(k, a, b, regs.eflags);
+            let a = register_at(Width::Bits8, regs, 0);
+            let b = lowest(Width::Bits8, insn.imm as u64);
+            let operation = operation_of(k);
+            let Computed { value, eflags } = operate_bytes(operation, a, b, regs.eflags);
             regs.eflags = eflags;
-            if k != CMP {
-                set_register_at(Width::Byte, regs, 0, value);
+            if !drops_result(operation) {
+                set_register_at(Width::Bits8, regs, 0, value);
             }
             true
         }
@@ -236,9 +255,9 @@ pub(crate) fn change_bytes_quickly<M: Mem>(
         Row::TestRm8R8 => match &insn.operand {
             Operand::Reg(n) => {
                 advance(regs, len);
-                let a = read_register_at(Width::Byte, regs, *n);
-                let b = read_register_at(Width::Byte, regs, insn.reg);
-                regs.eflags = combine(Width::Byte, a & b, regs.eflags).eflags;
+                let a = register_at(Width::Bits8, regs, *n);
+                let b = register_at(Width::Bits8, regs, insn.reg);
+                regs.eflags = combine(Width::Bits8, a & b, regs.eflags).eflags;
                 true
             }
             Operand::Mem(_) => false,
@@ -247,9 +266,9 @@ pub(crate) fn change_bytes_quickly<M: Mem>(
         Row::TestRm8Imm8 => match &insn.operand {
             Operand::Reg(n) => {
                 advance(regs, len);
-                let a = read_register_at(Width::Byte, regs, *n);
-                let b = lowest(Width::Byte, insn.imm as u64);
-                regs.eflags = combine(Width::Byte, a & b, regs.eflags).eflags;
+                let a = register_at(Width::Bits8, regs, *n);
+                let b = lowest(Width::Bits8, insn.imm as u64);
+                regs.eflags = combine(Width::Bits8, a & b, regs.eflags).eflags;
                 true
             }
             Operand::Mem(_) => false,
@@ -260,8 +279,8 @@ pub(crate) fn change_bytes_quickly<M: Mem>(
         Row::SetccRm8(c) => match &insn.operand {
             Operand::Reg(n) => {
                 advance(regs, len);
-                let value = bit(is_condition(regs.eflags, c));
-                set_register_at(Width::Byte, regs, *n, value);
+                let value = bit_of(condition_holds(regs.eflags, condition_of(c)));
+                set_register_at(Width::Bits8, regs, *n, value);
                 true
             }
             Operand::Mem(_) => false,

@@ -3,15 +3,17 @@
 ghost use Rattle.std.specs.Prelude.{◌≡◌, true, false};
 ghost use Rattle.jos_cpu.specs.Bursts.{IsQuick};
 
-use crate::accesses::{Inputs, is_done};
+use crate::accesses::is_over;
 use crate::events::Gates;
-use crate::forms::Text;
+use crate::forms::StringOperation;
 use crate::memory::Mem;
 use crate::strings::make_strings;
-use jos_alu::{Width, advance, read_register_at};
+use crate::transfers::Inputs;
+use jos_alu::{Width, advance, register_at};
 use jos_base::Regs;
 use jos_isa::{Insn, Row};
 
+/// As `execute_quickly`, of one repetition.
 #[inline(never)]
 pub(crate) fn repeat_quickly<M: Mem>(
     insn: &Insn,
@@ -20,115 +22,164 @@ pub(crate) fn repeat_quickly<M: Mem>(
     mem: &mut M,
     gates: Gates,
 ) -> bool
-    ensures { IsQuick M.table insn.now len gates result regs.old regs.new mem.old mem.new }
+    ensures { IsQuick M.table insn.now len gates result (record { regs = regs.old; memory = mem.old }) (record { regs = regs.new; memory = mem.new }) }
 {
     match insn.row {
         Row::Stosb => {
-            if is_done(insn.repeat, regs) {
+            if is_over(insn.repeat, regs) {
                 return false;
             }
-            let value = read_register_at(Width::Byte, regs, 0);
-            if mem.put_at_hand(Width::Byte, regs.edi, value) {
+            let value = register_at(Width::Bits8, regs, 0);
+            if mem.put_at_hand(Width::Bits8, regs.edi, value) {
                 let old = *regs;
                 advance(regs, len);
                 let inputs = Inputs::Numbers(0, 0);
-                make_strings(Text::Stos, Width::Byte, insn, &old, regs, &inputs);
+                make_strings(
+                    StringOperation::Stos,
+                    Width::Bits8,
+                    insn,
+                    &old,
+                    regs,
+                    &inputs,
+                );
                 true
             } else {
                 false
             }
         }
         Row::Lodsb => {
-            if is_done(insn.repeat, regs) {
+            if is_over(insn.repeat, regs) {
                 return false;
             }
-            match mem.get_at_hand(Width::Byte, regs.esi) {
+            match mem.get_at_hand(Width::Bits8, regs.esi) {
                 Some(value) => {
                     let old = *regs;
                     advance(regs, len);
                     let inputs = Inputs::Numbers(value, 0);
-                    make_strings(Text::Lods, Width::Byte, insn, &old, regs, &inputs);
+                    make_strings(
+                        StringOperation::Lods,
+                        Width::Bits8,
+                        insn,
+                        &old,
+                        regs,
+                        &inputs,
+                    );
                     true
                 }
                 None => false,
             }
         }
         Row::Lodsd => {
-            if is_done(insn.repeat, regs) {
+            if is_over(insn.repeat, regs) {
                 return false;
             }
-            match mem.get_at_hand(Width::Word, regs.esi) {
+            match mem.get_at_hand(Width::Bits32, regs.esi) {
                 Some(value) => {
                     let old = *regs;
                     advance(regs, len);
                     let inputs = Inputs::Numbers(value, 0);
-                    make_strings(Text::Lods, Width::Word, insn, &old, regs, &inputs);
+                    make_strings(
+                        StringOperation::Lods,
+                        Width::Bits32,
+                        insn,
+                        &old,
+                        regs,
+                        &inputs,
+                    );
                     true
                 }
                 None => false,
             }
         }
         Row::Scasb => {
-            if is_done(insn.repeat, regs) {
+            if is_over(insn.repeat, regs) {
                 return false;
             }
-            match mem.get_at_hand(Width::Byte, regs.edi) {
+            match mem.get_at_hand(Width::Bits8, regs.edi) {
                 Some(value) => {
                     let old = *regs;
                     advance(regs, len);
                     let inputs = Inputs::Numbers(value, 0);
-                    make_strings(Text::Scas, Width::Byte, insn, &old, regs, &inputs);
+                    make_strings(
+                        StringOperation::Scas,
+                        Width::Bits8,
+                        insn,
+                        &old,
+                        regs,
+                        &inputs,
+                    );
                     true
                 }
                 None => false,
             }
         }
         Row::Scasd => {
-            if is_done(insn.repeat, regs) {
+            if is_over(insn.repeat, regs) {
                 return false;
             }
-            match mem.get_at_hand(Width::Word, regs.edi) {
+            match mem.get_at_hand(Width::Bits32, regs.edi) {
                 Some(value) => {
                     let old = *regs;
                     advance(regs, len);
                     let inputs = Inputs::Numbers(value, 0);
-                    make_strings(Text::Scas, Width::Word, insn, &old, regs, &inputs);
+                    make_strings(
+                        StringOperation::Scas,
+                        Width::Bits32,
+                        insn,
+                        &old,
+                        regs,
+                        &inputs,
+                    );
                     true
                 }
                 None => false,
             }
         }
         Row::Cmpsb => {
-            if is_done(insn.repeat, regs) {
+            if is_over(insn.repeat, regs) {
                 return false;
             }
             match (
-                mem.get_at_hand(Width::Byte, regs.esi),
-                mem.get_at_hand(Width::Byte, regs.edi),
+                mem.get_at_hand(Width::Bits8, regs.esi),
+                mem.get_at_hand(Width::Bits8, regs.edi),
             ) {
                 (Some(a), Some(b)) => {
                     let old = *regs;
                     advance(regs, len);
                     let inputs = Inputs::Numbers(a, b);
-                    make_strings(Text::Cmps, Width::Byte, insn, &old, regs, &inputs);
+                    make_strings(
+                        StringOperation::Cmps,
+                        Width::Bits8,
+                        insn,
+                        &old,
+                        regs,
+                        &inputs,
+                    );
                     true
                 }
                 _ => false,
             }
         }
         Row::Cmpsd => {
-            if is_done(insn.repeat, regs) {
+            if is_over(insn.repeat, regs) {
                 return false;
             }
             match (
-                mem.get_at_hand(Width::Word, regs.esi),
-                mem.get_at_hand(Width::Word, regs.edi),
+                mem.get_at_hand(Width::Bits32, regs.esi),
+                mem.get_at_hand(Width::Bits32, regs.edi),
             ) {
                 (Some(a), Some(b)) => {
                     let old = *regs;
                     advance(regs, len);
                     let inputs = Inputs::Numbers(a, b);
-                    make_strings(Text::Cmps, Width::Word, insn, &old, regs, &inputs);
+                    make_strings(
+                        StringOperation::Cmps,
+                        Width::Bits32,
+                        insn,
+                        &old,
+                        regs,
+                        &inputs,
+                    );
                     true
                 }
                 _ => false,

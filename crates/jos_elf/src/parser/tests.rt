@@ -3,23 +3,25 @@
 ghost use Rattle.std.specs.Prelude.{◌≤◌, length};
 
 use super::*;
+use crate::numbers::{PF_R, PF_X, PT_LOAD};
+use jos_base::{FDTABLE, USTABDATA, UTEMP, UTEXT};
 use std::alloc::{AllocError, Global};
 use std::process::Abort;
 use std::test::Fail;
 
-const ENTRY: u32 = 0x0080_0054;
+const ENTRY: u32 = UTEXT + 0x54;
 
-/// The kind of a program header that is loaded.
-const LOAD: u32 = 1;
+/// The program headers stand behind the ELF header.
+const TABLE: u32 = EHDR_LEN as u32;
 
 /// The kind of a program header that says where a note stands.
-const NOTE: u32 = 4;
+const PT_NOTE: u32 = 4;
 
 /// The kind by which gcc says whether the stack may be run.
-const GNU_STACK: u32 = 0x6474_e551;
+const PT_GNU_STACK: u32 = 0x6474_e551;
 
 const SEGMENT: Segment = Segment {
-    va: 0x0080_0000,
+    va: UTEXT,
     mem_len: 12,
     file_at: 84,
     file_len: 12,
@@ -68,11 +70,11 @@ fn add_program_header(
 
 /// A file of this length with these segments, which may be read and run.
 fn file_with(alloc: Global, segments: &[Segment], len: usize) -> Result<Vec<u8>, AllocError>
-    requires { length segments.now ≤ 16 }
+    requires { length segments.now ≤ SEGMENT_MAX }
 {
-    let mut file = header(alloc, 52, segments.len() as u16)?;
+    let mut file = header(alloc, TABLE, segments.len() as u16)?;
     for segment in segments {
-        add_program_header(&mut file, LOAD, *segment, 5)?;
+        add_program_header(&mut file, PT_LOAD, *segment, PF_R + PF_X)?;
     }
     file.resize(len, 0x90)?;
     Ok(file)
@@ -102,21 +104,21 @@ fn read(rt: &impl Abort, file: &[u8]) -> Result<(u32, usize, Segment), ElfFault>
 fn reads_what_gcc_and_ld_write(rt: HostRuntime) -> Result<(), Fail> {
     // the stabs at 0x00200000, a note in the text, the text, the data, and what is said of the stack
     let stabs = Segment {
-        va: 0x0020_0000,
+        va: USTABDATA,
         mem_len: 0x84,
         file_at: 0x100,
         file_len: 0x84,
         writable: true,
     };
     let text = Segment {
-        va: 0x0080_0020,
+        va: UTEXT + 0x20,
         mem_len: 0x11c,
         file_at: 0x184,
         file_len: 0x11c,
         writable: false,
     };
     let data = Segment {
-        va: 0x0080_2000,
+        va: UTEXT + 0x2000,
         mem_len: 8,
         file_at: 0x2a0,
         file_len: 4,
@@ -127,12 +129,17 @@ fn reads_what_gcc_and_ld_write(rt: HostRuntime) -> Result<(), Fail> {
         file_len: 0x1c,
         ..text
     };
-    let mut file = header(rt.alloc(), 52, 5)?;
-    add_program_header(&mut file, LOAD, stabs, 6)?;
-    add_program_header(&mut file, NOTE, note, 4)?;
-    add_program_header(&mut file, LOAD, text, 5)?;
-    add_program_header(&mut file, LOAD, data, 6)?;
-    add_program_header(&mut file, GNU_STACK, Segment::default(), 7)?;
+    let mut file = header(rt.alloc(), TABLE, 5)?;
+    add_program_header(&mut file, PT_LOAD, stabs, PF_R + PF_W)?;
+    add_program_header(&mut file, PT_NOTE, note, PF_R)?;
+    add_program_header(&mut file, PT_LOAD, text, PF_R + PF_X)?;
+    add_program_header(&mut file, PT_LOAD, data, PF_R + PF_W)?;
+    add_program_header(
+        &mut file,
+        PT_GNU_STACK,
+        Segment::default(),
+        PF_R + PF_W + PF_X,
+    )?;
     // the names of sections and nine section headers behind all else
     file.resize(0x300 + 9 * 40, 0)?;
     for (at, byte) in [(33, 0x03), (46, 40), (48, 9), (50, 8)] {
@@ -159,8 +166,8 @@ fn reads_each_flag_for_writing(rt: HostRuntime) -> Result<(), Fail> {
         (7, true),
         (0xffff_fffd, false),
     ] {
-        let mut file = header(rt.alloc(), 52, 1)?;
-        add_program_header(&mut file, LOAD, SEGMENT, flags)?;
+        let mut file = header(rt.alloc(), TABLE, 1)?;
+        add_program_header(&mut file, PT_LOAD, SEGMENT, flags)?;
         // MOV EAX,3; MOV EDX,0; INT 0x30
         file.extend_from_slice(&[0xb8, 3, 0, 0, 0, 0xba, 0, 0, 0, 0, 0xcd, 0x30])?;
         let segment = Segment {
@@ -252,28 +259,28 @@ fn reads_fields_at_their_greatest(rt: HostRuntime) -> Result<(), Fail> {
 #[test]
 fn knows_the_bounds_of_memory(rt: HostRuntime) -> Result<(), Fail> {
     for (what, va, mem_len, accepted) in [
-        ("below the low range", 0x001f_ffff, 1, false),
-        ("into the low range", 0x001f_ffff, 2, false),
-        ("its first byte", 0x0020_0000, 1, true),
-        ("its last byte", 0x003f_ffff, 1, true),
-        ("over its end by one", 0x003f_ffff, 2, false),
-        ("all of it", 0x0020_0000, 0x0020_0000, true),
-        ("a byte more", 0x0020_0000, 0x0020_0001, false),
-        ("behind it", 0x0040_0000, 1, false),
+        ("below the low range", USTABDATA - 1, 1, false),
+        ("into the low range", USTABDATA - 1, 2, false),
+        ("its first byte", USTABDATA, 1, true),
+        ("its last byte", UTEMP - 1, 1, true),
+        ("over its end by one", UTEMP - 1, 2, false),
+        ("all of it", USTABDATA, UTEMP - USTABDATA, true),
+        ("a byte more", USTABDATA, UTEMP - USTABDATA + 1, false),
+        ("behind it", UTEMP, 1, false),
         (
             "from one range to the other",
-            0x003f_ffff,
-            0x0040_0002,
+            UTEMP - 1,
+            UTEXT - UTEMP + 2,
             false,
         ),
-        ("below the high range", 0x007f_ffff, 1, false),
-        ("into the high range", 0x007f_ffff, 2, false),
-        ("its first byte", 0x0080_0000, 1, true),
-        ("its last byte", 0xcfff_ffff, 1, true),
-        ("over its end by one", 0xcfff_ffff, 2, false),
-        ("all of it", 0x0080_0000, 0xcf80_0000, true),
-        ("a byte more", 0x0080_0000, 0xcf80_0001, false),
-        ("behind it", 0xd000_0000, 1, false),
+        ("below the high range", UTEXT - 1, 1, false),
+        ("into the high range", UTEXT - 1, 2, false),
+        ("its first byte", UTEXT, 1, true),
+        ("its last byte", FDTABLE - 1, 1, true),
+        ("over its end by one", FDTABLE - 1, 2, false),
+        ("all of it", UTEXT, FDTABLE - UTEXT, true),
+        ("a byte more", UTEXT, FDTABLE - UTEXT + 1, false),
+        ("behind it", FDTABLE, 1, false),
         ("address 0", 0, 1, false),
         ("the last address", 0xffff_ffff, 1, false),
         ("an end at 2^32", 0xffff_fff0, 0x10, false),
@@ -283,7 +290,7 @@ fn knows_the_bounds_of_memory(rt: HostRuntime) -> Result<(), Fail> {
             0x0100_0010,
             false,
         ),
-        ("the most memory", 0x0080_0000, 0xffff_ffff, false),
+        ("the most memory", UTEXT, 0xffff_ffff, false),
         ("no memory", 0, 0, true),
     ] {
         let segment = bss(va, mem_len);
@@ -361,7 +368,7 @@ fn finds_the_table_in_the_file(rt: HostRuntime) -> Result<(), Fail> {
     };
     let mut file = header(rt.alloc(), 64, 1)?;
     file.resize(64, 0x90)?;
-    add_program_header(&mut file, LOAD, segment, 5)?;
+    add_program_header(&mut file, PT_LOAD, segment, PF_R + PF_X)?;
     assert_eq!(rt; read(&rt, file.as_slice()), Ok((ENTRY, 1, segment)));
     file.truncate(95);
     assert_eq!(rt; read(&rt, file.as_slice()), Err(ElfFault::Truncated(95)));
@@ -369,7 +376,7 @@ fn finds_the_table_in_the_file(rt: HostRuntime) -> Result<(), Fail> {
     // places for which the end of the table is past 2^32, or 2^32 itself
     for at in [0xffff_ffe0, 0xffff_ffe1, 0xffff_ffff] {
         let mut file = header(rt.alloc(), at, 1)?;
-        add_program_header(&mut file, LOAD, SEGMENT, 5)?;
+        add_program_header(&mut file, PT_LOAD, SEGMENT, PF_R + PF_X)?;
         file.resize(96, 0x90)?;
         assert_eq!(rt;
             read(&rt, file.as_slice()),
@@ -386,13 +393,13 @@ fn finds_the_table_in_the_file(rt: HostRuntime) -> Result<(), Fail> {
     }
 
     // as many as there may be, each of a byte of its own, and one more
-    for count in [1u16, 15, 16, 17] {
-        let mut file = header(rt.alloc(), 52, count)?;
+    for count in [1, SEGMENT_MAX - 1, SEGMENT_MAX, SEGMENT_MAX + 1] {
+        let mut file = header(rt.alloc(), TABLE, count)?;
         for place in 0..count as u32 {
-            add_program_header(&mut file, LOAD, bss(0x0020_0000 + place, 1), 5)?;
+            add_program_header(&mut file, PT_LOAD, bss(USTABDATA + place, 1), PF_R + PF_X)?;
         }
-        let last = bss(0x0020_0000 + count as u32 - 1, 1);
-        let want = if count <= 16 {
+        let last = bss(USTABDATA + count as u32 - 1, 1);
+        let want = if count <= SEGMENT_MAX {
             Ok((ENTRY, count as usize, last))
         } else {
             Err(ElfFault::TooMany)
@@ -432,13 +439,13 @@ fn tells_the_first_fault_of_the_header(rt: HostRuntime) -> Result<(), Fail> {
 
 #[test]
 fn tells_the_first_fault_of_the_segments(rt: HostRuntime) -> Result<(), Fail> {
-    let first = bss(0x0080_0000, 0x1000);
-    let behind = bss(0x0080_1000, 0x1000);
+    let first = bss(UTEXT, 0x1000);
+    let behind = bss(UTEXT + 0x1000, 0x1000);
     let cut = Segment {
         file_at: 200,
         ..first
     };
-    let misplaced = bss(0x007f_ffff, 0x1000);
+    let misplaced = bss(UTEXT - 1, 0x1000);
     for (what, segments, fault) in [
         (
             "header by header",
@@ -462,27 +469,27 @@ fn tells_the_first_fault_of_the_segments(rt: HostRuntime) -> Result<(), Fail> {
         ),
         (
             "the last shares with both",
-            [first, behind, bss(0x0080_0fff, 2)],
+            [first, behind, bss(UTEXT + 0xfff, 2)],
             ElfFault::Overlap(2, 0),
         ),
         (
             "the last shares with the second",
-            [first, behind, bss(0x0080_1fff, 2)],
+            [first, behind, bss(UTEXT + 0x1fff, 2)],
             ElfFault::Overlap(2, 1),
         ),
         (
             "the last lies in the second",
-            [first, behind, bss(0x0080_1800, 1)],
+            [first, behind, bss(UTEXT + 0x1800, 1)],
             ElfFault::Overlap(2, 1),
         ),
         (
             "the last holds both",
-            [first, behind, bss(0x0080_0000, 0x2000)],
+            [first, behind, bss(UTEXT, 0x2000)],
             ElfFault::Overlap(2, 0),
         ),
         (
             "the second ends in the first",
-            [behind, bss(0x0080_0fff, 2), first],
+            [behind, bss(UTEXT + 0xfff, 2), first],
             ElfFault::Overlap(1, 0),
         ),
         (
@@ -501,7 +508,10 @@ fn tells_the_first_fault_of_the_segments(rt: HostRuntime) -> Result<(), Fail> {
     }
 
     // side by side in a page, in either order
-    for (a, b) in [(0x0080_0100, 0x0080_0200), (0x0080_0200, 0x0080_0100)] {
+    for (a, b) in [
+        (UTEXT + 0x100, UTEXT + 0x200),
+        (UTEXT + 0x200, UTEXT + 0x100),
+    ] {
         let file = file_with(rt.alloc(), &[bss(a, 0x100), bss(b, 0x100)], 116)?;
         assert_eq!(rt;
             read(&rt, file.as_slice()),

@@ -2,12 +2,13 @@
 
 use super::*;
 use crate::parser::parse;
+use jos_base::{UTEMP, UTEXT};
 use std::test::Fail;
 
 #[test]
 fn writes_each_field(rt: HostRuntime) -> Result<(), Fail> {
     let part = Part {
-        va: 0x0080_1234,
+        va: UTEXT + 0x1234,
         at: 2,
         len: 3,
         mem_len: 0x0123_4567,
@@ -15,7 +16,7 @@ fn writes_each_field(rt: HostRuntime) -> Result<(), Fail> {
     };
     let file = write(
         rt.alloc(),
-        0x0080_1235,
+        UTEXT + 0x1235,
         &[part],
         &[0xaa, 0xbb, 0xcc, 0xdd, 0xee, 0xff],
     )?;
@@ -39,21 +40,21 @@ fn reads_what_was_written(rt: HostRuntime) -> Result<(), Fail> {
     // the second part's bytes are among those of the first, and the third has none
     let parts = [
         Part {
-            va: 0x0080_0020,
+            va: UTEXT + 0x20,
             at: 0,
             len: 8,
             mem_len: 8,
             writable: false,
         },
         Part {
-            va: 0x0080_0028,
+            va: UTEXT + 0x28,
             at: 5,
             len: 3,
             mem_len: 0x1000,
             writable: true,
         },
         Part {
-            va: 0x003f_ffff,
+            va: UTEMP - 1,
             at: 8,
             len: 0,
             mem_len: 1,
@@ -61,10 +62,10 @@ fn reads_what_was_written(rt: HostRuntime) -> Result<(), Fail> {
         },
     ];
     let bytes = [1, 2, 3, 4, 5, 6, 7, 8];
-    let file = write(rt.alloc(), 0x0080_0024, &parts, &bytes)?;
-    assert_eq!(rt; file.len(), 52 + 3 * 32 + 8);
+    let file = write(rt.alloc(), UTEXT + 0x24, &parts, &bytes)?;
+    assert_eq!(rt; file.len(), EHDR_LEN + 3 * PHDR_LEN + 8);
     let segment = Segment {
-        va: 0x0080_0020,
+        va: UTEXT + 0x20,
         mem_len: 8,
         file_at: 148,
         file_len: 8,
@@ -73,14 +74,14 @@ fn reads_what_was_written(rt: HostRuntime) -> Result<(), Fail> {
     let want = [
         segment,
         Segment {
-            va: 0x0080_0028,
+            va: UTEXT + 0x28,
             mem_len: 0x1000,
             file_at: 153,
             file_len: 3,
             writable: true,
         },
         Segment {
-            va: 0x003f_ffff,
+            va: UTEMP - 1,
             mem_len: 1,
             file_at: 156,
             file_len: 0,
@@ -88,7 +89,7 @@ fn reads_what_was_written(rt: HostRuntime) -> Result<(), Fail> {
         },
     ];
     let image = parse(file.as_slice())?;
-    assert_eq!(rt; image.entry(), 0x0080_0024);
+    assert_eq!(rt; image.entry(), UTEXT + 0x24);
     assert_eq!(rt; image.segments(), want.as_slice());
     assert_eq!(rt; &file[148..], bytes.as_slice());
     Ok(())
@@ -97,7 +98,7 @@ fn reads_what_was_written(rt: HostRuntime) -> Result<(), Fail> {
 #[test]
 fn writes_an_image_without_parts(rt: HostRuntime) -> Result<(), Fail> {
     let file = write(rt.alloc(), 7, &[], &[])?;
-    assert_eq!(rt; file.len(), 52);
+    assert_eq!(rt; file.len(), EHDR_LEN);
     let image = parse(file.as_slice())?;
     assert_eq!(rt; image.entry(), 7);
     assert_eq!(rt; image.segments().len(), 0);

@@ -5,7 +5,7 @@ use crate::testing::same;
 use std::process::Abort;
 use std::test::Fail;
 
-// A host with a file that has bytes, one that has none, and a second of the first's name.
+/// A host with a file that has bytes, one that has none, and a second of the first's name.
 fn host(alloc: Global, fails: &[u64]) -> Result<MemHost, AllocError>
     ensures { IfOk result (λ host. host.fails ≡ fails.now) }
 {
@@ -79,7 +79,7 @@ fn writes_files(rt: HostRuntime) -> Result<(), Fail> {
     Ok(())
 }
 
-// Writes that the room holds never fail.
+/// Writes that the room holds never fail.
 fn speak(host: &mut MemHost)
     requires none_fails { host.old.fails ≡ [] }
     requires console { 7 ≤ host.old.console_room }
@@ -109,7 +109,7 @@ fn reads_and_writes_the_console(rt: HostRuntime) -> Result<(), Fail> {
 
 const CALLS: u64 = 7;
 
-// The call of this number in a script of one call each.
+/// The call of this number in a script of one call each.
 fn call(rt: &impl Abort, host: &mut MemHost, number: u64) -> Result<(), Failed> {
     match number {
         0 => host.size("disk").map(|_| ()),
@@ -122,7 +122,7 @@ fn call(rt: &impl Abort, host: &mut MemHost, number: u64) -> Result<(), Failed> 
     }
 }
 
-// Each call once on both hosts, but the one that fails on the first alone.
+/// Each call once on both hosts, but the one that fails on the first alone.
 fn run(rt: &impl Abort, told: &mut MemHost, other: &mut MemHost, failing: u64) {
     for number in 0..CALLS {
         let done = call(rt, told, number);
@@ -145,7 +145,7 @@ fn are_alike(rt: &impl Abort, told: &mut MemHost, other: &mut MemHost) {
     same(rt, left, wanted, "what is left");
 }
 
-// A host whose call fails is as one at which it was never made.
+/// A host whose call fails is as one at which it was never made.
 #[test]
 fn fails_where_it_is_told(rt: HostRuntime) -> Result<(), Fail> {
     for failing in 0..CALLS {

@@ -11,7 +11,7 @@ use std::process::Abort;
 use std::test::Fail;
 use std::{env, process};
 
-// What stands in the file from a place on, as far as a read of four bytes shows it.
+/// What stands in the file from a place on, as far as a read of four bytes shows it.
 fn shows(host: &mut impl Host, path: &str, at: u64, wanted: &[u8]) -> bool {
     let mut buf = [0; 4];
     match host.read_at(path, at, &mut buf) {
@@ -20,7 +20,7 @@ fn shows(host: &mut impl Host, path: &str, at: u64, wanted: &[u8]) -> bool {
     }
 }
 
-// Each call on files once over the system, on a path that is absent.
+/// Each call on files once over the system, on a path that is absent.
 fn keeps_a_file<R: Files + Input + Print, N: Print>(
     rt: &impl Abort,
     host: &mut OsHost<R, N>,
@@ -55,7 +55,7 @@ fn reaches_the_system(rt: HostRuntime) -> Result<(), Fail> {
     Ok(())
 }
 
-// Each call on files fails.
+/// Each call on files fails.
 fn is_refused<R: Files + Input + Print, N: Print>(
     rt: &impl Abort,
     host: &mut OsHost<R, N>,
@@ -89,7 +89,7 @@ fn reaches_the_streams(rt: HostRuntime) {
     same(&rt, host.faults(), read.is_err() as u64, "the faults");
 }
 
-// A system that gives no permission, and keeps what is printed: at most so many bytes of each write.
+/// A system that gives no permission, and keeps what is printed: at most so many bytes of each write.
 #[derive(Drop)]
 struct Closed {
     at_once: usize,

@@ -3,14 +3,14 @@ use crate::testing::same;
 use Turn::{Fails, Moves};
 use std::alloc::Global;
 
-// What a call of a fake stream does: it moves so many bytes at most, or fails.
+/// What a call of a fake stream does: it moves so many bytes at most, or fails.
 #[derive(Clone, Copy)]
 enum Turn {
     Moves(usize),
     Fails(ErrorKind),
 }
 
-// A stream that takes each of these turns once, and the last one at every later call.
+/// A stream that takes each of these turns once, and the last one at every later call.
 #[derive(Drop)]
 struct Fake<'a> {
     turns: &'a [Turn],

@@ -1,5 +1,7 @@
 //! Bytes and what they begin, each in hexadecimal digits.
 
+use crate::LONGEST;
+
 /// The beginnings of instructions, by their length in bytes, which is GNU objdump's. Each row is there, with its
 /// operand a register and in memory where it takes both, and each form of an operand in memory.
 pub(crate) const FOUND: [(usize, &str); 10] = [
@@ -81,7 +83,7 @@ pub(crate) const FOUND: [(usize, &str); 10] = [
         "6905010203840506878809 6985010203840506878809 69968018fedcc1022e2ce5 8115010203840506878809 \
         8135010203840506878809 c7050102030405060708 c705fbd1ce8d230377fd9d f7050102030405060708",
     ),
-    (11, "f78493010203840506878809"),
+    (LONGEST, "f78493010203840506878809"),
 ];
 
 /// No instruction of the profile begins so.

@@ -7,7 +7,7 @@ use Rattle.jos_alu.proofs.products.signed_product.Goals as goal
 
 pub returns : goal.returns
 returns c =
-    let left : FitsSigned w32 c.signed.result = search rules in
-    let right : FitsSigned w32 c.signed-2.result = search rules in
+    let left : FitsSigned w32 c.signed_of.result = search rules in
+    let right : FitsSigned w32 c.signed_of-2.result = search rules in
     product_bits _ _ _ _ _ left right c.from-left.ensures c.from-right.ensures c.cast_unsigned.ensures
-    ∙ (λ i. bits_of (c.signed.ensures i *ℤ c.signed-2.ensures i))
+    ∙ (λ i. bits_of (c.signed_of.ensures i *ℤ c.signed_of-2.ensures i))

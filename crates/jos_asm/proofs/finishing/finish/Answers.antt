@@ -1,5 +1,6 @@
 use Rattle.std.proofs.lemmas.Result.{err_from_is_err_and}
-use Rattle.jos_asm.proofs.Finished.{program, is_long, is_twice, is_unknown_name, is_far_name, has_bytes, is_spelled, is_laid, code_small}
+use Rattle.jos_asm.proofs.Finished.{program, is_long, is_twice, is_unknown_name, is_far_name, has_bytes, is_spelled}
+use Rattle.jos_asm.proofs.Finished.{is_laid, code_small}
 use Rattle.jos_asm.proofs.finishing.finish.Goals as goal
 
 pub returns-in_err-len-clause-fault : goal.returns-in_err-len-clause-fault
@@ -22,26 +23,26 @@ returns-in_err-check_jumps-in-Ok-clause-fault c =
     let same = c.in-Ok.ensures.items in
     rw (p.1, p.2) (is_far_name (program c.args.base c.args.items.now) c.in_ok-len.ensures.1 c.in-Ok.ensures.once (rw same at c.in_ok-check_names-in-Ok.ensures.known) _ (rw same at c.in_err-check_jumps-in-Ok.ensures.fault))
 
-pub returns-in-Ok-write_code-clause-exact : goal.returns-in-Ok-write_code-clause-exact
-returns-in-Ok-write_code-clause-exact c =
+pub returns-in-Ok-spell-clause-exact : goal.returns-in-Ok-spell-clause-exact
+returns-in-Ok-spell-clause-exact c =
     let same = c.in-Ok.ensures.items in
     is_spelled (program c.args.base c.args.items.now) c.in_ok-len.ensures.1 c.in-Ok.ensures.once (rw same at c.in_ok-check_names-in-Ok.ensures.known) (rw same at c.in_ok-check_jumps-in-Ok.ensures.near) c.requires
-    c.in-Ok-write_code.code.items (rw same at c.in-Ok-write_code.ensures.bytes)
+    c.in-Ok-spell.code.items (rw same at c.in-Ok-spell.ensures.bytes)
 
-pub returns-in-Ok-write_code-clause-laid : goal.returns-in-Ok-write_code-clause-laid
-returns-in-Ok-write_code-clause-laid c =
+pub returns-in-Ok-spell-clause-laid : goal.returns-in-Ok-spell-clause-laid
+returns-in-Ok-spell-clause-laid c =
     let same = c.in-Ok.ensures.items in
     is_laid (program c.args.base c.args.items.now) c.in_ok-len.ensures.1 c.in-Ok.ensures.once (rw same at c.in_ok-check_names-in-Ok.ensures.known) (rw same at c.in_ok-check_jumps-in-Ok.ensures.near) c.requires
-    c.in-Ok-write_code.code.items (rw same at c.in-Ok-write_code.ensures.bytes)
+    c.in-Ok-spell.code.items (rw same at c.in-Ok-spell.ensures.bytes)
 
-pub returns-in-Ok-write_code-clause-small : goal.returns-in-Ok-write_code-clause-small
-returns-in-Ok-write_code-clause-small c =
+pub returns-in-Ok-spell-clause-small : goal.returns-in-Ok-spell-clause-small
+returns-in-Ok-spell-clause-small c =
     let same = c.in-Ok.ensures.items in
     code_small (program c.args.base c.args.items.now) c.in_ok-len.ensures.1 c.in-Ok.ensures.once (rw same at c.in_ok-check_names-in-Ok.ensures.known) (rw same at c.in_ok-check_jumps-in-Ok.ensures.near) c.requires
-    c.in-Ok-write_code.code.items (rw same at c.in-Ok-write_code.ensures.bytes)
+    c.in-Ok-spell.code.items (rw same at c.in-Ok-spell.ensures.bytes)
 
 pub returns-clause-memory : goal.returns-clause-memory
 returns-clause-memory c memory =
     let same = c.in-Ok.ensures.items in
     has_bytes (program c.args.base c.args.items.now) c.in_ok-len.ensures.1 c.in-Ok.ensures.once (rw same at c.in_ok-check_names-in-Ok.ensures.known) (rw same at c.in_ok-check_jumps-in-Ok.ensures.near) c.requires
-    (rw (← c.in_ok-len.ensures.0) c.in-Err-write_code.ensures.memory)
+    (rw (← c.in_ok-len.ensures.0) c.in-Err-spell.ensures.memory)

@@ -1,5 +1,6 @@
 use Rattle.std.proofs.Common.{◌≤◌, ◌+◌, arith}
 use Rattle.std.proofs.lemmas.Result.{err_from_is_err_and}
+use Rattle.jos_asm.specs.declared.limits.TheConstants.{CODE_MAX}
 use Rattle.jos_asm.specs.Items.{length_of}
 use Rattle.jos_asm.specs.Labels.{labelled}
 use Rattle.jos_asm.proofs.Passes.{placed_more, placed_fault, placed_room, placed_end, once_end}
@@ -12,18 +13,18 @@ returns-in_err-add_label-clause-fault c =
 
 pub overflow_cast-at : goal.overflow_cast-at
 overflow_cast-at c =
-    let room : c.loop-item.at + length_of c.item-item.result ≤ 1048576 = placed_room (labelled c.loop-item.labels) c.args.items.now c.loop-item.item-index c.loop-item.at c.loop-item.invariant c.loop-item-test.true c.item-item.result c.item-item.is c.requires.small in
-    let len = c.item_len.ensures.len in
+    let room : c.loop-item.at + length_of c.item-item.result ≤ CODE_MAX = placed_room (labelled c.loop-item.labels) c.args.items.now c.loop-item.item-index c.loop-item.at c.loop-item.invariant c.loop-item-test.true c.item-item.result c.item-item.is c.requires.small in
+    let len = c.length_of.ensures.len in
     omega (arith, room, len)
 
 pub overflow_add-at : goal.overflow_add-at
 overflow_add-at c =
-    let room : c.loop-item.at + length_of c.item-item.result ≤ 1048576 = placed_room (labelled c.loop-item.labels) c.args.items.now c.loop-item.item-index c.loop-item.at c.loop-item.invariant c.loop-item-test.true c.item-item.result c.item-item.is c.requires.small in
-    let len = c.item_len.ensures.len in
+    let room : c.loop-item.at + length_of c.item-item.result ≤ CODE_MAX = placed_room (labelled c.loop-item.labels) c.args.items.now c.loop-item.item-index c.loop-item.at c.loop-item.invariant c.loop-item-test.true c.item-item.result c.item-item.is c.requires.small in
+    let len = c.length_of.ensures.len in
     omega (arith, room, len)
 
 pub loop-item-preserved : goal.loop-item-preserved
-loop-item-preserved c = rw c.item_len.ensures.len
+loop-item-preserved c = rw c.length_of.ensures.len
     (placed_more (labelled c.loop-item.labels) c.args.items.now c.loop-item.item-index c.loop-item.at c.loop-item.invariant c.loop-item-test.true
     (labelled c.add_label.new.labels) c.item-item.result c.item-item.is c.in_ok-add_label.ensures.found.0 c.in_ok-add_label.ensures.found.1)
 

@@ -1,8 +1,9 @@
 use Rattle.std.proofs.Common.{◌≡◌, true, arith, ◌≤◌, ◌∙◌, length, take, sym, subst}
 use Rattle.jos_isa.specs.declared.decoder.Decoded.{Decoded}
 use Rattle.jos_isa.specs.Spelling.{Spells}
-use Rattle.jos_isa.specs.Laws.{IfFound}
-use Rattle.jos_isa.proofs.Instructions.{found, only, short, only_short, bounded}
+use Rattle.jos_isa.specs.ClauseWords.{IfFound}
+use Rattle.jos_isa.proofs.Instructions.{found, only, short, only_short}
+use Rattle.jos_isa.proofs.Longest.{found_longest, bounded}
 use Rattle.jos_isa.specs.Lawful.{is_lawful}
 use Rattle.jos_isa.proofs.FoundLawful.{found_lawful}
 use Rattle.jos_isa.proofs.decoder.decode.Goals as goal
@@ -20,6 +21,10 @@ returns-clause-short c e = short c.args.bytes.now (sym c.decode_exactly.ensures 
 
 pub returns-clause-only_short : goal.returns-clause-only_short
 returns-clause-only_short c insn next more h = c.decode_exactly.ensures ∙ only_short c.args.bytes.now insn next more h
+
+pub returns-clause-longest : goal.returns-clause-longest
+returns-clause-longest c =
+    subst (λ (d : Decoded). IfFound d (λ insn len. len ≤ 11)) (sym c.decode_exactly.ensures) (found_longest c.args.bytes.now)
 
 pub returns-clause-bounded : goal.returns-clause-bounded
 returns-clause-bounded c e = bounded c.args.bytes.now (sym c.decode_exactly.ensures ∙ e)

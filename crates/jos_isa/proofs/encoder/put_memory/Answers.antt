@@ -1,5 +1,5 @@
 use Rattle.std.proofs.Common.{◌≡◌, ℕ, ◌+◌, ◌*◌, ◌<◌, [], ◌∷◌, ◌++◌, take, sym, subst, ap, ◌∙◌}
-use Rattle.jos_isa.specs.Writing.{mode_of, rm_of, sib_bytes, disp_bytes, operand_bytes}
+use Rattle.jos_isa.specs.Encoding.{mode_of, rm_of, sib_bytes, disp_bytes, operand_bytes}
 use Rattle.jos_isa.proofs.Writers.{rm_small, three_behind}
 use Rattle.jos_isa.proofs.Kept.{kept_on}
 use Rattle.jos_isa.proofs.encoder.put_memory.Goals as goal

@@ -1,5 +1,6 @@
 use Rattle.std.proofs.Common.{◌-◌, Some, None, refl, ◌∙◌, arith}
 use Rattle.jos_cli.specs.declared.outcome.End.TheVariants.{Budget}
+use Rattle.jos_cli.proofs.Frames.{still}
 use Rattle.jos_cli.proofs.Runs.{on_end, on_failed, on_advance, at_end}
 use Rattle.jos_cli.proofs.kernel.Kernel.run.Goals as goal
 
@@ -17,10 +18,7 @@ loop-left-preserved g c = record {
   steps = omega (arith, c.in-Ok.ensures.told.1, c.in-Ok.ensures.told.2, c.loop-left.invariant.steps);
   room = c.in-Ok.ensures.room;
   turn = c.in-Ok.ensures.turn;
-  files = c.in-Ok.ensures.files ∙ c.loop-left.invariant.files;
-  input = c.in-Ok.ensures.input ∙ c.loop-left.invariant.input;
-  asked = c.in-Ok.ensures.asked ∙ c.loop-left.invariant.asked;
-  notes = c.in-Ok.ensures.notes ∙ c.loop-left.invariant.notes;
+  rest = still c.loop-left.invariant.rest c.in-Ok.ensures.rest;
   faults = c.in-Ok.ensures.cause.stayed ∙ c.loop-left.invariant.faults;
 }
 

@@ -1,6 +1,7 @@
 use Rattle.std.proofs.Common.{◌≡◌, ◌+◌, []}
+use Rattle.jos_cli.specs.Frames.{Unchanged}
 use Rattle.jos_cli.specs.ExoRun.{run_from}
-use Rattle.jos_cli.specs.Progress.{progress_of, HasRoom, RunsItsTurn}
+use Rattle.jos_cli.specs.Kernel.{progress_of, HasRoom, RunsItsTurn}
 use Rattle.jos_cli.proofs.Runs.{IsRunning}
 use Rattle.jos_cli.proofs.kernel.Kernel.run.Given as goal
 
@@ -10,10 +11,7 @@ invariant-loop-left g l = record {
   steps : l.self.steps + l.left ≡ l.budget;
   room : HasRoom l.self;
   turn : RunsItsTurn l.self;
-  files : g.H.Host.files l.host ≡ g.H.Host.files l.fn.host;
-  input : g.H.Host.input l.host ≡ g.H.Host.input l.fn.host;
-  asked : g.H.Host.asked l.host ≡ g.H.Host.asked l.fn.host;
-  notes : g.H.Host.notes l.host ≡ g.H.Host.notes l.fn.host;
+  rest : Unchanged g.H.Host.files g.H.Host.input g.H.Host.asked g.H.Host.notes l.fn.host l.host;
   faults : g.H.Host.faults l.host ≡ g.H.Host.faults l.fn.host;
 }
 

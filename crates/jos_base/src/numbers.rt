@@ -1,0 +1,137 @@
+//! The numbers that MIT's headers and Intel's manual name, under their names, and the limits of this system.
+//! Code, definitions and tests cite them from here.
+
+// ---- pages and the address space (MIT 6.828, inc/mmu.h and inc/memlayout.h)
+
+/// The bytes of a page.
+pub const PGSIZE: u32 = 4096;
+
+/// The entry of a page is there.
+pub const PTE_P: u32 = 0x001;
+
+/// The page may be written.
+pub const PTE_W: u32 = 0x002;
+
+/// A user may reach the page.
+pub const PTE_U: u32 = 0x004;
+
+/// Where a program may have memory beside that from `UTEXT` on: from here to `UTEMP`.
+pub const USTABDATA: u32 = 0x0020_0000;
+
+/// The first address behind the lower range.
+pub const UTEMP: u32 = 0x0040_0000;
+
+/// Where the memory of programs begins.
+pub const UTEXT: u32 = 0x0080_0000;
+
+/// The first address behind the memory that an image may have. (MIT 6.828, lib/fd.c)
+pub const FDTABLE: u32 = 0xd000_0000;
+
+/// The first address behind the stack of a program.
+pub const USTACKTOP: u32 = 0xeebf_e000;
+
+/// The first address that a program may not map.
+pub const UTOP: u32 = 0xeec0_0000;
+
+// ---- traps and the bits of a page fault's error code (MIT 6.828, inc/trap.h and inc/mmu.h)
+
+/// The divide error.
+pub const T_DIVIDE: u8 = 0;
+
+/// The breakpoint.
+pub const T_BRKPT: u8 = 3;
+
+/// The illegal opcode.
+pub const T_ILLOP: u8 = 6;
+
+/// The general protection fault.
+pub const T_GPFLT: u8 = 13;
+
+/// The page fault.
+pub const T_PGFLT: u8 = 14;
+
+/// The gate of the system calls.
+pub const T_SYSCALL: u8 = 0x30;
+
+/// The gate of the library's services. (This system's own.)
+pub const T_SERVICE: u8 = 0x40;
+
+/// The entry is there, and does not allow the access.
+pub const FEC_PR: u32 = 0x1;
+
+/// The access was a write.
+pub const FEC_WR: u32 = 0x2;
+
+/// The access was a user's.
+pub const FEC_U: u32 = 0x4;
+
+// ---- EFLAGS (MIT 6.828, inc/mmu.h; Intel 80386 Programmer's Reference Manual, 1986, section 2.3.4.1)
+
+/// Carry.
+pub const FL_CF: u32 = 0x001;
+
+/// The bit that is always set.
+pub const FL_1: u32 = 0x002;
+
+/// Parity.
+pub const FL_PF: u32 = 0x004;
+
+/// Auxiliary carry.
+pub const FL_AF: u32 = 0x010;
+
+/// Zero.
+pub const FL_ZF: u32 = 0x040;
+
+/// Sign.
+pub const FL_SF: u32 = 0x080;
+
+/// Interrupts are taken.
+pub const FL_IF: u32 = 0x200;
+
+/// Strings go downwards.
+pub const FL_DF: u32 = 0x400;
+
+/// Overflow.
+pub const FL_OF: u32 = 0x800;
+
+// ---- system calls and errors (MIT 6.828, inc/syscall.h and inc/error.h)
+
+/// Writes bytes to the console.
+pub const SYS_CPUTS: u32 = 0;
+
+/// Destroys an environment.
+pub const SYS_ENV_DESTROY: u32 = 3;
+
+/// No such environment, or none that the caller may change.
+pub const E_BAD_ENV: u32 = 2;
+
+/// An argument is out of its range.
+pub const E_INVAL: u32 = 3;
+
+// ---- environments (MIT 6.828, inc/env.h and kern/env.c)
+
+/// The id of the first environment that has slot 0.
+pub const FIRST_ENV_ID: u32 = 0x1000;
+
+// ---- the limits of this system
+
+/// The most bytes that one `cputs` prints.
+pub const CPUTS_MAX: u32 = 4096;
+
+/// The most bytes of an image file.
+pub const IMAGE_MAX: u64 = 16_777_216;
+
+/// The most program headers of an image.
+pub const SEGMENT_MAX: u16 = 16;
+
+/// The most bytes of an instruction that are looked at.
+pub const INSTRUCTION_MAX: usize = 15;
+
+/// The most steps of a turn.
+pub const QUANTUM: u32 = 1000;
+
+/// The steps of a run.
+pub const BUDGET: u32 = 1_000_000;
+
+/// The most turns of a run.
+pub const TURN_MAX: usize = 1_048_576;
