@@ -2,7 +2,7 @@
 //!
 //! `top` (in `answer`) does what the words of the command line ask, over any host, and `answer_texts` (in `texts`)
 //! does so for the words as std hands them out. `main` only makes the host over the system's files and streams,
-//! and exits with what `answer_command_line` gives. What `top` answers is proved: it is what `specs/Answer.antt`
+//! and exits with what `answer_arguments` gives. What `top` answers is proved: it is what `specs/Answer.antt`
 //! says of the words and the file, by the run that `specs/ExoRun.antt` defines. The one invariant is that of the
 //! run's loop (`proofs/Runs.antt`): what is written so far and the rest of the run are the whole run.
 #![tactic(auto)]
@@ -10,7 +10,13 @@
 ghost use Rattle.std.specs.Prelude.{◌≡◌};
 ghost use Rattle.std.specs.Process.{exit_status};
 ghost use Rattle.jos_cli.specs.Frames.{around};
-ghost use Rattle.jos_cli.specs.Answer.{HasStatusCause, status_of};
+ghost use Rattle.jos_cli.specs.declared.outcome.Outcome.{Outcome};
+ghost use Rattle.jos_cli.specs.Answer.{AnswersCommand, HasOutcomeCause, HasStatusCause, status_of};
+ghost use Rattle.jos_cli.specs.Commands.{command_of};
+ghost use Rattle.jos_cli.specs.FilesAsked.{AsksFor, calls_of};
+ghost use Rattle.jos_cli.specs.FilesLeft.{Leaves};
+ghost use Rattle.jos_cli.specs.Given.{given_words};
+ghost use Rattle.jos_cli.specs.Notes.{IsNoted};
 
 mod answer;
 mod command;
@@ -29,9 +35,10 @@ mod texts;
 use crate::outcome::Outcome;
 use crate::texts::answer_texts;
 use jos_host::{Host, OsHost};
-use std::env;
+use std::alloc::Global;
+use std::env::Args;
 use std::process::ExitCode;
-use std::rt::Env;
+use std::{env, io};
 
 /// What the program exits with.
 fn exit_code(outcome: &Outcome) -> ExitCode
@@ -40,17 +47,24 @@ fn exit_code(outcome: &Outcome) -> ExitCode
     ExitCode::from(outcome.status())
 }
 
-/// Does what the command line asks, and gives what the program exits with.
-fn answer_command_line<R: Env + AllocGlobal, H: Host>(rt: &R, host: &mut H) -> ExitCode
+/// Does what the words ask that std hands out, and gives what the program exits with.
+fn answer_arguments<H: Host>(alloc: Global, read: io::Result<Args>, host: &mut H) -> ExitCode
+    // It is the exit status of the outcome that these words have.
+    ensures answered { (outcome : Outcome) × (exit_status result ≡ status_of outcome)
+        × AnswersCommand (H.files host.old) (command_of (given_words read)) outcome (around H.console host.old host.new)
+        × IsNoted (given_words read) outcome (around H.notes host.old host.new)
+        × HasOutcomeCause (around H.faults host.old host.new) outcome
+        × Leaves (command_of (given_words read)) outcome (around H.files host.old host.new) }
     ensures cause { HasStatusCause (around H.faults host.old host.new) (exit_status result) }
     ensures input { H.input host.new ≡ H.input host.old }
+    ensures asked { AsksFor (calls_of (command_of (given_words read))) (around H.asked host.old host.new) }
 {
-    exit_code(&answer_texts(rt.alloc(), env::args(rt), host))
+    exit_code(&answer_texts(alloc, read, host))
 }
 
 fn main(rt: HostRuntime) -> ExitCode {
     let mut host = OsHost::new(&rt, rt.stderr());
-    answer_command_line(&rt, &mut host)
+    answer_arguments(rt.alloc(), env::args(&rt), &mut host)
 }
 
 #[cfg(test)]

@@ -1,6 +1,7 @@
-use crate::answer_command_line;
+use crate::answer_arguments;
 use jos_host::MemHost;
 use std::alloc::{AllocError, Global};
+use std::env;
 use std::env::FillError;
 use std::process::ExitCode;
 use std::rt::Env;
@@ -56,7 +57,8 @@ fn answers_the_words_of_the_command_line(rt: HostRuntime) -> Result<(), Fail> {
             Vec::new(rt.alloc()),
             Vec::new(rt.alloc()),
         );
-        let code = answer_command_line(&(Words(words), rt.alloc()), &mut host);
+        let read = env::args(&(Words(words), rt.alloc()));
+        let code = answer_arguments(rt.alloc(), read, &mut host);
         assert!(rt; code == ExitCode::from(status), "{words:?}");
         assert_eq!(rt; host.notes(), note.as_bytes(), "{words:?}");
     }
