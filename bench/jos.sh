@@ -5,7 +5,7 @@
 LC_ALL=C
 export LC_ALL
 here=$(CDPATH='' cd -- "$(dirname -- "$0")/.." && pwd -P)
-program=$here/crates/jos_cli/out/jos
+program=$here/out/jos
 folder=$(mktemp -d) || exit 1
 trap 'rm -rf "$folder"' EXIT
 
