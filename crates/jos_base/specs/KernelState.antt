@@ -1,37 +1,78 @@
--- The exokernel's state. Maps are functions, which `upd` changes. It has the parts that the system calls and
--- instructions built so far can change or see.
--- (MIT 6.828, inc/env.h and inc/memlayout.h.)
-use Rattle.std.specs.Prelude.{ℕ, Bool, true, false, List, Option}
+-- The exokernel's state: the address spaces, the table of environments, the console's input, the turns so far, and how
+-- often something was refused for want of a frame or a slot. The bytes written stand beside it, in what a step answers.
+-- (MIT 6.828, inc/env.h, kern/env.c and kern/pmap.c.)
+use Rattle.std.specs.Prelude.{◌≡◌, ℕ, ◌+◌, ◌-◌, ◌%◌, ◌^◌, min, true, List, Option, None, Some, if◌then◌else◌}
 use Rattle.jos_base.specs.declared.registers.Regs.{Regs}
 use Rattle.jos_base.specs.declared.environment.Status.{Status}
-use Rattle.jos_base.specs.declared.environment.Status.TheVariants.{Free}
-
--- a page's entry: the frame that it names, and its permission bits PTE_P, PTE_W and PTE_U
-pub record Entry : Type 0 where
-  pub frame : ℕ
-  pub perm : ℕ
-
--- a slot of the environment table; where it is free, its last id alone has a meaning
-pub record Slot : Type 0 where
-  pub last_id : ℕ
-  pub status : Status
-  -- how many turns it has had, as a word
-  pub runs : ℕ
-  pub registers : Regs
-  -- from page numbers below UTOP
-  pub entries : ℕ → Option Entry
+use Rattle.jos_base.specs.declared.environment.Status.TheVariants.{Runnable, Running}
+use Rattle.jos_base.specs.Environments.{Environments, Slot, with_slot, is_live, is_running, first_environments}
+use Rattle.jos_base.specs.SpacesState.{SpacesState, directories, first_spaces}
 
 pub record KernelState : Type 0 where
-  -- from frame numbers, of frames that are used as pages
-  pub pages : ℕ → List ℕ
-  -- from the numbers of the table's 1,024 slots
-  pub slots : ℕ → Slot
-  -- the bytes written
-  pub console : List ℕ
+  pub spaces : SpacesState
+  pub environments : Environments
+  -- the bytes that the console still has to give
+  pub input : List ℕ
+  -- the slot that had the last turn
+  pub last : Option ℕ
+  -- how many turns were begun
+  pub turns : ℕ
+  -- how often the list of frames or the table of environments was asked and empty
+  pub refusals : ℕ
 
-abbrev pub is_live : Slot → Bool
-is_live slot = is_used slot.status
-  where
-    is_used : Status → Bool
-    is_used Free = false
-    is_used _ = true
+abbrev pub slot_at : KernelState → ℕ → Slot
+slot_at s n = s.environments.slots n
+
+-- the state with another slot
+abbrev pub with_slot_at : KernelState → ℕ → Slot → KernelState
+with_slot_at s n slot = record s { environments = with_slot s.environments n slot }
+
+abbrev pub with_status : KernelState → ℕ → Status → KernelState
+with_status s n status = with_slot_at s n (record (slot_at s n) { status = status })
+
+abbrev pub with_registers : KernelState → ℕ → Regs → KernelState
+with_registers s n registers = with_slot_at s n (record (slot_at s n) { registers = registers })
+
+abbrev pub with_directory : KernelState → ℕ → ℕ → KernelState
+with_directory s n frame = with_slot_at s n (record (slot_at s n) { directory = frame })
+
+abbrev pub with_spaces : KernelState → SpacesState → KernelState
+with_spaces s spaces = record s { spaces = spaces }
+
+-- the state after something was refused for want of a frame or a slot; the count stands still at the end of its type
+abbrev pub with_refusal : KernelState → KernelState
+with_refusal s = record s { refusals = min (s.refusals + 1) (2 ^ 64 - 1) }
+
+-- so many frames and the console's input, and nothing done yet
+abbrev pub first_state : ℕ → List ℕ → KernelState
+first_state frames input = record {
+  spaces = first_spaces frames;
+  environments = first_environments;
+  input = input;
+  last = None;
+  turns = 0;
+  refusals = 0;
+}
+
+-- ---- turns
+
+-- at the start of a turn its environment is RUNNING
+abbrev pub turn_begun : KernelState → ℕ → KernelState
+turn_begun s n =
+    record (with_slot_at s n (record (slot_at s n) { status = Running; runs = ((slot_at s n).runs + 1) % 2 ^ 32 })) {
+      last = Some n;
+      turns = s.turns + 1;
+    }
+
+-- at the end of a turn an environment that is RUNNING is RUNNABLE again
+abbrev pub turn_ended : KernelState → ℕ → KernelState
+turn_ended s n = if is_running (slot_at s n).status then with_status s n Runnable else s
+
+-- ---- what holds at every moment
+
+-- Each live environment has a space in use, no two have the same, and each space in use is a live environment's.
+pub record HasSpaces (s : SpacesState) (e : Environments) : Type 0 where
+  pub in_use : (n : ℕ) → is_live (e.slots n) ≡ true → directories s (e.slots n).directory ≡ true
+  pub apart : (n m : ℕ) → is_live (e.slots n) ≡ true → is_live (e.slots m) ≡ true →
+      (e.slots n).directory ≡ (e.slots m).directory → n ≡ m
+  pub owned : (d : ℕ) → directories s d ≡ true → (n : ℕ) × (is_live (e.slots n) ≡ true) × ((e.slots n).directory ≡ d)

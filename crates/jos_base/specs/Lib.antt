@@ -1,6 +1,9 @@
 pub mod Words
-pub mod KernelState
 pub mod Reach
+pub mod Counting
+pub mod SpacesState
+pub mod UserMemory
+pub mod Environments
 pub mod Lines
+pub mod KernelState
 pub mod SystemCalls
-pub mod Faults

@@ -3,6 +3,8 @@
 -- (MIT 6.828, kern/trap.c and kern/pmap.c; the line of a trap is this system's own.)
 use Rattle.std.specs.Prelude.{ℕ, ◌+◌, ◌/◌, ◌%◌, ◌^◌, ◌==◌, nat_lt, not, List, [], ◌∷◌, ◌++◌, take, drop, position}
 use Rattle.std.specs.Prelude.{unwrap_or, codes, decimal, if◌then◌else◌}
+use Rattle.jos_base.specs.declared.line.Line.{Line}
+use Rattle.jos_base.specs.declared.line.Line.TheVariants.{UserFault, UserMemCheck, Trap}
 
 abbrev pub hex_digit : ℕ → ℕ
 hex_digit n = if nat_lt n 10 then n + 48 else n + 87
@@ -28,3 +30,9 @@ user_mem_check_line id va =
 unfoldable pub trap_line : ℕ → ℕ → ℕ → ℕ → List ℕ
 trap_line id trap error ip =
     codes "[" ++ hex_word id ++ codes "] trap " ++ decimal trap ++ codes " err " ++ hex error ++ codes " ip " ++ hex_word ip ++ codes "\n"
+
+-- the line of an environment's end
+abbrev pub line_text : ℕ → Line → List ℕ
+line_text id (UserFault va ip) = user_fault_line id va ip
+line_text id (UserMemCheck va) = user_mem_check_line id va
+line_text id (Trap number error ip) = trap_line id number error ip

@@ -7,7 +7,12 @@ use Rattle.jos_base.specs.declared.memory.Access.TheVariants.{Read, Write}
 use Rattle.jos_base.specs.declared.memory.PageFault.{PageFault}
 use Rattle.jos_base.specs.declared.numbers.TheConstants.{PTE_P, PTE_W, PTE_U, FEC_PR, FEC_WR, FEC_U}
 use Rattle.jos_base.specs.Words.{page_number, page_offset}
-use Rattle.jos_base.specs.KernelState.{Entry}
+
+-- a page's entry: the frame that it names, and its twelve low bits, PTE_P, PTE_W, PTE_U, PTE_A, PTE_D and PTE_AVAIL
+-- among them
+pub record Entry : Type 0 where
+  pub frame : ℕ
+  pub perm : ℕ
 
 -- where a byte lies
 pub record Location : Type 0 where

@@ -3,7 +3,7 @@
 ghost use Rattle.std.specs.Prelude.{◌≡◌};
 ghost use Rattle.jos_base.specs.SystemCalls.{error_number};
 
-use crate::numbers::{E_BAD_ENV, E_INVAL};
+use crate::numbers::{E_BAD_ENV, E_INVAL, E_NO_FREE_ENV, E_NO_MEM};
 use std::alloc::{AllocError, AllocFailed};
 
 /// The error of a system call, which is answered as its number, negated as a word. (MIT 6.828, inc/error.h)
@@ -13,6 +13,10 @@ pub enum Errno {
     BadEnv,
     /// An argument is out of its range, or the call's number names none.
     Invalid,
+    /// There is no free frame.
+    NoMem,
+    /// There is no free slot for an environment.
+    NoFreeEnv,
 }
 
 impl Errno {
@@ -23,6 +27,8 @@ impl Errno {
         match self {
             Errno::BadEnv => E_BAD_ENV,
             Errno::Invalid => E_INVAL,
+            Errno::NoMem => E_NO_MEM,
+            Errno::NoFreeEnv => E_NO_FREE_ENV,
         }
     }
 }
@@ -47,10 +53,15 @@ impl<T: Drop> From<AllocFailed<T>> for NoMemory {
 mod tests {
     use super::*;
 
-    // E_BAD_ENV and E_INVAL of MIT 6.828's inc/error.h
+    // the numbers of MIT 6.828's inc/error.h
     #[test]
     fn numbers_the_errors(rt: HostRuntime) {
-        for (errno, number) in [(Errno::BadEnv, 2), (Errno::Invalid, 3)] {
+        for (errno, number) in [
+            (Errno::BadEnv, 2),
+            (Errno::Invalid, 3),
+            (Errno::NoMem, 4),
+            (Errno::NoFreeEnv, 5),
+        ] {
             assert_eq!(rt; errno.code(), number, "{errno:?}");
         }
     }

@@ -1,4 +1,16 @@
-//! Accesses to memory.
+//! Frames, and accesses to memory.
+
+/// A page frame, by its number: the physical address of its first byte, divided by `PGSIZE`.
+#[derive(Clone, Copy, Debug, PartialEq, Eq)]
+pub struct Frame(pub u32);
+
+/// Where a byte lies in memory.
+#[derive(Clone, Copy, Debug, PartialEq, Eq)]
+pub struct Location {
+    pub frame: Frame,
+    /// The place in the frame, below `PGSIZE`.
+    pub offset: u32,
+}
 
 /// How memory is reached.
 #[derive(Clone, Copy, Debug, PartialEq, Eq)]

@@ -6,6 +6,9 @@
 /// The bytes of a page.
 pub const PGSIZE: u32 = 4096;
 
+/// The entries of a directory or of a table.
+pub const NPTENTRIES: u32 = 1024;
+
 /// The entry of a page is there.
 pub const PTE_P: u32 = 0x001;
 
@@ -14,6 +17,18 @@ pub const PTE_W: u32 = 0x002;
 
 /// A user may reach the page.
 pub const PTE_U: u32 = 0x004;
+
+/// The page, or a page of the region, was reached.
+pub const PTE_A: u32 = 0x020;
+
+/// The page was written.
+pub const PTE_D: u32 = 0x040;
+
+/// The bits of an entry that are left to software.
+pub const PTE_AVAIL: u32 = 0xe00;
+
+/// The bits that a system call may set in an entry.
+pub const PTE_SYSCALL: u32 = 0xe07;
 
 /// Where a program may have memory beside that from `UTEXT` on: from here to `UTEMP`.
 pub const USTABDATA: u32 = 0x0020_0000;
@@ -99,8 +114,23 @@ pub const FL_OF: u32 = 0x800;
 /// Writes bytes to the console.
 pub const SYS_CPUTS: u32 = 0;
 
+/// Takes a byte of the console's input.
+pub const SYS_CGETC: u32 = 1;
+
+/// Tells the caller's id.
+pub const SYS_GETENVID: u32 = 2;
+
 /// Destroys an environment.
 pub const SYS_ENV_DESTROY: u32 = 3;
+
+/// Makes an environment that has the caller's registers and no page.
+pub const SYS_EXOFORK: u32 = 7;
+
+/// Sets whether an environment may run.
+pub const SYS_ENV_SET_STATUS: u32 = 8;
+
+/// Gives up the rest of the turn.
+pub const SYS_YIELD: u32 = 11;
 
 /// No such environment, or none that the caller may change.
 pub const E_BAD_ENV: u32 = 2;
@@ -108,10 +138,31 @@ pub const E_BAD_ENV: u32 = 2;
 /// An argument is out of its range.
 pub const E_INVAL: u32 = 3;
 
+/// There is no free frame.
+pub const E_NO_MEM: u32 = 4;
+
+/// There is no free slot.
+pub const E_NO_FREE_ENV: u32 = 5;
+
+/// What `cgetc` answers where the console's input is at its end.
+pub const END_OF_INPUT: u32 = 4;
+
 // ---- environments (MIT 6.828, inc/env.h and kern/env.c)
 
 /// The id of the first environment that has slot 0.
 pub const FIRST_ENV_ID: u32 = 0x1000;
+
+/// The slots of the environment table.
+pub const NENV: u32 = 1024;
+
+/// What an id is raised by when its slot is used again. (MIT 6.828, kern/env.c: 1 << ENVGENSHIFT)
+pub const ENV_GENERATION: u32 = 4096;
+
+/// Of an environment that may not run.
+pub const ENV_NOT_RUNNABLE: u32 = 4;
+
+/// Of an environment that waits for a turn.
+pub const ENV_RUNNABLE: u32 = 2;
 
 // ---- the limits of this system
 
@@ -130,8 +181,29 @@ pub const INSTRUCTION_MAX: usize = 15;
 /// The most steps of a turn.
 pub const QUANTUM: u32 = 1000;
 
-/// The steps of a run.
-pub const BUDGET: u32 = 1_000_000;
+/// The steps of a run where the words say no number.
+pub const STEPS: u64 = 100_000_000;
+
+/// The most steps that the words may ask for.
+pub const STEPS_MAX: u64 = 1_000_000_000;
+
+/// The frames of a run where the words say no number.
+pub const FRAMES: u32 = 16_384;
+
+/// The fewest frames.
+pub const FRAMES_MIN: u32 = 64;
+
+/// The most frames.
+pub const FRAMES_MAX: u32 = 65_536;
+
+/// The most images of a run.
+pub const IMAGES_MAX: usize = 64;
+
+/// The most bytes of a schedule's text.
+pub const SCHEDULE_TEXT_MAX: u64 = 16_777_216;
+
+/// The most bytes of the console's input.
+pub const INPUT_MAX: usize = 1_048_576;
 
 /// The most turns of a run.
 pub const TURN_MAX: usize = 1_048_576;

@@ -6,7 +6,7 @@ use Rattle.std.proofs.lemmas.Bool.Decides.{nat_tests}
 use Rattle.std.proofs.lemmas.List.{append-nil}
 use Rattle.jos_base.specs.declared.registers.Regs.{Regs}
 use Rattle.jos_base.specs.declared.environment.Status.TheVariants.{Running}
-use Rattle.jos_base.specs.KernelState.{Slot}
+use Rattle.jos_cli.specs.OneSlot.{Slot}
 use Rattle.jos_cpu.specs.declared.events.Event.{Event}
 use Rattle.jos_cpu.specs.declared.events.Event.TheVariants.{Next, Soft, Raised}
 use Rattle.jos_cpu.specs.declared.events.Gates.TheVariants.{Exo}
@@ -16,9 +16,9 @@ use Rattle.jos_host.specs.declared.host.Failed.{Failed}
 use Rattle.jos_cli.specs.declared.environment.Environment.{Environment}
 use Rattle.jos_cli.specs.declared.kernel.Kernel.{Kernel}
 use Rattle.jos_cli.specs.Space.{Mapped, pages_of, entries_of, space_memory}
-use Rattle.jos_cli.specs.Frames.{from_to}
+use Rattle.jos_host.specs.Frames.{from_to}
 use Rattle.jos_cli.specs.Environments.{slot_of, Makes}
-use Rattle.jos_cli.specs.Gains.{GainsPart}
+use Rattle.jos_host.specs.Gains.{GainsPart}
 use Rattle.jos_cli.specs.Steps.{EnvStep, after_event, env_step}
 use Rattle.jos_cli.specs.ExoRun.{Progress, Ran, in_turn, turn_goes_on, paused, turn_of, end_of, progressed_in}
 use Rattle.jos_cli.specs.ExoRun.{progressed, run_from}

@@ -10,7 +10,7 @@ use Rattle.jos_host.specs.Told.{Creates, WritesAt}
 use Rattle.jos_cli.specs.declared.outcome.Outcome.{Outcome}
 use Rattle.jos_cli.specs.declared.outcome.Outcome.TheVariants as outcome
 use Rattle.jos_cli.specs.declared.outcome.Stopped.{Stopped}
-use Rattle.jos_cli.specs.Frames.{from_to}
+use Rattle.jos_host.specs.Frames.{from_to}
 use Rattle.jos_cli.specs.Commands.{Command, exo, demo, program_file}
 use Rattle.jos_cli.specs.FilesLeft.{KeepsOthers, told_with, LeavesProgram, Leaves}
 

@@ -1,6 +1,6 @@
 -- What two calls leave as it was.
 use Rattle.std.proofs.Common.{◌∙◌}
-use Rattle.jos_cli.specs.Frames.{Unchanged}
+use Rattle.jos_host.specs.Frames.{Unchanged}
 
 pub still : {H A B C D : Type 0} {a : H → A} {b : H → B} {c : H → C} {d : H → D} {old mid new : H} →
     Unchanged a b c d old mid → Unchanged a b c d mid new → Unchanged a b c d old new

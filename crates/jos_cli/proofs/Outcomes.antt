@@ -5,8 +5,8 @@ use Rattle.jos_elf.specs.declared.image.Segment.{Segment}
 use Rattle.jos_cli.specs.declared.outcome.End.{End}
 use Rattle.jos_cli.specs.declared.outcome.Outcome.TheVariants as outcome
 use Rattle.jos_cli.specs.declared.kernel.Kernel.{Kernel}
-use Rattle.jos_cli.specs.Frames.{from_to}
-use Rattle.jos_cli.specs.Gains.{GainsPart}
+use Rattle.jos_host.specs.Frames.{from_to}
+use Rattle.jos_host.specs.Gains.{GainsPart}
 use Rattle.jos_cli.specs.ExoRun.{Progress, Ran, run_from, boot, exo_run}
 use Rattle.jos_cli.specs.Reports.{Reported}
 use Rattle.jos_cli.specs.Kernel.{IsRun}

@@ -8,9 +8,9 @@ use Rattle.jos_cli.specs.declared.outcome.End.{End}
 use Rattle.jos_cli.specs.declared.outcome.End.TheVariants.{Budget}
 use Rattle.jos_cli.specs.declared.kernel.Kernel.{Kernel}
 use Rattle.jos_cli.specs.Steps.{env_step}
-use Rattle.jos_cli.specs.Frames.{from_to}
+use Rattle.jos_host.specs.Frames.{from_to}
 use Rattle.jos_cli.specs.Environments.{slot_of}
-use Rattle.jos_cli.specs.Gains.{Gains}
+use Rattle.jos_host.specs.Gains.{Gains}
 use Rattle.jos_cli.specs.ExoRun.{Progress, Ran, state_with, in_turn, end_of, over, progressed, after_test, run_from}
 use Rattle.jos_cli.specs.Kernel.{progress_of, Advances, IsRun}
 use Rattle.jos_cli.proofs.ToldBytes.{gains_none, gains_more, gains_part}

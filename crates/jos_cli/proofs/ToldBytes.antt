@@ -5,8 +5,8 @@ use Rattle.std.proofs.lemmas.List.{append-nil, length-append, take-append-le}
 use Rattle.std.proofs.Math.Seq.{take-append-add}
 use Rattle.std.specs.Option.{option_map}
 use Rattle.jos_host.specs.Told.{Appends}
-use Rattle.jos_cli.specs.Frames.{from_to}
-use Rattle.jos_cli.specs.Gains.{Gains, GainsPart}
+use Rattle.jos_host.specs.Frames.{from_to}
+use Rattle.jos_host.specs.Gains.{Gains, GainsPart}
 
 pub gains_none : (first : Option (List ℕ)) → first ≡ option_map (λ told. told ++ []) first
 gains_none None = refl

@@ -7,8 +7,8 @@ use Rattle.jos_host.specs.Told.{Rose}
 use Rattle.jos_cli.specs.declared.outcome.Stopped.{Stopped}
 use Rattle.jos_cli.specs.declared.outcome.Outcome.{Outcome}
 use Rattle.jos_cli.specs.declared.outcome.Outcome.TheVariants as outcome
-use Rattle.jos_cli.specs.Frames.{Around, from_to}
-use Rattle.jos_cli.specs.Gains.{Gains, GainsPart}
+use Rattle.jos_host.specs.Frames.{Around, from_to}
+use Rattle.jos_host.specs.Gains.{Gains, GainsPart}
 use Rattle.jos_cli.specs.Commands.{Command, exo, demo, command_of}
 use Rattle.jos_cli.specs.Answer.{Expected, refused, usage, expected_of_file, expected_of_program, Answers}
 use Rattle.jos_cli.specs.Answer.{AnswersCommand, HasOutcomeCause}

@@ -4,7 +4,8 @@ use Rattle.std.specs.Prelude.{◌≡◌, ◌≢◌, ℕ, nat_lt, nat_le, ◌+◌
 use Rattle.std.specs.Prelude.{Result, Ok, Err, if◌then◌else◌}
 use Rattle.jos_host.specs.Files.{Files}
 use Rattle.jos_host.specs.Told.{Rose}
-use Rattle.jos_base.specs.declared.numbers.TheConstants.{PGSIZE, BUDGET, IMAGE_MAX}
+use Rattle.jos_base.specs.declared.numbers.TheConstants.{PGSIZE, IMAGE_MAX}
+use Rattle.jos_cli.specs.declared.limits.TheConstants.{BUDGET}
 use Rattle.jos_base.specs.Words.{page_offset}
 use Rattle.jos_elf.specs.declared.fault.ElfFault.{ElfFault}
 use Rattle.jos_elf.specs.declared.image.Segment.{Segment}
@@ -20,9 +21,9 @@ use Rattle.jos_cli.specs.declared.outcome.Outcome.{Outcome}
 use Rattle.jos_cli.specs.declared.outcome.Outcome.TheVariants.{Ran, Usage, Absent, Limit, BadImage, HostFault}
 use Rattle.jos_cli.specs.declared.outcome.Outcome.TheVariants.{NoMemory, Unbuilt, Made}
 use Rattle.jos_cli.specs.declared.kernel.Kernel.{Kernel}
-use Rattle.jos_cli.specs.Frames.{Around}
+use Rattle.jos_host.specs.Frames.{Around}
 use Rattle.jos_cli.specs.Reports.{Reported}
-use Rattle.jos_cli.specs.Gains.{Gains, GainsPart}
+use Rattle.jos_host.specs.Gains.{Gains, GainsPart}
 use Rattle.jos_cli.specs.ExoRun.{exo_run}
 use Rattle.jos_cli.specs.ExoRun as run
 use Rattle.jos_cli.specs.Commands.{Command, exo, demo, program_file}

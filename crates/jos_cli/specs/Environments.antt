@@ -1,11 +1,11 @@
 -- What an environment means in the kernel's state, and what a call has made of it.
 use Rattle.std.specs.Prelude.{◌≡◌, ℕ, List, Option, Result, Ok, Err}
 use Rattle.jos_host.specs.declared.host.Failed.{Failed}
-use Rattle.jos_base.specs.KernelState.{Slot}
-use Rattle.jos_base.specs.SystemCalls.{Change}
+use Rattle.jos_cli.specs.OneSlot.{Slot}
+use Rattle.jos_cli.specs.OneSlotCalls.{Change}
 use Rattle.jos_cli.specs.declared.environment.Environment.{Environment}
-use Rattle.jos_cli.specs.Frames.{Around}
-use Rattle.jos_cli.specs.Gains.{Gains, GainsPart}
+use Rattle.jos_host.specs.Frames.{Around}
+use Rattle.jos_host.specs.Gains.{Gains, GainsPart}
 use Rattle.jos_cli.specs.Space.{Mapped, entries_of}
 
 -- the slot of an environment in whose space these pages are mapped

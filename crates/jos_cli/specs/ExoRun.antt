@@ -10,7 +10,7 @@ use Rattle.jos_base.specs.declared.environment.Status.TheVariants.{Free, Runnabl
 use Rattle.jos_base.specs.declared.numbers.TheConstants.{PGSIZE, USTACKTOP, FL_IF, FL_1, FIRST_ENV_ID, QUANTUM}
 use Rattle.jos_base.specs.declared.numbers.TheConstants.{TURN_MAX}
 use Rattle.jos_base.specs.Words.{page_number, page_offset, upd}
-use Rattle.jos_base.specs.KernelState.{KernelState, Slot, is_live}
+use Rattle.jos_cli.specs.OneSlot.{KernelState, Slot, is_live}
 use Rattle.jos_elf.specs.declared.image.Segment.{Segment}
 use Rattle.jos_cli.specs.declared.outcome.End.{End}
 use Rattle.jos_cli.specs.declared.outcome.End.TheVariants.{Done, Stuck, Budget, TurnsFull}

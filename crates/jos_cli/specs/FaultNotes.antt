@@ -4,8 +4,8 @@ use Rattle.jos_host.specs.Files.{Files}
 use Rattle.jos_host.specs.Told.{Rose}
 use Rattle.jos_cli.specs.declared.outcome.Outcome.{Outcome}
 use Rattle.jos_cli.specs.declared.outcome.Outcome.TheVariants.{HostFault}
-use Rattle.jos_cli.specs.Frames.{Around}
-use Rattle.jos_cli.specs.Gains.{Gains, GainsPart}
+use Rattle.jos_host.specs.Frames.{Around}
+use Rattle.jos_host.specs.Gains.{Gains, GainsPart}
 use Rattle.jos_cli.specs.Commands.{command_of}
 use Rattle.jos_cli.specs.Answer.{AnswersCommand}
 use Rattle.jos_cli.specs.Notes.{note_of}

@@ -2,7 +2,7 @@
 use Rattle.std.specs.Prelude.{◌≡◌, ℕ, ◌⊎◌, List, [], ◌∷◌, Option, Some, None}
 use Rattle.jos_host.specs.declared.host.FileCall.TheVariants.{Size, Read, Create, Write}
 use Rattle.jos_host.specs.Asked.{Asked, and_asked}
-use Rattle.jos_cli.specs.Frames.{Around, from_to}
+use Rattle.jos_host.specs.Frames.{Around, from_to}
 use Rattle.jos_cli.specs.Commands.{Command, exo, demo}
 
 -- an image is asked for its size, and read whole by one call

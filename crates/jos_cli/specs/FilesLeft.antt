@@ -4,7 +4,7 @@ use Rattle.std.specs.Option.{option_map}
 use Rattle.jos_host.specs.Files.{Files, with_bytes, SameElsewhere}
 use Rattle.jos_cli.specs.declared.outcome.Outcome.{Outcome}
 use Rattle.jos_cli.specs.declared.outcome.Outcome.TheVariants.{Made, HostFault}
-use Rattle.jos_cli.specs.Frames.{Around}
+use Rattle.jos_host.specs.Frames.{Around}
 use Rattle.jos_cli.specs.Commands.{Command, exo, demo, program_file}
 
 -- every other name keeps its bytes

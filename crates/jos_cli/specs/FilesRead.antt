@@ -2,7 +2,7 @@
 use Rattle.std.specs.Prelude.{◌≡◌, ℕ, ◌<◌, ◌≤◌, List, length, Option, Some, None}
 use Rattle.jos_base.specs.declared.numbers.TheConstants.{IMAGE_MAX}
 use Rattle.jos_host.specs.Told.{Rose}
-use Rattle.jos_cli.specs.Frames.{Around}
+use Rattle.jos_host.specs.Frames.{Around}
 use Rattle.jos_cli.specs.declared.files.FileFault.{FileFault}
 use Rattle.jos_cli.specs.declared.files.FileFault.TheVariants.{Absent, TooLong, Host, NoMemory}
 

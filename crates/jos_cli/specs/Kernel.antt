@@ -4,12 +4,12 @@ use Rattle.std.specs.Prelude.{vec_capacity, if◌then◌else◌}
 use Rattle.jos_host.specs.declared.host.Failed.{Failed}
 use Rattle.jos_base.specs.declared.environment.Status.TheVariants.{Running}
 use Rattle.jos_base.specs.declared.numbers.TheConstants.{QUANTUM, TURN_MAX}
-use Rattle.jos_base.specs.KernelState.{Slot}
+use Rattle.jos_cli.specs.OneSlot.{Slot}
 use Rattle.jos_cli.specs.declared.outcome.End.{End}
 use Rattle.jos_cli.specs.declared.kernel.Kernel.{Kernel}
-use Rattle.jos_cli.specs.Frames.{Around}
+use Rattle.jos_host.specs.Frames.{Around}
 use Rattle.jos_cli.specs.Environments.{slot_of}
-use Rattle.jos_cli.specs.Gains.{Gains, GainsPart}
+use Rattle.jos_host.specs.Gains.{Gains, GainsPart}
 use Rattle.jos_cli.specs.ExoRun.{Progress, Ran, turn_goes_on, paused, turn_of, turns_of, run_from}
 
 -- where the kernel stands in a run that has written these bytes

@@ -1,8 +1,9 @@
-pub mod Frames
+pub mod OneSlot
+pub mod OneSlotCalls
+pub mod OneSlotFaults
 pub mod Space
 pub mod SpaceLaws
 pub mod Steps
-pub mod Gains
 pub mod Environments
 pub mod ExoRun
 pub mod Room

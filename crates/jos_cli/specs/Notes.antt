@@ -11,9 +11,9 @@ use Rattle.jos_cli.specs.declared.outcome.Feature.TheVariants as feature
 use Rattle.jos_cli.specs.declared.outcome.Outcome.{Outcome}
 use Rattle.jos_cli.specs.declared.outcome.Outcome.TheVariants.{Ran, Usage, Absent, Limit, BadImage, HostFault}
 use Rattle.jos_cli.specs.declared.outcome.Outcome.TheVariants.{NoMemory, Unbuilt, Made}
-use Rattle.jos_cli.specs.Frames.{Around}
+use Rattle.jos_host.specs.Frames.{Around}
 use Rattle.jos_cli.specs.Reports.{Reported}
-use Rattle.jos_cli.specs.Gains.{Gains}
+use Rattle.jos_host.specs.Gains.{Gains}
 
 abbrev pub end_text : End → List ℕ
 end_text Done = codes "done"

@@ -7,7 +7,7 @@ use Rattle.jos_base.specs.declared.memory.Access.{Access}
 use Rattle.jos_base.specs.declared.memory.PageFault.{PageFault}
 use Rattle.jos_base.specs.declared.numbers.TheConstants.{PGSIZE, PTE_P, PTE_U, PTE_W, USTACKTOP, FDTABLE}
 use Rattle.jos_base.specs.Words.{page_number, page_offset, upd}
-use Rattle.jos_base.specs.KernelState.{Entry}
+use Rattle.jos_base.specs.Reach.{Entry}
 use Rattle.jos_base.specs.Reach.{Location, reach, read_byte}
 use Rattle.jos_elf.specs.declared.image.Segment.{Segment}
 use Rattle.jos_cpu.specs.declared.memory.MemFault.TheVariants.{Page}

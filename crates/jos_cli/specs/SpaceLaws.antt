@@ -5,7 +5,7 @@ use Rattle.std.specs.Prelude.{slice_set, refl, if◌then◌else◌}
 use Rattle.std.proofs.Common.{inl, inr, sym, ap, ◌∙◌}
 use Rattle.jos_base.specs.declared.memory.Access.TheVariants.{Read}
 use Rattle.jos_base.specs.Words.{upd}
-use Rattle.jos_base.specs.KernelState.{Entry}
+use Rattle.jos_base.specs.Reach.{Entry}
 use Rattle.jos_base.specs.Reach.{byte_read, reach_entry, read_byte}
 use Rattle.jos_cpu.specs.Memory.{IsLawful}
 use Rattle.jos_cpu.specs.MemoryLaws.{set_or_same}

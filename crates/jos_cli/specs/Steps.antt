@@ -2,9 +2,9 @@
 -- (MIT 6.828, kern/trap.c, and inc/trap.h for the gates.)
 use Rattle.std.specs.Prelude.{ℕ, ◌==◌, List, [], if◌then◌else◌}
 use Rattle.jos_base.specs.declared.numbers.TheConstants.{T_BRKPT, T_PGFLT, T_SYSCALL}
-use Rattle.jos_base.specs.KernelState.{Slot}
-use Rattle.jos_base.specs.SystemCalls.{Change, system_call}
-use Rattle.jos_base.specs.Faults.{deliver_fault, deliver_trap}
+use Rattle.jos_cli.specs.OneSlot.{Slot}
+use Rattle.jos_cli.specs.OneSlotCalls.{Change, system_call}
+use Rattle.jos_cli.specs.OneSlotFaults.{deliver_fault, deliver_trap}
 use Rattle.jos_cpu.specs.declared.events.Event.{Event}
 use Rattle.jos_cpu.specs.declared.events.Event.TheVariants.{Next, Soft, Raised}
 use Rattle.jos_cpu.specs.declared.events.Gates.TheVariants.{Exo}

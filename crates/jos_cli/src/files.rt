@@ -2,7 +2,7 @@
 
 ghost use Rattle.std.specs.Prelude.{◌≡◌, ◌≤◌, ⊤, IfOk, OnOk, OnErr, vec_len, MatchOption, MatchResult};
 ghost use Rattle.jos_host.specs.Told.{HasCause};
-ghost use Rattle.jos_cli.specs.Frames.{Unchanged, around};
+ghost use Rattle.jos_host.specs.Frames.{Unchanged, around};
 ghost use Rattle.jos_cli.specs.FilesRead.{IsFile, IsFileFault, HasFileCause};
 ghost use Rattle.jos_cli.specs.FilesLeft.{KeepsOthers, told_with};
 ghost use Rattle.jos_cli.specs.FilesAsked.{AsksFor, image_calls, file_calls};

@@ -29,7 +29,7 @@ pub(crate) struct Kernel {
 }
 
 impl Kernel {
-    ghost use Rattle.jos_cli.specs.Frames.{Unchanged, around, from_to};
+    ghost use Rattle.jos_host.specs.Frames.{Unchanged, around, from_to};
     ghost use Rattle.jos_cli.specs.Environments.{slot_of};
     ghost use Rattle.jos_cli.specs.Space.{IsOnePage};
     ghost use Rattle.jos_cli.specs.Room.{IsRoom};

@@ -9,7 +9,7 @@
 
 ghost use Rattle.std.specs.Prelude.{◌≡◌};
 ghost use Rattle.std.specs.Process.{exit_status};
-ghost use Rattle.jos_cli.specs.Frames.{around};
+ghost use Rattle.jos_host.specs.Frames.{around};
 ghost use Rattle.jos_cli.specs.declared.outcome.Outcome.{Outcome};
 ghost use Rattle.jos_cli.specs.Answer.{AnswersCommand, HasOutcomeCause, HasStatusCause, status_of};
 ghost use Rattle.jos_cli.specs.Commands.{command_of};
@@ -23,6 +23,7 @@ mod command;
 mod environment;
 mod files;
 mod kernel;
+mod limits;
 mod lines;
 mod notes;
 mod outcome;

@@ -2,8 +2,8 @@
 
 ghost use Rattle.std.specs.Prelude.{◌≡◌, ◌≤◌, [], length, slice_get, unwrap_or, MatchResult, map};
 ghost use Rattle.jos_host.specs.Told.{HasCause, Appends};
-ghost use Rattle.jos_cli.specs.Frames.{Unchanged, around};
-ghost use Rattle.jos_cli.specs.Gains.{Gains, GainsPart};
+ghost use Rattle.jos_host.specs.Frames.{Unchanged, around};
+ghost use Rattle.jos_host.specs.Gains.{Gains, GainsPart};
 ghost use Rattle.jos_cli.specs.Notes.{end_text, report_text, bad_image_text, made_text, note_text, word_in_note};
 ghost use Rattle.jos_cli.specs.Notes.{note_of};
 

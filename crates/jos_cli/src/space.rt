@@ -47,7 +47,11 @@ impl Model for Space {
 }
 
 impl Mem for Space {
-    ghost use Rattle.jos_cli.specs.Space.{space_memory};
+    ghost use Rattle.jos_cli.specs.Space.{Mapped, space_memory};
+
+    ghost State = { Mapped };
+
+    ghost seen = { λ s. s };
 
     ghost table = { space_memory };
 

@@ -1,7 +1,7 @@
 //! What comes of a step of an environment.
 
 ghost use Rattle.jos_host.specs.Told.{HasCause};
-ghost use Rattle.jos_cli.specs.Frames.{Unchanged, around};
+ghost use Rattle.jos_host.specs.Frames.{Unchanged, around};
 ghost use Rattle.jos_cli.specs.Space.{pages_of};
 ghost use Rattle.jos_cli.specs.Steps.{after_trap, after_event};
 ghost use Rattle.jos_cli.specs.Environments.{slot_of, Makes};

@@ -3,9 +3,9 @@
 ghost use Rattle.std.specs.Prelude.{◌≡◌, ◌≤◌, Result, Ok, Err, MatchResult};
 ghost use Rattle.jos_host.specs.Told.{HasCause};
 ghost use Rattle.jos_base.specs.Reach.{read_byte, bytes_read};
-ghost use Rattle.jos_base.specs.SystemCalls.{cputs, env_destroy, destroyed, system_call};
-ghost use Rattle.jos_base.specs.Faults.{deliver_fault, deliver_trap};
-ghost use Rattle.jos_cli.specs.Frames.{Unchanged, around};
+ghost use Rattle.jos_cli.specs.OneSlotCalls.{cputs, env_destroy, destroyed, system_call};
+ghost use Rattle.jos_cli.specs.OneSlotFaults.{deliver_fault, deliver_trap};
+ghost use Rattle.jos_host.specs.Frames.{Unchanged, around};
 ghost use Rattle.jos_cli.specs.Space.{Mapped, pages_of, entries_of};
 ghost use Rattle.jos_cli.specs.Environments.{slot_of, Makes};
 
@@ -120,7 +120,7 @@ fn make_env_destroy(environment: &mut Environment)
 }
 
 /// Makes the system call that EAX names.
-#[tactic(auto, unfolding(jos_base::specs::SystemCalls::system_call))]
+#[tactic(auto, unfolding(crate::specs::OneSlotCalls::system_call))]
 #[cold]
 #[inline(never)]
 pub(crate) fn make_system_call<H: Host>(

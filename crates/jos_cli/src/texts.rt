@@ -4,7 +4,7 @@ ghost use Rattle.std.specs.Prelude.{◌≡◌, ℕ, ◌≤◌, [], ◌∷◌, Ok
 ghost use Rattle.jos_host.specs.Files.{Files};
 ghost use Rattle.jos_host.specs.Told.{Rose};
 ghost use Rattle.jos_elf.specs.Parsed.{Layout, parsed};
-ghost use Rattle.jos_cli.specs.Frames.{around};
+ghost use Rattle.jos_host.specs.Frames.{around};
 ghost use Rattle.jos_cli.specs.Commands.{exo, demo, command_of};
 ghost use Rattle.jos_cli.specs.Given.{words_left, given_words, HadMemory};
 ghost use Rattle.jos_cli.specs.Answer.{AnswersCommand, HasOutcomeCause, IsUsageCase, IsRunCase, IsMadeCase};

@@ -7,3 +7,9 @@ pub mod AtHand
 pub mod Untouched
 pub mod GoingOn
 pub mod ComputingAtHand
+pub mod Agreement
+pub mod Allowed
+pub mod Related
+pub mod Through
+pub mod Fenced
+pub mod Locality

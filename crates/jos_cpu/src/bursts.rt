@@ -24,7 +24,7 @@ pub struct Burst {
 #[inline(never)]
 fn execute_known<M: Mem>(known: &Decoding, regs: &mut Regs, mem: &mut M, gates: Gates) -> Event
     requires { known.now.form ≡ form_of known.now.insn.row }
-    ensures done { executed M.table known.now.insn known.now.len regs.old mem.old gates ≡ record { regs = regs.new; memory = mem.new; event = result } }
+    ensures done { executed M.table known.now.insn known.now.len regs.old (M.seen mem.old) gates ≡ record { regs = regs.new; memory = M.seen mem.new; event = result } }
     ensures kept { IfRaised result (regs.new ≡ regs.old) }
 {
     if execute_at_hand(&known.insn, &known.form, known.len, regs, mem, gates) {
@@ -43,7 +43,7 @@ fn step_and_learn<M: Mem>(
     mem: &mut M,
     gates: Gates,
 ) -> Event
-    ensures done { step_of M.table regs.old mem.old gates ≡ record { regs = regs.new; memory = mem.new; event = result } }
+    ensures done { step_of M.table regs.old (M.seen mem.old) gates ≡ record { regs = regs.new; memory = M.seen mem.new; event = result } }
     ensures kept { IfRaised result (regs.new ≡ regs.old) }
 {
     decodings.learn(regs.eip, mem.window(regs.eip));
@@ -63,7 +63,7 @@ pub fn make_burst<M: Mem>(
     limit: u32,
 ) -> Burst
     requires { 0 < limit }
-    ensures { IsBurst M.table gates limit result.steps result.event (record { regs = regs.old; memory = mem.old }) (record { regs = regs.new; memory = mem.new }) }
+    ensures { IsBurst M.table gates limit result.steps result.event (record { regs = regs.old; memory = M.seen mem.old }) (record { regs = regs.new; memory = M.seen mem.new }) }
 {
     for before in 0..limit {
         match decodings.find(regs.eip, mem.window(regs.eip)) {

@@ -25,7 +25,7 @@ pub(crate) enum Fetched {
 /// Reaches for a byte and reads it.
 #[tactic(auto, unfolding(crate::specs::Fetch::byte_reached, crate::specs::Memory::all_allowed))]
 fn reach_byte<M: Mem>(mem: &mut M, va: u32) -> Result<u8, MemFault>
-    ensures { byte_reached M.table mem.old va ≡ record { memory = mem.new; byte = result } }
+    ensures { byte_reached M.table (M.seen mem.old) va ≡ record { memory = M.seen mem.new; byte = result } }
 {
     match mem.probe(va, 1, Access::Read) {
         Err(fault) => Err(fault),
@@ -55,7 +55,7 @@ fn judge(bytes: &[u8], least: &mut usize) -> Decoded
 #[cold]
 #[inline(never)]
 fn fetch_bytes<M: Mem>(mem: &mut M, ip: u32) -> Fetched
-    ensures { fetched_at M.table mem.old ip ≡ record { memory = mem.new; fetched = result } }
+    ensures { fetched_at M.table (M.seen mem.old) ip ≡ record { memory = M.seen mem.new; fetched = result } }
 {
     let mut bytes = ArrayVec::<u8, INSTRUCTION_MAX>::new();
     let mut least = 0;
@@ -75,7 +75,7 @@ fn fetch_bytes<M: Mem>(mem: &mut M, ip: u32) -> Fetched
 
 /// Fetches the instruction at an address: from a window, where it is whole there.
 pub(crate) fn fetch<M: Mem>(mem: &mut M, ip: u32) -> Fetched
-    ensures { fetched_at M.table mem.old ip ≡ record { memory = mem.new; fetched = result } }
+    ensures { fetched_at M.table (M.seen mem.old) ip ≡ record { memory = M.seen mem.new; fetched = result } }
 {
     match decode(mem.window(ip)) {
         Decoded::Found(insn, len) => Fetched::Instruction(insn, len as u32),

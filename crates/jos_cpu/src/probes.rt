@@ -13,9 +13,9 @@ use jos_base::Access;
 /// One probe.
 #[tactic(auto, unfolding(crate::specs::Probes::probed_all))]
 fn probe_one<M: Mem>(mem: &mut M, at: AccessAt) -> Result<(), MemFault>
-    ensures after { probed_all M.table mem.old (probe_of at ∷ []) ≡ record { memory = mem.new; refusal = refusal_of result } }
-    ensures open { OnOk result (is_open_at (M.table.allowed mem.new) at ≡ true) }
-    ensures stays { M.table.allowed mem.new ≡ M.table.allowed mem.old }
+    ensures after { probed_all M.table (M.seen mem.old) (probe_of at ∷ []) ≡ record { memory = M.seen mem.new; refusal = refusal_of result } }
+    ensures open { OnOk result (is_open_at (M.table.allowed (M.seen mem.new)) at ≡ true) }
+    ensures stays { M.table.allowed (M.seen mem.new) ≡ M.table.allowed (M.seen mem.old) }
 {
     mem.probe(at.va, length_of(at.width), access_of(at.usage))
 }
@@ -23,8 +23,8 @@ fn probe_one<M: Mem>(mem: &mut M, at: AccessAt) -> Result<(), MemFault>
 /// Probes what an instruction reaches for, up to the first access that is refused.
 #[tactic(auto, unfolding(crate::specs::Probes::probed_all, crate::specs::Probes::is_open))]
 pub(crate) fn probe_all<M: Mem>(mem: &mut M, accesses: &Accesses) -> Result<(), MemFault>
-    ensures after { probed_all M.table mem.old (probes_of accesses.now) ≡ record { memory = mem.new; refusal = refusal_of result } }
-    ensures open { OnOk result (is_open (M.table.allowed mem.new) accesses.now ≡ true) }
+    ensures after { probed_all M.table (M.seen mem.old) (probes_of accesses.now) ≡ record { memory = M.seen mem.new; refusal = refusal_of result } }
+    ensures open { OnOk result (is_open (M.table.allowed (M.seen mem.new)) accesses.now ≡ true) }
 {
     match accesses {
         Accesses::None => Ok(()),

@@ -67,9 +67,9 @@ pub(crate) fn execute<M: Mem>(
     gates: Gates,
 ) -> Event
     requires { form.now ≡ form_of insn.now.row }
-    ensures done { executed M.table insn.now len regs.old mem.old gates ≡ record { regs = regs.new; memory = mem.new; event = result } }
+    ensures done { executed M.table insn.now len regs.old (M.seen mem.old) gates ≡ record { regs = regs.new; memory = M.seen mem.new; event = result } }
     ensures kept { IfRaised result (regs.new ≡ regs.old) }
-    ensures untouched { IfRaised result (mem.new ≡ accesses_left M.table insn.now regs.old mem.old) }
+    ensures untouched { IfRaised result (M.seen mem.new ≡ accesses_left M.table insn.now regs.old (M.seen mem.old)) }
 {
     let accesses = accesses_of(*form, insn, regs);
     match probe_all(mem, &accesses) {
@@ -92,9 +92,9 @@ pub(crate) fn execute<M: Mem>(
 #[inline(never)]
 #[tactic(auto, unfolding(crate::specs::Steps::step_of, crate::specs::Steps::probes_left))]
 pub fn step<M: Mem>(regs: &mut Regs, mem: &mut M, gates: Gates) -> Event
-    ensures done { step_of M.table regs.old mem.old gates ≡ record { regs = regs.new; memory = mem.new; event = result } }
+    ensures done { step_of M.table regs.old (M.seen mem.old) gates ≡ record { regs = regs.new; memory = M.seen mem.new; event = result } }
     ensures kept { IfRaised result (regs.new ≡ regs.old) }
-    ensures untouched { IfRaised result (mem.new ≡ probes_left M.table regs.old mem.old) }
+    ensures untouched { IfRaised result (M.seen mem.new ≡ probes_left M.table regs.old (M.seen mem.old)) }
 {
     match fetch(mem, regs.eip) {
         Fetched::Unknown => Event::Raised {

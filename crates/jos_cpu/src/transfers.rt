@@ -38,8 +38,8 @@ pub(crate) enum Inputs {
 #[tactic(auto, unfolding(crate::specs::Transfers::number_at, crate::specs::Memory::all_allowed))]
 #[inline(always)]
 fn number_at<M: Mem>(mem: &M, va: u32, width: Width) -> u32
-    requires { all_allowed (M.table.allowed mem.now) va (length_of width) Read ≡ true }
-    ensures { result ≡ number_at M.table mem.now va width }
+    requires { all_allowed (M.table.allowed (M.seen mem.now)) va (length_of width) Read ≡ true }
+    ensures { result ≡ number_at M.table (M.seen mem.now) va width }
 {
     if let Some(value) = mem.get_at_hand(width, va) {
         return value;
@@ -61,8 +61,8 @@ fn number_at<M: Mem>(mem: &M, va: u32, width: Width) -> u32
 
 /// What an access reads; 0 where it only writes.
 fn input_of<M: Mem>(mem: &M, at: AccessAt) -> u32
-    requires { is_open_at (M.table.allowed mem.now) at ≡ true }
-    ensures { result ≡ input_of M.table mem.now at }
+    requires { is_open_at (M.table.allowed (M.seen mem.now)) at ≡ true }
+    ensures { result ≡ input_of M.table (M.seen mem.now) at }
 {
     if is_read(at.usage) {
         number_at(mem, at.va, at.width)
@@ -77,9 +77,9 @@ fn input_of<M: Mem>(mem: &M, at: AccessAt) -> u32
 #[tactic(auto, unfolding(crate::specs::Transfers::stored_number, crate::specs::Memory::all_allowed))]
 #[inline(always)]
 fn store_number<M: Mem>(mem: &mut M, width: Width, va: u32, value: u32)
-    requires { all_allowed (M.table.allowed mem.old) va (length_of width) Write ≡ true }
-    ensures after { mem.new ≡ stored_number M.table mem.old width va value }
-    ensures stays { M.table.allowed mem.new ≡ M.table.allowed mem.old }
+    requires { all_allowed (M.table.allowed (M.seen mem.old)) va (length_of width) Write ≡ true }
+    ensures after { M.seen mem.new ≡ stored_number M.table (M.seen mem.old) width va value }
+    ensures stays { M.table.allowed (M.seen mem.new) ≡ M.table.allowed (M.seen mem.old) }
 {
     if mem.put_at_hand(width, va, value) {
         return;
@@ -115,8 +115,8 @@ fn next_word(va: u32) -> u32
 /// The words that POPA reads, which are pushed from EAX to EDI; that of ESP is passed over.
 #[tactic(auto, unfolding(crate::specs::Transfers::popped_words, crate::specs::Memory::all_allowed))]
 fn popped_words<M: Mem>(mem: &M, va: u32) -> PoppedWords
-    requires { all_allowed (M.table.allowed mem.now) va 32 Read ≡ true }
-    ensures { result ≡ popped_words M.table mem.now va }
+    requires { all_allowed (M.table.allowed (M.seen mem.now)) va 32 Read ≡ true }
+    ensures { result ≡ popped_words M.table (M.seen mem.now) va }
 {
     let second = next_word(va);
     let third = next_word(second);
@@ -139,8 +139,8 @@ fn popped_words<M: Mem>(mem: &M, va: u32) -> PoppedWords
 /// What an instruction reads.
 #[tactic(auto, unfolding(crate::specs::Transfers::inputs_of, crate::specs::Probes::is_open))]
 pub(crate) fn inputs_of<M: Mem>(mem: &M, accesses: &Accesses) -> Inputs
-    requires { is_open (M.table.allowed mem.now) accesses.now ≡ true }
-    ensures { result ≡ inputs_of M.table mem.now accesses.now }
+    requires { is_open (M.table.allowed (M.seen mem.now)) accesses.now ≡ true }
+    ensures { result ≡ inputs_of M.table (M.seen mem.now) accesses.now }
 {
     match accesses {
         Accesses::None => Inputs::Numbers(0, 0),
@@ -157,9 +157,9 @@ pub(crate) fn inputs_of<M: Mem>(mem: &M, accesses: &Accesses) -> Inputs
 /// Puts a value where an access writes.
 #[tactic(auto, unfolding(crate::specs::Transfers::stored_all))]
 fn store_at<M: Mem>(mem: &mut M, at: AccessAt, value: u32)
-    requires { is_open_at (M.table.allowed mem.old) at ≡ true }
-    ensures after { mem.new ≡ stored_all M.table mem.old (number_for at value) }
-    ensures stays { M.table.allowed mem.new ≡ M.table.allowed mem.old }
+    requires { is_open_at (M.table.allowed (M.seen mem.old)) at ≡ true }
+    ensures after { M.seen mem.new ≡ stored_all M.table (M.seen mem.old) (number_for at value) }
+    ensures stays { M.table.allowed (M.seen mem.new) ≡ M.table.allowed (M.seen mem.old) }
 {
     if is_written(at.usage) {
         store_number(mem, at.width, at.va, value);
@@ -169,9 +169,9 @@ fn store_at<M: Mem>(mem: &mut M, at: AccessAt, value: u32)
 /// Puts a value where either of two accesses writes.
 #[tactic(auto, unfolding(crate::specs::Transfers::stored_all))]
 fn store_both<M: Mem>(mem: &mut M, first: AccessAt, second: AccessAt, value: u32)
-    requires first { is_open_at (M.table.allowed mem.old) first ≡ true }
-    requires second { is_open_at (M.table.allowed mem.old) second ≡ true }
-    ensures { mem.new ≡ stored_all M.table mem.old (number_for first value ++ number_for second value) }
+    requires first { is_open_at (M.table.allowed (M.seen mem.old)) first ≡ true }
+    requires second { is_open_at (M.table.allowed (M.seen mem.old)) second ≡ true }
+    ensures { M.seen mem.new ≡ stored_all M.table (M.seen mem.old) (number_for first value ++ number_for second value) }
 {
     if is_written(first.usage) {
         store_number(mem, first.width, first.va, value);
@@ -184,8 +184,8 @@ fn store_both<M: Mem>(mem: &mut M, first: AccessAt, second: AccessAt, value: u32
 /// What PUSHA writes: the old registers, EDI lowest.
 #[tactic(auto, unfolding(crate::specs::Transfers::stored_all, crate::specs::Transfers::pushed_numbers, crate::specs::Memory::all_allowed))]
 fn push_registers<M: Mem>(mem: &mut M, va: u32, regs: &Regs)
-    requires { all_allowed (M.table.allowed mem.old) va 32 Write ≡ true }
-    ensures { mem.new ≡ stored_all M.table mem.old (pushed_numbers va regs.now) }
+    requires { all_allowed (M.table.allowed (M.seen mem.old)) va 32 Write ≡ true }
+    ensures { M.seen mem.new ≡ stored_all M.table (M.seen mem.old) (pushed_numbers va regs.now) }
 {
     let second = next_word(va);
     let third = next_word(second);
@@ -207,8 +207,8 @@ fn push_registers<M: Mem>(mem: &mut M, va: u32, regs: &Regs)
 /// Writes what an instruction writes: a value, or the old registers.
 #[tactic(auto, unfolding(crate::specs::Transfers::writes_of, crate::specs::Probes::is_open, crate::specs::Transfers::stored_all))]
 pub(crate) fn write_outputs<M: Mem>(mem: &mut M, accesses: &Accesses, regs: &Regs, value: u32)
-    requires { is_open (M.table.allowed mem.old) accesses.now ≡ true }
-    ensures { mem.new ≡ stored_all M.table mem.old (writes_of accesses.now regs.now value) }
+    requires { is_open (M.table.allowed (M.seen mem.old)) accesses.now ≡ true }
+    ensures { M.seen mem.new ≡ stored_all M.table (M.seen mem.old) (writes_of accesses.now regs.now value) }
 {
     match accesses {
         Accesses::None => {}

@@ -20,7 +20,7 @@ use jos_isa::Insn;
 /// What an access reads, where that is at hand: 0 where it only writes.
 #[inline(always)]
 fn input_at_hand<M: Mem>(mem: &M, reach: AccessAt) -> Option<u32>
-    ensures { IfSome result (IsInput M.table mem.now reach.usage reach.width reach.va) }
+    ensures { IfSome result (IsInput M.table (M.seen mem.now) reach.usage reach.width reach.va) }
 {
     if is_read(reach.usage) {
         mem.get_at_hand(reach.width, reach.va)
@@ -41,7 +41,7 @@ fn compute_at_hand<M: Mem>(
     gates: Gates,
 ) -> bool
     requires { form_of insn.now.row ≡ Compute act width places.0 places.1 places.2 }
-    ensures { IsQuick M.table insn.now len gates result (record { regs = regs.old; memory = mem.old }) (record { regs = regs.new; memory = mem.new }) }
+    ensures { IsQuick M.table insn.now len gates result (record { regs = regs.old; memory = M.seen mem.old }) (record { regs = regs.new; memory = M.seen mem.new }) }
 {
     let (target, left, right) = places;
     let usage = usage_of(target, left, right);
@@ -86,7 +86,7 @@ pub(crate) fn execute_at_hand<M: Mem>(
     gates: Gates,
 ) -> bool
     requires { form.now ≡ form_of insn.now.row }
-    ensures { IsQuick M.table insn.now len gates result (record { regs = regs.old; memory = mem.old }) (record { regs = regs.new; memory = mem.new }) }
+    ensures { IsQuick M.table insn.now len gates result (record { regs = regs.old; memory = M.seen mem.old }) (record { regs = regs.new; memory = M.seen mem.new }) }
 {
     match form {
         Form::Compute(act, width, target, left, right) => compute_at_hand(

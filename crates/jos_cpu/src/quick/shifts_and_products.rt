@@ -20,7 +20,7 @@ pub(crate) fn shift_or_multiply_quickly<M: Mem>(
     mem: &mut M,
     gates: Gates,
 ) -> bool
-    ensures { IsQuick M.table insn.now len gates result (record { regs = regs.old; memory = mem.old }) (record { regs = regs.new; memory = mem.new }) }
+    ensures { IsQuick M.table insn.now len gates result (record { regs = regs.old; memory = M.seen mem.old }) (record { regs = regs.new; memory = M.seen mem.new }) }
 {
     match insn.row {
         // ROL to SAR

@@ -65,6 +65,12 @@ fn test_memory_fault(va: u32, access: Access) -> MemFault
 }
 
 impl Mem for TestMemory {
+    ghost use Rattle.jos_cpu.specs.declared.tests.test_memory.TestMemory.{TestMemory};
+
+    ghost State = { TestMemory };
+
+    ghost seen = { λ w. w };
+
     ghost table = { record {
       byte = λ w va. slice_index w.bytes (offset w.base va);
       allowed = λ w va access. test_memory_allows w.base w.locked 128 va access;

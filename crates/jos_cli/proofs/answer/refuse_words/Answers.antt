@@ -1,6 +1,6 @@
 use Rattle.std.proofs.Common.{[], refl}
 use Rattle.jos_cli.specs.declared.outcome.Outcome.TheVariants.{NoMemory}
-use Rattle.jos_cli.specs.Frames.{from_to, around}
+use Rattle.jos_host.specs.Frames.{from_to, around}
 use Rattle.jos_cli.proofs.Tops.{not_noted}
 use Rattle.jos_cli.proofs.answer.refuse_words.Goals as goal
 

@@ -1,4 +1,4 @@
-use Rattle.jos_base.specs.declared.numbers.TheConstants.{BUDGET}
+use Rattle.jos_cli.specs.declared.limits.TheConstants.{BUDGET}
 use Rattle.jos_cli.proofs.Outcomes.{exo_run-booted, on_ended, on_failed}
 use Rattle.jos_cli.proofs.answer.run_segment.Goals as goal
 

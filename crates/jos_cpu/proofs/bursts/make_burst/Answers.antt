@@ -26,8 +26,8 @@ returns-in_default g c =
 pub returns : goal.returns
 returns g c =
     let all : c.loop-before.before ≡ c.args.limit = omega (arith, c.loop-before-test.false, c.loop-before.auto.before-end) in
-    at_limit g.M.Mem.table c.args.gates c.args.limit (record { regs = c.args.regs.now; memory = c.args.mem.now })
-    (record { regs = c.loop-before.regs; memory = c.loop-before.mem }) c.requires (rw all at c.loop-before.invariant)
+    at_limit g.M.Mem.table c.args.gates c.args.limit (record { regs = c.args.regs.now; memory = g.M.Mem.seen c.args.mem.now })
+    (record { regs = c.loop-before.regs; memory = g.M.Mem.seen c.loop-before.mem }) c.requires (rw all at c.loop-before.invariant)
 
 pub returns-in_default-step_and_learn : goal.returns-in_default-step_and_learn
 returns-in_default-step_and_learn g c =

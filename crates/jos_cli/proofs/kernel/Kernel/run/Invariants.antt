@@ -1,5 +1,5 @@
 use Rattle.std.proofs.Common.{◌≡◌, ◌+◌, []}
-use Rattle.jos_cli.specs.Frames.{Unchanged}
+use Rattle.jos_host.specs.Frames.{Unchanged}
 use Rattle.jos_cli.specs.ExoRun.{run_from}
 use Rattle.jos_cli.specs.Kernel.{progress_of, HasRoom, RunsItsTurn}
 use Rattle.jos_cli.proofs.Runs.{IsRunning}

@@ -2,9 +2,9 @@
 -- (MIT 6.828, kern/trap.c.)
 use Rattle.std.specs.Prelude.{ℕ}
 use Rattle.jos_base.specs.declared.memory.PageFault.{PageFault}
-use Rattle.jos_base.specs.KernelState.{Slot}
+use Rattle.jos_cli.specs.OneSlot.{Slot}
 use Rattle.jos_base.specs.Lines.{user_fault_line, trap_line}
-use Rattle.jos_base.specs.SystemCalls.{Change, destroyed}
+use Rattle.jos_cli.specs.OneSlotCalls.{Change, destroyed}
 
 -- a page fault of the instruction at EIP
 abbrev pub deliver_fault : Slot → PageFault → Change

@@ -1,7 +1,7 @@
 -- What a stream has gained by a call, where the host tells its bytes.
 use Rattle.std.specs.Prelude.{◌≡◌, ℕ, ◌≤◌, List, ◌++◌, length, take, Option}
 use Rattle.std.specs.Option.{option_map}
-use Rattle.jos_cli.specs.Frames.{Around}
+use Rattle.jos_host.specs.Frames.{Around}
 
 -- the told bytes with these behind them
 abbrev pub Gains : Around (Option (List ℕ)) → List ℕ → Type 0
