@@ -1,0 +1,4 @@
+pub mod Maps
+mod Sets
+mod Laws
+pub mod Kept

@@ -1,0 +1,4 @@
+pub mod Slots
+pub mod SlotSets
+pub mod Table
+pub mod Lawful

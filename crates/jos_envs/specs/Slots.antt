@@ -1,0 +1,13 @@
+-- What an environment is in the table of environments.
+use Rattle.jos_base.specs.Environments.{Slot}
+use Rattle.jos_envs.specs.declared.environment.Environment.{Environment}
+
+abbrev pub slot_of : Environment → Slot
+slot_of environment = record {
+  id = environment.id.0;
+  parent = environment.parent.0;
+  status = environment.status;
+  runs = environment.runs;
+  registers = environment.registers;
+  directory = environment.directory.0;
+}

@@ -1,0 +1,2 @@
+pub mod RoundRobin
+mod Reading

@@ -1,0 +1,3 @@
+pub mod RoundRobin
+pub mod Quantum
+pub mod Schedule

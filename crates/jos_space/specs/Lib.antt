@@ -1,0 +1,3 @@
+pub mod AtHand
+pub mod Calls
+pub mod Frames

@@ -1,0 +1,20 @@
+//! Frames of memory, and address spaces: pages that two levels of tables lead to, counted, handed out and freed.
+//!
+//! `Spaces` holds all frames of a machine. What it is in the kernel's state says `state` (`specs/Frames.antt`), and each
+//! call's clauses say, by the words of `jos_base`, which state it leaves: `SpacesState` for frames, pages and spaces,
+//! `UserMemory` for what a user reaches. Memory is taken at the beginning alone.
+//!
+//! What a program's every access needs is one walk that changes nothing (`user_bytes`, `put_byte`, `put_word`): it answers
+//! where all bits that the access would set are set, and else leaves the access to `access`.
+#![tactic(auto)]
+
+mod beginning;
+mod entry;
+mod lists;
+mod role;
+mod spaces;
+
+pub use spaces::{Empty, Space, Spaces};
+
+#[cfg(test)]
+mod tests;

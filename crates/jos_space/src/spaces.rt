@@ -1,0 +1,77 @@
+//! The frames of a machine, and the spaces that stand in them.
+
+ghost use Rattle.std.specs.Prelude.{◌≡◌, ◌≤◌, IfOk};
+ghost use Rattle.jos_base.specs.SpacesState.{first_spaces};
+ghost use Rattle.jos_space.specs.Frames.{state};
+
+use crate::beginning::{byte_lists, first_order, first_roles, reserved, word_lists, zero_counts};
+use crate::lists::{Page, Words};
+use crate::role::Role;
+use jos_base::{Frame, NoMemory};
+use std::alloc::Global;
+use std::marker::Model;
+
+mod destroying;
+mod frames;
+mod pages;
+mod user;
+
+/// An address space, named by the frame of its directory.
+#[derive(Clone, Copy, Debug, PartialEq, Eq)]
+pub struct Space {
+    pub directory: Frame,
+}
+
+/// No frame is free.
+#[derive(Clone, Copy, Debug, PartialEq, Eq)]
+pub struct Empty;
+
+/// The frames of a machine, and the address spaces that stand in them.
+#[derive(Drop)]
+pub struct Spaces {
+    /// The words of each frame that is a directory or a table.
+    words: Vec<Words>,
+    /// The bytes of each frame that is a page or fresh.
+    bytes: Vec<Page>,
+    /// What each frame is used for.
+    roles: Vec<Role>,
+    /// How many entries of pages name each frame.
+    counts: Vec<u64>,
+    /// The free frames, up to `free_len`, the last to be handed out first.
+    order: Vec<u32>,
+    free_len: u32,
+}
+
+impl Model for Spaces {
+    ghost use Rattle.jos_space.specs.Frames.{Lists, AreSound};
+
+    ghost Value = { Lists };
+
+    ghost view = { λ s. record { words = s.words.items; bytes = s.bytes.items; roles = s.roles.items; counts = s.counts.items; order = s.order.items; free_len = s.free_len } };
+
+    ghost invariant = { λ s. AreSound (record { words = s.words.items; bytes = s.bytes.items; roles = s.roles.items; counts = s.counts.items; order = s.order.items; free_len = s.free_len }) };
+}
+
+impl Spaces {
+    /// So many frames, with no space: the first are reserved, and the others free in rising order. Memory is taken here
+    /// alone, some 8 KiB for each frame.
+    pub fn new(alloc: Global, frames: u32) -> Result<Spaces, NoMemory>
+        requires least { 64 ≤ frames }
+        requires most { frames ≤ 65536 }
+        ensures { IfOk result (λ spaces. state spaces ≡ first_spaces frames) }
+    {
+        let words = word_lists(alloc, frames)?;
+        let bytes = byte_lists(alloc, frames)?;
+        let roles = first_roles(alloc, frames)?;
+        let counts = zero_counts(alloc, frames)?;
+        let order = first_order(alloc, frames)?;
+        Ok(Spaces {
+            words,
+            bytes,
+            roles,
+            counts,
+            order,
+            free_len: frames - reserved(frames),
+        })
+    }
+}

@@ -1,0 +1,139 @@
+use super::*;
+use jos_base::{
+    Access, Frame, Location, PGSIZE, PTE_A, PTE_D, PTE_P, PTE_U, PTE_W, PageFault, Perm, USTACKTOP,
+    UTEXT, UTOP,
+};
+
+const READ: Perm = Perm(PTE_P + PTE_U);
+
+const WRITE: Perm = Perm(PTE_P + PTE_W + PTE_U);
+
+// The frames in which a program, its stack and their tables come to stand, by hand: of 64 frames 20 are reserved.
+#[test]
+fn takes_and_frees_frames_in_order(rt: HostRuntime) {
+    let mut spaces = Spaces::new(rt.alloc(), 64).expect(&rt, "memory");
+    let space = spaces.create().expect(&rt, "a directory");
+    assert_eq!(rt; space.directory, Frame(20));
+    let text = spaces.fresh().expect(&rt, "a page of code");
+    assert_eq!(rt; text, Frame(21));
+    assert_eq!(rt; spaces.insert(space, UTEXT, text, WRITE), Ok(()));
+    let stack = spaces.fresh().expect(&rt, "a page of the stack");
+    assert_eq!(rt; stack, Frame(23));
+    assert_eq!(rt;
+        spaces.insert(space, USTACKTOP - PGSIZE, stack, WRITE),
+        Ok(())
+    );
+    let data = spaces.fresh().expect(&rt, "a page of data");
+    assert_eq!(rt; data, Frame(25));
+    assert_eq!(rt; spaces.insert(space, UTEXT + PGSIZE, data, WRITE), Ok(()));
+    spaces.destroy(space);
+    for frame in [20, 24, 22, 23, 25, 21, 26] {
+        assert_eq!(rt; spaces.fresh(), Some(Frame(frame)));
+    }
+}
+
+// A page that is put where it stood stays; one that is put elsewhere replaces what stood there, which is freed.
+#[test]
+fn counts_pages_and_frees_them(rt: HostRuntime) {
+    let mut spaces = Spaces::new(rt.alloc(), 64).expect(&rt, "memory");
+    let space = spaces.create().expect(&rt, "a directory");
+    let page = spaces.fresh().expect(&rt, "a page");
+    assert_eq!(rt; spaces.insert(space, UTEXT, page, WRITE), Ok(()));
+    assert_eq!(rt; spaces.insert(space, UTEXT, page, READ), Ok(()));
+    assert_eq!(rt; spaces.count(page), 1);
+    let other = spaces.fresh().expect(&rt, "another page");
+    assert_eq!(rt; spaces.insert(space, UTEXT + PGSIZE, other, READ), Ok(()));
+    let (found, perm) = spaces.look(space, UTEXT).expect(&rt, "the page");
+    assert_eq!(rt; (found, perm), (page, READ));
+    assert_eq!(rt; spaces.insert(space, UTEXT + PGSIZE, found, READ), Ok(()));
+    for (frame, count) in [
+        (page, 2),
+        (other, 0),
+        (space.directory, 1),
+        (Frame(0), 1),
+        (Frame(64), 1),
+    ] {
+        assert_eq!(rt; spaces.count(frame), count, "{frame:?}");
+    }
+    assert_eq!(rt; spaces.fresh(), Some(other));
+}
+
+// Of 44 frames 42 are taken, then those of a space and of a page; none is left for the page's table.
+#[test]
+fn tells_that_no_frame_is_free(rt: HostRuntime) {
+    let mut spaces = Spaces::new(rt.alloc(), 64).expect(&rt, "memory");
+    for _ in 0..42 {
+        let _ = spaces.fresh();
+    }
+    let space = spaces.create().expect(&rt, "a directory");
+    let page = spaces.fresh().expect(&rt, "a page");
+    assert_eq!(rt; spaces.insert(space, UTEXT, page, READ), Err(Empty));
+    assert_eq!(rt; spaces.fresh(), None);
+    assert_eq!(rt; spaces.create(), None);
+    assert_eq!(rt; spaces.look(space, UTEXT), None);
+}
+
+// The error codes are those of Intel's manual, section 9.8.14: 1 for a page that is there, 2 for a write, 4 for a user.
+#[test]
+fn reaches_pages(rt: HostRuntime) {
+    let mut spaces = Spaces::new(rt.alloc(), 64).expect(&rt, "memory");
+    let space = spaces.create().expect(&rt, "a directory");
+    let page = spaces.fresh().expect(&rt, "a page");
+    spaces.fill(page, 4090, &[1, 2, 3, 4, 5, 6]);
+    assert_eq!(rt; spaces.insert(space, UTEXT, page, READ), Ok(()));
+    let fault = |va, error| Err(PageFault { va, error });
+    assert_eq!(rt; spaces.access(space, UTEXT, Access::Write), fault(UTEXT, 7));
+    assert_eq!(rt;
+        spaces.access(space, UTEXT + PGSIZE, Access::Read),
+        fault(UTEXT + PGSIZE, 4)
+    );
+    assert_eq!(rt; spaces.access(space, UTOP, Access::Write), fault(UTOP, 6));
+    assert_eq!(rt; spaces.user_bytes(space, UTEXT + 4092).len(), 0);
+    let location = spaces.access(space, UTEXT + 4092, Access::Read);
+    assert_eq!(rt;
+        location,
+        Ok(Location {
+            frame: page,
+            offset: 4092
+        })
+    );
+    assert_eq!(rt;
+        spaces.user_bytes(space, UTEXT + 4092),
+        [3, 4, 5, 6].as_slice()
+    );
+    assert_eq!(rt;
+        spaces.look(space, UTEXT),
+        Some((page, Perm(PTE_P + PTE_U + PTE_A)))
+    );
+}
+
+#[test]
+fn writes_where_a_user_may(rt: HostRuntime) {
+    let mut spaces = Spaces::new(rt.alloc(), 64).expect(&rt, "memory");
+    let space = spaces.create().expect(&rt, "a directory");
+    let page = spaces.fresh().expect(&rt, "a page");
+    assert_eq!(rt; spaces.insert(space, UTEXT, page, WRITE), Ok(()));
+    assert_eq!(rt; spaces.put_word(space, UTEXT, 0x0403_0201), false);
+    assert_eq!(rt; spaces.put_byte(space, UTEXT, 1), false);
+    let location = spaces.access(space, UTEXT, Access::Write);
+    assert_eq!(rt;
+        location,
+        Ok(Location {
+            frame: page,
+            offset: 0
+        })
+    );
+    assert_eq!(rt; spaces.put_word(space, UTEXT, 0x0403_0201), true);
+    assert_eq!(rt; spaces.put_word(space, UTEXT + 4093, 0), false);
+    assert_eq!(rt; spaces.put_byte(space, UTEXT + 4, 5), true);
+    for (place, byte) in [1, 2, 3, 4, 5, 0].iter().enumerate() {
+        assert_eq!(rt;
+            spaces.byte_at(space, UTEXT + place as u32),
+            *byte,
+            "{place}"
+        );
+    }
+    assert_eq!(rt; spaces.byte_at(space, UTOP), 0);
+    let bits = PTE_P + PTE_W + PTE_U + PTE_A + PTE_D;
+    assert_eq!(rt; spaces.look(space, UTEXT), Some((page, Perm(bits))));
+}
