@@ -1,0 +1,239 @@
+-- A burst of the machine, with what comes of its last step and the count of its steps, is as many steps of the run.
+use Rattle.std.proofs.Common.{◌≡◌, ℕ, ◌+◌, ◌-◌, ◌<◌, ◌≤◌, ◌==◌, ◌^◌, Bool, Option, None, Some, Ok, Err, zero, suc, true, false}
+use Rattle.std.proofs.Common.{List, [], ◌∷◌, ◌++◌, length, min, vec_len, refl, sym, ap, subst, ◌∙◌, arith, if◌then◌else◌}
+use Rattle.std.specs.Prelude.{not, nat_eq, unwrap_or}
+use Rattle.std.specs.Option.{ForSome}
+use Rattle.std.proofs.lemmas.Bool.Decides.{nat_tests}
+use Rattle.std.proofs.lemmas.List.{length-append}
+use Rattle.jos_host.specs.declared.host.Failed.{Failed}
+use Rattle.jos_host.specs.Frames.{from_to}
+use Rattle.jos_host.specs.Gains.{Gains, GainsPart}
+use Rattle.jos_base.specs.declared.registers.Regs.{Regs}
+use Rattle.jos_base.specs.Words.{upd}
+use Rattle.jos_base.specs.Environments.{Slot, is_live, is_running}
+use Rattle.jos_base.specs.declared.numbers.TheConstants.{NENV}
+use Rattle.jos_base.specs.KernelState.{KernelState, slot_at, with_registers, turn_begun, turn_ended}
+use Rattle.jos_space.proofs.Counts.{upd-at}
+use Rattle.jos_sched.specs.Quantum.{quantum}
+use Rattle.jos_cpu.specs.declared.events.Event.{Event}
+use Rattle.jos_cpu.specs.declared.events.Gates.TheVariants.{Exo}
+use Rattle.jos_cpu.specs.Bursts.{Machine, IsBurst}
+use Rattle.jos_kernel.specs.declared.kernel.Kernel.{Kernel}
+use Rattle.jos_kernel.specs.declared.report.Refusal.{Refusal}
+use Rattle.jos_kernel.specs.Running.{Running, user_memory}
+use Rattle.jos_kernel.specs.Steps.{EnvStep, Trap, after_event, env_step}
+use Rattle.jos_kernel.specs.Machine.{Follows}
+use Rattle.jos_kernel.specs.ExoRun.{Progress, Ran, current, counted, turn_of, next_slot, in_turn, turn_goes_on, end_of}
+use Rattle.jos_kernel.specs.ExoRun.{first_refusal}
+use Rattle.jos_kernel.specs.ExoRun.{traps_after, progressed_in, progressed, run_from}
+use Rattle.jos_kernel.specs.Kernel.{Told, nothing, and_told, state_of, progress_of, Counts, Went, FailsIn, Advances}
+use Rattle.jos_kernel.specs.Kernel.{refusal_after, goes_on_after, Counted}
+use Rattle.jos_kernel.proofs.KeepsRest.{going_keeps, burst_keeps, directory_is, slot_is, state_is}
+use Rattle.jos_kernel.proofs.EnvSteps.{env_step_is}
+use Rattle.jos_kernel.proofs.Turns.{running_live, InTurn, further, many}
+use Rattle.jos_kernel.proofs.FirstStates.{SameTurns}
+use Rattle.jos_kernel.proofs.TurnsKept.{event_same}
+use Rattle.jos_kernel.proofs.RunsOn.{run_from-console}
+
+-- ---- words
+
+upd-same : {V : Type 0} (f : ℕ → V) (k q : ℕ) → upd f k (f k) q ≡ f q
+unfolding upd
+upd-same f k q = by_key (q == k) refl
+  where
+    by_key : (c : Bool) → (q == k) ≡ c → (if c then f k else f q) ≡ f q
+    by_key true e = let same : q ≡ k = grind (arith, nat_tests) in ap f (sym same)
+    by_key false e = refl
+
+-- the registers that stand in a slot, put there
+pub registers-same : (s : KernelState) (n : ℕ) → with_registers s n (slot_at s n).registers ≡ s
+registers-same s n =
+    λ i. record s { environments = record s.environments { slots = λ q. upd-same s.environments.slots n q i } }
+
+pub end-told : (kernel : Kernel) (told : Told) (spent : Bool) → end_of (progress_of kernel told) spent ≡ end_of (progress_of kernel nothing) spent
+unfolding end_of
+end-told kernel told spent = refl
+
+-- what is counted of bytes, and of more
+counted-more : (a b : List ℕ) → min (counted a + length b) (2 ^ 64 - 1) ≡ counted (a ++ b)
+counted-more a b =
+    let long : length (a ++ b) ≡ length a + length b = length-append a b in
+    omega (arith, long)
+
+-- the refusals told by numbers
+refusal-is : (kernel : Kernel) (p : Progress) (after : KernelState) (first : Option Refusal) → vec_len kernel.turns ≡ length p.turns →
+    kernel.written ≡ counted p.console →
+    refusal_after kernel (not (nat_eq after.refusals p.state.refusals)) first ≡ first_refusal p after first
+refusal-is kernel p after (Some refusal) turns written = refl
+refusal-is kernel p after None turns written = by_same (p.state.refusals == after.refusals) refl
+  where
+    by_same : (c : Bool) → (p.state.refusals == after.refusals) ≡ c →
+        if◌then◌else◌ {A = Option Refusal} (not (nat_eq after.refusals p.state.refusals)) (Some (record { turn = vec_len kernel.turns; console_len = kernel.written })) None
+        ≡ if◌then◌else◌ {A = Option Refusal} c None (Some (record { turn = length p.turns; console_len = counted p.console }))
+    by_same true e =
+        let same : nat_eq after.refusals p.state.refusals ≡ true = grind (arith, nat_tests) in
+        rw same refl
+    by_same false e =
+        let other : nat_eq after.refusals p.state.refusals ≡ false = grind (arith, nat_tests) in
+        rw (other, turns, written) refl
+
+-- an environment whose turn begins is RUNNING
+pub begun_running : (s : KernelState) (n : ℕ) → is_running (slot_at (turn_begun s n) n).status ≡ true
+begun_running s n = ap (λ (slot : Slot). is_running slot.status) (upd-at s.environments.slots n _)
+
+-- a turn that begins refuses nothing
+pub in_turn-refusals : (s : KernelState) (made : ℕ) → (in_turn s made).refusals ≡ s.refusals
+in_turn-refusals s made = by_made (made == 0)
+  where
+    by_made : (c : Bool) → (if c then turn_begun s (unwrap_or (next_slot s) 0) else s).refusals ≡ s.refusals
+    by_made true = refl
+    by_made false = refl
+
+-- a slot of the table had the last turn
+pub last_within : (last : Option ℕ) (slot : ℕ) → slot ≡ unwrap_or last 0 → slot < NENV → ForSome last (λ n. n < NENV)
+last_within None slot e h = λ n k. absurd (cc)
+last_within (Some m) slot e h = λ n k. subst (λ x. x < NENV) (e ∙ ap (λ o. unwrap_or o 0) k) h
+
+-- ---- a burst
+
+module _ (before : Kernel) (slot limit steps : ℕ) (event : Event) (m n : Running) (regs new : Regs)
+    (goes_on : end_of (progress_of before nothing) false ≡ None)
+    (begun : in_turn (state_of before) before.made ≡ m.state)
+    (registers : regs ≡ (slot_at m.state slot).registers)
+    (at : slot ≡ current (in_turn (state_of before) before.made))
+    (within : slot < NENV)
+    (runs : is_running (slot_at m.state slot).status ≡ true)
+    (loaded : m.directory ≡ Some (slot_at m.state slot).directory)
+    (refusals : (state_of before).refusals ≡ m.state.refusals)
+    (burst : IsBurst user_memory Exo limit steps event (record { regs = regs; memory = m }) (record { regs = new; memory = n }))
+    (room : before.made + limit ≤ quantum before.schedule (length before.turns.items)) where
+  entered : (told : Told) → InTurn slot (progress_of before told) (record { regs = regs; memory = m })
+  entered told = record {
+    none = end-told before told false ∙ goes_on;
+    begun = begun ∙ sym (registers-same m.state slot) ∙ (λ i. with_registers m.state slot (sym registers i));
+    at = ap current (sym begun) ∙ sym at;
+    within = within;
+    runs = runs;
+    loaded = loaded;
+    refusals = refusals;
+  }
+
+  -- what comes of the last step
+  abbrev last : EnvStep
+  last = after_event (with_registers n.state slot new) slot event
+
+  last_is : env_step (with_registers burst.reached.memory.state slot burst.reached.regs) slot ≡ last
+  last_is =
+      let k = going_keeps Exo burst.going (record { regs = regs; memory = m }) burst.reached burst.went in
+      env_step_is slot burst.reached (record { regs = new; memory = n }) burst.last
+      (directory_is k ∙ loaded ∙ (λ i. Some (sym (slot_is k slot) i).directory))
+
+  pub burst_run : (told : Told) (later : ℕ) →
+      run_from before.schedule (steps + later) (progress_of before told)
+      ≡ run_from before.schedule later (progressed before.schedule (further before.schedule slot (progress_of before told) burst.going) last)
+  burst_run told later =
+      let count : steps ≡ burst.going + 1 = burst.count in
+      let fits : steps ≤ limit = burst.within in
+      let a : steps + later ≡ suc burst.going + later = omega arith in
+      ap (λ (x : ℕ). run_from before.schedule x (progress_of before told)) a
+      ∙ many before.schedule slot burst.going later (progress_of before told) (record { regs = regs; memory = m }) burst.reached (entered told)
+      (omega (arith, count, fits, room)) burst.went
+      ∙ (λ i. run_from before.schedule later (progressed before.schedule (further before.schedule slot (progress_of before told) burst.going) (last_is i)))
+
+  state_kept : n.state.refusals ≡ (state_of before).refusals
+  state_kept = (λ i. (state_is (burst_keeps burst) i).refusals) ∙ sym refusals
+
+  pub live_after : is_live (slot_at n.state slot) ≡ true
+  live_after = running_live (slot_at n.state slot) ((λ i. is_running (slot_is (burst_keeps burst) slot i).status) ∙ runs)
+
+  pub last_same : SameTurns m.state last.state
+  last_same =
+      let k = event_same (with_registers n.state slot new) slot event in
+      let b = state_is (burst_keeps burst) in record {
+        last = k.last ∙ (λ i. (b i).last);
+        turns = k.turns ∙ (λ i. (b i).turns);
+      }
+
+  pub last_there : current last.state ≡ slot
+  last_there = (λ i. unwrap_or (last_same.last i) 0) ∙ ap current (sym begun) ∙ sym at
+
+  -- the steps are counted
+  module _ (mid after : Kernel) (written : ℕ)
+      (schedule : mid.schedule ≡ before.schedule) (turns : mid.turns ≡ before.turns) (made : mid.made ≡ before.made)
+      (steps_are : mid.steps ≡ before.steps) (written_is : mid.written ≡ before.written) (first : mid.first_refused ≡ before.first_refused)
+      (long : vec_len before.turns ≡ length before.turns.items)
+      (state : state_of mid ≡ last.state) (bytes : written ≡ length last.written)
+      (counts : Counted mid after slot steps written (not (nat_eq (state_of mid).refusals n.state.refusals))) where
+    all_made : mid.made + steps ≡ (before.made + burst.going) + 1
+    all_made = let count : steps ≡ burst.going + 1 = burst.count in omega (arith, count, made)
+
+    all_steps : after.steps ≡ (before.steps + burst.going) + 1
+    all_steps = let count : steps ≡ burst.going + 1 = burst.count in omega (arith, count, counts.steps_are, steps_are)
+
+    goes : goes_on_after mid steps ≡ turn_goes_on before.schedule last.state (length before.turns.items) ((before.made + burst.going) + 1)
+    goes = λ i. turn_goes_on (schedule i) (state i) (length (turns i).items) (all_made i)
+
+    slot_at_end : slot ≡ current last.state
+    slot_at_end = sym last_there
+
+    abbrev traps_told : (told : Told) → List Trap
+    traps_told told = traps_after told.traps last.trap
+
+    pub counted_is : (told : Told) → Counts before told →
+        progress_of after (and_told told last.written (traps_told told))
+        ≡ progressed before.schedule (further before.schedule slot (progress_of before told) burst.going) last
+    unfolding progressed
+    counted_is told c =
+        let p = further before.schedule slot (progress_of before told) burst.going in
+        λ i. record {
+          state = (counts.state ∙ (λ j. if goes j then state j else turn_ended (state j) (slot_at_end j))) i;
+          console = told.console ++ last.written;
+          steps = all_steps i;
+          turns = (counts.turns ∙ (λ j. if goes j then (turns j).items else (turns j).items ++ turn_of (slot_at_end j) (all_made j) ∷ [])) i;
+          made = (counts.made ∙ (λ j. if goes j then all_made j else 0)) i;
+          first_refused = (counts.first_refused
+              ∙ (λ j. refusal_after mid (not (nat_eq (state j).refusals (state_kept j))) (first j))
+              ∙ refusal-is mid p last.state before.first_refused (ap vec_len turns ∙ long) (written_is ∙ c)) i;
+          traps = traps_told told;
+        }
+
+    pub counts_told : (told : Told) → Counts before told → Counts after (and_told told last.written (traps_told told))
+    counts_told told c =
+        counts.written_is
+        ∙ (λ i. min ((written_is ∙ c) i + bytes i) (2 ^ 64 - 1))
+        ∙ counted-more told.console last.written
+
+    pub on_counted : (left : ℕ) (first_console now : Option (List ℕ)) → limit ≤ left → Gains (from_to first_console now) last.written →
+        Advances (Ok steps) left (from_to before after) (from_to first_console now)
+    on_counted left first_console now fits gains =
+        let count : steps ≡ burst.going + 1 = burst.count in
+        let below : steps ≤ limit = burst.within in (
+          omega (arith, count),
+          omega (arith, below, fits),
+          record {
+            written = last.written;
+            gains = gains;
+            steps = omega (arith, counts.steps_are, steps_are);
+            schedule = counts.schedule ∙ schedule;
+            traps = λ told c. traps_told told;
+            counts = λ told c. counts_told told c;
+            run = λ told c later. burst_run told later ∙ ap (run_from before.schedule later) (sym (counted_is told c));
+          },
+        )
+
+  pub on_failed : (left : ℕ) (first_console now : Option (List ℕ)) → limit ≤ left → GainsPart (from_to first_console now) last.written →
+      FailsIn left before (from_to first_console now)
+  unfolding progressed
+  on_failed left first_console now fits part =
+      let below : steps ≤ limit = burst.within in
+      let e : left ≡ steps + (left - steps) = omega (arith, below, fits) in (
+        last.written,
+        part,
+        λ told c.
+            let more = run_from-console before.schedule (left - steps)
+            (progressed before.schedule (further before.schedule slot (progress_of before told) burst.going) last) in (
+              more.0,
+              ap (λ (x : ℕ). (run_from before.schedule x (progress_of before told)).progress.console) e
+                  ∙ ap (λ (r : Ran). r.progress.console) (burst_run told (left - steps)) ∙ more.1,
+            ),
+      )

@@ -1,0 +1,59 @@
+-- What comes of an instruction is what its system call or its trap has done.
+use Rattle.std.proofs.Common.{◌≡◌, ◌≢◌, ◌==◌, ℕ, false, List, [], length, Option, Some, None, Result, Ok, Err}
+use Rattle.std.proofs.Common.{refl, sym, ap, subst, ◌∙◌, arith}
+use Rattle.std.proofs.lemmas.Bool.Decides.{nat_tests}
+use Rattle.std.proofs.lemmas.List.{append-nil}
+use Rattle.jos_host.specs.declared.host.Failed.{Failed}
+use Rattle.jos_host.specs.Frames.{Around, from_to}
+use Rattle.jos_host.specs.Gains.{Gains, GainsPart}
+use Rattle.jos_base.specs.declared.line.Line.{Line}
+use Rattle.jos_base.specs.declared.line.Line.TheVariants as line
+use Rattle.jos_base.specs.declared.numbers.TheConstants.{T_BRKPT, T_PGFLT, T_SYSCALL}
+use Rattle.jos_base.specs.KernelState.{KernelState, slot_at}
+use Rattle.jos_base.specs.SystemCalls.{Did, system_call, killed}
+use Rattle.jos_cpu.specs.declared.events.Event.TheVariants.{Soft}
+use Rattle.jos_sys.specs.declared.system.Answer.{Answer}
+use Rattle.jos_sys.specs.System.{Does}
+use Rattle.jos_kernel.specs.Machine.{Follows}
+use Rattle.jos_kernel.specs.Steps.{EnvStep, after_call, after_event, after_trap, ended_by}
+
+-- ---- what is done, and what a step leaves
+
+module _ (did : Did) (step : EnvStep) (state : KernelState) (console : Around (Option (List ℕ)))
+    (state_is : step.state ≡ did.state) (written_is : step.written ≡ did.written) where
+  pub done_follows : (answer : Answer) → Does (Ok answer) did state console → Follows (Ok answer.written) step state console
+  done_follows answer h = (h.0 ∙ sym state_is, h.2 ∙ ap length (sym written_is), subst (Gains console) (sym written_is) h.3)
+
+  pub failed_follows : (failed : Failed) → Does (Err failed) did state console → Follows (Err failed) step state console
+  failed_follows failed h = subst (GainsPart console) (sym written_is) h
+
+pub same_step : (result : Result ℕ Failed) (step other : EnvStep) (state : KernelState) (console : Around (Option (List ℕ))) →
+    step ≡ other → Follows result other state console → Follows result step state console
+same_step result step other state console e h = subst (λ (s : EnvStep). Follows result s state console) (sym e) h
+
+-- nothing is written
+pub gains_nothing : (told : Option (List ℕ)) → Gains (from_to told told) []
+gains_nothing None = refl
+gains_nothing (Some bytes) = ap Some (sym (append-nil bytes))
+
+-- ---- system calls and traps
+
+pub after_system_call : (s : KernelState) (n vector : ℕ) → vector ≡ T_SYSCALL → after_event s n (Soft vector) ≡ after_call (system_call s n)
+after_system_call s n vector e = rw e refl
+
+pub after_breakpoint : (s : KernelState) (n vector : ℕ) → vector ≢ T_SYSCALL →
+    after_event s n (Soft vector) ≡ after_trap s n T_BRKPT 0 0 (slot_at s n).registers.eip
+after_breakpoint s n vector ne =
+    let other : (vector == T_SYSCALL) ≡ false = grind (arith, nat_tests) in
+    rw other refl
+
+-- a trap's own line
+pub fault_line : (s : KernelState) (n trap error va ip : ℕ) (told : Line) → trap ≡ T_PGFLT → ip ≡ (slot_at s n).registers.eip →
+    told ≡ line.UserFault va ip → ended_by s n trap error va (slot_at s n).registers.eip ≡ killed s n told
+fault_line s n trap error va ip told e at is = rw (e, is, at) refl
+
+pub trap_line : (s : KernelState) (n trap error va ip : ℕ) (told : Line) → trap ≢ T_PGFLT → ip ≡ (slot_at s n).registers.eip →
+    told ≡ line.Trap trap error ip → ended_by s n trap error va (slot_at s n).registers.eip ≡ killed s n told
+trap_line s n trap error va ip told ne at is =
+    let other : (trap == T_PGFLT) ≡ false = grind (arith, nat_tests) in
+    rw (other, is, at) refl

@@ -1,0 +1,154 @@
+-- A run of the exokernel: the images are booted, and then step follows step, in turns, until an end test holds.
+-- (MIT 6.828, kern/env.c and kern/sched.c; turns of so many steps, the budget and the ends are this system's own.)
+use Rattle.std.specs.Prelude.{ℕ, ◌+◌, ◌-◌, ◌^◌, ◌==◌, ◌&&◌, min, nat_lt, nat_le, not, zero, suc, Bool, true, false, List, [], ◌∷◌, ◌++◌, length}
+use Rattle.std.specs.Prelude.{Option, Some, None, is_none, unwrap_or, if◌then◌else◌}
+use Rattle.jos_base.specs.declared.numbers.TheConstants.{TURN_MAX}
+use Rattle.jos_base.specs.Environments.{is_running}
+use Rattle.jos_base.specs.KernelState.{KernelState, slot_at, turn_begun, turn_ended}
+use Rattle.jos_envs.specs.Table.{any_live}
+use Rattle.jos_sched.specs.RoundRobin.{next}
+use Rattle.jos_sched.specs.Quantum.{quantum}
+use Rattle.jos_kernel.specs.declared.report.End.{End}
+use Rattle.jos_kernel.specs.declared.report.End.TheVariants.{Done, Stuck, Budget, TurnsFull}
+use Rattle.jos_kernel.specs.declared.report.Refusal.{Refusal}
+use Rattle.jos_kernel.specs.declared.report.Turn.{Turn}
+use Rattle.jos_kernel.specs.Reports.{Reported}
+use Rattle.jos_kernel.specs.Boot.{Loadable, booted}
+use Rattle.jos_kernel.specs.Steps.{EnvStep, Trap, env_step}
+
+-- where a run stands
+pub record Progress : Type 0 where
+  pub state : KernelState
+  -- the bytes written so far
+  pub console : List ℕ
+  -- made so far
+  pub steps : ℕ
+  -- the turns that are over
+  pub turns : List Turn
+  -- the steps of the turn under way; 0 where none is
+  pub made : ℕ
+  -- the first time that the list of frames or the table of environments was asked and empty
+  pub first_refused : Option Refusal
+  -- the traps that were raised, in their order
+  pub traps : List Trap
+
+-- ---- turns
+
+abbrev pub turn_of : ℕ → ℕ → Turn
+turn_of n made = record { slot = n; visible = made; hidden = 0 }
+
+-- the slot whose turn is under way
+abbrev pub current : KernelState → ℕ
+current s = unwrap_or s.last 0
+
+-- The turn under way is listed too, once it has a step.
+abbrev pub turns_of : Progress → List Turn
+turns_of p = if p.made == 0 then p.turns else p.turns ++ turn_of (current p.state) p.made ∷ []
+
+-- the slot of the next turn
+abbrev pub next_slot : KernelState → Option ℕ
+next_slot s = next s.environments s.last
+
+-- the state as a step finds it: where no turn is under way, the next one begins
+abbrev pub in_turn : KernelState → ℕ → KernelState
+in_turn s made = if made == 0 then turn_begun s (unwrap_or (next_slot s) 0) else s
+
+-- A turn goes on while its environment is RUNNING and it has steps left; `made` counts the last one.
+abbrev pub turn_goes_on : List ℕ → KernelState → ℕ → ℕ → Bool
+turn_goes_on schedule s turn made = is_running (slot_at s (current s)).status && nat_lt made (quantum schedule turn)
+
+-- ---- the end
+
+-- The end tests, in their order; `spent` says whether the budget is used up. While a turn is under way its environment
+-- is RUNNING, so that another can be chosen only where none is.
+unfoldable pub end_of : Progress → Bool → Option End
+end_of p spent =
+    if not (any_live p.state.environments) then Some Done
+    else if (p.made == 0) && is_none (next_slot p.state) then Some Stuck
+    else if spent then Some Budget
+    else if (p.made == 0) && nat_le TURN_MAX (length p.turns) then Some TurnsFull
+    else None
+
+-- ---- the run
+
+-- a count of bytes, which stands still at the end of its type
+abbrev pub counted : List ℕ → ℕ
+counted bytes = min (length bytes) (2 ^ 64 - 1)
+
+-- the refusal of a step that raised the count, where it is the first
+abbrev pub first_refusal : Progress → KernelState → Option Refusal → Option Refusal
+first_refusal p after (Some refusal) = Some refusal
+first_refusal p after None =
+    if p.state.refusals == after.refusals then None
+    else Some (record { turn = length p.turns; console_len = counted p.console })
+
+abbrev pub traps_after : List Trap → Option Trap → List Trap
+traps_after traps None = traps
+traps_after traps (Some trap) = traps ++ trap ∷ []
+
+-- after a step, where its turn goes on or not
+abbrev pub progressed_in : Bool → Progress → EnvStep → Progress
+progressed_in goes_on p step = record {
+  state = if goes_on then step.state else turn_ended step.state (current step.state);
+  console = p.console ++ step.written;
+  steps = p.steps + 1;
+  turns = if goes_on then p.turns else p.turns ++ turn_of (current step.state) (p.made + 1) ∷ [];
+  made = if goes_on then p.made + 1 else 0;
+  first_refused = first_refusal p step.state p.first_refused;
+  traps = traps_after p.traps step.trap;
+}
+
+unfoldable pub progressed : List ℕ → Progress → EnvStep → Progress
+progressed schedule p step =
+    progressed_in (turn_goes_on schedule step.state (length p.turns) (p.made + 1)) p step
+
+-- one step of the environment whose turn it is
+unfoldable pub one_step : List ℕ → Progress → Progress
+one_step schedule p =
+    let begun = in_turn p.state p.made in progressed schedule p (env_step begun (current begun))
+
+-- a run that is over
+pub record Ran : Type 0 where
+  pub end : End
+  pub progress : Progress
+
+abbrev pub after_test : Progress → Option End → Ran → Ran
+after_test p (Some end) rest = record { end = end; progress = p }
+after_test p None rest = rest
+
+-- the run from here, with so many steps of the budget left
+unfoldable pub run_from : List ℕ → ℕ → Progress → Ran
+run_from schedule zero p = record { end = unwrap_or (end_of p true) Budget; progress = p }
+run_from schedule (suc left) p = after_test p (end_of p false) (run_from schedule left (one_step schedule p))
+
+-- before the first step
+abbrev pub before_steps : KernelState → Progress
+before_steps s = record {
+  state = s;
+  console = [];
+  steps = 0;
+  turns = [];
+  made = 0;
+  first_refused = None;
+  traps = [];
+}
+
+abbrev pub run_of : List ℕ → ℕ → Option KernelState → Option Ran
+run_of schedule budget None = None
+run_of schedule budget (Some s) = Some (run_from schedule budget (before_steps s))
+
+-- the images run with this input, in turns of this schedule; None where the frames are too few to boot them
+unfoldable pub exo_run : List Loadable → List ℕ → List ℕ → ℕ → ℕ → Option Ran
+exo_run images input schedule frames budget = run_of schedule budget (booted images frames input)
+
+-- what is told of a run that is over
+abbrev pub report_of : Progress → End → Reported
+report_of p end = record {
+  end = end;
+  steps = p.steps;
+  turns = turns_of p;
+  closing = 0;
+  refused = p.state.refusals;
+  first_refused = p.first_refused;
+  upcalls = 0;
+}

@@ -1,0 +1,10 @@
+pub mod Reports
+pub mod Running
+pub mod Steps
+pub mod Boot
+pub mod Loading
+pub mod ExoRun
+pub mod Machine
+pub mod MemoryLaws
+pub mod Kernel
+pub mod Ends

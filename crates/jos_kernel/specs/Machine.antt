@@ -1,0 +1,43 @@
+-- What the machine means: the kernel's state, and the memory of the environment that runs.
+use Rattle.std.specs.Prelude.{◌≡◌, ℕ, List, true, length, Option, Some, None, Result, Ok, Err}
+use Rattle.std.specs.Option.{option_map}
+use Rattle.jos_host.specs.declared.host.Failed.{Failed}
+use Rattle.jos_host.specs.Frames.{Around}
+use Rattle.jos_host.specs.Gains.{Gains, GainsPart}
+use Rattle.jos_base.specs.KernelState.{KernelState}
+use Rattle.jos_space.specs.declared.spaces.Space.{Space}
+use Rattle.jos_sys.specs.declared.input.Input.{Input}
+use Rattle.jos_sys.specs.declared.system.System.{System}
+use Rattle.jos_sys.specs.System.{state_of, left_of, Keeps, in_use}
+use Rattle.jos_kernel.specs.Running.{Running}
+use Rattle.jos_kernel.specs.Steps.{EnvStep}
+
+-- what a machine keeps
+pub record Parts : Type 0 where
+  pub system : System
+  pub input : Input
+  pub space : Option Space
+
+-- the directory that is loaded is in use
+abbrev pub InUse : System → Option Space → Type 0
+InUse system None = Unit {0}
+InUse system (Some space) = in_use system space.directory.0 ≡ true
+
+pub record Lawful (m : Parts) : Type 0 where
+  pub system : Keeps m.system
+  pub space : InUse m.system m.space
+
+abbrev pub kernel_state : Parts → KernelState
+kernel_state m = state_of m.system (left_of m.input)
+
+abbrev pub loaded : Parts → Option ℕ
+loaded m = option_map (λ space. space.directory.0) m.space
+
+-- the memory that the processor sees
+abbrev pub running_of : Parts → Running
+running_of m = record { state = kernel_state m; directory = loaded m }
+
+-- A step is done, and so many bytes are written, all of them; or the host failed in the middle of them.
+abbrev pub Follows : Result ℕ Failed → EnvStep → KernelState → Around (Option (List ℕ)) → Type 0
+Follows (Ok written) step state console = (state ≡ step.state) × (written ≡ length step.written) × Gains console step.written
+Follows (Err _) step state console = GainsPart console step.written

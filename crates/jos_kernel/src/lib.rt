@@ -1,0 +1,17 @@
+//! The exokernel: boot, steps and turns.
+//!
+//! A `Kernel` stands at a point of a run (`progress_of` in `specs/Kernel.antt`): `Kernel::boot` makes the first of them,
+//! `booted` of the images, and `step`, `turn` and `exo_run` lead from one to the next as `one_step` and `run_from` say.
+//! The `Machine` in it is the processor's memory, through the directory of the environment that runs. All memory is taken
+//! by `boot`; no call after it takes any.
+#![tactic(auto)]
+
+mod boot;
+mod kernel;
+mod machine;
+mod report;
+#[cfg(test)]
+mod tests;
+
+pub use kernel::{BootFault, ExoEnd, Kernel, exo_run};
+pub use report::{End, Refusal, Report, Stopped, Turn};

@@ -1,0 +1,282 @@
+//! The machine: the system with the console's input, and the memory of the environment that runs.
+
+ghost use Rattle.std.specs.Prelude.{◌≡◌, ◌==◌, ◌<◌, ◌≤◌, ◌-◌, ◌^◌, None, Some, IfOk, is_ok, true, not};
+ghost use Rattle.std.specs.Option.{ForSome};
+ghost use Rattle.jos_host.specs.Told.{HasCause};
+ghost use Rattle.jos_host.specs.Frames.{Unchanged, around};
+ghost use Rattle.jos_base.specs.declared.numbers.TheConstants.{NENV, CPUTS_MAX};
+ghost use Rattle.jos_base.specs.Environments.{is_live, is_running};
+ghost use Rattle.jos_base.specs.KernelState.{KernelState, slot_at, with_registers, turn_begun, turn_ended};
+ghost use Rattle.jos_cpu.specs.Memory.{probed, refusal_of};
+ghost use Rattle.jos_envs.specs.Table.{any_live};
+ghost use Rattle.jos_sys.specs.System.{state_of, left_of, Keeps};
+ghost use Rattle.jos_kernel.specs.Machine.{kernel_state, loaded, running_of, Follows};
+ghost use Rattle.jos_kernel.specs.Running.{user_memory, unloaded};
+ghost use Rattle.jos_kernel.specs.Steps.{after_trap, after_event};
+ghost use Rattle.jos_kernel.specs.ExoRun.{current, next_slot};
+
+use jos_alu::Width;
+use jos_base::{Access, FEC_U, FEC_WR, Line, PageFault, Regs, Status, T_BRKPT, T_PGFLT, T_SYSCALL};
+use jos_cpu::{Event, Mem, MemFault};
+use jos_host::{Failed, Host};
+use jos_sched::next;
+use jos_space::Space;
+use jos_sys::{Input, System};
+use std::marker::Model;
+
+/// The system, the console's input, and the space that the processor uses, where one is loaded.
+#[derive(Drop)]
+pub(crate) struct Machine {
+    system: System,
+    input: Input,
+    space: Option<Space>,
+}
+
+impl Model for Machine {
+    ghost use Rattle.jos_kernel.specs.Machine.{Parts, Lawful};
+
+    ghost Value = { Parts };
+
+    ghost view = { λ m. record { system = m.system; input = m.input; space = m.space } };
+
+    ghost invariant = { λ m. Lawful (record { system = m.system; input = m.input; space = m.space }) };
+}
+
+impl Mem for Machine {
+    ghost use Rattle.jos_kernel.specs.Running.{Running, user_memory};
+
+    ghost State = { Running };
+
+    ghost seen = { running_of };
+
+    ghost table = { user_memory };
+
+    fn probe(&mut self, va: u32, len: u32, access: Access) -> Result<(), MemFault> {
+        let space = match self.space {
+            Some(space) => space,
+            None => return probe_nothing(va, len, access),
+        };
+        let mut at = va;
+        for _ in 0..len {
+            match self.system.reach(space, at, access) {
+                Ok(()) => {}
+                Err(fault) => return Err(MemFault::Page(fault)),
+            }
+            at = at.wrapping_add(1);
+        }
+        Ok(())
+    }
+
+    #[tactic(auto, unfolding(crate::specs::Running::user_memory))]
+    fn get(&self, va: u32) -> u8 {
+        match self.space {
+            Some(space) => self.system.byte_at(space, va),
+            None => 0,
+        }
+    }
+
+    #[inline(always)]
+    fn window(&self, va: u32) -> &[u8] {
+        match self.space {
+            Some(space) => self.system.user_bytes(space, va),
+            None => &[],
+        }
+    }
+
+    #[inline(always)]
+    fn put_at_hand(&mut self, width: Width, va: u32, value: u32) -> bool {
+        match self.space {
+            Some(space) => match width {
+                Width::Bits8 => self.system.put_byte(space, va, (value % 256) as u8),
+                Width::Bits16 => false,
+                Width::Bits32 => self.system.put_word(space, va, value),
+            },
+            None => false,
+        }
+    }
+
+    #[tactic(auto, unfolding(crate::specs::Running::user_memory))]
+    fn set(&mut self, va: u32, byte: u8) {
+        if let Some(space) = self.space {
+            self.system.store_byte(space, va, byte);
+        }
+    }
+
+    ghost use Rattle.jos_kernel.specs.MemoryLaws.{user_memory_is_lawful};
+
+    ghost lawful = { user_memory_is_lawful };
+}
+
+/// The fault of the first of so many bytes where no page is, if there is one.
+#[cold]
+fn probe_nothing(va: u32, len: u32, access: Access) -> Result<(), MemFault>
+    ensures after { (s : KernelState) → probed user_memory (unloaded s) va len access ≡ record { memory = unloaded s; refusal = refusal_of result } }
+    ensures none { is_ok result ≡ (len == 0) }
+{
+    if len == 0 {
+        return Ok(());
+    }
+    match access {
+        Access::Read => Err(MemFault::Page(PageFault { va, error: FEC_U })),
+        Access::Write => Err(MemFault::Page(PageFault {
+            va,
+            error: FEC_U | FEC_WR,
+        })),
+    }
+}
+
+impl Machine {
+    /// A machine that has loaded no space yet.
+    pub(crate) fn new(system: System, input: Input) -> Machine
+        requires { Keeps system }
+        ensures state { kernel_state result ≡ state_of system (left_of input) }
+        ensures loaded { loaded result ≡ None }
+    {
+        Machine {
+            system,
+            input,
+            space: None,
+        }
+    }
+
+    /// Loads the space of an environment.
+    #[inline(always)]
+    pub(crate) fn load(&mut self, slot: usize)
+        requires { is_live (slot_at (kernel_state self.old) slot) ≡ true }
+        ensures state { kernel_state self.new ≡ kernel_state self.old }
+        ensures loaded { loaded self.new ≡ Some (slot_at (kernel_state self.old) slot).directory }
+    {
+        self.space = Some(self.system.space(slot));
+    }
+
+    /// The registers of an environment.
+    #[inline(always)]
+    pub(crate) fn registers(&self, slot: usize) -> Regs
+        requires { is_live (slot_at (kernel_state self.now) slot) ≡ true }
+        ensures { result ≡ (slot_at (kernel_state self.now) slot).registers }
+    {
+        self.system.registers(slot)
+    }
+
+    /// The slot that had the last turn.
+    #[inline(always)]
+    pub(crate) fn current(&self) -> usize
+        ensures { result ≡ current (kernel_state self.now) }
+    {
+        self.system.last().unwrap_or(0)
+    }
+
+    /// Whether no environment is live.
+    pub(crate) fn is_unused(&self) -> bool
+        ensures { result ≡ not (any_live (kernel_state self.now).environments) }
+    {
+        self.system.table().is_unused()
+    }
+
+    /// The slot that gets the next turn.
+    pub(crate) fn next_slot(&self) -> Option<usize>
+        requires { ForSome (kernel_state self.now).last (λ n. n < NENV) }
+        ensures { result ≡ next_slot (kernel_state self.now) }
+    {
+        next(self.system.table(), self.system.last())
+    }
+
+    /// Whether the environment of a slot is in its turn.
+    #[inline(always)]
+    pub(crate) fn is_running(&self, slot: usize) -> bool
+        requires { slot < NENV }
+        ensures { result ≡ is_running (slot_at (kernel_state self.now) slot).status }
+    {
+        matches!(self.system.environment(slot).status, Status::Running)
+    }
+
+    /// How often frames or slots were asked for and there was none.
+    #[inline(always)]
+    pub(crate) fn refused(&self) -> u64
+        ensures { result ≡ (kernel_state self.now).refusals }
+    {
+        self.system.refused()
+    }
+
+    /// Begins a turn of an environment.
+    pub(crate) fn begin_turn(&mut self, slot: usize)
+        requires live { is_live (slot_at (kernel_state self.old) slot) ≡ true }
+        requires turns { (kernel_state self.old).turns < 2 ^ 32 - 1 }
+        ensures { kernel_state self.new ≡ turn_begun (kernel_state self.old) slot }
+    {
+        self.system.begin_turn(slot);
+    }
+
+    /// Ends a turn: an environment that is running waits for the next.
+    pub(crate) fn end_turn(&mut self, slot: usize)
+        requires { slot < NENV }
+        ensures { kernel_state self.new ≡ turn_ended (kernel_state self.old) slot }
+    {
+        self.system.end_turn(slot);
+    }
+
+    /// Destroys an environment by the line of a trap, given by its number, error code and address, that is told for the
+    /// address at which the environment stands. No space is loaded.
+    #[cold]
+    #[inline(never)]
+    fn follow_trap<H: Host>(
+        &mut self,
+        host: &mut H,
+        slot: usize,
+        trap: u8,
+        error: u32,
+        va: u32,
+    ) -> Result<u32, Failed>
+        requires live { is_live (slot_at (kernel_state self.old) slot) ≡ true }
+        requires unloaded { loaded self.old ≡ None }
+        ensures told { Follows result (after_trap (kernel_state self.old) slot trap error va (slot_at (kernel_state self.old) slot).registers.eip) (kernel_state self.new) (around H.console host.old host.new) }
+        ensures small { IfOk result (λ written. written ≤ CPUTS_MAX) }
+        ensures rest { Unchanged H.files H.input H.asked H.notes host.old host.new }
+        ensures cause { HasCause (H.faults host.old) (H.faults host.new) result }
+    {
+        let ip = self.system.registers(slot).eip;
+        let line = if trap == T_PGFLT {
+            Line::UserFault { va, ip }
+        } else {
+            Line::Trap { trap, error, ip }
+        };
+        match self.system.kill(host, slot, line) {
+            Ok(answer) => Ok(answer.written),
+            Err(failed) => Err(failed),
+        }
+    }
+
+    /// Does what comes of an instruction of the environment in a slot, which has left these registers: the system call
+    /// or the trap that it raised. The result is how many bytes were written. No space is loaded then.
+    #[inline(always)]
+    pub(crate) fn follow<H: Host>(
+        &mut self,
+        host: &mut H,
+        slot: usize,
+        registers: Regs,
+        event: Event,
+    ) -> Result<u32, Failed>
+        requires live { is_live (slot_at (kernel_state self.old) slot) ≡ true }
+        ensures told { Follows result (after_event (with_registers (kernel_state self.old) slot registers) slot event) (kernel_state self.new) (around H.console host.old host.new) }
+        ensures small { IfOk result (λ written. written ≤ CPUTS_MAX) }
+        ensures rest { Unchanged H.files H.input H.asked H.notes host.old host.new }
+        ensures cause { HasCause (H.faults host.old) (H.faults host.new) result }
+    {
+        self.space = None;
+        self.system.set_registers(slot, registers);
+        match event {
+            Event::Next => Ok(0),
+            Event::Soft(vector) => {
+                if vector == T_SYSCALL {
+                    match self.system.call(host, &mut self.input, slot) {
+                        Ok(answer) => Ok(answer.written),
+                        Err(failed) => Err(failed),
+                    }
+                } else {
+                    self.follow_trap(host, slot, T_BRKPT, 0, 0)
+                }
+            }
+            Event::Raised { trap, error, va } => { self.follow_trap(host, slot, trap, error, va) }
+        }
+    }
+}

@@ -1,0 +1,5 @@
+pub mod Keeping
+pub mod Making
+mod Buffers
+mod Answering
+mod Dispatch

@@ -1,0 +1,8 @@
+use Rattle.jos_sys.proofs.Keeping.{use_is, keeps_spaces}
+use Rattle.jos_sys.proofs.system.System.put_byte.Goals as goal
+
+pub put_byte-requires : goal.put_byte-requires
+put_byte-requires c = use_is _ c.requires
+
+pub returns-clause-spaces : goal.returns-clause-spaces
+returns-clause-spaces c = keeps_spaces _ _ _ c.put_byte.ensures.directories

@@ -1,0 +1,8 @@
+use Rattle.jos_sys.proofs.Keeping.{use_is, keeps_spaces}
+use Rattle.jos_sys.proofs.system.System.put_word.Goals as goal
+
+pub put_word-requires : goal.put_word-requires
+put_word-requires c = use_is _ c.requires
+
+pub returns-clause-spaces : goal.returns-clause-spaces
+returns-clause-spaces c = keeps_spaces _ _ _ c.put_word.ensures.directories

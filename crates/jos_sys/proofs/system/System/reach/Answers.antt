@@ -1,0 +1,11 @@
+use Rattle.jos_sys.proofs.Keeping.{use_is, keeps_spaces}
+use Rattle.jos_sys.proofs.system.System.reach.Goals as goal
+
+pub access-requires : goal.access-requires
+access-requires c = use_is _ c.requires
+
+pub returns-in-Ok-clause-spaces : goal.returns-in-Ok-clause-spaces
+returns-in-Ok-clause-spaces c = keeps_spaces _ _ _ c.access.ensures.directories
+
+pub returns-in-Err-clause-spaces : goal.returns-in-Err-clause-spaces
+returns-in-Err-clause-spaces c = keeps_spaces _ _ _ c.access.ensures.directories
