@@ -1,0 +1,9 @@
+pub mod Numbers
+pub mod ReadOn
+pub mod Adding
+pub mod Rows
+pub mod Rules
+pub mod Taking
+pub mod ClapWalk
+pub mod ExoForm
+pub mod DemoForm

@@ -1,0 +1,33 @@
+-- The commands as clap is told of them. (The kit's clap, 4.)
+use Rattle.std.specs.Prelude.{ℕ, Bool, List, [], ◌∷◌, ◌++◌, Some, true, codes, map}
+use Rattle.clap.specs.Words.{App, Rule, new_app, new_rule, takes}
+use Rattle.clap.specs.declared.builder.action.ArgAction.TheVariants.{Append}
+use Rattle.jos_words.specs.Commands.{exo_options}
+
+-- an option `--name`, which takes one value
+abbrev pub option_rule : List ℕ → Rule
+option_rule name = record (new_rule name) { long = Some name }
+
+-- a positional word that has to be there
+abbrev pub required_rule : List ℕ → Rule
+required_rule name = record (new_rule name) { required = true }
+
+-- positional words, of which one has to be there
+abbrev pub repeated_rule : List ℕ → Rule
+repeated_rule name = record (new_rule name) { action = Some Append; required = true }
+
+-- a command with these arguments, and without help and version flags
+abbrev pub app_with : List ℕ → List Rule → App
+app_with name rules =
+    let app = new_app name in
+    record app { top = record app.top { rules = rules; disable_help_flag = true; disable_version_flag = true } }
+
+abbrev pub exo_app : App
+exo_app = app_with (codes "exo") (map option_rule exo_options ++ repeated_rule (codes "image") ∷ [])
+
+abbrev pub demo_app : App
+demo_app = app_with (codes "demo") (required_rule (codes "name") ∷ required_rule (codes "file") ∷ [])
+
+-- clap takes these words, the first of which is the command's name
+unfoldable pub clap_takes : App → List (List ℕ) → Bool
+clap_takes app words = takes app words

@@ -1,0 +1,4 @@
+pub mod Values
+pub mod Arguments
+pub mod Commands
+pub mod ClapCommands

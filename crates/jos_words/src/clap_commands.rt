@@ -1,0 +1,86 @@
+//! The commands as clap is told of them.
+
+ghost use Rattle.std.specs.Prelude.{◌≡◌, IfOk, IfErr, map, true, false};
+ghost use Rattle.clap.specs.Words.{app_of, rule_of};
+ghost use Rattle.jos_words.specs.declared.words.WordsFault.TheVariants.{Usage};
+ghost use Rattle.jos_words.specs.Arguments.{texts};
+ghost use Rattle.jos_words.specs.ClapCommands.{option_rule, required_rule, repeated_rule, app_with};
+ghost use Rattle.jos_words.specs.ClapCommands.{exo_app, demo_app, clap_takes};
+
+use crate::commands::EXO_OPTIONS;
+use crate::words::WordsFault;
+use clap::error::ErrorKind;
+use clap::{Arg, ArgAction, Command};
+use std::alloc::{AllocError, Global};
+
+/// An option, which takes one value.
+fn option<'a>(alloc: Global, name: &'a str) -> Arg<'a>
+    ensures rule { rule_of result ≡ option_rule name.now }
+    ensures local { result.global ≡ false }
+{
+    Arg::new(alloc, name).long(name)
+}
+
+/// A positional word that has to be there.
+fn required<'a>(alloc: Global, name: &'a str) -> Arg<'a>
+    ensures rule { rule_of result ≡ required_rule name.now }
+    ensures local { result.global ≡ false }
+{
+    Arg::new(alloc, name).required(true)
+}
+
+/// Positional words, one at least.
+fn repeated<'a>(alloc: Global, name: &'a str) -> Arg<'a>
+    ensures rule { rule_of result ≡ repeated_rule name.now }
+    ensures local { result.global ≡ false }
+{
+    Arg::new(alloc, name)
+        .action(ArgAction::Append)
+        .required(true)
+}
+
+/// A command with options of these names, and without help and version flags.
+fn command_with<'a>(
+    alloc: Global,
+    name: &'a str,
+    options: &[&'a str],
+) -> Result<Command<'a>, AllocError>
+    ensures { IfOk result (λ command. app_of command ≡ app_with name.now (map (λ known. option_rule known.now) options.now)) }
+{
+    let mut command = Command::new(alloc, name)
+        .disable_help_flag(true)
+        .disable_version_flag(true);
+    for known in options {
+        command = command.arg(option(alloc, *known))?;
+    }
+    Ok(command)
+}
+
+/// `exo`, whose words are images.
+pub(crate) fn exo_command<'a>(alloc: Global) -> Result<Command<'a>, AllocError>
+    ensures { IfOk result (λ command. app_of command ≡ exo_app) }
+{
+    command_with(alloc, "exo", &EXO_OPTIONS)?.arg(repeated(alloc, "image"))
+}
+
+/// `demo`, whose words are a name and a file.
+pub(crate) fn demo_command<'a>(alloc: Global) -> Result<Command<'a>, AllocError>
+    ensures { IfOk result (λ command. app_of command ≡ demo_app) }
+{
+    command_with(alloc, "demo", &[])?
+        .arg(required(alloc, "name"))?
+        .arg(required(alloc, "file"))
+}
+
+/// Has clap take the words, the first of which is the command's name.
+pub(crate) fn ask_clap<'a>(command: Command<'a>, words: &'a [&'a str]) -> Result<(), WordsFault>
+    ensures usage { IfErr result (λ fault. fault ≡ Usage → clap_takes (app_of command.entry) (texts words.now) ≡ false) }
+{
+    match command.try_get_matches_from(words) {
+        Ok(_) => Ok(()),
+        Err(error) => match error.kind() {
+            ErrorKind::OutOfMemory => Err(WordsFault::NoMemory),
+            _ => Err(WordsFault::Usage),
+        },
+    }
+}

@@ -1,0 +1,134 @@
+//! What words mean, case by case.
+
+use super::*;
+use std::alloc::{AllocError, Global};
+use std::process::Abort;
+
+fn add_word(line: &mut String, what: &str, word: Option<WordAt>) -> Result<(), AllocError> {
+    match word {
+        None => Ok(()),
+        Some(word) => write!(line, "{what}{}@{}", word.text, word.place),
+    }
+}
+
+fn add_number(line: &mut String, what: &str, number: Option<NumberAt>) -> Result<(), AllocError> {
+    match number {
+        None => Ok(()),
+        Some(number) => write!(line, "{what}{}@{}", number.value, number.place),
+    }
+}
+
+// The words of a command, each value with its place behind it.
+fn add_command(line: &mut String, command: &Command) -> Result<(), AllocError> {
+    match command {
+        Command::Exo(exo) => {
+            line.push_str("exo")?;
+            add_number(line, " frames ", exo.frames)?;
+            add_number(line, " steps ", exo.steps)?;
+            add_word(line, " schedule ", exo.schedule)?;
+            for image in &exo.images {
+                add_word(line, " ", Some(*image))?;
+            }
+            Ok(())
+        }
+        Command::Demo(demo) => {
+            add_word(line, "demo ", Some(demo.name))?;
+            add_word(line, " ", Some(demo.file))
+        }
+    }
+}
+
+// The words, with `|` between them, are read so.
+fn reads(rt: &impl Abort, alloc: Global, text: &str, want: &str) -> Result<(), AllocError> {
+    let words: Vec<&str> = text.split('|').collect(alloc)?;
+    let mut line = String::new(alloc);
+    match read_words(alloc, &words) {
+        Ok(command) => add_command(&mut line, &command)?,
+        Err(fault) => write!(line, "{fault:?}")?,
+    }
+    assert_eq!(rt; line.as_str(), want, "of {text}");
+    Ok(())
+}
+
+// Words, and what is read of them, each value with its place behind it.
+const READ: &str = "\
+exo|a => exo a@1
+exo|a|a|b => exo a@1 a@2 b@3
+exo|--frames|5|a => exo frames 5@2 a@3
+exo|--frames=5|a => exo frames 5@1 a@2
+exo|a|--schedule|s|b|--steps=7 => exo steps 7@5 schedule s@3 a@1 b@4
+exo|--schedule=a=b|c => exo schedule a=b@1 c@2
+exo|--|--frames|--|-x => exo --frames@2 --@3 -x@4
+exo|a|--|--steps=1 => exo a@1 --steps=1@3
+exo|a|-- => exo a@1
+exo|-||help|exo => exo -@1 @2 help@3 exo@4
+exo|--steps|0|a => exo steps 0@2 a@3
+exo|--steps|00000000000000000017|a => exo steps 17@2 a@3
+exo|--steps=99999999999999999999|a => exo steps 99999999999999999999@1 a@2
+demo|xhello|h => demo xhello@1 h@2
+demo|--|-n|-- => demo -n@2 --@3
+demo|a|--|b => demo a@1 b@3
+demo||-|-- => demo @1 -@2";
+
+// Words that are no command; the last line is one empty word.
+const NO_COMMAND: &str = "\
+run|d
+Exo|a
+--frames=1|exo|a
+--|exo|a
+exo
+exo|--
+exo|--steps=1
+exo|--frames=1|--frames=1|a
+exo|--frames=1|--frames|2|a
+exo|a|--schedule
+exo|--schedule=|a
+exo|--schedule||a
+exo|--schedule|-|a
+exo|--schedule=-|a
+exo|--schedule=-s|a
+exo|--schedule|--|a
+exo|--schedule|--frames=1|a
+exo|--fram=1|a
+exo|--Frames=1|a
+exo|--=1|a
+exo|--trace=1|a
+exo|-x|a
+exo|-h
+exo|--help
+exo|-V|a
+exo|--version|a
+exo|--steps|000000000000000000001|a
+exo|--steps|+1|a
+exo|--steps|-1|a
+exo|--steps| 1|a
+exo|--steps|1 |a
+exo|--frames=0x1|a
+demo
+demo|a
+demo|a|b|c
+demo|--frames=1|a|b
+demo|-n|a
+demo|--help|a
+exo|--frames=\u{663}|a
+";
+
+#[test]
+fn each_value_is_read_with_its_place(rt: HostRuntime) -> Result<(), AllocError> {
+    for case in READ.lines() {
+        let Some((words, want)) = case.split_once(" => ") else {
+            panic!(rt; "{case} is no case");
+        };
+        reads(&rt, rt.alloc(), words, want)?;
+    }
+    Ok(())
+}
+
+#[test]
+fn other_words_are_no_command(rt: HostRuntime) -> Result<(), AllocError> {
+    for words in NO_COMMAND.split('\n') {
+        reads(&rt, rt.alloc(), words, "Usage")?;
+    }
+    assert!(rt; read_words(rt.alloc(), &[]).is_err(), "of no words");
+    Ok(())
+}
