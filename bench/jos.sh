@@ -1,6 +1,6 @@
 # What the scripts here share, to be sourced with `runs` set: the loops, and how fast the simulator makes their
-# steps. A run has 1,000,000 steps; what it takes to start is measured by a program that ends at once, and taken
-# off.
+# steps. A run has so many million steps; what it takes to start is measured by a program that ends at once, and
+# taken off.
 
 LC_ALL=C
 export LC_ALL
@@ -57,14 +57,12 @@ now() {
     date +%s.%N
 }
 
-# the seconds that so many runs of the program in a file take
+steps=$((runs * 1000000))
+
+# the seconds that the program in a file takes for its steps
 seconds_of() {
     begin=$(now)
-    k=0
-    while [ "$k" -lt "$runs" ]; do
-        "$program" exo "$folder/$1" 2>"$folder/note" >/dev/null
-        k=$((k + 1))
-    done
+    "$program" exo --steps "$steps" "$folder/$1" </dev/null 2>"$folder/note" >/dev/null
     echo "$begin $(now)" | awk '{ print $2 - $1 }'
 }
 
@@ -78,7 +76,7 @@ jos_seconds() {
 speed_of() {
     took=$(seconds_of "$1")
     case $(cat "$folder/note") in
-        'budget steps 1000000 '*) ;;
+        "budget steps $steps "*) ;;
         *) echo "$1: $(cat "$folder/note")" >&2 && return 1 ;;
     esac
     echo "$runs $took $jos_start" | awk '{ print $1 / ($2 - $3) }'
@@ -92,5 +90,5 @@ jos_speed() {
 
 # the first run builds the program where it is not there
 image start
-"$here/jos" exo "$folder/start" || exit 1
+"$here/jos" exo "$folder/start" </dev/null || exit 1
 jos_start=$(jos_seconds start)

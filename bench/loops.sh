@@ -1,6 +1,6 @@
 #!/bin/sh
-# Measures the simulator: five loops, each run so often that it makes RUNS million steps (100 without a word), and
-# prints the million steps a second of each.
+# Measures the simulator: five loops, each run for RUNS million steps (100 without a word, and 1,000 at most), and prints
+# the million steps a second of each.
 #
 #     sh bench/loops.sh [RUNS]
 

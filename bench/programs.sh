@@ -1,6 +1,6 @@
 #!/bin/sh
 # Measures the simulator on programs of gcc: each of programs/*.c, compiled at -O0 and at -O2 for the 80386 as one
-# segment in one page, is run so often that it makes RUNS million steps (100 without a word). It prints the million
+# segment in one page, is run for RUNS million steps (100 without a word, and 1,000 at most). It prints the million
 # steps a second and, where valgrind is installed, the machine instructions a step, counted by callgrind.
 #
 #     sh bench/programs.sh [RUNS]
@@ -19,7 +19,7 @@ compile() {
 }
 
 counted() {
-    valgrind --tool=callgrind --callgrind-out-file=/dev/null "$program" exo "$folder/$1" 2>&1 >/dev/null |
+    valgrind --tool=callgrind --callgrind-out-file=/dev/null "$program" exo --steps 1000000 "$folder/$1" 2>&1 >/dev/null </dev/null |
         awk '/Collected :/ { print $4 }'
 }
 

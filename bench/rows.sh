@@ -192,7 +192,7 @@ loop_code() {
 
 # counted PROGRAM: the machine instructions of a run
 counted() {
-    valgrind --tool=callgrind --callgrind-out-file=/dev/null "$program" exo "$1" 2>&1 >/dev/null |
+    valgrind --tool=callgrind --callgrind-out-file=/dev/null "$program" exo --steps 1000000 "$1" 2>&1 >/dev/null </dev/null |
         awk '/Collected :/ { print $4 }'
 }
 
@@ -203,7 +203,7 @@ done <"$folder/rows"
 started=$(counted "$folder/start")
 export program folder
 cut -d'|' -f1 "$folder/rows" | xargs -P "$(nproc)" -I{} sh -c '
-    valgrind --tool=callgrind --callgrind-out-file=/dev/null "$program" exo "$folder/{}" 2>"$folder/{}.note" >/dev/null
+    valgrind --tool=callgrind --callgrind-out-file=/dev/null "$program" exo --steps 1000000 "$folder/{}" 2>"$folder/{}.note" >/dev/null </dev/null
     awk "/Collected :/ { print \$4 }" "$folder/{}.note" >"$folder/{}.count"'
 
 while IFS='|' read -r name once loop beside; do

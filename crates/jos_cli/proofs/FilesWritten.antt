@@ -9,10 +9,13 @@ use Rattle.jos_host.specs.Files.{Files, with_bytes, bytes_of, overwritten}
 use Rattle.jos_host.specs.Told.{Creates, WritesAt}
 use Rattle.jos_cli.specs.declared.outcome.Outcome.{Outcome}
 use Rattle.jos_cli.specs.declared.outcome.Outcome.TheVariants as outcome
-use Rattle.jos_cli.specs.declared.outcome.Stopped.{Stopped}
+use Rattle.jos_kernel.specs.declared.report.Stopped.{Stopped}
 use Rattle.jos_host.specs.Frames.{from_to}
-use Rattle.jos_cli.specs.Commands.{Command, exo, demo, program_file}
+use Rattle.jos_words.specs.Commands.{Command, exo, demo}
+use Rattle.jos_cli.specs.Commands.{program_file}
 use Rattle.jos_cli.specs.FilesLeft.{KeepsOthers, told_with, LeavesProgram, Leaves}
+use Rattle.jos_cli.specs.Outcomes.{IsMemoryCase}
+use Rattle.jos_cli.proofs.Memory.{on_memory}
 
 itself : (name : List ℕ) → bytes_eq name name ≡ true
 itself name = (bytes_eq-Decides name name).1 refl
@@ -60,10 +63,22 @@ program_fault old new program file (outcome.Absent word) h = keeps_all old new f
 program_fault old new program file (outcome.Limit which) h = keeps_all old new file h
 program_fault old new program file (outcome.BadImage word fault) h = keeps_all old new file h
 program_fault old new program file outcome.NoMemory h = keeps_all old new file h
-program_fault old new program file (outcome.Unbuilt feature) h = keeps_all old new file h
+program_fault old new program file (outcome.BadSchedule fault) h = keeps_all old new file h
 
 pub leaves_fault : (old new later : Option Files) (command : Option Command) (result : Outcome) (stopped : Stopped) → Leaves command result (from_to old new) → later ≡ new →
     Leaves command (outcome.HostFault stopped) (from_to old later)
 leaves_fault old new later None result stopped h same = same ∙ h
-leaves_fault old new later (Some (exo image)) result stopped h same = same ∙ h
-leaves_fault old new later (Some (demo program file)) result stopped h same = subst (λ (f : Option Files). KeepsOthers file (from_to old f)) (sym same) (program_fault old new program file result h)
+leaves_fault old new later (Some (exo e)) result stopped h same = same ∙ h
+leaves_fault old new later (Some (demo d)) result stopped h same =
+    subst (λ (f : Option Files). KeepsOthers d.file.text (from_to old f)) (sym same) (program_fault old new d.name.text d.file.text result h)
+
+-- no file was written
+leaves_same : (old new : Option Files) (command : Option Command) → new ≡ old → Leaves command outcome.NoMemory (from_to old new)
+leaves_same old new None same = same
+leaves_same old new (Some (exo e)) same = same
+leaves_same old new (Some (demo d)) same = same
+
+pub leaves_all : (old new : Option Files) (command : Option Command) (own : Outcome) → IsMemoryCase own → new ≡ old → Leaves command own (from_to old new)
+leaves_all old new command own h same =
+    on_memory (λ o. Leaves command o (from_to old new)) (leaves_same old new command same)
+    (λ stopped. leaves_fault old new new command outcome.NoMemory stopped (leaves_same old new command same) refl) own h

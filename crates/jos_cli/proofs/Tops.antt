@@ -1,64 +1,62 @@
 -- What the console has where the note of an outcome could not be written.
-use Rattle.std.proofs.Common.{◌≡◌, ℕ, List, [], length, Option, Some, None, sym, subst, ◌∙◌, arith}
+use Rattle.std.proofs.Common.{◌≡◌, ℕ, ◌<◌, ◌^◌, List, length, Option, Some, None, refl, sym, subst, ◌∙◌, arith}
 use mathlib.Core.Logic.{inl, inr}
 use Rattle.std.proofs.Math.Seq.{take-length}
 use Rattle.jos_host.specs.Files.{Files}
 use Rattle.jos_host.specs.Told.{Rose}
-use Rattle.jos_cli.specs.declared.outcome.Stopped.{Stopped}
+use Rattle.jos_kernel.specs.declared.report.Stopped.{Stopped}
 use Rattle.jos_cli.specs.declared.outcome.Outcome.{Outcome}
 use Rattle.jos_cli.specs.declared.outcome.Outcome.TheVariants as outcome
 use Rattle.jos_host.specs.Frames.{Around, from_to}
 use Rattle.jos_host.specs.Gains.{Gains, GainsPart}
-use Rattle.jos_cli.specs.Commands.{Command, exo, demo, command_of}
-use Rattle.jos_cli.specs.Answer.{Expected, refused, usage, expected_of_file, expected_of_program, Answers}
-use Rattle.jos_cli.specs.Answer.{AnswersCommand, HasOutcomeCause}
+use Rattle.jos_words.specs.Commands.{Command, exo, demo}
+use Rattle.jos_cli.specs.Commands.{command_of}
+use Rattle.jos_cli.specs.Answer.{Expected, refused, usage, expected_of_exo, expected_of_demo}
+use Rattle.jos_cli.specs.Outcomes.{Kind, answered, cut_off, no_memory, kind_of, AnswersBy, AnswersCommand}
+use Rattle.jos_cli.specs.Outcomes.{HasCauseOf, HasOutcomeCause, IsUsageCase, IsMemoryCase}
 use Rattle.jos_cli.specs.Notes.{note_of, IsNoted}
 use Rattle.jos_cli.specs.FaultNotes.{IfHostFault, IfNoFault, FaultIsNoted}
 use Rattle.jos_cli.proofs.ToldBytes.{gains_none}
+use Rattle.jos_cli.proofs.Finding.{some_found, some_input}
+use Rattle.jos_cli.proofs.Memory.{on_memory}
 
 all_of : (stream : Around (Option (List ℕ))) (bytes : List ℕ) → Gains stream bytes → GainsPart stream bytes
 all_of stream bytes h =
     (length bytes, omega arith, subst (λ (b : List ℕ). Gains stream b) (sym (take-length bytes)) h)
 
-part_of : (e : Expected) (result : Outcome) (console : Around (Option (List ℕ))) → Answers e result console → GainsPart console e.console
-part_of e (outcome.HostFault stopped) console h = h
-part_of e outcome.NoMemory console h = (0, omega arith, h ∙ gains_none console.before)
-part_of e (outcome.Ran report) console h = all_of console e.console h.1
-part_of e outcome.Usage console h = all_of console e.console h.1
-part_of e (outcome.Absent word) console h = all_of console e.console h.1
-part_of e (outcome.Limit which) console h = all_of console e.console h.1
-part_of e (outcome.BadImage word fault) console h = all_of console e.console h.1
-part_of e (outcome.Unbuilt feature) console h = all_of console e.console h.1
-part_of e (outcome.Made bytes) console h = all_of console e.console h.1
+part_of : (e : Expected) (kind : Kind) (console : Around (Option (List ℕ))) → AnswersBy e kind console → GainsPart console e.console
+part_of e (answered answer) console h = all_of console e.console h.1
+part_of e (cut_off stopped) console h = h
+part_of e no_memory console h = (0, omega arith, h ∙ gains_none console.before)
 
-part : (e : Expected) (result : Outcome) (console : Around (Option (List ℕ))) (later : Option (List ℕ)) → Answers e result console → later ≡ console.after →
+part : (e : Expected) (kind : Kind) (console : Around (Option (List ℕ))) (later : Option (List ℕ)) → AnswersBy e kind console → later ≡ console.after →
     GainsPart (from_to console.before later) e.console
-part e result console later h same =
-    subst (λ (c : Option (List ℕ)). GainsPart (from_to console.before c) e.console) (sym same) (part_of e result console h)
+part e kind console later h same =
+    subst (λ (c : Option (List ℕ)). GainsPart (from_to console.before c) e.console) (sym same) (part_of e kind console h)
 
-pub answers_part : (told : Option Files) (command : Option Command) (result : Outcome) (stopped : Stopped) (console : Around (Option (List ℕ))) (later : Option (List ℕ)) →
-    AnswersCommand told command result console → later ≡ console.after →
-    AnswersCommand told command (outcome.HostFault stopped) (from_to console.before later)
-answers_part told None result stopped console later h same = part (refused usage) result console later h same
-answers_part None (Some (exo image)) result stopped console later h same = tt
-answers_part (Some files) (Some (exo image)) result stopped console later h same = part (expected_of_file (files image)) result console later h same
-answers_part told (Some (demo program file)) result stopped console later h same = part (expected_of_program program) result console later h same
+pub answers_part : (told : Option Files) (input : Option (List ℕ)) (command : Option Command) (result : Outcome) (stopped : Stopped) (console : Around (Option (List ℕ)))
+    (later : Option (List ℕ)) → AnswersCommand told input command result console → later ≡ console.after →
+    AnswersCommand told input command (outcome.HostFault stopped) (from_to console.before later)
+answers_part told input None result stopped console later h same = part (refused usage) (kind_of result) console later h same
+answers_part told input (Some (demo d)) result stopped console later h same = part (expected_of_demo d.name.text) (kind_of result) console later h same
+answers_part told input (Some (exo e)) result stopped console later h same =
+    (h.0, h.1, h.2, h.3, part (expected_of_exo e h.0 h.1) (kind_of result) console later h.4 same)
 
 -- ---- the note where a call of the host failed
 
 -- the note is written
-pub noted : (files : Option Files) (words : List (List ℕ)) (outcome : Outcome) (faults : Around ℕ) (console notes : Around (Option (List ℕ))) →
-    Gains notes (note_of words outcome) → IfHostFault outcome (FaultIsNoted files words faults console notes)
+pub noted : (files : Option Files) (input : Option (List ℕ)) (words : List (List ℕ)) (outcome : Outcome) (faults : Around ℕ) (console notes : Around (Option (List ℕ))) →
+    Gains notes (note_of words outcome) → IfHostFault outcome (FaultIsNoted files input words faults console notes)
 unfolding FaultIsNoted
-noted files words (outcome.HostFault stopped) faults console notes h = inl h
-noted files words (outcome.Ran report) faults console notes h = tt
-noted files words outcome.Usage faults console notes h = tt
-noted files words (outcome.Absent word) faults console notes h = tt
-noted files words (outcome.Limit which) faults console notes h = tt
-noted files words (outcome.BadImage word fault) faults console notes h = tt
-noted files words outcome.NoMemory faults console notes h = tt
-noted files words (outcome.Unbuilt feature) faults console notes h = tt
-noted files words (outcome.Made bytes) faults console notes h = tt
+noted files input words (outcome.HostFault stopped) faults console notes h = inl h
+noted files input words (outcome.Ran report) faults console notes h = tt
+noted files input words outcome.Usage faults console notes h = tt
+noted files input words (outcome.Absent word) faults console notes h = tt
+noted files input words (outcome.Limit which) faults console notes h = tt
+noted files input words (outcome.BadSchedule fault) faults console notes h = tt
+noted files input words (outcome.BadImage word fault) faults console notes h = tt
+noted files input words outcome.NoMemory faults console notes h = tt
+noted files input words (outcome.Made bytes) faults console notes h = tt
 
 pub is_noted : (words : List (List ℕ)) (outcome : Outcome) (notes : Around (Option (List ℕ))) → Gains notes (note_of words outcome) → IsNoted words outcome notes
 is_noted words (outcome.HostFault stopped) notes h = (note_of words (outcome.HostFault stopped), h)
@@ -66,66 +64,82 @@ is_noted words (outcome.Ran report) notes h = h
 is_noted words outcome.Usage notes h = h
 is_noted words (outcome.Absent word) notes h = h
 is_noted words (outcome.Limit which) notes h = h
+is_noted words (outcome.BadSchedule fault) notes h = h
 is_noted words (outcome.BadImage word fault) notes h = h
 is_noted words outcome.NoMemory notes h = h
-is_noted words (outcome.Unbuilt feature) notes h = h
 is_noted words (outcome.Made bytes) notes h = h
 
 -- or it failed
-pub not_noted : (files : Option Files) (words : List (List ℕ)) (outcome : Outcome) (faults : Around ℕ) (now : ℕ) (console notes : Around (Option (List ℕ))) (later : Option (List ℕ)) →
-    HasOutcomeCause faults outcome → Rose faults.after now → later ≡ console.after → AnswersCommand files (command_of words) outcome console →
-    GainsPart notes (note_of words outcome) →
-    FaultIsNoted files words (from_to faults.before now) (from_to console.before later) notes
-unfolding FaultIsNoted
-not_noted files words (outcome.HostFault stopped) faults now console notes later cause rose same answer part =
-    inr (inl ((faults.after, cause.0, rose), part))
-not_noted files words (outcome.Ran report) faults now console notes later cause rose same answer part =
-    inr (inr (outcome.Ran report, subst (λ (c : Option (List ℕ)). AnswersCommand files (command_of words) (outcome.Ran report) (from_to console.before c)) (sym same) answer, part))
-not_noted files words outcome.Usage faults now console notes later cause rose same answer part =
-    inr (inr (outcome.Usage, subst (λ (c : Option (List ℕ)). AnswersCommand files (command_of words) outcome.Usage (from_to console.before c)) (sym same) answer, part))
-not_noted files words (outcome.Absent word) faults now console notes later cause rose same answer part =
-    inr (inr (outcome.Absent word, subst (λ (c : Option (List ℕ)). AnswersCommand files (command_of words) (outcome.Absent word) (from_to console.before c)) (sym same) answer, part))
-not_noted files words (outcome.Limit which) faults now console notes later cause rose same answer part =
-    inr (inr (outcome.Limit which, subst (λ (c : Option (List ℕ)). AnswersCommand files (command_of words) (outcome.Limit which) (from_to console.before c)) (sym same) answer, part))
-not_noted files words (outcome.BadImage word fault) faults now console notes later cause rose same answer part =
-    inr (inr (outcome.BadImage word fault, subst (λ (c : Option (List ℕ)). AnswersCommand files (command_of words) (outcome.BadImage word fault) (from_to console.before c)) (sym same) answer, part))
-not_noted files words outcome.NoMemory faults now console notes later cause rose same answer part =
-    inr (inr (outcome.NoMemory, subst (λ (c : Option (List ℕ)). AnswersCommand files (command_of words) outcome.NoMemory (from_to console.before c)) (sym same) answer, part))
-not_noted files words (outcome.Unbuilt feature) faults now console notes later cause rose same answer part =
-    inr (inr (outcome.Unbuilt feature, subst (λ (c : Option (List ℕ)). AnswersCommand files (command_of words) (outcome.Unbuilt feature) (from_to console.before c)) (sym same) answer, part))
-not_noted files words (outcome.Made bytes) faults now console notes later cause rose same answer part =
-    inr (inr (outcome.Made bytes, subst (λ (c : Option (List ℕ)). AnswersCommand files (command_of words) (outcome.Made bytes) (from_to console.before c)) (sym same) answer, part))
+module _ (files : Option Files) (input : Option (List ℕ)) (words : List (List ℕ)) (faults : Around ℕ) (now : ℕ) (console notes : Around (Option (List ℕ)))
+    (later : Option (List ℕ)) (rose : Rose faults.after now) (same : later ≡ console.after) where
+  others : (own : Outcome) → IfNoFault own (AnswersCommand files input (command_of words) own (from_to console.before later)) →
+      GainsPart notes (note_of words own) → FaultIsNoted files input words (from_to faults.before now) (from_to console.before later) notes
+  unfolding FaultIsNoted
+  others own answer part = inr (inr (own, answer, part))
 
--- Words that are no command have no word in their note.
-answered_usage : (words : List (List ℕ)) (own : Outcome) (console notes : Around (Option (List ℕ))) →
-    IfNoFault own (Answers (refused usage) own console) → GainsPart notes (note_of [] own) → GainsPart notes (note_of words own)
-answered_usage words (outcome.HostFault stopped) console notes answer part = part
-answered_usage words (outcome.Ran report) console notes answer part = part
-answered_usage words outcome.Usage console notes answer part = part
-answered_usage words (outcome.Absent word) console notes answer part = absurd (let e = answer.0 in cc)
-answered_usage words (outcome.Limit which) console notes answer part = part
-answered_usage words (outcome.BadImage word fault) console notes answer part = absurd (let e = answer.0 in cc)
-answered_usage words outcome.NoMemory console notes answer part = part
-answered_usage words (outcome.Unbuilt feature) console notes answer part = part
-answered_usage words (outcome.Made bytes) console notes answer part = part
+  moved : (own : Outcome) → AnswersCommand files input (command_of words) own console → AnswersCommand files input (command_of words) own (from_to console.before later)
+  moved own answer =
+      subst (λ (c : Option (List ℕ)). AnswersCommand files input (command_of words) own (from_to console.before c)) (sym same) answer
 
-pub no_command : (files : Option Files) (words : List (List ℕ)) (result : Outcome) (faults : Around ℕ) (console notes : Around (Option (List ℕ))) →
-    command_of words ≡ None → IfHostFault result (FaultIsNoted files [] faults console notes) →
-    IfHostFault result (FaultIsNoted files words faults console notes)
-unfolding FaultIsNoted
-no_command files words (outcome.HostFault stopped) faults console notes e (inl h) = inl h
-no_command files words (outcome.HostFault stopped) faults console notes e (inr (inl h)) = inr (inl h)
-no_command files words (outcome.HostFault stopped) faults console notes e (inr (inr h)) =
-    inr (inr (
-      h.0,
-      subst (λ (c : Option Command). IfNoFault h.0 (AnswersCommand files c h.0 console)) (sym e) h.1,
-      answered_usage words h.0 console notes h.1 h.2,
-    ))
-no_command files words (outcome.Ran report) faults console notes e h = tt
-no_command files words outcome.Usage faults console notes e h = tt
-no_command files words (outcome.Absent word) faults console notes e h = tt
-no_command files words (outcome.Limit which) faults console notes e h = tt
-no_command files words (outcome.BadImage word fault) faults console notes e h = tt
-no_command files words outcome.NoMemory faults console notes e h = tt
-no_command files words (outcome.Unbuilt feature) faults console notes e h = tt
-no_command files words (outcome.Made bytes) faults console notes e h = tt
+  pub not_noted : (own : Outcome) → HasOutcomeCause faults own → AnswersCommand files input (command_of words) own console → GainsPart notes (note_of words own) →
+      FaultIsNoted files input words (from_to faults.before now) (from_to console.before later) notes
+  unfolding FaultIsNoted
+  not_noted (outcome.HostFault stopped) cause answer part = inr (inl ((faults.after, cause.0, rose), part))
+  not_noted (outcome.Ran report) cause answer part = others (outcome.Ran report) (moved (outcome.Ran report) answer) part
+  not_noted outcome.Usage cause answer part = others outcome.Usage (moved outcome.Usage answer) part
+  not_noted (outcome.Absent word) cause answer part = others (outcome.Absent word) (moved (outcome.Absent word) answer) part
+  not_noted (outcome.Limit which) cause answer part = others (outcome.Limit which) (moved (outcome.Limit which) answer) part
+  not_noted (outcome.BadSchedule fault) cause answer part = others (outcome.BadSchedule fault) (moved (outcome.BadSchedule fault) answer) part
+  not_noted (outcome.BadImage word fault) cause answer part = others (outcome.BadImage word fault) (moved (outcome.BadImage word fault) answer) part
+  not_noted outcome.NoMemory cause answer part = others outcome.NoMemory (moved outcome.NoMemory answer) part
+  not_noted (outcome.Made bytes) cause answer part = others (outcome.Made bytes) (moved (outcome.Made bytes) answer) part
+
+-- ---- what holds of an answer still where its note could not be written
+
+-- the count of faults rose in the end
+rose_then : (first mid now : ℕ) → now < 2 ^ 64 → Rose first mid → Rose mid now → Rose first now
+rose_then first mid now fits (inl a) (inl b) = inl (omega (arith, a, b))
+rose_then first mid now fits (inl a) (inr b) = inr b
+rose_then first mid now fits (inr a) (inl b) = absurd (omega (arith, a, b, fits))
+rose_then first mid now fits (inr a) (inr b) = inr b
+
+pub cause_then : (faults : Around ℕ) (now : ℕ) (own : Outcome) → now < 2 ^ 64 → HasOutcomeCause faults own → Rose faults.after now → Rose faults.before now
+cause_then faults now own fits cause rose = go (kind_of own) cause
+  where
+    go : (kind : Kind) → HasCauseOf faults kind → Rose faults.before now
+    go (answered answer) same = subst (λ (n : ℕ). Rose n now) same rose
+    go (cut_off stopped) h = rose_then faults.before faults.after now fits h.0 rose
+    go no_memory same = subst (λ (n : ℕ). Rose n now) same rose
+
+pub usage_fault : (command : Option Command) (stopped : Stopped) → IsUsageCase command (outcome.HostFault stopped)
+usage_fault None stopped = tt
+usage_fault (Some command) stopped = tt
+
+usage_memory : (command : Option Command) → IsUsageCase command outcome.NoMemory
+usage_memory None = tt
+usage_memory (Some command) = tt
+
+pub usage_any : (command : Option Command) (own : Outcome) → IsMemoryCase own → IsUsageCase command own
+usage_any command own h = on_memory (λ o. IsUsageCase command o) (usage_memory command) (usage_fault command) own h
+
+-- ---- want of memory
+
+pub before_writing : (files : Option Files) (input : Option (List ℕ)) (command : Option Command) (console : Around (Option (List ℕ))) →
+    AnswersCommand files input command outcome.NoMemory console → console.after ≡ console.before
+before_writing files input None console h = h
+before_writing files input (Some (demo d)) console h = h
+before_writing files input (Some (exo e)) console h = h.4
+
+pub at_no_memory : (files : Option Files) (input : Option (List ℕ)) (command : Option Command) (console : Around (Option (List ℕ))) →
+    console.after ≡ console.before → AnswersCommand files input command outcome.NoMemory console
+at_no_memory files input None console same = same
+at_no_memory files input (Some (demo d)) console same = same
+at_no_memory files input (Some (exo e)) console same =
+    let found = some_found files e in let given = some_input input in (found.0, given.0, found.1, given.1, same)
+
+pub before_all : (files : Option Files) (input : Option (List ℕ)) (command : Option Command) (own : Outcome) (console : Around (Option (List ℕ))) →
+    IsMemoryCase own → console.after ≡ console.before → AnswersCommand files input command own console
+before_all files input command own console h same =
+    let none = at_no_memory files input command console same in
+    on_memory (λ o. AnswersCommand files input command o console) none
+    (λ stopped. answers_part files input command outcome.NoMemory stopped console console.after none refl) own h

@@ -1,42 +1,29 @@
--- What the program answers, where nothing fails, as a function of its words and of the files; and what its
--- outcome says of that. Refusals are tried in the order in which they stand. (This system's own.)
-use Rattle.std.specs.Prelude.{◌≡◌, ◌≢◌, ℕ, nat_lt, nat_le, ◌+◌, Bool, List, [], ◌∷◌, length, Option, Some, None}
-use Rattle.std.specs.Prelude.{Result, Ok, Err, if◌then◌else◌}
-use Rattle.jos_host.specs.Files.{Files}
-use Rattle.jos_host.specs.Told.{Rose}
-use Rattle.jos_base.specs.declared.numbers.TheConstants.{PGSIZE, IMAGE_MAX}
-use Rattle.jos_cli.specs.declared.limits.TheConstants.{BUDGET}
-use Rattle.jos_base.specs.Words.{page_offset}
+-- What the program answers, where nothing fails, as a function of its words, of the files that they name and of the
+-- console's input. Refusals are tried in the order in which they stand. (This system's own.)
+use Rattle.std.specs.Prelude.{ℕ, nat_lt, List, [], ◌∷◌, length, Option, Some, None, Result, Ok, Err, if◌then◌else◌}
+use Rattle.jos_base.specs.declared.numbers.TheConstants.{SCHEDULE_TEXT_MAX, IMAGE_MAX, INPUT_MAX}
+use Rattle.jos_words.specs.Commands.{Exo}
+use Rattle.jos_sched.specs.declared.fault.ScheduleFault.{ScheduleFault}
+use Rattle.jos_sched.specs.Schedule as schedule
 use Rattle.jos_elf.specs.declared.fault.ElfFault.{ElfFault}
-use Rattle.jos_elf.specs.declared.image.Segment.{Segment}
-use Rattle.jos_elf.specs.Parsed.{Layout, parsed}
-use Rattle.jos_cli.specs.declared.outcome.End.{End}
-use Rattle.jos_cli.specs.declared.outcome.End.TheVariants.{Done, Stuck, Budget, TurnsFull}
-use Rattle.jos_cli.specs.declared.outcome.Turn.{Turn}
+use Rattle.jos_elf.specs.Parsed.{Layout}
+use Rattle.jos_elf.specs.Parsed as image
+use Rattle.jos_kernel.specs.Reports.{Reported}
+use Rattle.jos_kernel.specs.Boot.{Loadable}
+use Rattle.jos_kernel.specs.ExoRun.{Ran, exo_run, report_of}
 use Rattle.jos_cli.specs.declared.outcome.Which.{Which}
-use Rattle.jos_cli.specs.declared.outcome.Which.TheVariants as which
-use Rattle.jos_cli.specs.declared.outcome.Feature.{Feature}
-use Rattle.jos_cli.specs.declared.outcome.Feature.TheVariants as feature
-use Rattle.jos_cli.specs.declared.outcome.Outcome.{Outcome}
-use Rattle.jos_cli.specs.declared.outcome.Outcome.TheVariants.{Ran, Usage, Absent, Limit, BadImage, HostFault}
-use Rattle.jos_cli.specs.declared.outcome.Outcome.TheVariants.{NoMemory, Unbuilt, Made}
-use Rattle.jos_cli.specs.declared.kernel.Kernel.{Kernel}
-use Rattle.jos_host.specs.Frames.{Around}
-use Rattle.jos_cli.specs.Reports.{Reported}
-use Rattle.jos_host.specs.Gains.{Gains, GainsPart}
-use Rattle.jos_cli.specs.ExoRun.{exo_run}
-use Rattle.jos_cli.specs.ExoRun as run
-use Rattle.jos_cli.specs.Commands.{Command, exo, demo, program_file}
-
--- THE ANSWER
+use Rattle.jos_cli.specs.declared.outcome.Which.TheVariants.{Schedule, Image, Input, Boot}
+use Rattle.jos_cli.specs.Commands.{program_file}
+use Rattle.jos_cli.specs.Limits.{limit_of_words, frames_of, steps_of}
+use Rattle.jos_cli.specs.Found.{FileAt, Found}
 
 pub data Answer : Type 0 where
   usage : Answer
   -- the word that names it, counted from 0
   absent : ℕ → Answer
   limit : Which → Answer
+  bad_schedule : ScheduleFault → Answer
   bad_image : ℕ → ElfFault → Answer
-  unbuilt : Feature → Answer
   ran : Reported → Answer
   -- the number of bytes that are written
   made : ℕ → Answer
@@ -50,136 +37,72 @@ pub record Expected : Type 0 where
 abbrev pub refused : Answer → Expected
 refused answer = record { answer = answer; console = [] }
 
--- No step is refused a page or an environment, and none calls a handler of page faults.
-abbrev pub report_with : End → ℕ → List Turn → Reported
-report_with end steps turns = record {
-  end = end;
-  steps = steps;
-  turns = turns;
-  closing = 0;
-  refused = 0;
-  first_refused = None;
-  upcalls = 0;
-}
+-- ---- what is read
 
-abbrev pub expected_of_run : run.Ran → Expected
-expected_of_run r = record { answer = ran (report_with r.end r.steps r.turns); console = r.state.console }
+-- a thing, or the answer that refuses it
+abbrev pub Judged : Type 0 → Type 0
+Judged X = Result X Answer
 
--- a segment whose memory lies in one page
-abbrev pub is_one_page : Segment → Bool
-is_one_page segment = nat_le (page_offset segment.va + segment.mem_len) PGSIZE
+abbrev pub and_then : {X Y : Type 0} → Judged X → (X → Judged Y) → Judged Y
+and_then (Ok x) next = next x
+and_then (Err answer) next = Err answer
 
--- An image of one segment in one page is run. No other is built.
-abbrev pub expected_of_segments : List ℕ → ℕ → List Segment → Expected
-expected_of_segments file entry (segment ∷ []) =
-    if is_one_page segment then expected_of_run (exo_run entry segment file BUDGET) else refused (unbuilt feature.Image)
-expected_of_segments file entry _ = refused (unbuilt feature.Image)
+abbrev pub within : Option Which → Judged (Unit {0})
+within None = Ok tt
+within (Some which) = Err (limit which)
 
-abbrev pub expected_of_image : List ℕ → Result Layout ElfFault → Expected
-expected_of_image file (Err fault) = refused (bad_image 1 fault)
-expected_of_image file (Ok layout) = expected_of_segments file layout.entry layout.segments
+-- the bytes that stand under a name, so many at most
+abbrev pub bytes_of : ℕ → Which → ℕ → Option (List ℕ) → Judged (List ℕ)
+bytes_of most which place None = Err (absent place)
+bytes_of most which place (Some bytes) = if nat_lt most (length bytes) then Err (limit which) else Ok bytes
 
-abbrev pub expected_of_file : Option (List ℕ) → Expected
-expected_of_file None = refused (absent 1)
-expected_of_file (Some file) =
-    if nat_lt IMAGE_MAX (length file) then refused (limit which.Image) else expected_of_image file (parsed file)
+abbrev pub numbers_of : Result (List ℕ) ScheduleFault → Judged (List ℕ)
+numbers_of (Ok numbers) = Ok numbers
+numbers_of (Err fault) = Err (bad_schedule fault)
 
-abbrev pub expected_of_program : List ℕ → Expected
-expected_of_program program = refused (made (length (program_file program)))
+-- the text of a schedule, which is empty where no file is named
+abbrev pub text_of : Option FileAt → Judged (List ℕ)
+text_of None = Ok []
+text_of (Some file) = bytes_of SCHEDULE_TEXT_MAX Schedule file.place file.bytes
 
--- THE OUTCOME
+unfoldable pub schedule_of : Option FileAt → Judged (List ℕ)
+schedule_of file = and_then (text_of file) (λ text. numbers_of (schedule.parsed text))
 
--- what the kernel reports
-abbrev pub report_of : Kernel → End → Reported
-report_of kernel end = report_with end kernel.steps (run.turns_of kernel.turns.items kernel.made)
+abbrev pub loadable_of : ℕ → List ℕ → Result Layout ElfFault → Judged Loadable
+loadable_of place bytes (Ok layout) = Ok (record { image = layout; file = bytes })
+loadable_of place bytes (Err fault) = Err (bad_image place fault)
 
--- the outcome is this answer
-abbrev pub IsAnswer : Outcome → Answer → Type 0
-IsAnswer (Ran report) answer = answer ≡ ran report
-IsAnswer Usage answer = answer ≡ usage
-IsAnswer (Absent word) answer = answer ≡ absent word
-IsAnswer (Limit which) answer = answer ≡ limit which
-IsAnswer (BadImage word fault) answer = answer ≡ bad_image word fault
-IsAnswer (Unbuilt feature) answer = answer ≡ unbuilt feature
-IsAnswer (Made bytes) answer = answer ≡ made bytes
-IsAnswer (HostFault stopped) answer = ⊥
-IsAnswer NoMemory answer = ⊥
+unfoldable pub image_of : FileAt → Judged Loadable
+image_of file = and_then (bytes_of IMAGE_MAX Image file.place file.bytes) (λ bytes. loadable_of file.place bytes (image.parsed bytes))
 
--- The outcome is what is expected, and the console has gained what is expected; a failed call of the host leaves
--- a part of that, and want of memory comes before anything is written.
-abbrev pub Answers : Expected → Outcome → Around (Option (List ℕ)) → Type 0
-Answers e (HostFault stopped) console = GainsPart console e.console
-Answers e NoMemory console = console.after ≡ console.before
-Answers e outcome console = IsAnswer outcome e.answer × Gains console e.console
+-- Each image is read before the next is looked at.
+unfoldable pub images_of : List FileAt → Judged (List Loadable)
+images_of [] = Ok []
+images_of (file ∷ files) = and_then (image_of file) (λ first. and_then (images_of files) (λ others. Ok (first ∷ others)))
 
--- The same for a command; of a run, where the host tells its files.
-abbrev pub AnswersCommand : Option Files → Option Command → Outcome → Around (Option (List ℕ)) → Type 0
-AnswersCommand told None outcome console = Answers (refused usage) outcome console
-AnswersCommand None (Some (exo image)) outcome console = Unit {0}
-AnswersCommand (Some files) (Some (exo image)) outcome console = Answers (expected_of_file (files image)) outcome console
-AnswersCommand told (Some (demo program file)) outcome console = Answers (expected_of_program program) outcome console
+abbrev pub input_of : List ℕ → Judged (List ℕ)
+input_of input = if nat_lt INPUT_MAX (length input) then Err (limit Input) else Ok input
 
--- A failed call of the host is the answer only where the count of its faults rose, and every other answer leaves
--- the count. What is handed out beside it is empty.
-abbrev pub HasOutcomeCause : Around ℕ → Outcome → Type 0
-HasOutcomeCause faults (HostFault stopped) = Rose faults.before faults.after × (stopped.turns ≡ []) × (stopped.first_refused ≡ None)
-HasOutcomeCause faults (Ran report) = faults.after ≡ faults.before
-HasOutcomeCause faults Usage = faults.after ≡ faults.before
-HasOutcomeCause faults (Absent word) = faults.after ≡ faults.before
-HasOutcomeCause faults (Limit which) = faults.after ≡ faults.before
-HasOutcomeCause faults (BadImage word fault) = faults.after ≡ faults.before
-HasOutcomeCause faults (Unbuilt feature) = faults.after ≡ faults.before
-HasOutcomeCause faults (Made bytes) = faults.after ≡ faults.before
-HasOutcomeCause faults NoMemory = faults.after ≡ faults.before
+-- ---- what is expected
 
--- the words alone decide this answer, whatever the host tells
-abbrev pub IsUsageCase : Option Command → Outcome → Type 0
-IsUsageCase None Usage = Unit {0}
-IsUsageCase None (HostFault stopped) = Unit {0}
-IsUsageCase None _ = ⊥
-IsUsageCase (Some command) Usage = ⊥
-IsUsageCase (Some command) _ = Unit {0}
+abbrev pub expected_if : {X : Type 0} → Judged X → (X → Expected) → Expected
+expected_if (Ok x) next = next x
+expected_if (Err answer) next = refused answer
 
--- it was run, or there was no memory to begin with, or something in it is not built yet
-abbrev pub IsRunCase : Outcome → Type 0
-IsRunCase (Ran report) = Unit {0}
-IsRunCase NoMemory = Unit {0}
-IsRunCase (Unbuilt feature) = Unit {0}
-IsRunCase _ = ⊥
+-- there is no run where the frames are too few to boot the images
+abbrev pub expected_of_run : Option Ran → Expected
+expected_of_run None = refused (limit Boot)
+expected_of_run (Some r) = record { answer = ran (report_of r.progress r.end); console = r.progress.console }
 
--- it was written, or there was no memory to begin with
-abbrev pub IsMadeCase : Outcome → Type 0
-IsMadeCase (Made bytes) = Unit {0}
-IsMadeCase NoMemory = Unit {0}
-IsMadeCase _ = ⊥
+-- of `exo`, for the files that are found and the input
+unfoldable pub expected_of_exo : Exo → Found → List ℕ → Expected
+expected_of_exo e found input =
+    expected_if (within (limit_of_words e)) (λ _.
+    expected_if (schedule_of found.schedule) (λ numbers.
+    expected_if (images_of found.images) (λ images.
+    expected_if (input_of input) (λ bytes.
+    expected_of_run (exo_run images bytes numbers (frames_of e) (steps_of e))))))
 
--- there was no memory to begin with
-abbrev pub IsMemoryCase : Outcome → Type 0
-IsMemoryCase NoMemory = Unit {0}
-IsMemoryCase (HostFault stopped) = Unit {0}
-IsMemoryCase _ = ⊥
-
--- THE EXIT STATUS
-
-abbrev pub end_status : End → ℕ
-end_status Done = 0
-end_status Stuck = 9
-end_status Budget = 10
-end_status TurnsFull = 11
-
-abbrev pub status_of : Outcome → ℕ
-status_of (Ran report) = end_status report.end
-status_of Usage = 1
-status_of (Absent word) = 2
-status_of (Limit which) = 3
-status_of (BadImage word fault) = 4
-status_of (HostFault stopped) = 7
-status_of NoMemory = 8
-status_of (Unbuilt feature) = 14
-status_of (Made bytes) = 0
-
--- The status of a failed call of the host is answered only where the count of its faults rose, and every other leaves
--- the count.
-pub record HasStatusCause (faults : Around ℕ) (status : ℕ) : Type 0 where
-  pub fault : status ≡ 7 → Rose faults.before faults.after
-  pub other : status ≢ 7 → faults.after ≡ faults.before
+-- of `demo`, for the name of a program
+abbrev pub expected_of_demo : List ℕ → Expected
+expected_of_demo program = refused (made (length (program_file program)))

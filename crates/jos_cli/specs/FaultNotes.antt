@@ -7,7 +7,7 @@ use Rattle.jos_cli.specs.declared.outcome.Outcome.TheVariants.{HostFault}
 use Rattle.jos_host.specs.Frames.{Around}
 use Rattle.jos_host.specs.Gains.{Gains, GainsPart}
 use Rattle.jos_cli.specs.Commands.{command_of}
-use Rattle.jos_cli.specs.Answer.{AnswersCommand}
+use Rattle.jos_cli.specs.Outcomes.{AnswersCommand}
 use Rattle.jos_cli.specs.Notes.{note_of}
 
 -- a fact for an answer that tells a failed call of the host
@@ -26,8 +26,8 @@ RoseTwice faults = (between : ℕ) × Rose faults.before between × Rose between
 
 -- The line `host fault` is noted; or a part of it, where a second call failed; or a part of the line of the answer that
 -- the words and the files decide, where it was its note that failed.
-unfoldable pub FaultIsNoted : Option Files → List (List ℕ) → Around ℕ → Around (Option (List ℕ)) → Around (Option (List ℕ)) → Type 0
-FaultIsNoted files words faults console notes =
+unfoldable pub FaultIsNoted : Option Files → Option (List ℕ) → List (List ℕ) → Around ℕ → Around (Option (List ℕ)) → Around (Option (List ℕ)) → Type 0
+FaultIsNoted files input words faults console notes =
     Gains notes (codes "host fault\n")
     ⊎ ((RoseTwice faults × GainsPart notes (codes "host fault\n"))
-    ⊎ ((own : Outcome) × IfNoFault own (AnswersCommand files (command_of words) own console) × GainsPart notes (note_of words own)))
+    ⊎ ((own : Outcome) × IfNoFault own (AnswersCommand files input (command_of words) own console) × GainsPart notes (note_of words own)))

@@ -1,24 +1,38 @@
 -- Which calls on files a command makes. (This system's own.)
-use Rattle.std.specs.Prelude.{◌≡◌, ℕ, ◌⊎◌, List, [], ◌∷◌, Option, Some, None}
+use Rattle.std.specs.Prelude.{◌≡◌, ℕ, ◌⊎◌, List, [], ◌∷◌, ◌++◌, Option, Some, None}
 use Rattle.jos_host.specs.declared.host.FileCall.TheVariants.{Size, Read, Create, Write}
 use Rattle.jos_host.specs.Asked.{Asked, and_asked}
 use Rattle.jos_host.specs.Frames.{Around, from_to}
-use Rattle.jos_cli.specs.Commands.{Command, exo, demo}
+use Rattle.jos_words.specs.Arguments.{Word}
+use Rattle.jos_words.specs.Commands.{Command, exo, demo}
 
--- an image is asked for its size, and read whole by one call
-abbrev pub image_calls : List ℕ → List Asked
-image_calls image = record { call = Size; name = image } ∷ record { call = Read; name = image } ∷ []
+-- a file is asked for its size, and read whole by one call
+abbrev pub read_calls : List ℕ → List Asked
+read_calls file = record { call = Size; name = file } ∷ record { call = Read; name = file } ∷ []
+
+abbrev pub schedule_calls : Option Word → List Asked
+schedule_calls None = []
+schedule_calls (Some word) = read_calls word.text
+
+unfoldable pub images_calls : List Word → List Asked
+images_calls [] = []
+images_calls (word ∷ words) = read_calls word.text ++ images_calls words
 
 -- a file is made empty, and written whole by one call
-abbrev pub file_calls : List ℕ → List Asked
-file_calls file = record { call = Create; name = file } ∷ record { call = Write; name = file } ∷ []
+abbrev pub write_calls : List ℕ → List Asked
+write_calls file = record { call = Create; name = file } ∷ record { call = Write; name = file } ∷ []
 
 abbrev pub calls_of : Option Command → List Asked
 calls_of None = []
-calls_of (Some (exo image)) = image_calls image
-calls_of (Some (demo program file)) = file_calls file
+calls_of (Some (exo e)) = schedule_calls e.schedule ++ images_calls e.images
+calls_of (Some (demo d)) = write_calls d.file.text
 
 -- The calls are made in their order, each once; it may end before any of them, and no other call is made.
 abbrev pub AsksFor : List Asked → Around (Option (List Asked)) → Type 0
 AsksFor [] log = log.after ≡ log.before
 AsksFor (c ∷ rest) log = (log.after ≡ log.before) ⊎ AsksFor rest (from_to (and_asked log.before c.call c.name) log.after)
+
+-- all of them are made
+abbrev pub AsksAll : List Asked → Around (Option (List Asked)) → Type 0
+AsksAll [] log = log.after ≡ log.before
+AsksAll (c ∷ rest) log = AsksAll rest (from_to (and_asked log.before c.call c.name) log.after)

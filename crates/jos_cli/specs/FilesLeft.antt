@@ -5,7 +5,8 @@ use Rattle.jos_host.specs.Files.{Files, with_bytes, SameElsewhere}
 use Rattle.jos_cli.specs.declared.outcome.Outcome.{Outcome}
 use Rattle.jos_cli.specs.declared.outcome.Outcome.TheVariants.{Made, HostFault}
 use Rattle.jos_host.specs.Frames.{Around}
-use Rattle.jos_cli.specs.Commands.{Command, exo, demo, program_file}
+use Rattle.jos_words.specs.Commands.{Command, exo, demo}
+use Rattle.jos_cli.specs.Commands.{program_file}
 
 -- every other name keeps its bytes
 abbrev pub KeepsOthers : List ℕ → Around (Option Files) → Type 0
@@ -26,5 +27,5 @@ LeavesProgram program file outcome told = told.after ≡ told.before
 -- Only `demo` writes a file.
 abbrev pub Leaves : Option Command → Outcome → Around (Option Files) → Type 0
 Leaves None outcome told = told.after ≡ told.before
-Leaves (Some (exo image)) outcome told = told.after ≡ told.before
-Leaves (Some (demo program file)) outcome told = LeavesProgram program file outcome told
+Leaves (Some (exo e)) outcome told = told.after ≡ told.before
+Leaves (Some (demo d)) outcome told = LeavesProgram d.name.text d.file.text outcome told

@@ -1,10 +1,8 @@
 -- The words of the command line, of what std hands out.
-use Rattle.std.specs.Prelude.{◌≢◌, ℕ, List, [], map, take, drop, Result, Ok, Err, String, string_bytes}
+use Rattle.std.specs.Prelude.{ℕ, List, [], map, take, drop, Result, Ok, Err, String, string_bytes}
 use Rattle.std.specs.declared.vec.IntoIter.{IntoIter}
 use Rattle.std.specs.Vec.Iter.{into_iter_items, into_iter_len}
 use Rattle.std.specs.declared.io.Error.{Error}
-use Rattle.std.specs.declared.io.ErrorKind.TheVariants as error
-use Rattle.std.specs.IoError.{error_kind}
 
 -- those that are left, as bytes
 abbrev pub words_left : {A Z : Type 0} → IntoIter (String A) Z → List (List ℕ)
@@ -15,8 +13,3 @@ words_left arguments = map (λ t. string_bytes t) (take (into_iter_len arguments
 abbrev pub given_words : {A Z : Type 0} → Result (IntoIter (String A) Z) Error → List (List ℕ)
 given_words (Ok arguments) = drop 1 (words_left arguments)
 given_words (Err error) = []
-
--- there was memory for the words
-abbrev pub HadMemory : {A Z : Type 0} → Result (IntoIter (String A) Z) Error → Type 0
-HadMemory (Ok arguments) = Unit {0}
-HadMemory (Err e) = error_kind e ≢ error.OutOfMemory

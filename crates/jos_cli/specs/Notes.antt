@@ -2,17 +2,17 @@
 use Rattle.std.specs.Prelude.{ℕ, List, [], ◌++◌, length, slice_get, unwrap_or, Option, codes, decimal}
 use Rattle.jos_elf.specs.declared.fault.ElfFault.{ElfFault}
 use Rattle.jos_elf.specs.FaultTexts.{fault_text}
-use Rattle.jos_cli.specs.declared.outcome.End.{End}
-use Rattle.jos_cli.specs.declared.outcome.End.TheVariants.{Done, Stuck, Budget, TurnsFull}
+use Rattle.jos_sched.specs.declared.fault.ScheduleFault.{ScheduleFault}
+use Rattle.jos_sched.specs.declared.fault.ScheduleFault.TheVariants as schedule
+use Rattle.jos_kernel.specs.declared.report.End.{End}
+use Rattle.jos_kernel.specs.declared.report.End.TheVariants.{Done, Stuck, Budget, TurnsFull}
 use Rattle.jos_cli.specs.declared.outcome.Which.{Which}
 use Rattle.jos_cli.specs.declared.outcome.Which.TheVariants as which
-use Rattle.jos_cli.specs.declared.outcome.Feature.{Feature}
-use Rattle.jos_cli.specs.declared.outcome.Feature.TheVariants as feature
 use Rattle.jos_cli.specs.declared.outcome.Outcome.{Outcome}
-use Rattle.jos_cli.specs.declared.outcome.Outcome.TheVariants.{Ran, Usage, Absent, Limit, BadImage, HostFault}
-use Rattle.jos_cli.specs.declared.outcome.Outcome.TheVariants.{NoMemory, Unbuilt, Made}
+use Rattle.jos_cli.specs.declared.outcome.Outcome.TheVariants.{Ran, Usage, Absent, Limit, BadSchedule, BadImage}
+use Rattle.jos_cli.specs.declared.outcome.Outcome.TheVariants.{HostFault, NoMemory, Made}
 use Rattle.jos_host.specs.Frames.{Around}
-use Rattle.jos_cli.specs.Reports.{Reported}
+use Rattle.jos_kernel.specs.Reports.{Reported}
 use Rattle.jos_host.specs.Gains.{Gains}
 
 abbrev pub end_text : End → List ℕ
@@ -27,10 +27,23 @@ report_text r =
     ++ codes " refused " ++ decimal r.refused ++ codes " upcalls " ++ decimal r.upcalls ++ codes "\n"
 
 abbrev pub limit_text : Which → List ℕ
+limit_text which.Frames = codes "limit: frames\n"
+limit_text which.Steps = codes "limit: steps\n"
+limit_text which.Images = codes "limit: images\n"
+limit_text which.Schedule = codes "limit: schedule\n"
 limit_text which.Image = codes "limit: image\n"
+limit_text which.Input = codes "limit: input\n"
+limit_text which.Boot = codes "limit: boot\n"
 
-abbrev pub feature_text : Feature → List ℕ
-feature_text feature.Image = codes "unbuilt: image\n"
+abbrev pub schedule_fault_text : ScheduleFault → List ℕ
+schedule_fault_text (schedule.NotANumber place) = codes "not a number " ++ decimal place
+schedule_fault_text (schedule.Zero place) = codes "zero " ++ decimal place
+schedule_fault_text (schedule.TooBig place) = codes "too big " ++ decimal place
+schedule_fault_text schedule.TooMany = codes "too many"
+schedule_fault_text schedule.NoMemory = codes "out of memory"
+
+abbrev pub bad_schedule_text : ScheduleFault → List ℕ
+bad_schedule_text fault = codes "schedule: " ++ schedule_fault_text fault ++ codes "\n"
 
 abbrev pub bad_image_text : ElfFault → List ℕ
 bad_image_text fault = codes ": bad image: " ++ fault_text fault ++ codes "\n"
@@ -44,10 +57,10 @@ note_text (Ran report) = report_text report
 note_text Usage = codes "usage: jos COMMAND [OPTIONS] WORDS\n"
 note_text (Absent word) = codes ": absent\n"
 note_text (Limit which) = limit_text which
+note_text (BadSchedule fault) = bad_schedule_text fault
 note_text (BadImage word fault) = bad_image_text fault
 note_text (HostFault stopped) = codes "host fault\n"
 note_text NoMemory = codes "out of memory\n"
-note_text (Unbuilt feature) = feature_text feature
 note_text (Made bytes) = made_text bytes
 
 -- the word that begins the line, if one does

@@ -3,15 +3,15 @@
 //! `top` (in `answer`) does what the words of the command line ask, over any host, and `answer_texts` (in `texts`)
 //! does so for the words as std hands them out. `main` only makes the host over the system's files and streams,
 //! and exits with what `answer_arguments` gives. What `top` answers is proved: it is what `specs/Answer.antt`
-//! says of the words and the file, by the run that `specs/ExoRun.antt` defines. The one invariant is that of the
-//! run's loop (`proofs/Runs.antt`): what is written so far and the rest of the run are the whole run.
+//! says of the words, the files and the input, by the run that `jos_kernel` defines.
 #![tactic(auto)]
 
 ghost use Rattle.std.specs.Prelude.{◌≡◌};
 ghost use Rattle.std.specs.Process.{exit_status};
 ghost use Rattle.jos_host.specs.Frames.{around};
 ghost use Rattle.jos_cli.specs.declared.outcome.Outcome.{Outcome};
-ghost use Rattle.jos_cli.specs.Answer.{AnswersCommand, HasOutcomeCause, HasStatusCause, status_of};
+ghost use Rattle.jos_cli.specs.Outcomes.{AnswersCommand, HasOutcomeCause, HasStatusCause, IsUsageCase, LeavesInput, status_of};
+ghost use Rattle.jos_cli.specs.FaultNotes.{IfHostFault, FaultIsNoted};
 ghost use Rattle.jos_cli.specs.Commands.{command_of};
 ghost use Rattle.jos_cli.specs.FilesAsked.{AsksFor, calls_of};
 ghost use Rattle.jos_cli.specs.FilesLeft.{Leaves};
@@ -19,18 +19,12 @@ ghost use Rattle.jos_cli.specs.Given.{given_words};
 ghost use Rattle.jos_cli.specs.Notes.{IsNoted};
 
 mod answer;
-mod command;
-mod environment;
 mod files;
-mod kernel;
+mod input;
 mod limits;
-mod lines;
+mod loading;
 mod notes;
 mod outcome;
-mod room;
-mod space;
-mod stepping;
-mod system_calls;
 mod texts;
 
 use crate::outcome::Outcome;
@@ -52,12 +46,15 @@ fn exit_code(outcome: &Outcome) -> ExitCode
 fn answer_arguments<H: Host>(alloc: Global, read: io::Result<Args>, host: &mut H) -> ExitCode
     // It is the exit status of the outcome that these words have.
     ensures answered { (outcome : Outcome) × (exit_status result ≡ status_of outcome)
-        × AnswersCommand (H.files host.old) (command_of (given_words read)) outcome (around H.console host.old host.new)
+        × AnswersCommand (H.files host.old) (H.input host.old) (command_of (given_words read)) outcome (around H.console host.old host.new)
         × IsNoted (given_words read) outcome (around H.notes host.old host.new)
         × HasOutcomeCause (around H.faults host.old host.new) outcome
-        × Leaves (command_of (given_words read)) outcome (around H.files host.old host.new) }
+        × IsUsageCase (command_of (given_words read)) outcome
+        × IfHostFault outcome (FaultIsNoted (H.files host.old) (H.input host.old) (given_words read) (around H.faults host.old host.new)
+        (around H.console host.old host.new) (around H.notes host.old host.new))
+        × Leaves (command_of (given_words read)) outcome (around H.files host.old host.new)
+        × LeavesInput (command_of (given_words read)) outcome (around H.input host.old host.new) }
     ensures cause { HasStatusCause (around H.faults host.old host.new) (exit_status result) }
-    ensures input { H.input host.new ≡ H.input host.old }
     ensures asked { AsksFor (calls_of (command_of (given_words read))) (around H.asked host.old host.new) }
 {
     exit_code(&answer_texts(alloc, read, host))

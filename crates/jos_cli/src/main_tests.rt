@@ -37,13 +37,14 @@ impl Env for Words<'_> {
 }
 
 // The words of a command line, the exit status and the notes.
-const CASES: [(&[u8], u8, &str); 8] = [
+const CASES: [(&[u8], u8, &str); 9] = [
     (b"", 1, USAGE),
     (b"jos", 1, USAGE),
     (b"jos\nexo\nh", 2, "h: absent\n"),
     (b"jos\nexo\nh\xff", 1, USAGE),
-    (b"jos\nexo\nh\nx", 1, USAGE),
-    (b"jos\nexo\nh\nx\ny", 1, USAGE),
+    (b"jos\nexo\nh\nx", 2, "h: absent\n"),
+    (b"jos\nexo\n--frames\n63\nh\nx\ny", 3, "limit: frames\n"),
+    (b"jos\nexo\n--frames", 1, USAGE),
     (b"jos\ndemo\nxhello\nf", 0, "made 119\n"),
     (b"jos\ndemo\nxhello\nf\nf", 1, USAGE),
 ];

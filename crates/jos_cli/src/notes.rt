@@ -1,16 +1,17 @@
 //! The note that tells the answer.
 
-ghost use Rattle.std.specs.Prelude.{◌≡◌, ◌≤◌, [], length, slice_get, unwrap_or, MatchResult, map};
+ghost use Rattle.std.specs.Prelude.{◌≡◌, ◌≤◌, [], ◌++◌, codes, decimal, length, slice_get, unwrap_or, MatchResult, map};
 ghost use Rattle.jos_host.specs.Told.{HasCause, Appends};
 ghost use Rattle.jos_host.specs.Frames.{Unchanged, around};
 ghost use Rattle.jos_host.specs.Gains.{Gains, GainsPart};
-ghost use Rattle.jos_cli.specs.Notes.{end_text, report_text, bad_image_text, made_text, note_text, word_in_note};
-ghost use Rattle.jos_cli.specs.Notes.{note_of};
+ghost use Rattle.jos_cli.specs.Notes.{end_text, report_text, limit_text, bad_schedule_text, bad_image_text, made_text, note_text};
+ghost use Rattle.jos_cli.specs.Notes.{word_in_note, note_of};
 
-use crate::lines::{LINE_MAX, Line, push_decimal, push_text};
-use crate::outcome::{End, Feature, Outcome, Report, Which};
+use crate::outcome::{End, Outcome, Report, Which};
+use jos_base::{LINE_MAX, LineText, push_decimal, push_text};
 use jos_elf::ElfFault;
 use jos_host::{Failed, Host};
+use jos_sched::ScheduleFault;
 
 /// How a run has ended.
 fn end_text(end: End) -> &'static [u8]
@@ -26,10 +27,10 @@ fn end_text(end: End) -> &'static [u8]
 
 /// The line of a run that is over: its end and its counts.
 #[tactic(auto, unfolding(crate::specs::Notes::report_text))]
-fn report_text(report: &Report) -> Line
+fn report_text(report: &Report) -> LineText
     ensures { result.items ≡ report_text report.now }
 {
-    let mut line = Line::new();
+    let mut line = LineText::new();
     push_text(&mut line, end_text(report.end));
     push_text(&mut line, b" steps ");
     push_decimal(&mut line, report.steps);
@@ -44,16 +45,54 @@ fn report_text(report: &Report) -> Line
 }
 
 /// A line of one text.
-fn text_line(text: &[u8]) -> Line
+fn text_line(text: &[u8]) -> LineText
     requires { length text.now ≤ LINE_MAX }
     ensures { result.items ≡ text.now }
 {
-    let mut line = Line::new();
+    let mut line = LineText::new();
     push_text(&mut line, text);
     line
 }
 
-fn bad_image_text(fault: ElfFault) -> Line
+fn limit_text(which: Which) -> &'static [u8]
+    ensures text { result.now ≡ limit_text which }
+    ensures len { length result.now ≤ LINE_MAX }
+{
+    match which {
+        Which::Frames => b"limit: frames\n",
+        Which::Steps => b"limit: steps\n",
+        Which::Images => b"limit: images\n",
+        Which::Schedule => b"limit: schedule\n",
+        Which::Image => b"limit: image\n",
+        Which::Input => b"limit: input\n",
+        Which::Boot => b"limit: boot\n",
+    }
+}
+
+/// A line of a text and a place.
+fn place_text(text: &[u8], place: u32) -> LineText
+    requires { length text.now ≤ 64 }
+    ensures { result.items ≡ text.now ++ decimal place ++ codes "\n" }
+{
+    let mut line = text_line(text);
+    push_decimal(&mut line, place as u64);
+    push_text(&mut line, b"\n");
+    line
+}
+
+fn bad_schedule_text(fault: ScheduleFault) -> LineText
+    ensures { result.items ≡ bad_schedule_text fault }
+{
+    match fault {
+        ScheduleFault::NotANumber(place) => place_text(b"schedule: not a number ", place),
+        ScheduleFault::Zero(place) => place_text(b"schedule: zero ", place),
+        ScheduleFault::TooBig(place) => place_text(b"schedule: too big ", place),
+        ScheduleFault::TooMany => text_line(b"schedule: too many\n"),
+        ScheduleFault::NoMemory => text_line(b"schedule: out of memory\n"),
+    }
+}
+
+fn bad_image_text(fault: ElfFault) -> LineText
     ensures { result.items ≡ bad_image_text fault }
 {
     let mut line = text_line(b": bad image: ");
@@ -62,7 +101,7 @@ fn bad_image_text(fault: ElfFault) -> Line
     line
 }
 
-fn made_text(bytes: u64) -> Line
+fn made_text(bytes: u64) -> LineText
     ensures { result.items ≡ made_text bytes }
 {
     let mut line = text_line(b"made ");
@@ -72,18 +111,18 @@ fn made_text(bytes: u64) -> Line
 }
 
 /// The line, but for the word that begins it.
-fn note_text(outcome: &Outcome) -> Line
+fn note_text(outcome: &Outcome) -> LineText
     ensures { result.items ≡ note_text outcome.now }
 {
     match outcome {
         Outcome::Ran(report) => report_text(report),
         Outcome::Usage => text_line(b"usage: jos COMMAND [OPTIONS] WORDS\n"),
         Outcome::Absent(_) => text_line(b": absent\n"),
-        Outcome::Limit(Which::Image) => text_line(b"limit: image\n"),
+        Outcome::Limit(which) => text_line(limit_text(*which)),
+        Outcome::BadSchedule(fault) => bad_schedule_text(*fault),
         Outcome::BadImage(_, fault) => bad_image_text(*fault),
         Outcome::HostFault(_) => text_line(b"host fault\n"),
         Outcome::NoMemory => text_line(b"out of memory\n"),
-        Outcome::Unbuilt(Feature::Image) => text_line(b"unbuilt: image\n"),
         Outcome::Made(bytes) => made_text(*bytes),
     }
 }
@@ -99,10 +138,10 @@ fn word_in_note<'a>(words: &[&'a str], outcome: &Outcome) -> &'a str
 }
 
 /// The word at a place, or nothing where there are fewer.
-fn word_at<'a>(words: &[&'a str], place: u32) -> &'a str
+fn word_at<'a>(words: &[&'a str], place: usize) -> &'a str
     ensures { result.now ≡ unwrap_or (slice_get (map (λ w. w.now) words.now) place) [] }
 {
-    match words.get(place as usize) {
+    match words.get(place) {
         Some(text) => *text,
         None => "",
     }

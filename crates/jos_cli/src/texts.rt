@@ -1,13 +1,14 @@
 //! The words as std hands them out.
 
-ghost use Rattle.std.specs.Prelude.{◌≡◌, ℕ, ◌≤◌, [], ◌∷◌, Ok, List, length, drop, Some, MatchOption, string_bytes};
+ghost use Rattle.std.specs.Prelude.{◌≡◌, ℕ, List, Some, IfOk, map, drop, string_bytes};
 ghost use Rattle.jos_host.specs.Files.{Files};
 ghost use Rattle.jos_host.specs.Told.{Rose};
-ghost use Rattle.jos_elf.specs.Parsed.{Layout, parsed};
 ghost use Rattle.jos_host.specs.Frames.{around};
-ghost use Rattle.jos_cli.specs.Commands.{exo, demo, command_of};
-ghost use Rattle.jos_cli.specs.Given.{words_left, given_words, HadMemory};
-ghost use Rattle.jos_cli.specs.Answer.{AnswersCommand, HasOutcomeCause, IsUsageCase, IsRunCase, IsMadeCase};
+ghost use Rattle.jos_words.specs.Commands.{Exo, Demo, exo, demo};
+ghost use Rattle.jos_cli.specs.Commands.{command_of};
+ghost use Rattle.jos_cli.specs.Found.{found_in};
+ghost use Rattle.jos_cli.specs.Given.{words_left, given_words};
+ghost use Rattle.jos_cli.specs.Outcomes.{AnswersCommand, HasOutcomeCause, IsUsageCase, CanRun, IsRunCase, IsMadeCase, LeavesInput};
 ghost use Rattle.jos_cli.specs.FilesAsked.{AsksFor, calls_of};
 ghost use Rattle.jos_cli.specs.FilesLeft.{Leaves};
 ghost use Rattle.jos_cli.specs.Notes.{IsNoted};
@@ -15,74 +16,61 @@ ghost use Rattle.jos_cli.specs.FaultNotes.{IfHostFault, FaultIsNoted};
 
 use crate::answer::{refuse_words, top};
 use crate::outcome::Outcome;
-use jos_base::IMAGE_MAX;
+use jos_base::NoMemory;
 use jos_host::Host;
 use std::alloc::Global;
 use std::env::Args;
 use std::io;
 
-/// The next of the words that are left.
-fn next_text(arguments: &mut Args) -> Option<String>
-    ensures { MatchOption result
-        ((words_left arguments.old ≡ []) × (words_left arguments.new ≡ []))
-        (λ text. words_left arguments.old ≡ string_bytes text ∷ words_left arguments.new) }
+/// The texts that std hands out; where one is no text, none.
+fn read_texts(alloc: Global, read: io::Result<Args>) -> Result<Vec<String>, NoMemory>
+    ensures { IfOk result (λ texts. drop 1 (map (λ t. string_bytes t) texts.items) ≡ given_words read) }
 {
-    arguments.next()
+    match read {
+        Ok(arguments) => Ok(arguments.collect(alloc)?),
+        Err(error) if error.kind() == io::ErrorKind::OutOfMemory => Err(NoMemory),
+        Err(_) => Ok(Vec::new(alloc)),
+    }
 }
 
-/// Passes over the first word, if there is one.
-fn skip_text(arguments: &mut Args)
-    ensures { words_left arguments.new ≡ drop 1 (words_left arguments.old) }
+/// The texts behind the first.
+fn words_of<'a>(alloc: Global, texts: &'a [String]) -> Result<Vec<&'a str>, NoMemory>
+    ensures { IfOk result (λ words. map (λ w. w.now) words.items ≡ drop 1 (map (λ t. string_bytes t) texts.now)) }
 {
-    let _text = next_text(arguments);
+    Ok(
+        texts
+            .iter()
+            .skip(1)
+            .map(|text| text.as_str())
+            .collect(alloc)?,
+    )
 }
 
-/// Does what the words ask that std hands out, as `top` does.
-///
-/// Words of which one is no text are no command. It takes no memory for the words: a command has two or three, and
-/// those of any other number are answered by none of them.
+/// Does what the words ask that std hands out, as `top` does. Words of which one is no text are no command.
 pub fn answer_texts<H: Host>(alloc: Global, read: io::Result<Args>, host: &mut H) -> Outcome
-    // These are the clauses of `top`, of the words that std hands out. Want of memory comes in place of usage only
-    // where std had no memory for the words.
-    ensures answer { AnswersCommand (H.files host.old) (command_of (given_words read)) result (around H.console host.old host.new) }
+    // These are the clauses of `top`, of the words that std hands out.
+    ensures answer { AnswersCommand (H.files host.old) (H.input host.old) (command_of (given_words read)) result
+        (around H.console host.old host.new) }
     ensures notes { IsNoted (given_words read) result (around H.notes host.old host.new) }
-    ensures fault { IfHostFault result (FaultIsNoted (H.files host.old) (given_words read) (around H.faults host.old host.new)
-        (around H.console host.old host.new) (around H.notes host.old host.new)) }
-    ensures usage { HadMemory read → IsUsageCase (command_of (given_words read)) result }
+    ensures fault { IfHostFault result (FaultIsNoted (H.files host.old) (H.input host.old) (given_words read)
+        (around H.faults host.old host.new) (around H.console host.old host.new) (around H.notes host.old host.new)) }
+    ensures usage { IsUsageCase (command_of (given_words read)) result }
     ensures cause { HasOutcomeCause (around H.faults host.old host.new) result }
     ensures memory { result ≡ Outcome.NoMemory → H.console host.new ≡ H.console host.old }
-    ensures complete { (files : Files) (name file : List ℕ) (image : Layout) →
-        H.files host.old ≡ Some files → command_of (given_words read) ≡ Some (exo name) → files name ≡ Some file →
-        length file ≤ IMAGE_MAX → parsed file ≡ Ok image → (Rose (H.faults host.old) (H.faults host.new) → ⊥) → IsRunCase result }
-    ensures made { (name file : List ℕ) → command_of (given_words read) ≡ Some (demo name file) →
+    ensures complete { (files : Files) (input : List ℕ) (e : Exo) →
+        H.files host.old ≡ Some files → H.input host.old ≡ Some input → command_of (given_words read) ≡ Some (exo e) →
+        CanRun e (found_in files e) input → (Rose (H.faults host.old) (H.faults host.new) → ⊥) → IsRunCase result }
+    ensures made { (d : Demo) → command_of (given_words read) ≡ Some (demo d) →
         (Rose (H.faults host.old) (H.faults host.new) → ⊥) → IsMadeCase result }
     ensures files { Leaves (command_of (given_words read)) result (around H.files host.old host.new) }
-    ensures input { H.input host.new ≡ H.input host.old }
+    ensures input { LeavesInput (command_of (given_words read)) result (around H.input host.old host.new) }
     ensures asked { AsksFor (calls_of (command_of (given_words read))) (around H.asked host.old host.new) }
 {
-    let mut arguments = match read {
-        Ok(arguments) => arguments,
-        Err(error) if error.kind() == io::ErrorKind::OutOfMemory => {
-            return refuse_words(alloc, host);
-        }
-        Err(_) => return top(alloc, &[], host),
+    let Ok(texts) = read_texts(alloc, read) else {
+        return refuse_words(alloc, host);
     };
-    skip_text(&mut arguments);
-    let Some(command) = next_text(&mut arguments) else {
-        return top(alloc, &[], host);
+    let Ok(words) = words_of(alloc, &texts) else {
+        return refuse_words(alloc, host);
     };
-    let Some(second) = next_text(&mut arguments) else {
-        return top(alloc, &[], host);
-    };
-    let Some(third) = next_text(&mut arguments) else {
-        return top(alloc, &[command.as_str(), second.as_str()], host);
-    };
-    match next_text(&mut arguments) {
-        None => top(
-            alloc,
-            &[command.as_str(), second.as_str(), third.as_str()],
-            host,
-        ),
-        Some(_) => top(alloc, &[], host),
-    }
+    top(alloc, &words, host)
 }

@@ -1,14 +1,11 @@
+use Rattle.std.proofs.Common.{ℕ, sym, subst}
+use Rattle.jos_host.specs.Told.{Rose}
+use Rattle.jos_host.specs.Frames.{around}
 use Rattle.jos_cli.proofs.Tops.{answers_part, is_noted, noted, not_noted}
+use Rattle.jos_cli.proofs.Cases.{is_run}
 use Rattle.jos_cli.proofs.FilesWritten.{leaves_fault}
+use Rattle.jos_cli.proofs.Leaving.{left_fault}
 use Rattle.jos_cli.proofs.answer.top.Goals as goal
-
-pub returns-in-Err-clause-answer : goal.returns-in-Err-clause-answer
-returns-in-Err-clause-answer g c =
-    answers_part _ _ c.answer_words-outcome.result c.at_no_turn.result _ _ c.answer_words-outcome.ensures.told c.in-Err.ensures.rest.fourth
-
-pub returns-in-Err-clause-files : goal.returns-in-Err-clause-files
-returns-in-Err-clause-files g c =
-    leaves_fault _ _ _ _ c.answer_words-outcome.result c.at_no_turn.result c.answer_words-outcome.ensures.files c.in-Err.ensures.rest.first
 
 pub returns-in-Ok-clause-notes : goal.returns-in-Ok-clause-notes
 returns-in-Ok-clause-notes g c =
@@ -16,9 +13,30 @@ returns-in-Ok-clause-notes g c =
 
 pub returns-in-Ok-clause-fault : goal.returns-in-Ok-clause-fault
 returns-in-Ok-clause-fault g c =
-    noted _ _ c.answer_words-outcome.result _ _ _ (rw c.answer_words-outcome.ensures.notes at c.in-Ok.ensures.told)
+    noted _ _ _ c.answer_words-outcome.result _ _ _ (rw c.answer_words-outcome.ensures.notes at c.in-Ok.ensures.told)
+
+pub returns-in-Ok-clause-complete : goal.returns-in-Ok-clause-complete
+returns-in-Ok-clause-complete g c files input e f i is can calm =
+    let faults = g.H.Host.faults c.args.host.now in
+    is_run _ _ _ (around g.H.Host.faults c.args.host.now c.answer_words-outcome.new.host) c.answer_words-outcome.result
+    (around g.H.Host.console c.args.host.now c.answer_words-outcome.new.host) c.answer_words-outcome.ensures.told c.answer_words-outcome.ensures.cause
+    files input e f i is can (λ rose. calm (subst (λ (n : ℕ). Rose faults n) (sym c.in-Ok.ensures.cause.stayed) rose))
+
+pub returns-in-Err-clause-answer : goal.returns-in-Err-clause-answer
+returns-in-Err-clause-answer g c =
+    rw c.host_fault.ensures (answers_part _ _ _ c.answer_words-outcome.result _ _ _ c.answer_words-outcome.ensures.told c.in-Err.ensures.rest.fourth)
 
 pub returns-in-Err-clause-fault : goal.returns-in-Err-clause-fault
 returns-in-Err-clause-fault g c =
-    not_noted _ _ c.answer_words-outcome.result _ _ _ _ _ c.answer_words-outcome.ensures.cause c.in-Err.ensures.cause.rose c.in-Err.ensures.rest.fourth
-    c.answer_words-outcome.ensures.told (rw c.answer_words-outcome.ensures.notes at c.in-Err.ensures.told)
+    rw c.host_fault.ensures (not_noted _ _ _ (around g.H.Host.faults c.args.host.now c.answer_words-outcome.new.host) _
+    (around g.H.Host.console c.args.host.now c.answer_words-outcome.new.host) _ _ c.in-Err.ensures.cause.rose c.in-Err.ensures.rest.fourth
+    c.answer_words-outcome.result c.answer_words-outcome.ensures.cause c.answer_words-outcome.ensures.told
+    (rw c.answer_words-outcome.ensures.notes at c.in-Err.ensures.told))
+
+pub returns-in-Err-clause-files : goal.returns-in-Err-clause-files
+returns-in-Err-clause-files g c =
+    rw c.host_fault.ensures (leaves_fault _ _ _ _ c.answer_words-outcome.result _ c.answer_words-outcome.ensures.files c.in-Err.ensures.rest.first)
+
+pub returns-in-Err-clause-input : goal.returns-in-Err-clause-input
+returns-in-Err-clause-input g c =
+    rw c.host_fault.ensures (left_fault _ c.answer_words-outcome.result _ _ _ _ c.answer_words-outcome.ensures.input c.in-Err.ensures.rest.second)

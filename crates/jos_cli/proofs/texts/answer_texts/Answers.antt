@@ -1,21 +1,17 @@
-use Rattle.std.proofs.Common.{◌∷◌, sym, ap, ◌∙◌}
+use Rattle.std.proofs.Common.{map, drop, ap, ◌∙◌}
 use Rattle.std.specs.Prelude.{string_bytes}
 use Rattle.jos_cli.specs.Commands.{command_of}
-use Rattle.jos_cli.proofs.Tops.{no_command}
+use Rattle.jos_cli.proofs.Asking.{asks_none}
 use Rattle.jos_cli.proofs.texts.answer_texts.Goals as goal
 
--- one word is no command
-pub returns-in_default-next_text-clause-fault : goal.returns-in_default-next_text-clause-fault
-returns-in_default-next_text-clause-fault g c =
-    no_command _ _ c.top-in_default-next_text.result _ _ _
-    (rw c.in-Ok.is (ap command_of (sym c.skip_text.ensures ∙ c.in-Some.ensures ∙ ap (λ l. string_bytes c.in-Some.command ∷ l) c.in_default-next_text.ensures.0)))
-    c.top-in_default-next_text.ensures.fault
+pub returns-in_default-clause-asked : goal.returns-in_default-clause-asked
+returns-in_default-clause-asked g c = asks_none _ _ _ c.refuse_words.ensures.rest.third
 
--- nor are four and more
-pub returns-clause-fault : goal.returns-clause-fault
-returns-clause-fault g c =
-    no_command _ _ c.top-in-Some-next_text-3.result _ _ _
-    (rw c.in-Ok.is (ap command_of (sym c.skip_text.ensures ∙ c.in-Some.ensures ∙ ap (λ l. string_bytes c.in-Some.command ∷ l)
-    (c.in-Some-next_text.ensures ∙ ap (λ l. string_bytes c.in-Some-next_text.second ∷ l)
-    (c.in-Some-next_text-2.ensures ∙ ap (λ l. string_bytes c.in-Some-next_text-2.third ∷ l) c.in-Some-next_text-3.ensures)))))
-    c.top-in-Some-next_text-3.ensures.fault
+pub returns-in_default-words_of-clause-asked : goal.returns-in_default-words_of-clause-asked
+returns-in_default-words_of-clause-asked g c = asks_none _ _ _ c.refuse_words-in_default-words_of.ensures.rest.third
+
+pub returns-clause-complete : goal.returns-clause-complete
+returns-clause-complete g c files input e f i is can calm =
+    c.top.ensures.complete files input e f i
+    (ap command_of (ap (map (λ w. w.now)) c.deref-2.ensures.value ∙ c.in-Ok-words_of.ensures ∙ ap (λ l. drop 1 (map (λ t. string_bytes t) l)) c.deref.ensures.value ∙ c.in-Ok.ensures) ∙ is)
+    can calm

@@ -1,0 +1,70 @@
+-- Calls on files that were made, one list after another.
+use Rattle.std.proofs.Common.{◌≡◌, List, [], ◌∷◌, ◌++◌, Option, refl, sym, ap, subst, ◌∙◌}
+use mathlib.Core.Logic.{inl, inr}
+use Rattle.jos_host.specs.Asked.{Asked, and_asked}
+use Rattle.jos_host.specs.Frames.{from_to}
+use Rattle.std.proofs.lemmas.List.{append-nil}
+use Rattle.std.proofs.Common.{append_assoc}
+use Rattle.jos_words.specs.Arguments.{Word}
+use Rattle.jos_cli.specs.FilesAsked.{AsksFor, AsksAll, read_calls, images_calls}
+
+-- none is made
+pub asks_none : (calls : List Asked) (old new : Option (List Asked)) → new ≡ old → AsksFor calls (from_to old new)
+asks_none [] old new same = same
+asks_none (c ∷ rest) old new same = inl same
+
+-- some of the first are made
+pub asks_first : (calls more : List Asked) (old new : Option (List Asked)) → AsksFor calls (from_to old new) → AsksFor (calls ++ more) (from_to old new)
+asks_first [] more old new h = asks_none more old new h
+asks_first (c ∷ rest) more old new (inl same) = inl same
+asks_first (c ∷ rest) more old new (inr h) = inr (asks_first rest more (and_asked old c.call c.name) new h)
+
+-- all of the first are made, and then some of the others
+pub asks_then : (calls more : List Asked) (old mid new : Option (List Asked)) → AsksAll calls (from_to old mid) → AsksFor more (from_to mid new) →
+    AsksFor (calls ++ more) (from_to old new)
+asks_then [] more old mid new all h = subst (λ (m : Option (List Asked)). AsksFor more (from_to m new)) all h
+asks_then (c ∷ rest) more old mid new all h = inr (asks_then rest more (and_asked old c.call c.name) mid new all h)
+
+-- all of both
+pub asks_both : (calls more : List Asked) (old mid new : Option (List Asked)) → AsksAll calls (from_to old mid) → AsksAll more (from_to mid new) →
+    AsksAll (calls ++ more) (from_to old new)
+asks_both [] more old mid new all h = subst (λ (m : Option (List Asked)). AsksAll more (from_to m new)) all h
+asks_both (c ∷ rest) more old mid new all h = asks_both rest more (and_asked old c.call c.name) mid new all h
+
+-- all are some
+pub asks_all : (calls : List Asked) (old new : Option (List Asked)) → AsksAll calls (from_to old new) → AsksFor calls (from_to old new)
+asks_all [] old new h = h
+asks_all (c ∷ rest) old new h = inr (asks_all rest (and_asked old c.call c.name) new h)
+
+-- ---- images
+
+images_calls-append : (words more : List Word) → images_calls (words ++ more) ≡ images_calls words ++ images_calls more
+unfolding images_calls
+images_calls-append [] more = refl
+images_calls-append (word ∷ words) more =
+    ap (λ calls. read_calls word.text ++ calls) (images_calls-append words more) ∙ sym (append_assoc (read_calls word.text) (images_calls words) (images_calls more))
+
+images_calls-one : (word : Word) → images_calls (word ∷ []) ≡ read_calls word.text
+unfolding images_calls
+images_calls-one word = append-nil (read_calls word.text)
+
+pub asks_nothing : (log : Option (List Asked)) → AsksAll (images_calls []) (from_to log log)
+unfolding images_calls
+asks_nothing log = refl
+
+pub asks_image : (words : List Word) (word : Word) (old mid new : Option (List Asked)) → AsksAll (images_calls words) (from_to old mid) →
+    AsksAll (read_calls word.text) (from_to mid new) → AsksAll (images_calls (words ++ word ∷ [])) (from_to old new)
+asks_image words word old mid new all one =
+    subst (λ (calls : List Asked). AsksAll calls (from_to old new)) (sym (images_calls-append words (word ∷ []) ∙ ap (λ calls. images_calls words ++ calls) (images_calls-one word)))
+    (asks_both (images_calls words) (read_calls word.text) old mid new all one)
+
+pub asks_part : (words : List Word) (word : Word) (rest : List Word) (old mid new : Option (List Asked)) → AsksAll (images_calls words) (from_to old mid) →
+    AsksFor (read_calls word.text) (from_to mid new) → AsksFor (images_calls (words ++ word ∷ rest)) (from_to old new)
+unfolding images_calls
+asks_part words word rest old mid new all some =
+    subst (λ (calls : List Asked). AsksFor calls (from_to old new)) (sym (images_calls-append words (word ∷ rest)))
+    (asks_then (images_calls words) (read_calls word.text ++ images_calls rest) old mid new all (asks_first (read_calls word.text) (images_calls rest) mid new some))
+
+pub asks_part_whole : (words : List Word) (word : Word) (rest : List Word) (old mid new : Option (List Asked)) → AsksAll (images_calls words) (from_to old mid) →
+    AsksAll (read_calls word.text) (from_to mid new) → AsksFor (images_calls (words ++ word ∷ rest)) (from_to old new)
+asks_part_whole words word rest old mid new all one = asks_part words word rest old mid new all (asks_all (read_calls word.text) mid new one)

@@ -1,0 +1,100 @@
+-- Which outcomes there can be where nothing stands in the way.
+use Rattle.std.proofs.Common.{◌≡◌, ℕ, List, Option, Some, None, Result, Ok, Err, refl, ap, subst, ◌∙◌}
+use Rattle.std.specs.Prelude.{IsOk, IsSome}
+use Rattle.jos_host.specs.Files.{Files}
+use Rattle.jos_host.specs.Told.{Rose}
+use Rattle.jos_host.specs.Frames.{Around}
+use Rattle.jos_base.specs.KernelState.{KernelState}
+use Rattle.jos_words.specs.Commands.{Command, Exo, Demo, exo, demo}
+use Rattle.jos_kernel.specs.Boot.{Loadable, booted}
+use Rattle.jos_kernel.specs.ExoRun.{Ran, exo_run, run_of}
+use Rattle.jos_cli.specs.declared.outcome.Outcome.{Outcome}
+use Rattle.jos_cli.specs.declared.outcome.Outcome.TheVariants as outcome
+use Rattle.jos_cli.specs.Limits.{frames_of, steps_of}
+use Rattle.jos_cli.specs.Found.{Found, found_in}
+use Rattle.jos_cli.specs.Answer.{Judged, within, schedule_of, images_of, input_of, Expected, expected_if, expected_of_run, expected_of_exo}
+use Rattle.jos_cli.specs.Answer.{expected_of_demo}
+use Rattle.jos_cli.specs.Outcomes.{Answers, AnswersCommand, HasOutcomeCause, CanRun, IsRunCase, IsMadeCase, IsMemoryCase}
+use Rattle.jos_cli.proofs.InputRead.{within_limit}
+use Rattle.jos_cli.proofs.Memory.{on_memory}
+
+is_ok : {X E : Type 0} (r : Result X E) → IsOk r → (x : X) × (r ≡ Ok x)
+is_ok (Ok x) h = (x, refl)
+is_ok (Err e) h = absurd (let e = h in cc)
+
+-- ---- a run
+
+run_of-some : (schedule : List ℕ) (steps : ℕ) (state : Option KernelState) → IsSome state → (r : Ran) × (run_of schedule steps state ≡ Some r)
+run_of-some schedule steps (Some state) h = (_, refl)
+run_of-some schedule steps None h = absurd (let e = h in cc)
+
+runs : (e : Exo) (found : Found) (input : List ℕ) → CanRun e found input → (r : Ran) × (expected_of_exo e found input ≡ expected_of_run (Some r))
+unfolding expected_of_exo exo_run
+runs e found input can =
+    let numbers = is_ok (schedule_of found.schedule) can.schedule in
+    let run = run_of-some numbers.0 (steps_of e) (booted can.images (frames_of e) input) can.frames in (
+      run.0,
+      ap (λ (l : Judged (Unit {0})). expected_if l (λ _. expected_if (schedule_of found.schedule) (λ n. expected_if (images_of found.images) (λ images.
+          expected_if (input_of input) (λ bytes. expected_of_run (exo_run images bytes n (frames_of e) (steps_of e))))))) (ap within can.words)
+          ∙ ap (λ (n : Judged (List ℕ)). expected_if n (λ n. expected_if (images_of found.images) (λ images.
+          expected_if (input_of input) (λ bytes. expected_of_run (exo_run images bytes n (frames_of e) (steps_of e)))))) numbers.1
+          ∙ ap (λ (i : Judged (List Loadable)). expected_if i (λ images.
+          expected_if (input_of input) (λ bytes. expected_of_run (exo_run images bytes numbers.0 (frames_of e) (steps_of e))))) can.read
+          ∙ ap (λ (b : Judged (List ℕ)). expected_if b (λ bytes. expected_of_run (exo_run can.images bytes numbers.0 (frames_of e) (steps_of e))))
+          (within_limit input can.short)
+          ∙ ap expected_of_run run.1,
+    )
+
+run_case : (r : Ran) (faults : Around ℕ) (own : Outcome) (console : Around (Option (List ℕ))) → Answers (expected_of_run (Some r)) own console →
+    HasOutcomeCause faults own → (Rose faults.before faults.after → ⊥) → IsRunCase own
+run_case r faults (outcome.Ran report) console h cause calm = tt
+run_case r faults outcome.NoMemory console h cause calm = tt
+run_case r faults (outcome.HostFault stopped) console h cause calm = absurd (calm cause.0)
+run_case r faults outcome.Usage console h cause calm = absurd (let e = h.0 in cc)
+run_case r faults (outcome.Absent word) console h cause calm = absurd (let e = h.0 in cc)
+run_case r faults (outcome.Limit which) console h cause calm = absurd (let e = h.0 in cc)
+run_case r faults (outcome.BadSchedule fault) console h cause calm = absurd (let e = h.0 in cc)
+run_case r faults (outcome.BadImage word fault) console h cause calm = absurd (let e = h.0 in cc)
+run_case r faults (outcome.Made bytes) console h cause calm = absurd (let e = h.0 in cc)
+
+-- images are run where they can be
+pub is_run : (told : Option Files) (told_input : Option (List ℕ)) (command : Option Command) (faults : Around ℕ) (own : Outcome) (console : Around (Option (List ℕ))) →
+    AnswersCommand told told_input command own console → HasOutcomeCause faults own → (files : Files) (input : List ℕ) (e : Exo) → told ≡ Some files →
+    told_input ≡ Some input → command ≡ Some (exo e) → CanRun e (found_in files e) input → (Rose faults.before faults.after → ⊥) → IsRunCase own
+is_run told told_input command faults own console h cause files input e f i c can calm =
+    let answers = subst (λ (o : Option Command). AnswersCommand (Some files) (Some input) o own console) c
+    (subst (λ (o : Option (List ℕ)). AnswersCommand (Some files) o command own console) i
+    (subst (λ (o : Option Files). AnswersCommand o told_input command own console) f h)) in
+    let run = runs e (found_in files e) input can in
+    run_case run.0 faults own console
+    (subst (λ (x : Expected). Answers x own console) ((λ k. expected_of_exo e (answers.2 k) (answers.3 k)) ∙ run.1) answers.4) cause calm
+
+-- ---- a program that is written
+
+made_case : (program : List ℕ) (faults : Around ℕ) (own : Outcome) (console : Around (Option (List ℕ))) → Answers (expected_of_demo program) own console →
+    HasOutcomeCause faults own → (Rose faults.before faults.after → ⊥) → IsMadeCase own
+made_case program faults (outcome.Made bytes) console h cause calm = tt
+made_case program faults outcome.NoMemory console h cause calm = tt
+made_case program faults (outcome.HostFault stopped) console h cause calm = absurd (calm cause.0)
+made_case program faults outcome.Usage console h cause calm = absurd (let e = h.0 in cc)
+made_case program faults (outcome.Absent word) console h cause calm = absurd (let e = h.0 in cc)
+made_case program faults (outcome.Limit which) console h cause calm = absurd (let e = h.0 in cc)
+made_case program faults (outcome.BadSchedule fault) console h cause calm = absurd (let e = h.0 in cc)
+made_case program faults (outcome.BadImage word fault) console h cause calm = absurd (let e = h.0 in cc)
+made_case program faults (outcome.Ran report) console h cause calm = absurd (let e = h.0 in cc)
+
+pub is_made : (told : Option Files) (told_input : Option (List ℕ)) (command : Option Command) (faults : Around ℕ) (own : Outcome) (console : Around (Option (List ℕ))) →
+    AnswersCommand told told_input command own console → HasOutcomeCause faults own → (d : Demo) → command ≡ Some (demo d) →
+    (Rose faults.before faults.after → ⊥) → IsMadeCase own
+is_made told told_input command faults own console h cause d c calm =
+    made_case d.name.text faults own console (subst (λ (o : Option Command). AnswersCommand told told_input o own console) c h) cause calm
+
+-- ---- no memory for the words
+
+pub memory_runs : (faults : Around ℕ) (own : Outcome) → IsMemoryCase own → HasOutcomeCause faults own → (Rose faults.before faults.after → ⊥) → IsRunCase own
+memory_runs faults own h cause calm =
+    on_memory (λ o. HasOutcomeCause faults o → IsRunCase o) (λ _. tt) (λ stopped c. absurd (calm c.0)) own h cause
+
+pub memory_makes : (faults : Around ℕ) (own : Outcome) → IsMemoryCase own → HasOutcomeCause faults own → (Rose faults.before faults.after → ⊥) → IsMadeCase own
+memory_makes faults own h cause calm =
+    on_memory (λ o. HasOutcomeCause faults o → IsMadeCase o) (λ _. tt) (λ stopped c. absurd (calm c.0)) own h cause

@@ -1,0 +1,41 @@
+-- From what is judged to what is expected.
+use Rattle.std.proofs.Common.{◌≡◌, ℕ, List, Option, Some, None, Ok, refl, sym, ap, subst, ◌∙◌, arith}
+use Rattle.jos_host.specs.Frames.{Around}
+use Rattle.jos_words.specs.Commands.{Exo}
+use Rattle.jos_cli.specs.declared.outcome.Which.{Which}
+use Rattle.jos_cli.specs.Limits.{limit_of_words, frames_of, steps_of}
+use Rattle.jos_cli.specs.Found.{Found}
+use Rattle.jos_cli.specs.Answer.{limit, within, Judged, Expected, expected_if, expected_of_exo}
+use Rattle.jos_cli.specs.Outcomes.{Kind, answered, cut_off, no_memory, AnswersBy}
+use Rattle.jos_cli.specs.Stages.{RefusesBy, expected_of_files}
+use Rattle.jos_cli.proofs.ToldBytes.{gains_none}
+
+-- it is refused, and nothing was written
+pub refuses : {X : Type 0} (judged : Judged X) (next : X → Expected) (kind : Kind) (console : Around (Option (List ℕ))) →
+    RefusesBy judged kind → console.after ≡ console.before → AnswersBy (expected_if judged next) kind console
+refuses {X = X} judged next (answered answer) console h same =
+    subst (λ (j : Judged X). AnswersBy (expected_if j next) (answered answer) console) (sym h) (refl, same ∙ gains_none console.before)
+refuses judged next (cut_off stopped) console h same = (0, omega arith, same ∙ gains_none console.before)
+refuses judged next no_memory console h same = same
+
+-- it is there, and the rest is answered
+pub goes_on : {X : Type 0} (judged : Judged X) (next : X → Expected) (x : X) (kind : Kind) (console : Around (Option (List ℕ))) →
+    judged ≡ Ok x → AnswersBy (next x) kind console → AnswersBy (expected_if judged next) kind console
+goes_on {X = X} judged next x kind console h answer =
+    subst (λ (j : Judged X). AnswersBy (expected_if j next) kind console) (sym h) answer
+
+-- ---- the limits of the words
+
+pub words_refused : (e : Exo) (found : Found) (input : List ℕ) (which : Which) (console : Around (Option (List ℕ))) → limit_of_words e ≡ Some which →
+    console.after ≡ console.before → AnswersBy (expected_of_exo e found input) (answered (limit which)) console
+unfolding expected_of_exo
+words_refused e found input which console h same =
+    refuses (within (limit_of_words e)) (λ _. expected_of_files (frames_of e) (steps_of e) input found) (answered (limit which)) console (ap within h) same
+
+pub words_within : (e : Exo) (found : Found) (input : List ℕ) (kind : Kind) (console : Around (Option (List ℕ))) (frames steps : ℕ) → limit_of_words e ≡ None →
+    frames ≡ frames_of e → steps ≡ steps_of e → AnswersBy (expected_of_files frames steps input found) kind console → AnswersBy (expected_of_exo e found input) kind console
+unfolding expected_of_exo
+words_within e found input kind console frames steps h f s answer =
+    goes_on (within (limit_of_words e)) (λ _. expected_of_files (frames_of e) (steps_of e) input found) tt kind console (ap within h)
+    (subst (λ (n : ℕ). AnswersBy (expected_of_files n (steps_of e) input found) kind console) f
+    (subst (λ (n : ℕ). AnswersBy (expected_of_files frames n input found) kind console) s answer))

@@ -1,0 +1,23 @@
+use Rattle.std.proofs.Common.{refl, sym, subst}
+use Rattle.jos_cli.specs.declared.outcome.Outcome.TheVariants.{Limit}
+use Rattle.jos_cli.specs.declared.outcome.Which.TheVariants.{Boot}
+use Rattle.jos_cli.proofs.ToldBytes.{gains_none}
+use Rattle.std.specs.Prelude.{Option}
+use Rattle.jos_kernel.specs.ExoRun.{Ran}
+use Rattle.jos_cli.specs.Answer.{expected_of_run}
+use Rattle.jos_cli.specs.Outcomes.{Answers}
+use Rattle.jos_host.specs.Frames.{around}
+use Rattle.jos_cli.proofs.Runs.{run_booted, not_booted}
+use Rattle.jos_cli.proofs.answer.run_loaded.Goals as goal
+
+pub returns-in-Ok-clause-told : goal.returns-in-Ok-clause-told
+returns-in-Ok-clause-told g c =
+    rw (c.deref.ensures.value, c.deref-2.ensures.value) at (subst (λ (r : Option Ran). Answers (expected_of_run r) c.run_kernel.result (around g.H.Host.console c.args.host.now c.run_kernel.new.host))
+    (sym (run_booted _ c.args.input.items c.args.schedule c.args.frames c.args.steps _ _ _ c.in-Ok.ensures.booted c.in-Ok.ensures.schedule c.in-Ok.ensures.first))
+    c.run_kernel.ensures.told)
+
+pub returns-in-Err-Pool-clause-told : goal.returns-in-Err-Pool-clause-told
+returns-in-Err-Pool-clause-told g c =
+    rw (c.deref.ensures.value, c.deref-2.ensures.value) at (subst (λ (r : Option Ran). Answers (expected_of_run r) (Limit Boot) (around g.H.Host.console c.args.host.now c.args.host.now))
+    (sym (not_booted _ c.args.input.items c.args.schedule c.args.frames c.args.steps (c.in-Err-Pool.ensures.pool c.in-Err-Pool.field-0-is)))
+    (refl, gains_none (g.H.Host.console c.args.host.now)))

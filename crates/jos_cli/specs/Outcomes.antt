@@ -1,0 +1,153 @@
+-- What an outcome of the program says of the answer that is expected, and when it may come. (This system's own.)
+use Rattle.std.specs.Prelude.{◌≡◌, ◌≢◌, ◌≤◌, ℕ, ◌+◌, List, [], length, drop, Option, Some, None, IsOk, IsSome, option_map}
+use Rattle.std.specs.Prelude.{Ok}
+use Rattle.jos_host.specs.Files.{Files}
+use Rattle.jos_host.specs.Told.{Rose}
+use Rattle.jos_host.specs.Frames.{Around}
+use Rattle.jos_host.specs.Gains.{Gains, GainsPart}
+use Rattle.jos_base.specs.declared.numbers.TheConstants.{INPUT_MAX}
+use Rattle.jos_words.specs.Commands.{Command, Exo, exo, demo}
+use Rattle.jos_kernel.specs.declared.report.End.{End}
+use Rattle.jos_kernel.specs.declared.report.End.TheVariants.{Done, Stuck, Budget, TurnsFull}
+use Rattle.jos_kernel.specs.Reports.{CutOff}
+use Rattle.jos_kernel.specs.Boot.{Loadable, booted}
+use Rattle.jos_cli.specs.declared.outcome.Which.TheVariants.{Input, Boot}
+use Rattle.jos_cli.specs.declared.outcome.Outcome.{Outcome}
+use Rattle.jos_cli.specs.declared.outcome.Outcome.TheVariants.{Ran, Usage, Absent, Limit, BadSchedule, BadImage}
+use Rattle.jos_cli.specs.declared.outcome.Outcome.TheVariants.{HostFault, NoMemory, Made}
+use Rattle.jos_cli.specs.Limits.{limit_of_words, frames_of}
+use Rattle.jos_cli.specs.Found.{Found, IsFound, IsInput}
+use Rattle.jos_cli.specs.InputTaken.{HasLost}
+use Rattle.jos_cli.specs.Answer.{Answer, usage, absent, limit, bad_schedule, bad_image, ran, made, Expected, refused}
+use Rattle.jos_cli.specs.Answer.{schedule_of, images_of, expected_of_exo, expected_of_demo}
+
+-- an outcome: an answer, or a call of the host failed, or there was no memory
+pub data Kind : Type 0 where
+  answered : Answer → Kind
+  cut_off : CutOff → Kind
+  no_memory : Kind
+
+abbrev pub kind_of : Outcome → Kind
+kind_of (Ran report) = answered (ran report)
+kind_of Usage = answered usage
+kind_of (Absent word) = answered (absent word)
+kind_of (Limit which) = answered (limit which)
+kind_of (BadSchedule fault) = answered (bad_schedule fault)
+kind_of (BadImage word fault) = answered (bad_image word fault)
+kind_of (Made bytes) = answered (made bytes)
+kind_of (HostFault stopped) = cut_off stopped
+kind_of NoMemory = no_memory
+
+-- ---- the answer
+
+-- The outcome is what is expected, and the console has gained what is expected; a failed call of the host leaves
+-- a part of that, and want of memory comes before anything is written.
+abbrev pub AnswersBy : Expected → Kind → Around (Option (List ℕ)) → Type 0
+AnswersBy e (answered answer) console = (answer ≡ e.answer) × Gains console e.console
+AnswersBy e (cut_off stopped) console = GainsPart console e.console
+AnswersBy e no_memory console = console.after ≡ console.before
+
+abbrev pub Answers : Expected → Outcome → Around (Option (List ℕ)) → Type 0
+Answers e outcome console = AnswersBy e (kind_of outcome) console
+
+-- The same for a command, of the files and the input that the host tells. Of those that it does not tell there are
+-- some for which it holds.
+abbrev pub AnswersCommand : Option Files → Option (List ℕ) → Option Command → Outcome → Around (Option (List ℕ)) → Type 0
+AnswersCommand told told_input None outcome console = Answers (refused usage) outcome console
+AnswersCommand told told_input (Some (demo d)) outcome console = Answers (expected_of_demo d.name.text) outcome console
+AnswersCommand told told_input (Some (exo e)) outcome console =
+    (found : Found) × (input : List ℕ) × IsFound told e found × IsInput told_input input
+    × Answers (expected_of_exo e found input) outcome console
+
+-- the words alone decide this answer, whatever the host tells
+abbrev pub IsUsageCase : Option Command → Outcome → Type 0
+IsUsageCase None Usage = Unit {0}
+IsUsageCase None (HostFault stopped) = Unit {0}
+IsUsageCase None NoMemory = Unit {0}
+IsUsageCase None _ = ⊥
+IsUsageCase (Some command) Usage = ⊥
+IsUsageCase (Some command) _ = Unit {0}
+
+-- ---- the causes
+
+-- A failed call of the host is the answer only where the count of its faults rose, and every other answer leaves
+-- the count. What is handed out beside it is empty.
+abbrev pub HasCauseOf : Around ℕ → Kind → Type 0
+HasCauseOf faults (answered answer) = faults.after ≡ faults.before
+HasCauseOf faults (cut_off stopped) = Rose faults.before faults.after × (stopped.turns ≡ []) × (stopped.first_refused ≡ None)
+HasCauseOf faults no_memory = faults.after ≡ faults.before
+
+abbrev pub HasOutcomeCause : Around ℕ → Outcome → Type 0
+HasOutcomeCause faults outcome = HasCauseOf faults (kind_of outcome)
+
+-- the words, the files and the input of a run, with frames enough to boot it
+pub record CanRun (e : Exo) (found : Found) (input : List ℕ) : Type 0 where
+  pub words : limit_of_words e ≡ None
+  pub schedule : IsOk (schedule_of found.schedule)
+  pub images : List Loadable
+  pub read : images_of found.images ≡ Ok images
+  pub short : length input ≤ INPUT_MAX
+  pub frames : IsSome (booted images (frames_of e) input)
+
+-- it was run, or there was no memory to begin with
+abbrev pub IsRunCase : Outcome → Type 0
+IsRunCase (Ran report) = Unit {0}
+IsRunCase NoMemory = Unit {0}
+IsRunCase _ = ⊥
+
+-- it was written, or there was no memory to begin with
+abbrev pub IsMadeCase : Outcome → Type 0
+IsMadeCase (Made bytes) = Unit {0}
+IsMadeCase NoMemory = Unit {0}
+IsMadeCase _ = ⊥
+
+-- there was no memory to begin with
+abbrev pub IsMemoryCase : Outcome → Type 0
+IsMemoryCase NoMemory = Unit {0}
+IsMemoryCase (HostFault stopped) = Unit {0}
+IsMemoryCase _ = ⊥
+
+-- ---- the input
+
+-- No input is taken before all files are read, and then all of it, up to one byte past the limit.
+abbrev pub left_by : Answer → List ℕ → List ℕ
+left_by (ran report) input = []
+left_by (limit Boot) input = []
+left_by (limit Input) input = drop (INPUT_MAX + 1) input
+left_by _ input = input
+
+abbrev pub LeavesInputBy : Kind → Around (Option (List ℕ)) → Type 0
+LeavesInputBy (answered answer) input = input.after ≡ option_map (left_by answer) input.before
+LeavesInputBy (cut_off stopped) input = HasLost input.before input.after
+LeavesInputBy no_memory input = HasLost input.before input.after
+
+-- Only `exo` reads input.
+abbrev pub LeavesInput : Option Command → Outcome → Around (Option (List ℕ)) → Type 0
+LeavesInput None outcome input = input.after ≡ input.before
+LeavesInput (Some (demo d)) outcome input = input.after ≡ input.before
+LeavesInput (Some (exo e)) outcome input = LeavesInputBy (kind_of outcome) input
+
+-- ---- the exit status
+
+abbrev pub end_status : End → ℕ
+end_status Done = 0
+end_status Stuck = 9
+end_status Budget = 10
+end_status TurnsFull = 11
+
+abbrev pub status_of : Outcome → ℕ
+status_of (Ran report) = end_status report.end
+status_of Usage = 1
+status_of (Absent word) = 2
+status_of (Limit which) = 3
+status_of (BadImage word fault) = 4
+status_of (BadSchedule fault) = 5
+status_of (HostFault stopped) = 7
+status_of NoMemory = 8
+status_of (Made bytes) = 0
+
+-- The status of a failed call of the host is answered only where the count of its faults rose, and every other leaves
+-- the count.
+pub record HasStatusCause (faults : Around ℕ) (status : ℕ) : Type 0 where
+  pub fault : status ≡ 7 → Rose faults.before faults.after
+  pub other : status ≢ 7 → faults.after ≡ faults.before

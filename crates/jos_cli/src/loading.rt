@@ -1,0 +1,159 @@
+//! The schedule and the images, read from their files.
+
+ghost use Rattle.std.specs.Prelude.{◌≡◌, ◌≢◌, ◌≤◌, ◌∷◌, [], ◌++◌, ℕ, Ok, List, Option, All, IfOk, IfErr, OnOk};
+ghost use Rattle.std.specs.Prelude.{MatchResult, length, map, option_map};
+ghost use Rattle.jos_host.specs.Frames.{Unchanged, around, from_to};
+ghost use Rattle.jos_words.specs.Arguments.{word_in_bytes};
+ghost use Rattle.jos_elf.specs.Parsed.{parsed};
+ghost use Rattle.jos_base.specs.declared.numbers.TheConstants.{SCHEDULE_TEXT_MAX};
+ghost use Rattle.jos_kernel.specs.Boot.{loadables};
+ghost use Rattle.jos_kernel.specs.Loading.{IsRead};
+ghost use Rattle.jos_cli.specs.Found.{FileAt};
+ghost use Rattle.jos_cli.specs.Answer.{text_of, schedule_of, image_of, images_of};
+ghost use Rattle.jos_cli.specs.Outcomes.{HasOutcomeCause};
+ghost use Rattle.jos_cli.specs.Stages.{IsFileAt, IsScheduleAt, AreFilesAt, Judges, refusal_of, IsUnread};
+ghost use Rattle.jos_cli.specs.FilesAsked.{AsksFor, AsksAll, read_calls, schedule_calls, images_calls};
+
+use crate::files::read_file;
+use crate::outcome::{Outcome, Which};
+use jos_base::{IMAGE_MAX, SCHEDULE_TEXT_MAX};
+use jos_elf::{Image, parse};
+use jos_host::Host;
+use jos_sched::{Schedule, ScheduleFault, parse_schedule};
+use jos_words::WordAt;
+use std::alloc::{AllocError, Global};
+
+/// The text of the schedule that a word names; with no word, no bytes.
+fn read_text<'a, H: Host>(
+    alloc: Global,
+    word: Option<WordAt<'a>>,
+    host: &mut H,
+) -> Result<Vec<u8>, Outcome>
+    ensures told { (file : Option FileAt) × IsScheduleAt (H.files host.old) (option_map word_in_bytes word.entry) file
+        × Judges (text_of file) (λ text. text.items) result }
+    ensures small { IfOk result (λ text. length text.items ≤ SCHEDULE_TEXT_MAX) }
+    ensures kind { IfErr result IsUnread }
+    ensures cause { MatchResult result (λ _. H.faults host.new ≡ H.faults host.old) (HasOutcomeCause (around H.faults host.old host.new)) }
+    ensures rest { Unchanged H.files H.input H.console H.notes host.old host.new }
+    ensures asked { MatchResult result
+        (λ _. AsksAll (schedule_calls (option_map word_in_bytes word.entry)) (around H.asked host.old host.new))
+        (λ _. AsksFor (schedule_calls (option_map word_in_bytes word.entry)) (around H.asked host.old host.new)) }
+{
+    match word {
+        None => Ok(Vec::new(alloc)),
+        Some(word) => read_file(alloc, word, SCHEDULE_TEXT_MAX, Which::Schedule, host),
+    }
+}
+
+/// The answer where a text is no schedule.
+fn refusal_of(fault: ScheduleFault) -> Outcome
+    ensures refusal { result ≡ refusal_of fault }
+    ensures kind { IsUnread result }
+    ensures no_fault { (faults : ℕ) → HasOutcomeCause (from_to faults faults) result }
+{
+    match fault {
+        ScheduleFault::NoMemory => Outcome::NoMemory,
+        _ => Outcome::BadSchedule(fault),
+    }
+}
+
+/// The schedule that a word names; with no word, that of the empty text.
+pub(crate) fn read_schedule<'a, H: Host>(
+    alloc: Global,
+    word: Option<WordAt<'a>>,
+    host: &mut H,
+) -> Result<Schedule, Outcome>
+    ensures told { (file : Option FileAt) × IsScheduleAt (H.files host.old) (option_map word_in_bytes word.entry) file
+        × Judges (schedule_of file) (λ schedule. schedule) result }
+    ensures kind { IfErr result IsUnread }
+    ensures cause { MatchResult result (λ _. H.faults host.new ≡ H.faults host.old) (HasOutcomeCause (around H.faults host.old host.new)) }
+    ensures rest { Unchanged H.files H.input H.console H.notes host.old host.new }
+    ensures asked { MatchResult result
+        (λ _. AsksAll (schedule_calls (option_map word_in_bytes word.entry)) (around H.asked host.old host.new))
+        (λ _. AsksFor (schedule_calls (option_map word_in_bytes word.entry)) (around H.asked host.old host.new)) }
+{
+    let text = match read_text(alloc, word, host) {
+        Ok(text) => text,
+        Err(outcome) => return Err(outcome),
+    };
+    match parse_schedule(alloc, &text) {
+        Ok(schedule) => Ok(schedule),
+        Err(fault) => Err(refusal_of(fault)),
+    }
+}
+
+/// The image that a word names, and the bytes of its file.
+fn read_image<'a, H: Host>(
+    alloc: Global,
+    word: WordAt<'a>,
+    host: &mut H,
+) -> Result<(Image, Vec<u8>), Outcome>
+    ensures told { (file : FileAt) × IsFileAt (H.files host.old) (word_in_bytes word.entry) file
+        × Judges (image_of file) (λ read. record { image = read.0; file = read.1.items }) result }
+    ensures read { IfOk result (λ read. parsed read.1.items ≡ Ok read.0) }
+    ensures kind { IfErr result IsUnread }
+    ensures cause { MatchResult result (λ _. H.faults host.new ≡ H.faults host.old) (HasOutcomeCause (around H.faults host.old host.new)) }
+    ensures rest { Unchanged H.files H.input H.console H.notes host.old host.new }
+    ensures asked { MatchResult result (λ _. AsksAll (read_calls word.entry.text.now) (around H.asked host.old host.new))
+        (λ _. AsksFor (read_calls word.entry.text.now) (around H.asked host.old host.new)) }
+{
+    let file = match read_file(alloc, word, IMAGE_MAX, Which::Image, host) {
+        Ok(file) => file,
+        Err(outcome) => return Err(outcome),
+    };
+    match parse(&file) {
+        Ok(image) => Ok((image, file)),
+        Err(fault) => Err(Outcome::BadImage(word.place, fault)),
+    }
+}
+
+/// Images, each with its file at the same place.
+#[derive(Drop)]
+pub(crate) struct Images {
+    pub(crate) images: Vec<Image>,
+    pub(crate) files: Vec<Vec<u8>>,
+}
+
+impl Images {
+    fn push(&mut self, image: Image, file: Vec<u8>) -> Result<(), AllocError>
+        ensures images { OnOk result (self.new.images.items ≡ self.old.images.items ++ image ∷ []) }
+        ensures files { OnOk result (self.new.files.items ≡ self.old.files.items ++ file ∷ []) }
+    {
+        self.images.push(image)?;
+        self.files.push(file)?;
+        Ok(())
+    }
+}
+
+/// The images that words name, each of which is read before the next is looked at.
+pub(crate) fn read_images<'a, H: Host>(
+    alloc: Global,
+    words: &[WordAt<'a>],
+    host: &mut H,
+) -> Result<Images, Outcome>
+    ensures told { (files : List FileAt) × AreFilesAt (H.files host.old) (map word_in_bytes words.now) files
+        × Judges (images_of files) (λ read. loadables read.images.items read.files.items) result }
+    ensures count { IfOk result (λ read. length read.images.items ≡ length read.files.items) }
+    ensures read { IfOk result (λ read. All IsRead (loadables read.images.items read.files.items)) }
+    ensures kind { IfErr result IsUnread }
+    ensures cause { MatchResult result (λ _. H.faults host.new ≡ H.faults host.old) (HasOutcomeCause (around H.faults host.old host.new)) }
+    ensures rest { Unchanged H.files H.input H.console H.notes host.old host.new }
+    ensures asked { MatchResult result
+        (λ _. AsksAll (images_calls (map word_in_bytes words.now)) (around H.asked host.old host.new))
+        (λ _. AsksFor (images_calls (map word_in_bytes words.now)) (around H.asked host.old host.new)) }
+{
+    let mut read = Images {
+        images: Vec::new(alloc),
+        files: Vec::new(alloc),
+    };
+    for word in words {
+        match read_image(alloc, *word, host) {
+            Ok((image, file)) => match read.push(image, file) {
+                Ok(()) => {}
+                Err(_) => return Err(Outcome::NoMemory),
+            },
+            Err(outcome) => return Err(outcome),
+        }
+    }
+    Ok(read)
+}
