@@ -1,11 +1,10 @@
 -- A burst of the machine, with what comes of its last step and the count of its steps, is as many steps of the run.
-use Rattle.std.proofs.Common.{◌≡◌, ℕ, ◌+◌, ◌-◌, ◌<◌, ◌≤◌, ◌==◌, ◌^◌, Bool, Option, None, Some, Ok, Err, zero, suc, true, false}
+use Rattle.std.proofs.Common.{◌≡◌, ℕ, ◌+◌, ◌-◌, ◌<◌, ◌≤◌, ◌==◌, ◌^◌, Bool, Option, None, Some, Ok, suc, true, false}
 use Rattle.std.proofs.Common.{List, [], ◌∷◌, ◌++◌, length, min, vec_len, refl, sym, ap, subst, ◌∙◌, arith, if◌then◌else◌}
 use Rattle.std.specs.Prelude.{not, nat_eq, unwrap_or}
 use Rattle.std.specs.Option.{ForSome}
 use Rattle.std.proofs.lemmas.Bool.Decides.{nat_tests}
 use Rattle.std.proofs.lemmas.List.{length-append}
-use Rattle.jos_host.specs.declared.host.Failed.{Failed}
 use Rattle.jos_host.specs.Frames.{from_to}
 use Rattle.jos_host.specs.Gains.{Gains, GainsPart}
 use Rattle.jos_base.specs.declared.registers.Regs.{Regs}
@@ -17,16 +16,15 @@ use Rattle.jos_space.proofs.Counts.{upd-at}
 use Rattle.jos_sched.specs.Quantum.{quantum}
 use Rattle.jos_cpu.specs.declared.events.Event.{Event}
 use Rattle.jos_cpu.specs.declared.events.Gates.TheVariants.{Exo}
-use Rattle.jos_cpu.specs.Bursts.{Machine, IsBurst}
+use Rattle.jos_cpu.specs.Bursts.{IsBurst}
 use Rattle.jos_kernel.specs.declared.kernel.Kernel.{Kernel}
 use Rattle.jos_kernel.specs.declared.report.Refusal.{Refusal}
 use Rattle.jos_kernel.specs.Running.{Running, user_memory}
 use Rattle.jos_kernel.specs.Steps.{EnvStep, Trap, after_event, env_step}
-use Rattle.jos_kernel.specs.Machine.{Follows}
 use Rattle.jos_kernel.specs.ExoRun.{Progress, Ran, current, counted, turn_of, next_slot, in_turn, turn_goes_on, end_of}
 use Rattle.jos_kernel.specs.ExoRun.{first_refusal}
-use Rattle.jos_kernel.specs.ExoRun.{traps_after, progressed_in, progressed, run_from}
-use Rattle.jos_kernel.specs.Kernel.{Told, nothing, and_told, state_of, progress_of, Counts, Went, FailsIn, Advances}
+use Rattle.jos_kernel.specs.ExoRun.{traps_after, progressed, run_from}
+use Rattle.jos_kernel.specs.Kernel.{Told, nothing, and_told, state_of, progress_of, Counts, FailsIn, Advances}
 use Rattle.jos_kernel.specs.Kernel.{refusal_after, goes_on_after, Counted}
 use Rattle.jos_kernel.proofs.KeepsRest.{going_keeps, burst_keeps, directory_is, slot_is, state_is}
 use Rattle.jos_kernel.proofs.EnvSteps.{env_step_is}

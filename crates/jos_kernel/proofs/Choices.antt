@@ -1,5 +1,5 @@
 -- Which end test holds, and whose turn it is.
-use Rattle.std.proofs.Common.{◌≡◌, ℕ, ◌<◌, ◌≤◌, ◌==◌, ◌&&◌, Bool, Option, None, Some, true, false, refl, ap, ◌∙◌, arith, if◌then◌else◌}
+use Rattle.std.proofs.Common.{◌≡◌, ℕ, ◌<◌, ◌==◌, ◌&&◌, Bool, Option, None, Some, true, false, refl, arith, if◌then◌else◌}
 use Rattle.std.specs.Prelude.{not, is_none, unwrap_or, nat_le, length}
 use Rattle.std.specs.Option.{ForSome}
 use Rattle.std.proofs.lemmas.Bool.Decides.{nat_tests}
@@ -7,11 +7,11 @@ use Rattle.jos_base.specs.declared.numbers.TheConstants.{NENV, TURN_MAX}
 use Rattle.jos_base.specs.declared.environment.Status.{Status}
 use Rattle.jos_base.specs.declared.environment.Status.TheVariants as status
 use Rattle.jos_base.specs.Environments.{Slot, is_live, is_free, is_running, is_runnable}
-use Rattle.jos_base.specs.KernelState.{KernelState, slot_at, turn_begun}
+use Rattle.jos_base.specs.KernelState.{slot_at}
 use Rattle.jos_envs.specs.Table.{any_live}
 use Rattle.jos_kernel.specs.declared.report.End.{End}
 use Rattle.jos_kernel.specs.declared.report.End.TheVariants.{Done, Stuck, Budget, TurnsFull}
-use Rattle.jos_kernel.specs.ExoRun.{Progress, current, next_slot, in_turn, end_of}
+use Rattle.jos_kernel.specs.ExoRun.{Progress, next_slot, end_of}
 use Rattle.jos_kernel.proofs.Turns.{some_live, running_live}
 
 -- the slot whose turn it is, or was, is one of the table

@@ -1,13 +1,13 @@
 -- What booting images leaves as it was: no turn is begun.
-use Rattle.std.proofs.Common.{◌≡◌, ℕ, List, [], ◌∷◌, Option, None, Some, Result, Ok, Err, IfSome, refl, sym, ap, ◌∙◌}
+use Rattle.std.proofs.Common.{◌≡◌, ℕ, List, [], ◌∷◌, Option, None, Some, Result, Ok, Err, IfSome, refl, ◌∙◌}
 use Rattle.std.specs.Option.{option_map}
 use Rattle.jos_base.specs.declared.errno.Errno.{Errno}
 use Rattle.jos_base.specs.SpacesState.{SpacesState, created}
 use Rattle.jos_base.specs.Environments.{Environments, allotted}
-use Rattle.jos_base.specs.KernelState.{KernelState, first_state, slot_at}
+use Rattle.jos_base.specs.KernelState.{KernelState, first_state}
 use Rattle.jos_base.specs.SystemCalls.{made_of, environment_made}
 use Rattle.jos_elf.specs.Parsed.{Layout}
-use Rattle.jos_kernel.specs.Boot.{Loadable, and_then, image_loaded, started, image_booted_in, image_booted, all_booted, booted}
+use Rattle.jos_kernel.specs.Boot.{Loadable, and_then, started, image_booted_in, image_booted, all_booted, booted}
 
 -- no turn was begun between two states
 pub record SameTurns (s t : KernelState) : Type 0 where

@@ -1,16 +1,14 @@
 -- Steps after steps: what was made so far and then the rest is the whole run.
-use Rattle.std.proofs.Common.{◌≡◌, ℕ, ◌+◌, ◌-◌, ◌<◌, ◌≤◌, zero, suc, true, false, List, [], ◌++◌, length, Option, None}
-use Rattle.std.proofs.Common.{Some, Ok, Err, refl, sym, ap, subst, ◌∙◌, arith, append_assoc}
+use Rattle.std.proofs.Common.{◌≡◌, ℕ, ◌+◌, ◌-◌, ◌<◌, ◌≤◌, suc, true, false, List, [], ◌++◌, Option, None}
+use Rattle.std.proofs.Common.{Some, Ok, refl, sym, ap, subst, ◌∙◌, arith, append_assoc}
 use Rattle.std.proofs.lemmas.List.{append-nil}
 use Rattle.std.specs.Option.{unwrap_or}
-use Rattle.jos_host.specs.declared.host.Failed.{Failed}
 use Rattle.jos_host.specs.Frames.{from_to}
-use Rattle.jos_host.specs.Gains.{Gains, GainsPart}
 use Rattle.jos_kernel.specs.declared.kernel.Kernel.{Kernel}
 use Rattle.jos_kernel.specs.declared.report.End.{End}
 use Rattle.jos_kernel.specs.declared.report.End.TheVariants.{Budget}
 use Rattle.jos_kernel.specs.Steps.{Trap}
-use Rattle.jos_kernel.specs.ExoRun.{Progress, Ran, counted, end_of, one_step, after_test, run_from}
+use Rattle.jos_kernel.specs.ExoRun.{Progress, Ran, end_of, one_step, after_test, run_from}
 use Rattle.jos_kernel.specs.Kernel.{Told, nothing, and_told, progress_of, Counts, Went, FailsIn, Steps, IsRun}
 use Rattle.jos_kernel.proofs.ToldBytes.{gains_none, gains_more, gains_part}
 use Rattle.jos_kernel.proofs.Advancing.{end-told}

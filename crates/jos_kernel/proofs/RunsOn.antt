@@ -1,7 +1,6 @@
 -- What a run writes begins with what was written before it.
-use Rattle.std.proofs.Common.{◌≡◌, ℕ, zero, suc, true, false, List, [], ◌++◌, Option, None, Some, refl, sym, ap, subst, ◌∙◌, append_assoc}
+use Rattle.std.proofs.Common.{◌≡◌, ℕ, zero, suc, false, List, [], ◌++◌, Option, None, Some, refl, sym, subst, ◌∙◌, append_assoc}
 use Rattle.std.proofs.lemmas.List.{append-nil}
-use Rattle.jos_kernel.specs.Steps.{EnvStep}
 use Rattle.jos_kernel.specs.declared.report.End.{End}
 use Rattle.jos_kernel.specs.ExoRun.{Progress, Ran, current, in_turn, end_of, progressed, one_step, after_test, run_from}
 use Rattle.jos_kernel.specs.Steps.{env_step}

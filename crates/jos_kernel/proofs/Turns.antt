@@ -1,5 +1,5 @@
 -- Steps of a turn at once: what a burst does is what the run does in as many steps.
-use Rattle.std.proofs.Common.{◌≡◌, ℕ, ◌+◌, ◌<◌, ◌≤◌, ◌==◌, ◌&&◌, ◌||◌, Bool, Option, None, Some, zero, suc, true, false}
+use Rattle.std.proofs.Common.{◌≡◌, ℕ, ◌+◌, ◌<◌, ◌==◌, ◌&&◌, ◌||◌, Bool, Option, None, Some, zero, suc, true, false}
 use Rattle.std.proofs.Common.{List, [], ◌∷◌, ◌++◌, length, refl, sym, ap, ◌∙◌, arith, if◌then◌else◌}
 use Rattle.std.specs.Prelude.{nat_lt, not}
 use Rattle.std.proofs.lemmas.Bool.Decides.{nat_tests}
@@ -8,23 +8,21 @@ use Rattle.jos_base.specs.declared.numbers.TheConstants.{NENV}
 use Rattle.jos_base.specs.declared.registers.Regs.{Regs}
 use Rattle.jos_base.specs.declared.environment.Status.{Status}
 use Rattle.jos_base.specs.declared.environment.Status.TheVariants as status
-use Rattle.jos_base.specs.Words.{upd}
 use Rattle.jos_base.specs.Environments.{Environments, Slot, is_live, is_free, is_running}
 use Rattle.jos_base.specs.KernelState.{KernelState, slot_at, with_registers, turn_ended}
 use Rattle.jos_space.proofs.Counts.{upd-at}
 use Rattle.jos_envs.specs.Table.{any_live, any_live_below}
 use Rattle.jos_sched.specs.Quantum.{quantum}
-use Rattle.jos_cpu.specs.declared.events.Event.{Event}
 use Rattle.jos_cpu.specs.declared.events.Event.TheVariants.{Next}
 use Rattle.jos_cpu.specs.declared.events.Gates.TheVariants.{Exo}
 use Rattle.jos_cpu.specs.Bursts.{Machine, StepsTo, GoesOn}
 use Rattle.jos_kernel.specs.declared.report.Refusal.{Refusal}
 use Rattle.jos_kernel.specs.Running.{Running, user_memory}
-use Rattle.jos_kernel.specs.Steps.{EnvStep, after_event, env_step}
-use Rattle.jos_kernel.specs.ExoRun.{Progress, Ran, current, counted, turn_of, in_turn, turn_goes_on, end_of}
+use Rattle.jos_kernel.specs.Steps.{EnvStep, env_step}
+use Rattle.jos_kernel.specs.ExoRun.{Progress, current, counted, turn_of, in_turn, turn_goes_on, end_of}
 use Rattle.jos_kernel.specs.ExoRun.{first_refusal, traps_after}
 use Rattle.jos_kernel.specs.ExoRun.{progressed_in, progressed, one_step, after_test, run_from}
-use Rattle.jos_kernel.proofs.KeepsRest.{KeepsRest, steps_keeps, directory_is, slot_is, state_is, environments_is}
+use Rattle.jos_kernel.proofs.KeepsRest.{KeepsRest, steps_keeps, directory_is, slot_is, state_is}
 use Rattle.jos_kernel.proofs.EnvSteps.{env_step_is}
 
 -- ---- live environments

@@ -1,11 +1,10 @@
 -- What a step of an environment leaves as it was: which slot had the last turn, and how many were begun.
-use Rattle.std.proofs.Common.{◌≡◌, ℕ, ◌==◌, Bool, true, false, List, [], ◌∷◌, Option, None, Some, Result, Ok, Err, refl, ap, ◌∙◌}
+use Rattle.std.proofs.Common.{ℕ, ◌==◌, Bool, true, false, List, [], ◌∷◌, Option, None, Some, Result, Ok, Err, refl}
 use Rattle.std.proofs.Common.{if◌then◌else◌}
 use Rattle.std.specs.Prelude.{nat_lt}
 use Rattle.jos_base.specs.declared.memory.PageFault.{PageFault}
 use Rattle.jos_base.specs.declared.registers.Regs.{Regs}
 use Rattle.jos_base.specs.declared.environment.Status.{Status}
-use Rattle.jos_base.specs.declared.environment.Status.TheVariants.{Runnable}
 use Rattle.jos_base.specs.declared.errno.Errno.{Errno}
 use Rattle.jos_base.specs.declared.errno.Errno.TheVariants.{Invalid}
 use Rattle.jos_base.specs.declared.line.Line.{Line}
@@ -16,13 +15,13 @@ use Rattle.jos_base.specs.declared.numbers.TheConstants.{SYS_YIELD}
 use Rattle.jos_base.specs.Reach.{read_byte, bytes_read}
 use Rattle.jos_base.specs.Environments.{allotted, found}
 use Rattle.jos_base.specs.SpacesState.{created}
-use Rattle.jos_base.specs.KernelState.{KernelState, slot_at, with_status}
-use Rattle.jos_base.specs.SystemCalls.{Did, answered, refused, killed, deliver_fault, cputs_of, cputs, cgetc_from, env_destroy_of}
-use Rattle.jos_base.specs.SystemCalls.{without_environment, environment_made, exofork_of, exofork, status_named, env_set_status_of}
+use Rattle.jos_base.specs.KernelState.{KernelState, slot_at}
+use Rattle.jos_base.specs.SystemCalls.{Did, answered, refused, killed, cputs_of, cputs, cgetc_from, env_destroy_of}
+use Rattle.jos_base.specs.SystemCalls.{environment_made, exofork_of, exofork, status_named, env_set_status_of}
 use Rattle.jos_base.specs.SystemCalls.{call_of}
 use Rattle.jos_cpu.specs.declared.events.Event.{Event}
 use Rattle.jos_cpu.specs.declared.events.Event.TheVariants.{Next, Soft, Raised}
-use Rattle.jos_kernel.specs.Steps.{EnvStep, ended_by, after_call, after_trap, after_event}
+use Rattle.jos_kernel.specs.Steps.{EnvStep, ended_by, after_event}
 use Rattle.jos_kernel.proofs.FirstStates.{SameTurns, Made, made_same}
 
 abbrev Same : KernelState → Did → Type 0

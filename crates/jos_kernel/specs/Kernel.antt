@@ -14,7 +14,7 @@ use Rattle.jos_kernel.specs.declared.report.End.{End}
 use Rattle.jos_kernel.specs.declared.report.Refusal.{Refusal}
 use Rattle.jos_kernel.specs.Machine.{kernel_state}
 use Rattle.jos_kernel.specs.Steps.{Trap}
-use Rattle.jos_kernel.specs.ExoRun.{Progress, Ran, current, counted, turn_of, turn_goes_on, one_step, run_from}
+use Rattle.jos_kernel.specs.ExoRun.{Progress, current, counted, turn_of, turn_goes_on, one_step, run_from}
 
 -- what was told of a run so far: the bytes that it wrote, and the traps that it raised
 pub record Told : Type 0 where

@@ -6,9 +6,11 @@ use Rattle.jos_host.specs.Frames.{Around}
 use Rattle.jos_host.specs.Gains.{Gains, GainsPart}
 use Rattle.jos_base.specs.KernelState.{KernelState}
 use Rattle.jos_space.specs.declared.spaces.Space.{Space}
+use Rattle.jos_space.specs.declared.spaces.PageAtHand.{PageAtHand}
+use Rattle.jos_space.specs.AtHand.{IsPageAtHand}
 use Rattle.jos_sys.specs.declared.input.Input.{Input}
 use Rattle.jos_sys.specs.declared.system.System.{System}
-use Rattle.jos_sys.specs.System.{state_of, left_of, Keeps, in_use}
+use Rattle.jos_sys.specs.System.{state_of, spaces_of, left_of, Keeps, in_use}
 use Rattle.jos_kernel.specs.Running.{Running}
 use Rattle.jos_kernel.specs.Steps.{EnvStep}
 
@@ -17,15 +19,22 @@ pub record Parts : Type 0 where
   pub system : System
   pub input : Input
   pub space : Option Space
+  pub code : Option PageAtHand
 
 -- the directory that is loaded is in use
 abbrev pub InUse : System → Option Space → Type 0
 InUse system None = Unit {0}
 InUse system (Some space) = in_use system space.directory.0 ≡ true
 
+-- the page that is known to be at hand is one of the space that is loaded, and is at hand
+abbrev pub KnowsCode : System → Option Space → Option PageAtHand → Type 0
+KnowsCode system space None = Unit {0}
+KnowsCode system space (Some page) = (space ≡ Some page.space) × IsPageAtHand (spaces_of system) page
+
 pub record Lawful (m : Parts) : Type 0 where
   pub system : Keeps m.system
   pub space : InUse m.system m.space
+  pub code : KnowsCode m.system m.space m.code
 
 abbrev pub kernel_state : Parts → KernelState
 kernel_state m = state_of m.system (left_of m.input)

@@ -6,7 +6,6 @@ use Rattle.jos_base.specs.declared.memory.PageFault.{PageFault}
 use Rattle.jos_base.specs.Reach.{reach_entry}
 use Rattle.jos_base.specs.KernelState.{KernelState, with_spaces}
 use Rattle.jos_base.specs.UserMemory.{is_allowed, fault_at, fault_or, touched, byte_at, stored_byte}
-use Rattle.jos_cpu.specs.declared.memory.MemFault.{MemFault}
 use Rattle.jos_cpu.specs.declared.memory.MemFault.TheVariants.{Page}
 use Rattle.jos_cpu.specs.Memory.{Memory}
 

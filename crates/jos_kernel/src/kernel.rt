@@ -249,7 +249,7 @@ impl Kernel {
         let limit = (self.steps_of_turn() as u64).min(left) as u32;
         self.enter_turn(slot);
         let mut registers = self.machine.registers(slot);
-        self.machine.load(slot);
+        self.machine.load(slot, registers.eip);
         let burst = make_burst(
             &mut self.decodings,
             &mut registers,

@@ -7,7 +7,7 @@ ghost use Rattle.jos_host.specs.Frames.{Unchanged, around};
 ghost use Rattle.jos_base.specs.declared.numbers.TheConstants.{NENV, CPUTS_MAX};
 ghost use Rattle.jos_base.specs.Environments.{is_live, is_running};
 ghost use Rattle.jos_base.specs.KernelState.{KernelState, slot_at, with_registers, turn_begun, turn_ended};
-ghost use Rattle.jos_cpu.specs.Memory.{probed, refusal_of};
+ghost use Rattle.jos_cpu.specs.Memory.{StandAt, probed, refusal_of};
 ghost use Rattle.jos_envs.specs.Table.{any_live};
 ghost use Rattle.jos_sys.specs.System.{state_of, left_of, Keeps};
 ghost use Rattle.jos_kernel.specs.Machine.{kernel_state, loaded, running_of, Follows};
@@ -20,7 +20,7 @@ use jos_base::{Access, FEC_U, FEC_WR, Line, PageFault, Regs, Status, T_BRKPT, T_
 use jos_cpu::{Event, Mem, MemFault};
 use jos_host::{Failed, Host};
 use jos_sched::next;
-use jos_space::Space;
+use jos_space::{PageAtHand, Space};
 use jos_sys::{Input, System};
 use std::marker::Model;
 
@@ -30,6 +30,8 @@ pub(crate) struct Machine {
     system: System,
     input: Input,
     space: Option<Space>,
+    /// The page at which the environment stood when its space was loaded, as long as it is known to be at hand.
+    code: Option<PageAtHand>,
 }
 
 impl Model for Machine {
@@ -37,9 +39,9 @@ impl Model for Machine {
 
     ghost Value = { Parts };
 
-    ghost view = { λ m. record { system = m.system; input = m.input; space = m.space } };
+    ghost view = { λ m. record { system = m.system; input = m.input; space = m.space; code = m.code } };
 
-    ghost invariant = { λ m. Lawful (record { system = m.system; input = m.input; space = m.space }) };
+    ghost invariant = { λ m. Lawful (record { system = m.system; input = m.input; space = m.space; code = m.code }) };
 }
 
 impl Mem for Machine {
@@ -56,6 +58,7 @@ impl Mem for Machine {
             Some(space) => space,
             None => return probe_nothing(va, len, access),
         };
+        self.code = None;
         let mut at = va;
         for _ in 0..len {
             match self.system.reach(space, at, access) {
@@ -77,9 +80,19 @@ impl Mem for Machine {
 
     #[inline(always)]
     fn window(&self, va: u32) -> &[u8] {
-        match self.space {
-            Some(space) => self.system.user_bytes(space, va),
-            None => &[],
+        match self.code {
+            Some(page) => self.system.bytes_by(page, va),
+            None => self.walked(va),
+        }
+    }
+
+    #[inline(always)]
+    fn get_at_hand(&self, width: Width, va: u32) -> Option<u32> {
+        match (width, self.walked(va)) {
+            (Width::Bits8, [a, ..]) => Some(*a as u32),
+            (Width::Bits16, [a, b, ..]) => Some(u16::from_le_bytes([*a, *b]) as u32),
+            (Width::Bits32, [a, b, c, d, ..]) => Some(u32::from_le_bytes([*a, *b, *c, *d])),
+            _ => None,
         }
     }
 
@@ -98,6 +111,7 @@ impl Mem for Machine {
     #[tactic(auto, unfolding(crate::specs::Running::user_memory))]
     fn set(&mut self, va: u32, byte: u8) {
         if let Some(space) = self.space {
+            self.code = None;
             self.system.store_byte(space, va, byte);
         }
     }
@@ -126,6 +140,17 @@ fn probe_nothing(va: u32, len: u32, access: Access) -> Result<(), MemFault>
 }
 
 impl Machine {
+    /// The bytes from an address on that stand, as a walk finds them: for data, which seldom lie where the code does.
+    #[inline(always)]
+    fn walked(&self, va: u32) -> &[u8]
+        ensures { StandAt user_memory (running_of self.now) va result.now }
+    {
+        match self.space {
+            Some(space) => self.system.user_bytes(space, va),
+            None => &[],
+        }
+    }
+
     /// A machine that has loaded no space yet.
     pub(crate) fn new(system: System, input: Input) -> Machine
         requires { Keeps system }
@@ -136,17 +161,20 @@ impl Machine {
             system,
             input,
             space: None,
+            code: None,
         }
     }
 
-    /// Loads the space of an environment.
+    /// Loads the space of an environment that stands at an address.
     #[inline(always)]
-    pub(crate) fn load(&mut self, slot: usize)
+    pub(crate) fn load(&mut self, slot: usize, eip: u32)
         requires { is_live (slot_at (kernel_state self.old) slot) ≡ true }
         ensures state { kernel_state self.new ≡ kernel_state self.old }
         ensures loaded { loaded self.new ≡ Some (slot_at (kernel_state self.old) slot).directory }
     {
-        self.space = Some(self.system.space(slot));
+        let space = self.system.space(slot);
+        self.code = self.system.page_at_hand(space, eip);
+        self.space = Some(space);
     }
 
     /// The registers of an environment.
@@ -263,6 +291,7 @@ impl Machine {
         ensures cause { HasCause (H.faults host.old) (H.faults host.new) result }
     {
         self.space = None;
+        self.code = None;
         self.system.set_registers(slot, registers);
         match event {
             Event::Next => Ok(0),

@@ -8,8 +8,8 @@ use Rattle.jos_base.specs.Words.{upd}
 use Rattle.jos_base.specs.Reach.{Entry}
 use Rattle.jos_base.specs.SpacesState.{Use, reserved, free, fresh, page, directory, table, Region, SpacesState, is_directory}
 use Rattle.jos_base.specs.SpacesState.{directories, freed, released, created, created_from, fresh_of, fresh_from, frame_of}
-use Rattle.jos_base.specs.SpacesState.{with_entry, mapped, with_table, tabled_new, tabled_by, tabled, inserted, allocated_in}
-use Rattle.jos_base.specs.SpacesState.{allocated, unmapped, pages_removed, without_region, tables_freed, destroyed}
+use Rattle.jos_base.specs.SpacesState.{with_entry, mapped, tabled_new, tabled_by, tabled, inserted}
+use Rattle.jos_base.specs.SpacesState.{unmapped, pages_removed, without_region, tables_freed, destroyed}
 use Rattle.jos_base.specs.SpacesState.{region_limit, taken, zero_page}
 use Rattle.jos_base.specs.Counting.{page_count, page_limit}
 use Rattle.jos_space.specs.Calls.{KeepsDirectories}

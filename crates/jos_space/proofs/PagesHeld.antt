@@ -4,7 +4,7 @@ use Rattle.jos_base.specs.SpacesState.{free}
 use Rattle.jos_space.specs.declared.role.Role.{Role}
 use Rattle.jos_space.specs.declared.role.Role.TheVariants.{Reserved, Free, Fresh, Page, Directory, Table}
 use Rattle.jos_space.specs.Calls.{has_bytes}
-use Rattle.jos_space.specs.Frames.{Lists, held_in, bytes_by, use_of, state, state_of}
+use Rattle.jos_space.specs.Frames.{Lists, bytes_by, use_of, state, state_of}
 
 bytes_all : (role : Role) (bytes : List ℕ) → has_bytes (use_of role) ≡ true → bytes_by role bytes ≡ bytes
 bytes_all Fresh bytes e = refl

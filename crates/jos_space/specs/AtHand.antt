@@ -10,6 +10,7 @@ use Rattle.jos_base.specs.Words.{page_number, page_offset}
 use Rattle.jos_base.specs.Reach.{Entry}
 use Rattle.jos_base.specs.SpacesState.{SpacesState, Region}
 use Rattle.jos_base.specs.UserMemory.{is_allowed, touched, stored_byte}
+use Rattle.jos_space.specs.declared.spaces.PageAtHand.{PageAtHand}
 
 -- the bits that an access asks for and those that it sets
 abbrev pub bits_at_hand : Access → ℕ
@@ -35,6 +36,10 @@ rest_of_page s offset (Some frame) = drop offset (s.pages frame)
 -- the bytes at hand for a read, from an address on to the end of its page
 abbrev pub bytes_at_hand : SpacesState → ℕ → ℕ → List ℕ
 bytes_at_hand s space va = rest_of_page s (page_offset va) (frame_with s space (page_number va) (bits_at_hand Read))
+
+-- what was found of a page still holds
+abbrev pub IsPageAtHand : SpacesState → PageAtHand → Type 0
+IsPageAtHand s page = frame_with s page.space.directory.0 page.number (bits_at_hand Read) ≡ Some page.frame.0
 
 -- ---- what it is sound for
 

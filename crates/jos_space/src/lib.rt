@@ -5,7 +5,8 @@
 //! `UserMemory` for what a user reaches. Memory is taken at the beginning alone.
 //!
 //! What a program's every access needs is one walk that changes nothing (`user_bytes`, `put_byte`, `put_word`): it answers
-//! where all bits that the access would set are set, and else leaves the access to `access`.
+//! where all bits that the access would set are set, and else leaves the access to `access`. What it found of a page can be
+//! kept (`page_at_hand`) as long as no call changes the tables, and read by (`bytes_by`).
 #![tactic(auto)]
 
 mod beginning;
@@ -14,7 +15,7 @@ mod lists;
 mod role;
 mod spaces;
 
-pub use spaces::{Empty, Space, Spaces};
+pub use spaces::{Empty, PageAtHand, Space, Spaces};
 
 #[cfg(test)]
 mod tests;

@@ -22,6 +22,15 @@ pub struct Space {
     pub directory: Frame,
 }
 
+/// A page of a space that a user may read with no bit left to set, and the frame of it.
+#[derive(Clone, Copy, Debug, PartialEq, Eq)]
+pub struct PageAtHand {
+    pub space: Space,
+    /// The page's number: its addresses divided by `PGSIZE`.
+    pub number: u32,
+    pub frame: Frame,
+}
+
 /// No frame is free.
 #[derive(Clone, Copy, Debug, PartialEq, Eq)]
 pub struct Empty;

@@ -89,6 +89,7 @@ fn reaches_pages(rt: HostRuntime) {
     );
     assert_eq!(rt; spaces.access(space, UTOP, Access::Write), fault(UTOP, 6));
     assert_eq!(rt; spaces.user_bytes(space, UTEXT + 4092).len(), 0);
+    assert_eq!(rt; spaces.page_at_hand(space, UTEXT + 4092), None);
     let location = spaces.access(space, UTEXT + 4092, Access::Read);
     assert_eq!(rt;
         location,
@@ -101,6 +102,12 @@ fn reaches_pages(rt: HostRuntime) {
         spaces.user_bytes(space, UTEXT + 4092),
         [3, 4, 5, 6].as_slice()
     );
+    let at_hand = spaces
+        .page_at_hand(space, UTEXT)
+        .expect(&rt, "a page at hand");
+    assert_eq!(rt; at_hand.frame, page);
+    assert_eq!(rt; spaces.bytes_by(at_hand, UTEXT + 4094), [5, 6].as_slice());
+    assert_eq!(rt; spaces.bytes_by(at_hand, UTEXT + PGSIZE).len(), 0);
     assert_eq!(rt;
         spaces.look(space, UTEXT),
         Some((page, Perm(PTE_P + PTE_U + PTE_A)))

@@ -1,19 +1,19 @@
 //! An environment's memory: as its user reaches it, and as the kernel fills it.
 
 ghost use Rattle.std.specs.Prelude.{◌≡◌, ℕ, ◌+◌, ◌/◌, ◌%◌, ◌<◌, ◌≤◌, ◌&&◌, nat_le, bit_and, List, true, false, length};
-ghost use Rattle.std.specs.Prelude.{slice_index, Some, None, IfSome, IsNone, IfErr, is_ok, is_some};
+ghost use Rattle.std.specs.Prelude.{slice_index, Some, None, IfSome, IsNone, IfErr, is_ok, is_some, option_map};
 ghost use Rattle.jos_base.specs.declared.memory.Access.TheVariants.{Read, Write};
 ghost use Rattle.jos_base.specs.declared.numbers.TheConstants.{PGSIZE, PTE_P, PTE_U, PTE_SYSCALL, UTOP};
 ghost use Rattle.jos_base.specs.SpacesState.{allocated, overlaid, page, with_page_bytes, zero_page};
 ghost use Rattle.jos_base.specs.KernelState.{with_spaces};
 ghost use Rattle.jos_base.specs.UserMemory.{is_allowed, fault_at, touched, byte_at, stored_byte};
-ghost use Rattle.jos_space.specs.AtHand.{bits_at_hand, frame_with, bytes_at_hand, IsStill, stored_word};
+ghost use Rattle.jos_space.specs.AtHand.{bits_at_hand, frame_with, bytes_at_hand, IsPageAtHand, IsStill, stored_word};
 ghost use Rattle.jos_space.specs.Calls.{has_bytes};
 ghost use Rattle.jos_sys.specs.System.{state_of, spaces_of, environments_of, in_use, Keeps, is_live_in};
 
 use crate::system::System;
 use jos_base::{Access, Frame, PageFault, Perm};
-use jos_space::Space;
+use jos_space::{PageAtHand, Space};
 
 impl System {
     /// Reaches for a byte as a user does, and sets the bits of what it reaches.
@@ -62,6 +62,31 @@ impl System {
         ensures byte { (i : ℕ) → i < length result.now → byte_at (spaces_of self.now) space.directory.0 (va + i) ≡ slice_index result.now i }
     {
         self.spaces.user_bytes(space, va)
+    }
+
+    /// The page of an address, where a user may read it and reading it sets no bit. Else none.
+    #[inline(always)]
+    pub fn page_at_hand(&self, space: Space, va: u32) -> Option<PageAtHand>
+        requires { in_use self.now space.directory.0 ≡ true }
+        ensures space { IfSome result (λ page. page.space ≡ space) }
+        ensures number { IfSome result (λ page. page.number ≡ va / PGSIZE) }
+        ensures frame { option_map (λ page. page.frame.0) result ≡ frame_with (spaces_of self.now) space.directory.0 (va / PGSIZE) (bits_at_hand Read) }
+        ensures at_hand { IfSome result (IsPageAtHand (spaces_of self.now)) }
+    {
+        self.spaces.page_at_hand(space, va)
+    }
+
+    /// What `user_bytes` gives, with no walk where the address lies in this page.
+    #[inline(always)]
+    pub fn bytes_by(&self, page: PageAtHand, va: u32) -> &[u8]
+        requires space { in_use self.now page.space.directory.0 ≡ true }
+        requires page { IsPageAtHand (spaces_of self.now) page }
+        ensures bytes { result.now ≡ bytes_at_hand (spaces_of self.now) page.space.directory.0 va }
+        ensures within { va % PGSIZE + length result.now ≤ PGSIZE }
+        ensures still { (i : ℕ) → i < length result.now → IsStill (spaces_of self.now) page.space.directory.0 (va + i) Read }
+        ensures byte { (i : ℕ) → i < length result.now → byte_at (spaces_of self.now) page.space.directory.0 (va + i) ≡ slice_index result.now i }
+    {
+        self.spaces.bytes_by(page, va)
     }
 
     /// Writes a byte where a user may write and the write sets no bit. Else nothing is changed, and the result is false.

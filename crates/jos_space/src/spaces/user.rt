@@ -1,6 +1,6 @@
 //! What a user reaches, reads and writes.
 
-ghost use Rattle.std.specs.Prelude.{◌≡◌, ◌≤◌, ◌<◌, IfOk, ◌/◌, ◌%◌, ◌+◌, ℕ, Some, true, is_some, length, []};
+ghost use Rattle.std.specs.Prelude.{◌≡◌, ◌≤◌, ◌<◌, IfOk, IfSome, ◌/◌, ◌%◌, ◌+◌, ℕ, Some, true, is_some, length, []};
 ghost use Rattle.std.specs.Prelude.{slice_index, false, nat_le, ◌&&◌};
 ghost use Rattle.std.specs.Option.{option_map};
 ghost use Rattle.jos_base.specs.declared.numbers.TheConstants.{NPTENTRIES, PGSIZE};
@@ -9,15 +9,15 @@ ghost use Rattle.jos_base.specs.SpacesState.{page, directory, directories, put};
 ghost use Rattle.jos_base.specs.declared.memory.Access.TheVariants.{Read, Write};
 ghost use Rattle.jos_base.specs.UserMemory.{with_region_bit, with_entry_bits, with_bits, reach_in, is_allowed};
 ghost use Rattle.jos_base.specs.UserMemory.{touched, byte_at, stored_byte};
-ghost use Rattle.jos_space.specs.AtHand.{bits_at_hand, frame_with, bytes_at_hand, IsStill, stored_word};
+ghost use Rattle.jos_space.specs.AtHand.{bits_at_hand, frame_with, bytes_at_hand, IsPageAtHand, IsStill, stored_word};
 ghost use Rattle.jos_space.specs.Calls.{located, KeepsDirectories};
 ghost use Rattle.jos_space.specs.Frames.{state};
 
 use crate::entry::{absent_page, access_bits, reach_page};
 use crate::lists::{bytes_from, set_byte_at, set_word, set_word_at, word_at};
-use crate::spaces::{Space, Spaces};
+use crate::spaces::{PageAtHand, Space, Spaces};
 use jos_base::{
-    Access, Location, NPTENTRIES, PGSIZE, PTE_A, PTE_D, PTE_P, PTE_U, PTE_W, PageFault, UTOP,
+    Access, Frame, Location, NPTENTRIES, PGSIZE, PTE_A, PTE_D, PTE_P, PTE_U, PTE_W, PageFault, UTOP,
 };
 
 /// The bits of a region that is there and was reached.
@@ -156,6 +156,40 @@ impl Spaces {
         Some(word / PGSIZE)
     }
 
+    /// The page of an address, where a user may read it and reading it sets no bit. Else none.
+    #[inline(always)]
+    pub fn page_at_hand(&self, space: Space, va: u32) -> Option<PageAtHand>
+        requires { (state self.now).uses space.directory.0 ≡ directory }
+        ensures space { IfSome result (λ page. page.space ≡ space) }
+        ensures number { IfSome result (λ page. page.number ≡ va / PGSIZE) }
+        ensures frame { option_map (λ page. page.frame.0) result ≡ frame_with (state self.now) space.directory.0 (va / PGSIZE) (bits_at_hand Read) }
+        ensures at_hand { IfSome result (IsPageAtHand (state self.now)) }
+    {
+        let number = va / PGSIZE;
+        match self.frame_with(space.directory.0, number, READ_AT_HAND) {
+            None => None,
+            Some(frame) => Some(PageAtHand {
+                space,
+                number,
+                frame: Frame(frame),
+            }),
+        }
+    }
+
+    /// The bytes from an address on to the end of its page, which is at hand.
+    #[inline(always)]
+    fn page_bytes(&self, page: PageAtHand, va: u32) -> &[u8]
+        requires space { (state self.now).uses page.space.directory.0 ≡ directory }
+        requires page { IsPageAtHand (state self.now) page }
+        requires number { page.number ≡ va / PGSIZE }
+        ensures bytes { result.now ≡ bytes_at_hand (state self.now) page.space.directory.0 va }
+        ensures within { va % PGSIZE + length result.now ≤ PGSIZE }
+        ensures still { (i : ℕ) → i < length result.now → IsStill (state self.now) page.space.directory.0 (va + i) Read }
+        ensures byte { (i : ℕ) → i < length result.now → byte_at (state self.now) page.space.directory.0 (va + i) ≡ slice_index result.now i }
+    {
+        bytes_from(&self.bytes, page.frame.0, va % PGSIZE)
+    }
+
     /// The bytes from an address on to the end of its page, where a user may read them and reading them sets no bit.
     /// Else none.
     #[inline(always)]
@@ -166,9 +200,26 @@ impl Spaces {
         ensures still { (i : ℕ) → i < length result.now → IsStill (state self.now) space.directory.0 (va + i) Read }
         ensures byte { (i : ℕ) → i < length result.now → byte_at (state self.now) space.directory.0 (va + i) ≡ slice_index result.now i }
     {
-        match self.frame_with(space.directory.0, va / PGSIZE, READ_AT_HAND) {
+        match self.page_at_hand(space, va) {
             None => &[],
-            Some(frame) => bytes_from(&self.bytes, frame, va % PGSIZE),
+            Some(page) => self.page_bytes(page, va),
+        }
+    }
+
+    /// What `user_bytes` gives, with no walk where the address lies in this page.
+    #[inline(always)]
+    pub fn bytes_by(&self, page: PageAtHand, va: u32) -> &[u8]
+        requires space { (state self.now).uses page.space.directory.0 ≡ directory }
+        requires page { IsPageAtHand (state self.now) page }
+        ensures bytes { result.now ≡ bytes_at_hand (state self.now) page.space.directory.0 va }
+        ensures within { va % PGSIZE + length result.now ≤ PGSIZE }
+        ensures still { (i : ℕ) → i < length result.now → IsStill (state self.now) page.space.directory.0 (va + i) Read }
+        ensures byte { (i : ℕ) → i < length result.now → byte_at (state self.now) page.space.directory.0 (va + i) ≡ slice_index result.now i }
+    {
+        if page.number == va / PGSIZE {
+            self.page_bytes(page, va)
+        } else {
+            self.user_bytes(page.space, va)
         }
     }
 

@@ -1,9 +1,9 @@
-use Rattle.std.proofs.Common.{◌≡◌, Some, Bool, refl, sym, ap, subst, ◌∙◌, arith}
-use Rattle.std.specs.Prelude.{not, nat_eq, unwrap_or}
-use Rattle.jos_base.specs.Environments.{is_live, is_running}
+use Rattle.std.proofs.Common.{Some, Bool, sym, ap, subst, ◌∙◌, arith}
+use Rattle.std.specs.Prelude.{not, nat_eq}
+use Rattle.jos_base.specs.Environments.{is_running}
 use Rattle.jos_base.specs.KernelState.{slot_at}
-use Rattle.jos_kernel.specs.Machine.{kernel_state, running_of}
-use Rattle.jos_kernel.specs.ExoRun.{current, in_turn}
+use Rattle.jos_kernel.specs.Machine.{running_of}
+use Rattle.jos_kernel.specs.ExoRun.{current}
 use Rattle.jos_kernel.specs.Kernel.{state_of, Counted}
 use Rattle.jos_kernel.proofs.Advancing.{in_turn-refusals, last_within, live_after, last_same, last_there, on_counted, on_failed}
 use Rattle.jos_kernel.proofs.kernel.Kernel.advance.Goals as goal

@@ -1,8 +1,7 @@
-use Rattle.std.proofs.Common.{◌≡◌, ℕ, ◌<◌, Option, Some, None, refl, sym, ap, ◌∙◌, arith}
+use Rattle.std.proofs.Common.{◌≡◌, ℕ, ◌<◌, Option, Some, None, sym, ap, ◌∙◌, arith}
 use Rattle.std.specs.Option.{ForSome}
 use Rattle.jos_base.specs.declared.numbers.TheConstants.{NENV}
-use Rattle.jos_base.specs.KernelState.{KernelState}
-use Rattle.jos_sys.specs.System.{state_of, left_of}
+use Rattle.jos_sys.specs.System.{state_of}
 use Rattle.jos_kernel.specs.Machine.{kernel_state}
 use Rattle.jos_kernel.specs.Boot.{loadables, all_booted, booted}
 use Rattle.jos_kernel.proofs.FirstStates.{booted_first}

@@ -1,4 +1,4 @@
-use Rattle.std.proofs.Common.{◌≡◌, ℕ, ◌+◌, ◌-◌, suc, refl, sym, subst, ◌∙◌, arith}
+use Rattle.std.proofs.Common.{◌≡◌, ℕ, ◌+◌, ◌-◌, refl, subst, ◌∙◌, arith}
 use Rattle.jos_host.specs.Frames.{from_to}
 use Rattle.jos_kernel.specs.Kernel.{Went, FailsIn}
 use Rattle.jos_kernel.proofs.Frames.{still}

@@ -16,6 +16,7 @@ invariant_of-self-in-Err c = record {
   system = c.reach.ensures.spaces c.loop.invariant.system;
   space = rw c.loop.invariant.space
       (ap (λ (used : ℕ → Bool). used c.in-Some.space.directory.0) c.reach.ensures.in_use ∙ c.loop.invariant.in_use);
+  code = rw c.loop.invariant.code tt;
 }
 
 pub returns-in-Err-clause-after : goal.returns-in-Err-clause-after
@@ -43,6 +44,7 @@ loop-preserved c = record {
   system = c.reach.ensures.spaces c.loop.invariant.system;
   in_use = ap (λ (used : ℕ → Bool). used c.in-Some.space.directory.0) c.reach.ensures.in_use ∙ c.loop.invariant.in_use;
   space = c.loop.invariant.space;
+  code = c.loop.invariant.code;
 }
 
 pub returns-clause-after : goal.returns-clause-after

@@ -5,15 +5,17 @@ use Rattle.jos_isa.proofs.Booleans.{both_true}
 use Rattle.jos_sys.specs.declared.system.System.{System}
 use Rattle.jos_sys.specs.System.{state_of, left_of}
 use Rattle.jos_kernel.specs.Running.{loaded_in}
-use Rattle.jos_kernel.proofs.Machines.{still_lawful}
+use Rattle.jos_kernel.proofs.Machines.{byte_lawful, word_lawful}
 use Rattle.jos_kernel.proofs.UserBytes.{byte_put, word_put, put_rights, put_word_rights, either_rights}
 use Rattle.jos_kernel.proofs.machine.MachineMem.put_at_hand.Goals as goal
 
 pub invariant_of-self : goal.invariant_of-self
-invariant_of-self c = still_lawful c.put_byte.ensures.spaces c.put_byte.ensures.in_use c.self.invariant
+invariant_of-self c =
+    byte_lawful _ _ _ _ _ c.put_byte.ensures.spaces c.self.invariant _ _ _ c.put_byte.result c.put_byte.ensures.in_use c.put_byte.ensures.put c.put_byte.ensures.left
 
 pub invariant_of-self-in-Bits32 : goal.invariant_of-self-in-Bits32
-invariant_of-self-in-Bits32 c = still_lawful c.put_word.ensures.spaces c.put_word.ensures.in_use c.self.invariant
+invariant_of-self-in-Bits32 c =
+    word_lawful _ _ _ _ _ c.put_word.ensures.spaces c.self.invariant _ _ _ c.put_word.result c.put_word.ensures.in_use c.put_word.ensures.put c.put_word.ensures.left
 
 pub returns-in-Bits8-clause-put : goal.returns-in-Bits8-clause-put
 returns-in-Bits8-clause-put c h =
