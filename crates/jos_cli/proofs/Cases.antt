@@ -5,7 +5,7 @@ use Rattle.jos_host.specs.Files.{Files}
 use Rattle.jos_host.specs.Told.{Rose}
 use Rattle.jos_host.specs.Frames.{Around}
 use Rattle.jos_base.specs.KernelState.{KernelState}
-use Rattle.jos_words.specs.Commands.{Command, Exo, Demo, exo, demo}
+use Rattle.jos_words.specs.Commands.{Command, Exo, exo}
 use Rattle.jos_kernel.specs.Boot.{Loadable, booted}
 use Rattle.jos_kernel.specs.ExoRun.{Ran, exo_run, run_of}
 use Rattle.jos_cli.specs.declared.outcome.Outcome.{Outcome}
@@ -13,10 +13,8 @@ use Rattle.jos_cli.specs.declared.outcome.Outcome.TheVariants as outcome
 use Rattle.jos_cli.specs.Limits.{frames_of, steps_of}
 use Rattle.jos_cli.specs.Found.{Found, found_in}
 use Rattle.jos_cli.specs.Answer.{Judged, within, schedule_of, images_of, input_of, Expected, expected_if, expected_of_run, expected_of_exo}
-use Rattle.jos_cli.specs.Answer.{expected_of_demo}
-use Rattle.jos_cli.specs.Outcomes.{Answers, AnswersCommand, HasOutcomeCause, CanRun, IsRunCase, IsMadeCase, IsMemoryCase}
+use Rattle.jos_cli.specs.Outcomes.{Answers, AnswersCommand, HasOutcomeCause, CanRun, IsRunCase}
 use Rattle.jos_cli.proofs.InputRead.{within_limit}
-use Rattle.jos_cli.proofs.Memory.{on_memory}
 
 is_ok : {X E : Type 0} (r : Result X E) → IsOk r → (x : X) × (r ≡ Ok x)
 is_ok (Ok x) h = (x, refl)
@@ -68,33 +66,3 @@ is_run told told_input command faults own console h cause files input e f i c ca
     let run = runs e (found_in files e) input can in
     run_case run.0 faults own console
     (subst (λ (x : Expected). Answers x own console) ((λ k. expected_of_exo e (answers.2 k) (answers.3 k)) ∙ run.1) answers.4) cause calm
-
--- ---- a program that is written
-
-made_case : (program : List ℕ) (faults : Around ℕ) (own : Outcome) (console : Around (Option (List ℕ))) → Answers (expected_of_demo program) own console →
-    HasOutcomeCause faults own → (Rose faults.before faults.after → ⊥) → IsMadeCase own
-made_case program faults (outcome.Made bytes) console h cause calm = tt
-made_case program faults outcome.NoMemory console h cause calm = tt
-made_case program faults (outcome.HostFault stopped) console h cause calm = absurd (calm cause.0)
-made_case program faults outcome.Usage console h cause calm = absurd (let e = h.0 in cc)
-made_case program faults (outcome.Absent word) console h cause calm = absurd (let e = h.0 in cc)
-made_case program faults (outcome.Limit which) console h cause calm = absurd (let e = h.0 in cc)
-made_case program faults (outcome.BadSchedule fault) console h cause calm = absurd (let e = h.0 in cc)
-made_case program faults (outcome.BadImage word fault) console h cause calm = absurd (let e = h.0 in cc)
-made_case program faults (outcome.Ran report) console h cause calm = absurd (let e = h.0 in cc)
-
-pub is_made : (told : Option Files) (told_input : Option (List ℕ)) (command : Option Command) (faults : Around ℕ) (own : Outcome) (console : Around (Option (List ℕ))) →
-    AnswersCommand told told_input command own console → HasOutcomeCause faults own → (d : Demo) → command ≡ Some (demo d) →
-    (Rose faults.before faults.after → ⊥) → IsMadeCase own
-is_made told told_input command faults own console h cause d c calm =
-    made_case d.name.text faults own console (subst (λ (o : Option Command). AnswersCommand told told_input o own console) c h) cause calm
-
--- ---- no memory for the words
-
-pub memory_runs : (faults : Around ℕ) (own : Outcome) → IsMemoryCase own → HasOutcomeCause faults own → (Rose faults.before faults.after → ⊥) → IsRunCase own
-memory_runs faults own h cause calm =
-    on_memory (λ o. HasOutcomeCause faults o → IsRunCase o) (λ _. tt) (λ stopped c. absurd (calm c.0)) own h cause
-
-pub memory_makes : (faults : Around ℕ) (own : Outcome) → IsMemoryCase own → HasOutcomeCause faults own → (Rose faults.before faults.after → ⊥) → IsMadeCase own
-memory_makes faults own h cause calm =
-    on_memory (λ o. HasOutcomeCause faults o → IsMadeCase o) (λ _. tt) (λ stopped c. absurd (calm c.0)) own h cause

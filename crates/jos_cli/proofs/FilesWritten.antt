@@ -14,8 +14,6 @@ use Rattle.jos_host.specs.Frames.{from_to}
 use Rattle.jos_words.specs.Commands.{Command, exo, demo}
 use Rattle.jos_cli.specs.Commands.{program_file}
 use Rattle.jos_cli.specs.FilesLeft.{KeepsOthers, told_with, LeavesProgram, Leaves}
-use Rattle.jos_cli.specs.Outcomes.{IsMemoryCase}
-use Rattle.jos_cli.proofs.Memory.{on_memory}
 
 itself : (name : List ℕ) → bytes_eq name name ≡ true
 itself name = (bytes_eq-Decides name name).1 refl
@@ -71,14 +69,3 @@ leaves_fault old new later None result stopped h same = same ∙ h
 leaves_fault old new later (Some (exo e)) result stopped h same = same ∙ h
 leaves_fault old new later (Some (demo d)) result stopped h same =
     subst (λ (f : Option Files). KeepsOthers d.file.text (from_to old f)) (sym same) (program_fault old new d.name.text d.file.text result h)
-
--- no file was written
-leaves_same : (old new : Option Files) (command : Option Command) → new ≡ old → Leaves command outcome.NoMemory (from_to old new)
-leaves_same old new None same = same
-leaves_same old new (Some (exo e)) same = same
-leaves_same old new (Some (demo d)) same = same
-
-pub leaves_all : (old new : Option Files) (command : Option Command) (own : Outcome) → IsMemoryCase own → new ≡ old → Leaves command own (from_to old new)
-leaves_all old new command own h same =
-    on_memory (λ o. Leaves command o (from_to old new)) (leaves_same old new command same)
-    (λ stopped. leaves_fault old new new command outcome.NoMemory stopped (leaves_same old new command same) refl) own h

@@ -10,7 +10,7 @@ use Rattle.jos_host.specs.Told.{ReadsInput}
 use Rattle.jos_base.specs.declared.numbers.TheConstants.{INPUT_MAX}
 use Rattle.jos_cli.specs.declared.outcome.Which.TheVariants.{Input}
 use Rattle.jos_cli.specs.Found.{IsInput}
-use Rattle.jos_cli.specs.InputTaken.{HasTaken, HasLost}
+use Rattle.jos_cli.specs.InputTaken.{HasTaken}
 use Rattle.jos_cli.specs.Answer.{limit, input_of}
 use Rattle.jos_cli.proofs.Reading.{zeros, length-zeros, within, past}
 
@@ -40,14 +40,6 @@ module _ (E : Type 0) (mid new : Option (List ℕ)) (buffer rest part : List ℕ
         took.1 ∙ ap (λ l. Some l) (took.2.left ∙ drop-drop count n all),
         taken-put_mid n k count buffer part inside fits ∙ (λ i. h.2 i ++ piece i) ∙ sym (take-add n count all),
       )
-
--- a call that fails takes nothing
-pub taken_failed : {E : Type 0} (old mid new : Option (List ℕ)) (buffer rest part : List ℕ) (n : ℕ) (e : E) → HasTaken old mid buffer n →
-    ReadsInput mid new rest part (Err e) → HasLost old new
-taken_failed {E = E} None mid new buffer rest part n e h reads =
-    (n, subst (λ (m : Option (List ℕ)). ReadsInput {E = E} m new rest part (Err e)) h reads)
-taken_failed {E = E} (Some all) mid new buffer rest part n e h reads =
-    (n, subst (λ (m : Option (List ℕ)). ReadsInput {E = E} m new rest part (Err e)) h.1 reads)
 
 -- ---- the limit
 

@@ -8,7 +8,7 @@ use Rattle.jos_cli.specs.Found.{Found}
 use Rattle.jos_cli.specs.Answer.{limit, within, Judged, Expected, expected_if, expected_of_exo}
 use Rattle.jos_cli.specs.Outcomes.{Kind, answered, cut_off, no_memory, AnswersBy}
 use Rattle.jos_cli.specs.Stages.{RefusesBy, expected_of_files}
-use Rattle.jos_cli.proofs.ToldBytes.{gains_none}
+use Rattle.jos_kernel.proofs.ToldBytes.{gains_none}
 
 -- it is refused, and nothing was written
 pub refuses : {X : Type 0} (judged : Judged X) (next : X → Expected) (kind : Kind) (console : Around (Option (List ℕ))) →

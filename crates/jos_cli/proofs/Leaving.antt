@@ -12,10 +12,9 @@ use Rattle.jos_cli.specs.declared.outcome.Which.{Which}
 use Rattle.jos_cli.specs.Limits.{place_out, first_out, or_images, limit_of_words}
 use Rattle.jos_kernel.specs.declared.report.Stopped.{Stopped}
 use Rattle.jos_cli.specs.Answer.{Answer, usage, absent, limit, bad_schedule, bad_image, ran, made}
-use Rattle.jos_cli.specs.Outcomes.{Kind, answered, cut_off, no_memory, kind_of, left_by, LeavesInputBy, LeavesInput, IsMemoryCase}
+use Rattle.jos_cli.specs.Outcomes.{Kind, answered, cut_off, no_memory, kind_of, left_by, LeavesInputBy, LeavesInput}
 use Rattle.jos_cli.specs.InputTaken.{HasLost}
 use Rattle.jos_cli.specs.Stages.{IsUnread, IsBooted}
-use Rattle.jos_cli.proofs.Memory.{on_memory}
 
 -- all was taken
 pub some_left : (old new : Option (List ℕ)) → new ≡ option_map (λ bytes. []) old → HasLost old new
@@ -124,14 +123,3 @@ pub left_fault : (command : Option Command) (own : Outcome) (stopped : Stopped) 
 left_fault None own stopped old new later h same = same ∙ h
 left_fault (Some (demo d)) own stopped old new later h same = same ∙ h
 left_fault (Some (exo e)) own stopped old new later h same = let part = left_part (kind_of own) old new h in (part.0, same ∙ part.1)
-
--- no input was taken
-left_same : (command : Option Command) (old new : Option (List ℕ)) → new ≡ old → LeavesInput command outcome.NoMemory (from_to old new)
-left_same None old new same = same
-left_same (Some (demo d)) old new same = same
-left_same (Some (exo e)) old new same = none_left old new same
-
-pub left_all : (command : Option Command) (own : Outcome) (old new : Option (List ℕ)) → IsMemoryCase own → new ≡ old → LeavesInput command own (from_to old new)
-left_all command own old new h same =
-    on_memory (λ o. LeavesInput command o (from_to old new)) (left_same command old new same)
-    (λ stopped. left_fault command outcome.NoMemory stopped old new new (left_same command old new same) refl) own h

@@ -1,6 +1,4 @@
 pub mod Frames
-pub mod Memory
-pub mod ToldBytes
 pub mod FilesWritten
 pub mod Asking
 pub mod Finding

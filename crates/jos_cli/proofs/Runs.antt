@@ -12,7 +12,7 @@ use Rattle.jos_kernel.specs.ExoRun.{Progress, Ran, run_from, run_of, before_step
 use Rattle.jos_kernel.specs.Kernel.{progress_of, nothing, Counts, IsRun}
 use Rattle.jos_cli.specs.Answer.{ran, expected_of_run}
 use Rattle.jos_cli.specs.Outcomes.{answered, cut_off, AnswersBy}
-use Rattle.jos_cli.proofs.ToldBytes.{part_of_first}
+use Rattle.jos_kernel.proofs.ToldBytes.{part_of_first}
 
 module _ (old new : Kernel) (steps : ℕ) (counts : Counts old nothing) (fresh : old.steps ≡ 0) where
   abbrev whole : Ran

@@ -1,5 +1,5 @@
 -- What the console has where the note of an outcome could not be written.
-use Rattle.std.proofs.Common.{◌≡◌, ℕ, ◌<◌, ◌^◌, List, length, Option, Some, None, refl, sym, subst, ◌∙◌, arith}
+use Rattle.std.proofs.Common.{◌≡◌, ℕ, List, length, Option, Some, None, sym, subst, ◌∙◌, arith}
 use mathlib.Core.Logic.{inl, inr}
 use Rattle.std.proofs.Math.Seq.{take-length}
 use Rattle.jos_host.specs.Files.{Files}
@@ -13,12 +13,11 @@ use Rattle.jos_words.specs.Commands.{Command, exo, demo}
 use Rattle.jos_cli.specs.Commands.{command_of}
 use Rattle.jos_cli.specs.Answer.{Expected, refused, usage, expected_of_exo, expected_of_demo}
 use Rattle.jos_cli.specs.Outcomes.{Kind, answered, cut_off, no_memory, kind_of, AnswersBy, AnswersCommand}
-use Rattle.jos_cli.specs.Outcomes.{HasCauseOf, HasOutcomeCause, IsUsageCase, IsMemoryCase}
+use Rattle.jos_cli.specs.Outcomes.{HasOutcomeCause}
 use Rattle.jos_cli.specs.Notes.{note_of, IsNoted}
 use Rattle.jos_cli.specs.FaultNotes.{IfHostFault, IfNoFault, FaultIsNoted}
-use Rattle.jos_cli.proofs.ToldBytes.{gains_none}
+use Rattle.jos_kernel.proofs.ToldBytes.{gains_none}
 use Rattle.jos_cli.proofs.Finding.{some_found, some_input}
-use Rattle.jos_cli.proofs.Memory.{on_memory}
 
 all_of : (stream : Around (Option (List ℕ))) (bytes : List ℕ) → Gains stream bytes → GainsPart stream bytes
 all_of stream bytes h =
@@ -94,52 +93,10 @@ module _ (files : Option Files) (input : Option (List ℕ)) (words : List (List 
   not_noted outcome.NoMemory cause answer part = others outcome.NoMemory (moved outcome.NoMemory answer) part
   not_noted (outcome.Made bytes) cause answer part = others (outcome.Made bytes) (moved (outcome.Made bytes) answer) part
 
--- ---- what holds of an answer still where its note could not be written
-
--- the count of faults rose in the end
-rose_then : (first mid now : ℕ) → now < 2 ^ 64 → Rose first mid → Rose mid now → Rose first now
-rose_then first mid now fits (inl a) (inl b) = inl (omega (arith, a, b))
-rose_then first mid now fits (inl a) (inr b) = inr b
-rose_then first mid now fits (inr a) (inl b) = absurd (omega (arith, a, b, fits))
-rose_then first mid now fits (inr a) (inr b) = inr b
-
-pub cause_then : (faults : Around ℕ) (now : ℕ) (own : Outcome) → now < 2 ^ 64 → HasOutcomeCause faults own → Rose faults.after now → Rose faults.before now
-cause_then faults now own fits cause rose = go (kind_of own) cause
-  where
-    go : (kind : Kind) → HasCauseOf faults kind → Rose faults.before now
-    go (answered answer) same = subst (λ (n : ℕ). Rose n now) same rose
-    go (cut_off stopped) h = rose_then faults.before faults.after now fits h.0 rose
-    go no_memory same = subst (λ (n : ℕ). Rose n now) same rose
-
-pub usage_fault : (command : Option Command) (stopped : Stopped) → IsUsageCase command (outcome.HostFault stopped)
-usage_fault None stopped = tt
-usage_fault (Some command) stopped = tt
-
-usage_memory : (command : Option Command) → IsUsageCase command outcome.NoMemory
-usage_memory None = tt
-usage_memory (Some command) = tt
-
-pub usage_any : (command : Option Command) (own : Outcome) → IsMemoryCase own → IsUsageCase command own
-usage_any command own h = on_memory (λ o. IsUsageCase command o) (usage_memory command) (usage_fault command) own h
-
--- ---- want of memory
-
-pub before_writing : (files : Option Files) (input : Option (List ℕ)) (command : Option Command) (console : Around (Option (List ℕ))) →
-    AnswersCommand files input command outcome.NoMemory console → console.after ≡ console.before
-before_writing files input None console h = h
-before_writing files input (Some (demo d)) console h = h
-before_writing files input (Some (exo e)) console h = h.4
-
+-- there was no memory
 pub at_no_memory : (files : Option Files) (input : Option (List ℕ)) (command : Option Command) (console : Around (Option (List ℕ))) →
     console.after ≡ console.before → AnswersCommand files input command outcome.NoMemory console
 at_no_memory files input None console same = same
 at_no_memory files input (Some (demo d)) console same = same
 at_no_memory files input (Some (exo e)) console same =
     let found = some_found files e in let given = some_input input in (found.0, given.0, found.1, given.1, same)
-
-pub before_all : (files : Option Files) (input : Option (List ℕ)) (command : Option Command) (own : Outcome) (console : Around (Option (List ℕ))) →
-    IsMemoryCase own → console.after ≡ console.before → AnswersCommand files input command own console
-before_all files input command own console h same =
-    let none = at_no_memory files input command console same in
-    on_memory (λ o. AnswersCommand files input command o console) none
-    (λ stopped. answers_part files input command outcome.NoMemory stopped console console.after none refl) own h

@@ -1,6 +1,6 @@
 -- The words that were read, one more, and those behind it.
-use Rattle.std.proofs.Common.{◌≡◌, ℕ, ◌+◌, ◌<◌, ◌≤◌, suc, List, [], ◌∷◌, ◌++◌, length, take, drop, map, get_or, sym, ap, ◌∙◌, drop-cons}
-use Rattle.std.proofs.lemmas.List.{take_more, take_all, take-append-drop, map-append}
+use Rattle.std.proofs.Common.{◌≡◌, ℕ, ◌+◌, ◌<◌, suc, List, [], ◌∷◌, ◌++◌, length, take, drop, map, get_or, sym, ap, ◌∙◌, drop-cons}
+use Rattle.std.proofs.lemmas.List.{take_more, take-append-drop, map-append}
 
 module _ {X Y : Type 0} (f : X → Y) (xs : List X) (k : ℕ) (d : X) where
   pub one_more : k < length xs → map f (take (k + 1) xs) ≡ map f (take k xs) ++ f (get_or xs k d) ∷ []
@@ -10,6 +10,3 @@ module _ {X Y : Type 0} (f : X → Y) (xs : List X) (k : ℕ) (d : X) where
   at_one below =
       ap (map f) (sym (take-append-drop k xs) ∙ ap (λ l. take k xs ++ l) (drop-cons xs k d below))
       ∙ map-append f (take k xs) (get_or xs k d ∷ drop (suc k) xs)
-
-pub all_words : {X Y : Type 0} (f : X → Y) (xs : List X) (k : ℕ) → length xs ≤ k → map f (take k xs) ≡ map f xs
-all_words f xs k past = ap (map f) (take_all k xs past)

@@ -1,7 +1,7 @@
 use Rattle.std.proofs.Common.{refl, sym, subst}
 use Rattle.jos_cli.specs.declared.outcome.Outcome.TheVariants.{Limit}
 use Rattle.jos_cli.specs.declared.outcome.Which.TheVariants.{Boot}
-use Rattle.jos_cli.proofs.ToldBytes.{gains_none}
+use Rattle.jos_kernel.proofs.ToldBytes.{gains_none}
 use Rattle.std.specs.Prelude.{Option}
 use Rattle.jos_kernel.specs.ExoRun.{Ran}
 use Rattle.jos_cli.specs.Answer.{expected_of_run}

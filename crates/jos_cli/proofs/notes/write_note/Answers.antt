@@ -1,5 +1,5 @@
 use Rattle.std.proofs.Common.{◌∙◌}
-use Rattle.jos_cli.proofs.ToldBytes.{appended, part_of_first}
+use Rattle.jos_kernel.proofs.ToldBytes.{appended, part_of_first}
 use Rattle.jos_cli.proofs.notes.write_note.Goals as goal
 
 pub returns-in-Ok-clause-told : goal.returns-in-Ok-clause-told
