@@ -158,7 +158,9 @@ fn runs_images_in_turns(rt: HostRuntime) -> Result<(), Fail> {
     let mut b = Vec::from_slice(rt.alloc(), &LETTER)?;
     b.push(b'B')?;
     let divides = [0x31, 0xc9, 0xf7, 0xf1];
-    let divides_later = [0xb8, 1, 0, 0, 0, 0xb9, 0, 0, 0, 0, 0x40, 0xf7, 0xf1];
+    let least_by_minus_one = [
+        0xb8, 0, 0, 0, 0x80, 0x99, 0xb9, 0xff, 0xff, 0xff, 0xff, 0xf7, 0xf9,
+    ];
     let lines = "[00001000] trap 0 err 0 ip 00800022\n[00001001] trap 0 err 0 ip 0080002b\n";
     for (first, second, schedule, console, note) in [
         (
@@ -177,7 +179,7 @@ fn runs_images_in_turns(rt: HostRuntime) -> Result<(), Fail> {
         ),
         (
             &divides,
-            &divides_later,
+            &least_by_minus_one,
             "",
             lines,
             "done steps 6 turns 2 refused 0 upcalls 0\n",
@@ -442,6 +444,27 @@ fn refuses_each_part_of_an_image(rt: HostRuntime) -> Result<(), Fail> {
         let note = format!(in rt.alloc(); "h: bad image: truncated {len}\n")?;
         assert_eq!(rt; host.notes(), note.as_bytes());
     }
+    Ok(())
+}
+
+// As MIT's makefiles build it: a segment of symbols at 0x00200000 beside the code, a header that tells how the stack
+// is to be, and sections.
+#[rattlefmt::skip]
+const USUAL_HEADERS: [u8; 148] = [
+    0x7f, 0x45, 0x4c, 0x46, 1, 1, 1, 0, 0, 0, 0, 0, 0, 0, 0, 0, 2, 0, 3, 0, 1, 0, 0, 0, 0x20, 0, 0x80, 0,
+    52, 0, 0, 0, 0xb4, 0, 0, 0, 0, 0, 0, 0, 52, 0, 32, 0, 3, 0, 40, 0, 5, 0, 4, 0,
+    1, 0, 0, 0, 0, 0, 0, 0, 0, 0, 0x20, 0, 0, 0, 0x20, 0, 12, 0, 0, 0, 12, 0, 0, 0, 4, 0, 0, 0, 0, 0x10, 0, 0,
+    1, 0, 0, 0, 148, 0, 0, 0, 0x20, 0, 0x80, 0, 0x20, 0, 0x80, 0, 32, 0, 0, 0, 32, 0, 0, 0, 5, 0, 0, 0, 0, 0x10, 0, 0,
+    0x51, 0xe5, 0x74, 0x64, 0, 0, 0, 0, 0, 0, 0, 0, 0, 0, 0, 0, 0, 0, 0, 0, 0, 0, 0, 0, 6, 0, 0, 0, 16, 0, 0, 0,
+];
+
+#[test]
+fn runs_an_image_with_symbols(rt: HostRuntime) -> Result<(), Fail> {
+    let mut file = Vec::from_slice(rt.alloc(), &USUAL_HEADERS)?;
+    file.extend_from_slice(&HI)?;
+    let mut host = host_of(rt.alloc(), &[("h", &file)], b"", &[])?;
+    assert_eq!(rt; top(rt.alloc(), &["exo", "h"], &mut host).status(), 0);
+    assert_eq!(rt; host.console(), b"hi\n".as_slice());
     Ok(())
 }
 
