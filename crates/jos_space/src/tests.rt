@@ -89,7 +89,6 @@ fn reaches_pages(rt: HostRuntime) {
     );
     assert_eq!(rt; spaces.access(space, UTOP, Access::Write), fault(UTOP, 6));
     assert_eq!(rt; spaces.user_bytes(space, UTEXT + 4092).len(), 0);
-    assert_eq!(rt; spaces.page_at_hand(space, UTEXT + 4092), None);
     let location = spaces.access(space, UTEXT + 4092, Access::Read);
     assert_eq!(rt;
         location,
@@ -102,16 +101,29 @@ fn reaches_pages(rt: HostRuntime) {
         spaces.user_bytes(space, UTEXT + 4092),
         [3, 4, 5, 6].as_slice()
     );
-    let at_hand = spaces
-        .page_at_hand(space, UTEXT)
-        .expect(&rt, "a page at hand");
-    assert_eq!(rt; at_hand.frame, page);
-    assert_eq!(rt; spaces.bytes_by(at_hand, UTEXT + 4094), [5, 6].as_slice());
-    assert_eq!(rt; spaces.bytes_by(at_hand, UTEXT + PGSIZE).len(), 0);
     assert_eq!(rt;
         spaces.look(space, UTEXT),
         Some((page, Perm(PTE_P + PTE_U + PTE_A)))
     );
+}
+
+#[test]
+fn reads_by_a_page_at_hand(rt: HostRuntime) {
+    let mut spaces = Spaces::new(rt.alloc(), 64).expect(&rt, "memory");
+    let space = spaces.create().expect(&rt, "a directory");
+    let page = spaces.fresh().expect(&rt, "a page");
+    spaces.fill(page, 4090, &[1, 2, 3, 4, 5, 6]);
+    assert_eq!(rt; spaces.insert(space, UTEXT, page, READ), Ok(()));
+    assert_eq!(rt; spaces.page_at_hand(space, UTEXT), None);
+    assert!(rt; spaces.access(space, UTEXT, Access::Read).is_ok());
+    match spaces.page_at_hand(space, UTEXT) {
+        Some(at_hand) => {
+            assert_eq!(rt; at_hand.frame, page);
+            assert_eq!(rt; spaces.bytes_by(at_hand, UTEXT + 4094), [5, 6].as_slice());
+            assert_eq!(rt; spaces.bytes_by(at_hand, UTEXT + PGSIZE).len(), 0);
+        }
+        None => assert!(rt; false, "no page at hand"),
+    }
 }
 
 #[test]
