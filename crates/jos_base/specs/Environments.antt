@@ -4,9 +4,11 @@ use Rattle.std.specs.Prelude.{ℕ, ◌+◌, ◌-◌, ◌%◌, ◌^◌, ◌==◌,
 use Rattle.std.specs.Prelude.{Option, Some, None, if◌then◌else◌}
 use Rattle.jos_base.specs.declared.registers.Regs.{Regs}
 use Rattle.jos_base.specs.declared.environment.Status.{Status}
-use Rattle.jos_base.specs.declared.environment.Status.TheVariants.{Free, NotRunnable, Runnable, Running}
+use Rattle.jos_base.specs.declared.environment.Status.TheVariants.{Free, Dying, NotRunnable, Runnable, Running}
 use Rattle.jos_base.specs.declared.numbers.TheConstants.{NENV, ENV_GENERATION, FIRST_ENV_ID}
+use Rattle.jos_base.specs.declared.numbers.TheConstants.{ENV_FREE, ENV_DYING, ENV_RUNNABLE, ENV_RUNNING, ENV_NOT_RUNNABLE}
 use Rattle.jos_base.specs.Words.{upd}
+use Rattle.jos_base.specs.Messages.{Rendezvous, no_rendezvous}
 use Rattle.jos_base.specs.SpacesState.{rising}
 
 pub record Slot : Type 0 where
@@ -19,6 +21,9 @@ pub record Slot : Type 0 where
   pub registers : Regs
   -- the frame of its directory
   pub directory : ℕ
+  -- where it handles its page faults; 0 where it does not
+  pub upcall : ℕ
+  pub rendezvous : Rendezvous
 
 pub record Environments : Type 0 where
   -- from the numbers of the table's slots
@@ -64,6 +69,8 @@ free_slot id = record {
   runs = 0;
   registers = zero_registers;
   directory = 0;
+  upcall = 0;
+  rendezvous = no_rendezvous;
 }
 
 abbrev pub with_slot : Environments → ℕ → Slot → Environments
@@ -120,6 +127,31 @@ found_at e id n caller control =
 -- caller must be allowed to change it
 unfoldable pub found : Environments → ℕ → ℕ → Bool → Option ℕ
 found e id caller control = if id == 0 then Some caller else found_at e id (id % NENV) caller control
+
+-- ---- what a user reads of them
+
+abbrev pub status_number : Status → ℕ
+status_number Free = ENV_FREE
+status_number Dying = ENV_DYING
+status_number Runnable = ENV_RUNNABLE
+status_number Running = ENV_RUNNING
+status_number NotRunnable = ENV_NOT_RUNNABLE
+
+abbrev pub bit_of : Bool → ℕ
+bit_of true = 1
+bit_of false = 0
+
+-- The words of a slot's record. The third is its kind, which is 0 for a user's; the last three are empty. (The form is this
+-- system's own.)
+unfoldable pub record_words : Slot → List ℕ
+record_words slot =
+    slot.id ∷ slot.parent ∷ 0 ∷ status_number slot.status ∷ slot.runs ∷ slot.directory ∷ slot.upcall
+    ∷ bit_of slot.rendezvous.receiving ∷ slot.rendezvous.wanted ∷ slot.rendezvous.destination
+    ∷ slot.rendezvous.value ∷ slot.rendezvous.sender ∷ slot.rendezvous.perm ∷ 0 ∷ 0 ∷ 0 ∷ []
+
+-- the records of all slots
+unfoldable pub records_of : Environments → ℕ → List ℕ
+records_of e n = if nat_lt n NENV then record_words (e.slots n) else []
 
 -- ---- the beginning
 

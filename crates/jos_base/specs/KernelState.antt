@@ -5,6 +5,7 @@ use Rattle.std.specs.Prelude.{◌≡◌, ℕ, ◌+◌, ◌-◌, ◌%◌, ◌^◌
 use Rattle.jos_base.specs.declared.registers.Regs.{Regs}
 use Rattle.jos_base.specs.declared.environment.Status.{Status}
 use Rattle.jos_base.specs.declared.environment.Status.TheVariants.{Runnable, Running}
+use Rattle.jos_base.specs.Messages.{Rendezvous}
 use Rattle.jos_base.specs.Environments.{Environments, Slot, with_slot, is_live, is_running, first_environments}
 use Rattle.jos_base.specs.SpacesState.{SpacesState, directories, first_spaces}
 
@@ -19,6 +20,8 @@ pub record KernelState : Type 0 where
   pub turns : ℕ
   -- how often the list of frames or the table of environments was asked and empty
   pub refusals : ℕ
+  -- how many page faults were handed to the handlers of those that raised them
+  pub upcalls : ℕ
 
 abbrev pub slot_at : KernelState → ℕ → Slot
 slot_at s n = s.environments.slots n
@@ -36,12 +39,22 @@ with_registers s n registers = with_slot_at s n (record (slot_at s n) { register
 abbrev pub with_directory : KernelState → ℕ → ℕ → KernelState
 with_directory s n frame = with_slot_at s n (record (slot_at s n) { directory = frame })
 
+abbrev pub with_upcall : KernelState → ℕ → ℕ → KernelState
+with_upcall s n address = with_slot_at s n (record (slot_at s n) { upcall = address })
+
+abbrev pub with_rendezvous : KernelState → ℕ → Rendezvous → KernelState
+with_rendezvous s n rendezvous = with_slot_at s n (record (slot_at s n) { rendezvous = rendezvous })
+
 abbrev pub with_spaces : KernelState → SpacesState → KernelState
 with_spaces s spaces = record s { spaces = spaces }
 
 -- the state after something was refused for want of a frame or a slot; the count stands still at the end of its type
 abbrev pub with_refusal : KernelState → KernelState
 with_refusal s = record s { refusals = min (s.refusals + 1) (2 ^ 64 - 1) }
+
+-- the state after one more page fault was handed to a handler; the count stands still at the end of its type
+abbrev pub with_upcall_counted : KernelState → KernelState
+with_upcall_counted s = record s { upcalls = min (s.upcalls + 1) (2 ^ 64 - 1) }
 
 -- so many frames and the console's input, and nothing done yet
 abbrev pub first_state : ℕ → List ℕ → KernelState
@@ -52,6 +65,7 @@ first_state frames input = record {
   last = None;
   turns = 0;
   refusals = 0;
+  upcalls = 0;
 }
 
 -- ---- turns

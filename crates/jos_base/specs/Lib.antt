@@ -2,7 +2,10 @@ pub mod Words
 pub mod Reach
 pub mod Counting
 pub mod SpacesState
+pub mod Windows
 pub mod UserMemory
+pub mod Messages
+pub mod TrapFrames
 pub mod Environments
 pub mod Lines
 pub mod KernelState

@@ -31,6 +31,13 @@ unfoldable pub trap_line : ℕ → ℕ → ℕ → ℕ → List ℕ
 trap_line id trap error ip =
     codes "[" ++ hex_word id ++ codes "] trap " ++ decimal trap ++ codes " err " ++ hex error ++ codes " ip " ++ hex_word ip ++ codes "\n"
 
+-- The line by which a list of traps tells of one: whose it was, its number and error code, the address of a page fault or
+-- else 0, and the address that it is told for. (This system's own.)
+unfoldable pub trace_line : ℕ → ℕ → ℕ → ℕ → ℕ → List ℕ
+trace_line id trap error va ip =
+    codes "[" ++ hex_word id ++ codes "] trap " ++ decimal trap ++ codes " err " ++ hex error ++ codes " va " ++ hex_word va
+    ++ codes " ip " ++ hex_word ip ++ codes "\n"
+
 -- the line of an environment's end
 abbrev pub line_text : ℕ → Line → List ℕ
 line_text id (UserFault va ip) = user_fault_line id va ip

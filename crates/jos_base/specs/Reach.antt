@@ -1,12 +1,12 @@
 -- Where a user's access to an address leads: to a byte of a frame, or to a page fault.
 -- (Intel 80386 Programmer's Reference Manual, 1986, sections 5.2 and 6.4.)
-use Rattle.std.specs.Prelude.{ℕ, ◌+◌, ◌^◌, ◌%◌, ◌==◌, suc, zero, Bool, List, [], ◌∷◌, slice_index, Option, Some, None}
+use Rattle.std.specs.Prelude.{ℕ, ◌+◌, ◌^◌, ◌%◌, ◌==◌, suc, zero, Bool, List, [], ◌∷◌, Option, Some, None}
 use Rattle.std.specs.Prelude.{Result, Ok, Err, bit_and, if◌then◌else◌}
 use Rattle.jos_base.specs.declared.memory.Access.{Access}
 use Rattle.jos_base.specs.declared.memory.Access.TheVariants.{Read, Write}
 use Rattle.jos_base.specs.declared.memory.PageFault.{PageFault}
 use Rattle.jos_base.specs.declared.numbers.TheConstants.{PTE_P, PTE_W, PTE_U, FEC_PR, FEC_WR, FEC_U}
-use Rattle.jos_base.specs.Words.{page_number, page_offset}
+use Rattle.jos_base.specs.Words.{page_offset}
 
 -- a page's entry: the frame that it names, and its twelve low bits, PTE_P, PTE_W, PTE_U, PTE_A, PTE_D and PTE_AVAIL
 -- among them
@@ -34,17 +34,6 @@ reach_entry None va access = Err (record { va = va; error = FEC_U + write_bit ac
 reach_entry (Some entry) va access =
     if allows entry.perm access then Ok (record { frame = entry.frame; offset = page_offset va })
     else Err (record { va = va; error = FEC_U + FEC_PR + write_bit access })
-
-abbrev pub reach : (ℕ → Option Entry) → ℕ → Access → Result Location PageFault
-reach entries va access = reach_entry (entries (page_number va)) va access
-
--- the byte that is read at an address, or the fault
-abbrev pub byte_read : (ℕ → List ℕ) → Result Location PageFault → Result ℕ PageFault
-byte_read pages (Ok location) = Ok (slice_index (pages location.frame) location.offset)
-byte_read pages (Err fault) = Err fault
-
-unfoldable pub read_byte : (ℕ → List ℕ) → (ℕ → Option Entry) → ℕ → Result ℕ PageFault
-read_byte pages entries va = byte_read pages (reach entries va Read)
 
 abbrev pub front_added : ℕ → Result (List ℕ) PageFault → Result (List ℕ) PageFault
 front_added byte (Ok bytes) = Ok (byte ∷ bytes)

@@ -29,6 +29,8 @@ pub record Region : Type 0 where
   pub accessed : Bool
 
 pub record SpacesState : Type 0 where
+  -- how many frames there are
+  pub frames : ℕ
   -- of every frame
   pub uses : ℕ → Use
   -- the free frames, the next to be handed out first
@@ -191,13 +193,18 @@ unfoldable pub rising : ℕ → ℕ → List ℕ
 rising first zero = []
 rising first (suc n) = first ∷ rising (first + 1) n
 
--- frame 0, 16 frames of environment records, those of the count records, 512 in each, and two window tables
+-- the frames of the count records, 512 in each
+abbrev pub count_frames : ℕ → ℕ
+count_frames frames = (frames + 511) / 512
+
+-- frame 0, 16 frames of environment records, those of the count records, and two tables of windows
 abbrev pub reserved_frames : ℕ → ℕ
-reserved_frames frames = (frames + 511) / 512 + 19
+reserved_frames frames = count_frames frames + 19
 
 -- so many frames: the first are reserved, and the others free in rising order
 unfoldable pub first_spaces : ℕ → SpacesState
 first_spaces frames = record {
+  frames = frames;
   uses = λ f. if nat_lt f (reserved_frames frames) then reserved else if nat_lt f frames then free else reserved;
   free = rising (reserved_frames frames) (frames - reserved_frames frames);
   pages = λ f. [];

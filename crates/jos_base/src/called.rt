@@ -7,4 +7,6 @@ pub enum Called {
     Answered(u32),
     /// It was destroyed.
     Ended,
+    /// It waits, and has its answer from whoever wakes it.
+    Blocked,
 }

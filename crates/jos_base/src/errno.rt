@@ -3,7 +3,7 @@
 ghost use Rattle.std.specs.Prelude.{◌≡◌};
 ghost use Rattle.jos_base.specs.SystemCalls.{error_number};
 
-use crate::numbers::{E_BAD_ENV, E_INVAL, E_NO_FREE_ENV, E_NO_MEM};
+use crate::numbers::{E_BAD_ENV, E_INVAL, E_IPC_NOT_RECV, E_NO_FREE_ENV, E_NO_MEM};
 use std::alloc::{AllocError, AllocFailed};
 
 /// The error of a system call, which is answered as its number, negated as a word. (MIT 6.828, inc/error.h)
@@ -17,6 +17,8 @@ pub enum Errno {
     NoMem,
     /// There is no free slot for an environment.
     NoFreeEnv,
+    /// The environment does not wait for a word, or not for the caller's.
+    IpcNotRecv,
 }
 
 impl Errno {
@@ -29,6 +31,7 @@ impl Errno {
             Errno::Invalid => E_INVAL,
             Errno::NoMem => E_NO_MEM,
             Errno::NoFreeEnv => E_NO_FREE_ENV,
+            Errno::IpcNotRecv => E_IPC_NOT_RECV,
         }
     }
 }
@@ -61,6 +64,7 @@ mod tests {
             (Errno::Invalid, 3),
             (Errno::NoMem, 4),
             (Errno::NoFreeEnv, 5),
+            (Errno::IpcNotRecv, 7),
         ] {
             assert_eq!(rt; errno.code(), number, "{errno:?}");
         }

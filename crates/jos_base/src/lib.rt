@@ -2,9 +2,10 @@
 //!
 //! `numbers` has the numbers that MIT's headers and Intel's manual name. `specs/` says what the kernel is: its state
 //! (`KernelState`) with the address spaces (`SpacesState`) and the table of environments (`Environments`) as its parts, how
-//! often a frame is named (`Counting`), which byte an address reaches (`Reach`) and what a user's memory is by that
-//! (`UserMemory`), what each system call and each fault does (`SystemCalls`) and the lines that the kernel writes
-//! (`Lines`). The code here is types, and the lines in a fixed room; it refuses nothing and takes no memory.
+//! often a frame is named (`Counting`), what an entry lets an access reach (`Reach`), what a user reads at UTOP and above
+//! (`Windows`) and what a user's memory is by that (`UserMemory`), what an environment waits for (`Messages`), how registers
+//! stand in memory (`TrapFrames`), what each system call and each fault does (`SystemCalls`) and the lines that the kernel
+//! writes (`Lines`). The code here is types, and the lines in a fixed room; it refuses nothing and takes no memory.
 #![tactic(auto)]
 
 mod called;
@@ -18,20 +19,106 @@ mod perm;
 mod registers;
 
 pub use called::Called;
-pub use environment::{EnvId, Status};
-pub use errno::{Errno, NoMemory};
+pub use environment::EnvId;
+pub use environment::Status;
+pub use errno::Errno;
+pub use errno::NoMemory;
 pub use line::Line;
-pub use lines::{LINE_MAX, LineText, line_text, push_decimal, push_hex_word, push_text};
-pub use memory::{Access, Frame, Location, PageFault};
-pub use numbers::{
-    CPUTS_MAX, E_BAD_ENV, E_INVAL, E_NO_FREE_ENV, E_NO_MEM, END_OF_INPUT, ENV_GENERATION,
-    ENV_NOT_RUNNABLE, ENV_RUNNABLE, FDTABLE, FEC_PR, FEC_U, FEC_WR, FIRST_ENV_ID, FL_1, FL_AF,
-    FL_CF, FL_DF, FL_IF, FL_OF, FL_PF, FL_SF, FL_ZF, FRAMES, FRAMES_MAX, FRAMES_MIN, IMAGE_MAX,
-    IMAGES_MAX, INPUT_MAX, INSTRUCTION_MAX, NENV, NPTENTRIES, PGSIZE, PTE_A, PTE_AVAIL, PTE_D,
-    PTE_P, PTE_SYSCALL, PTE_U, PTE_W, QUANTUM, SCHEDULE_TEXT_MAX, SEGMENT_MAX, STEPS, STEPS_MAX,
-    SYS_CGETC, SYS_CPUTS, SYS_ENV_DESTROY, SYS_ENV_SET_STATUS, SYS_EXOFORK, SYS_GETENVID,
-    SYS_YIELD, T_BRKPT, T_DIVIDE, T_GPFLT, T_ILLOP, T_PGFLT, T_SERVICE, T_SYSCALL, TURN_MAX,
-    USTABDATA, USTACKTOP, UTEMP, UTEXT, UTOP,
-};
+pub use lines::LINE_MAX;
+pub use lines::LineText;
+pub use lines::line_text;
+pub use lines::push_decimal;
+pub use lines::push_hex_word;
+pub use lines::push_text;
+pub use lines::trace_line;
+pub use memory::Access;
+pub use memory::Frame;
+pub use memory::Location;
+pub use memory::PageFault;
+pub use numbers::CPUTS_MAX;
+pub use numbers::E_BAD_ENV;
+pub use numbers::E_INVAL;
+pub use numbers::E_IPC_NOT_RECV;
+pub use numbers::E_NO_FREE_ENV;
+pub use numbers::E_NO_MEM;
+pub use numbers::END_OF_INPUT;
+pub use numbers::ENV_DYING;
+pub use numbers::ENV_FREE;
+pub use numbers::ENV_GENERATION;
+pub use numbers::ENV_NOT_RUNNABLE;
+pub use numbers::ENV_RUNNABLE;
+pub use numbers::ENV_RUNNING;
+pub use numbers::ENV_WORDS;
+pub use numbers::FDTABLE;
+pub use numbers::FEC_PR;
+pub use numbers::FEC_U;
+pub use numbers::FEC_WR;
+pub use numbers::FIRST_ENV_ID;
+pub use numbers::FL_1;
+pub use numbers::FL_AF;
+pub use numbers::FL_CF;
+pub use numbers::FL_DF;
+pub use numbers::FL_IF;
+pub use numbers::FL_OF;
+pub use numbers::FL_PF;
+pub use numbers::FL_SF;
+pub use numbers::FL_ZF;
+pub use numbers::FRAMES;
+pub use numbers::FRAMES_MAX;
+pub use numbers::FRAMES_MIN;
+pub use numbers::IMAGE_MAX;
+pub use numbers::IMAGES_MAX;
+pub use numbers::INPUT_MAX;
+pub use numbers::INSTRUCTION_MAX;
+pub use numbers::NENV;
+pub use numbers::NPTENTRIES;
+pub use numbers::PGSIZE;
+pub use numbers::PTE_A;
+pub use numbers::PTE_AVAIL;
+pub use numbers::PTE_D;
+pub use numbers::PTE_P;
+pub use numbers::PTE_SYSCALL;
+pub use numbers::PTE_U;
+pub use numbers::PTE_W;
+pub use numbers::QUANTUM;
+pub use numbers::SCHEDULE_TEXT_MAX;
+pub use numbers::SEGMENT_MAX;
+pub use numbers::STEPS;
+pub use numbers::STEPS_MAX;
+pub use numbers::SYS_CGETC;
+pub use numbers::SYS_CPUTS;
+pub use numbers::SYS_ENV_DESTROY;
+pub use numbers::SYS_ENV_SET_PGFAULT_UPCALL;
+pub use numbers::SYS_ENV_SET_STATUS;
+pub use numbers::SYS_ENV_SET_TRAPFRAME;
+pub use numbers::SYS_EXOFORK;
+pub use numbers::SYS_GETENVID;
+pub use numbers::SYS_IPC_RECV;
+pub use numbers::SYS_IPC_TRY_SEND;
+pub use numbers::SYS_PAGE_ALLOC;
+pub use numbers::SYS_PAGE_MAP;
+pub use numbers::SYS_PAGE_UNMAP;
+pub use numbers::SYS_YIELD;
+pub use numbers::T_BRKPT;
+pub use numbers::T_DIVIDE;
+pub use numbers::T_GPFLT;
+pub use numbers::T_ILLOP;
+pub use numbers::T_PGFLT;
+pub use numbers::T_SERVICE;
+pub use numbers::T_SYSCALL;
+pub use numbers::TRACE_MAX;
+pub use numbers::TRAPFRAME_WORDS;
+pub use numbers::TURN_MAX;
+pub use numbers::UENVS;
+pub use numbers::ULIM;
+pub use numbers::UPAGES;
+pub use numbers::USTABDATA;
+pub use numbers::USTACKTOP;
+pub use numbers::UTEMP;
+pub use numbers::UTEXT;
+pub use numbers::UTOP;
+pub use numbers::UTRAPFRAME_WORDS;
+pub use numbers::UVPT;
+pub use numbers::UXSTACKTOP;
 pub use perm::Perm;
 pub use registers::Regs;

@@ -2,7 +2,7 @@
 
 ghost use Rattle.std.specs.Prelude.{◌≡◌, ◌+◌, ◌<◌, ◌≤◌, ◌==◌, ◌++◌, not, length, position, IfSome, decimal};
 ghost use Rattle.arrayvec.specs.ArrayVec.{array_vec_len};
-ghost use Rattle.jos_base.specs.Lines.{hex_digit, hex_word, hex, user_fault_line, user_mem_check_line, trap_line, line_text};
+ghost use Rattle.jos_base.specs.Lines.{hex_digit, hex_word, hex, user_fault_line, user_mem_check_line, trap_line, trace_line, line_text};
 
 use crate::environment::EnvId;
 use crate::line::Line;
@@ -134,6 +134,27 @@ fn trap_line(id: u32, trap: u8, error: u32, ip: u32) -> LineText
     push_decimal(&mut line, trap as u64);
     push_text(&mut line, b" err ");
     push_hex(&mut line, error);
+    push_text(&mut line, b" ip ");
+    push_hex_word(&mut line, ip);
+    push_text(&mut line, b"\n");
+    line
+}
+
+/// The line by which a list of traps tells of one: whose it was, its number and error code, the address of a page fault or
+/// else 0, and the address that it is told for.
+#[tactic(auto, unfolding(crate::specs::Lines::trace_line))]
+pub fn trace_line(id: EnvId, trap: u8, error: u32, va: u32, ip: u32) -> LineText
+    ensures { result.items ≡ trace_line id.0 trap error va ip }
+{
+    let mut line = LineText::new();
+    push_text(&mut line, b"[");
+    push_hex_word(&mut line, id.0);
+    push_text(&mut line, b"] trap ");
+    push_decimal(&mut line, trap as u64);
+    push_text(&mut line, b" err ");
+    push_hex(&mut line, error);
+    push_text(&mut line, b" va ");
+    push_hex_word(&mut line, va);
     push_text(&mut line, b" ip ");
     push_hex_word(&mut line, ip);
     push_text(&mut line, b"\n");

@@ -48,6 +48,21 @@ pub const USTACKTOP: u32 = 0xeebf_e000;
 /// The first address that a program may not map.
 pub const UTOP: u32 = 0xeec0_0000;
 
+/// The first address behind the exception stack, which is one page.
+pub const UXSTACKTOP: u32 = UTOP;
+
+/// Where a user reads the records of the environments.
+pub const UENVS: u32 = UTOP;
+
+/// Where a user reads how often each frame is named.
+pub const UPAGES: u32 = 0xef00_0000;
+
+/// Where a user reads the tables, and the directory as the table of this region.
+pub const UVPT: u32 = 0xef40_0000;
+
+/// The first address behind what a user may reach.
+pub const ULIM: u32 = 0xef80_0000;
+
 // ---- traps and the bits of a page fault's error code (MIT 6.828, inc/trap.h and inc/mmu.h)
 
 /// The divide error.
@@ -123,14 +138,35 @@ pub const SYS_GETENVID: u32 = 2;
 /// Destroys an environment.
 pub const SYS_ENV_DESTROY: u32 = 3;
 
+/// Gives an environment a new page of zeros.
+pub const SYS_PAGE_ALLOC: u32 = 4;
+
+/// Gives an environment a page of another, or a page of its own at another address.
+pub const SYS_PAGE_MAP: u32 = 5;
+
+/// Takes a page from an environment.
+pub const SYS_PAGE_UNMAP: u32 = 6;
+
 /// Makes an environment that has the caller's registers and no page.
 pub const SYS_EXOFORK: u32 = 7;
 
 /// Sets whether an environment may run.
 pub const SYS_ENV_SET_STATUS: u32 = 8;
 
+/// Sets the registers of an environment.
+pub const SYS_ENV_SET_TRAPFRAME: u32 = 9;
+
+/// Sets where an environment handles its page faults.
+pub const SYS_ENV_SET_PGFAULT_UPCALL: u32 = 10;
+
 /// Gives up the rest of the turn.
 pub const SYS_YIELD: u32 = 11;
+
+/// Sends a word, and a page with it, to an environment that waits for one.
+pub const SYS_IPC_TRY_SEND: u32 = 12;
+
+/// Waits for a word, and for a page with it.
+pub const SYS_IPC_RECV: u32 = 13;
 
 /// No such environment, or none that the caller may change.
 pub const E_BAD_ENV: u32 = 2;
@@ -143,6 +179,9 @@ pub const E_NO_MEM: u32 = 4;
 
 /// There is no free slot.
 pub const E_NO_FREE_ENV: u32 = 5;
+
+/// The environment does not wait for a word, or not for the caller's.
+pub const E_IPC_NOT_RECV: u32 = 7;
 
 /// What `cgetc` answers where the console's input is at its end.
 pub const END_OF_INPUT: u32 = 4;
@@ -158,11 +197,31 @@ pub const NENV: u32 = 1024;
 /// What an id is raised by when its slot is used again. (MIT 6.828, kern/env.c: 1 << ENVGENSHIFT)
 pub const ENV_GENERATION: u32 = 4096;
 
-/// Of an environment that may not run.
-pub const ENV_NOT_RUNNABLE: u32 = 4;
+/// Of a slot that has no environment.
+pub const ENV_FREE: u32 = 0;
+
+/// Never used on one processor.
+pub const ENV_DYING: u32 = 1;
 
 /// Of an environment that waits for a turn.
 pub const ENV_RUNNABLE: u32 = 2;
+
+/// Of the environment whose turn it is.
+pub const ENV_RUNNING: u32 = 3;
+
+/// Of an environment that may not run.
+pub const ENV_NOT_RUNNABLE: u32 = 4;
+
+/// The words of a record that a user reads of a slot. (This system's own.)
+pub const ENV_WORDS: usize = 16;
+
+// ---- page faults that a user handles (MIT 6.828, inc/trap.h)
+
+/// The words of what a page fault's handler finds on its stack: `struct UTrapframe`.
+pub const UTRAPFRAME_WORDS: usize = 13;
+
+/// The words of all registers that the kernel saves: `struct Trapframe`.
+pub const TRAPFRAME_WORDS: usize = 17;
 
 // ---- the limits of this system
 
@@ -178,7 +237,7 @@ pub const SEGMENT_MAX: u16 = 16;
 /// The most bytes of an instruction that are looked at.
 pub const INSTRUCTION_MAX: usize = 15;
 
-/// The most steps of a turn.
+/// The steps of a turn where no schedule says how many.
 pub const QUANTUM: u32 = 1000;
 
 /// The steps of a run where the words say no number.
@@ -207,3 +266,6 @@ pub const INPUT_MAX: usize = 1_048_576;
 
 /// The most turns of a run.
 pub const TURN_MAX: usize = 1_048_576;
+
+/// The most traps that a run lists at its end.
+pub const TRACE_MAX: usize = 1024;

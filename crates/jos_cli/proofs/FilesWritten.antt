@@ -55,7 +55,7 @@ keeps_others (Some files) new name bytes e = (with_bytes files name bytes, e, λ
 program_fault : (old new : Option Files) (program file : List ℕ) (result : Outcome) → LeavesProgram program file result (from_to old new) → KeepsOthers file (from_to old new)
 program_fault old new program file (outcome.Made bytes) h = keeps_others old new file (program_file program) h
 program_fault old new program file (outcome.HostFault stopped) h = h
-program_fault old new program file (outcome.Ran report) h = keeps_all old new file h
+program_fault old new program file (outcome.Ran report trace) h = keeps_all old new file h
 program_fault old new program file outcome.Usage h = keeps_all old new file h
 program_fault old new program file (outcome.Absent word) h = keeps_all old new file h
 program_fault old new program file (outcome.Limit which) h = keeps_all old new file h

@@ -3,11 +3,12 @@ use Rattle.std.proofs.Common.{◌≡◌, ℕ, List, Option, Some, None, Ok, refl
 use Rattle.jos_host.specs.Frames.{Around}
 use Rattle.jos_words.specs.Commands.{Exo}
 use Rattle.jos_cli.specs.declared.outcome.Which.{Which}
-use Rattle.jos_cli.specs.Limits.{limit_of_words, frames_of, steps_of}
+use Rattle.jos_cli.specs.declared.limits.Settings.{Settings}
+use Rattle.jos_cli.specs.Limits.{limit_of_words}
 use Rattle.jos_cli.specs.Found.{Found}
 use Rattle.jos_cli.specs.Answer.{limit, within, Judged, Expected, expected_if, expected_of_exo}
 use Rattle.jos_cli.specs.Outcomes.{Kind, answered, cut_off, no_memory, AnswersBy}
-use Rattle.jos_cli.specs.Stages.{RefusesBy, expected_of_files}
+use Rattle.jos_cli.specs.Stages.{RefusesBy, settings_of, expected_of_files}
 use Rattle.jos_kernel.proofs.ToldBytes.{gains_none}
 
 -- it is refused, and nothing was written
@@ -30,12 +31,11 @@ pub words_refused : (e : Exo) (found : Found) (input : List ℕ) (which : Which)
     console.after ≡ console.before → AnswersBy (expected_of_exo e found input) (answered (limit which)) console
 unfolding expected_of_exo
 words_refused e found input which console h same =
-    refuses (within (limit_of_words e)) (λ _. expected_of_files (frames_of e) (steps_of e) input found) (answered (limit which)) console (ap within h) same
+    refuses (within (limit_of_words e)) (λ _. expected_of_files (settings_of e) input found) (answered (limit which)) console (ap within h) same
 
-pub words_within : (e : Exo) (found : Found) (input : List ℕ) (kind : Kind) (console : Around (Option (List ℕ))) (frames steps : ℕ) → limit_of_words e ≡ None →
-    frames ≡ frames_of e → steps ≡ steps_of e → AnswersBy (expected_of_files frames steps input found) kind console → AnswersBy (expected_of_exo e found input) kind console
+pub words_within : (e : Exo) (found : Found) (input : List ℕ) (kind : Kind) (console : Around (Option (List ℕ))) (settings : Settings) → limit_of_words e ≡ None →
+    settings ≡ settings_of e → AnswersBy (expected_of_files settings input found) kind console → AnswersBy (expected_of_exo e found input) kind console
 unfolding expected_of_exo
-words_within e found input kind console frames steps h f s answer =
-    goes_on (within (limit_of_words e)) (λ _. expected_of_files (frames_of e) (steps_of e) input found) tt kind console (ap within h)
-    (subst (λ (n : ℕ). AnswersBy (expected_of_files n (steps_of e) input found) kind console) f
-    (subst (λ (n : ℕ). AnswersBy (expected_of_files frames n input found) kind console) s answer))
+words_within e found input kind console settings h same answer =
+    goes_on (within (limit_of_words e)) (λ _. expected_of_files (settings_of e) input found) tt kind console (ap within h)
+    (subst (λ (n : Settings). AnswersBy (expected_of_files n input found) kind console) same answer)

@@ -6,10 +6,10 @@ use Rattle.jos_host.specs.Frames.{from_to}
 use Rattle.jos_cli.specs.declared.outcome.Which.TheVariants as which
 use Rattle.jos_cli.specs.declared.outcome.Outcome.{Outcome}
 use Rattle.jos_cli.specs.declared.outcome.Outcome.TheVariants as outcome
-use Rattle.jos_base.specs.declared.numbers.TheConstants.{INPUT_MAX, FRAMES_MIN, FRAMES_MAX, STEPS_MAX, IMAGES_MAX}
+use Rattle.jos_base.specs.declared.numbers.TheConstants.{INPUT_MAX, FRAMES_MIN, FRAMES_MAX, STEPS_MAX, TRACE_MAX, IMAGES_MAX}
 use Rattle.jos_words.specs.Commands.{Command, Exo, exo, demo}
 use Rattle.jos_cli.specs.declared.outcome.Which.{Which}
-use Rattle.jos_cli.specs.Limits.{place_out, first_out, or_images, limit_of_words}
+use Rattle.jos_cli.specs.Limits.{place_out, out_of, earlier, numbers_out, or_images, limit_of_words}
 use Rattle.jos_kernel.specs.declared.report.Stopped.{Stopped}
 use Rattle.jos_cli.specs.Answer.{Answer, usage, absent, limit, bad_schedule, bad_image, ran, made}
 use Rattle.jos_cli.specs.Outcomes.{Kind, answered, cut_off, no_memory, kind_of, left_by, LeavesInputBy, LeavesInput}
@@ -32,11 +32,12 @@ kept answer None new e keeps = e
 kept answer (Some input) new e keeps = e ∙ ap (λ l. Some l) (sym (keeps input))
 
 pub left_booted : (o : Outcome) (old new : Option (List ℕ)) → IsBooted o → new ≡ option_map (λ bytes. []) old → LeavesInputBy (kind_of o) (from_to old new)
-left_booted (outcome.Ran report) old new h e = e
+left_booted (outcome.Ran report trace) old new h e = e
 left_booted outcome.Usage old new h e = absurd h
 left_booted (outcome.Absent word) old new h e = absurd h
 left_booted (outcome.Limit which.Frames) old new h e = absurd h
 left_booted (outcome.Limit which.Steps) old new h e = absurd h
+left_booted (outcome.Limit which.Trace) old new h e = absurd h
 left_booted (outcome.Limit which.Images) old new h e = absurd h
 left_booted (outcome.Limit which.Schedule) old new h e = absurd h
 left_booted (outcome.Limit which.Image) old new h e = absurd h
@@ -50,11 +51,12 @@ left_booted (outcome.Made bytes) old new h e = absurd h
 
 -- where a file was not read
 pub left_unread : (o : Outcome) (old new : Option (List ℕ)) → IsUnread o → new ≡ old → LeavesInputBy (kind_of o) (from_to old new)
-left_unread (outcome.Ran report) old new h e = absurd h
+left_unread (outcome.Ran report trace) old new h e = absurd h
 left_unread outcome.Usage old new h e = absurd h
 left_unread (outcome.Absent word) old new h e = kept (absent word) old new e (λ input. refl)
 left_unread (outcome.Limit which.Frames) old new h e = absurd h
 left_unread (outcome.Limit which.Steps) old new h e = absurd h
+left_unread (outcome.Limit which.Trace) old new h e = absurd h
 left_unread (outcome.Limit which.Images) old new h e = absurd h
 left_unread (outcome.Limit which.Schedule) old new h e = kept (limit which.Schedule) old new e (λ input. refl)
 left_unread (outcome.Limit which.Image) old new h e = kept (limit which.Image) old new e (λ input. refl)
@@ -74,35 +76,69 @@ Keeps : Option Which → Type 0
 Keeps None = Unit {0}
 Keeps (Some which) = (input : List ℕ) → left_by (limit which) input ≡ input
 
-words_keep : (frames steps : Option ℕ) (images : ℕ) → Keeps (or_images (first_out frames steps) images)
+-- the limit of a number
+abbrev IsNumber : Which → Type 0
+IsNumber which.Frames = Unit {0}
+IsNumber which.Steps = Unit {0}
+IsNumber which.Trace = Unit {0}
+IsNumber _ = ⊥
+
+abbrev OfNumber : Option (ℕ × Which) → Type 0
+OfNumber None = Unit {0}
+OfNumber (Some number) = IsNumber number.1
+
+number_keeps : (which : Which) → IsNumber which → (input : List ℕ) → left_by (limit which) input ≡ input
+number_keeps which.Frames h input = refl
+number_keeps which.Steps h input = refl
+number_keeps which.Trace h input = refl
+number_keeps which.Images h input = absurd h
+number_keeps which.Schedule h input = absurd h
+number_keeps which.Image h input = absurd h
+number_keeps which.Input h input = absurd h
+number_keeps which.Boot h input = absurd h
+
+out_number : (which : Which) (place : Option ℕ) → IsNumber which → OfNumber (option_map (λ p. (p, which)) place)
+out_number which None h = tt
+out_number which (Some place) h = h
+
+earlier_number : (a b : Option (ℕ × Which)) → OfNumber a → OfNumber b → OfNumber (earlier a b)
+earlier_number None b h k = k
+earlier_number (Some a) None h k = h
+earlier_number (Some a) (Some b) h k = go (nat_lt b.0 a.0)
+  where
+    go : (c : Bool) → OfNumber (cond c (Some b) (Some a))
+    go true = k
+    go false = h
+
+words_keep : (number : Option (ℕ × Which)) (images : ℕ) → OfNumber number → Keeps (or_images number images)
 unfolding Keeps
-words_keep None None images = go (nat_lt IMAGES_MAX images)
+words_keep None images h = go (nat_lt IMAGES_MAX images)
   where
     go : (b : Bool) → Keeps (cond b (Some which.Images) None)
     go true = λ input. refl
     go false = tt
-words_keep (Some frames) None images = λ input. refl
-words_keep None (Some steps) images = λ input. refl
-words_keep (Some frames) (Some steps) images = go (nat_lt steps frames)
-  where
-    go : (b : Bool) → Keeps (or_images (cond b (Some which.Steps) (Some which.Frames)) images)
-    go true = λ input. refl
-    go false = λ input. refl
+words_keep (Some number) images h = λ input. number_keeps number.1 h input
 
 pub left_words : (e : Exo) (which : Which) (old : Option (List ℕ)) → limit_of_words e ≡ Some which → LeavesInputBy (answered (limit which)) (from_to old old)
 unfolding limit_of_words Keeps
-left_words e which old h =
-    kept (limit which) old old refl
-    (subst Keeps h (words_keep (place_out FRAMES_MIN FRAMES_MAX e.frames) (place_out 1 STEPS_MAX e.steps) (length e.images)))
+left_words e limit_is old h =
+    kept (limit limit_is) old old refl
+    (subst Keeps h
+    (words_keep (numbers_out e) (length e.images)
+    (earlier_number _ (out_of which.Trace 0 TRACE_MAX e.trace)
+    (earlier_number (out_of which.Frames FRAMES_MIN FRAMES_MAX e.frames) (out_of which.Steps 1 STEPS_MAX e.steps)
+    (out_number which.Frames (place_out FRAMES_MIN FRAMES_MAX e.frames) tt) (out_number which.Steps (place_out 1 STEPS_MAX e.steps) tt))
+    (out_number which.Trace (place_out 0 TRACE_MAX e.trace) tt))))
 
 -- ---- what is left where the note could not be written
 
 left_is : (answer : Answer) (input : List ℕ) → (n : ℕ) × (left_by answer input ≡ drop n input)
-left_is (ran report) input = (length input, sym (drop_all (length input) input (omega arith)))
+left_is (ran report trace) input = (length input, sym (drop_all (length input) input (omega arith)))
 left_is usage input = (0, refl)
 left_is (absent word) input = (0, refl)
 left_is (limit which.Frames) input = (0, refl)
 left_is (limit which.Steps) input = (0, refl)
+left_is (limit which.Trace) input = (0, refl)
 left_is (limit which.Images) input = (0, refl)
 left_is (limit which.Schedule) input = (0, refl)
 left_is (limit which.Image) input = (0, refl)

@@ -1,4 +1,4 @@
-pub mod Frames
+pub mod NotesWritten
 pub mod FilesWritten
 pub mod Asking
 pub mod Finding

@@ -48,7 +48,7 @@ pub noted : (files : Option Files) (input : Option (List ℕ)) (words : List (Li
     Gains notes (note_of words outcome) → IfHostFault outcome (FaultIsNoted files input words faults console notes)
 unfolding FaultIsNoted
 noted files input words (outcome.HostFault stopped) faults console notes h = inl h
-noted files input words (outcome.Ran report) faults console notes h = tt
+noted files input words (outcome.Ran report trace) faults console notes h = tt
 noted files input words outcome.Usage faults console notes h = tt
 noted files input words (outcome.Absent word) faults console notes h = tt
 noted files input words (outcome.Limit which) faults console notes h = tt
@@ -59,7 +59,7 @@ noted files input words (outcome.Made bytes) faults console notes h = tt
 
 pub is_noted : (words : List (List ℕ)) (outcome : Outcome) (notes : Around (Option (List ℕ))) → Gains notes (note_of words outcome) → IsNoted words outcome notes
 is_noted words (outcome.HostFault stopped) notes h = (note_of words (outcome.HostFault stopped), h)
-is_noted words (outcome.Ran report) notes h = h
+is_noted words (outcome.Ran report trace) notes h = h
 is_noted words outcome.Usage notes h = h
 is_noted words (outcome.Absent word) notes h = h
 is_noted words (outcome.Limit which) notes h = h
@@ -84,7 +84,7 @@ module _ (files : Option Files) (input : Option (List ℕ)) (words : List (List 
       FaultIsNoted files input words (from_to faults.before now) (from_to console.before later) notes
   unfolding FaultIsNoted
   not_noted (outcome.HostFault stopped) cause answer part = inr (inl ((faults.after, cause.0, rose), part))
-  not_noted (outcome.Ran report) cause answer part = others (outcome.Ran report) (moved (outcome.Ran report) answer) part
+  not_noted (outcome.Ran report trace) cause answer part = others (outcome.Ran report trace) (moved (outcome.Ran report trace) answer) part
   not_noted outcome.Usage cause answer part = others outcome.Usage (moved outcome.Usage answer) part
   not_noted (outcome.Absent word) cause answer part = others (outcome.Absent word) (moved (outcome.Absent word) answer) part
   not_noted (outcome.Limit which) cause answer part = others (outcome.Limit which) (moved (outcome.Limit which) answer) part

@@ -8,13 +8,15 @@ use Rattle.jos_sched.specs.Schedule as schedule
 use Rattle.jos_elf.specs.declared.fault.ElfFault.{ElfFault}
 use Rattle.jos_elf.specs.Parsed.{Layout}
 use Rattle.jos_elf.specs.Parsed as image
+use Rattle.circular_buffer.specs.Buffer.{keep_last}
+use Rattle.jos_kernel.specs.declared.trace.TrapLine.{TrapLine}
 use Rattle.jos_kernel.specs.Reports.{Reported}
 use Rattle.jos_kernel.specs.Boot.{Loadable}
 use Rattle.jos_kernel.specs.ExoRun.{Ran, exo_run, report_of}
 use Rattle.jos_cli.specs.declared.outcome.Which.{Which}
 use Rattle.jos_cli.specs.declared.outcome.Which.TheVariants.{Schedule, Image, Input, Boot}
 use Rattle.jos_cli.specs.Commands.{program_file}
-use Rattle.jos_cli.specs.Limits.{limit_of_words, frames_of, steps_of}
+use Rattle.jos_cli.specs.Limits.{limit_of_words, frames_of, steps_of, trace_of}
 use Rattle.jos_cli.specs.Found.{FileAt, Found}
 
 pub data Answer : Type 0 where
@@ -24,7 +26,8 @@ pub data Answer : Type 0 where
   limit : Which → Answer
   bad_schedule : ScheduleFault → Answer
   bad_image : ℕ → ElfFault → Answer
-  ran : Reported → Answer
+  -- what is told of the run, and the last of its traps, as many as the words ask for
+  ran : Reported → List TrapLine → Answer
   -- the number of bytes that are written
   made : ℕ → Answer
 
@@ -90,9 +93,12 @@ expected_if (Ok x) next = next x
 expected_if (Err answer) next = refused answer
 
 -- there is no run where the frames are too few to boot the images
-abbrev pub expected_of_run : Option Ran → Expected
-expected_of_run None = refused (limit Boot)
-expected_of_run (Some r) = record { answer = ran (report_of r.progress r.end); console = r.progress.console }
+abbrev pub expected_of_run : ℕ → Option Ran → Expected
+expected_of_run trace None = refused (limit Boot)
+expected_of_run trace (Some r) = record {
+  answer = ran (report_of r.progress r.end) (keep_last trace r.progress.traps);
+  console = r.progress.console;
+}
 
 -- of `exo`, for the files that are found and the input
 unfoldable pub expected_of_exo : Exo → Found → List ℕ → Expected
@@ -101,7 +107,7 @@ expected_of_exo e found input =
     expected_if (schedule_of found.schedule) (λ numbers.
     expected_if (images_of found.images) (λ images.
     expected_if (input_of input) (λ bytes.
-    expected_of_run (exo_run images bytes numbers (frames_of e) (steps_of e))))))
+    expected_of_run (trace_of e) (exo_run images bytes numbers (frames_of e) (steps_of e))))))
 
 -- of `demo`, for the name of a program
 abbrev pub expected_of_demo : List ℕ → Expected

@@ -1,5 +1,5 @@
--- The note that tells the answer: one line. (This system's own.)
-use Rattle.std.specs.Prelude.{ℕ, List, [], ◌++◌, length, slice_get, unwrap_or, Option, codes, decimal}
+-- The notes: the traps that are told, and one line that tells the answer. (This system's own.)
+use Rattle.std.specs.Prelude.{ℕ, List, [], ◌∷◌, ◌++◌, length, slice_get, unwrap_or, Option, codes, decimal}
 use Rattle.jos_elf.specs.declared.fault.ElfFault.{ElfFault}
 use Rattle.jos_elf.specs.FaultTexts.{fault_text}
 use Rattle.jos_sched.specs.declared.fault.ScheduleFault.{ScheduleFault}
@@ -12,6 +12,8 @@ use Rattle.jos_cli.specs.declared.outcome.Outcome.{Outcome}
 use Rattle.jos_cli.specs.declared.outcome.Outcome.TheVariants.{Ran, Usage, Absent, Limit, BadSchedule, BadImage}
 use Rattle.jos_cli.specs.declared.outcome.Outcome.TheVariants.{HostFault, NoMemory, Made}
 use Rattle.jos_host.specs.Frames.{Around}
+use Rattle.jos_base.specs.Lines.{trace_line}
+use Rattle.jos_kernel.specs.declared.trace.TrapLine.{TrapLine}
 use Rattle.jos_kernel.specs.Reports.{Reported}
 use Rattle.jos_host.specs.Gains.{Gains}
 
@@ -29,6 +31,7 @@ report_text r =
 abbrev pub limit_text : Which → List ℕ
 limit_text which.Frames = codes "limit: frames\n"
 limit_text which.Steps = codes "limit: steps\n"
+limit_text which.Trace = codes "limit: trace\n"
 limit_text which.Images = codes "limit: images\n"
 limit_text which.Schedule = codes "limit: schedule\n"
 limit_text which.Image = codes "limit: image\n"
@@ -53,7 +56,7 @@ made_text bytes = codes "made " ++ decimal bytes ++ codes "\n"
 
 -- the line, but for the word that begins it
 abbrev pub note_text : Outcome → List ℕ
-note_text (Ran report) = report_text report
+note_text (Ran report trace) = report_text report
 note_text Usage = codes "usage: jos COMMAND [OPTIONS] WORDS\n"
 note_text (Absent word) = codes ": absent\n"
 note_text (Limit which) = limit_text which
@@ -69,10 +72,23 @@ word_in_note words (Absent word) = unwrap_or (slice_get words word) []
 word_in_note words (BadImage word fault) = unwrap_or (slice_get words word) []
 word_in_note words _ = []
 
-abbrev pub note_of : List (List ℕ) → Outcome → List ℕ
-note_of words outcome = word_in_note words outcome ++ note_text outcome
+-- ---- the traps
 
--- The notes have gained the line that tells the answer; where a call of the host failed, some bytes.
+unfoldable pub trace_text : List TrapLine → List ℕ
+trace_text [] = []
+trace_text (trap ∷ rest) = trace_line trap.id trap.trap trap.error trap.va trap.ip ++ trace_text rest
+
+-- a line for each trap of a run that is told, in their order
+abbrev pub traps_told : Outcome → List ℕ
+traps_told (Ran report trace) = trace_text trace.items
+traps_told _ = []
+
+-- ---- all of it
+
+abbrev pub note_of : List (List ℕ) → Outcome → List ℕ
+note_of words outcome = word_in_note words outcome ++ (traps_told outcome ++ note_text outcome)
+
+-- The notes have gained a line for each trap that is told, and then the line that tells the answer; where a call of the host failed, some bytes.
 abbrev pub IsNoted : List (List ℕ) → Outcome → Around (Option (List ℕ)) → Type 0
 IsNoted words (HostFault stopped) notes = (bytes : List ℕ) × Gains notes bytes
 IsNoted words outcome notes = Gains notes (note_of words outcome)

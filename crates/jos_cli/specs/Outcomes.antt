@@ -28,7 +28,7 @@ pub data Kind : Type 0 where
   no_memory : Kind
 
 abbrev pub kind_of : Outcome → Kind
-kind_of (Ran report) = answered (ran report)
+kind_of (Ran report trace) = answered (ran report trace.items)
 kind_of Usage = answered usage
 kind_of (Absent word) = answered (absent word)
 kind_of (Limit which) = answered (limit which)
@@ -91,7 +91,7 @@ pub record CanRun (e : Exo) (found : Found) (input : List ℕ) : Type 0 where
 
 -- it was run, or there was no memory to begin with
 abbrev pub IsRunCase : Outcome → Type 0
-IsRunCase (Ran report) = Unit {0}
+IsRunCase (Ran report trace) = Unit {0}
 IsRunCase NoMemory = Unit {0}
 IsRunCase _ = ⊥
 
@@ -111,7 +111,7 @@ IsMemoryCase _ = ⊥
 
 -- No input is taken before all files are read, and then all of it, up to one byte past the limit.
 abbrev pub left_by : Answer → List ℕ → List ℕ
-left_by (ran report) input = []
+left_by (ran report trace) input = []
 left_by (limit Boot) input = []
 left_by (limit Input) input = drop (INPUT_MAX + 1) input
 left_by _ input = input
@@ -136,7 +136,7 @@ end_status Budget = 10
 end_status TurnsFull = 11
 
 abbrev pub status_of : Outcome → ℕ
-status_of (Ran report) = end_status report.end
+status_of (Ran report trace) = end_status report.end
 status_of Usage = 1
 status_of (Absent word) = 2
 status_of (Limit which) = 3

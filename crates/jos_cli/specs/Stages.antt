@@ -2,6 +2,7 @@
 use Rattle.std.specs.Prelude.{◌≡◌, ℕ, List, [], ◌∷◌, Option, Some, None, Result, Ok, Err}
 use Rattle.jos_host.specs.Files.{Files}
 use Rattle.jos_words.specs.Arguments.{Word}
+use Rattle.jos_words.specs.Commands.{Exo}
 use Rattle.jos_sched.specs.declared.fault.ScheduleFault.{ScheduleFault}
 use Rattle.jos_sched.specs.declared.fault.ScheduleFault.TheVariants as schedule
 use Rattle.jos_kernel.specs.Boot.{Loadable}
@@ -9,6 +10,8 @@ use Rattle.jos_kernel.specs.ExoRun.{exo_run}
 use Rattle.jos_cli.specs.declared.outcome.Outcome.{Outcome}
 use Rattle.jos_cli.specs.declared.outcome.Outcome.TheVariants.{Ran, Absent, Limit, BadSchedule, BadImage, HostFault, NoMemory}
 use Rattle.jos_cli.specs.declared.outcome.Which.TheVariants.{Schedule, Image, Boot}
+use Rattle.jos_cli.specs.declared.limits.Settings.{Settings}
+use Rattle.jos_cli.specs.Limits.{frames_of, steps_of, trace_of}
 use Rattle.jos_cli.specs.Found.{FileAt, file_at, Found}
 use Rattle.jos_cli.specs.Answer.{Judged, schedule_of, images_of, input_of, Expected, expected_if, expected_of_run}
 use Rattle.jos_cli.specs.Outcomes.{Kind, answered, cut_off, no_memory, kind_of}
@@ -49,17 +52,21 @@ refusal_of fault = BadSchedule fault
 
 -- ---- what is expected from then on
 
-abbrev pub expected_of_input : List Loadable → List ℕ → ℕ → ℕ → List ℕ → Expected
-expected_of_input images numbers frames steps input =
-    expected_if (input_of input) (λ bytes. expected_of_run (exo_run images bytes numbers frames steps))
+-- the numbers that the words give or leave
+abbrev pub settings_of : Exo → Settings
+settings_of e = record { frames = frames_of e; steps = steps_of e; trace = trace_of e }
 
-abbrev pub expected_of_images : List ℕ → ℕ → ℕ → List ℕ → List FileAt → Expected
-expected_of_images numbers frames steps input files =
-    expected_if (images_of files) (λ images. expected_of_input images numbers frames steps input)
+abbrev pub expected_of_input : List Loadable → List ℕ → Settings → List ℕ → Expected
+expected_of_input images schedule settings input =
+    expected_if (input_of input) (λ bytes. expected_of_run settings.trace (exo_run images bytes schedule settings.frames settings.steps))
 
-abbrev pub expected_of_files : ℕ → ℕ → List ℕ → Found → Expected
-expected_of_files frames steps input found =
-    expected_if (schedule_of found.schedule) (λ numbers. expected_of_images numbers frames steps input found.images)
+abbrev pub expected_of_images : List ℕ → Settings → List ℕ → List FileAt → Expected
+expected_of_images schedule settings input files =
+    expected_if (images_of files) (λ images. expected_of_input images schedule settings input)
+
+abbrev pub expected_of_files : Settings → List ℕ → Found → Expected
+expected_of_files settings input found =
+    expected_if (schedule_of found.schedule) (λ schedule. expected_of_images schedule settings input found.images)
 
 -- the outcome where a file that the words name was not read
 abbrev pub IsUnread : Outcome → Type 0
@@ -74,13 +81,13 @@ IsUnread _ = ⊥
 
 -- the outcome of a run that began
 abbrev pub IsEnd : Outcome → Type 0
-IsEnd (Ran report) = Unit {0}
+IsEnd (Ran report trace) = Unit {0}
 IsEnd (HostFault stopped) = Unit {0}
 IsEnd _ = ⊥
 
 -- the outcome of images that were read, with their input
 abbrev pub IsBooted : Outcome → Type 0
-IsBooted (Ran report) = Unit {0}
+IsBooted (Ran report trace) = Unit {0}
 IsBooted (Limit Boot) = Unit {0}
 IsBooted (HostFault stopped) = Unit {0}
 IsBooted NoMemory = Unit {0}

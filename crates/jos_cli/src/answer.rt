@@ -26,7 +26,7 @@ ghost use Rattle.jos_cli.specs.FaultNotes.{IfHostFault, FaultIsNoted};
 
 use crate::files::{host_fault, write_file};
 use crate::input::read_input;
-use crate::limits::{frames_of, limit_of_words, steps_of};
+use crate::limits::{Settings, limit_of_words, settings_of};
 use crate::loading::{Images, read_images, read_schedule};
 use crate::notes::write_note;
 use crate::outcome::{Outcome, Which};
@@ -37,9 +37,10 @@ use jos_sched::Schedule;
 use jos_words::{Command, DemoWords, ExoWords, WordAt, WordsFault, read_words};
 use std::alloc::Global;
 
-/// Does what the words ask: `exo [--frames N] [--steps N] [--schedule FILE] IMAGE..` runs the images, and
+/// Does what the words ask: `exo [--frames N] [--steps N] [--schedule FILE] [--trace N] IMAGE..` runs the images, and
 /// `demo NAME FILE` writes an example program. The words are those behind the program's name. Each answer has its
-/// note, one line; where a call of the host fails, the note `host fault` is tried once.
+/// note, one line, and before it stand the last traps of a run, as many as the words ask for; where a call of the host
+/// fails, the note `host fault` is tried once.
 ///
 /// (The lines and limits are in `docs/commands.md`.)
 pub fn top<'a, H: Host>(alloc: Global, words: &'a [&'a str], host: &mut H) -> Outcome
@@ -47,7 +48,7 @@ pub fn top<'a, H: Host>(alloc: Global, words: &'a [&'a str], host: &mut H) -> Ou
     // tells, and else some; where a call of the host failed, the console has a part of that.
     ensures answer { AnswersCommand (H.files host.old) (H.input host.old) (command_of (map (λ w. w.now) words.now)) result
         (around H.console host.old host.new) }
-    // The note is the line of the answer.
+    // The notes are the lines of the traps that are told, and the line of the answer.
     ensures notes { IsNoted (map (λ w. w.now) words.now) result (around H.notes host.old host.new) }
     // Where a call of the host failed, it is the line `host fault`, or a part of that or of the answer's own line where
     // the note failed.
@@ -101,19 +102,22 @@ pub(crate) fn refuse_words<H: Host>(alloc: Global, host: &mut H) -> Outcome
 
 /// Runs the kernel that was booted. Nothing more is asked of an allocator, so the run ends as it is defined to end,
 /// unless a call of the host fails.
-fn run_kernel<H: Host>(mut kernel: Kernel, steps: u64, host: &mut H) -> Outcome
+fn run_kernel<H: Host>(mut kernel: Kernel, settings: Settings, host: &mut H) -> Outcome
     requires holds { Holds kernel }
-    requires counts { Counts kernel nothing }
+    requires counts { Counts kernel (record nothing { kept = settings.trace }) }
     requires first { kernel.steps ≡ 0 }
-    ensures told { Answers (expected_of_run (Some (run_from kernel.schedule steps (progress_of kernel nothing)))) result
+    ensures told { Answers (expected_of_run settings.trace (Some (run_from kernel.schedule settings.steps (progress_of kernel nothing)))) result
         (around H.console host.old host.new) }
     ensures rest { Unchanged H.files H.input H.asked H.notes host.old host.new }
     ensures cause { HasOutcomeCause (around H.faults host.old host.new) result }
     // No run ends for want of memory.
     ensures end { IsEnd result }
 {
-    match exo_run(&mut kernel, host, steps) {
-        ExoEnd::Ended(end) => Outcome::Ran(kernel.finish(end)),
+    match exo_run(&mut kernel, host, settings.steps) {
+        ExoEnd::Ended(end) => {
+            let (report, trace) = kernel.finish(end);
+            Outcome::Ran(report, trace)
+        }
         ExoEnd::HostFault => Outcome::HostFault(kernel.cut_off()),
     }
 }
@@ -124,23 +128,30 @@ fn run_loaded<H: Host>(
     read: &Images,
     input: Vec<u8>,
     schedule: Schedule,
-    frames: u32,
-    steps: u64,
+    settings: Settings,
     host: &mut H,
 ) -> Outcome
     requires read { All IsRead (loadables read.now.images.items read.now.files.items) }
-    requires least { FRAMES_MIN ≤ frames }
-    requires most { frames ≤ FRAMES_MAX }
-    ensures told { Answers (expected_of_run (exo_run (loadables read.now.images.items read.now.files.items)
-        input.items schedule frames steps)) result (around H.console host.old host.new) }
+    requires least { FRAMES_MIN ≤ settings.frames }
+    requires most { settings.frames ≤ FRAMES_MAX }
+    ensures told { Answers (expected_of_run settings.trace (exo_run (loadables read.now.images.items read.now.files.items)
+        input.items schedule settings.frames settings.steps)) result (around H.console host.old host.new) }
     ensures rest { Unchanged H.files H.input H.asked H.notes host.old host.new }
     ensures cause { HasOutcomeCause (around H.faults host.old host.new) result }
     ensures kind { IsBooted result }
     // Want of memory is answered only where nothing was asked of the host.
     ensures memory { result ≡ Outcome.NoMemory → host.new ≡ host.old }
 {
-    match Kernel::boot(alloc, &read.images, &read.files, frames, input, schedule) {
-        Ok(kernel) => run_kernel(kernel, steps, host),
+    match Kernel::boot(
+        alloc,
+        &read.images,
+        &read.files,
+        settings.frames,
+        input,
+        schedule,
+        settings.trace,
+    ) {
+        Ok(kernel) => run_kernel(kernel, settings, host),
         Err(BootFault::Pool) => Outcome::Limit(Which::Boot),
         Err(BootFault::NoMemory) => Outcome::NoMemory,
     }
@@ -151,15 +162,14 @@ fn run_images<H: Host>(
     alloc: Global,
     read: &Images,
     schedule: Schedule,
-    frames: u32,
-    steps: u64,
+    settings: Settings,
     host: &mut H,
 ) -> Outcome
     requires read { All IsRead (loadables read.now.images.items read.now.files.items) }
-    requires least { FRAMES_MIN ≤ frames }
-    requires most { frames ≤ FRAMES_MAX }
+    requires least { FRAMES_MIN ≤ settings.frames }
+    requires most { settings.frames ≤ FRAMES_MAX }
     ensures told { (input : List ℕ) × IsInput (H.input host.old) input
-        × Answers (expected_of_input (loadables read.now.images.items read.now.files.items) schedule frames steps input)
+        × Answers (expected_of_input (loadables read.now.images.items read.now.files.items) schedule settings input)
         result (around H.console host.old host.new) }
     ensures files { H.files host.new ≡ H.files host.old }
     ensures notes { H.notes host.new ≡ H.notes host.old }
@@ -169,7 +179,7 @@ fn run_images<H: Host>(
     ensures no_usage { result ≢ Outcome.Usage }
 {
     match read_input(alloc, host) {
-        Ok(input) => run_loaded(alloc, read, input, schedule, frames, steps, host),
+        Ok(input) => run_loaded(alloc, read, input, schedule, settings, host),
         Err(outcome) => outcome,
     }
 }
@@ -179,15 +189,14 @@ fn run_named<'a, H: Host>(
     alloc: Global,
     words: &[WordAt<'a>],
     schedule: Schedule,
-    frames: u32,
-    steps: u64,
+    settings: Settings,
     host: &mut H,
 ) -> Outcome
-    requires least { FRAMES_MIN ≤ frames }
-    requires most { frames ≤ FRAMES_MAX }
+    requires least { FRAMES_MIN ≤ settings.frames }
+    requires most { settings.frames ≤ FRAMES_MAX }
     ensures told { (files : List FileAt) × (input : List ℕ) × AreFilesAt (H.files host.old) (map word_in_bytes words.now) files
         × IsInput (H.input host.old) input
-        × Answers (expected_of_images schedule frames steps input files) result (around H.console host.old host.new) }
+        × Answers (expected_of_images schedule settings input files) result (around H.console host.old host.new) }
     ensures files { H.files host.new ≡ H.files host.old }
     ensures notes { H.notes host.new ≡ H.notes host.old }
     ensures input { LeavesInputBy (kind_of result) (around H.input host.old host.new) }
@@ -196,24 +205,18 @@ fn run_named<'a, H: Host>(
     ensures no_usage { result ≢ Outcome.Usage }
 {
     match read_images(alloc, words, host) {
-        Ok(read) => run_images(alloc, &read, schedule, frames, steps, host),
+        Ok(read) => run_images(alloc, &read, schedule, settings, host),
         Err(outcome) => outcome,
     }
 }
 
 /// Runs what the words of `exo` ask, within their limits.
-fn run_within<H: Host>(
-    alloc: Global,
-    words: &ExoWords,
-    frames: u32,
-    steps: u64,
-    host: &mut H,
-) -> Outcome
-    requires least { FRAMES_MIN ≤ frames }
-    requires most { frames ≤ FRAMES_MAX }
+fn run_within<H: Host>(alloc: Global, words: &ExoWords, settings: Settings, host: &mut H) -> Outcome
+    requires least { FRAMES_MIN ≤ settings.frames }
+    requires most { settings.frames ≤ FRAMES_MAX }
     ensures told { (found : Found) × (input : List ℕ) × IsFound (H.files host.old) (exo_in_bytes words.now) found
         × IsInput (H.input host.old) input
-        × Answers (expected_of_files frames steps input found) result (around H.console host.old host.new) }
+        × Answers (expected_of_files settings input found) result (around H.console host.old host.new) }
     ensures files { H.files host.new ≡ H.files host.old }
     ensures notes { H.notes host.new ≡ H.notes host.old }
     ensures input { LeavesInputBy (kind_of result) (around H.input host.old host.new) }
@@ -222,7 +225,7 @@ fn run_within<H: Host>(
     ensures no_usage { result ≢ Outcome.Usage }
 {
     match read_schedule(alloc, words.schedule, host) {
-        Ok(schedule) => run_named(alloc, &words.images, schedule, frames, steps, host),
+        Ok(schedule) => run_named(alloc, &words.images, schedule, settings, host),
         Err(outcome) => outcome,
     }
 }
@@ -241,7 +244,7 @@ fn answer_exo<H: Host>(alloc: Global, words: &ExoWords, host: &mut H) -> Outcome
 {
     match limit_of_words(words) {
         Some(which) => Outcome::Limit(which),
-        None => run_within(alloc, words, frames_of(words), steps_of(words), host),
+        None => run_within(alloc, words, settings_of(words), host),
     }
 }
 

@@ -1,12 +1,13 @@
 //! The numbers that the words of `exo` give, and the limits of these words.
 
 ghost use Rattle.std.specs.Prelude.{◌≡◌, ◌≤◌, None};
-ghost use Rattle.jos_base.specs.declared.numbers.TheConstants.{FRAMES, FRAMES_MIN, FRAMES_MAX, STEPS, STEPS_MAX};
+ghost use Rattle.jos_base.specs.declared.numbers.TheConstants.{FRAMES_MIN, FRAMES_MAX};
 ghost use Rattle.jos_words.specs.Commands.{exo_in_bytes};
-ghost use Rattle.jos_cli.specs.Limits.{value_or, place_out, first_out, limit_of_words};
+ghost use Rattle.jos_cli.specs.Limits.{place_out, out_of, earlier, limit_of_words, AreWithin};
+ghost use Rattle.jos_cli.specs.Stages.{settings_of};
 
 use crate::outcome::Which;
-use jos_base::{FRAMES, FRAMES_MAX, FRAMES_MIN, IMAGES_MAX, STEPS, STEPS_MAX};
+use jos_base::{FRAMES, FRAMES_MAX, FRAMES_MIN, IMAGES_MAX, STEPS, STEPS_MAX, TRACE_MAX};
 use jos_words::{ExoWords, NumberAt};
 
 /// The place of a number that is out of its range.
@@ -25,21 +26,24 @@ fn place_out(least: u64, most: u64, number: Option<NumberAt>) -> Option<usize>
     }
 }
 
-/// Of the numbers of frames and of steps that are out of range, the one that stands first.
-fn first_out(frames: Option<usize>, steps: Option<usize>) -> Option<Which>
-    ensures { result ≡ first_out frames steps }
+/// The number that is out of its range, by its place.
+fn out_of(which: Which, least: u64, most: u64, number: Option<NumberAt>) -> Option<(usize, Which)>
+    ensures { result ≡ out_of which least most number }
 {
-    match (frames, steps) {
-        (None, None) => None,
-        (Some(_), None) => Some(Which::Frames),
-        (None, Some(_)) => Some(Which::Steps),
-        (Some(frames), Some(steps)) => {
-            if steps < frames {
-                Some(Which::Steps)
-            } else {
-                Some(Which::Frames)
-            }
-        }
+    match place_out(least, most, number) {
+        None => None,
+        Some(place) => Some((place, which)),
+    }
+}
+
+/// Of two numbers that are out of range, the one that stands first.
+fn earlier(a: Option<(usize, Which)>, b: Option<(usize, Which)>) -> Option<(usize, Which)>
+    ensures { result ≡ earlier a b }
+{
+    match (a, b) {
+        (None, b) => b,
+        (Some(a), None) => Some(a),
+        (Some(a), Some(b)) => { if b.0 < a.0 { Some(b) } else { Some(a) } }
     }
 }
 
@@ -47,13 +51,18 @@ fn first_out(frames: Option<usize>, steps: Option<usize>) -> Option<Which>
 #[tactic(auto, unfolding(crate::specs::Limits::limit_of_words))]
 pub(crate) fn limit_of_words(words: &ExoWords) -> Option<Which>
     ensures limit { result ≡ limit_of_words (exo_in_bytes words.now) }
-    ensures frames { result ≡ None → place_out FRAMES_MIN FRAMES_MAX words.now.frames ≡ None }
-    ensures steps { result ≡ None → place_out 1 STEPS_MAX words.now.steps ≡ None }
+    ensures within { result ≡ None → AreWithin (exo_in_bytes words.now) }
 {
-    let frames = place_out(FRAMES_MIN as u64, FRAMES_MAX as u64, words.frames);
-    let steps = place_out(1, STEPS_MAX, words.steps);
-    match first_out(frames, steps) {
-        Some(which) => Some(which),
+    let frames = out_of(
+        Which::Frames,
+        FRAMES_MIN as u64,
+        FRAMES_MAX as u64,
+        words.frames,
+    );
+    let steps = out_of(Which::Steps, 1, STEPS_MAX, words.steps);
+    let trace = out_of(Which::Trace, 0, TRACE_MAX as u64, words.trace);
+    match earlier(earlier(frames, steps), trace) {
+        Some((_, which)) => Some(which),
         None => {
             if words.images.len() > IMAGES_MAX {
                 Some(Which::Images)
@@ -64,27 +73,35 @@ pub(crate) fn limit_of_words(words: &ExoWords) -> Option<Which>
     }
 }
 
-/// The frames of a run.
-pub(crate) fn frames_of(words: &ExoWords) -> u32
-    requires { place_out FRAMES_MIN FRAMES_MAX words.now.frames ≡ None }
-    ensures frames { result ≡ value_or FRAMES words.now.frames }
-    ensures least { FRAMES_MIN ≤ result }
-    ensures most { result ≤ FRAMES_MAX }
-{
-    match words.frames {
-        None => FRAMES,
-        Some(number) => number.value as u32,
-    }
+/// The numbers of a run.
+#[derive(Clone, Copy)]
+pub(crate) struct Settings {
+    pub(crate) frames: u32,
+    /// The most steps.
+    pub(crate) steps: u64,
+    /// How many of the last traps are told.
+    pub(crate) trace: u32,
 }
 
-/// The steps of a run.
-pub(crate) fn steps_of(words: &ExoWords) -> u64
-    requires { place_out 1 STEPS_MAX words.now.steps ≡ None }
-    ensures steps { result ≡ value_or STEPS words.now.steps }
-    ensures most { result ≤ STEPS_MAX }
+/// The numbers that the words of `exo` give or leave.
+pub(crate) fn settings_of(words: &ExoWords) -> Settings
+    requires { AreWithin (exo_in_bytes words.now) }
+    ensures settings { result ≡ settings_of (exo_in_bytes words.now) }
+    ensures least { FRAMES_MIN ≤ result.frames }
+    ensures most { result.frames ≤ FRAMES_MAX }
 {
-    match words.steps {
-        None => STEPS,
-        Some(number) => number.value as u64,
+    Settings {
+        frames: match words.frames {
+            None => FRAMES,
+            Some(number) => number.value as u32,
+        },
+        steps: match words.steps {
+            None => STEPS,
+            Some(number) => number.value as u64,
+        },
+        trace: match words.trace {
+            None => 0,
+            Some(number) => number.value as u32,
+        },
     }
 }

@@ -1,14 +1,14 @@
-//! The note that tells the answer.
+//! The notes: the traps that are told, and the line that tells the answer.
 
 ghost use Rattle.std.specs.Prelude.{◌≡◌, ◌≤◌, [], ◌++◌, codes, decimal, length, slice_get, unwrap_or, MatchResult, map};
 ghost use Rattle.jos_host.specs.Told.{HasCause, Appends};
 ghost use Rattle.jos_host.specs.Frames.{Unchanged, around};
 ghost use Rattle.jos_host.specs.Gains.{Gains, GainsPart};
 ghost use Rattle.jos_cli.specs.Notes.{end_text, report_text, limit_text, bad_schedule_text, bad_image_text, made_text, note_text};
-ghost use Rattle.jos_cli.specs.Notes.{word_in_note, note_of};
+ghost use Rattle.jos_cli.specs.Notes.{word_in_note, trace_text, traps_told, note_of};
 
-use crate::outcome::{End, Outcome, Report, Which};
-use jos_base::{LINE_MAX, LineText, push_decimal, push_text};
+use crate::outcome::{End, Outcome, Report, Trace, Which};
+use jos_base::{EnvId, LINE_MAX, LineText, push_decimal, push_text, trace_line};
 use jos_elf::ElfFault;
 use jos_host::{Failed, Host};
 use jos_sched::ScheduleFault;
@@ -61,6 +61,7 @@ fn limit_text(which: Which) -> &'static [u8]
     match which {
         Which::Frames => b"limit: frames\n",
         Which::Steps => b"limit: steps\n",
+        Which::Trace => b"limit: trace\n",
         Which::Images => b"limit: images\n",
         Which::Schedule => b"limit: schedule\n",
         Which::Image => b"limit: image\n",
@@ -115,7 +116,7 @@ fn note_text(outcome: &Outcome) -> LineText
     ensures { result.items ≡ note_text outcome.now }
 {
     match outcome {
-        Outcome::Ran(report) => report_text(report),
+        Outcome::Ran(report, _) => report_text(report),
         Outcome::Usage => text_line(b"usage: jos COMMAND [OPTIONS] WORDS\n"),
         Outcome::Absent(_) => text_line(b": absent\n"),
         Outcome::Limit(which) => text_line(limit_text(*which)),
@@ -159,7 +160,41 @@ fn write_some<H: Host>(host: &mut H, bytes: &[u8]) -> Result<(), Failed>
     host.note_write(bytes)
 }
 
-/// Writes the note of an outcome.
+/// Writes a line for each of these traps to the notes.
+fn write_trace<H: Host>(trace: &Trace, host: &mut H) -> Result<(), Failed>
+    ensures told { MatchResult result
+        (λ _. Gains (around H.notes host.old host.new) (trace_text trace.now.items))
+        (λ _. GainsPart (around H.notes host.old host.new) (trace_text trace.now.items)) }
+    ensures rest { Unchanged H.files H.input H.asked H.console host.old host.new }
+    ensures cause { HasCause (H.faults host.old) (H.faults host.new) result }
+{
+    for place in 0..trace.len() {
+        if let Some(trap) = trace.get(place) {
+            let line = trace_line(EnvId(trap.id), trap.trap, trap.error, trap.va, trap.ip);
+            match host.note_write(line.as_slice()) {
+                Ok(()) => {}
+                Err(failed) => return Err(failed),
+            }
+        }
+    }
+    Ok(())
+}
+
+/// Writes the traps that an outcome tells.
+fn write_traps<H: Host>(outcome: &Outcome, host: &mut H) -> Result<(), Failed>
+    ensures told { MatchResult result
+        (λ _. Gains (around H.notes host.old host.new) (traps_told outcome.now))
+        (λ _. GainsPart (around H.notes host.old host.new) (traps_told outcome.now)) }
+    ensures rest { Unchanged H.files H.input H.asked H.console host.old host.new }
+    ensures cause { HasCause (H.faults host.old) (H.faults host.new) result }
+{
+    match outcome {
+        Outcome::Ran(_, trace) => write_trace(trace, host),
+        _ => Ok(()),
+    }
+}
+
+/// Writes the notes of an outcome.
 pub(crate) fn write_note<H: Host>(
     outcome: &Outcome,
     words: &[&str],
@@ -172,6 +207,10 @@ pub(crate) fn write_note<H: Host>(
     ensures cause { HasCause (H.faults host.old) (H.faults host.new) result }
 {
     match write_some(host, word_in_note(words, outcome).as_bytes()) {
+        Ok(()) => {}
+        Err(failed) => return Err(failed),
+    }
+    match write_traps(outcome, host) {
         Ok(()) => host.note_write(note_text(outcome).as_slice()),
         Err(failed) => Err(failed),
     }

@@ -3,7 +3,7 @@
 ghost use Rattle.std.specs.Prelude.{◌≡◌};
 
 use jos_elf::ElfFault;
-pub use jos_kernel::{End, Refusal, Report, Stopped, Turn};
+pub use jos_kernel::{End, Refusal, Report, Stopped, Trace, TrapLine, Turn};
 use jos_sched::ScheduleFault;
 
 /// Which limit is passed.
@@ -13,6 +13,8 @@ pub enum Which {
     Frames,
     /// The number of steps that the words give (`STEPS_MAX`).
     Steps,
+    /// The number of traps that the words ask for (`TRACE_MAX`).
+    Trace,
     /// The number of images (`IMAGES_MAX`).
     Images,
     /// The length of the schedule's file (`SCHEDULE_TEXT_MAX`).
@@ -28,8 +30,8 @@ pub enum Which {
 /// What the program answers.
 #[derive(Debug, Drop)]
 pub enum Outcome {
-    /// The run ended by itself.
-    Ran(Report),
+    /// The run ended by itself. The last of its traps are told, as many as the words ask for.
+    Ran(Report, Trace),
     /// The words are no command.
     Usage,
     /// The file that this word names is absent; words are counted from 0.
@@ -56,7 +58,7 @@ impl Outcome {
         ensures { result ≡ status_of self.now }
     {
         match self {
-            Outcome::Ran(report) => match report.end {
+            Outcome::Ran(report, _) => match report.end {
                 End::Done => 0,
                 End::Stuck => 9,
                 End::Budget => 10,

@@ -7,6 +7,9 @@ use jos_sched::ScheduleFault;
 use std::alloc::{AllocError, Global};
 use std::test::Fail;
 
+mod calls;
+mod programs;
+
 // The headers of a file whose one segment is the 32-bit words behind them at 0x00800020, where it starts.
 #[rattlefmt::skip]
 const HEADERS: [u8; 84] = [
@@ -106,7 +109,7 @@ const RUNS: [(&str, &[u8], &[u8], &str, u8); 25] = [
         b"[00001000] user_mem_check assertion failure for va 00900000\n", "done steps 4 turns 1 refused 0 upcalls 0\n", 0),
     ("prints past the last address", &[0xb8, 0x00, 0x00, 0x00, 0x00, 0xba, 0xff, 0xff, 0xff, 0xff, 0xb9, 0x02, 0x00, 0x00, 0x00, 0xcd, 0x30],
         b"[00001000] user_mem_check assertion failure for va ffffffff\n", "done steps 4 turns 1 refused 0 upcalls 0\n", 0),
-    ("asks for a call that is not there", &[0xb8, 0x09, 0x00, 0x00, 0x00, 0xcd, 0x30, 0xb9, 0xfd, 0xff, 0xff, 0xff, 0x39, 0xc8, 0x75, 0xfe, 0xb8, 0x03, 0x00, 0x00, 0x00, 0xba, 0x00, 0x00, 0x00, 0x00, 0xcd, 0x30],
+    ("asks for a call that is not there", &[0xb8, 0x0e, 0x00, 0x00, 0x00, 0xcd, 0x30, 0xb9, 0xfd, 0xff, 0xff, 0xff, 0x39, 0xc8, 0x75, 0xfe, 0xb8, 0x03, 0x00, 0x00, 0x00, 0xba, 0x00, 0x00, 0x00, 0x00, 0xcd, 0x30],
         b"", "done steps 8 turns 1 refused 0 upcalls 0\n", 0),
     ("destroys another", &[0xb8, 0x03, 0x00, 0x00, 0x00, 0xba, 0x01, 0x10, 0x00, 0x00, 0xcd, 0x30, 0xb9, 0xfe, 0xff, 0xff, 0xff, 0x39, 0xc8, 0x75, 0xfe, 0xb8, 0x03, 0x00, 0x00, 0x00, 0xba, 0x00, 0x00, 0x00, 0x00, 0xcd, 0x30],
         b"", "done steps 9 turns 1 refused 0 upcalls 0\n", 0),
@@ -214,7 +217,7 @@ fn ends_at_the_budget(rt: HostRuntime) -> Result<(), Fail> {
         hidden: 0,
     };
     match &outcome {
-        Outcome::Ran(report) => assert_eq!(rt;
+        Outcome::Ran(report, _) => assert_eq!(rt;
             report.turns.as_slice(),
             [turn(3), turn(3), turn(3), turn(1)].as_slice()
         ),
@@ -312,7 +315,7 @@ fn fails_where_the_host_writes_no_program(rt: HostRuntime) -> Result<(), Fail> {
 
 // Words, their status and their note. There are the image `h`, and the schedules `s`, `z` and `x`.
 #[rattlefmt::skip]
-const WORDS: [(&[&str], u8, &str); 44] = [
+const WORDS: [(&[&str], u8, &str); 48] = [
     (&[], 1, USAGE),
     (&[""], 1, USAGE),
     (&["exo"], 1, USAGE),
@@ -343,6 +346,9 @@ const WORDS: [(&[&str], u8, &str); 44] = [
     (&["exo", "--steps=0", "h"], 3, "limit: steps\n"),
     (&["exo", "--steps=1000000001", "h"], 3, "limit: steps\n"),
     (&["exo", "--steps=0", "--frames=0", "h"], 3, "limit: steps\n"),
+    (&["exo", "--trace", "1025", "h"], 3, "limit: trace\n"),
+    (&["exo", "--trace", "1025", "--steps=0", "h"], 3, "limit: trace\n"),
+    (&["exo", "--steps=0", "--trace", "1025", "h"], 3, "limit: steps\n"),
     (&["exo", "h", "--frames", "99999999999999999999", "--steps=0"], 3, "limit: frames\n"),
     (&["exo", "--frames", "64", "l"], 3, "limit: boot\n"),
     (&["exo", "b", "h"], 4, "b: bad image: truncated 40\n"),
@@ -354,6 +360,7 @@ const WORDS: [(&[&str], u8, &str); 44] = [
     (&["exo", "h"], 0, HI_DONE),
     (&["exo", "--frames=64", "h"], 0, HI_DONE),
     (&["exo", "h", "--frames", "65536"], 0, HI_DONE),
+    (&["exo", "--trace=1024", "h"], 0, HI_DONE),
     (&["exo", "--steps", "00000000000000000007", "--", "h"], 0, HI_DONE),
     (&["exo", "--schedule", "s", "h"], 0, "done steps 7 turns 4 refused 0 upcalls 0\n"),
     (&["exo", "--steps", "3", "h"], 10, "budget steps 3 turns 1 refused 0 upcalls 0\n"),

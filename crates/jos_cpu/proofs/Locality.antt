@@ -8,7 +8,7 @@ use Rattle.jos_isa.proofs.Booleans.{both_true}
 use Rattle.jos_cpu.specs.declared.memory.MemFault.{MemFault}
 use Rattle.jos_cpu.specs.declared.memory.MemFault.TheVariants.{Fence}
 use Rattle.jos_cpu.specs.declared.events.Gates.{Gates}
-use Rattle.jos_cpu.specs.Memory.{Memory, IsLawful}
+use Rattle.jos_cpu.specs.Memory.{Memory, IsLawful, IsSteady}
 use Rattle.jos_cpu.specs.Steps.{step_of}
 use Rattle.jos_cpu.proofs.Agreement.{Rights, AgreesReading, AgreesWriting, SameStep}
 use Rattle.jos_cpu.proofs.Related.{same_numbers, same_step}
@@ -22,7 +22,7 @@ pub record SameWithin {M : Type 0} (within : ℕ → Bool) (t : Memory M) (m n :
   pub fault : (va : ℕ) (access : Access) → within va ≡ true → t.allowed m va access ≡ false →
       t.fault n va access ≡ t.fault m va access
 
-module _ {M : Type 0} (within : ℕ → Bool) (stop : MemFault) (t : Memory M) (lawful : IsLawful t) where
+module _ {M : Type 0} (within : ℕ → Bool) (stop : MemFault) (t : Memory M) (lawful : IsLawful t) (steady : IsSteady within t) where
   abbrev within_rights : M → Rights
   within_rights m va access = within va && t.allowed m va access
 
@@ -34,8 +34,7 @@ module _ {M : Type 0} (within : ℕ → Bool) (stop : MemFault) (t : Memory M) (
     reached = λ {m} {n} r va access on. record {
       allowed = λ q a i. rw (lawful.reached_rights m va access, lawful.reached_rights n va access) (r.allowed q a i);
       byte = λ q a i o.
-          lawful.reached_bytes n va q access ∙ r.byte q a i (rw (lawful.reached_rights m va access) at o)
-          ∙ sym (lawful.reached_bytes m va q access);
+          steady n va q access i ∙ r.byte q a i (rw (lawful.reached_rights m va access) at o) ∙ sym (steady m va q access i);
       fault = λ q a i o.
           rw (lawful.reached_faults m va access, lawful.reached_faults n va access) (r.fault q a i (rw (lawful.reached_rights m va access) at o));
     };
@@ -61,10 +60,10 @@ module _ {M : Type 0} (within : ℕ → Bool) (stop : MemFault) (t : Memory M) (
       (ap (λ x. x.regs) (sym b) ∙ s.regs ∙ ap (λ x. x.regs) a, ap (λ x. x.event) (sym b) ∙ s.event ∙ ap (λ x. x.event) a)
 
 -- With no fence: memories that are the same everywhere.
-pub step_same : {M : Type 0} (t : Memory M) → IsLawful t → (regs : Regs) (m n : M) (gates : Gates) → SameWithin (λ va. true) t m n →
+pub step_same : {M : Type 0} (t : Memory M) → IsLawful t → IsSteady (λ va. true) t → (regs : Regs) (m n : M) (gates : Gates) → SameWithin (λ va. true) t m n →
     ((step_of t regs n gates).regs ≡ (step_of t regs m gates).regs) × ((step_of t regs n gates).event ≡ (step_of t regs m gates).event)
-step_same t lawful regs m n gates same =
-    let whole : AgreesReading t t (SameWithin (λ va. true) t) t.allowed = reading (λ va. true) Fence t lawful in
+step_same t lawful steady regs m n gates same =
+    let whole : AgreesReading t t (SameWithin (λ va. true) t) t.allowed = reading (λ va. true) Fence t lawful steady in
     let s = same_numbers whole regs gates same in
     (s.regs, s.event)
 

@@ -3,8 +3,9 @@
 use Rattle.std.specs.Prelude.{ℕ, ◌+◌, ◌-◌, ◌*◌, ◌%◌, ◌^◌, ◌==◌, ◌&&◌, ◌||◌, not, Bool, true, false, bit_and, bit_or}
 use Rattle.std.specs.Prelude.{bit_xor, Option, Some, None, if◌then◌else◌}
 use Rattle.jos_base.specs.declared.registers.Regs.{Regs}
-use Rattle.jos_base.specs.declared.numbers.TheConstants.{FL_CF, FL_PF, FL_AF, FL_ZF, FL_SF, FL_DF, FL_OF}
+use Rattle.jos_base.specs.declared.numbers.TheConstants.{FL_CF, FL_ZF, FL_DF}
 use Rattle.jos_base.specs.declared.numbers.TheConstants.{T_DIVIDE, T_BRKPT, T_GPFLT, T_SYSCALL, T_SERVICE}
+use Rattle.jos_base.specs.TrapFrames.{flags_taken}
 use Rattle.jos_isa.specs.declared.instruction.Insn.{Insn}
 use Rattle.jos_isa.specs.declared.instruction.Operand.{Operand}
 use Rattle.jos_isa.specs.declared.instruction.Operand.TheVariants as operand
@@ -190,11 +191,7 @@ pop_all_effect (Popped w) regs = gives (record regs {
 }) 0
 pop_all_effect (Numbers a b) regs = gives regs 0
 
--- the flags that POPF takes
-abbrev pub flags_taken : ℕ
-flags_taken = FL_CF + FL_PF + FL_AF + FL_ZF + FL_SF + FL_DF + FL_OF
-
--- all else is kept
+-- of the word the flags that a program sets; all else is kept
 abbrev pub popped_flags : ℕ → ℕ → ℕ
 popped_flags eflags value = bit_or (bit_and eflags (0xffff_ffff - flags_taken)) (bit_and value flags_taken)
 

@@ -19,17 +19,21 @@ pub record Memory (M : Type 0) : Type 0 where
   -- the memory with this byte at an address
   pub stored : M → ℕ → ℕ → M
 
--- What holds of every memory. Reaching a byte changes no byte and no right: accessed and dirty bits at most. Putting
--- one changes no right. Where several addresses lead to it, each of them may come to have the byte that is put; no
--- address comes to have another.
+-- What holds of every memory. Reaching a byte changes no right, and of bytes only those that tell of accessed and dirty
+-- bits. Putting one changes no right. Where several addresses lead to it, each of them may come to have the byte that is
+-- put; no address comes to have another.
 pub record IsLawful {M : Type 0} (t : Memory M) : Type 0 where
-  pub reached_bytes : (m : M) (va q : ℕ) (access : Access) → t.byte (t.reached m va access) q ≡ t.byte m q
   pub reached_rights : (m : M) (va : ℕ) (access : Access) → t.allowed (t.reached m va access) ≡ t.allowed m
   pub reached_faults : (m : M) (va : ℕ) (access : Access) → t.fault (t.reached m va access) ≡ t.fault m
   pub stored_bytes : (m : M) (va byte q : ℕ) →
       (t.byte (t.stored m va byte) q ≡ t.byte m q) ⊎ (t.byte (t.stored m va byte) q ≡ byte)
   pub stored_rights : (m : M) (va byte : ℕ) → t.allowed (t.stored m va byte) ≡ t.allowed m
   pub stored_faults : (m : M) (va byte : ℕ) → t.fault (t.stored m va byte) ≡ t.fault m
+
+-- Reaching any byte leaves the bytes at these addresses: none of them tells of accessed and dirty bits.
+abbrev pub IsSteady : {M : Type 0} → (ℕ → Bool) → Memory M → Type 0
+IsSteady {M = M} within t =
+    (m : M) (va q : ℕ) (access : Access) → within q ≡ true → t.byte (t.reached m va access) q ≡ t.byte m q
 
 abbrev pub after : ℕ → ℕ
 after va = (va + 1) % 2 ^ 32

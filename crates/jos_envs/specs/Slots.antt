@@ -1,5 +1,6 @@
 -- What an environment is in the table of environments.
 use Rattle.jos_base.specs.Environments.{Slot}
+use Rattle.jos_ipc.specs.Messages.{rendezvous_of}
 use Rattle.jos_envs.specs.declared.environment.Environment.{Environment}
 
 abbrev pub slot_of : Environment → Slot
@@ -10,4 +11,6 @@ slot_of environment = record {
   runs = environment.runs;
   registers = environment.registers;
   directory = environment.directory.0;
+  upcall = environment.upcall;
+  rendezvous = rendezvous_of environment.rendezvous;
 }

@@ -28,6 +28,15 @@ unused = record {
   runs = 0;
   registers = zero_registers;
   directory = record { 0 = 0 };
+  upcall = 0;
+  rendezvous = record {
+    receiving = false;
+    wanted = record { 0 = 0 };
+    destination = 0;
+    value = 0;
+    sender = record { 0 = 0 };
+    perm = 0;
+  };
 }
 
 -- the numbers at the places below this one, the last first

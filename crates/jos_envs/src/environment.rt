@@ -1,9 +1,13 @@
 //! An environment, and the ids that a slot gives.
 
 ghost use Rattle.std.specs.Prelude.{◌≡◌, ◌<◌};
-ghost use Rattle.jos_base.specs.Environments.{next_id, is_runnable};
+ghost use Rattle.jos_base.specs.Environments.{next_id, is_runnable, status_number};
 
-use jos_base::{ENV_GENERATION, EnvId, FIRST_ENV_ID, Frame, NENV, Regs, Status};
+use jos_base::{
+    ENV_DYING, ENV_FREE, ENV_GENERATION, ENV_NOT_RUNNABLE, ENV_RUNNABLE, ENV_RUNNING, ENV_WORDS,
+    EnvId, FIRST_ENV_ID, Frame, NENV, Regs, Status,
+};
+use jos_ipc::Rendezvous;
 
 /// An environment, or what a free slot keeps of its last one: its id. (MIT 6.828, inc/env.h, `struct Env`)
 #[derive(Clone, Copy, Debug, PartialEq, Eq)]
@@ -17,10 +21,14 @@ pub struct Environment {
     pub registers: Regs,
     /// The frame of its directory.
     pub directory: Frame,
+    /// Where it handles its page faults, 0 where it does not.
+    pub upcall: u32,
+    /// What it waits for, and what came.
+    pub rendezvous: Rendezvous,
 }
 
 impl Environment {
-    ghost use Rattle.jos_base.specs.Environments.{free_slot, new_slot};
+    ghost use Rattle.jos_base.specs.Environments.{free_slot, new_slot, record_words};
     ghost use Rattle.jos_envs.specs.Slots.{slot_of};
 
     /// What a free slot keeps.
@@ -45,6 +53,8 @@ impl Environment {
                 eflags: 0,
             },
             directory: Frame(0),
+            upcall: 0,
+            rendezvous: Rendezvous::none(),
         }
     }
 
@@ -57,6 +67,34 @@ impl Environment {
             status: Status::NotRunnable,
             ..Environment::free(id)
         }
+    }
+
+    /// The words that a user reads of it: its id, its parent's, its kind, which is 0 for a user's, its status, its turns, the
+    /// frame of its directory, its upcall, then whether it waits for a word, the sender that it waits for, where a page is
+    /// to stand, the word that came, the sender's id and the bits of the page's entry, and three that are empty. (This
+    /// system's own.)
+    #[tactic(auto, unfolding(jos_base::specs::Environments::record_words))]
+    pub fn record(&self) -> [u32; ENV_WORDS]
+        ensures { result ≡ record_words (slot_of self.now) }
+    {
+        [
+            self.id.0,
+            self.parent.0,
+            0,
+            status_number(self.status),
+            self.runs,
+            self.directory.0,
+            self.upcall,
+            self.rendezvous.receiving as u32,
+            self.rendezvous.wanted.0,
+            self.rendezvous.destination,
+            self.rendezvous.value,
+            self.rendezvous.sender.0,
+            self.rendezvous.perm,
+            0,
+            0,
+            0,
+        ]
     }
 }
 
@@ -74,6 +112,19 @@ pub(crate) fn next_id(id: EnvId, slot: usize) -> EnvId
         FIRST_ENV_ID
     };
     EnvId(generation + slot as u32)
+}
+
+/// The number of what an environment is doing. (MIT 6.828, inc/env.h)
+fn status_number(status: Status) -> u32
+    ensures { result ≡ status_number status }
+{
+    match status {
+        Status::Free => ENV_FREE,
+        Status::Dying => ENV_DYING,
+        Status::Runnable => ENV_RUNNABLE,
+        Status::Running => ENV_RUNNING,
+        Status::NotRunnable => ENV_NOT_RUNNABLE,
+    }
 }
 
 /// Whether an environment that is doing this waits for a turn.

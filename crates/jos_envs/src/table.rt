@@ -5,6 +5,7 @@ ghost use Rattle.std.specs.Option.{option_map};
 ghost use Rattle.jos_base.specs.declared.numbers.TheConstants.{NENV};
 ghost use Rattle.jos_base.specs.Environments.{is_live, is_free, with_slot, allotted, slot_freed, found};
 ghost use Rattle.jos_base.specs.Environments.{first_environments};
+ghost use Rattle.jos_ipc.specs.Messages.{rendezvous_of};
 ghost use Rattle.jos_envs.specs.Slots.{slot_of};
 ghost use Rattle.jos_envs.specs.SlotSets.{IsFirst};
 ghost use Rattle.jos_envs.specs.Table.{environments, recent_slot, undone, any_live, may_run};
@@ -15,6 +16,7 @@ use crate::environment::{Environment, is_runnable, next_id};
 use crate::recent::Recent;
 use crate::slot_set::SlotSet;
 use jos_base::{EnvId, Frame, NENV, NoMemory, Regs, Status};
+use jos_ipc::Rendezvous;
 use std::alloc::Global;
 use std::marker::Model;
 
@@ -53,7 +55,7 @@ impl Model for Table {
 }
 
 impl Table {
-    /// A table without an environment. This takes about 70 KB.
+    /// A table without an environment. This takes about 100 KB.
     pub fn new(alloc: Global) -> Result<Table, NoMemory>
         ensures { IfOk result (λ table. environments table ≡ first_environments) }
     {
@@ -125,6 +127,34 @@ impl Table {
     {
         let old = self.get(slot);
         self.put(slot, Environment { directory, ..old });
+    }
+
+    /// Sets where an environment handles its page faults.
+    pub fn set_upcall(&mut self, slot: usize, address: u32)
+        requires { is_live ((environments self.old).slots slot) ≡ true }
+        ensures set { environments self.new ≡ with_slot (environments self.old) slot
+            (record ((environments self.old).slots slot) { upcall = address }) }
+        ensures live { KeepsLive (environments self.old) (environments self.new) }
+    {
+        let old = self.get(slot);
+        self.put(
+            slot,
+            Environment {
+                upcall: address,
+                ..old
+            },
+        );
+    }
+
+    /// Sets what an environment waits for, and what came.
+    pub fn set_rendezvous(&mut self, slot: usize, rendezvous: Rendezvous)
+        requires { is_live ((environments self.old).slots slot) ≡ true }
+        ensures set { environments self.new ≡ with_slot (environments self.old) slot
+            (record ((environments self.old).slots slot) { rendezvous = rendezvous_of rendezvous }) }
+        ensures live { KeepsLive (environments self.old) (environments self.new) }
+    {
+        let old = self.get(slot);
+        self.put(slot, Environment { rendezvous, ..old });
     }
 
     /// Begins a turn of an environment, which counts it.

@@ -5,7 +5,8 @@ ghost use Rattle.jos_base.specs.declared.numbers.TheConstants.{NENV};
 
 use super::*;
 use crate::environment::next_id;
-use jos_base::{EnvId, Status};
+use jos_base::{EnvId, Frame, Status};
+use jos_ipc::Rendezvous;
 
 /// Gives a slot to an environment that the kernel makes, and tells its id.
 fn allot(table: &mut Table) -> Option<(usize, u32)> {
@@ -42,4 +43,49 @@ fn gives_slots_in_rising_order_and_a_freed_one_first(rt: HostRuntime) {
 fn begins_anew_where_an_id_would_be_negative(rt: HostRuntime) {
     assert_eq!(rt; next_id(EnvId(0x7fff_e005), 5), EnvId(0x7fff_f005));
     assert_eq!(rt; next_id(EnvId(0x7fff_f005), 5), EnvId(0x1005));
+}
+
+#[test]
+fn tells_an_environment_in_its_record(rt: HostRuntime) {
+    let environment = Environment {
+        status: Status::Running,
+        runs: 3,
+        directory: Frame(40),
+        upcall: 0x0080_0100,
+        rendezvous: Rendezvous {
+            receiving: true,
+            wanted: EnvId(0x1007),
+            destination: 0xd000_0000,
+            value: 8,
+            sender: EnvId(0x1009),
+            perm: 7,
+        },
+        ..Environment::new(EnvId(0x1005), EnvId(0x1001))
+    };
+    assert_eq!(rt;
+        environment.record(),
+        [
+            0x1005,
+            0x1001,
+            0,
+            3,
+            3,
+            40,
+            0x0080_0100,
+            1,
+            0x1007,
+            0xd000_0000,
+            8,
+            0x1009,
+            7,
+            0,
+            0,
+            0
+        ]
+    );
+    let ended = Environment::free(EnvId(0x1005));
+    assert_eq!(rt;
+        ended.record(),
+        [0x1005, 0, 0, 0, 0, 0, 0, 0, 0, 0, 0, 0, 0, 0, 0, 0]
+    );
 }

@@ -1,10 +1,10 @@
 -- A burst of the machine, with what comes of its last step and the count of its steps, is as many steps of the run.
 use Rattle.std.proofs.Common.{◌≡◌, ℕ, ◌+◌, ◌-◌, ◌<◌, ◌≤◌, ◌==◌, ◌^◌, Bool, Option, None, Some, Ok, suc, true, false}
-use Rattle.std.proofs.Common.{List, [], ◌∷◌, ◌++◌, length, min, vec_len, refl, sym, ap, subst, ◌∙◌, arith, if◌then◌else◌}
+use Rattle.std.proofs.Common.{List, [], ◌∷◌, ◌++◌, length, drop, drop-drop, min, vec_len, refl, sym, ap, subst, ◌∙◌, arith, if◌then◌else◌}
 use Rattle.std.specs.Prelude.{not, nat_eq, unwrap_or}
 use Rattle.std.specs.Option.{ForSome}
 use Rattle.std.proofs.lemmas.Bool.Decides.{nat_tests}
-use Rattle.std.proofs.lemmas.List.{length-append}
+use Rattle.std.proofs.lemmas.List.{length-append, length-drop, drop-append-le}
 use Rattle.jos_host.specs.Frames.{from_to}
 use Rattle.jos_host.specs.Gains.{Gains, GainsPart}
 use Rattle.jos_base.specs.declared.registers.Regs.{Regs}
@@ -20,12 +20,14 @@ use Rattle.jos_cpu.specs.Bursts.{IsBurst}
 use Rattle.jos_kernel.specs.declared.kernel.Kernel.{Kernel}
 use Rattle.jos_kernel.specs.declared.report.Refusal.{Refusal}
 use Rattle.jos_kernel.specs.Running.{Running, user_memory}
-use Rattle.jos_kernel.specs.Steps.{EnvStep, Trap, after_event, env_step}
+use Rattle.circular_buffer.specs.Buffer.{buffer, keep_last}
+use Rattle.jos_kernel.specs.declared.trace.TrapLine.{TrapLine}
+use Rattle.jos_kernel.specs.Steps.{EnvStep, after_event, env_step}
 use Rattle.jos_kernel.specs.ExoRun.{Progress, Ran, current, counted, turn_of, next_slot, in_turn, turn_goes_on, end_of}
 use Rattle.jos_kernel.specs.ExoRun.{first_refusal}
 use Rattle.jos_kernel.specs.ExoRun.{traps_after, progressed, run_from}
 use Rattle.jos_kernel.specs.Kernel.{Told, nothing, and_told, state_of, progress_of, Counts, FailsIn, Advances}
-use Rattle.jos_kernel.specs.Kernel.{refusal_after, goes_on_after, Counted}
+use Rattle.jos_kernel.specs.Kernel.{refusal_after, goes_on_after, Counted, traced}
 use Rattle.jos_kernel.proofs.KeepsRest.{going_keeps, burst_keeps, directory_is, slot_is, state_is}
 use Rattle.jos_kernel.proofs.EnvSteps.{env_step_is}
 use Rattle.jos_kernel.proofs.Turns.{running_live, InTurn, further, many}
@@ -44,7 +46,7 @@ upd-same f k q = by_key (q == k) refl
     by_key false e = refl
 
 -- the registers that stand in a slot, put there
-pub registers-same : (s : KernelState) (n : ℕ) → with_registers s n (slot_at s n).registers ≡ s
+registers-same : (s : KernelState) (n : ℕ) → with_registers s n (slot_at s n).registers ≡ s
 registers-same s n =
     λ i. record s { environments = record s.environments { slots = λ q. upd-same s.environments.slots n q i } }
 
@@ -80,7 +82,7 @@ pub begun_running : (s : KernelState) (n : ℕ) → is_running (slot_at (turn_be
 begun_running s n = ap (λ (slot : Slot). is_running slot.status) (upd-at s.environments.slots n _)
 
 -- a turn that begins refuses nothing
-pub in_turn-refusals : (s : KernelState) (made : ℕ) → (in_turn s made).refusals ≡ s.refusals
+in_turn-refusals : (s : KernelState) (made : ℕ) → (in_turn s made).refusals ≡ s.refusals
 in_turn-refusals s made = by_made (made == 0)
   where
     by_made : (c : Bool) → (if c then turn_begun s (unwrap_or (next_slot s) 0) else s).refusals ≡ s.refusals
@@ -92,39 +94,67 @@ pub last_within : (last : Option ℕ) (slot : ℕ) → slot ≡ unwrap_or last 0
 last_within None slot e h = λ n k. absurd (cc)
 last_within (Some m) slot e h = λ n k. subst (λ x. x < NENV) (e ∙ ap (λ o. unwrap_or o 0) k) h
 
+-- ---- traps that are kept
+
+-- of the last of them and one more those are kept that are kept of all
+kept_more : {X : Type 0} (n : ℕ) (xs : List X) (x : X) → keep_last n (keep_last n xs ++ x ∷ []) ≡ keep_last n (xs ++ x ∷ [])
+kept_more n xs x =
+    let k = length xs - n in
+    let part : drop k xs ++ x ∷ [] ≡ drop k (xs ++ x ∷ []) = sym (drop-append-le k xs (x ∷ []) (omega arith)) in
+    let whole : length (xs ++ x ∷ []) ≡ length xs + 1 = length-append xs (x ∷ []) in
+    let left : length (drop k (xs ++ x ∷ [])) ≡ length (xs ++ x ∷ []) - k = length-drop k (xs ++ x ∷ []) in
+    let at : k + (length (drop k (xs ++ x ∷ [])) - n) ≡ length (xs ++ x ∷ []) - n = omega (arith, whole, left) in
+    ap (keep_last n) part
+    ∙ drop-drop (length (drop k (xs ++ x ∷ [])) - n) k (xs ++ x ∷ [])
+    ∙ ap (λ (j : ℕ). drop j (xs ++ x ∷ [])) at
+
+traced_more : (n : ℕ) (traps : List TrapLine) (raised : Option TrapLine) →
+    traced (buffer (keep_last n traps) n) raised ≡ buffer (keep_last n (traps_after traps raised)) n
+traced_more n traps None = refl
+traced_more n traps (Some trap) = ap (λ (kept : List TrapLine). buffer kept n) (kept_more n traps trap)
+
 -- ---- a burst
 
-module _ (before : Kernel) (slot limit steps : ℕ) (event : Event) (m n : Running) (regs new : Regs)
-    (goes_on : end_of (progress_of before nothing) false ≡ None)
-    (begun : in_turn (state_of before) before.made ≡ m.state)
-    (registers : regs ≡ (slot_at m.state slot).registers)
-    (at : slot ≡ current (in_turn (state_of before) before.made))
-    (within : slot < NENV)
-    (runs : is_running (slot_at m.state slot).status ≡ true)
-    (loaded : m.directory ≡ Some (slot_at m.state slot).directory)
-    (refusals : (state_of before).refusals ≡ m.state.refusals)
-    (burst : IsBurst user_memory Exo limit steps event (record { regs = regs; memory = m }) (record { regs = new; memory = n }))
-    (room : before.made + limit ≤ quantum before.schedule (length before.turns.items)) where
+-- a turn in which the environment in this slot makes a burst
+pub record Bursts (before : Kernel) (slot limit steps : ℕ) (event : Event) (m n : Running) (regs new : Regs) : Type 0 where
+  pub goes_on : end_of (progress_of before nothing) false ≡ None
+  pub begun : in_turn (state_of before) before.made ≡ m.state
+  pub registers : regs ≡ (slot_at m.state slot).registers
+  pub at : slot ≡ current (in_turn (state_of before) before.made)
+  pub within : slot < NENV
+  pub runs : is_running (slot_at m.state slot).status ≡ true
+  pub loaded : m.directory ≡ Some (slot_at m.state slot).directory
+  pub burst : IsBurst user_memory Exo limit steps event (record { regs = regs; memory = m }) (record { regs = new; memory = n })
+  pub room : before.made + limit ≤ quantum before.schedule (length before.turns.items)
+
+module _ {before : Kernel} {slot limit steps : ℕ} {event : Event} {m n : Running} {regs new : Regs}
+    (h : Bursts before slot limit steps event m n regs new) where
+  abbrev burst : IsBurst user_memory Exo limit steps event (record { regs = regs; memory = m }) (record { regs = new; memory = n })
+  burst = h.burst
+
+  refusals : (state_of before).refusals ≡ m.state.refusals
+  refusals = sym (in_turn-refusals (state_of before) before.made) ∙ ap (λ (s : KernelState). s.refusals) h.begun
+
   entered : (told : Told) → InTurn slot (progress_of before told) (record { regs = regs; memory = m })
   entered told = record {
-    none = end-told before told false ∙ goes_on;
-    begun = begun ∙ sym (registers-same m.state slot) ∙ (λ i. with_registers m.state slot (sym registers i));
-    at = ap current (sym begun) ∙ sym at;
-    within = within;
-    runs = runs;
-    loaded = loaded;
+    none = end-told before told false ∙ h.goes_on;
+    begun = h.begun ∙ sym (registers-same m.state slot) ∙ (λ i. with_registers m.state slot (sym h.registers i));
+    at = ap current (sym h.begun) ∙ sym h.at;
+    within = h.within;
+    runs = h.runs;
+    loaded = h.loaded;
     refusals = refusals;
   }
 
   -- what comes of the last step
-  abbrev last : EnvStep
+  abbrev pub last : EnvStep
   last = after_event (with_registers n.state slot new) slot event
 
   last_is : env_step (with_registers burst.reached.memory.state slot burst.reached.regs) slot ≡ last
   last_is =
       let k = going_keeps Exo burst.going (record { regs = regs; memory = m }) burst.reached burst.went in
       env_step_is slot burst.reached (record { regs = new; memory = n }) burst.last
-      (directory_is k ∙ loaded ∙ (λ i. Some (sym (slot_is k slot) i).directory))
+      (directory_is k ∙ h.loaded ∙ (λ i. Some (sym (slot_is k slot) i).directory))
 
   pub burst_run : (told : Told) (later : ℕ) →
       run_from before.schedule (steps + later) (progress_of before told)
@@ -135,14 +165,14 @@ module _ (before : Kernel) (slot limit steps : ℕ) (event : Event) (m n : Runni
       let a : steps + later ≡ suc burst.going + later = omega arith in
       ap (λ (x : ℕ). run_from before.schedule x (progress_of before told)) a
       ∙ many before.schedule slot burst.going later (progress_of before told) (record { regs = regs; memory = m }) burst.reached (entered told)
-      (omega (arith, count, fits, room)) burst.went
+      (omega (arith, count, fits, h.room)) burst.went
       ∙ (λ i. run_from before.schedule later (progressed before.schedule (further before.schedule slot (progress_of before told) burst.going) (last_is i)))
 
   state_kept : n.state.refusals ≡ (state_of before).refusals
   state_kept = (λ i. (state_is (burst_keeps burst) i).refusals) ∙ sym refusals
 
   pub live_after : is_live (slot_at n.state slot) ≡ true
-  live_after = running_live (slot_at n.state slot) ((λ i. is_running (slot_is (burst_keeps burst) slot i).status) ∙ runs)
+  live_after = running_live (slot_at n.state slot) ((λ i. is_running (slot_is (burst_keeps burst) slot i).status) ∙ h.runs)
 
   pub last_same : SameTurns m.state last.state
   last_same =
@@ -153,15 +183,32 @@ module _ (before : Kernel) (slot limit steps : ℕ) (event : Event) (m n : Runni
       }
 
   pub last_there : current last.state ≡ slot
-  last_there = (λ i. unwrap_or (last_same.last i) 0) ∙ ap current (sym begun) ∙ sym at
+  last_there = (λ i. unwrap_or (last_same.last i) 0) ∙ ap current (sym h.begun) ∙ sym h.at
 
   -- the steps are counted
-  module _ (mid after : Kernel) (written : ℕ)
-      (schedule : mid.schedule ≡ before.schedule) (turns : mid.turns ≡ before.turns) (made : mid.made ≡ before.made)
-      (steps_are : mid.steps ≡ before.steps) (written_is : mid.written ≡ before.written) (first : mid.first_refused ≡ before.first_refused)
-      (long : vec_len before.turns ≡ length before.turns.items)
-      (state : state_of mid ≡ last.state) (bytes : written ≡ length last.written)
+  module _ (mid after : Kernel) (written : ℕ) (raised : Option TrapLine)
+      (rest : record mid { machine = before.machine; decodings = before.decodings; trace = before.trace } ≡ before)
+      (state : state_of mid ≡ last.state) (bytes : written ≡ length last.written) (trap : raised ≡ last.trap)
+      (trace : mid.trace ≡ traced before.trace raised)
       (counts : Counted mid after slot steps written (not (nat_eq (state_of mid).refusals n.state.refusals))) where
+    schedule : mid.schedule ≡ before.schedule
+    schedule = ap (λ (k : Kernel). k.schedule) rest
+
+    turns : mid.turns ≡ before.turns
+    turns = ap (λ (k : Kernel). k.turns) rest
+
+    made : mid.made ≡ before.made
+    made = ap (λ (k : Kernel). k.made) rest
+
+    steps_are : mid.steps ≡ before.steps
+    steps_are = ap (λ (k : Kernel). k.steps) rest
+
+    written_is : mid.written ≡ before.written
+    written_is = ap (λ (k : Kernel). k.written) rest
+
+    first : mid.first_refused ≡ before.first_refused
+    first = ap (λ (k : Kernel). k.first_refused) rest
+
     all_made : mid.made + steps ≡ (before.made + burst.going) + 1
     all_made = let count : steps ≡ burst.going + 1 = burst.count in omega (arith, count, made)
 
@@ -174,7 +221,7 @@ module _ (before : Kernel) (slot limit steps : ℕ) (event : Event) (m n : Runni
     slot_at_end : slot ≡ current last.state
     slot_at_end = sym last_there
 
-    abbrev traps_told : (told : Told) → List Trap
+    abbrev traps_told : (told : Told) → List TrapLine
     traps_told told = traps_after told.traps last.trap
 
     pub counted_is : (told : Told) → Counts before told →
@@ -191,15 +238,18 @@ module _ (before : Kernel) (slot limit steps : ℕ) (event : Event) (m n : Runni
           made = (counts.made ∙ (λ j. if goes j then all_made j else 0)) i;
           first_refused = (counts.first_refused
               ∙ (λ j. refusal_after mid (not (nat_eq (state j).refusals (state_kept j))) (first j))
-              ∙ refusal-is mid p last.state before.first_refused (ap vec_len turns ∙ long) (written_is ∙ c)) i;
+              ∙ refusal-is mid p last.state before.first_refused (ap vec_len turns ∙ before.turns.ok.0) (written_is ∙ c.written)) i;
           traps = traps_told told;
         }
 
     pub counts_told : (told : Told) → Counts before told → Counts after (and_told told last.written (traps_told told))
-    counts_told told c =
-        counts.written_is
-        ∙ (λ i. min ((written_is ∙ c) i + bytes i) (2 ^ 64 - 1))
-        ∙ counted-more told.console last.written
+    counts_told told c = record {
+      written =
+          counts.written_is
+          ∙ (λ i. min ((written_is ∙ c.written) i + bytes i) (2 ^ 64 - 1))
+          ∙ counted-more told.console last.written;
+      trace = counts.trace ∙ trace ∙ (λ i. traced (c.trace i) (trap i)) ∙ traced_more told.kept told.traps last.trap;
+    }
 
     pub on_counted : (left : ℕ) (first_console now : Option (List ℕ)) → limit ≤ left → Gains (from_to first_console now) last.written →
         Advances (Ok steps) left (from_to before after) (from_to first_console now)

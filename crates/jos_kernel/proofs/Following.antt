@@ -10,24 +10,28 @@ use Rattle.jos_base.specs.declared.line.Line.{Line}
 use Rattle.jos_base.specs.declared.line.Line.TheVariants as line
 use Rattle.jos_base.specs.declared.numbers.TheConstants.{T_BRKPT, T_PGFLT, T_SYSCALL}
 use Rattle.jos_base.specs.KernelState.{KernelState, slot_at}
-use Rattle.jos_base.specs.SystemCalls.{Did, system_call, killed}
+use Rattle.jos_base.specs.SystemCalls.{Did, trapped_by, system_call, handled, killed}
 use Rattle.jos_cpu.specs.declared.events.Event.TheVariants.{Soft}
 use Rattle.jos_sys.specs.declared.system.Answer.{Answer}
 use Rattle.jos_sys.specs.System.{Does}
 use Rattle.jos_kernel.specs.Machine.{Follows}
-use Rattle.jos_kernel.specs.Steps.{EnvStep, after_call, after_event, after_trap, ended_by}
+use Rattle.jos_kernel.specs.declared.machine.Followed.{Followed}
+use Rattle.jos_kernel.specs.declared.trace.TrapLine.{TrapLine}
+use Rattle.jos_kernel.specs.Steps.{EnvStep, trapped, after_call, after_event, after_trap}
 
 -- ---- what is done, and what a step leaves
 
-module _ (did : Did) (step : EnvStep) (state : KernelState) (console : Around (Option (List ℕ)))
-    (state_is : step.state ≡ did.state) (written_is : step.written ≡ did.written) where
-  pub done_follows : (answer : Answer) → Does (Ok answer) did state console → Follows (Ok answer.written) step state console
-  done_follows answer h = (h.0 ∙ sym state_is, h.2 ∙ ap length (sym written_is), subst (Gains console) (sym written_is) h.3)
+module _ (did : Did) (step : EnvStep) (state : KernelState) (console : Around (Option (List ℕ))) (raised : Option TrapLine)
+    (state_is : step.state ≡ did.state) (written_is : step.written ≡ did.written) (trap_is : raised ≡ step.trap) where
+  pub done_follows : (answer : Answer) → Does (Ok answer) did state console →
+      Follows (Ok (record { written = answer.written; trap = raised })) step state console
+  done_follows answer h =
+      (h.0 ∙ sym state_is, h.2 ∙ ap length (sym written_is), trap_is, subst (Gains console) (sym written_is) h.3)
 
   pub failed_follows : (failed : Failed) → Does (Err failed) did state console → Follows (Err failed) step state console
   failed_follows failed h = subst (GainsPart console) (sym written_is) h
 
-pub same_step : (result : Result ℕ Failed) (step other : EnvStep) (state : KernelState) (console : Around (Option (List ℕ))) →
+pub same_step : (result : Result Followed Failed) (step other : EnvStep) (state : KernelState) (console : Around (Option (List ℕ))) →
     step ≡ other → Follows result other state console → Follows result step state console
 same_step result step other state console e h = subst (λ (s : EnvStep). Follows result s state console) (sym e) h
 
@@ -47,13 +51,19 @@ after_breakpoint s n vector ne =
     let other : (vector == T_SYSCALL) ≡ false = grind (arith, nat_tests) in
     rw other refl
 
+-- a page fault has a handler, which goes on
+pub upcall_made : (s t : KernelState) (n trap error va ip : ℕ) → trap ≡ T_PGFLT → handled s n (record { va = va; error = error }) ≡ Some t →
+    trapped s n trap error va ip ≡ record { state = t; written = [] }
+upcall_made s t n trap error va ip e h = rw (e, h) refl
+
 -- a trap's own line
-pub fault_line : (s : KernelState) (n trap error va ip : ℕ) (told : Line) → trap ≡ T_PGFLT → ip ≡ (slot_at s n).registers.eip →
-    told ≡ line.UserFault va ip → ended_by s n trap error va (slot_at s n).registers.eip ≡ killed s n told
-fault_line s n trap error va ip told e at is = rw (e, is, at) refl
+pub fault_line : (s : KernelState) (n trap error va ip : ℕ) (told : Line) → trap ≡ T_PGFLT → handled s n (record { va = va; error = error }) ≡ None →
+    ip ≡ (slot_at s n).registers.eip → told ≡ line.UserFault va ip →
+    trapped s n trap error va (slot_at s n).registers.eip ≡ trapped_by (killed s n told)
+fault_line s n trap error va ip told e h at is = rw (e, h, is, at) refl
 
 pub trap_line : (s : KernelState) (n trap error va ip : ℕ) (told : Line) → trap ≢ T_PGFLT → ip ≡ (slot_at s n).registers.eip →
-    told ≡ line.Trap trap error ip → ended_by s n trap error va (slot_at s n).registers.eip ≡ killed s n told
+    told ≡ line.Trap trap error ip → trapped s n trap error va (slot_at s n).registers.eip ≡ trapped_by (killed s n told)
 trap_line s n trap error va ip told ne at is =
     let other : (trap == T_PGFLT) ≡ false = grind (arith, nat_tests) in
     rw (other, is, at) refl

@@ -34,9 +34,6 @@ module _ {before after : Running} (k : KeepsRest before after) where
   pub directory_is : after.directory ≡ before.directory
   directory_is = ap (λ (m : Running). m.directory) k.memory_is
 
-  pub environments_is : after.state.environments ≡ before.state.environments
-  environments_is = ap (λ (m : Running). m.state.environments) k.memory_is
-
   pub slot_is : (n : ℕ) → slot_at after.state n ≡ slot_at before.state n
   slot_is n = ap (λ (m : Running). slot_at m.state n) k.memory_is
 

@@ -7,7 +7,7 @@ use Rattle.jos_host.specs.Frames.{from_to}
 use Rattle.jos_kernel.specs.declared.kernel.Kernel.{Kernel}
 use Rattle.jos_kernel.specs.declared.report.End.{End}
 use Rattle.jos_kernel.specs.declared.report.End.TheVariants.{Budget}
-use Rattle.jos_kernel.specs.Steps.{Trap}
+use Rattle.jos_kernel.specs.declared.trace.TrapLine.{TrapLine}
 use Rattle.jos_kernel.specs.ExoRun.{Progress, Ran, end_of, one_step, after_test, run_from}
 use Rattle.jos_kernel.specs.Kernel.{Told, nothing, and_told, progress_of, Counts, Went, FailsIn, Steps, IsRun}
 use Rattle.jos_kernel.proofs.ToldBytes.{gains_none, gains_more, gains_part}
@@ -26,11 +26,11 @@ run_from-zero schedule p = refl
 
 -- ---- steps after steps
 
-told-twice : (told : Told) (a b : List ℕ) (s t : List Trap) → and_told (and_told told a s) b t ≡ and_told told (a ++ b) t
-told-twice told a b s t = λ i. record { console = append_assoc told.console a b i; traps = t }
+told-twice : (told : Told) (a b : List ℕ) (s t : List TrapLine) → and_told (and_told told a s) b t ≡ and_told told (a ++ b) t
+told-twice told a b s t = λ i. record told { console = append_assoc told.console a b i; traps = t }
 
 told-nothing : (told : Told) → and_told told [] told.traps ≡ told
-told-nothing told = λ i. record { console = append-nil told.console i; traps = told.traps }
+told-nothing told = λ i. record told { console = append-nil told.console i }
 
 -- no step was made yet
 pub none_yet : (kernel : Kernel) (first : Option (List ℕ)) → Went 0 (from_to kernel kernel) (from_to first first)
@@ -48,7 +48,7 @@ none_yet kernel first = record {
 }
 
 module _ {a b : ℕ} {x y z : Kernel} {p q r : Option (List ℕ)} (v : Went a (from_to x y) (from_to p q)) (w : Went b (from_to y z) (from_to q r)) where
-  abbrev later_traps : (told : Told) → Counts x told → List Trap
+  abbrev later_traps : (told : Told) → Counts x told → List TrapLine
   later_traps told c = w.traps (and_told told v.written (v.traps told c)) (v.counts told c)
 
   twice : (told : Told) (c : Counts x told) → and_told (and_told told v.written (v.traps told c)) w.written (later_traps told c)
@@ -108,6 +108,7 @@ stepped {n} {x} {y} {p} {q} w some most goes_on =
             ∙ ap (λ (ran : Ran). ran.progress) (run_from-suc x.schedule 0 (progress_of x told)
             ∙ (λ i. after_test (progress_of x told) ((end-told x told false ∙ goes_on) i) (run_from x.schedule 0 (one_step x.schedule (progress_of x told))))
             ∙ run_from-zero x.schedule (one_step x.schedule (progress_of x told))),
+        w.counts told c,
       ),
     )
 
@@ -127,6 +128,7 @@ module _ {a budget : ℕ} {x y : Kernel} {p q : Option (List ℕ)} (w : Went a (
               ∙ w.run told c (suc left)
               ∙ run_from-suc x.schedule left (progress_of y m)
               ∙ (λ i. after_test (progress_of y m) ((end-told y m false ∙ ends) i) (run_from x.schedule left (one_step x.schedule (progress_of y m)))),
+          w.counts told c,
         ),
   )
 
@@ -144,5 +146,6 @@ module _ {a budget : ℕ} {x y : Kernel} {p q : Option (List ℕ)} (w : Went a (
               ∙ w.run told c 0
               ∙ run_from-zero x.schedule (progress_of y m)
               ∙ (λ i. record { end = (ap (λ o. unwrap_or o Budget) (end-told y m true) ∙ ends) i; progress = progress_of y m }),
+          w.counts told c,
         ),
   )

@@ -9,6 +9,8 @@ use Rattle.jos_base.specs.declared.memory.PageFault.{PageFault}
 use Rattle.jos_base.specs.Words.{page_number}
 use Rattle.jos_base.specs.Reach.{Entry, Location, reach_entry, write_bit}
 use Rattle.jos_base.specs.SpacesState.{SpacesState}
+use Rattle.jos_base.specs.Windows.{walked}
+use Rattle.jos_base.specs.Environments.{records_of}
 use Rattle.jos_base.specs.KernelState.{KernelState, with_spaces}
 use Rattle.jos_base.specs.UserMemory.{reach_in, is_allowed, fault_at, touched, touched_by, byte_at, stored_byte}
 use Rattle.jos_space.specs.AtHand.{IsStill, stored_word}
@@ -25,18 +27,19 @@ use Rattle.jos_kernel.specs.MemoryLaws.{user_memory_is_lawful}
 
 -- ---- a window
 
-pub stands : (s : KernelState) (d va : ℕ) (bytes : List ℕ) → va < 2 ^ 32 → va % 4096 + length bytes ≤ 4096 →
+pub stands : (records : ℕ → List ℕ) (s : KernelState) (d va : ℕ) (bytes : List ℕ) → records ≡ records_of s.environments →
+    va < 2 ^ 32 → va % 4096 + length bytes ≤ 4096 →
     ((i : ℕ) → i < length bytes → IsStill s.spaces d (va + i) Read) →
-    ((i : ℕ) → i < length bytes → byte_at s.spaces d (va + i) ≡ slice_index bytes i) →
+    ((i : ℕ) → i < length bytes → byte_at records s.spaces d (va + i) ≡ slice_index bytes i) →
     StandAt user_memory (loaded_in s d) va bytes
 unfolding user_memory
-stands s d va bytes small room still byte i below =
+stands records s d va bytes same small room still byte i below =
     let here : (va + i) % 2 ^ 32 ≡ va + i = omega arith in
     let at = still i below in
     rw here (record {
       allowed = at.allowed;
       reached = λ j. loaded_in (with_spaces s (at.touched_is j)) d;
-      byte_is = byte i below;
+      byte_is = ap (λ (told : ℕ → List ℕ). byte_at told s.spaces d (va + i)) (sym same) ∙ byte i below;
     })
 
 -- ---- what is put
@@ -113,7 +116,7 @@ entry_readable (Some entry) va Write h = by_test (bit_and entry.perm 7 == 7) ref
 
 module _ (s : SpacesState) (d va : ℕ) (access : Access) where
   readable : is_allowed s d va access ≡ true → is_allowed s d va Read ≡ true
-  readable h = entry_readable (s.entries d (page_number va)) va access h
+  readable h = entry_readable (walked s d (page_number va)) va access h
 
   refused_stays : is_allowed s d va access ≡ false → touched s d va access ≡ s
   unfolding touched

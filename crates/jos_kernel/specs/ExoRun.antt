@@ -12,9 +12,10 @@ use Rattle.jos_kernel.specs.declared.report.End.{End}
 use Rattle.jos_kernel.specs.declared.report.End.TheVariants.{Done, Stuck, Budget, TurnsFull}
 use Rattle.jos_kernel.specs.declared.report.Refusal.{Refusal}
 use Rattle.jos_kernel.specs.declared.report.Turn.{Turn}
+use Rattle.jos_kernel.specs.declared.trace.TrapLine.{TrapLine}
 use Rattle.jos_kernel.specs.Reports.{Reported}
 use Rattle.jos_kernel.specs.Boot.{Loadable, booted}
-use Rattle.jos_kernel.specs.Steps.{EnvStep, Trap, env_step}
+use Rattle.jos_kernel.specs.Steps.{EnvStep, env_step}
 
 -- where a run stands
 pub record Progress : Type 0 where
@@ -30,7 +31,7 @@ pub record Progress : Type 0 where
   -- the first time that the list of frames or the table of environments was asked and empty
   pub first_refused : Option Refusal
   -- the traps that were raised, in their order
-  pub traps : List Trap
+  pub traps : List TrapLine
 
 -- ---- turns
 
@@ -82,7 +83,7 @@ first_refusal p after None =
     if p.state.refusals == after.refusals then None
     else Some (record { turn = length p.turns; console_len = counted p.console })
 
-abbrev pub traps_after : List Trap → Option Trap → List Trap
+abbrev pub traps_after : List TrapLine → Option TrapLine → List TrapLine
 traps_after traps None = traps
 traps_after traps (Some trap) = traps ++ trap ∷ []
 
@@ -150,5 +151,5 @@ report_of p end = record {
   closing = 0;
   refused = p.state.refusals;
   first_refused = p.first_refused;
-  upcalls = 0;
+  upcalls = p.state.upcalls;
 }

@@ -9,20 +9,22 @@ use Rattle.jos_base.specs.declared.numbers.TheConstants.{NENV, TURN_MAX}
 use Rattle.jos_base.specs.Environments.{is_running}
 use Rattle.jos_base.specs.KernelState.{KernelState, slot_at, turn_ended}
 use Rattle.jos_sched.specs.Quantum.{quantum}
+use Rattle.circular_buffer.specs.Buffer.{Buffer, buffer, keep_last}
 use Rattle.jos_kernel.specs.declared.kernel.Kernel.{Kernel}
+use Rattle.jos_kernel.specs.declared.trace.TrapLine.{TrapLine}
 use Rattle.jos_kernel.specs.declared.report.End.{End}
 use Rattle.jos_kernel.specs.declared.report.Refusal.{Refusal}
 use Rattle.jos_kernel.specs.Machine.{kernel_state}
-use Rattle.jos_kernel.specs.Steps.{Trap}
 use Rattle.jos_kernel.specs.ExoRun.{Progress, current, counted, turn_of, turn_goes_on, one_step, run_from}
 
--- what was told of a run so far: the bytes that it wrote, and the traps that it raised
+-- what was told of a run so far: the bytes that it wrote, and the traps that it raised, of which the last so many are kept
 pub record Told : Type 0 where
   pub console : List ℕ
-  pub traps : List Trap
+  pub traps : List TrapLine
+  pub kept : ℕ
 
 abbrev pub nothing : Told
-nothing = record { console = []; traps = [] }
+nothing = record { console = []; traps = []; kept = 0 }
 
 abbrev pub state_of : Kernel → KernelState
 state_of kernel = kernel_state kernel.machine
@@ -39,9 +41,10 @@ progress_of kernel told = record {
   traps = told.traps;
 }
 
--- the kernel has counted the bytes that were told
-abbrev pub Counts : Kernel → Told → Type 0
-Counts kernel told = kernel.written ≡ counted told.console
+-- the kernel has counted the bytes that were told, and has kept the last of the traps
+pub record Counts (kernel : Kernel) (told : Told) : Type 0 where
+  pub written : kernel.written ≡ counted told.console
+  pub trace : kernel.trace ≡ buffer (keep_last told.kept told.traps) told.kept
 
 -- What a kernel keeps between two steps: room for each turn of a run, and one that is under way is that of an
 -- environment that is RUNNING.
@@ -58,8 +61,8 @@ pub record Holds (kernel : Kernel) : Type 0 where
 -- ---- steps that were made
 
 -- more was told
-abbrev pub and_told : Told → List ℕ → List Trap → Told
-and_told told written traps = record { console = told.console ++ written; traps = traps }
+abbrev pub and_told : Told → List ℕ → List TrapLine → Told
+and_told told written traps = record told { console = told.console ++ written; traps = traps }
 
 -- The kernel has made so many steps of a run, before none of which an end test held, and has written what they write.
 pub record Went (n : ℕ) (kernel : Around Kernel) (console : Around (Option (List ℕ))) : Type 0 where
@@ -67,7 +70,7 @@ pub record Went (n : ℕ) (kernel : Around Kernel) (console : Around (Option (Li
   pub gains : Gains console written
   pub steps : kernel.after.steps ≡ kernel.before.steps + n
   pub schedule : kernel.after.schedule ≡ kernel.before.schedule
-  pub traps : (told : Told) → Counts kernel.before told → List Trap
+  pub traps : (told : Told) → Counts kernel.before told → List TrapLine
   pub counts : (told : Told) (c : Counts kernel.before told) → Counts kernel.after (and_told told written (traps told c))
   pub run : (told : Told) (c : Counts kernel.before told) (later : ℕ) →
       run_from kernel.before.schedule (n + later) (progress_of kernel.before told)
@@ -89,8 +92,9 @@ Advances (Err _) left kernel console = FailsIn left kernel.before console
 abbrev pub Steps : Result (Unit {0}) Failed → Around Kernel → Around (Option (List ℕ)) → Type 0
 Steps (Ok _) kernel console =
     (written : List ℕ) × Gains console written
-    × ((told : Told) → Counts kernel.before told → (traps : List Trap)
-    × (progress_of kernel.after (and_told told written traps) ≡ one_step kernel.before.schedule (progress_of kernel.before told)))
+    × ((told : Told) → Counts kernel.before told → (traps : List TrapLine)
+    × (progress_of kernel.after (and_told told written traps) ≡ one_step kernel.before.schedule (progress_of kernel.before told))
+    × Counts kernel.after (and_told told written traps))
 Steps (Err _) kernel console = FailsIn 1 kernel.before console
 
 -- The run has gone on to its end, and the kernel stands where it ends; or the host failed in the middle of what it
@@ -98,9 +102,10 @@ Steps (Err _) kernel console = FailsIn 1 kernel.before console
 abbrev pub IsRun : Result End Failed → ℕ → Around Kernel → Around (Option (List ℕ)) → Type 0
 IsRun (Ok end) left kernel console =
     (written : List ℕ) × Gains console written
-    × ((told : Told) → Counts kernel.before told → (traps : List Trap)
+    × ((told : Told) → Counts kernel.before told → (traps : List TrapLine)
     × (run_from kernel.before.schedule left (progress_of kernel.before told)
-    ≡ record { end = end; progress = progress_of kernel.after (and_told told written traps) }))
+    ≡ record { end = end; progress = progress_of kernel.after (and_told told written traps) })
+    × Counts kernel.after (and_told told written traps))
 IsRun (Err _) left kernel console = FailsIn left kernel.before console
 
 -- ---- counting
@@ -124,3 +129,9 @@ pub record Counted (old new : Kernel) (slot steps written : ℕ) (refused : Bool
   pub written_is : new.written ≡ min (old.written + written) (2 ^ 64 - 1)
   pub first_refused : new.first_refused ≡ refusal_after old refused old.first_refused
   pub schedule : new.schedule ≡ old.schedule
+  pub trace : new.trace ≡ old.trace
+
+-- the last traps that are kept, and one more where one was raised
+abbrev pub traced : Buffer TrapLine → Option TrapLine → Buffer TrapLine
+traced trace None = trace
+traced trace (Some trap) = buffer (keep_last trace.capacity (trace.items ++ trap ∷ [])) trace.capacity

@@ -4,6 +4,8 @@ use Rattle.std.specs.Option.{option_map}
 use Rattle.jos_host.specs.declared.host.Failed.{Failed}
 use Rattle.jos_host.specs.Frames.{Around}
 use Rattle.jos_host.specs.Gains.{Gains, GainsPart}
+use Rattle.jos_base.specs.declared.line.Line.{Line}
+use Rattle.jos_base.specs.declared.line.Line.TheVariants.{UserFault}
 use Rattle.jos_base.specs.KernelState.{KernelState}
 use Rattle.jos_space.specs.declared.spaces.Space.{Space}
 use Rattle.jos_space.specs.declared.spaces.PageAtHand.{PageAtHand}
@@ -11,6 +13,7 @@ use Rattle.jos_space.specs.AtHand.{IsPageAtHand}
 use Rattle.jos_sys.specs.declared.input.Input.{Input}
 use Rattle.jos_sys.specs.declared.system.System.{System}
 use Rattle.jos_sys.specs.System.{state_of, spaces_of, left_of, Keeps, in_use}
+use Rattle.jos_kernel.specs.declared.machine.Followed.{Followed}
 use Rattle.jos_kernel.specs.Running.{Running}
 use Rattle.jos_kernel.specs.Steps.{EnvStep}
 
@@ -46,7 +49,14 @@ loaded m = option_map (λ space. space.directory.0) m.space
 abbrev pub running_of : Parts → Running
 running_of m = record { state = kernel_state m; directory = loaded m }
 
--- A step is done, and so many bytes are written, all of them; or the host failed in the middle of them.
-abbrev pub Follows : Result ℕ Failed → EnvStep → KernelState → Around (Option (List ℕ)) → Type 0
-Follows (Ok written) step state console = (state ≡ step.state) × (written ≡ length step.written) × Gains console step.written
+-- A step is done, with the trap that it raised, and so many bytes are written, all of them; or the host failed in the
+-- middle of them.
+abbrev pub Follows : Result Followed Failed → EnvStep → KernelState → Around (Option (List ℕ)) → Type 0
+Follows (Ok followed) step state console =
+    (state ≡ step.state) × (followed.written ≡ length step.written) × (followed.trap ≡ step.trap) × Gains console step.written
 Follows (Err _) step state console = GainsPart console step.written
+
+-- A page fault was handed to its handler, or nothing is changed and the line tells of its environment's end.
+abbrev pub IsHanded : Option Line → Option KernelState → ℕ → ℕ → KernelState → KernelState → Type 0
+IsHanded None did va ip before now = did ≡ Some now
+IsHanded (Some line) did va ip before now = (did ≡ None) × (now ≡ before) × (line ≡ UserFault va ip)

@@ -4,6 +4,7 @@ use Rattle.std.specs.Prelude.{ℕ, Bool, false, Option, None, Some}
 use Rattle.jos_base.specs.declared.memory.Access.{Access}
 use Rattle.jos_base.specs.declared.memory.PageFault.{PageFault}
 use Rattle.jos_base.specs.Reach.{reach_entry}
+use Rattle.jos_base.specs.Environments.{records_of}
 use Rattle.jos_base.specs.KernelState.{KernelState, with_spaces}
 use Rattle.jos_base.specs.UserMemory.{is_allowed, fault_at, fault_or, touched, byte_at, stored_byte}
 use Rattle.jos_cpu.specs.declared.memory.MemFault.TheVariants.{Page}
@@ -28,7 +29,7 @@ unloaded s = record { state = s; directory = None }
 
 abbrev pub byte_in : KernelState → Option ℕ → ℕ → ℕ
 byte_in s None va = 0
-byte_in s (Some d) va = byte_at s.spaces d va
+byte_in s (Some d) va = byte_at (records_of s.environments) s.spaces d va
 
 abbrev pub allowed_in : KernelState → Option ℕ → ℕ → Access → Bool
 allowed_in s None va access = false

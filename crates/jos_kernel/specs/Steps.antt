@@ -4,41 +4,34 @@ use Rattle.std.specs.Prelude.{ℕ, ◌==◌, List, [], Option, Some, None, if◌
 use Rattle.jos_base.specs.declared.line.Line.TheVariants as line
 use Rattle.jos_base.specs.declared.numbers.TheConstants.{T_BRKPT, T_PGFLT, T_SYSCALL}
 use Rattle.jos_base.specs.KernelState.{KernelState, slot_at, with_registers}
-use Rattle.jos_base.specs.SystemCalls.{Did, system_call, deliver_fault, killed}
+use Rattle.jos_base.specs.SystemCalls.{Did, Trapped, system_call, deliver_fault, killed, trapped_by}
 use Rattle.jos_cpu.specs.declared.events.Event.{Event}
 use Rattle.jos_cpu.specs.declared.events.Event.TheVariants.{Next, Soft, Raised}
 use Rattle.jos_cpu.specs.declared.events.Gates.TheVariants.{Exo}
 use Rattle.jos_cpu.specs.Steps as cpu
+use Rattle.jos_kernel.specs.declared.trace.TrapLine.{TrapLine}
 use Rattle.jos_kernel.specs.Running.{Running, user_memory}
-
--- a trap that an instruction raised: whose, its number and error code, the address of a page fault (else 0), and the
--- address that it is told for
-pub record Trap : Type 0 where
-  pub id : ℕ
-  pub trap : ℕ
-  pub error : ℕ
-  pub va : ℕ
-  pub ip : ℕ
 
 -- what a step of an environment leaves, what it writes to the console, and the trap that it raised, if it raised one
 pub record EnvStep : Type 0 where
   pub state : KernelState
   pub written : List ℕ
-  pub trap : Option Trap
+  pub trap : Option TrapLine
 
 abbrev pub after_call : Did → EnvStep
 after_call did = record { state = did.state; written = did.written; trap = None }
 
--- a page fault has its own line
-abbrev pub ended_by : KernelState → ℕ → ℕ → ℕ → ℕ → ℕ → Did
-ended_by s n trap error va ip =
-    if trap == T_PGFLT then deliver_fault s n (record { va = va; error = error }) else killed s n (line.Trap trap error ip)
+-- a page fault may have a handler; any other trap ends the environment
+abbrev pub trapped : KernelState → ℕ → ℕ → ℕ → ℕ → ℕ → Trapped
+trapped s n trap error va ip =
+    if trap == T_PGFLT then deliver_fault s n (record { va = va; error = error })
+    else trapped_by (killed s n (line.Trap trap error ip))
 
 abbrev pub after_trap : KernelState → ℕ → ℕ → ℕ → ℕ → ℕ → EnvStep
 after_trap s n trap error va ip =
-    let did = ended_by s n trap error va ip in record {
-      state = did.state;
-      written = did.written;
+    let done = trapped s n trap error va ip in record {
+      state = done.state;
+      written = done.written;
       trap = Some (record { id = (slot_at s n).id; trap = trap; error = error; va = va; ip = ip });
     }
 

@@ -13,7 +13,9 @@ ghost use Rattle.jos_kernel.specs.Machine.{kernel_state, loaded};
 ghost use Rattle.jos_kernel.specs.Boot.{booted, loadables};
 ghost use Rattle.jos_kernel.specs.Loading.{IsRead};
 ghost use Rattle.jos_kernel.specs.ExoRun.{current, in_turn, end_of, before_steps, report_of};
-ghost use Rattle.jos_kernel.specs.Kernel.{state_of, progress_of, nothing, Counts, Holds, Counted, Advances, Steps, IsRun};
+ghost use Rattle.circular_buffer.specs.Buffer.{keep_last};
+ghost use Rattle.jos_kernel.specs.Kernel.{state_of, progress_of, Told, nothing, Counts, Holds, Counted, Advances, Steps, IsRun};
+ghost use Rattle.jos_kernel.specs.Kernel.{traced};
 ghost use Rattle.jos_kernel.specs.Ends.{result_of, IfEnded};
 ghost use Rattle.jos_kernel.specs.declared.report.End.TheVariants.{Budget};
 ghost use Rattle.jos_kernel.specs.declared.kernel.BootFault.TheVariants.{NoMemory};
@@ -21,6 +23,8 @@ ghost use Rattle.jos_kernel.specs.declared.kernel.BootFault.TheVariants.{NoMemor
 use crate::boot::boot_images;
 use crate::machine::Machine;
 use crate::report::{End, Refusal, Report, Stopped, Turn};
+use crate::trace::{Trace, TrapLine};
+use circular_buffer::HeapCircularBuffer;
 use jos_base::{NoMemory, TURN_MAX};
 use jos_cpu::{Decodings, Gates, make_burst};
 use jos_elf::Image;
@@ -77,11 +81,13 @@ pub struct Kernel {
     /// The bytes written to the console.
     written: u64,
     first_refused: Option<Refusal>,
+    /// The last traps.
+    trace: Trace,
 }
 
 impl Kernel {
     /// Boots the images, each of which was read from the file at its place, in so many frames, with the console's input.
-    /// All the memory that a run takes is taken here.
+    /// The last traps, so many, are kept in the order in which they come. All the memory that a run takes is taken here.
     pub fn boot(
         alloc: Global,
         images: &[Image],
@@ -89,6 +95,7 @@ impl Kernel {
         frames: u32,
         input: Vec<u8>,
         schedule: Schedule,
+        trace: u32,
     ) -> Result<Kernel, BootFault>
         requires images { All IsRead (loadables images.now files.now) }
         requires least { 64 ≤ frames }
@@ -98,10 +105,11 @@ impl Kernel {
         ensures schedule { IfOk result (λ kernel. kernel.schedule ≡ schedule) }
         ensures pool { IfErr result (λ fault. fault ≡ BootFault.Pool → booted (loadables images.now files.now) frames input.items ≡ None) }
         ensures holds { IfOk result Holds }
-        ensures counts { IfOk result (λ kernel. Counts kernel nothing) }
+        ensures counts { IfOk result (λ kernel. Counts kernel (record nothing { kept = trace })) }
     {
         let turns = Vec::with_capacity(alloc, TURN_MAX)?;
         let decodings = Decodings::new(alloc)?;
+        let trace = HeapCircularBuffer::with_capacity(alloc, trace as usize)?;
         let mut system = System::new(alloc, frames)?;
         if !boot_images(&mut system, images, files) {
             return Err(BootFault::Pool);
@@ -115,6 +123,7 @@ impl Kernel {
             steps: 0,
             written: 0,
             first_refused: None,
+            trace,
         })
     }
 
@@ -199,6 +208,17 @@ impl Kernel {
         self.machine.end_turn(slot);
     }
 
+    /// Keeps a trap that was raised, if one was.
+    #[inline(always)]
+    fn keep_trap(&mut self, raised: Option<TrapLine>)
+        ensures trace { self.new.trace ≡ traced self.old.trace raised }
+        ensures rest { self.new ≡ record self.old { trace = self.new.trace } }
+    {
+        if let Some(trap) = raised {
+            self.trace.push_back(trap);
+        }
+    }
+
     /// The steps that are left of the turn under way, or of the next.
     #[inline(always)]
     fn steps_of_turn(&self) -> u32
@@ -259,9 +279,10 @@ impl Kernel {
         );
         let refusals = self.machine.refused();
         match self.machine.follow(host, slot, registers, burst.event) {
-            Ok(written) => {
+            Ok(followed) => {
                 let refused = self.machine.refused() != refusals;
-                self.count_steps(slot, burst.steps, written, refused);
+                self.keep_trap(followed.trap);
+                self.count_steps(slot, burst.steps, followed.written, refused);
                 Ok(burst.steps)
             }
             Err(failed) => Err(failed),
@@ -375,10 +396,11 @@ impl Kernel {
         Ok(self.end_of_budget())
     }
 
-    /// What is told of the run, with its turns.
-    pub fn finish(mut self, end: End) -> Report
+    /// What is told of the run, with its turns, and the last of its traps.
+    pub fn finish(mut self, end: End) -> (Report, Trace)
         requires { Holds self }
-        ensures { result ≡ report_of (progress_of self nothing) end }
+        ensures report { result.0 ≡ report_of (progress_of self nothing) end }
+        ensures trace { (told : Told) → Counts self told → result.1.items ≡ keep_last told.kept told.traps }
     {
         if self.made > 0 {
             let slot = self.machine.current();
@@ -390,15 +412,16 @@ impl Kernel {
                 })
                 .unwrap();
         }
-        Report {
+        let report = Report {
             end,
             steps: self.steps,
             turns: self.turns,
             closing: 0,
             refused: self.machine.refused(),
             first_refused: self.first_refused,
-            upcalls: 0,
-        }
+            upcalls: self.machine.upcalls(),
+        };
+        (report, self.trace)
     }
 
     /// What is told of a run where a call of the host failed: nothing.

@@ -12,6 +12,8 @@ mod machine;
 mod report;
 #[cfg(test)]
 mod tests;
+mod trace;
 
 pub use kernel::{BootFault, ExoEnd, Kernel, exo_run};
 pub use report::{End, Refusal, Report, Stopped, Turn};
+pub use trace::{Trace, TrapLine};

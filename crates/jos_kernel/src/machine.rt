@@ -7,22 +7,31 @@ ghost use Rattle.jos_host.specs.Frames.{Unchanged, around};
 ghost use Rattle.jos_base.specs.declared.numbers.TheConstants.{NENV, CPUTS_MAX};
 ghost use Rattle.jos_base.specs.Environments.{is_live, is_running};
 ghost use Rattle.jos_base.specs.KernelState.{KernelState, slot_at, with_registers, turn_begun, turn_ended};
+ghost use Rattle.jos_base.specs.SystemCalls.{handled};
 ghost use Rattle.jos_cpu.specs.Memory.{StandAt, probed, refusal_of};
 ghost use Rattle.jos_envs.specs.Table.{any_live};
 ghost use Rattle.jos_sys.specs.System.{state_of, left_of, Keeps};
-ghost use Rattle.jos_kernel.specs.Machine.{kernel_state, loaded, running_of, Follows};
+ghost use Rattle.jos_kernel.specs.Machine.{kernel_state, loaded, running_of, Follows, IsHanded};
 ghost use Rattle.jos_kernel.specs.Running.{user_memory, unloaded};
 ghost use Rattle.jos_kernel.specs.Steps.{after_trap, after_event};
 ghost use Rattle.jos_kernel.specs.ExoRun.{current, next_slot};
 
+use crate::trace::TrapLine;
 use jos_alu::Width;
 use jos_base::{Access, FEC_U, FEC_WR, Line, PageFault, Regs, Status, T_BRKPT, T_PGFLT, T_SYSCALL};
 use jos_cpu::{Event, Mem, MemFault};
 use jos_host::{Failed, Host};
 use jos_sched::next;
 use jos_space::{PageAtHand, Space};
-use jos_sys::{Input, System};
+use jos_sys::{Faulted, Input, System};
 use std::marker::Model;
+
+/// What comes of a step: how many bytes were written, and the trap that was raised, if one was.
+#[derive(Clone, Copy)]
+pub(crate) struct Followed {
+    pub(crate) written: u32,
+    pub(crate) trap: Option<TrapLine>,
+}
 
 /// The system, the console's input, and the space that the processor uses, where one is loaded.
 #[derive(Drop)]
@@ -218,6 +227,13 @@ impl Machine {
         matches!(self.system.environment(slot).status, Status::Running)
     }
 
+    /// How many page faults were handed to their handlers.
+    pub(crate) fn upcalls(&self) -> u64
+        ensures { result ≡ (kernel_state self.now).upcalls }
+    {
+        self.system.upcalls()
+    }
+
     /// How often frames or slots were asked for and there was none.
     #[inline(always)]
     pub(crate) fn refused(&self) -> u64
@@ -243,8 +259,23 @@ impl Machine {
         self.system.end_turn(slot);
     }
 
-    /// Destroys an environment by the line of a trap, given by its number, error code and address, that is told for the
-    /// address at which the environment stands. No space is loaded.
+    /// Hands a page fault of the instruction at an address to its handler. Where there is none, or no room for its frame,
+    /// the result is the line of its environment's end.
+    fn hand_fault(&mut self, slot: usize, fault: PageFault, ip: u32) -> Option<Line>
+        requires live { is_live (slot_at (kernel_state self.old) slot) ≡ true }
+        requires unloaded { loaded self.old ≡ None }
+        ensures told { IsHanded result (handled (kernel_state self.old) slot fault) fault.va ip (kernel_state self.old) (kernel_state self.new) }
+        ensures live { is_live (slot_at (kernel_state self.new) slot) ≡ true }
+        ensures unloaded { loaded self.new ≡ None }
+    {
+        match self.system.fault(slot, fault) {
+            Faulted::Upcall => None,
+            Faulted::Killed => Some(Line::UserFault { va: fault.va, ip }),
+        }
+    }
+
+    /// Does what comes of a trap, given by its number, error code and address, at the address at which the environment
+    /// stands: a page fault may have a handler, and any other trap ends the environment with its line. No space is loaded.
     #[cold]
     #[inline(never)]
     fn follow_trap<H: Host>(
@@ -254,28 +285,47 @@ impl Machine {
         trap: u8,
         error: u32,
         va: u32,
-    ) -> Result<u32, Failed>
+    ) -> Result<Followed, Failed>
         requires live { is_live (slot_at (kernel_state self.old) slot) ≡ true }
         requires unloaded { loaded self.old ≡ None }
         ensures told { Follows result (after_trap (kernel_state self.old) slot trap error va (slot_at (kernel_state self.old) slot).registers.eip) (kernel_state self.new) (around H.console host.old host.new) }
-        ensures small { IfOk result (λ written. written ≤ CPUTS_MAX) }
+        ensures small { IfOk result (λ followed. followed.written ≤ CPUTS_MAX) }
         ensures rest { Unchanged H.files H.input H.asked H.notes host.old host.new }
         ensures cause { HasCause (H.faults host.old) (H.faults host.new) result }
     {
-        let ip = self.system.registers(slot).eip;
+        let environment = self.system.environment(slot);
+        let ip = environment.registers.eip;
+        let raised = Some(TrapLine {
+            id: environment.id.0,
+            trap,
+            error,
+            va,
+            ip,
+        });
         let line = if trap == T_PGFLT {
-            Line::UserFault { va, ip }
+            match self.hand_fault(slot, PageFault { va, error }, ip) {
+                None => {
+                    return Ok(Followed {
+                        written: 0,
+                        trap: raised,
+                    });
+                }
+                Some(line) => line,
+            }
         } else {
             Line::Trap { trap, error, ip }
         };
         match self.system.kill(host, slot, line) {
-            Ok(answer) => Ok(answer.written),
+            Ok(answer) => Ok(Followed {
+                written: answer.written,
+                trap: raised,
+            }),
             Err(failed) => Err(failed),
         }
     }
 
     /// Does what comes of an instruction of the environment in a slot, which has left these registers: the system call
-    /// or the trap that it raised. The result is how many bytes were written. No space is loaded then.
+    /// or the trap that it raised. No space is loaded then.
     #[inline(always)]
     pub(crate) fn follow<H: Host>(
         &mut self,
@@ -283,10 +333,10 @@ impl Machine {
         slot: usize,
         registers: Regs,
         event: Event,
-    ) -> Result<u32, Failed>
+    ) -> Result<Followed, Failed>
         requires live { is_live (slot_at (kernel_state self.old) slot) ≡ true }
         ensures told { Follows result (after_event (with_registers (kernel_state self.old) slot registers) slot event) (kernel_state self.new) (around H.console host.old host.new) }
-        ensures small { IfOk result (λ written. written ≤ CPUTS_MAX) }
+        ensures small { IfOk result (λ followed. followed.written ≤ CPUTS_MAX) }
         ensures rest { Unchanged H.files H.input H.asked H.notes host.old host.new }
         ensures cause { HasCause (H.faults host.old) (H.faults host.new) result }
     {
@@ -294,11 +344,17 @@ impl Machine {
         self.code = None;
         self.system.set_registers(slot, registers);
         match event {
-            Event::Next => Ok(0),
+            Event::Next => Ok(Followed {
+                written: 0,
+                trap: None,
+            }),
             Event::Soft(vector) => {
                 if vector == T_SYSCALL {
                     match self.system.call(host, &mut self.input, slot) {
-                        Ok(answer) => Ok(answer.written),
+                        Ok(answer) => Ok(Followed {
+                            written: answer.written,
+                            trap: None,
+                        }),
                         Err(failed) => Err(failed),
                     }
                 } else {

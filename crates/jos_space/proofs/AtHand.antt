@@ -1,7 +1,8 @@
 -- What is at hand is reached with nothing changed.
 use Rattle.std.proofs.Common.{◌≡◌, ◌∙◌, ◌+◌, ◌/◌, ◌%◌, ◌<◌, ◌≤◌, ◌==◌, ℕ, Bool, true, false, cond, List, Option, Some}
 use Rattle.std.proofs.Common.{None, Result, Ok, Err, refl, sym, ap, arith}
-use Rattle.std.specs.Prelude.{bit_and, bit_or, slice_index, slice_set, is_ok}
+use Rattle.std.specs.Prelude.{bit_and, bit_or, slice_index, slice_set, is_ok, nat_lt}
+use Rattle.std.specs.Option.{option_map}
 use Rattle.std.proofs.lemmas.Bool.Decides.{nat_tests}
 use Rattle.jos_base.specs.declared.memory.Access.{Access}
 use Rattle.jos_base.specs.declared.memory.Access.TheVariants.{Read, Write}
@@ -10,7 +11,10 @@ use Rattle.jos_base.specs.Words.{upd}
 use Rattle.jos_base.specs.Reach.{Entry, Location, allows, reach_entry, write_bit}
 use Rattle.jos_base.specs.SpacesState.{Region, SpacesState, with_page_bytes}
 use Rattle.jos_base.specs.UserMemory.{reach_in, access_bits, touched, touched_by, byte_at, byte_of, region_accessed}
-use Rattle.jos_base.specs.UserMemory.{entry_marked, stored_byte, with_byte_at}
+use Rattle.jos_base.specs.UserMemory.{entry_marked, stored_byte, with_byte_at, with_bits, with_page_bits, with_window_bits, byte_or_zero}
+use Rattle.jos_base.specs.Counting.{page_limit}
+use Rattle.jos_base.specs.Windows.{walked, page_entry, entry_above, read_only, window_byte}
+use Rattle.jos_base.specs.declared.numbers.TheConstants.{UTOP}
 use Rattle.jos_space.specs.AtHand.{bits_at_hand, frame_with, frame_by, IsStill, stored_word, word_laid}
 use Rattle.jos_space.proofs.Counts.{upd-at}
 use Rattle.jos_space.proofs.Lookups.{put-stays, upd-twice}
@@ -65,14 +69,74 @@ marked_stays : (perm : ℕ) (access : Access) → bit_and perm (bits_at_hand acc
 marked_stays perm Read stand = or_stays perm 32 (part_stands perm 37 32 stand refl)
 marked_stays perm Write stand = or_stays perm 96 (part_stands perm 103 96 stand refl)
 
-module _ (s : SpacesState) (d va frame : ℕ) (access : Access) (found : frame_with s d (va / 4096) (bits_at_hand access) ≡ Some frame) where
+-- below UTOP an access finds what the table says
+pub walked_below : (s : SpacesState) (d n : ℕ) → n < page_limit → walked s d n ≡ s.entries d n
+unfolding walked
+walked_below s d n below = let low : nat_lt n page_limit ≡ true = grind (arith, nat_tests) in rw low refl
+
+pub low_page : (va : ℕ) → va < UTOP → va / 4096 < page_limit
+unfolding page_limit
+low_page va below = omega arith
+
+pub low_number : (n : ℕ) → n < UTOP / 4096 → n < page_limit
+unfolding page_limit
+low_number n below = omega arith
+
+pub low_address : (va : ℕ) → va / 4096 < page_limit → va < UTOP
+unfolding page_limit
+low_address va below = omega arith
+
+pub high_page : (n : ℕ) → UTOP / 4096 ≤ n → nat_lt n page_limit ≡ false
+unfolding page_limit
+high_page n past = grind (arith, nat_tests)
+
+-- at UTOP and above it finds what the windows say
+pub walked_above : (s : SpacesState) (d n : ℕ) → nat_lt n page_limit ≡ false → walked s d n ≡ option_map read_only (entry_above s d (n / 1024) (n % 1024))
+unfolding walked
+walked_above s d n past = rw past refl
+
+pub byte_above : (records : ℕ → List ℕ) (s : SpacesState) (d va : ℕ) (place : Location) → nat_lt (va / 4096) page_limit ≡ false
+    → byte_of records s d va place ≡ window_byte records s d va
+byte_above records s d va place past = rw past refl
+
+-- what may be written lies below UTOP
+pub write_low : (s : SpacesState) (d va : ℕ) (place : Location) → reach_in s d va Write ≡ Ok place → va / 4096 < page_limit
+write_low s d va place e = by_test (nat_lt (va / 4096) page_limit) refl
+  where
+    by_entry : (o : Option Entry) → reach_entry (option_map read_only o) va Write ≡ Ok place → ⊥
+    by_entry None e = absurd cc
+    by_entry (Some entry) e = absurd cc
+
+    by_test : (b : Bool) → nat_lt (va / 4096) page_limit ≡ b → va / 4096 < page_limit
+    by_test true t = grind (arith, nat_tests)
+    by_test false t =
+        absurd (by_entry (entry_above s d (va / 4096 / 1024) (va / 4096 % 1024)) (sym (ap (λ (o : Option Entry). reach_entry o va Write) (walked_above s d (va / 4096) t)) ∙ e))
+
+pub bits_below : (s : SpacesState) (d n : ℕ) (access : Access) → n < page_limit → with_bits s d n access ≡ with_page_bits s d n access
+bits_below s d n access below = let low : nat_lt n page_limit ≡ true = grind (arith, nat_tests) in rw low refl
+
+pub bits_above : (s : SpacesState) (d n : ℕ) (access : Access) → nat_lt n page_limit ≡ false → with_bits s d n access ≡ with_window_bits s d n
+bits_above s d n access past = rw past refl
+
+pub entry_of_low : (s : SpacesState) (d n : ℕ) → n < page_limit → page_entry s d n ≡ s.entries d n
+entry_of_low s d n below = let low : nat_lt n page_limit ≡ true = grind (arith, nat_tests) in rw low refl
+
+pub entry_of_high : (s : SpacesState) (d n : ℕ) → nat_lt n page_limit ≡ false → page_entry s d n ≡ entry_above s d (n / 1024) (n % 1024)
+entry_of_high s d n past = rw past refl
+
+pub byte_below : (records : ℕ → List ℕ) (s : SpacesState) (d va : ℕ) (place : Location) → va / 4096 < page_limit
+    → byte_of records s d va place ≡ slice_index (s.pages place.frame) place.offset
+byte_below records s d va place below = let low : nat_lt (va / 4096) page_limit ≡ true = grind (arith, nat_tests) in rw low refl
+
+module _ (s : SpacesState) (d va frame : ℕ) (access : Access) (below : va / 4096 < page_limit)
+    (found : frame_with s d (va / 4096) (bits_at_hand access) ≡ Some frame) where
   abbrev here : IsFound s d (va / 4096) (bits_at_hand access) frame
   here = is_found s d (va / 4096) (bits_at_hand access) frame found
 
   pub reach_at_hand : reach_in s d va access ≡ Ok (record { frame = frame; offset = va % 4096 })
   reach_at_hand =
       let may = allowed_with here.perm access here.stand in
-      ap (λ (o : Option Entry). reach_entry o va access) here.entry_is
+      ap (λ (o : Option Entry). reach_entry o va access) (walked_below s d (va / 4096) below ∙ here.entry_is)
       ∙ ap (λ (b : Bool). cond b (Ok (record { frame = frame; offset = va % 4096 })) (Err (record { va = va; error = 5 + write_bit access }))) may
 
   pub still_at_hand : IsStill s d va access
@@ -81,6 +145,7 @@ module _ (s : SpacesState) (d va frame : ℕ) (access : Access) (found : frame_w
     allowed = ap is_ok reach_at_hand;
     touched_is =
         ap (touched_by s d va access) reach_at_hand
+        ∙ bits_below s d (va / 4096) access below
         ∙ (λ i. record s {
           regions = λ x y. put-stays s.regions d (va / 4096 / 1024) (region_accessed (s.regions d (va / 4096 / 1024))) region_stays x y i;
           entries = λ x y. put-stays s.entries d (va / 4096) (entry_marked (access_bits access) (s.entries d (va / 4096))) entry_stays x y i;
@@ -96,24 +161,27 @@ module _ (s : SpacesState) (d va frame : ℕ) (access : Access) (found : frame_w
           ∙ (λ i. Some (record { frame = frame; perm = marked_stays here.perm access here.stand i }))
           ∙ sym here.entry_is
 
-pub byte_at_hand : (s : SpacesState) (d va frame : ℕ) → frame_with s d (va / 4096) (bits_at_hand Read) ≡ Some frame → byte_at s d va ≡ slice_index (s.pages frame) (va % 4096)
+pub byte_at_hand : (records : ℕ → List ℕ) (s : SpacesState) (d va frame : ℕ) → va / 4096 < page_limit → frame_with s d (va / 4096) (bits_at_hand Read) ≡ Some frame
+    → byte_at records s d va ≡ slice_index (s.pages frame) (va % 4096)
 unfolding byte_at
-byte_at_hand s d va frame found = ap (byte_of s) (reach_at_hand s d va frame Read found)
+byte_at_hand records s d va frame below found =
+    ap (byte_or_zero records s d va) (reach_at_hand s d va frame Read below found)
+    ∙ byte_below records s d va (record { frame = frame; offset = va % 4096 }) below
 
-pub stored_at_hand : (s : SpacesState) (d va frame byte : ℕ) → frame_with s d (va / 4096) (bits_at_hand Write) ≡ Some frame
+pub stored_at_hand : (s : SpacesState) (d va frame byte : ℕ) → va / 4096 < page_limit → frame_with s d (va / 4096) (bits_at_hand Write) ≡ Some frame
     → stored_byte s d va byte ≡ with_page_bytes s frame (slice_set (s.pages frame) (va % 4096) byte)
 unfolding stored_byte
-stored_at_hand s d va frame byte found = ap (with_byte_at s byte) (reach_at_hand s d va frame Write found)
+stored_at_hand s d va frame byte below found = ap (with_byte_at s byte) (reach_at_hand s d va frame Write below found)
 
 found_with_bytes : (s : SpacesState) (d n bits frame : ℕ) (page : List ℕ) → frame_with (with_page_bytes s frame page) d n bits ≡ frame_with s d n bits
 unfolding frame_with
 found_with_bytes s d n bits frame page = refl
 
 -- what is written into a page that was written into before
-stored_more : (s : SpacesState) (d va frame byte : ℕ) (page : List ℕ) → frame_with s d (va / 4096) (bits_at_hand Write) ≡ Some frame
+stored_more : (s : SpacesState) (d va frame byte : ℕ) (page : List ℕ) → va / 4096 < page_limit → frame_with s d (va / 4096) (bits_at_hand Write) ≡ Some frame
     → stored_byte (with_page_bytes s frame page) d va byte ≡ with_page_bytes s frame (slice_set page (va % 4096) byte)
-stored_more s d va frame byte page found =
-    stored_at_hand (with_page_bytes s frame page) d va frame byte (found_with_bytes s d (va / 4096) (bits_at_hand Write) frame page ∙ found)
+stored_more s d va frame byte page below found =
+    stored_at_hand (with_page_bytes s frame page) d va frame byte below (found_with_bytes s d (va / 4096) (bits_at_hand Write) frame page ∙ found)
     ∙ (λ i. record s { pages = upd (upd s.pages frame page) frame (slice_set (upd-at s.pages frame page i) (va % 4096) byte) })
     ∙ (λ i. record s { pages = upd-twice s.pages frame page (slice_set page (va % 4096) byte) i })
 
@@ -122,22 +190,24 @@ pub moved_found : (s : SpacesState) (d va k bits frame : ℕ) → va % 4096 + k 
     → frame_with s d ((va + k) / 4096) bits ≡ Some frame
 moved_found s d va k bits frame room found = ap (λ (n : ℕ). frame_with s d n bits) (omega arith) ∙ found
 
-pub word_stored_at_hand : (s : SpacesState) (d va frame word : ℕ) → va % 4096 ≤ 4092 → frame_with s d (va / 4096) (bits_at_hand Write) ≡ Some frame
+pub word_stored_at_hand : (s : SpacesState) (d va frame word : ℕ) → va / 4096 < page_limit → va % 4096 ≤ 4092 → frame_with s d (va / 4096) (bits_at_hand Write) ≡ Some frame
     → stored_word s d va word ≡ with_page_bytes s frame (word_laid (s.pages frame) (va % 4096) word)
 unfolding stored_word word_laid
-word_stored_at_hand s d va frame word room found =
+word_stored_at_hand s d va frame word low room found =
+    let one_page : (k : ℕ) → k < 4 → (va + k) / 4096 ≡ va / 4096 = (λ k below. omega arith) in
+    let under : (k : ℕ) → k < 4 → (va + k) / 4096 < page_limit = (λ k below. let same = one_page k below in omega (arith, low, same)) in
     let at : (k : ℕ) → k < 4 → frame_with s d ((va + k) / 4096) (bits_at_hand Write) ≡ Some frame =
     (λ k below. moved_found s d va k (bits_at_hand Write) frame (omega arith) found) in
     let place : (k : ℕ) → k < 4 → (va + k) % 4096 ≡ va % 4096 + k = (λ k below. omega arith) in
     let first = slice_set (s.pages frame) (va % 4096) (word % 256) in
     let second = slice_set first (va % 4096 + 1) (word / 256 % 256) in
     let third = slice_set second (va % 4096 + 2) (word / 65536 % 256) in
-    let one = stored_at_hand s d va frame (word % 256) found in
-    let two = stored_more s d (va + 1) frame (word / 256 % 256) first (at 1 (omega arith))
+    let one = stored_at_hand s d va frame (word % 256) low found in
+    let two = stored_more s d (va + 1) frame (word / 256 % 256) first (under 1 (omega arith)) (at 1 (omega arith))
     ∙ (λ i. with_page_bytes s frame (slice_set first (place 1 (omega arith) i) (word / 256 % 256))) in
-    let three = stored_more s d (va + 2) frame (word / 65536 % 256) second (at 2 (omega arith))
+    let three = stored_more s d (va + 2) frame (word / 65536 % 256) second (under 2 (omega arith)) (at 2 (omega arith))
     ∙ (λ i. with_page_bytes s frame (slice_set second (place 2 (omega arith) i) (word / 65536 % 256))) in
-    let four = stored_more s d (va + 3) frame (word / 16777216 % 256) third (at 3 (omega arith))
+    let four = stored_more s d (va + 3) frame (word / 16777216 % 256) third (under 3 (omega arith)) (at 3 (omega arith))
     ∙ (λ i. with_page_bytes s frame (slice_set third (place 3 (omega arith) i) (word / 16777216 % 256))) in
     (λ i. stored_byte (stored_byte (stored_byte (one i) d (va + 1) (word / 256 % 256)) d (va + 2) (word / 65536 % 256)) d (va + 3) (word / 16777216 % 256))
     ∙ (λ i. stored_byte (stored_byte (two i) d (va + 2) (word / 65536 % 256)) d (va + 3) (word / 16777216 % 256))

@@ -125,6 +125,7 @@ module _ (l : Lists) (ok : AreSound l) (d r : ℕ) (dir : get_or l.roles d Reser
     bytes = ok.bytes;
     counts = ok.counts;
     order = ok.order;
+    records = ok.records;
     sound = subst (λ (c : Held). IsSound (length l.roles) c) (sym cleared_is)
         (region_sound (length l.roles) (held_in l) ok.sound d r dir below 0 None refl no_knowledge no_entries);
   }

@@ -131,6 +131,10 @@ unmapped_no_more : (s : SpacesState) (d n : ℕ) → NoMore s (unmapped s d n)
 unfolding NoMore unmapped
 unmapped_no_more s d n f is = released_no_more _ (frame_of (s.entries d n)) f is
 
+pub unmapped_directories : (s t : SpacesState) (d n : ℕ) → KeepsDirectories s t → t ≡ unmapped s d n → directories t ≡ directories s
+unfolding NoMore
+unmapped_directories s t d n kept e = same_directories s t kept (λ f is. unmapped_no_more s d n f ((λ i. (sym e i).uses f) ∙ is))
+
 pages_no_more : (s : SpacesState) (d n : ℕ) → NoMore s (pages_removed s d n)
 unfolding NoMore pages_removed
 pages_no_more s d zero f is = is

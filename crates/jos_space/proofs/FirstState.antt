@@ -1,5 +1,5 @@
 -- The frames at the beginning.
-use Rattle.std.proofs.Common.{◌≡◌, ◌∙◌, ◌+◌, ◌-◌, ◌/◌, ◌<◌, ◌≤◌, inl, inr, ℕ, zero, suc, true, false, cond, List, []}
+use Rattle.std.proofs.Common.{◌≡◌, ◌∙◌, ◌+◌, ◌-◌, ◌/◌, ◌<◌, ◌≤◌, inl, inr, ℕ, zero, suc, Bool, true, false, cond, List, []}
 use Rattle.std.proofs.Common.{◌∷◌, length, get_or, Option, Some, None, refl, sym, ap, subst, arith}
 use Rattle.std.specs.Prelude.{replicate, nat_lt}
 use Rattle.std.proofs.lemmas.Bool.Decides.{nat_tests}
@@ -10,7 +10,9 @@ use Rattle.jos_space.specs.declared.role.Role.TheVariants.{Reserved, Free, Direc
 use Rattle.jos_base.specs.Counting.{named, total}
 use Rattle.jos_base.specs.SpacesState.{Region, reserved, free, rising, reserved_frames, first_spaces}
 use Rattle.jos_space.specs.Frames.{IsSound, Lists, AreSound, held_in, state, regions_of, entries_of, use_of, bytes_by}
-use Rattle.jos_space.specs.Frames.{free_count, state_of, listed, first_role}
+use Rattle.jos_space.specs.Frames.{free_count, state_of, listed, first_role, records, zero_record}
+use Rattle.jos_base.specs.declared.numbers.TheConstants.{NENV}
+use Rattle.jos_base.specs.Environments.{records_of, record_words, free_slot, first_environments}
 use Rattle.jos_space.proofs.Counts.{page_count-none}
 use Rattle.jos_space.proofs.Lookups.{region_facts, entry_region, below_or}
 use Rattle.jos_space.proofs.OverLists.{limit_is}
@@ -27,6 +29,8 @@ pub record IsFirst (n : ℕ) (l : Lists) : Type 0 where
   pub order_len : length l.order ≡ n
   pub order : (k : ℕ) → k < n → get_or l.order k 0 ≡ n - 1 - k
   pub free_len : l.free_len ≡ n - reserved_frames n
+  pub records_len : length l.records ≡ NENV
+  pub records : (k : ℕ) → k < NENV → get_or l.records k [] ≡ zero_record
 
 module _ (n : ℕ) (l : Lists) (is : IsFirst n l) where
   few : reserved_frames n ≤ n
@@ -103,6 +107,7 @@ module _ (n : ℕ) (l : Lists) (is : IsFirst n l) where
     bytes = is.bytes ∙ sym is.roles_len;
     counts = ap length is.counts ∙ length-replicate {A = ℕ} n 0 ∙ sym is.roles_len;
     order = is.order_len ∙ sym is.roles_len;
+    records = is.records_len;
     sound = subst (λ m. IsSound m (held_in l)) (sym is.roles_len) first_sound;
   }
 
@@ -141,9 +146,19 @@ module _ (n : ℕ) (l : Lists) (is : IsFirst n l) where
       let free_is : listed (held_in l).place l.free_len ≡ rising (reserved_frames n) (n - reserved_frames n) =
       ap (listed (held_in l).place) is.free_len ∙ rises (n - reserved_frames n) (omega arith) ∙ ap (λ z. rising z (n - reserved_frames n)) (omega arith) in
       λ i. record {
+        frames = is.roles_len i;
         uses = λ f. use_first f i;
         free = free_is i;
         pages = λ f. bytes_first f i;
         regions = λ d r. no_region d r (regions_of (held_in l) d r) refl i;
         entries = λ d p. no_entry d p (entries_of (held_in l) d p) refl i;
       }
+
+  record_first : (k : ℕ) (b : Bool) → nat_lt k NENV ≡ b → get_or l.records k [] ≡ cond b (record_words (free_slot 0)) []
+  unfolding record_words zero_record
+  record_first k true t = is.records k (grind (arith, nat_tests))
+  record_first k false t = get_or_past l.records k [] (let len = is.records_len in let past : NENV ≤ k = grind (arith, nat_tests) in omega (arith, len, past))
+
+  pub first_records : records l ≡ records_of first_environments
+  unfolding records_of first_environments
+  first_records = λ i. λ k. record_first k (nat_lt k NENV) refl i

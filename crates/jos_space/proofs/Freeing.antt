@@ -81,6 +81,7 @@ module _ (l : Lists) (ok : AreSound l) (g : ℕ) (idle : IsIdle (state l) g) whe
   freed_is =
       let one : l.free_len + 1 ≡ suc l.free_len = omega arith in
       λ i. record (held_in l) {
+        frames = length-set l.roles g (Free l.free_len) i;
         role = λ f. look-set l.roles g (Free l.free_len) Reserved freed_below f i;
         place = λ k. look-set l.order l.free_len g 0 freed_place k i;
         free_len = one i;
@@ -94,6 +95,7 @@ module _ (l : Lists) (ok : AreSound l) (g : ℕ) (idle : IsIdle (state l) g) whe
         bytes = ok.bytes ∙ sym len;
         counts = ok.counts ∙ sym len;
         order = length-set l.order l.free_len g ∙ ok.order ∙ sym len;
+        records = ok.records;
         sound = subst (λ n. IsSound n (held_in freed_lists)) (sym len)
             (subst (λ (c : Held). IsSound (length l.roles) c) (sym freed_is) (freed_sound (length l.roles) (held_in l) ok.sound g used there unnamed alone uncounted));
       }

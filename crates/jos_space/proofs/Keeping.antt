@@ -1,12 +1,16 @@
 -- Directories stay directories.
-use Rattle.std.proofs.Common.{◌≡◌, ◌∙◌, ◌+◌, ◌/◌, ◌%◌, inl, inr, ℕ, true, Result, Ok, Err, refl, sym, ap}
+use Rattle.std.proofs.Common.{◌≡◌, ◌∙◌, ◌+◌, ◌/◌, ◌%◌, inl, inr, ℕ, Bool, true, false, cond, Result, Ok, Err, refl, sym, ap}
 use Rattle.jos_base.specs.declared.memory.Access.{Access}
 use Rattle.jos_base.specs.declared.memory.Access.TheVariants.{Write}
 use Rattle.jos_base.specs.declared.memory.PageFault.{PageFault}
 use Rattle.jos_base.specs.Words.{upd}
 use Rattle.jos_base.specs.Reach.{Location}
 use Rattle.jos_base.specs.SpacesState.{Use, fresh, page, free, table, directory, SpacesState}
-use Rattle.jos_base.specs.UserMemory.{reach_in, touched, touched_by, stored_byte, with_byte_at}
+use Rattle.jos_base.specs.UserMemory.{reach_in, stored_byte, with_byte_at, with_bits, with_page_bits}
+use Rattle.jos_base.specs.UserMemory.{with_region_bit}
+use Rattle.jos_base.specs.Counting.{page_limit}
+use Rattle.jos_base.specs.Windows.{table_index}
+use Rattle.std.specs.Prelude.{nat_lt, ◌==◌}
 use Rattle.jos_space.specs.AtHand.{stored_word}
 use Rattle.jos_space.specs.Calls.{has_bytes, KeepsDirectories}
 use Rattle.jos_space.proofs.Counts.{upd-other, same_or}
@@ -44,13 +48,13 @@ bytes_used now is none = let lost = ap has_bytes none in absurd cc
 
 -- ---- what sets bits or writes bytes leaves all uses
 
-pub touched_uses : (s : SpacesState) (d va : ℕ) (access : Access) → (touched s d va access).uses ≡ s.uses
-unfolding touched
-touched_uses s d va access = by_reach (reach_in s d va access)
+pub bits_uses : (s : SpacesState) (d n : ℕ) (access : Access) → (with_bits s d n access).uses ≡ s.uses
+bits_uses s d n access = by_tests (nat_lt n page_limit) (n / 1024 == table_index)
   where
-    by_reach : (r : Result Location PageFault) → (touched_by s d va access r).uses ≡ s.uses
-    by_reach (Ok location) = refl
-    by_reach (Err fault) = refl
+    by_tests : (a b : Bool) → (cond a (with_page_bits s d n access) (cond b (with_region_bit s d (n % 1024)) s)).uses ≡ s.uses
+    by_tests true b = refl
+    by_tests false true = refl
+    by_tests false false = refl
 
 pub stored_uses : (s : SpacesState) (d va byte : ℕ) → (stored_byte s d va byte).uses ≡ s.uses
 unfolding stored_byte

@@ -20,3 +20,4 @@ pub mod Destroying
 pub mod Keeping
 pub mod Directories
 pub mod PagesHeld
+pub mod Records

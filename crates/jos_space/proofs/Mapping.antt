@@ -163,6 +163,7 @@ module _ (n : ℕ) (c : Held) (sound : IsSound n c) (d p : ℕ) (region : Region
   pub page_state : state_of with_page ≡ with_entry (state_of c) d p entry
   unfolding state_of
   page_state = λ i. record {
+    frames = c.frames;
     uses = λ f. same_use f i;
     free = listed c.place c.free_len;
     pages = λ f. same_bytes f i;

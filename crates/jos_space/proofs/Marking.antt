@@ -15,10 +15,12 @@ use Rattle.jos_space.specs.declared.role.Role.TheVariants.{Reserved, Page, Direc
 use Rattle.jos_base.specs.Counting.{named}
 use Rattle.jos_base.specs.SpacesState.{Region, SpacesState, put, page, region_limit}
 use Rattle.jos_base.specs.UserMemory.{entry_marked, region_accessed, with_entry_bits, with_region_bit, with_bits}
+use Rattle.jos_base.specs.UserMemory.{with_window_bits}
+use Rattle.jos_base.specs.Windows.{table_index}
 use Rattle.jos_base.specs.UserMemory.{reach_in, touched, touched_by}
 use Rattle.jos_space.specs.Frames.{Held, IsSound, Lists, AreSound, held_in, state, regions_of, entries_of, entry_in}
 use Rattle.jos_space.specs.Frames.{entry_of, is_directory, is_accessed, region_of, use_of, state_of, may_map}
-use Rattle.jos_space.proofs.Lookups.{region_facts, upd-stays, put-at}
+use Rattle.jos_space.proofs.Lookups.{region_facts, upd-stays, put-at, put-stays}
 use Rattle.jos_space.proofs.Roles.{below_frames, is_reserved}
 use Rattle.jos_space.proofs.Tables.{with_region, region_sound, region_state, region_at, knows_one}
 use Rattle.jos_space.proofs.TableLists.{regions_state}
@@ -94,13 +96,6 @@ module _ (l : Lists) (ok : AreSound l) (d p t bits : ℕ) (here : option_map (λ
 
   law : (f : ℕ) → get_or l.counts f 0 + named f (entries_of (held_in l) d p) ≡ get_or l.counts f 0 + named f (Some marked)
   law f = ap (λ z. get_or l.counts f 0 + named f z) held_entry
-
-  pub entry_table_below : t < length l.words
-  entry_table_below =
-      let is_table = ok.sound.tables d (p / 1024) (record found.0 { table = t }) is in
-      let below = below_frames (length l.roles) (held_in l) t ok.sound (ap is_reserved is_table) in
-      let len = ok.words in
-      omega (arith, below, len)
 
   module _ (row : length (get_or l.words t []) ≡ 1024) where
     abbrev pub marked_lists : Lists
@@ -191,6 +186,7 @@ module _ (l : Lists) (ok : AreSound l) (d r : ℕ) (region : Region) (here : (st
       bytes = ok.bytes;
       counts = ok.counts;
       order = ok.order;
+      records = ok.records;
       sound = subst (λ (c : Held). IsSound (length l.roles) c) (sym set_is) (region_sound (length l.roles) (held_in l) ok.sound d r facts.0 facts.1 (bit_or o 32) (Some set) word_is (knows_one (held_in l) d r set knows) (λ i below. entries_kept i));
     }
 
@@ -300,10 +296,25 @@ marked_table s d r t e = ap (option_map (λ (r : Region). r.table)) (put-at s.re
     same None = refl
     same (Some region) = refl
 
-pub some_region : (o : Option Region) (t : ℕ) → Some t ≡ option_map (λ (r : Region). r.table) o → is_some o ≡ true
-some_region None t e = absurd cc
-some_region (Some region) t e = refl
-
 pub reached_some : (o : Option Entry) (va : ℕ) (access : Access) (place : Location) → reach_entry o va access ≡ Ok place → is_some o ≡ true
 reached_some None va access place e = absurd cc
 reached_some (Some entry) va access place e = refl
+
+pub not_some : {X : Type 0} (o : Option X) → is_some o ≡ false → None ≡ o
+not_some None e = refl
+not_some (Some x) e = absurd cc
+
+-- what has no table has no bit to set
+pub nothing_marked : (s : SpacesState) (d r : ℕ) → s.regions d r ≡ None → s ≡ with_region_bit s d r
+nothing_marked s d r none = λ i. record s { regions = λ x y. sym (put-stays s.regions d r (region_accessed (s.regions d r)) (ap region_accessed none ∙ sym none) x y) i }
+
+pub window_marked : (s : SpacesState) (d n : ℕ) → n / 1024 ≡ table_index → with_region_bit s d (n % 1024) ≡ with_window_bits s d n
+window_marked s d n at = let test : (n / 1024 == table_index) ≡ true = grind (arith, nat_tests) in rw test refl
+
+-- ---- what region a word is
+
+pub region_there : (w : ℕ) → w % 2 ≡ 1 → region_of w ≡ Some (record { table = w / 4096; accessed = is_accessed w })
+region_there w present = let there : (w % 2 == 1) ≡ true = grind (arith, nat_tests) in rw there refl
+
+pub region_away : (w : ℕ) → (w % 2 ≡ 1 → ⊥) → region_of w ≡ None
+region_away w absent = let away : (w % 2 == 1) ≡ false = grind (arith, nat_tests) in rw away refl

@@ -81,6 +81,7 @@ module _ (l : Lists) (ok : AreSound l) (m : ℕ) (some : l.free_len ≡ suc m) w
 
   taken_is : held_in taken_lists ≡ taken_held (length l.roles) (held_in l) ok.sound m some (get_or l.bytes head_of [])
   taken_is = λ i. record (held_in l) {
+    frames = length-set l.roles head_of Fresh i;
     role = λ f. look-set l.roles head_of Fresh Reserved head_below f i;
     bytes = λ f. sym (upd-stays (λ f. get_or l.bytes f []) head_of (get_or l.bytes head_of []) refl f) i;
     free_len = m;
@@ -94,6 +95,7 @@ module _ (l : Lists) (ok : AreSound l) (m : ℕ) (some : l.free_len ≡ suc m) w
         bytes = ok.bytes ∙ sym len;
         counts = ok.counts ∙ sym len;
         order = ok.order ∙ sym len;
+        records = ok.records;
         sound = subst (λ n. IsSound n (held_in taken_lists)) (sym len) (subst (λ (c : Held). IsSound (length l.roles) c) (sym taken_is) (taken_sound (length l.roles) (held_in l) ok.sound m some (get_or l.bytes head_of [])));
       }
 
@@ -125,6 +127,7 @@ module _ (l : Lists) (ok : AreSound l) (d p : ℕ) (region : Region) (is : regio
 
   mapped_is : held_in mapped_lists ≡ with_page (length l.roles) (held_in l) ok.sound d p region is w entry word_is may (λ f. get_or counts f 0) law
   mapped_is = λ i. record (held_in l) {
+    frames = length-set l.roles entry.frame Page i;
     word = λ f j. word-set l.words region.table (p % 1024) w table_below (omega (arith, row)) f j i;
     role = λ f. look-set l.roles entry.frame Page Reserved frame_below f i;
     count = λ f. get_or counts f 0;
@@ -138,6 +141,7 @@ module _ (l : Lists) (ok : AreSound l) (d p : ℕ) (region : Region) (is : regio
         bytes = ok.bytes ∙ sym len;
         counts = counts_len ∙ ok.counts ∙ sym len;
         order = ok.order ∙ sym len;
+        records = ok.records;
         sound = subst (λ n. IsSound n (held_in mapped_lists)) (sym len) (subst (λ (c : Held). IsSound (length l.roles) c) (sym mapped_is)
             (page_sound (length l.roles) (held_in l) ok.sound d p region is w entry word_is may (λ f. get_or counts f 0) law));
       }

@@ -18,7 +18,7 @@ use Rattle.jos_space.proofs.Roles.{below_frames, is_reserved, is_table, created_
 use Rattle.jos_space.proofs.Roles.{unseen}
 use Rattle.jos_space.proofs.Tables.{with_words, words_sound, words_state}
 use Rattle.jos_space.proofs.TableLists.{zero_words-at}
-use Rattle.jos_space.proofs.OverLists.{look-set}
+use Rattle.jos_space.proofs.OverLists.{look-set, limit_is}
 
 -- bytes are no part of what holds of the frames
 bytes_sound : (n : ℕ) (c : Held) (bytes : ℕ → List ℕ) → IsSound n c → IsSound n (record c { bytes = bytes })
@@ -53,15 +53,13 @@ module _ (l : Lists) (ok : AreSound l) (f : ℕ) (may : may_map (get_or l.roles 
     abbrev pub bytes_lists : Lists
     bytes_lists = record l { bytes = slice_set l.bytes f bytes }
 
-    bytes_held : held_in bytes_lists ≡ record (held_in l) { bytes = upd (held_in l).bytes f bytes }
-    bytes_held = λ i. record (held_in l) { bytes = λ q. look-set l.bytes f bytes [] bytes_below q i }
-
     pub bytes_lists_sound : AreSound bytes_lists
     bytes_lists_sound = record {
       words = ok.words;
       bytes = length-set l.bytes f bytes ∙ ok.bytes;
       counts = ok.counts;
       order = ok.order;
+      records = ok.records;
       sound = bytes_sound (length l.roles) (held_in l) (held_in bytes_lists).bytes ok.sound;
     }
 
@@ -109,6 +107,7 @@ makes_directory l ok h is words words_is = subst (λ (ws : List (List ℕ)). Mak
         bytes = ok.bytes ∙ sym len;
         counts = ok.counts ∙ sym len;
         order = ok.order ∙ sym len;
+        records = ok.records;
         sound = subst (λ n. IsSound n (held_in (record l { words = slice_set l.words h zero_words; roles = slice_set l.roles h Directory }))) (sym len) (subst (λ (c : Held). IsSound (length l.roles) c) (sym held_is) (created_sound (length l.roles) cleared cleared_sound h is no_region));
       };
   state_is = ap state_of held_is ∙ created_state (length l.roles) cleared cleared_sound h is no_region ∙ ap (λ s. unseen (length l.roles) cleared cleared_sound h is no_region s directory) cleared_state;
@@ -141,7 +140,7 @@ makes_directory l ok h is words words_is = subst (λ (ws : List (List ℕ)). Mak
     no_region i = ap region_of (ap (λ (xs : List ℕ). get_or xs i 0) (get_or-set_same l.words h zero_words [] below.0) ∙ zero_words-at i)
 
     held_is : held_in (record l { words = slice_set l.words h zero_words; roles = slice_set l.roles h Directory }) ≡ created_held (length l.roles) cleared cleared_sound h is no_region
-    held_is = λ i. record cleared { role = λ f. look-set l.roles h Directory Reserved below.1 f i }
+    held_is = λ i. record cleared { frames = length-set l.roles h Directory i; role = λ f. look-set l.roles h Directory Reserved below.1 f i }
 
 -- ---- what was handed out
 
@@ -204,3 +203,12 @@ own_le Fresh = omega arith
 own_le Page = omega arith
 own_le Directory = omega arith
 own_le (Table d r) = omega arith
+
+-- ---- how many frames there are
+
+pub frames_is : (l : Lists) → length l.roles ≡ (state l).frames
+unfolding state_of
+frames_is l = refl
+
+pub frames_most : (l : Lists) → AreSound l → length l.roles ≤ 65536
+frames_most l ok = let limit = ok.sound.limit in let number = limit_is in omega (arith, limit, number)

@@ -101,6 +101,7 @@ module _ (n : ℕ) (c : Held) (sound : IsSound n c) (m : ℕ) (some : c.free_len
   pub taken_state : state_of taken_held ≡ taken (state_of c) head (listed c.place m) zeros
   unfolding state_of
   taken_state = λ i. record {
+    frames = c.frames;
     uses = λ f. map_upd use_of c.role head Fresh f i;
     free = listed c.place m;
     pages = λ f. same_bytes f i;
@@ -151,6 +152,7 @@ module _ (n : ℕ) (c : Held) (sound : IsSound n c) (g : ℕ) (used : free_count
   pub freed_state : state_of freed_held ≡ freed (state_of c) g
   unfolding state_of listed
   freed_state = λ i. record {
+    frames = c.frames;
     uses = λ f. map_upd use_of c.role g (Free c.free_len) f i;
     free = upd-at c.place c.free_len g i ∷ listed-same (upd c.place c.free_len g) c.place c.free_len (λ k lt. upd-other c.place c.free_len g k (λ e. absurd (omega (arith, e, lt)))) i;
     pages = λ f. same_bytes f i;
@@ -209,6 +211,7 @@ module _ (n : ℕ) (c : Held) (sound : IsSound n c) (h : ℕ) (is : c.role h ≡
   pub created_state : state_of created_held ≡ unseen (state_of c) directory
   unfolding state_of
   created_state = λ i. record {
+    frames = c.frames;
     uses = λ f. map_upd use_of c.role h Directory f i;
     free = listed c.place c.free_len;
     pages = λ f. unseen_bytes Directory refl f i;
@@ -219,6 +222,7 @@ module _ (n : ℕ) (c : Held) (sound : IsSound n c) (h : ℕ) (is : c.role h ≡
   pub table_state : (d r : ℕ) → state_of (table_held d r) ≡ unseen (state_of c) table
   unfolding state_of
   table_state d r = λ i. record {
+    frames = c.frames;
     uses = λ f. map_upd use_of c.role h (Table d r) f i;
     free = listed c.place c.free_len;
     pages = λ f. unseen_bytes (Table d r) refl f i;

@@ -119,6 +119,7 @@ module _ (l : Lists) (ok : AreSound l) (d r h : ℕ) (dir : get_or l.roles d Res
     made_is : held_in made_lists ≡ made
     made_is =
         (λ i. record (held_in l) {
+          frames = length-set l.roles h (Table d r) i;
           word = λ f j. word-set words_cleared d r (h * 4096 + 7) (let b = below_words.1 in let len = length-set l.words h zero_words in omega (arith, b, len)) (omega (arith, row, below)) f j i;
           role = λ f. look-set l.roles h (Table d r) Reserved below_h f i;
         })
@@ -132,6 +133,7 @@ module _ (l : Lists) (ok : AreSound l) (d r h : ℕ) (dir : get_or l.roles d Res
           bytes = ok.bytes ∙ sym len;
           counts = ok.counts ∙ sym len;
           order = ok.order ∙ sym len;
+          records = ok.records;
           sound = subst (λ n. IsSound n (held_in made_lists)) (sym len) (subst (λ (c : Held). IsSound (length l.roles) c) (sym made_is) made_sound);
         }
 

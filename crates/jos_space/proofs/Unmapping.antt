@@ -100,6 +100,7 @@ module _ (l : Lists) (ok : AreSound l) (d p t : ℕ) (here : option_map (λ (r :
       bytes = ok.bytes;
       counts = counts_len ∙ ok.counts;
       order = ok.order;
+      records = ok.records;
       sound = subst (λ (c : Held). IsSound (length l.roles) c) (sym gone_is) (gone_sound (length l.roles) (held_in l) ok.sound d p (record found.0 { table = t }) is (λ f. get_or counts f 0) law);
     }
 

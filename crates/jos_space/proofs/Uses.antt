@@ -83,10 +83,6 @@ pub table_use : (c : Held) (f d r : ℕ) → c.role f ≡ Table d r → (state_o
 unfolding state_of
 table_use c f d r is = ap use_of is
 
-pub directory_use : (c : Held) (f : ℕ) → c.role f ≡ Directory → (state_of c).uses f ≡ directory
-unfolding state_of
-directory_use c f is = ap use_of is
-
 -- ---- as roles tell
 
 count_use : (role : Role) → free_count role ≡ 1 → use_of role ≡ free

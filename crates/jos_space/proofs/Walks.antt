@@ -5,6 +5,8 @@ use Rattle.std.specs.Prelude.{bit_and, is_some}
 use Rattle.std.specs.Option.{option_map}
 use Rattle.std.proofs.lemmas.Bool.Decides.{nat_tests}
 use Rattle.jos_base.specs.SpacesState.{Region, SpacesState, region_limit}
+use Rattle.jos_base.specs.Counting.{page_limit}
+use Rattle.jos_space.proofs.TableLists.{regions_state}
 use Rattle.jos_space.specs.declared.role.Role.TheVariants.{Reserved, Directory, Page}
 use Rattle.jos_space.specs.Frames.{Lists, AreSound, held_in, state, state_of, may_map, region_of, entry_of}
 use Rattle.jos_space.specs.AtHand.{frame_with, frame_by, frame_by_entry}
@@ -85,6 +87,14 @@ found_page l ok d n bits frame found =
 
 pub found_holds : (l : Lists) → AreSound l → (d n bits frame : ℕ) → frame_with (state l) d n bits ≡ Some frame → may_map (get_or l.roles frame Reserved) ≡ true
 found_holds l ok d n bits frame found = ap may_map (found_page l ok d n bits frame found)
+
+pub found_below : (l : Lists) (d n bits frame : ℕ) → frame_with (state l) d n bits ≡ Some frame → n < page_limit
+unfolding page_limit
+found_below l d n bits frame found =
+    let is = is_found (state l) d n bits frame found in
+    let facts = region_facts (held_in l) d (n / 1024) is.region (sym (regions_state (held_in l) d (n / 1024)) ∙ is.region_is) in
+    let below : n / 1024 < region_limit = facts.1 in
+    omega (arith, below)
 
 -- where a page is there is a table
 pub entry_place : (l : Lists) (d n : ℕ) → is_some ((state l).entries d n) ≡ true → (n / 1024 < region_limit) × (is_some ((state l).regions d (n / 1024)) ≡ true)

@@ -2,7 +2,7 @@
 -- (Intel 80386 Programmer's Reference Manual, 1986, section 5.2: directories, tables and their entries.)
 use Rattle.std.specs.Prelude.{◌≡◌, ◌≢◌, ◌<◌, ◌≤◌, ℕ, ◌-◌, ◌/◌, ◌%◌, ◌==◌, nat_lt, zero, suc, Bool, true, false, List}
 use Rattle.std.specs.Prelude.{[], ◌∷◌, length, get_or, replicate, Option, Some, None, if◌then◌else◌}
-use Rattle.jos_base.specs.declared.numbers.TheConstants.{PGSIZE, NPTENTRIES}
+use Rattle.jos_base.specs.declared.numbers.TheConstants.{PGSIZE, NPTENTRIES, NENV, ENV_WORDS}
 use Rattle.jos_base.specs.Reach.{Entry}
 use Rattle.jos_base.specs.Counting.{Entries, total, page_count, frame_limit}
 use Rattle.jos_base.specs.SpacesState.{Use, reserved, free, fresh, page, directory, table, Region, SpacesState, taken}
@@ -13,6 +13,8 @@ use Rattle.jos_space.specs.Calls.{has_bytes}
 
 -- what the frames hold, by look-ups alone
 pub record Held : Type 0 where
+  -- how many frames there are
+  pub frames : ℕ
   -- the words of a directory or a table
   pub word : ℕ → ℕ → ℕ
   pub bytes : ℕ → List ℕ
@@ -75,6 +77,7 @@ listed place (suc n) = place n ∷ listed place n
 
 unfoldable pub state_of : Held → SpacesState
 state_of c = record {
+  frames = c.frames;
   uses = λ f. use_of (c.role f);
   free = listed c.place c.free_len;
   pages = λ f. bytes_by (c.role f) (c.bytes f);
@@ -111,9 +114,12 @@ pub record Lists : Type 0 where
   pub counts : List ℕ
   pub order : List ℕ
   pub free_len : ℕ
+  -- of each slot of the table of environments the words of its record, which a user reads
+  pub records : List (List ℕ)
 
 abbrev pub held_in : Lists → Held
 held_in l = record {
+  frames = length l.roles;
   word = λ f i. get_or (get_or l.words f []) i 0;
   bytes = λ f. get_or l.bytes f [];
   role = λ f. get_or l.roles f Reserved;
@@ -126,12 +132,17 @@ held_in l = record {
 abbrev pub state : Lists → SpacesState
 state l = state_of (held_in l)
 
--- each list is as long as there are frames
+-- the words of the records of all slots
+abbrev pub records : Lists → ℕ → List ℕ
+records l n = get_or l.records n []
+
+-- each list of frames is as long as there are frames, and that of records as there are slots
 pub record AreSound (l : Lists) : Type 0 where
   pub words : length l.words ≡ length l.roles
   pub bytes : length l.bytes ≡ length l.roles
   pub counts : length l.counts ≡ length l.roles
   pub order : length l.order ≡ length l.roles
+  pub records : length l.records ≡ NENV
   pub sound : IsSound (length l.roles) (held_in l)
 
 -- ---- words of single calls
@@ -160,6 +171,10 @@ pub record IsIdle (s : SpacesState) (f : ℕ) : Type 0 where
 -- a directory or a table without an entry
 unfoldable pub zero_words : List ℕ
 zero_words = replicate NPTENTRIES 0
+
+-- the record of a slot that no environment ever had
+unfoldable pub zero_record : List ℕ
+zero_record = replicate ENV_WORDS 0
 
 -- the roles at the beginning
 abbrev pub first_role : ℕ → ℕ → Role

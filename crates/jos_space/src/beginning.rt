@@ -1,12 +1,14 @@
 //! The lists at the beginning, with one element for each frame.
 
-ghost use Rattle.std.specs.Prelude.{◌≡◌, ◌≤◌, ◌<◌, ◌-◌, ℕ, IfOk, length, get_or, replicate};
+ghost use Rattle.std.specs.Prelude.{◌≡◌, ◌≤◌, ◌<◌, ◌-◌, ℕ, IfOk, length, get_or, replicate, []};
 ghost use Rattle.jos_base.specs.SpacesState.{reserved_frames};
-ghost use Rattle.jos_space.specs.Frames.{first_role};
+ghost use Rattle.jos_base.specs.declared.numbers.TheConstants.{NENV};
+ghost use Rattle.jos_space.specs.Frames.{first_role, zero_record};
 ghost use Rattle.jos_space.specs.declared.role.Role.TheVariants.{Reserved};
 
-use crate::lists::{BYTES, Page, WORDS, Words};
+use crate::lists::{BYTES, Page, Record, WORDS, Words};
 use crate::role::Role;
+use jos_base::{ENV_WORDS, NENV};
 use std::alloc::{AllocError, Global};
 
 /// How many frames are reserved.
@@ -68,4 +70,17 @@ pub(crate) fn zero_counts(alloc: Global, frames: u32) -> Result<Vec<u64>, AllocE
     ensures { IfOk result (λ counts. counts.items ≡ replicate frames 0) }
 {
     vec![in alloc; 0; frames as usize]
+}
+
+/// Records of zero, one for each slot of the table of environments.
+#[tactic(auto, unfolding(crate::specs::Frames::zero_record))]
+pub(crate) fn zero_records(alloc: Global) -> Result<Vec<Record>, AllocError>
+    ensures len { IfOk result (λ records. length records.items ≡ NENV) }
+    ensures each { IfOk result (λ records. (n : ℕ) → n < NENV → get_or records.items n [] ≡ zero_record) }
+{
+    let mut records = Vec::new(alloc);
+    for _slot in 0..NENV {
+        records.push([0; ENV_WORDS])?;
+    }
+    Ok(records)
 }

@@ -1,6 +1,6 @@
 //! Single words, bytes and numbers of the lists that have one for each frame.
 
-ghost use Rattle.jos_base.specs.declared.numbers.TheConstants.{NPTENTRIES, PGSIZE};
+ghost use Rattle.jos_base.specs.declared.numbers.TheConstants.{ENV_WORDS, NPTENTRIES, PGSIZE};
 ghost use Rattle.jos_space.specs.Frames.{zero_words};
 ghost use Rattle.jos_base.specs.SpacesState.{zero_page, overlaid};
 ghost use Rattle.jos_space.specs.AtHand.{word_laid};
@@ -8,7 +8,7 @@ ghost use Rattle.jos_space.specs.declared.role.Role.TheVariants.{Reserved};
 ghost use Rattle.std.specs.Prelude.{◌≡◌, ◌<◌, ◌≤◌, ◌+◌, ◌-◌, drop, length, get_or, slice_set, []};
 
 use crate::role::Role;
-use jos_base::{NPTENTRIES, PGSIZE};
+use jos_base::{ENV_WORDS, NPTENTRIES, PGSIZE};
 
 /// The words of a directory or a table.
 pub(crate) const WORDS: usize = NPTENTRIES as usize;
@@ -21,6 +21,9 @@ pub(crate) type Words = [u32; WORDS];
 
 /// A frame as a page.
 pub(crate) type Page = [u8; BYTES];
+
+/// The words of a slot's record.
+pub(crate) type Record = [u32; ENV_WORDS];
 
 /// A word of a frame.
 #[inline(always)]
@@ -147,4 +150,21 @@ pub(crate) fn role_at(roles: &[Role], frame: u32) -> Role
     ensures { result ≡ get_or roles.now frame Reserved }
 {
     roles[frame as usize]
+}
+
+/// Sets a word of a slot's record.
+pub(crate) fn set_record_word(records: &mut Vec<Record>, slot: usize, index: usize, word: u32)
+    requires slot { slot < length records.old.items }
+    requires index { index < ENV_WORDS }
+    ensures { records.new.items ≡ slice_set records.old.items slot (slice_set (get_or records.old.items slot []) index word) }
+{
+    records[slot][index] = word;
+}
+
+/// Sets all words of a slot's record.
+pub(crate) fn set_record(records: &mut Vec<Record>, slot: usize, words: Record)
+    requires { slot < length records.old.items }
+    ensures { records.new.items ≡ slice_set records.old.items slot words }
+{
+    records[slot] = words;
 }

@@ -2,10 +2,13 @@
 
 ghost use Rattle.std.specs.Prelude.{◌≡◌, ◌≤◌, IfOk};
 ghost use Rattle.jos_base.specs.SpacesState.{first_spaces};
-ghost use Rattle.jos_space.specs.Frames.{state};
+ghost use Rattle.jos_base.specs.Environments.{first_environments, records_of};
+ghost use Rattle.jos_space.specs.Frames.{state, records};
 
-use crate::beginning::{byte_lists, first_order, first_roles, reserved, word_lists, zero_counts};
-use crate::lists::{Page, Words};
+use crate::beginning::{
+    byte_lists, first_order, first_roles, reserved, word_lists, zero_counts, zero_records,
+};
+use crate::lists::{Page, Record, Words};
 use crate::role::Role;
 use jos_base::{Frame, NoMemory};
 use std::alloc::Global;
@@ -14,7 +17,9 @@ use std::marker::Model;
 mod destroying;
 mod frames;
 mod pages;
+mod records;
 mod user;
+mod windows;
 
 /// An address space, named by the frame of its directory.
 #[derive(Clone, Copy, Debug, PartialEq, Eq)]
@@ -35,7 +40,7 @@ pub struct PageAtHand {
 #[derive(Clone, Copy, Debug, PartialEq, Eq)]
 pub struct Empty;
 
-/// The frames of a machine, and the address spaces that stand in them.
+/// The frames of a machine, and the address spaces that stand in them, with what a user reads there of the environments.
 #[derive(Drop)]
 pub struct Spaces {
     /// The words of each frame that is a directory or a table.
@@ -49,6 +54,8 @@ pub struct Spaces {
     /// The free frames, up to `free_len`, the last to be handed out first.
     order: Vec<u32>,
     free_len: u32,
+    /// The words of each slot's record in the table of environments, which a user reads.
+    records: Vec<Record>,
 }
 
 impl Model for Spaces {
@@ -56,9 +63,9 @@ impl Model for Spaces {
 
     ghost Value = { Lists };
 
-    ghost view = { λ s. record { words = s.words.items; bytes = s.bytes.items; roles = s.roles.items; counts = s.counts.items; order = s.order.items; free_len = s.free_len } };
+    ghost view = { λ s. record { words = s.words.items; bytes = s.bytes.items; roles = s.roles.items; counts = s.counts.items; order = s.order.items; free_len = s.free_len; records = s.records.items } };
 
-    ghost invariant = { λ s. AreSound (record { words = s.words.items; bytes = s.bytes.items; roles = s.roles.items; counts = s.counts.items; order = s.order.items; free_len = s.free_len }) };
+    ghost invariant = { λ s. AreSound (record { words = s.words.items; bytes = s.bytes.items; roles = s.roles.items; counts = s.counts.items; order = s.order.items; free_len = s.free_len; records = s.records.items }) };
 }
 
 impl Spaces {
@@ -67,13 +74,15 @@ impl Spaces {
     pub fn new(alloc: Global, frames: u32) -> Result<Spaces, NoMemory>
         requires least { 64 ≤ frames }
         requires most { frames ≤ 65536 }
-        ensures { IfOk result (λ spaces. state spaces ≡ first_spaces frames) }
+        ensures state { IfOk result (λ spaces. state spaces ≡ first_spaces frames) }
+        ensures records { IfOk result (λ spaces. records spaces ≡ records_of first_environments) }
     {
         let words = word_lists(alloc, frames)?;
         let bytes = byte_lists(alloc, frames)?;
         let roles = first_roles(alloc, frames)?;
         let counts = zero_counts(alloc, frames)?;
         let order = first_order(alloc, frames)?;
+        let records = zero_records(alloc)?;
         Ok(Spaces {
             words,
             bytes,
@@ -81,6 +90,7 @@ impl Spaces {
             counts,
             order,
             free_len: frames - reserved(frames),
+            records,
         })
     }
 }

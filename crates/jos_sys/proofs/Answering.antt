@@ -10,17 +10,15 @@ use Rattle.std.proofs.lemmas.Bool.Decides.{nat_tests}
 use Rattle.jos_base.specs.declared.registers.Regs.{Regs}
 use Rattle.jos_base.specs.declared.environment.Status.{Status}
 use Rattle.jos_base.specs.declared.errno.Errno.{Errno}
-use Rattle.jos_base.specs.declared.errno.Errno.TheVariants.{BadEnv, Invalid, NoMem, NoFreeEnv}
+use Rattle.jos_base.specs.declared.errno.Errno.TheVariants.{BadEnv, Invalid, NoMem, NoFreeEnv, IpcNotRecv}
 use Rattle.jos_base.specs.declared.called.Called.TheVariants.{Ended}
 use Rattle.jos_base.specs.declared.numbers.TheConstants.{NENV, CPUTS_MAX}
 use Rattle.jos_base.specs.Words.{negated}
-use Rattle.jos_base.specs.Reach.{read_byte, bytes_read}
-use Rattle.jos_base.specs.SpacesState.{SpacesState}
-use Rattle.jos_base.specs.UserMemory.{all_touched}
 use Rattle.jos_base.specs.Environments.{Environments, Slot, is_live, found, found_at, may_change}
-use Rattle.jos_base.specs.KernelState.{KernelState, slot_at, with_status, with_registers, with_refusal, with_spaces}
+use Rattle.jos_base.specs.KernelState.{KernelState, slot_at, with_status, with_registers, with_refusal}
 use Rattle.jos_base.specs.SystemCalls.{Did, error_number, answered, refused, without_environment, env_destroy_of}
 use Rattle.jos_base.specs.SystemCalls.{environment_made, exofork, env_set_status_of, cputs, cputs_of, cgetc_from}
+use Rattle.jos_base.specs.SystemCalls.{user_bytes, with_bytes_reached}
 use Rattle.jos_envs.proofs.Maps.{upd-at}
 use Rattle.jos_sys.specs.declared.system.Answer.{Answer}
 use Rattle.jos_sys.specs.System.{IsDone, Does, IsTaken}
@@ -30,6 +28,7 @@ negated_is BadEnv code e = omega arith
 negated_is Invalid code e = omega arith
 negated_is NoMem code e = omega arith
 negated_is NoFreeEnv code e = omega arith
+negated_is IpcNotRecv code e = omega arith
 
 -- ---- who is live
 
@@ -53,6 +52,11 @@ found_live e id caller control target is live = by_name (id == 0) is
         ap (λ z. is_live (e.slots z)) at.1 ∙ at.0
 
 -- ---- answers
+
+-- a refusal in a state that is another's
+pub refused_in : (k m j : KernelState) (n : ℕ) (answer : Answer) (error : Errno) → m ≡ k → IsDone answer (refused m n error) j
+    → IsDone answer (refused k n error) j
+refused_in k m j n answer error same done = subst (λ z. IsDone answer (refused z n error) j) same done
 
 pub self_destroyed : (k j : KernelState) (n target : ℕ) (f : Option ℕ) → Some target ≡ f → target ≡ n → j ≡ without_environment k target
     → IsDone (record { called = Ended; written = 0 }) (env_destroy_of k n f) j
@@ -124,21 +128,18 @@ module _ (k : KernelState) (n va len : ℕ) where
   pub cputs_refused : CPUTS_MAX < len → cputs k n va len ≡ refused k n Invalid
   cputs_refused many = let test : nat_lt CPUTS_MAX len ≡ true = grind (arith, nat_tests) in rw test refl
 
-  pub cputs_reads : (read : Result (List ℕ) PageFault) (d : ℕ) → len ≤ CPUTS_MAX → d ≡ (slot_at k n).directory
-      → bytes_read (read_byte k.spaces.pages (k.spaces.entries d)) va len ≡ read → cputs k n va len ≡ cputs_of k n va len read
-  cputs_reads read d few same is =
+  pub cputs_reads : (read : Result (List ℕ) PageFault) → len ≤ CPUTS_MAX → user_bytes k n va len ≡ read → cputs k n va len ≡ cputs_of k n va len read
+  cputs_reads read few is =
       let test : nat_lt CPUTS_MAX len ≡ false = grind (arith, nat_tests) in
-      rw test (ap (cputs_of k n va len) (ap (λ z. bytes_read (read_byte k.spaces.pages (k.spaces.entries z)) va len) (sym same) ∙ is))
+      rw test (ap (cputs_of k n va len) is)
 
   -- the caller has its answer after its bytes were reached
-  pub cputs_answered : (j : KernelState) (t : SpacesState) (d : ℕ) (bytes : List ℕ) (answer : Answer) → len ≤ CPUTS_MAX → d ≡ (slot_at k n).directory
-      → bytes_read (read_byte k.spaces.pages (k.spaces.entries d)) va len ≡ Ok bytes → t ≡ all_touched k.spaces d va len
-      → IsDone answer (answered (with_spaces k t) n 0) j
+  pub cputs_answered : (j m : KernelState) (bytes : List ℕ) (answer : Answer) → len ≤ CPUTS_MAX → user_bytes k n va len ≡ Ok bytes
+      → m ≡ with_bytes_reached k n va len → IsDone answer (answered m n 0) j
       → (j ≡ (cputs k n va len).state) × (answer.called ≡ (cputs k n va len).called) × (bytes ≡ (cputs k n va len).written)
-  cputs_answered j t d bytes answer few same is touched done =
-      let all : t ≡ all_touched k.spaces (slot_at k n).directory va len = touched ∙ ap (λ z. all_touched k.spaces z va len) same in
-      let it : cputs k n va len ≡ cputs_of k n va len (Ok bytes) = cputs_reads (Ok bytes) d few same is in
-      (done.0 ∙ ap (λ z. (answered (with_spaces k z) n 0).state) all ∙ ap (λ z. z.state) (sym it), done.1 ∙ ap (λ z. z.called) (sym it), ap (λ z. z.written) (sym it))
+  cputs_answered j m bytes answer few is reached done =
+      let it : cputs k n va len ≡ cputs_of k n va len (Ok bytes) = cputs_reads (Ok bytes) few is in
+      (done.0 ∙ ap (λ z. (answered z n 0).state) reached ∙ ap (λ z. z.state) (sym it), done.1 ∙ ap (λ z. z.called) (sym it), ap (λ z. z.written) (sym it))
 
 -- ---- the console's input
 

@@ -114,6 +114,10 @@ keeps_slot s e f n slot now live space keeps =
 pub keeps_spaces : (s t : SpacesState) (e : Environments) → directories t ≡ directories s → HasSpaces s e → HasSpaces t e
 keeps_spaces s t e same keeps = keeps_alike s t e e keeps same (λ q. refl) (λ q. refl)
 
+-- the same spaces, seen again
+pub keeps_seen : (s t : SpacesState) (e : Environments) → t ≡ s → HasSpaces s e → HasSpaces t e
+keeps_seen s t e same keeps = subst (λ z. HasSpaces z e) (sym same) keeps
+
 -- a status that is not that of a free slot
 pub lives : (status : Status) → status ≢ Free → not (is_free status) ≡ true
 lives Free other = absurd (other refl)

@@ -3,3 +3,7 @@ pub mod Making
 mod Buffers
 mod Answering
 mod Dispatch
+pub mod Showing
+pub mod PageCalls
+pub mod Sending
+pub mod Faulting

@@ -43,7 +43,7 @@ module _ (e f : Environments) (parent n : ℕ) (slot : allotted e parent ≡ Som
     at_n : g.slots n ≡ record (f.slots n) { directory = d }
     at_n = ap (λ z. z.slots n) now ∙ upd-at f.slots n _
 
-    elsewhere : (q : ℕ) → q ≢ n → g.slots q ≡ e.slots q
+    pub elsewhere : (q : ℕ) → q ≢ n → g.slots q ≡ e.slots q
     elsewhere q ne = ap (λ z. z.slots q) now ∙ upd-other f.slots n _ q ne ∙ ap (λ z. z q) slots_are ∙ upd-other e.slots n _ q ne
 
     made_live : is_live (g.slots n) ≡ true

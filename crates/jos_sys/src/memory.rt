@@ -9,6 +9,7 @@ ghost use Rattle.jos_base.specs.KernelState.{with_spaces};
 ghost use Rattle.jos_base.specs.UserMemory.{is_allowed, fault_at, touched, byte_at, stored_byte};
 ghost use Rattle.jos_space.specs.AtHand.{bits_at_hand, frame_with, bytes_at_hand, IsPageAtHand, IsStill, stored_word};
 ghost use Rattle.jos_space.specs.Calls.{has_bytes};
+ghost use Rattle.jos_space.specs.Frames.{records};
 ghost use Rattle.jos_sys.specs.System.{state_of, spaces_of, environments_of, in_use, Keeps, is_live_in};
 
 use crate::system::System;
@@ -34,7 +35,7 @@ impl System {
     /// The byte that a user reads at an address, and 0 where none may be read. It sets no bit.
     pub fn byte_at(&self, space: Space, va: u32) -> u8
         requires { in_use self.now space.directory.0 ≡ true }
-        ensures { result ≡ byte_at (spaces_of self.now) space.directory.0 va }
+        ensures { result ≡ byte_at (records self.now.spaces) (spaces_of self.now) space.directory.0 va }
     {
         self.spaces.byte_at(space, va)
     }
@@ -44,7 +45,7 @@ impl System {
         requires space { in_use self.old space.directory.0 ≡ true }
         requires allowed { is_allowed (spaces_of self.old) space.directory.0 va Write ≡ true }
         ensures state { (input : List ℕ) → state_of self.new input ≡ with_spaces (state_of self.old input) (stored_byte (spaces_of self.old) space.directory.0 va byte) }
-        ensures put { byte_at (spaces_of self.new) space.directory.0 va ≡ byte }
+        ensures put { byte_at (records self.new.spaces) (spaces_of self.new) space.directory.0 va ≡ byte }
         ensures in_use { in_use self.new ≡ in_use self.old }
         ensures spaces { Keeps self.old → Keeps self.new }
     {
@@ -59,7 +60,7 @@ impl System {
         ensures bytes { result.now ≡ bytes_at_hand (spaces_of self.now) space.directory.0 va }
         ensures within { va % PGSIZE + length result.now ≤ PGSIZE }
         ensures still { (i : ℕ) → i < length result.now → IsStill (spaces_of self.now) space.directory.0 (va + i) Read }
-        ensures byte { (i : ℕ) → i < length result.now → byte_at (spaces_of self.now) space.directory.0 (va + i) ≡ slice_index result.now i }
+        ensures byte { (i : ℕ) → i < length result.now → byte_at (records self.now.spaces) (spaces_of self.now) space.directory.0 (va + i) ≡ slice_index result.now i }
     {
         self.spaces.user_bytes(space, va)
     }
@@ -84,7 +85,7 @@ impl System {
         ensures bytes { result.now ≡ bytes_at_hand (spaces_of self.now) page.space.directory.0 va }
         ensures within { va % PGSIZE + length result.now ≤ PGSIZE }
         ensures still { (i : ℕ) → i < length result.now → IsStill (spaces_of self.now) page.space.directory.0 (va + i) Read }
-        ensures byte { (i : ℕ) → i < length result.now → byte_at (spaces_of self.now) page.space.directory.0 (va + i) ≡ slice_index result.now i }
+        ensures byte { (i : ℕ) → i < length result.now → byte_at (records self.now.spaces) (spaces_of self.now) page.space.directory.0 (va + i) ≡ slice_index result.now i }
     {
         self.spaces.bytes_by(page, va)
     }

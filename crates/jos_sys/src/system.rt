@@ -3,13 +3,18 @@
 ghost use Rattle.std.specs.Prelude.{◌≡◌, ◌≢◌, ℕ, ◌<◌, ◌≤◌, ◌-◌, ◌^◌, List, [], Ok, Err, IfOk, IfErr, OnErr, true};
 ghost use Rattle.jos_base.specs.declared.environment.Status.TheVariants.{Free};
 ghost use Rattle.jos_base.specs.KernelState.{first_state, slot_at, with_registers, with_status, turn_begun, turn_ended};
+ghost use Rattle.jos_base.specs.KernelState.{with_upcall, with_rendezvous};
+ghost use Rattle.jos_ipc.specs.Messages.{rendezvous_of};
+ghost use Rattle.jos_base.specs.Environments.{records_of};
 ghost use Rattle.jos_base.specs.SystemCalls.{environment_made, without_environment};
+ghost use Rattle.jos_space.specs.Frames.{state, records};
 ghost use Rattle.jos_envs.specs.Slots.{slot_of};
 ghost use Rattle.jos_envs.specs.Table.{environments, KeepsLive, KeepsOthersLive};
-ghost use Rattle.jos_sys.specs.System.{state_of, environments_of, Keeps, is_live_in, in_use};
+ghost use Rattle.jos_sys.specs.System.{state_of, environments_of, Keeps, ShowsOthers, is_live_in, in_use};
 
 use jos_base::{Called, EnvId, Errno, FRAMES_MAX, FRAMES_MIN, NENV, NoMemory, Regs, Status};
 use jos_envs::{Environment, Table};
+use jos_ipc::Rendezvous;
 use jos_space::{Space, Spaces};
 use std::alloc::Global;
 
@@ -26,8 +31,19 @@ pub struct System {
     pub(crate) spaces: Spaces,
     pub(crate) table: Table,
     pub(crate) refusals: u64,
+    pub(crate) upcalls: u64,
     last: Option<usize>,
     turns: u32,
+}
+
+/// Shows the environment of a slot in the record that users read of it.
+fn show(spaces: &mut Spaces, table: &Table, slot: usize)
+    requires { slot < NENV }
+    ensures state { state spaces.new ≡ state spaces.old }
+    ensures records { ShowsOthers (records spaces.old) (environments table.now) slot → records spaces.new ≡ records_of (environments table.now) }
+{
+    let record = table.get(slot).record();
+    spaces.set_env_record(slot, record);
 }
 
 impl System {
@@ -44,6 +60,7 @@ impl System {
             spaces,
             table,
             refusals: 0,
+            upcalls: 0,
             last: None,
             turns: 0,
         })
@@ -54,6 +71,13 @@ impl System {
         ensures { (input : List ℕ) → result ≡ (state_of self.now input).refusals }
     {
         self.refusals
+    }
+
+    /// How many page faults were handed to the handlers of those that raised them.
+    pub fn upcalls(&self) -> u64
+        ensures { (input : List ℕ) → result ≡ (state_of self.now input).upcalls }
+    {
+        self.upcalls
     }
 
     /// The slot that had the last turn.
@@ -109,6 +133,29 @@ impl System {
         ensures spaces { Keeps self.old → Keeps self.new }
     {
         self.table.set_status(slot, status);
+        show(&mut self.spaces, &self.table, slot);
+    }
+
+    /// Sets where an environment handles its page faults; 0 where it does not.
+    pub(crate) fn set_upcall(&mut self, slot: usize, address: u32)
+        requires live { is_live_in self.old slot ≡ true }
+        ensures state { (input : List ℕ) → state_of self.new input ≡ with_upcall (state_of self.old input) slot address }
+        ensures live { KeepsLive (environments_of self.old) (environments_of self.new) }
+        ensures spaces { Keeps self.old → Keeps self.new }
+    {
+        self.table.set_upcall(slot, address);
+        show(&mut self.spaces, &self.table, slot);
+    }
+
+    /// Sets what an environment waits for.
+    pub(crate) fn set_rendezvous(&mut self, slot: usize, rendezvous: Rendezvous)
+        requires live { is_live_in self.old slot ≡ true }
+        ensures state { (input : List ℕ) → state_of self.new input ≡ with_rendezvous (state_of self.old input) slot (rendezvous_of rendezvous) }
+        ensures live { KeepsLive (environments_of self.old) (environments_of self.new) }
+        ensures spaces { Keeps self.old → Keeps self.new }
+    {
+        self.table.set_rendezvous(slot, rendezvous);
+        show(&mut self.spaces, &self.table, slot);
     }
 
     /// Begins a turn of an environment.
@@ -120,6 +167,7 @@ impl System {
         ensures spaces { Keeps self.old → Keeps self.new }
     {
         self.table.begin_turn(slot);
+        show(&mut self.spaces, &self.table, slot);
         self.last = Some(slot);
         self.turns += 1;
     }
@@ -133,6 +181,7 @@ impl System {
     {
         if matches!(self.table.get(slot).status, Status::Running) {
             self.table.set_status(slot, Status::Runnable);
+            show(&mut self.spaces, &self.table, slot);
         }
     }
 
@@ -164,6 +213,7 @@ impl System {
         match self.spaces.create() {
             Some(space) => {
                 self.table.set_directory(slot, space.directory);
+                show(&mut self.spaces, &self.table, slot);
                 Ok(slot)
             }
             None => {
@@ -184,5 +234,6 @@ impl System {
         let space = self.space(slot);
         self.spaces.destroy(space);
         self.table.free(slot);
+        show(&mut self.spaces, &self.table, slot);
     }
 }

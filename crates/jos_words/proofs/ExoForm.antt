@@ -56,7 +56,8 @@ unfolding exo_of
 has_images arguments exo e =
     let frames = both_some (number_in (value_of (codes "frames") arguments.options)) _ exo e in
     let steps = both_some (number_in (value_of (codes "steps") arguments.options)) _ exo frames.2 in
-    let images = both_some (at_least_one arguments.positionals) _ exo steps.2 in
+    let trace = both_some (number_in (value_of (codes "trace") arguments.options)) _ exo steps.2 in
+    let images = both_some (at_least_one arguments.positionals) _ exo trace.2 in
     some_words arguments.positionals images.0 images.1
 
 pub exo_refused : (words : List Text) → 0 < length words → clap_takes exo_app words ≡ false → exo_words (drop 1 words) ≡ None

@@ -10,16 +10,17 @@ use Rattle.jos_words.specs.declared.commands.DemoWords.{DemoWords}
 use Rattle.jos_words.specs.declared.commands.Command.{Command as ReadCommand}
 use Rattle.jos_words.specs.declared.commands.Command.TheVariants as read
 
--- ---- `exo [--frames N] [--steps N] [--schedule FILE] IMAGE..`
+-- ---- `exo [--frames N] [--steps N] [--schedule FILE] [--trace N] IMAGE..`
 
 pub record Exo : Type 0 where
   pub frames : Option NumberAt
   pub steps : Option NumberAt
   pub schedule : Option Word
+  pub trace : Option NumberAt
   pub images : List Word
 
 abbrev pub exo_options : List (List ℕ)
-exo_options = codes "frames" ∷ codes "steps" ∷ codes "schedule" ∷ []
+exo_options = codes "frames" ∷ codes "steps" ∷ codes "schedule" ∷ codes "trace" ∷ []
 
 -- an option that is not given is fine, and one that is given has to be a number
 abbrev pub number_in : Option Word → Option (Option NumberAt)
@@ -34,8 +35,9 @@ unfoldable pub exo_of : Arguments → Option Exo
 exo_of arguments = do
   frames ← number_in (value_of (codes "frames") arguments.options)
   steps ← number_in (value_of (codes "steps") arguments.options)
+  trace ← number_in (value_of (codes "trace") arguments.options)
   images ← at_least_one arguments.positionals
-  Some (record { frames = frames; steps = steps; schedule = value_of (codes "schedule") arguments.options; images = images })
+  Some (record { frames = frames; steps = steps; schedule = value_of (codes "schedule") arguments.options; trace = trace; images = images })
 
 -- the words behind `exo`
 unfoldable pub exo_words : List (List ℕ) → Option Exo
@@ -85,6 +87,7 @@ exo_in_bytes words = record {
   frames = words.frames;
   steps = words.steps;
   schedule = option_map word_in_bytes words.schedule;
+  trace = words.trace;
   images = map word_in_bytes words.images.items;
 }
 

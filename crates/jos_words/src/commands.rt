@@ -15,7 +15,7 @@ use std::alloc::Global;
 /// A command, with what its words say.
 #[derive(Drop)]
 pub enum Command<'a> {
-    /// `exo [--frames N] [--steps N] [--schedule FILE] IMAGE..`: runs images.
+    /// `exo [--frames N] [--steps N] [--schedule FILE] [--trace N] IMAGE..`: runs images.
     Exo(ExoWords<'a>),
     /// `demo NAME FILE`: writes an example program.
     Demo(DemoWords<'a>),
@@ -27,6 +27,7 @@ pub struct ExoWords<'a> {
     pub frames: Option<NumberAt>,
     pub steps: Option<NumberAt>,
     pub schedule: Option<WordAt<'a>>,
+    pub trace: Option<NumberAt>,
     /// At least one, in the order of the words.
     pub images: Vec<WordAt<'a>>,
 }
@@ -39,7 +40,7 @@ pub struct DemoWords<'a> {
 }
 
 /// The names of the options of `exo`.
-pub(crate) const EXO_OPTIONS: [&str; 3] = ["frames", "steps", "schedule"];
+pub(crate) const EXO_OPTIONS: [&str; 4] = ["frames", "steps", "schedule", "trace"];
 
 /// The number that a value is, where it is there; `None` where it is no number.
 fn number_in<'a>(word: Option<WordAt<'a>>) -> Option<Option<NumberAt>>
@@ -65,6 +66,7 @@ fn exo_of<'a>(arguments: Arguments<'a>) -> Option<ExoWords<'a>>
     let frames = number_in(value_of("frames", &arguments.options))?;
     let steps = number_in(value_of("steps", &arguments.options))?;
     let schedule = value_of("schedule", &arguments.options);
+    let trace = number_in(value_of("trace", &arguments.options))?;
     if arguments.positionals.is_empty() {
         return None;
     }
@@ -72,6 +74,7 @@ fn exo_of<'a>(arguments: Arguments<'a>) -> Option<ExoWords<'a>>
         frames,
         steps,
         schedule,
+        trace,
         images: arguments.positionals,
     })
 }

@@ -26,6 +26,7 @@ fn add_command(line: &mut String, command: &Command) -> Result<(), AllocError> {
             add_number(line, " frames ", exo.frames)?;
             add_number(line, " steps ", exo.steps)?;
             add_word(line, " schedule ", exo.schedule)?;
+            add_number(line, " trace ", exo.trace)?;
             for image in &exo.images {
                 add_word(line, " ", Some(*image))?;
             }
@@ -64,6 +65,7 @@ exo|a|-- => exo a@1
 exo|-||help|exo => exo -@1 @2 help@3 exo@4
 exo|--steps|0|a => exo steps 0@2 a@3
 exo|--steps|00000000000000000017|a => exo steps 17@2 a@3
+exo|--trace|7|a|--frames=3|--steps=2 => exo frames 3@4 steps 2@5 trace 7@2 a@3
 exo|--steps=99999999999999999999|a => exo steps 99999999999999999999@1 a@2
 demo|xhello|h => demo xhello@1 h@2
 demo|--|-n|-- => demo -n@2 --@3
@@ -92,7 +94,9 @@ exo|--schedule|--frames=1|a
 exo|--fram=1|a
 exo|--Frames=1|a
 exo|--=1|a
-exo|--trace=1|a
+exo|--traces=1|a
+exo|--trace|a
+exo|--trace=one|a
 exo|-x|a
 exo|-h
 exo|--help

@@ -139,7 +139,6 @@ impl Mem for TestMemory {
     ghost use Rattle.jos_cpu.specs.MemoryLaws.{either_way, set_or_same};
 
     ghost lawful = { record {
-      reached_bytes = λ m va q access. either_way m (record m { touched = (m.touched + 1) % 2 ^ 32 }) m.standing (λ w. slice_index w.bytes (offset w.base q)) refl;
       reached_rights = λ m va access. either_way m (record m { touched = (m.touched + 1) % 2 ^ 32 }) m.standing (λ w q wanted. test_memory_allows w.base w.locked 128 q wanted) refl;
       reached_faults = λ m va access. refl;
       stored_bytes = λ m va byte q. set_or_same m.bytes (offset m.base va) byte (offset m.base q);

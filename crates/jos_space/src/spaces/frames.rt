@@ -7,7 +7,7 @@ ghost use Rattle.jos_base.specs.declared.numbers.TheConstants.{PGSIZE};
 ghost use Rattle.jos_base.specs.SpacesState.{fresh_of, freed, fresh, free, page, zero_page, with_page_bytes};
 ghost use Rattle.jos_base.specs.SpacesState.{reference_count, released, overlaid, directories};
 ghost use Rattle.jos_space.specs.Calls.{has_bytes, KeepsDirectories};
-ghost use Rattle.jos_space.specs.Frames.{held_in, state, handed_out, IsIdle};
+ghost use Rattle.jos_space.specs.Frames.{held_in, state, records, handed_out, IsIdle};
 
 use crate::lists::{byte_in, clear_bytes, count_at, fill_at, place_at, role_at, set_byte_at};
 use crate::role::{Role, own_count};
@@ -24,6 +24,7 @@ impl Spaces {
         ensures was { IfSome result (λ h. (state self.old).uses h ≡ free) }
         ensures keeps { IfSome result (λ h. (f : ℕ) → (state self.old).uses f ≢ free → (state self.new).uses f ≡ (state self.old).uses f) }
         ensures bytes { self.new.bytes ≡ self.old.bytes }
+        ensures records { records self.new ≡ records self.old }
     {
         if self.free_len == 0 {
             return None;
@@ -40,6 +41,7 @@ impl Spaces {
         requires { IsIdle (state self.old) frame }
         ensures after { state self.new ≡ freed (state self.old) frame }
         ensures bytes { self.new.bytes ≡ self.old.bytes }
+        ensures records { records self.new ≡ records self.old }
     {
         self.roles[frame as usize] = Role::Free(self.free_len);
         self.order[self.free_len as usize] = frame;
@@ -53,6 +55,7 @@ impl Spaces {
         ensures kept { KeepsDirectories (state self.old) (state self.new) }
         ensures pages { (d p : ℕ) (entry : Entry) → (state self.old).entries d p ≡ Some entry → (state self.old).uses entry.frame ≡ page → (state self.new).uses entry.frame ≡ page }
         ensures bytes { self.new.bytes ≡ self.old.bytes }
+        ensures records { records self.new ≡ records self.old }
     {
         if let Some(gone) = frame {
             if count_at(&self.counts, gone) == 0 {
@@ -64,7 +67,8 @@ impl Spaces {
     /// Puts zeros into a fresh frame.
     fn clear_page(&mut self, frame: u32)
         requires { has_bytes ((state self.old).uses frame) ≡ true }
-        ensures { state self.new ≡ with_page_bytes (state self.old) frame zero_page }
+        ensures state { state self.new ≡ with_page_bytes (state self.old) frame zero_page }
+        ensures records { records self.new ≡ records self.old }
     {
         clear_bytes(&mut self.bytes, frame);
     }
@@ -79,6 +83,7 @@ impl Spaces {
         ensures kept { KeepsDirectories (state self.old) (state self.new) }
         ensures directories { directories (state self.new) ≡ directories (state self.old) }
         ensures zero { IfSome result (λ frame. (state self.new).pages frame.0 ≡ zero_page) }
+        ensures records { records self.new ≡ records self.old }
     {
         match self.take() {
             None => None,
@@ -95,6 +100,7 @@ impl Spaces {
         ensures after { state self.new ≡ freed (state self.old) frame.0 }
         ensures kept { KeepsDirectories (state self.old) (state self.new) }
         ensures directories { directories (state self.new) ≡ directories (state self.old) }
+        ensures records { records self.new ≡ records self.old }
     {
         self.free(frame.0);
     }
@@ -115,6 +121,7 @@ impl Spaces {
         ensures after { state self.new ≡ with_page_bytes (state self.old) location.frame.0 (slice_set ((state self.old).pages location.frame.0) location.offset byte) }
         ensures kept { KeepsDirectories (state self.old) (state self.new) }
         ensures put { slice_index ((state self.new).pages location.frame.0) location.offset ≡ byte }
+        ensures records { records self.new ≡ records self.old }
     {
         set_byte_at(&mut self.bytes, location.frame.0, location.offset, byte);
     }
@@ -126,6 +133,7 @@ impl Spaces {
         ensures after { state self.new ≡ with_page_bytes (state self.old) frame.0 (overlaid ((state self.old).pages frame.0) offset bytes.now) }
         ensures kept { KeepsDirectories (state self.old) (state self.new) }
         ensures directories { directories (state self.new) ≡ directories (state self.old) }
+        ensures records { records self.new ≡ records self.old }
     {
         fill_at(&mut self.bytes, frame.0, offset, bytes);
     }

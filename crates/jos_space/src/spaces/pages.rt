@@ -1,7 +1,7 @@
 //! Spaces: made, and given pages.
 
 ghost use Rattle.std.specs.Prelude.{◌≡◌, ◌≢◌, ◌<◌, ◌/◌, ◌%◌, ◌+◌, ℕ, Some, None, true, false, IfSome, IsNone, OnOk, OnErr};
-ghost use Rattle.std.specs.Prelude.{[], slice_set, bit_and};
+ghost use Rattle.std.specs.Prelude.{[], bit_and};
 ghost use Rattle.std.specs.Option.{option_map};
 ghost use Rattle.jos_base.specs.declared.numbers.TheConstants.{NPTENTRIES, PGSIZE, PTE_P, PTE_U, PTE_SYSCALL, UTOP};
 ghost use Rattle.jos_base.specs.Words.{upd};
@@ -9,7 +9,7 @@ ghost use Rattle.jos_base.specs.SpacesState.{with_entry, with_table, frame_of, t
 ghost use Rattle.jos_base.specs.SpacesState.{allocated, directories, zero_page};
 ghost use Rattle.jos_base.specs.SpacesState.{fresh, free, directory, region_limit};
 ghost use Rattle.jos_space.specs.Calls.{entry_looked, has_bytes, KeepsDirectories};
-ghost use Rattle.jos_space.specs.Frames.{state};
+ghost use Rattle.jos_space.specs.Frames.{state, records};
 
 use crate::entry::is_present;
 use crate::lists::{clear_words, count_at, set_word, word_at};
@@ -52,6 +52,7 @@ impl Spaces {
         ensures gone { result ≡ frame_of ((state self.old).entries space number) }
         ensures page { IfSome result (λ g. (state self.new).uses g ≡ page) }
         ensures bytes { self.new.bytes ≡ self.old.bytes }
+        ensures records { records self.new ≡ records self.old }
     {
         let index = number % NPTENTRIES;
         let old = word_at(&self.words, table, index);
@@ -77,6 +78,7 @@ impl Spaces {
         requires region { (state self.old).regions space index ≡ None }
         ensures after { state self.new ≡ with_table (state self.old) space index frame }
         ensures bytes { self.new.bytes ≡ self.old.bytes }
+        ensures records { records self.new ≡ records self.old }
     {
         clear_words(&mut self.words, frame);
         set_word(&mut self.words, space, index, frame * PGSIZE + TABLE);
@@ -93,6 +95,7 @@ impl Spaces {
         ensures found { IfSome result (λ t. option_map (λ r. r.table) ((state self.new).regions space index) ≡ Some t) }
         ensures keeps { IfSome result (λ t. (f : ℕ) → (state self.old).uses f ≢ free → (state self.new).uses f ≡ (state self.old).uses f) }
         ensures bytes { self.new.bytes ≡ self.old.bytes }
+        ensures records { records self.new ≡ records self.old }
     {
         match self.table(space, index) {
             Some(table) => Some(table),
@@ -121,6 +124,7 @@ impl Spaces {
         ensures kept { KeepsDirectories (state self.old) (state self.new) }
         ensures directories { directories (state self.new) ≡ directories (state self.old) }
         ensures bytes { OnOk result ((state self.new).pages frame.0 ≡ (state self.old).pages frame.0) }
+        ensures records { records self.new ≡ records self.old }
     {
         let number = va / PGSIZE;
         match self.table_for(space.directory.0, number / NPTENTRIES) {
@@ -147,6 +151,7 @@ impl Spaces {
         ensures zero { IfSome result (λ frame. (state self.new).pages frame.0 ≡ zero_page) }
         ensures page { IfSome result (λ frame. (state self.new).uses frame.0 ≡ page) }
         ensures directories { directories (state self.new) ≡ directories (state self.old) }
+        ensures records { records self.new ≡ records self.old }
     {
         let frame = match self.fresh() {
             Some(frame) => frame,
@@ -161,17 +166,15 @@ impl Spaces {
         }
     }
 
-    /// The frame of a page and its bits. None where there is no page.
-    pub fn look(&self, space: Space, va: u32) -> Option<(Frame, Perm)>
-        requires { (state self.now).uses space.directory.0 ≡ directory }
-        ensures entry { entry_looked result ≡ (state self.now).entries space.directory.0 (va / PGSIZE) }
+    /// The frame of the page of this number, which lies below UTOP, and its bits. None where there is no page.
+    #[inline(always)]
+    pub(super) fn entry(&self, space: u32, number: u32) -> Option<(Frame, Perm)>
+        requires space { (state self.now).uses space ≡ directory }
+        requires number { number < UTOP / PGSIZE }
+        ensures entry { entry_looked result ≡ (state self.now).entries space number }
         ensures page { IfSome result (λ found. (state self.now).uses found.0.0 ≡ page) }
     {
-        if va >= UTOP {
-            return None;
-        }
-        let number = va / PGSIZE;
-        match self.table(space.directory.0, number / NPTENTRIES) {
+        match self.table(space, number / NPTENTRIES) {
             None => None,
             Some(table) => {
                 let word = word_at(&self.words, table, number % NPTENTRIES);
@@ -184,10 +187,23 @@ impl Spaces {
         }
     }
 
+    /// The frame of a page and its bits. None where there is no page.
+    pub fn look(&self, space: Space, va: u32) -> Option<(Frame, Perm)>
+        requires { (state self.now).uses space.directory.0 ≡ directory }
+        ensures entry { entry_looked result ≡ (state self.now).entries space.directory.0 (va / PGSIZE) }
+        ensures page { IfSome result (λ found. (state self.now).uses found.0.0 ≡ page) }
+    {
+        if va >= UTOP {
+            return None;
+        }
+        self.entry(space.directory.0, va / PGSIZE)
+    }
+
     /// Makes a fresh frame a directory.
     fn set_directory(&mut self, frame: u32)
         requires { (state self.old).uses frame ≡ fresh }
-        ensures { state self.new ≡ record (state self.old) { uses = upd (state self.old).uses frame directory; pages = upd (state self.old).pages frame [] } }
+        ensures state { state self.new ≡ record (state self.old) { uses = upd (state self.old).uses frame directory; pages = upd (state self.old).pages frame [] } }
+        ensures records { records self.new ≡ records self.old }
     {
         clear_words(&mut self.words, frame);
         self.roles[frame as usize] = Role::Directory;
@@ -203,6 +219,7 @@ impl Spaces {
         ensures kept { KeepsDirectories (state self.old) (state self.new) }
         ensures directories { IfSome result (λ space. directories (state self.new) ≡ upd (directories (state self.old)) space.directory.0 true) }
         ensures apart { IfSome result (λ space. directories (state self.old) space.directory.0 ≡ false) }
+        ensures records { records self.new ≡ records self.old }
     {
         match self.take() {
             None => None,

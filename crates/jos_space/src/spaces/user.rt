@@ -3,21 +3,24 @@
 ghost use Rattle.std.specs.Prelude.{◌≡◌, ◌≤◌, ◌<◌, IfOk, IfSome, ◌/◌, ◌%◌, ◌+◌, ℕ, Some, true, is_some, length, []};
 ghost use Rattle.std.specs.Prelude.{slice_index, false, nat_le, ◌&&◌};
 ghost use Rattle.std.specs.Option.{option_map};
-ghost use Rattle.jos_base.specs.declared.numbers.TheConstants.{NPTENTRIES, PGSIZE};
-ghost use Rattle.jos_base.specs.Reach.{read_byte};
-ghost use Rattle.jos_base.specs.SpacesState.{page, directory, directories, put};
+ghost use Rattle.jos_base.specs.declared.numbers.TheConstants.{NPTENTRIES, PGSIZE, UTOP};
+ghost use Rattle.jos_base.specs.SpacesState.{page, directory, directories};
 ghost use Rattle.jos_base.specs.declared.memory.Access.TheVariants.{Read, Write};
-ghost use Rattle.jos_base.specs.UserMemory.{with_region_bit, with_entry_bits, with_bits, reach_in, is_allowed};
-ghost use Rattle.jos_base.specs.UserMemory.{touched, byte_at, stored_byte};
+ghost use Rattle.jos_base.specs.UserMemory.{with_region_bit, with_entry_bits, with_window_bits, with_page_bits, with_bits, reach_in, is_allowed};
+ghost use Rattle.jos_base.specs.UserMemory.{touched, byte_at, byte_of, read_byte, stored_byte};
+ghost use Rattle.jos_base.specs.Windows.{walked};
 ghost use Rattle.jos_space.specs.AtHand.{bits_at_hand, frame_with, bytes_at_hand, IsPageAtHand, IsStill, stored_word};
-ghost use Rattle.jos_space.specs.Calls.{located, KeepsDirectories};
-ghost use Rattle.jos_space.specs.Frames.{state};
+ghost use Rattle.jos_space.specs.Calls.{located, entry_looked, KeepsDirectories};
+ghost use Rattle.jos_space.specs.Frames.{state, records};
 
 use crate::entry::{absent_page, access_bits, reach_page};
 use crate::lists::{bytes_from, set_byte_at, set_word, set_word_at, word_at};
+use crate::spaces::destroying::REGION_LIMIT;
+use crate::spaces::windows::TABLE_INDEX;
 use crate::spaces::{PageAtHand, Space, Spaces};
 use jos_base::{
-    Access, Frame, Location, NPTENTRIES, PGSIZE, PTE_A, PTE_D, PTE_P, PTE_U, PTE_W, PageFault, UTOP,
+    Access, Frame, Location, NPTENTRIES, PGSIZE, PTE_A, PTE_D, PTE_P, PTE_U, PTE_W, PageFault,
+    Perm, UTOP,
 };
 
 /// The bits of a region that is there and was reached.
@@ -36,7 +39,8 @@ impl Spaces {
     /// Sets the A bit of a region.
     fn mark_region(&mut self, space: u32, index: u32)
         requires { is_some ((state self.old).regions space index) ≡ true }
-        ensures { state self.new ≡ with_region_bit (state self.old) space index }
+        ensures state { state self.new ≡ with_region_bit (state self.old) space index }
+        ensures records { records self.new ≡ records self.old }
     {
         let word = word_at(&self.words, space, index);
         set_word(&mut self.words, space, index, word | PTE_A);
@@ -48,17 +52,19 @@ impl Spaces {
         requires entry { is_some ((state self.old).entries space number) ≡ true }
         requires even { bits % 2 ≡ 0 }
         requires small { bits < PGSIZE }
-        ensures { state self.new ≡ with_entry_bits (state self.old) space number bits }
+        ensures state { state self.new ≡ with_entry_bits (state self.old) space number bits }
+        ensures records { records self.new ≡ records self.old }
     {
         let word = word_at(&self.words, table, number % NPTENTRIES);
         set_word(&mut self.words, table, number % NPTENTRIES, word | bits);
     }
 
     /// Sets the A bit of a page's region and the bits of an access in the page's entry.
-    fn mark(&mut self, space: u32, number: u32, access: Access)
+    fn mark_page(&mut self, space: u32, number: u32, access: Access)
         requires space { (state self.old).uses space ≡ directory }
         requires entry { is_some ((state self.old).entries space number) ≡ true }
-        ensures { state self.new ≡ with_bits (state self.old) space number access }
+        ensures state { state self.new ≡ with_page_bits (state self.old) space number access }
+        ensures records { records self.new ≡ records self.old }
     {
         if let Some(table) = self.table(space, number / NPTENTRIES) {
             self.mark_region(space, number / NPTENTRIES);
@@ -66,14 +72,60 @@ impl Spaces {
         }
     }
 
+    /// In the region of UVPT, where the directory is the table, sets the A bit of the region whose table was read.
+    fn mark_window(&mut self, space: u32, number: u32)
+        requires { (state self.old).uses space ≡ directory }
+        ensures state { state self.new ≡ with_window_bits (state self.old) space number }
+        ensures records { records self.new ≡ records self.old }
+    {
+        let index = number % NPTENTRIES;
+        if number / NPTENTRIES != TABLE_INDEX {
+            return;
+        }
+        if index >= REGION_LIMIT {
+            return;
+        }
+        if self.table(space, index).is_some() {
+            self.mark_region(space, index);
+        }
+    }
+
+    /// Sets the bits that an access sets, which was allowed.
+    fn mark(&mut self, space: u32, va: u32, access: Access)
+        requires space { (state self.old).uses space ≡ directory }
+        requires entry { va < UTOP → is_some ((state self.old).entries space (va / PGSIZE)) ≡ true }
+        ensures state { state self.new ≡ with_bits (state self.old) space (va / PGSIZE) access }
+        ensures records { records self.new ≡ records self.old }
+    {
+        if va < UTOP {
+            self.mark_page(space, va / PGSIZE, access);
+        } else {
+            self.mark_window(space, va / PGSIZE);
+        }
+    }
+
+    /// What both levels of the tables say of the page of an address: its frame and its bits. None where there is no page.
+    #[inline(always)]
+    fn walk(&self, space: u32, va: u32) -> Option<(Frame, Perm)>
+        requires { (state self.now).uses space ≡ directory }
+        ensures entry { entry_looked result ≡ walked (state self.now) space (va / PGSIZE) }
+        ensures page { IfSome result (λ found. va < UTOP → (state self.now).uses found.0.0 ≡ page) }
+    {
+        if va < UTOP {
+            self.entry(space, va / PGSIZE)
+        } else {
+            self.window_entry(space, va / PGSIZE)
+        }
+    }
+
     /// Where an access leads, or its fault.
     fn reach(&self, space: Space, va: u32, access: Access) -> Result<Location, PageFault>
         requires { (state self.now).uses space.directory.0 ≡ directory }
         ensures result { located result ≡ reach_in (state self.now) space.directory.0 va access }
-        ensures page { IfOk result (λ location. (state self.now).uses location.frame.0 ≡ page) }
+        ensures page { IfOk result (λ location. va < UTOP → (state self.now).uses location.frame.0 ≡ page) }
         ensures offset { IfOk result (λ location. location.offset < PGSIZE) }
     {
-        match self.look(space, va) {
+        match self.walk(space.directory.0, va) {
             None => Err(absent_page(va, access)),
             Some((frame, perm)) => reach_page(frame, perm, va, access),
         }
@@ -84,27 +136,42 @@ impl Spaces {
         requires { (state self.old).uses space.directory.0 ≡ directory }
         ensures result { located result ≡ reach_in (state self.old) space.directory.0 va access }
         ensures after { state self.new ≡ touched (state self.old) space.directory.0 va access }
-        ensures page { IfOk result (λ location. (state self.new).uses location.frame.0 ≡ page) }
+        ensures page { IfOk result (λ location. va < UTOP → (state self.new).uses location.frame.0 ≡ page) }
         ensures offset { IfOk result (λ location. location.offset < PGSIZE) }
         ensures kept { KeepsDirectories (state self.old) (state self.new) }
         ensures directories { directories (state self.new) ≡ directories (state self.old) }
+        ensures records { records self.new ≡ records self.old }
     {
         match self.reach(space, va, access) {
             Err(fault) => Err(fault),
             Ok(location) => {
-                self.mark(space.directory.0, va / PGSIZE, access);
+                self.mark(space.directory.0, va, access);
                 Ok(location)
             }
+        }
+    }
+
+    /// The byte at an address that a user may read, which lies there.
+    fn byte_of(&self, space: u32, va: u32, location: Location) -> u8
+        requires space { (state self.now).uses space ≡ directory }
+        requires page { va < UTOP → (state self.now).uses location.frame.0 ≡ page }
+        requires offset { location.offset < PGSIZE }
+        ensures { result ≡ byte_of (records self.now) (state self.now) space va (record { frame = location.frame.0; offset = location.offset }) }
+    {
+        if va < UTOP {
+            self.byte(location)
+        } else {
+            self.window_byte(space, va)
         }
     }
 
     /// The byte that a user reads at an address, or the fault. It sets no bit.
     pub fn read(&self, space: Space, va: u32) -> Result<u8, PageFault>
         requires { (state self.now).uses space.directory.0 ≡ directory }
-        ensures { result ≡ read_byte (state self.now).pages ((state self.now).entries space.directory.0) va }
+        ensures { result ≡ read_byte (records self.now) (state self.now) space.directory.0 va }
     {
         match self.reach(space, va, Access::Read) {
-            Ok(location) => Ok(self.byte(location)),
+            Ok(location) => Ok(self.byte_of(space.directory.0, va, location)),
             Err(refusal) => Err(refusal),
         }
     }
@@ -112,11 +179,11 @@ impl Spaces {
     /// The byte that a user reads at an address, and 0 where none may be read. It sets no bit.
     pub fn byte_at(&self, space: Space, va: u32) -> u8
         requires { (state self.now).uses space.directory.0 ≡ directory }
-        ensures { result ≡ byte_at (state self.now) space.directory.0 va }
+        ensures { result ≡ byte_at (records self.now) (state self.now) space.directory.0 va }
     {
         match self.reach(space, va, Access::Read) {
             Err(_) => 0,
-            Ok(location) => self.byte(location),
+            Ok(location) => self.byte_of(space.directory.0, va, location),
         }
     }
 
@@ -127,7 +194,8 @@ impl Spaces {
         ensures after { state self.new ≡ stored_byte (state self.old) space.directory.0 va byte }
         ensures kept { KeepsDirectories (state self.old) (state self.new) }
         ensures directories { directories (state self.new) ≡ directories (state self.old) }
-        ensures put { byte_at (state self.new) space.directory.0 va ≡ byte }
+        ensures put { byte_at (records self.new) (state self.new) space.directory.0 va ≡ byte }
+        ensures records { records self.new ≡ records self.old }
     {
         if let Ok(location) = self.reach(space, va, Access::Write) {
             self.set_byte(location, byte);
@@ -185,7 +253,7 @@ impl Spaces {
         ensures bytes { result.now ≡ bytes_at_hand (state self.now) page.space.directory.0 va }
         ensures within { va % PGSIZE + length result.now ≤ PGSIZE }
         ensures still { (i : ℕ) → i < length result.now → IsStill (state self.now) page.space.directory.0 (va + i) Read }
-        ensures byte { (i : ℕ) → i < length result.now → byte_at (state self.now) page.space.directory.0 (va + i) ≡ slice_index result.now i }
+        ensures byte { (i : ℕ) → i < length result.now → byte_at (records self.now) (state self.now) page.space.directory.0 (va + i) ≡ slice_index result.now i }
     {
         bytes_from(&self.bytes, page.frame.0, va % PGSIZE)
     }
@@ -198,7 +266,7 @@ impl Spaces {
         ensures bytes { result.now ≡ bytes_at_hand (state self.now) space.directory.0 va }
         ensures within { va % PGSIZE + length result.now ≤ PGSIZE }
         ensures still { (i : ℕ) → i < length result.now → IsStill (state self.now) space.directory.0 (va + i) Read }
-        ensures byte { (i : ℕ) → i < length result.now → byte_at (state self.now) space.directory.0 (va + i) ≡ slice_index result.now i }
+        ensures byte { (i : ℕ) → i < length result.now → byte_at (records self.now) (state self.now) space.directory.0 (va + i) ≡ slice_index result.now i }
     {
         match self.page_at_hand(space, va) {
             None => &[],
@@ -214,7 +282,7 @@ impl Spaces {
         ensures bytes { result.now ≡ bytes_at_hand (state self.now) page.space.directory.0 va }
         ensures within { va % PGSIZE + length result.now ≤ PGSIZE }
         ensures still { (i : ℕ) → i < length result.now → IsStill (state self.now) page.space.directory.0 (va + i) Read }
-        ensures byte { (i : ℕ) → i < length result.now → byte_at (state self.now) page.space.directory.0 (va + i) ≡ slice_index result.now i }
+        ensures byte { (i : ℕ) → i < length result.now → byte_at (records self.now) (state self.now) page.space.directory.0 (va + i) ≡ slice_index result.now i }
     {
         if page.number == va / PGSIZE {
             self.page_bytes(page, va)
@@ -233,6 +301,7 @@ impl Spaces {
         ensures left { result ≡ false → self.new ≡ self.old }
         ensures kept { KeepsDirectories (state self.old) (state self.new) }
         ensures directories { directories (state self.new) ≡ directories (state self.old) }
+        ensures records { records self.new ≡ records self.old }
     {
         match self.frame_with(space.directory.0, va / PGSIZE, WRITE_AT_HAND) {
             None => false,
@@ -254,6 +323,7 @@ impl Spaces {
         ensures left { result ≡ false → self.new ≡ self.old }
         ensures kept { KeepsDirectories (state self.old) (state self.new) }
         ensures directories { directories (state self.new) ≡ directories (state self.old) }
+        ensures records { records self.new ≡ records self.old }
     {
         let offset = va % PGSIZE;
         if offset > LAST_WORD {

@@ -33,7 +33,7 @@ returns-in-None-clause-told g c =
       told.2,
       told.3,
       words_within (exo_in_bytes c.args.words.now) told.0 told.1 (kind_of c.run_within.result) (around g.H.Host.console c.args.host.now c.run_within.new.host)
-          c.frames_of.result c.steps_of.result (sym c.in-None.ensures.limit) c.frames_of.ensures.frames c.steps_of.ensures.steps told.4,
+          c.settings_of.result (sym c.in-None.ensures.limit) c.settings_of.ensures.settings told.4,
     )
 
 pub returns-in-Some-clause-input : goal.returns-in-Some-clause-input

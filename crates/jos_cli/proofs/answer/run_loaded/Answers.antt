@@ -12,12 +12,12 @@ use Rattle.jos_cli.proofs.answer.run_loaded.Goals as goal
 
 pub returns-in-Ok-clause-told : goal.returns-in-Ok-clause-told
 returns-in-Ok-clause-told g c =
-    rw (c.deref.ensures.value, c.deref-2.ensures.value) at (subst (λ (r : Option Ran). Answers (expected_of_run r) c.run_kernel.result (around g.H.Host.console c.args.host.now c.run_kernel.new.host))
-    (sym (run_booted _ c.args.input.items c.args.schedule c.args.frames c.args.steps _ _ _ c.in-Ok.ensures.booted c.in-Ok.ensures.schedule c.in-Ok.ensures.first))
+    rw (c.deref.ensures.value, c.deref-2.ensures.value) at (subst (λ (r : Option Ran). Answers (expected_of_run c.args.settings.trace r) c.run_kernel.result (around g.H.Host.console c.args.host.now c.run_kernel.new.host))
+    (sym (run_booted _ c.args.input.items c.args.schedule c.args.settings.frames c.args.settings.steps _ _ _ c.in-Ok.ensures.booted c.in-Ok.ensures.schedule c.in-Ok.ensures.first))
     c.run_kernel.ensures.told)
 
 pub returns-in-Err-Pool-clause-told : goal.returns-in-Err-Pool-clause-told
 returns-in-Err-Pool-clause-told g c =
-    rw (c.deref.ensures.value, c.deref-2.ensures.value) at (subst (λ (r : Option Ran). Answers (expected_of_run r) (Limit Boot) (around g.H.Host.console c.args.host.now c.args.host.now))
-    (sym (not_booted _ c.args.input.items c.args.schedule c.args.frames c.args.steps (c.in-Err-Pool.ensures.pool c.in-Err-Pool.field-0-is)))
+    rw (c.deref.ensures.value, c.deref-2.ensures.value) at (subst (λ (r : Option Ran). Answers (expected_of_run c.args.settings.trace r) (Limit Boot) (around g.H.Host.console c.args.host.now c.args.host.now))
+    (sym (not_booted _ c.args.input.items c.args.schedule c.args.settings.frames c.args.settings.steps (c.in-Err-Pool.ensures.pool c.in-Err-Pool.field-0-is)))
     (refl, gains_none (g.H.Host.console c.args.host.now)))

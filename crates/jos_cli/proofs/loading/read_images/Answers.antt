@@ -6,7 +6,7 @@ use Rattle.jos_cli.specs.Outcomes.{kind_of}
 use Rattle.jos_cli.specs.Answer.{images_of}
 use Rattle.jos_cli.specs.Stages.{AreFilesAt, RefusesBy}
 use Rattle.jos_cli.specs.FilesAsked.{AsksFor, AsksAll, images_calls}
-use Rattle.jos_cli.proofs.Frames.{still}
+use Rattle.jos_kernel.proofs.Frames.{still}
 use Rattle.jos_cli.proofs.Asking.{asks_nothing, asks_image, asks_part, asks_part_whole}
 use Rattle.jos_cli.proofs.Finding.{some_files}
 use Rattle.jos_cli.proofs.WordsRead.{one_more, at_one}

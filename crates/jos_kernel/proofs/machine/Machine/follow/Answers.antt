@@ -1,4 +1,4 @@
-use Rattle.std.proofs.Common.{sym, refl, ◌≡◌, ◌∙◌}
+use Rattle.std.proofs.Common.{None, sym, refl, ◌≡◌, ◌∙◌}
 use Rattle.jos_host.specs.Frames.{around}
 use Rattle.jos_base.specs.KernelState.{KernelState, slot_at, with_registers}
 use Rattle.jos_base.specs.SystemCalls.{system_call}
@@ -13,7 +13,7 @@ use Rattle.jos_kernel.proofs.machine.Machine.follow.Goals.{in-Ok, in-Err}
 
 pub returns-in-Next-clause-told : goal.returns-in-Next-clause-told
 returns-in-Next-clause-told g c =
-    rw (← c.self.view_is, c.in-Next.is) (c.set_registers.ensures.state (left_of c.self.inside.input), refl, gains_nothing _)
+    rw (← c.self.view_is, c.in-Next.is) (c.set_registers.ensures.state (left_of c.self.inside.input), refl, refl, gains_nothing _)
 
 pub returns-after-call-clause-told : goal.returns-after-call-clause-told
 returns-after-call-clause-told g c =
@@ -28,8 +28,8 @@ returns-after-call-clause-told g c =
     (λ i. after_event (sym set i) c.args.slot (c.in-Soft.is i)) ∙ after_system_call s c.args.slot _ c.if-vector-eq-T_SYSCALL.true in
     same_step c.match-call.result step (after_call did) after console step_is
     (elim c.match-call.branch [
-      | in-Ok w ↦ rw w.result-is (done_follows did (after_call did) after console refl refl _ w.in-Ok.ensures.told)
-      | in-Err w ↦ rw w.result-is (failed_follows did (after_call did) after console refl refl _ w.in-Err.ensures.told)
+      | in-Ok w ↦ rw w.result-is (done_follows did (after_call did) after console None refl refl refl _ w.in-Ok.ensures.told)
+      | in-Err w ↦ rw w.result-is (failed_follows did (after_call did) after console None refl refl refl _ w.in-Err.ensures.told)
     ])
 
 pub returns-else-vector-eq-T_SYSCALL-clause-told : goal.returns-else-vector-eq-T_SYSCALL-clause-told

@@ -12,4 +12,4 @@ bytes_by-requires-clause-page c = (known_space _ _ _ _ _ c.self.invariant c.in-S
 pub returns-in-Some : goal.returns-in-Some
 returns-in-Some c =
     rw (← c.self.view_is, (known_space _ _ _ _ _ c.self.invariant c.in-Some.is).0)
-    (stands _ _ _ _ (omega (arith, c.ranges.va.fits)) c.bytes_by.ensures.within c.bytes_by.ensures.still c.bytes_by.ensures.byte)
+    (stands _ _ _ _ _ c.self.invariant.system.records (omega (arith, c.ranges.va.fits)) c.bytes_by.ensures.within c.bytes_by.ensures.still c.bytes_by.ensures.byte)

@@ -13,8 +13,8 @@ invariant_of-self c =
     let may : may_map (get_or l.roles c.args.frame Reserved) ≡ true = bytes_in l c.args.self.now c.args.frame c.self.view_is c.requires in
     subst (λ (bs : List (List ℕ)). AreSound (record l { bytes = bs })) (sym c.clear_bytes.ensures) (bytes_lists_sound l c.self.invariant c.args.frame may zero_page)
 
-pub returns : goal.returns
-returns c =
+pub returns-clause-state : goal.returns-clause-state
+returns-clause-state c =
     let l : Lists = the_view c.self.inside in
     let may : may_map (get_or l.roles c.args.frame Reserved) ≡ true = bytes_in l c.args.self.now c.args.frame c.self.view_is c.requires in
     ap (λ (bs : List (List ℕ)). state (record l { bytes = bs })) c.clear_bytes.ensures ∙ bytes_state l c.self.invariant c.args.frame may zero_page ∙ ap (λ (m : Lists). with_page_bytes (state m) c.args.frame zero_page) c.self.view_is

@@ -14,19 +14,19 @@ returns-in-None-clause-none c =
 
 pub returns-in-Some-clause-some : goal.returns-in-Some-clause-some
 returns-in-Some-clause-some c =
-    created_is (state c.args.self.now) (state c.take.new.self) (held_in c.args.self.now) c.in-Some.frame c.in-Some.ensures.some ∙ ap (λ (s : SpacesState). Some (c.in-Some.frame, s)) (sym c.set_directory.ensures)
+    created_is (state c.args.self.now) (state c.take.new.self) (held_in c.args.self.now) c.in-Some.frame c.in-Some.ensures.some ∙ ap (λ (s : SpacesState). Some (c.in-Some.frame, s)) (sym c.set_directory.ensures.state)
 
 pub returns-in-Some-clause-kept : goal.returns-in-Some-clause-kept
 returns-in-Some-clause-kept c f is = elim (same_or f c.in-Some.frame) [
-  | inl same ↦ (λ i. (c.set_directory.ensures i).uses f) ∙ ap (upd (state c.take.new.self).uses c.in-Some.frame directory) same ∙ upd-at (state c.take.new.self).uses c.in-Some.frame directory
+  | inl same ↦ (λ i. (c.set_directory.ensures.state i).uses f) ∙ ap (upd (state c.take.new.self).uses c.in-Some.frame directory) same ∙ upd-at (state c.take.new.self).uses c.in-Some.frame directory
   | inr ne ↦
-      (λ i. (c.set_directory.ensures i).uses f) ∙ upd-other (state c.take.new.self).uses c.in-Some.frame directory f ne
+      (λ i. (c.set_directory.ensures.state i).uses f) ∙ upd-other (state c.take.new.self).uses c.in-Some.frame directory f ne
       ∙ c.in-Some.ensures.keeps f (λ none. free_apart ((state c.args.self.now).uses f) none is) ∙ is
 ]
 
 pub returns-in-Some-clause-made : goal.returns-in-Some-clause-made
 returns-in-Some-clause-made c =
-    (λ i. (c.set_directory.ensures i).uses c.in-Some.frame) ∙ upd-at (state c.take.new.self).uses c.in-Some.frame directory
+    (λ i. (c.set_directory.ensures.state i).uses c.in-Some.frame) ∙ upd-at (state c.take.new.self).uses c.in-Some.frame directory
 
 pub returns-in-Some-clause-directories : goal.returns-in-Some-clause-directories
 returns-in-Some-clause-directories c =

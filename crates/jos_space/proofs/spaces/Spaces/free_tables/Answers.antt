@@ -1,4 +1,4 @@
-use Rattle.std.proofs.Common.{◌≡◌, ◌∙◌, ◌+◌, suc, ap, arith}
+use Rattle.std.proofs.Common.{◌≡◌, ◌∙◌, ◌+◌, suc, refl, ap, arith}
 use Rattle.jos_base.specs.SpacesState.{SpacesState, tables_freed}
 use Rattle.jos_space.specs.Frames.{state}
 use Rattle.jos_space.proofs.Keeping.{keeps_both}
@@ -6,10 +6,11 @@ use Rattle.jos_space.proofs.Destroying.{tables_zero, tables_one, without_entries
 use Rattle.jos_space.proofs.spaces.Spaces.free_tables.Goals as goal
 
 pub loop-index-init : goal.loop-index-init
-loop-index-init c = record { directories = λ f is. is; space = c.requires.space; empty = c.requires.empty; tables = tables_zero (state c.args.self.now) c.args.space }
+loop-index-init c = record { records = refl; directories = λ f is. is; space = c.requires.space; empty = c.requires.empty; tables = tables_zero (state c.args.self.now) c.args.space }
 
 pub loop-index-preserved : goal.loop-index-preserved
 loop-index-preserved c = record {
+  records = c.free_table.ensures.records ∙ c.loop-index.invariant.records;
   directories = keeps_both (state c.args.self.now) (state c.loop-index.self) (state c.free_table.new.self) c.loop-index.invariant.directories c.free_table.ensures.kept;
   space = c.free_table.ensures.kept c.args.space c.loop-index.invariant.space;
   empty = λ number.

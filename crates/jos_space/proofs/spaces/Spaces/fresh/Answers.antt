@@ -15,14 +15,14 @@ returns-in-None-clause-none c =
 
 pub returns-in-Some-clause-some : goal.returns-in-Some-clause-some
 returns-in-Some-clause-some c =
-    fresh_is (state c.args.self.now) (state c.take.new.self) (held_in c.args.self.now) c.in-Some.frame c.in-Some.ensures.some ∙ ap (λ (s : SpacesState). Some (c.in-Some.frame, s)) (sym c.clear_page.ensures)
+    fresh_is (state c.args.self.now) (state c.take.new.self) (held_in c.args.self.now) c.in-Some.frame c.in-Some.ensures.some ∙ ap (λ (s : SpacesState). Some (c.in-Some.frame, s)) (sym c.clear_page.ensures.state)
 
 pub returns-in-Some-clause-kept : goal.returns-in-Some-clause-kept
 returns-in-Some-clause-kept c f is =
-    (λ i. (c.clear_page.ensures i).uses f) ∙ c.in-Some.ensures.keeps f (λ none. free_apart ((state c.args.self.now).uses f) none is) ∙ is
+    (λ i. (c.clear_page.ensures.state i).uses f) ∙ c.in-Some.ensures.keeps f (λ none. free_apart ((state c.args.self.now).uses f) none is) ∙ is
 
 pub returns-in-Some-clause-fresh : goal.returns-in-Some-clause-fresh
-returns-in-Some-clause-fresh c = (λ i. (c.clear_page.ensures i).uses c.in-Some.frame) ∙ c.in-Some.ensures.fresh
+returns-in-Some-clause-fresh c = (λ i. (c.clear_page.ensures.state i).uses c.in-Some.frame) ∙ c.in-Some.ensures.fresh
 
 pub clear_page-requires : goal.clear_page-requires
 clear_page-requires c = ap has_bytes c.in-Some.ensures.fresh
@@ -33,4 +33,4 @@ returns-in-Some-clause-directories c =
 
 pub returns-in-Some-clause-zero : goal.returns-in-Some-clause-zero
 returns-in-Some-clause-zero c =
-    (λ i. (c.clear_page.ensures i).pages c.in-Some.frame) ∙ upd-at (state c.take.new.self).pages c.in-Some.frame zero_page
+    (λ i. (c.clear_page.ensures.state i).pages c.in-Some.frame) ∙ upd-at (state c.take.new.self).pages c.in-Some.frame zero_page

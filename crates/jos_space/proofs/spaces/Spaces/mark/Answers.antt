@@ -1,23 +1,14 @@
-use Rattle.std.proofs.Common.{◌∙◌, ◌/◌, sym, ap}
-use Rattle.std.specs.Option.{option_map, is_some}
-use Rattle.jos_base.specs.SpacesState.{SpacesState, Region}
+use Rattle.std.proofs.Common.{◌∙◌, ◌/◌, sym, arith}
 use Rattle.jos_space.specs.Frames.{state}
-use Rattle.jos_space.proofs.Marking.{marked_table}
-use Rattle.jos_space.proofs.TableLists.{not_there}
-use Rattle.jos_space.proofs.Walks.{entry_place}
+use Rattle.jos_space.proofs.AtHand.{low_page, high_page, bits_below, bits_above}
 use Rattle.jos_space.proofs.spaces.Spaces.mark.Goals as goal
 
-pub table-requires-clause-index : goal.table-requires-clause-index
-table-requires-clause-index c = (entry_place c.args.self.now c.args.space c.args.number c.requires.entry).0
+pub returns-then-va-lt-UTOP-clause-state : goal.returns-then-va-lt-UTOP-clause-state
+returns-then-va-lt-UTOP-clause-state c =
+    c.mark_page.ensures.state
+    ∙ sym (bits_below (state c.args.self.now) c.args.space (c.args.va / 4096) c.args.access (low_page c.args.va (omega arith)))
 
-pub mark_entry-requires-clause-region : goal.mark_entry-requires-clause-region
-mark_entry-requires-clause-region c =
-    ap (λ (s : SpacesState). option_map (λ (r : Region). r.table) (s.regions c.args.space (c.args.number / 1024))) c.mark_region.ensures
-    ∙ marked_table (state c.args.self.now) c.args.space (c.args.number / 1024) c.in-Some.table (sym c.in-Some.ensures)
-
-pub returns-in_default : goal.returns-in_default
-returns-in_default c =
-    let there = (entry_place c.args.self.now c.args.space c.args.number c.requires.entry).1 in
-    let none = not_there (state c.args.self.now) c.args.space (c.args.number / 1024) c.in_default.ensures in
-    let lost = ap (is_some {T = Region}) none in
-    absurd cc
+pub returns-else-va-lt-UTOP-clause-state : goal.returns-else-va-lt-UTOP-clause-state
+returns-else-va-lt-UTOP-clause-state c =
+    c.mark_window.ensures.state
+    ∙ sym (bits_above (state c.args.self.now) c.args.space (c.args.va / 4096) c.args.access (high_page (c.args.va / 4096) (omega arith)))

@@ -31,8 +31,8 @@ invariant_of-self c =
     let m = marks l c.self.invariant c.args.space c.args.number c.args.table c.args.bits here some c.requires.even c.requires.small c.word_at-word.result old_is c.set_word.ensures.row c.set_word.new.words.items c.set_word.ensures.set in
     m.sound
 
-pub returns : goal.returns
-returns c =
+pub returns-clause-state : goal.returns-clause-state
+returns-clause-state c =
     let l : Lists = the_view c.self.inside in
     let here : option_map (λ (r : Region). r.table) ((state l).regions c.args.space (c.args.number / 1024)) ≡ Some c.args.table = ap (λ (m : Lists). option_map (λ (r : Region). r.table) ((state m).regions c.args.space (c.args.number / 1024))) c.self.view_is ∙ c.requires.region in
     let some : is_some ((state l).entries c.args.space c.args.number) ≡ true = ap (λ (m : Lists). is_some ((state m).entries c.args.space c.args.number)) c.self.view_is ∙ c.requires.entry in

@@ -43,8 +43,8 @@ invariant_of-self c =
     let m = marks_region l c.self.invariant c.args.space c.args.index some c.word_at-word.result old_is c.set_word.ensures.row c.set_word.new.words.items c.set_word.ensures.set in
     m.sound
 
-pub returns : goal.returns
-returns c =
+pub returns-clause-state : goal.returns-clause-state
+returns-clause-state c =
     let l : Lists = the_view c.self.inside in
     let some : is_some ((state l).regions c.args.space c.args.index) ≡ true = ap (λ (m : Lists). is_some ((state m).regions c.args.space c.args.index)) c.self.view_is ∙ c.requires in
     let b = region_bounds l c.self.invariant c.args.space c.args.index some in

@@ -7,7 +7,7 @@ use Rattle.jos_space.specs.contracts.spaces.Spaces.{the_view}
 use Rattle.jos_space.proofs.Keeping.{word_uses}
 use Rattle.jos_space.proofs.AtHand.{still_at_hand, moved_found, word_stored_at_hand}
 use Rattle.jos_space.proofs.PageBytes.{bytes_below, writes}
-use Rattle.jos_space.proofs.Walks.{found_holds}
+use Rattle.jos_space.proofs.Walks.{found_holds, found_below}
 use Rattle.jos_base.specs.SpacesState.{is_directory}
 use Rattle.jos_space.proofs.spaces.Spaces.put_word.Goals as goal
 
@@ -28,8 +28,9 @@ invariant_of-self c =
 
 pub returns-in-Some-clause-still : goal.returns-in-Some-clause-still
 returns-in-Some-clause-still c _ i below =
+    let moved = moved_found (state c.args.self.now) c.args.space.directory.0 c.args.va i (bits_at_hand Write) c.in-Some.frame (omega (arith, below, c.if-offset-gt-LAST_WORD.false)) (sym c.in-Some.ensures) in
     still_at_hand (state c.args.self.now) c.args.space.directory.0 (c.args.va + i) c.in-Some.frame Write
-    (moved_found (state c.args.self.now) c.args.space.directory.0 c.args.va i (bits_at_hand Write) c.in-Some.frame (omega (arith, below, c.if-offset-gt-LAST_WORD.false)) (sym c.in-Some.ensures))
+    (found_below c.args.self.now c.args.space.directory.0 ((c.args.va + i) / 4096) (bits_at_hand Write) c.in-Some.frame moved) moved
 
 pub returns-in-Some-clause-put : goal.returns-in-Some-clause-put
 returns-in-Some-clause-put c _ =
@@ -39,7 +40,8 @@ returns-in-Some-clause-put c _ =
     let holds = found_holds l c.self.invariant c.args.space.directory.0 (c.args.va / 4096) (bits_at_hand Write) c.in-Some.frame found in
     (writes l c.self.invariant c.in-Some.frame holds (λ page. word_laid page (c.args.va % 4096) c.args.word) c.set_word_at.new.bytes.items c.set_word_at.ensures).state_is
     ∙ ap (λ (m : Lists). with_page_bytes (state m) c.in-Some.frame (word_laid ((state m).pages c.in-Some.frame) (c.args.va % 4096) c.args.word)) c.self.view_is
-    ∙ sym (word_stored_at_hand (state c.args.self.now) c.args.space.directory.0 c.args.va c.in-Some.frame c.args.word (omega (arith, c.if-offset-gt-LAST_WORD.false)) (sym c.in-Some.ensures))
+    ∙ sym (word_stored_at_hand (state c.args.self.now) c.args.space.directory.0 c.args.va c.in-Some.frame c.args.word
+    (found_below c.args.self.now c.args.space.directory.0 (c.args.va / 4096) (bits_at_hand Write) c.in-Some.frame (sym c.in-Some.ensures)) (omega (arith, c.if-offset-gt-LAST_WORD.false)) (sym c.in-Some.ensures))
 
 pub returns-in-Some-clause-kept : goal.returns-in-Some-clause-kept
 returns-in-Some-clause-kept c f is =

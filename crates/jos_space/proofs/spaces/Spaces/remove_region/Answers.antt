@@ -13,6 +13,7 @@ loop-i-preserved c =
     let one : state c.release.new.self ≡ unmapped (state c.loop-i.self) c.args.space (c.args.index * 1024 + c.loop-i.i) =
     unmapped_is (state c.loop-i.self) (state c.clear_entry-gone.new.self) (state c.release.new.self) c.args.space (c.args.index * 1024 + c.loop-i.i) c.clear_entry-gone.result c.clear_entry-gone.ensures.state c.clear_entry-gone.ensures.gone c.release.ensures.state in
     record {
+      records = c.release.ensures.records ∙ c.clear_entry-gone.ensures.records ∙ c.loop-i.invariant.records;
       directories =
           keeps_both (state c.args.self.now) (state c.loop-i.self) (state c.release.new.self) c.loop-i.invariant.directories
           (keeps_both (state c.loop-i.self) (state c.clear_entry-gone.new.self) (state c.release.new.self)

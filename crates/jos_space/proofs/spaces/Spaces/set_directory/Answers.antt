@@ -16,8 +16,8 @@ invariant_of-self c =
     let g = makes_directory l c.self.invariant c.args.frame is c.clear_words.new.words.items c.clear_words.ensures in
     g.sound
 
-pub returns : goal.returns
-returns c =
+pub returns-clause-state : goal.returns-clause-state
+returns-clause-state c =
     let l : Lists = the_view c.self.inside in
     let is : get_or l.roles c.args.frame Reserved ≡ Fresh = fresh_in l c.args.self.now c.args.frame c.self.view_is c.requires in
     let g = makes_directory l c.self.invariant c.args.frame is c.clear_words.new.words.items c.clear_words.ensures in

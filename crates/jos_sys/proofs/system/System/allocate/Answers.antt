@@ -1,4 +1,4 @@
-use Rattle.std.proofs.Common.{◌≡◌, ◌/◌, [], Some, None, IfSome, IsNone, subst}
+use Rattle.std.proofs.Common.{◌∙◌, ◌≡◌, ◌/◌, [], Some, None, IfSome, IsNone, subst}
 use Rattle.jos_base.specs.declared.numbers.TheConstants.{PGSIZE}
 use Rattle.jos_base.specs.SpacesState.{allocated}
 use Rattle.jos_space.specs.Frames.{state}
@@ -19,4 +19,7 @@ returns-clause-none c =
     (c.space-space.ensures.directory []) c.allocate.ensures.none
 
 pub returns-clause-spaces : goal.returns-clause-spaces
-returns-clause-spaces c = keeps_spaces _ _ _ c.allocate.ensures.directories c.requires.spaces
+returns-clause-spaces c = record {
+  spaces = keeps_spaces _ _ _ c.allocate.ensures.directories c.requires.spaces.spaces;
+  records = c.allocate.ensures.records ∙ c.requires.spaces.records;
+}

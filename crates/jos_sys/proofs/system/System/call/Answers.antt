@@ -6,6 +6,7 @@ use Rattle.jos_envs.proofs.Kept.{live_within}
 use Rattle.jos_sys.specs.System.{state_of, left_of, Does}
 use Rattle.jos_sys.proofs.Answering.{call_does, none_is_few, cgetc_is}
 use Rattle.jos_sys.proofs.Dispatch.{is_cputs, is_cgetc, is_getenvid, is_env_destroy, is_exofork, is_env_set_status, is_yield, is_none}
+use Rattle.jos_sys.proofs.Dispatch.{is_page_alloc, is_page_map, is_page_unmap, is_env_set_trapframe, is_env_set_pgfault_upcall, is_ipc_try_send, is_ipc_recv}
 use Rattle.jos_sys.proofs.system.System.call.Goals as goal
 
 pub environment-requires : goal.environment-requires
@@ -82,12 +83,67 @@ returns-in-11-clause-told g c =
 pub returns-in-11-clause-small : goal.returns-in-11-clause-small
 returns-in-11-clause-small g c = none_is_few (c.answer-in-11.ensures.state []).2
 
+pub returns-in-4-clause-told : goal.returns-in-4-clause-told
+returns-in-4-clause-told g c =
+    let input = left_of c.args.input.now in
+    call_does _ (is_page_alloc _ c.args.current _ (c.registers-registers.ensures input) c.in-4.is) (c.page_alloc.ensures.state input)
+
+pub returns-in-4-clause-small : goal.returns-in-4-clause-small
+returns-in-4-clause-small g c = none_is_few (c.page_alloc.ensures.state []).2
+
+pub returns-in-5-clause-told : goal.returns-in-5-clause-told
+returns-in-5-clause-told g c =
+    let input = left_of c.args.input.now in
+    call_does _ (is_page_map _ c.args.current _ (c.registers-registers.ensures input) c.in-5.is) (c.page_map.ensures.state input)
+
+pub returns-in-5-clause-small : goal.returns-in-5-clause-small
+returns-in-5-clause-small g c = none_is_few (c.page_map.ensures.state []).2
+
+pub returns-in-6-clause-told : goal.returns-in-6-clause-told
+returns-in-6-clause-told g c =
+    let input = left_of c.args.input.now in
+    call_does _ (is_page_unmap _ c.args.current _ (c.registers-registers.ensures input) c.in-6.is) (c.page_unmap.ensures.state input)
+
+pub returns-in-6-clause-small : goal.returns-in-6-clause-small
+returns-in-6-clause-small g c = none_is_few (c.page_unmap.ensures.state []).2
+
+pub returns-in-10-clause-told : goal.returns-in-10-clause-told
+returns-in-10-clause-told g c =
+    let input = left_of c.args.input.now in
+    call_does _ (is_env_set_pgfault_upcall _ c.args.current _ (c.registers-registers.ensures input) c.in-10.is) (c.env_set_pgfault_upcall.ensures.state input)
+
+pub returns-in-10-clause-small : goal.returns-in-10-clause-small
+returns-in-10-clause-small g c = none_is_few (c.env_set_pgfault_upcall.ensures.state []).2
+
+pub returns-in-12-clause-told : goal.returns-in-12-clause-told
+returns-in-12-clause-told g c =
+    let input = left_of c.args.input.now in
+    call_does _ (is_ipc_try_send _ c.args.current _ (c.registers-registers.ensures input) c.in-12.is) (c.ipc_try_send.ensures.state input)
+
+pub returns-in-12-clause-small : goal.returns-in-12-clause-small
+returns-in-12-clause-small g c = none_is_few (c.ipc_try_send.ensures.state []).2
+
+pub returns-in-13-clause-told : goal.returns-in-13-clause-told
+returns-in-13-clause-told g c =
+    let input = left_of c.args.input.now in
+    call_does _ (is_ipc_recv _ c.args.current _ (c.registers-registers.ensures input) c.in-13.is) (c.ipc_recv.ensures.state input)
+
+pub returns-in-13-clause-small : goal.returns-in-13-clause-small
+returns-in-13-clause-small g c = none_is_few (c.ipc_recv.ensures.state []).2
+
+pub returns-in-9-clause-told : goal.returns-in-9-clause-told
+returns-in-9-clause-told g c =
+    let input = left_of c.args.input.now in
+    subst (λ did. Does c.env_set_trapframe.result did (state_of c.env_set_trapframe.new.self input) (around g.H.Host.console c.args.host.now c.env_set_trapframe.new.host))
+    (sym (is_env_set_trapframe _ c.args.current _ (c.registers-registers.ensures input) c.in-9.is)) (c.env_set_trapframe.ensures.told input)
+
 pub returns-in_default-clause-told : goal.returns-in_default-clause-told
 returns-in_default-clause-told g c =
     let input = left_of c.args.input.now in
     call_does _
-    (is_none _ c.args.current _ (c.registers-registers.ensures input) (λ e. omega arith) (λ e. omega arith) (λ e. omega arith) (λ e. omega arith)
-    (λ e. omega arith) (λ e. omega arith) (λ e. omega arith))
+    (is_none _ c.args.current _ (c.registers-registers.ensures input) (λ e. omega arith) (λ e. omega arith) (λ e. omega arith) (λ e. omega arith) (λ e. omega arith)
+    (λ e. omega arith) (λ e. omega arith) (λ e. omega arith) (λ e. omega arith) (λ e. omega arith)
+    (λ e. omega arith) (λ e. omega arith) (λ e. omega arith) (λ e. omega arith))
     (c.refuse.ensures.state input)
 
 pub returns-in_default-clause-small : goal.returns-in_default-clause-small

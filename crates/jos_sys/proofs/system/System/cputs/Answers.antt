@@ -1,9 +1,10 @@
 use Rattle.std.proofs.Common.{◌∙◌, [], length, Ok, Err, sym, ap, subst, arith}
+use Rattle.jos_base.specs.declared.line.Line.TheVariants.{UserMemCheck}
+use Rattle.jos_base.specs.Environments.{is_live}
+use Rattle.jos_base.specs.SystemCalls.{killed}
 use Rattle.jos_host.specs.Frames.{around}
 use Rattle.jos_host.specs.Gains.{Gains, GainsPart}
-use Rattle.jos_space.specs.Frames.{state}
 use Rattle.jos_sys.specs.System.{state_of, Does}
-use Rattle.jos_sys.proofs.Keeping.{keeps_spaces}
 use Rattle.jos_sys.proofs.Answering.{done_does, cputs_refused, cputs_reads, cputs_answered}
 use Rattle.jos_sys.proofs.system.System.cputs.Goals as goal
 
@@ -16,20 +17,14 @@ returns-then-len-gt-CPUTS_MAX-clause-told g c = λ input.
 pub returns-then-len-gt-CPUTS_MAX-clause-small : goal.returns-then-len-gt-CPUTS_MAX-clause-small
 returns-then-len-gt-CPUTS_MAX-clause-small g c = let none = (c.refuse.ensures.state []).2 in omega arith
 
-pub read_bytes-requires-clause-space : goal.read_bytes-requires-clause-space
-read_bytes-requires-clause-space g c = c.space-space.ensures.in_use c.requires.spaces
-
-pub touch_all-requires : goal.touch_all-requires
-touch_all-requires g c = record { space = c.space-space.ensures.in_use c.requires.spaces }
-
-pub answer-answer-requires-clause-spaces : goal.answer-answer-requires-clause-spaces
-answer-answer-requires-clause-spaces g c = keeps_spaces _ _ _ c.touch_all.ensures.directories c.requires.spaces
+pub answer-answer-requires-clause-live : goal.answer-answer-requires-clause-live
+answer-answer-requires-clause-live g c = ap (λ e. is_live (e.slots c.args.current)) c.in-Ok.ensures.live ∙ c.requires.live
 
 pub returns-in-Ok-console_write-clause-told : goal.returns-in-Ok-console_write-clause-told
 returns-in-Ok-console_write-clause-told g c = λ input.
     let does = cputs_answered (state_of c.args.self.now input) c.args.current c.args.va c.args.len (state_of c.answer-answer.new.self input)
-    (state c.touch_all.new.spaces) c.space-space.result.directory.0 c.in-Ok.bytes.items c.answer-answer.result c.if-len-gt-CPUTS_MAX.false
-    (c.space-space.ensures.directory input) c.in-Ok.ensures c.touch_all.ensures.state (c.answer-answer.ensures.state input) in (
+    _ c.in-Ok.bytes.items c.answer-answer.result c.if-len-gt-CPUTS_MAX.false
+    (c.in-Ok.ensures.ok input) (c.in-Ok.ensures.reached input) (c.answer-answer.ensures.state input) in (
       does.0,
       does.1,
       c.len.ensures.value ∙ ap length does.2,
@@ -39,13 +34,13 @@ returns-in-Ok-console_write-clause-told g c = λ input.
 pub returns-in-Err-console_write-clause-told : goal.returns-in-Err-console_write-clause-told
 returns-in-Err-console_write-clause-told g c = λ input.
     let does = cputs_answered (state_of c.args.self.now input) c.args.current c.args.va c.args.len (state_of c.answer-answer.new.self input)
-    (state c.touch_all.new.spaces) c.space-space.result.directory.0 c.in-Ok.bytes.items c.answer-answer.result c.if-len-gt-CPUTS_MAX.false
-    (c.space-space.ensures.directory input) c.in-Ok.ensures c.touch_all.ensures.state (c.answer-answer.ensures.state input) in
+    _ c.in-Ok.bytes.items c.answer-answer.result c.if-len-gt-CPUTS_MAX.false
+    (c.in-Ok.ensures.ok input) (c.in-Ok.ensures.reached input) (c.answer-answer.ensures.state input) in
     subst (GainsPart (around g.H.Host.console c.args.host.now c.console_write.new.self)) (c.as_slice.ensures.value ∙ does.2) c.in-Err-console_write.ensures.told
 
 pub returns-in-Err-clause-told : goal.returns-in-Err-clause-told
 returns-in-Err-clause-told g c = λ input.
     subst (λ did. Does c.kill.result did (state_of c.kill.new.self input) (around g.H.Host.console c.args.host.now c.kill.new.host))
-    (sym (cputs_reads (state_of c.args.self.now input) c.args.current c.args.va c.args.len (Err c.in-Err.fault) c.space-space.result.directory.0
-    c.if-len-gt-CPUTS_MAX.false (c.space-space.ensures.directory input) c.in-Err.ensures))
+    ((λ i. killed (state_of (c.in-Err.ensures.stays i) input) c.args.current (UserMemCheck c.in-Err.fault.va))
+    ∙ sym (cputs_reads (state_of c.args.self.now input) c.args.current c.args.va c.args.len (Err c.in-Err.fault) c.if-len-gt-CPUTS_MAX.false (c.in-Err.ensures.err input)))
     (c.kill.ensures.told input)

@@ -10,4 +10,4 @@ get-requires c = live_within c.args.self.now.table c.args.slot c.requires
 
 pub returns-clause-in_use : goal.returns-clause-in_use
 returns-clause-in_use c = λ keeps.
-    ap (λ (z : Slot). directories (state c.args.self.now.spaces) z.directory) c.get.ensures ∙ keeps.in_use c.args.slot c.requires
+    ap (λ (z : Slot). directories (state c.args.self.now.spaces) z.directory) c.get.ensures ∙ keeps.spaces.in_use c.args.slot c.requires
