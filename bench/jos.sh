@@ -59,11 +59,25 @@ now() {
 
 steps=$((runs * 1000000))
 
+# copies NAME COUNT: the name so many times, each in the folder
+copies() {
+    k=0
+    while [ "$k" -lt "$2" ]; do
+        echo "$folder/$1"
+        k=$((k + 1))
+    done
+}
+
+# took WORD ..: the seconds of a run
+took() {
+    begin=$(now)
+    "$program" exo --steps "$steps" "$@" </dev/null 2>"$folder/note" >/dev/null
+    echo "$begin $(now)" | awk '{ print $2 - $1 }'
+}
+
 # the seconds that the program in a file takes for its steps
 seconds_of() {
-    begin=$(now)
-    "$program" exo --steps "$steps" "$folder/$1" </dev/null 2>"$folder/note" >/dev/null
-    echo "$begin $(now)" | awk '{ print $2 - $1 }'
+    took "$folder/$1"
 }
 
 # the same of a loop

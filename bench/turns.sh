@@ -15,22 +15,6 @@ image_of forks bb e7 03 00 00 b8 07 00 00 00 cd 30 4b 75 f6 $(code_of sums)
 image sums
 echo 1 >"$folder/turns"
 
-# copies NAME COUNT: the name so many times, each in the folder
-copies() {
-    k=0
-    while [ "$k" -lt "$2" ]; do
-        echo "$folder/$1"
-        k=$((k + 1))
-    done
-}
-
-# took WORD ..: the seconds of a run
-took() {
-    begin=$(now)
-    "$program" exo --steps "$steps" "$@" </dev/null 2>"$folder/note" >/dev/null
-    echo "$begin $(now)" | awk '{ print $2 - $1 }'
-}
-
 # cost TITLE MILLIONS NAME COUNT WORD ..: the nanoseconds a step of so many images
 cost() {
     title=$1 millions=$2 name=$3 count=$4
