@@ -8,7 +8,6 @@ use std::alloc::{AllocError, Global};
 use std::test::Fail;
 
 mod calls;
-mod programs;
 
 // The headers of a file whose one segment is the 32-bit words behind them at 0x00800020, where it starts.
 #[rattlefmt::skip]
