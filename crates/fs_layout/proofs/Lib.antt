@@ -1,0 +1,3 @@
+pub mod FileTrees
+pub mod FileBytes
+mod FileExamples

@@ -1,0 +1,3 @@
+pub mod FileTree
+pub mod FileActs
+pub mod FileLaws

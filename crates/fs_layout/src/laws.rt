@@ -1,0 +1,17 @@
+//! What the tree of files and the acts on it mean. Nothing here is to be run: each clause is a theorem.
+
+ghost use Rattle.fs_layout.specs.FileLaws.{WritesAreReadBack, WritesLengthen, SizesAreSet, NodesAreReplaced, RecordsAreEmptied};
+
+/// What is written to a file is read back at its place, a file is no longer than that asks for, and it has the size that it is
+/// given.
+pub fn files_keep_what_is_written()
+    ensures read_back { WritesAreReadBack }
+    ensures length { WritesLengthen }
+    ensures size { SizesAreSet }
+{}
+
+/// What is put at a way in the tree of files stands there, and nothing does where a record is emptied.
+pub fn trees_keep_what_is_put()
+    ensures replaced { NodesAreReplaced }
+    ensures emptied { RecordsAreEmptied }
+{}

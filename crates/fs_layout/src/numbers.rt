@@ -1,0 +1,55 @@
+//! Numbers of the file system.
+
+/// The bytes of a block. (MIT 6.828, inc/fs.h, as all names here but those that say otherwise)
+pub const BLKSIZE: u32 = 4096;
+
+/// The bits of a block, each of which tells of one block in the bitmap.
+pub const BLKBITSIZE: u32 = BLKSIZE * 8;
+
+/// The bytes of a record, which is a `struct File`. (This system's name)
+pub const RECORDSIZE: u32 = 256;
+
+/// The records in a block of a directory.
+pub const BLKFILES: u32 = BLKSIZE / RECORDSIZE;
+
+/// The bytes of a name in a record, with the NUL behind it.
+pub const MAXNAMELEN: u32 = 128;
+
+/// The bytes of a path, with the NUL behind it.
+pub const MAXPATHLEN: u32 = 1024;
+
+/// How many blocks a record names by itself.
+pub const NDIRECT: u32 = 10;
+
+/// How many blocks its indirect block names.
+pub const NINDIRECT: u32 = BLKSIZE / 4;
+
+/// The greatest size of a file or a directory.
+pub const MAXFILESIZE: u32 = (NDIRECT + NINDIRECT) * BLKSIZE;
+
+/// The kind of a file.
+pub const FTYPE_REG: u32 = 0;
+
+/// The kind of a directory.
+pub const FTYPE_DIR: u32 = 1;
+
+/// Of a mode: a file that is missing is made. (inc/lib.h)
+pub const O_CREAT: u32 = 0x100;
+
+/// Of a mode: a file that is there gets the size 0. (inc/lib.h)
+pub const O_TRUNC: u32 = 0x200;
+
+/// Of a mode, beside `O_CREAT`: it is an error where the file is there. (inc/lib.h)
+pub const O_EXCL: u32 = 0x400;
+
+/// The error's number where too few blocks are free, or a size would be past the greatest. (inc/error.h)
+pub const E_NO_DISK: u32 = 9;
+
+/// The error's number where no file has the name. (inc/error.h)
+pub const E_NOT_FOUND: u32 = 11;
+
+/// The error's number where a path or a name in it is too long. (inc/error.h)
+pub const E_BAD_PATH: u32 = 12;
+
+/// The error's number where the file is there already. (inc/error.h)
+pub const E_FILE_EXISTS: u32 = 13;

@@ -1,0 +1,3 @@
+pub mod Maps
+pub mod Apart
+pub mod GuestMemory

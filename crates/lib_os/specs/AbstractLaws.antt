@@ -1,0 +1,40 @@
+-- What the abstract system means: a fork copies, what is an environment's own is seen by no other, what is shared is one page,
+-- a message comes to the one that waits for it, and a pipe holds no more than it can.
+use Rattle.std.specs.Prelude.{◌≡◌, ◌≢◌, ◌≤◌, ℕ, true, List, length, Some, IfSome, slice_set}
+use Rattle.jos_base.specs.declared.registers.Regs.{Regs}
+use Rattle.jos_base.specs.Words.{page_offset, upd}
+use Rattle.jos_cpu.specs.Memory.{IsLawful}
+use Rattle.lib_os.specs.declared.numbers.TheConstants.{PIPEBUFSIZ}
+use Rattle.lib_os.specs.declared.service.Service.{Service}
+use Rattle.lib_os.specs.AbstractState.{AbstractState, Born, born, own, named, slot_id}
+use Rattle.lib_os.specs.AbstractMemory.{page_at, stored}
+use Rattle.lib_os.specs.GuestStep.{guest_memory}
+use Rattle.lib_os.specs.AbstractFork.{child_of, bear}
+use Rattle.lib_os.specs.AbstractPipes.{write_pipe}
+
+-- The child is born with the memory that its parent has.
+abbrev pub ForkCopies : Type 0
+ForkCopies = (a : AbstractState) (n child : ℕ) (b : Born) (regs : Regs) → child ≢ n →
+    (bear a n b regs child).slots child ≡ born (child_of b regs (slot_id (a.slots child)))
+
+-- A byte that is put in a page of an environment's own changes no other slot and no shared page.
+abbrev pub OwnStoresAreUnseen : Type 0
+OwnStoresAreUnseen = (a : AbstractState) (n : ℕ) (b : Born) (va byte : ℕ) (bytes : List ℕ) (m : ℕ) → m ≢ n →
+    page_at b va ≡ Some (own bytes true) →
+    ((stored a n b va byte).slots m ≡ a.slots m) × ((stored a n b va byte).shared ≡ a.shared)
+
+-- A byte that is put in a shared page changes that one page, for all who have it, and no slot.
+abbrev pub SharedStoresAreSeen : Type 0
+SharedStoresAreSeen = (a : AbstractState) (n : ℕ) (b : Born) (va byte name : ℕ) → page_at b va ≡ Some (named name true) →
+    ((stored a n b va byte).slots ≡ a.slots)
+    × ((stored a n b va byte).shared ≡ upd a.shared name (slice_set (a.shared name) (page_offset va) byte))
+
+-- A pipe that holds no more than it can holds no more after a byte is put.
+abbrev pub PipesAreBounded : Type 0
+PipesAreBounded = (a : AbstractState) (n : ℕ) (b : Born) (regs : Regs) (service : Service) (pipe : ℕ) (bytes : List ℕ) (put : ℕ) →
+    length (a.pipes pipe) ≤ PIPEBUFSIZ →
+    IfSome (write_pipe a n b regs service pipe bytes put) (λ after. length (after.pipes pipe) ≤ PIPEBUFSIZ)
+
+-- the memory of a guest is one over which the processor's steps are what they are said to be
+abbrev pub GuestMemoryIsLawful : Type 0
+GuestMemoryIsLawful = IsLawful guest_memory

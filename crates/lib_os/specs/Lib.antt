@@ -1,0 +1,16 @@
+pub mod Fence
+pub mod Services
+pub mod AbstractState
+pub mod AbstractMemory
+pub mod GuestStep
+pub mod Answers
+pub mod MemoryServices
+pub mod AbstractMessages
+pub mod AbstractFork
+pub mod Descriptors
+pub mod AbstractPipes
+pub mod FileServer
+pub mod FileServices
+pub mod LibraryCall
+pub mod AbstractRun
+pub mod AbstractLaws

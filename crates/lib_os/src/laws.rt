@@ -1,0 +1,26 @@
+//! What the abstract system means. Nothing here is to be run: each clause is a theorem.
+
+ghost use Rattle.lib_os.specs.AbstractLaws.{ForkCopies, OwnStoresAreUnseen, SharedStoresAreSeen, PipesAreBounded};
+ghost use Rattle.lib_os.specs.AbstractLaws.{GuestMemoryIsLawful};
+
+/// A child of fork is born with the memory, the descriptors and the registers of its parent, but for EAX.
+pub fn fork_copies()
+    ensures { ForkCopies }
+{}
+
+/// What an environment writes to a page of its own is seen by no other, and what it writes to a shared page by all who have
+/// that.
+pub fn pages_are_own_or_shared()
+    ensures own { OwnStoresAreUnseen }
+    ensures shared { SharedStoresAreSeen }
+{}
+
+/// A pipe never holds more bytes than it can.
+pub fn pipes_are_bounded()
+    ensures { PipesAreBounded }
+{}
+
+/// Reaching a byte of a guest's memory changes nothing, and putting one changes no right and no other byte.
+pub fn guest_memory_is_lawful()
+    ensures { GuestMemoryIsLawful }
+{}
