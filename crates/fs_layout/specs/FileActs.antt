@@ -1,8 +1,9 @@
--- What is done to files. An act gives a file system and an answer. Where the act is refused, the file system stays as it
--- was, and the answer is an error's number, negated as a word. Of several refusals the one that stands first here is told.
--- Which files are open, for what and at which offset is no part of this: an act is told the place in the file.
--- (MIT 6.828, lab 5: inc/fs.h, inc/lib.h, inc/error.h, fs/fs.c and fs/serv.c. That files have no holes, that an act which
--- doesn't fit changes nothing, and that an open file is not removed is this system's own.)
+-- What is done to files. An act gives a file system and an answer. Where the act is refused, the file system stays as
+-- it was, and the answer is an error's number, negated as a word. Of several refusals the one that stands first here
+-- is told. Which files are open, for what and at which offset is no part of this: an act is told the place in the
+-- file.
+-- (MIT 6.828, lab 5: inc/fs.h, inc/lib.h, inc/error.h, fs/fs.c and fs/serv.c. That files have no holes, that an act
+-- which doesn't fit changes nothing, and that an open file is not removed is this system's own.)
 use Rattle.std.specs.Prelude.{ℕ, ◌+◌, ◌-◌, ◌==◌, ◌&&◌, ◌||◌, nat_lt, nat_le, not, min, Bool, false}
 use Rattle.std.specs.Prelude.{List, [], ◌∷◌, ◌++◌, length, take, drop, replicate, filter, slice_set, slice_index_or, bytes_eq, position}
 use Rattle.std.specs.Prelude.{Option, Some, None, option_map, is_none, bit_and, if◌then◌else◌}
@@ -47,8 +48,8 @@ is_slash byte = byte == 47
 abbrev pub is_empty : List ℕ → Bool
 is_empty bytes = length bytes == 0
 
--- The names of a path stand between its slashes. Several slashes count as one, and those at either end don't count. A path
--- without a name leads to the root.
+-- The names of a path stand between its slashes. Several slashes count as one, and those at either end don't count. A
+-- path without a name leads to the root.
 unfoldable pub names_in : List ℕ → List (List ℕ)
 names_in path = filter (λ name. not (is_empty name)) (slice_split is_slash path)
 
@@ -240,8 +241,8 @@ remove_looked is_open s (there way (a_directory records indirect)) = refused s E
 remove_looked is_open s (there way (a_file bytes indirect)) =
     if is_open way then refused s E_INVAL else done (without_node s way) 0
 
--- remove(path): the file's record is empty then, and its directory is as long as before. `is_open` tells whether the file
--- at a way is open.
+-- remove(path): the file's record is empty then, and its directory is as long as before. `is_open` tells whether the
+-- file at a way is open.
 unfoldable pub remove_act : (List ℕ → Bool) → FileSystem → List ℕ → Acted
 remove_act is_open s path = remove_looked is_open s (look_up s path)
 

@@ -2,8 +2,8 @@
 
 ghost use Rattle.fs_layout.specs.FileLaws.{WritesAreReadBack, WritesLengthen, SizesAreSet, NodesAreReplaced, RecordsAreEmptied};
 
-/// What is written to a file is read back at its place, a file is no longer than that asks for, and it has the size that it is
-/// given.
+/// What is written to a file is read back at its place, a file is no longer than that asks for, and it has the size
+/// that it is given.
 pub fn files_keep_what_is_written()
     ensures read_back { WritesAreReadBack }
     ensures length { WritesLengthen }

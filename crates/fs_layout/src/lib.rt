@@ -1,8 +1,9 @@
 //! The file system as a tree, and what is done to it.
 //!
-//! `specs/FileTree.antt` says what a directory and a file are, how a way leads to them and how many blocks of the disk they
-//! take; `specs/FileActs.antt` what each act of the file server does to them; `specs/FileLaws.antt` what these mean, which is
-//! proved. Where the blocks lie on a disk is not told yet. Nothing here takes memory or is refused.
+//! `specs/FileTree.antt` says what a directory and a file are, how a way leads to them and how many blocks of the
+//! disk they take; `specs/FileActs.antt` what each act of the file server does to them; `specs/FileLaws.antt` what
+//! these mean, which is proved. Where the blocks lie on a disk is not told yet. Nothing here takes memory or is
+//! refused.
 #![tactic(auto)]
 
 mod laws;

@@ -19,8 +19,9 @@ begun_in a n b regs (child ∷ rest) =
 abbrev pub fork : AbstractState → ℕ → Born → Regs → AbstractState
 fork a n b regs = begun_in a n b regs a.free_slots
 
--- The child as it is born: its pages are those of the parent, of which the parent's own are copied and the shared ones keep
--- their names; its descriptors name the same objects; its registers are the parent's, but for EAX, which is 0.
+-- The child as it is born: its pages are those of the parent, of which the parent's own are copied and the shared
+-- ones keep their names; its descriptors name the same objects; its registers are the parent's, but for EAX, which is
+-- 0.
 abbrev pub child_of : Born → Regs → ℕ → Born
 child_of b regs id = record b {
   id = id;

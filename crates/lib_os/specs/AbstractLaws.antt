@@ -1,5 +1,5 @@
--- What the abstract system means: a fork copies, what is an environment's own is seen by no other, what is shared is one page,
--- a message comes to the one that waits for it, and a pipe holds no more than it can.
+-- What the abstract system means: a fork copies, what is an environment's own is seen by no other, what is shared is
+-- one page, a message comes to the one that waits for it, and a pipe holds no more than it can.
 use Rattle.std.specs.Prelude.{◌≡◌, ◌≢◌, ◌≤◌, ℕ, true, List, length, Some, IfSome, slice_set}
 use Rattle.jos_base.specs.declared.registers.Regs.{Regs}
 use Rattle.jos_base.specs.Words.{page_offset, upd}

@@ -1,6 +1,6 @@
 -- Reading from a pipe and writing to it: a byte a step.
--- (MIT 6.828, lab 5: lib/pipe.c, as what comes of it; that a write to a pipe without a reader answers how much it has put is
--- this system's own.)
+-- (MIT 6.828, lab 5: lib/pipe.c, as what comes of it; that a write to a pipe without a reader answers how much it has
+-- put is this system's own.)
 use Rattle.std.specs.Prelude.{ℕ, ◌+◌, ◌==◌, nat_lt, Bool, false, List, [], ◌∷◌, ◌++◌, length, Option, Some, None}
 use Rattle.std.specs.Prelude.{if◌then◌else◌}
 use Rattle.jos_base.specs.declared.registers.Regs.{Regs}
@@ -62,8 +62,8 @@ read_pipe a n b regs service va pipe wanted taken = read_from a n b regs service
 
 -- ---- writing
 
--- A byte is put where there is room. Where there is none, the write is over if no one can read any more, and else there is
--- no step.
+-- A byte is put where there is room. Where there is none, the write is over if no one can read any more, and else
+-- there is no step.
 abbrev pub write_pipe : AbstractState → ℕ → Born → Regs → Service → ℕ → List ℕ → ℕ → Option AbstractState
 write_pipe a n b regs service pipe [] put = Some (answered a n b regs put)
 write_pipe a n b regs service pipe (byte ∷ rest) put =

@@ -1,6 +1,6 @@
--- The abstract system: what the programs of `run` see. A fork copies memory at once, a shared page is one page wherever it
--- stands, a file is a list of bytes and a pipe a list of at most 32. There are no frames here, no page tables, no caches and
--- no steps that nobody sees.
+-- The abstract system: what the programs of `run` see. A fork copies memory at once, a shared page is one page
+-- wherever it stands, a file is a list of bytes and a pipe a list of at most 32. There are no frames here, no page
+-- tables, no caches and no steps that nobody sees.
 -- (MIT 6.828, labs 4 and 5; that the library's whole behaviour is that of this system is this system's own.)
 use Rattle.std.specs.Prelude.{ℕ, not, Bool, true, false, List, ◌++◌, Option}
 use Rattle.jos_base.specs.declared.registers.Regs.{Regs}
@@ -47,15 +47,15 @@ pub data Program : Type 0 where
 
 -- ---- where a program stands
 
--- a message that came to one who waits: its sender, the word, and 0 with no page, 1 with one that may be read, 2 with one
--- that may be written
+-- a message that came to one who waits: its sender, the word, and 0 with no page, 1 with one that may be read, 2 with
+-- one that may be written
 pub record Message : Type 0 where
   pub sender : ℕ
   pub value : ℕ
   pub page : ℕ
 
--- What the file server is asked for: an act on the files, with the object whose offset goes on by what is read or written;
--- or that an object's offset be another.
+-- What the file server is asked for: an act on the files, with the object whose offset goes on by what is read or
+-- written; or that an object's offset be another.
 pub data Request : Type 0 where
   act : Act → Option ℕ → Request
   seek : ℕ → ℕ → Request

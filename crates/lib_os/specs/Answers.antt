@@ -55,8 +55,8 @@ all_stored a n va (byte ∷ rest) =
 
 -- ---- taking what was given
 
--- One step takes the next bytes from an address on, of which so many are still wanted; `stage_of` says at which stage the
--- service is with them.
+-- One step takes the next bytes from an address on, of which so many are still wanted; `stage_of` says at which stage
+-- the service is with them.
 abbrev pub gathered : AbstractState → ℕ → Born → Regs → Service → ℕ → ℕ → (List ℕ → Stage) → AbstractState
 gathered a n b regs service va wanted stage_of =
     if page_allows (page_at b va) Read

@@ -1,6 +1,6 @@
--- What a program of `run` may touch, and where its stack pointer may not go.
--- (The ranges are MIT 6.828's of inc/memlayout.h: symbol tables, programs with their data, and pages that a program maps, up
--- to the top of its stack. Between them lie the pages that the library keeps for itself.)
+-- What a program of `run` may touch, and where its stack pointer may not go. (The ranges are MIT 6.828's of
+-- inc/memlayout.h: symbol tables, programs with their data, and pages that a program maps, up to the top of its
+-- stack. Between them lie the pages that the library keeps for itself.)
 use Rattle.std.specs.Prelude.{ℕ, ◌+◌, ◌%◌, ◌==◌, ◌&&◌, ◌||◌, nat_lt, nat_le, Bool}
 use Rattle.jos_base.specs.declared.numbers.TheConstants.{PGSIZE, USTABDATA, UTEMP, UTEXT, FDTABLE, USTACKTOP, UTOP}
 use Rattle.lib_os.specs.declared.numbers.TheConstants.{FDTABLE_END, RESIDENT}

@@ -1,5 +1,6 @@
--- The services on what a descriptor names, and on paths: open_file, read, write, seek, stat, set_size, remove and sync. Those on
--- files are requests to the file server; the console and pipes are read and written by the program's own steps.
+-- The services on what a descriptor names, and on paths: open_file, read, write, seek, stat, set_size, remove and
+-- sync. Those on files are requests to the file server; the console and pipes are read and written by the program's
+-- own steps.
 -- (MIT 6.828, lab 5: lib/fd.c, lib/file.c and lib/console.c.)
 use Rattle.std.specs.Prelude.{ℕ, ◌+◌, ◌-◌, ◌%◌, ◌^◌, ◌==◌, ◌&&◌, nat_lt, nat_le, not, min, is_none, bit_and, codes}
 use Rattle.std.specs.Prelude.{Bool, true, false, List, [], ◌∷◌, ◌++◌, length, take, replicate, Option, Some, None, if◌then◌else◌}
@@ -174,8 +175,8 @@ is_nul byte = byte == 0
 abbrev pub before_nul : List ℕ → List ℕ
 before_nul bytes = take (position_or_len is_nul bytes) bytes
 
--- A path is taken up to its NUL: of the bytes that are taken with it in one step, those behind it count for nothing. Then
--- `next` is the step.
+-- A path is taken up to its NUL: of the bytes that are taken with it in one step, those behind it count for nothing.
+-- Then `next` is the step.
 abbrev pub path_step : AbstractState → ℕ → Born → Regs → Service → ℕ → List ℕ → (List ℕ → Option AbstractState) → Option AbstractState
 path_step a n b regs service path taken next =
     if nat_lt (position_or_len is_nul taken) (length taken) then next (before_nul taken)

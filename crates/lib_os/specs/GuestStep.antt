@@ -68,8 +68,8 @@ ends_with a n b why = ended_with a n b (line_text b.id why)
 abbrev pub fence_line : ℕ → Line
 fence_line ip = line.Trap T_GPFLT 0 ip
 
--- An instruction that is done, by the one at `ip`: the program goes on, but where its stack pointer has come to lie among
--- the library's own stacks.
+-- An instruction that is done, by the one at `ip`: the program goes on, but where its stack pointer has come to lie
+-- among the library's own stacks.
 abbrev pub goes_on : AbstractState → ℕ → Born → ℕ → Regs → AbstractState
 goes_on a n b ip regs =
     if is_resident regs.esp then ends_with a n b (fence_line ip)

@@ -1,5 +1,5 @@
--- The steps of a service, from the one behind INT 0x40 to the one that answers. A program is told an error by its number,
--- negated; of several refusals the one that stands first in the service's definition is told.
+-- The steps of a service, from the one behind INT 0x40 to the one that answers. A program is told an error by its
+-- number, negated; of several refusals the one that stands first in the service's definition is told.
 use Rattle.std.specs.Prelude.{ℕ, Option, Some, None}
 use Rattle.jos_base.specs.declared.registers.Regs.{Regs}
 use Rattle.jos_base.specs.declared.numbers.TheConstants.{E_INVAL}
@@ -32,8 +32,8 @@ receive_step a n b regs va from entered = Some (receive a n b regs va from)
 receive_step a n b regs va from (received message) = Some (received_answer a n b regs message)
 receive_step a n b regs va from _ = None
 
--- The next step of a service at a stage; None where there is none yet, since it waits for another environment. Spawn's steps
--- are told elsewhere, with what an image is.
+-- The next step of a service at a stage; None where there is none yet, since it waits for another environment.
+-- Spawn's steps are told elsewhere, with what an image is.
 unfoldable pub library_step : AbstractState → ℕ → Born → Regs → Service → Stage → Option AbstractState
 library_step a n b regs service.Exit stage = Some (exit a n b)
 library_step a n b regs (service.Cputs va len) stage = at_once stage (cputs a n b regs va len)

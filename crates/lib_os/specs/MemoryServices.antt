@@ -1,4 +1,5 @@
--- The services on the environment itself and its pages: cputs, getid, yield, wait, page_new and page_drop. Each is one step.
+-- The services on the environment itself and its pages: cputs, getid, yield, wait, page_new and page_drop. Each is
+-- one step.
 use Rattle.std.specs.Prelude.{ℕ, ◌+◌, ◌%◌, ◌==◌, ◌&&◌, ◌||◌, nat_lt, not, Bool, List, Option, Some, None, Result, Ok, Err, bit_and}
 use Rattle.std.specs.Prelude.{if◌then◌else◌}
 use Rattle.jos_base.specs.declared.registers.Regs.{Regs}

@@ -8,8 +8,8 @@ pub fn fork_copies()
     ensures { ForkCopies }
 {}
 
-/// What an environment writes to a page of its own is seen by no other, and what it writes to a shared page by all who have
-/// that.
+/// What an environment writes to a page of its own is seen by no other, and what it writes to a shared page by all
+/// who have that.
 pub fn pages_are_own_or_shared()
     ensures own { OwnStoresAreUnseen }
     ensures shared { SharedStoresAreSeen }

@@ -1,13 +1,15 @@
 //! The library's abstract system: what the programs of `run` see, in which fork copies memory at once, shared pages are
 //! shared and files are lists of bytes.
 //!
-//! `specs/` says what it is: its state (`AbstractState`) with memory (`AbstractMemory`), what a program may touch (`Fence`), a step of a program (`GuestStep`), which service is asked for (`Services`), what the steps of each
-//! service do (`LibraryCall`, with `MemoryServices`, `AbstractFork`, `AbstractMessages`, `Descriptors`, `AbstractPipes` and
-//! `FileServices`), what the file server does (`FileServer`), and all of these as one step of a slot, with when a
-//! slot may wait (`AbstractRun`). What these mean is said by a few laws, which are proved (`AbstractLaws`).
+//! `specs/` says what it is: its state (`AbstractState`) with memory (`AbstractMemory`), what a program may touch
+//! (`Fence`), a step of a program (`GuestStep`), which service is asked for (`Services`), what the steps of each
+//! service do (`LibraryCall`, with `MemoryServices`, `AbstractFork`, `AbstractMessages`, `Descriptors`,
+//! `AbstractPipes` and `FileServices`), what the file server does (`FileServer`), and all of these as one step of a
+//! slot, with when a slot may wait (`AbstractRun`). What these mean is said by a few laws, which are proved
+//! (`AbstractLaws`).
 //!
-//! The code here finds the service that a program asks for. It refuses nothing and takes no memory. Nothing runs programs by
-//! this system yet.
+//! The code here finds the service that a program asks for. It refuses nothing and takes no memory. Nothing runs
+//! programs by this system yet.
 #![tactic(auto)]
 
 mod laws;
