@@ -1,3 +1,4 @@
 pub mod Maps
 pub mod Apart
 pub mod GuestMemory
+mod AbstractExamples
