@@ -1,4 +1,5 @@
 pub mod Maps
 pub mod Apart
 pub mod GuestMemory
+pub mod Others
 mod AbstractExamples

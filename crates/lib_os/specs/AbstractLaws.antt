@@ -1,16 +1,18 @@
 -- What the abstract system means: a fork copies, what is an environment's own is seen by no other, what is shared is
 -- one page, a message comes to the one that waits for it, and a pipe holds no more than it can.
-use Rattle.std.specs.Prelude.{◌≡◌, ◌≢◌, ◌≤◌, ℕ, true, List, length, Some, IfSome, slice_set}
+use Rattle.std.specs.Prelude.{◌≡◌, ◌≢◌, ◌≤◌, ℕ, Bool, true, false, List, length, Some, IfSome, slice_set}
 use Rattle.jos_base.specs.declared.registers.Regs.{Regs}
 use Rattle.jos_base.specs.Words.{page_offset, upd}
 use Rattle.jos_cpu.specs.Memory.{IsLawful}
 use Rattle.lib_os.specs.declared.numbers.TheConstants.{PIPEBUFSIZ}
 use Rattle.lib_os.specs.declared.service.Service.{Service}
-use Rattle.lib_os.specs.AbstractState.{AbstractState, Born, born, own, named, slot_id}
+use Rattle.lib_os.specs.declared.service.Service.TheVariants as service
+use Rattle.lib_os.specs.AbstractState.{AbstractState, Born, born, own, named, slot_id, Phase, in_service}
 use Rattle.lib_os.specs.AbstractMemory.{page_at, stored}
 use Rattle.lib_os.specs.GuestStep.{guest_memory}
 use Rattle.lib_os.specs.AbstractFork.{child_of, bear}
 use Rattle.lib_os.specs.AbstractPipes.{write_pipe}
+use Rattle.lib_os.specs.AbstractRun.{abs_step}
 
 -- The child is born with the memory that its parent has.
 abbrev pub ForkCopies : Type 0
@@ -38,3 +40,21 @@ PipesAreBounded = (a : AbstractState) (n : ℕ) (b : Born) (regs : Regs) (servic
 -- the memory of a guest is one over which the processor's steps are what they are said to be
 abbrev pub GuestMemoryIsLawful : Type 0
 GuestMemoryIsLawful = IsLawful guest_memory
+
+-- The services whose steps change another slot: a message wakes its receiver, and a fork makes a child. (Spawn's steps
+-- are not told here.)
+abbrev pub is_for_others : Service → Bool
+is_for_others (service.Send id value va) = true
+is_for_others service.Fork = true
+is_for_others _ = false
+
+-- an environment is within such a service
+abbrev pub is_about_others : Phase → Bool
+is_about_others (in_service service stage) = is_for_others service
+is_about_others _ = false
+
+-- A step of an environment leaves every other slot as it was, where it sends no message and forks no child.
+abbrev pub StepsLeaveOthers : Type 0
+StepsLeaveOthers = (a : AbstractState) (n m : ℕ) (b : Born) →
+    m ≢ n → a.slots n ≡ born b → is_about_others b.phase ≡ false →
+    IfSome (abs_step a n) (λ after. after.slots m ≡ a.slots m)

@@ -1,7 +1,7 @@
 //! What the abstract system means. Nothing here is to be run: each clause is a theorem.
 
 ghost use Rattle.lib_os.specs.AbstractLaws.{ForkCopies, OwnStoresAreUnseen, SharedStoresAreSeen, PipesAreBounded};
-ghost use Rattle.lib_os.specs.AbstractLaws.{GuestMemoryIsLawful};
+ghost use Rattle.lib_os.specs.AbstractLaws.{GuestMemoryIsLawful, StepsLeaveOthers};
 
 /// A child of fork is born with the memory, the descriptors and the registers of its parent, but for EAX.
 pub fn fork_copies()
@@ -23,4 +23,9 @@ pub fn pipes_are_bounded()
 /// Reaching a byte of a guest's memory changes nothing, and putting one changes no right and no other byte.
 pub fn guest_memory_is_lawful()
     ensures { GuestMemoryIsLawful }
+{}
+
+/// A step of an environment leaves every other slot as it was, where it sends no message and forks no child.
+pub fn steps_leave_others()
+    ensures { StepsLeaveOthers }
 {}

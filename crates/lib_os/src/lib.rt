@@ -18,6 +18,9 @@ mod service;
 #[cfg(test)]
 mod tests;
 
-pub use laws::{fork_copies, guest_memory_is_lawful, pages_are_own_or_shared, pipes_are_bounded};
+pub use laws::{
+    fork_copies, guest_memory_is_lawful, pages_are_own_or_shared, pipes_are_bounded,
+    steps_leave_others,
+};
 pub use numbers::{DESCRIPTORS, FDTABLE_END, RESIDENT};
 pub use service::{Service, service_of};
