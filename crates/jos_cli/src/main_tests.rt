@@ -1,11 +1,10 @@
 use crate::answer_arguments;
 use jos_host::MemHost;
-use std::alloc::{AllocError, Global};
+use std::alloc::Global;
 use std::env;
 use std::env::FillError;
-use std::process::ExitCode;
+use std::process::{Abort, ExitCode};
 use std::rt::Env;
-use std::test::Fail;
 
 const USAGE: &str = "usage: jos COMMAND [OPTIONS] WORDS\n";
 
@@ -37,7 +36,7 @@ impl Env for Words<'_> {
 }
 
 // The words of a command line, the exit status and the notes.
-const CASES: [(&[u8], u8, &str); 9] = [
+static CASES: [(&[u8], u8, &str); 9] = [
     (b"", 1, USAGE),
     (b"jos", 1, USAGE),
     (b"jos\nexo\nh", 2, "h: absent\n"),
@@ -49,19 +48,29 @@ const CASES: [(&[u8], u8, &str); 9] = [
     (b"jos\ndemo\nxhello\nf\nf", 1, USAGE),
 ];
 
+/// Answers this command line.
+fn answer(alloc: Global, words: &[u8], host: &mut MemHost) -> ExitCode {
+    let read = env::args(&(Words(words), alloc));
+    answer_arguments(alloc, read, host)
+}
+
+/// Ends the test where this is not the code of this exit status.
+fn same_code(rt: &impl Abort, code: ExitCode, status: u8, words: &[u8]) {
+    assert!(rt; code == ExitCode::from(status), "{words:?}");
+}
+
+/// Ends the test where these are not the notes.
+fn same_notes(rt: &impl Abort, host: &MemHost, notes: &str, words: &[u8]) {
+    assert_eq!(rt; host.notes(), notes.as_bytes(), "{words:?}");
+}
+
 #[test]
-fn answers_the_words_of_the_command_line(rt: HostRuntime) -> Result<(), Fail> {
-    for (words, status, note) in CASES {
-        let mut host = MemHost::new(
-            rt.alloc(),
-            Vec::new(rt.alloc()),
-            Vec::new(rt.alloc()),
-            Vec::new(rt.alloc()),
-        );
-        let read = env::args(&(Words(words), rt.alloc()));
-        let code = answer_arguments(rt.alloc(), read, &mut host);
-        assert!(rt; code == ExitCode::from(status), "{words:?}");
-        assert_eq!(rt; host.notes(), note.as_bytes(), "{words:?}");
+fn answers_the_words_of_the_command_line(rt: HostRuntime) {
+    let alloc = rt.alloc();
+    for (words, status, notes) in &CASES {
+        let mut host = MemHost::new(alloc, Vec::new(alloc), Vec::new(alloc), Vec::new(alloc));
+        let code = answer(alloc, words, &mut host);
+        same_code(&rt, code, *status, words);
+        same_notes(&rt, &host, notes, words);
     }
-    Ok(())
 }

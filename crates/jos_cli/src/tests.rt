@@ -5,6 +5,7 @@ use jos_elf::ElfFault;
 use jos_host::{MemHost, NamedBytes};
 use jos_sched::ScheduleFault;
 use std::alloc::{AllocError, Global};
+use std::process::Abort;
 use std::test::Fail;
 
 mod calls;
@@ -63,6 +64,54 @@ fn host_of(
     Ok(MemHost::new(alloc, files, input, Vec::from_slice(alloc, fails)?))
 }
 
+// A function's proof takes the longer the more the function does, and far more than twice as long where it does twice as
+// much. So the tests are made of small functions, which have no clauses, and their large tables are statics, which are
+// lent and not copied.
+
+/// What a command ends with: its exit status, and what stands on the console and in the notes then.
+#[derive(Clone, Copy)]
+struct Ending<'a> {
+    status: u8,
+    console: &'a [u8],
+    notes: &'a str,
+}
+
+/// The ending of this status, console and notes.
+fn ending_of<'a>(status: u8, console: &'a [u8], notes: &'a str) -> Ending<'a> {
+    Ending {
+        status,
+        console,
+        notes,
+    }
+}
+
+/// Does what the words ask, as `top` does.
+fn ask(alloc: Global, words: &[&str], host: &mut MemHost) -> Outcome {
+    top(alloc, words, host)
+}
+
+/// Ends the test where this is not so.
+fn holds(rt: &impl Abort, is_so: bool, case: &str) {
+    assert!(rt; is_so, "{case}");
+}
+
+/// Ends the test where this exit status is not the one that is wanted.
+fn same_status(rt: &impl Abort, got: u8, wanted: u8, case: &str) {
+    assert_eq!(rt; got, wanted, "{case}");
+}
+
+/// Ends the test where these bytes are not those that are wanted.
+fn same_bytes(rt: &impl Abort, got: &[u8], wanted: &[u8], case: &str) {
+    assert_eq!(rt; got, wanted, "{case}");
+}
+
+/// Ends the test where the command does not end with what is wanted.
+fn same_ending(rt: &impl Abort, outcome: &Outcome, host: &MemHost, wanted: Ending, case: &str) {
+    same_status(rt, outcome.status(), wanted.status, case);
+    same_bytes(rt, host.console(), wanted.console, case);
+    same_bytes(rt, host.notes(), wanted.notes.as_bytes(), case);
+}
+
 const HI: [u8; 32] = [
     0xb8, 0, 0, 0, 0, 0xba, 0x3d, 0, 0x80, 0, 0xb9, 3, 0, 0, 0, 0xcd, 0x30, 0xb8, 3, 0, 0, 0, 0xba,
     0, 0, 0, 0, 0xcd, 0x30, 0x68, 0x69, 0x0a,
@@ -87,7 +136,7 @@ const ECHO: [u8; 44] = [
 
 // What a program does: its code, what it prints, its note and the exit status.
 #[rattlefmt::skip]
-const RUNS: [(&str, &[u8], &[u8], &str, u8); 25] = [
+static RUNS: [(&str, &[u8], &[u8], &str, u8); 25] = [
     ("ends itself", &[0xb8, 0x03, 0x00, 0x00, 0x00, 0xba, 0x00, 0x00, 0x00, 0x00, 0xcd, 0x30],
         b"", "done steps 3 turns 1 refused 0 upcalls 0\n", 0),
     ("ends itself by its id", &[0xb8, 0x03, 0x00, 0x00, 0x00, 0xba, 0x00, 0x10, 0x00, 0x00, 0xcd, 0x30],
@@ -140,67 +189,105 @@ const RUNS: [(&str, &[u8], &[u8], &str, u8); 25] = [
         b"hi\n", "done steps 8 turns 1 refused 0 upcalls 0\n", 0),
 ];
 
+/// Runs this code, for at most 1000 steps.
+fn check_run(
+    rt: &impl Abort,
+    alloc: Global,
+    name: &str,
+    code: &[u8],
+    wanted: Ending,
+) -> Result<(), AllocError> {
+    let file = image(alloc, code)?;
+    let mut host = host_of(alloc, &[("h", &file)], b"", &[])?;
+    let outcome = ask(alloc, &["exo", "h", "--steps", "1000"], &mut host);
+    same_ending(rt, &outcome, &host, wanted, name);
+    Ok(())
+}
+
 #[test]
 fn runs_programs(rt: HostRuntime) -> Result<(), Fail> {
-    for (name, code, console, note, status) in RUNS {
-        let file = image(rt.alloc(), code)?;
-        let mut host = host_of(rt.alloc(), &[("h", &file)], b"", &[])?;
-        let outcome = top(rt.alloc(), &["exo", "h", "--steps", "1000"], &mut host);
-        assert_eq!(rt; outcome.status(), status, "{name}");
-        assert_eq!(rt; host.console(), console, "{name}");
-        assert_eq!(rt; host.notes(), note.as_bytes(), "{name}");
+    for (name, code, console, notes, status) in &RUNS {
+        check_run(
+            &rt,
+            rt.alloc(),
+            name,
+            code,
+            ending_of(*status, console, notes),
+        )?;
     }
+    Ok(())
+}
+
+/// The image that prints this letter twice.
+fn letter_image(alloc: Global, letter: u8) -> Result<Vec<u8>, AllocError> {
+    let mut code = Vec::from_slice(alloc, &LETTER)?;
+    code.push(letter)?;
+    image(alloc, &code)
+}
+
+/// Runs these two images, by this schedule.
+fn check_turns<'a>(
+    rt: &impl Abort,
+    alloc: Global,
+    first: &'a [u8],
+    second: &'a [u8],
+    schedule: &'a str,
+    wanted: Ending,
+) -> Result<(), AllocError> {
+    let mut host = host_of(
+        alloc,
+        &[("a", first), ("b", second), ("s", schedule.as_bytes())],
+        b"",
+        &[],
+    )?;
+    let outcome = ask(alloc, &["exo", "--schedule", "s", "a", "b"], &mut host);
+    same_ending(rt, &outcome, &host, wanted, wanted.notes);
     Ok(())
 }
 
 #[test]
 fn runs_images_in_turns(rt: HostRuntime) -> Result<(), Fail> {
-    let mut a = Vec::from_slice(rt.alloc(), &LETTER)?;
-    a.push(b'A')?;
-    let mut b = Vec::from_slice(rt.alloc(), &LETTER)?;
-    b.push(b'B')?;
-    let divides = [0x31, 0xc9, 0xf7, 0xf1];
-    let least_by_minus_one = [
-        0xb8, 0, 0, 0, 0x80, 0x99, 0xb9, 0xff, 0xff, 0xff, 0xff, 0xf7, 0xf9,
-    ];
-    let lines = "[00001000] trap 0 err 0 ip 00800022\n[00001001] trap 0 err 0 ip 0080002b\n";
-    for (first, second, schedule, console, note) in [
-        (
-            a.as_slice(),
-            b.as_slice(),
-            "1",
-            "ABAB",
-            "done steps 16 turns 16 refused 0 upcalls 0\n",
-        ),
-        (
-            &a,
-            &b,
-            "",
-            "AABB",
-            "done steps 16 turns 2 refused 0 upcalls 0\n",
-        ),
-        (
-            &divides,
-            &least_by_minus_one,
-            "",
-            lines,
-            "done steps 6 turns 2 refused 0 upcalls 0\n",
-        ),
+    let a = letter_image(rt.alloc(), b'A')?;
+    let b = letter_image(rt.alloc(), b'B')?;
+    for (schedule, console, notes) in [
+        ("1", b"ABAB", "done steps 16 turns 16 refused 0 upcalls 0\n"),
+        ("", b"AABB", "done steps 16 turns 2 refused 0 upcalls 0\n"),
     ] {
-        let first = image(rt.alloc(), first)?;
-        let second = image(rt.alloc(), second)?;
-        let files = [
-            ("a", first.as_slice()),
-            ("b", &second),
-            ("s", schedule.as_bytes()),
-        ];
-        let mut host = host_of(rt.alloc(), &files, b"", &[])?;
-        let outcome = top(rt.alloc(), &["exo", "--schedule", "s", "a", "b"], &mut host);
-        assert_eq!(rt; outcome.status(), 0, "{note}");
-        assert_eq!(rt; host.console(), console.as_bytes(), "{note}");
-        assert_eq!(rt; host.notes(), note.as_bytes());
+        let wanted = ending_of(0, console, notes);
+        check_turns(&rt, rt.alloc(), &a, &b, schedule, wanted)?;
     }
+    let divides = image(rt.alloc(), &[0x31, 0xc9, 0xf7, 0xf1])?;
+    let least_by_minus_one = image(
+        rt.alloc(),
+        &[
+            0xb8, 0, 0, 0, 0x80, 0x99, 0xb9, 0xff, 0xff, 0xff, 0xff, 0xf7, 0xf9,
+        ],
+    )?;
+    let wanted = ending_of(
+        0,
+        b"[00001000] trap 0 err 0 ip 00800022\n[00001001] trap 0 err 0 ip 0080002b\n",
+        "done steps 6 turns 2 refused 0 upcalls 0\n",
+    );
+    check_turns(&rt, rt.alloc(), &divides, &least_by_minus_one, "", wanted)?;
     Ok(())
+}
+
+/// The turns of a run.
+fn turns_of(outcome: &Outcome) -> &[Turn] {
+    match outcome {
+        Outcome::Ran(report, _) => &report.turns,
+        _ => &[],
+    }
+}
+
+/// Ends the test where these are not four turns of slot 0, of three visible steps and then of one.
+fn check_budget_turns(rt: &impl Abort, turns: &[Turn]) {
+    let turn = |visible| Turn {
+        slot: 0,
+        visible,
+        hidden: 0,
+    };
+    assert_eq!(rt; turns, [turn(3), turn(3), turn(3), turn(1)].as_slice());
 }
 
 #[test]
@@ -208,24 +295,56 @@ fn ends_at_the_budget(rt: HostRuntime) -> Result<(), Fail> {
     let file = image(rt.alloc(), &JUMP)?;
     let mut host = host_of(rt.alloc(), &[("h", &file), ("s", b"3")], b"", &[])?;
     let words = ["exo", "--steps", "10", "h", "--schedule=s"];
-    let outcome = top(rt.alloc(), &words, &mut host);
-    assert_eq!(rt; outcome.status(), 10);
-    let turn = |visible| Turn {
-        slot: 0,
-        visible,
-        hidden: 0,
-    };
-    match &outcome {
-        Outcome::Ran(report, _) => assert_eq!(rt;
-            report.turns.as_slice(),
-            [turn(3), turn(3), turn(3), turn(1)].as_slice()
-        ),
-        other => assert!(rt; false, "{}", other.status()),
-    }
-    assert_eq!(rt;
-        host.notes(),
-        b"budget steps 10 turns 4 refused 0 upcalls 0\n".as_slice()
-    );
+    let outcome = ask(rt.alloc(), &words, &mut host);
+    same_status(&rt, outcome.status(), 10, "budget");
+    check_budget_turns(&rt, turns_of(&outcome));
+    let notes = b"budget steps 10 turns 4 refused 0 upcalls 0\n";
+    same_bytes(&rt, host.notes(), notes, "budget");
+    Ok(())
+}
+
+/// Answers `exo h` over a host with this input, where `h` is the image of this code.
+fn answer_input(
+    alloc: Global,
+    code: &[u8],
+    input: &[u8],
+) -> Result<(Outcome, MemHost), AllocError> {
+    let file = image(alloc, code)?;
+    let mut host = host_of(alloc, &[("h", &file)], input, &[])?;
+    let outcome = ask(alloc, &["exo", "h"], &mut host);
+    Ok((outcome, host))
+}
+
+/// Gives the code that echoes this input.
+fn check_echo(
+    rt: &impl Abort,
+    alloc: Global,
+    input: &[u8],
+    console: &[u8],
+) -> Result<(), AllocError> {
+    let (outcome, host) = answer_input(alloc, &ECHO, input)?;
+    same_status(rt, outcome.status(), 0, "echo");
+    same_bytes(rt, host.console(), console, "echo");
+    Ok(())
+}
+
+/// Whether the outcome is this limit.
+fn is_limit(outcome: &Outcome, limit: Which) -> bool {
+    matches!(outcome, Outcome::Limit(which) if *which == limit)
+}
+
+/// Gives so many bytes of input, which are too many or are not.
+fn check_input_len(
+    rt: &impl Abort,
+    alloc: Global,
+    len: usize,
+    is_too_long: bool,
+) -> Result<(), AllocError> {
+    let input = vec![in alloc; 0; len]?;
+    let (outcome, _) = answer_input(alloc, &HI, &input)?;
+    let case = format!(in alloc; "{len} bytes")?;
+    same_status(rt, outcome.status(), if is_too_long { 3 } else { 0 }, &case);
+    holds(rt, is_limit(&outcome, Which::Input) == is_too_long, &case);
     Ok(())
 }
 
@@ -236,42 +355,41 @@ fn takes_input_to_its_end(rt: HostRuntime) -> Result<(), Fail> {
         (b"x", [4, 0, 0, 0, b'x', 0, 0, 0]),
         (b"xyz", [b'y', 0, 0, 0, b'x', 0, 0, 0]),
     ] {
-        let file = image(rt.alloc(), &ECHO)?;
-        let mut host = host_of(rt.alloc(), &[("h", &file)], input, &[])?;
-        assert_eq!(rt; top(rt.alloc(), &["exo", "h"], &mut host).status(), 0);
-        assert_eq!(rt; host.console(), console.as_slice());
+        check_echo(&rt, rt.alloc(), input, &console)?;
     }
-    for (len, status) in [(INPUT_MAX, 0), (INPUT_MAX + 1, 3)] {
-        let file = image(rt.alloc(), &HI)?;
-        let input = vec![in rt.alloc(); 0; len]?;
-        let mut host = host_of(rt.alloc(), &[("h", &file)], &input, &[])?;
-        let outcome = top(rt.alloc(), &["exo", "h"], &mut host);
-        assert_eq!(rt; outcome.status(), status, "{len} bytes");
-        assert_eq!(rt;
-            matches!(outcome, Outcome::Limit(Which::Input)),
-            status == 3
-        );
-    }
+    check_input_len(&rt, rt.alloc(), INPUT_MAX, false)?;
+    check_input_len(&rt, rt.alloc(), INPUT_MAX + 1, true)?;
+    Ok(())
+}
+
+/// Runs an image on a host of which this call fails.
+fn check_failing_run(
+    rt: &impl Abort,
+    alloc: Global,
+    call: u64,
+    wanted: Ending,
+) -> Result<(), AllocError> {
+    let file = image(alloc, &HI)?;
+    let mut host = host_of(alloc, &[("h", &file)], b"", &[call])?;
+    let outcome = ask(alloc, &["exo", "h"], &mut host);
+    let case = format!(in alloc; "call {call}")?;
+    same_ending(rt, &outcome, &host, wanted, &case);
     Ok(())
 }
 
 // A run makes five calls: the size, the bytes, the input's end, the line and the note.
 #[test]
 fn fails_where_the_host_fails(rt: HostRuntime) -> Result<(), Fail> {
-    let file = image(rt.alloc(), &HI)?;
-    for (call, status, console, note) in [
-        (0, 7, "", "host fault\n"),
-        (1, 7, "", "host fault\n"),
-        (2, 7, "", "host fault\n"),
-        (3, 7, "", "host fault\n"),
-        (4, 7, "hi\n", ""),
-        (5, 0, "hi\n", "done steps 7 turns 1 refused 0 upcalls 0\n"),
+    for (call, status, console, notes) in [
+        (0, 7, b"".as_slice(), "host fault\n"),
+        (1, 7, b"", "host fault\n"),
+        (2, 7, b"", "host fault\n"),
+        (3, 7, b"", "host fault\n"),
+        (4, 7, b"hi\n", ""),
+        (5, 0, b"hi\n", "done steps 7 turns 1 refused 0 upcalls 0\n"),
     ] {
-        let mut host = host_of(rt.alloc(), &[("h", &file)], b"", &[call])?;
-        let outcome = top(rt.alloc(), &["exo", "h"], &mut host);
-        assert_eq!(rt; outcome.status(), status, "call {call}");
-        assert_eq!(rt; host.console(), console.as_bytes(), "call {call}");
-        assert_eq!(rt; host.notes(), note.as_bytes(), "call {call}");
+        let wanted = ending_of(status, console, notes);
+        check_failing_run(&rt, rt.alloc(), call, wanted)?;
     }
     Ok(())
 }
@@ -280,41 +398,61 @@ fn fails_where_the_host_fails(rt: HostRuntime) -> Result<(), Fail> {
 #[test]
 fn writes_an_example_program(rt: HostRuntime) -> Result<(), Fail> {
     let mut host = host_of(rt.alloc(), &[("h", &[0xff; 1000])], b"", &[])?;
-    let outcome = top(rt.alloc(), &["demo", "xhello", "h"], &mut host);
+    let outcome = ask(rt.alloc(), &["demo", "xhello", "h"], &mut host);
     assert!(rt; matches!(outcome, Outcome::Made(119)));
-    assert_eq!(rt; outcome.status(), 0);
-    assert_eq!(rt; host.notes(), b"made 119\n".as_slice());
-    assert_eq!(rt; host.console(), b"".as_slice());
-    let outcome = top(rt.alloc(), &["exo", "h"], &mut host);
-    assert_eq!(rt; outcome.status(), 0);
-    assert_eq!(rt; host.console(), b"hello\n".as_slice());
-    assert_eq!(rt;
-        host.notes(),
-        b"made 119\ndone steps 7 turns 1 refused 0 upcalls 0\n".as_slice()
+    let made = ending_of(0, b"", "made 119\n");
+    same_ending(&rt, &outcome, &host, made, "made");
+    let outcome = ask(rt.alloc(), &["exo", "h"], &mut host);
+    let ran = ending_of(
+        0,
+        b"hello\n",
+        "made 119\ndone steps 7 turns 1 refused 0 upcalls 0\n",
     );
+    same_ending(&rt, &outcome, &host, ran, "run");
+    Ok(())
+}
+
+/// Whether the host has a file `h` of this length.
+fn has_len(host: &MemHost, len: usize) -> bool {
+    match host.file("h") {
+        Some(bytes) => bytes.len() == len,
+        None => false,
+    }
+}
+
+/// Writes an example program on a host of which this call fails, where `h` has so many bytes in the end.
+fn check_failing_demo(
+    rt: &impl Abort,
+    alloc: Global,
+    call: u64,
+    len: usize,
+    notes: &str,
+) -> Result<(), AllocError> {
+    let mut host = host_of(alloc, &[("h", &HI)], b"", &[call])?;
+    let outcome = ask(alloc, &["demo", "xhello", "h"], &mut host);
+    let case = format!(in alloc; "call {call}")?;
+    same_status(rt, outcome.status(), 7, &case);
+    holds(rt, has_len(&host, len), &case);
+    same_bytes(rt, host.notes(), notes.as_bytes(), &case);
     Ok(())
 }
 
 // It makes three calls: the file, its bytes and the note.
 #[test]
 fn fails_where_the_host_writes_no_program(rt: HostRuntime) -> Result<(), Fail> {
-    for (call, len, note) in [
-        (0, Some(32), "host fault\n"),
-        (1, Some(0), "host fault\n"),
-        (2, Some(119), ""),
+    for (call, len, notes) in [
+        (0, 32, "host fault\n"),
+        (1, 0, "host fault\n"),
+        (2, 119, ""),
     ] {
-        let mut host = host_of(rt.alloc(), &[("h", &HI)], b"", &[call])?;
-        let outcome = top(rt.alloc(), &["demo", "xhello", "h"], &mut host);
-        assert_eq!(rt; outcome.status(), 7, "call {call}");
-        assert_eq!(rt; host.file("h").map(|bytes| bytes.len()), len, "call {call}");
-        assert_eq!(rt; host.notes(), note.as_bytes(), "call {call}");
+        check_failing_demo(&rt, rt.alloc(), call, len, notes)?;
     }
     Ok(())
 }
 
 // Words, their status and their note. There are the image `h`, and the schedules `s`, `z` and `x`.
 #[rattlefmt::skip]
-const WORDS: [(&[&str], u8, &str); 48] = [
+static WORDS: [(&[&str], u8, &str); 48] = [
     (&[], 1, USAGE),
     (&[""], 1, USAGE),
     (&["exo"], 1, USAGE),
@@ -399,56 +537,90 @@ fn files_of_words(alloc: Global) -> Result<Vec<NamedBytes>, AllocError> {
     Ok(files)
 }
 
+/// Answers these words, where a run that ends by itself prints `hi`.
+fn check_words(
+    rt: &impl Abort,
+    alloc: Global,
+    words: &[&str],
+    status: u8,
+    notes: &str,
+) -> Result<(), AllocError> {
+    let files = files_of_words(alloc)?;
+    let mut host = MemHost::new(alloc, files, Vec::new(alloc), Vec::new(alloc));
+    let outcome = ask(alloc, words, &mut host);
+    let console: &[u8] = if status == 0 { b"hi\n" } else { b"" };
+    let wanted = ending_of(status, console, notes);
+    let case = format!(in alloc; "{words:?}")?;
+    same_ending(rt, &outcome, &host, wanted, &case);
+    Ok(())
+}
+
 #[test]
 fn answers_words(rt: HostRuntime) -> Result<(), Fail> {
-    let alloc = rt.alloc();
-    for (words, status, note) in WORDS {
-        let files = files_of_words(alloc)?;
-        let mut host = MemHost::new(alloc, files, Vec::new(alloc), Vec::new(alloc));
-        let outcome = top(alloc, words, &mut host);
-        assert_eq!(rt; outcome.status(), status, "{words:?}");
-        assert_eq!(rt; host.notes(), note.as_bytes(), "{words:?}");
-        let console = if status == 0 { "hi\n" } else { "" };
-        assert_eq!(rt; host.console(), console.as_bytes(), "{words:?}");
+    for (words, status, notes) in &WORDS {
+        check_words(&rt, rt.alloc(), words, *status, notes)?;
     }
+    Ok(())
+}
+
+/// The words that run the image `h` so many times.
+fn words_of_images(alloc: Global, count: usize) -> Result<Vec<&'static str>, AllocError> {
+    let mut words = vec![in alloc; "h"; count]?;
+    words.insert(0, "exo")?;
+    Ok(words)
+}
+
+/// Runs so many images, which are too many or each print a line of three bytes.
+fn check_images(
+    rt: &impl Abort,
+    alloc: Global,
+    count: usize,
+    status: u8,
+    printed: usize,
+) -> Result<(), AllocError> {
+    let file = image(alloc, &HI)?;
+    let mut host = host_of(alloc, &[("h", &file)], b"", &[])?;
+    let outcome = ask(alloc, &words_of_images(alloc, count)?, &mut host);
+    let case = format!(in alloc; "{count} images")?;
+    same_status(rt, outcome.status(), status, &case);
+    holds(
+        rt,
+        is_limit(&outcome, Which::Images) == (status == 3),
+        &case,
+    );
+    holds(rt, host.console().len() == printed, &case);
     Ok(())
 }
 
 // One image more is refused before any is looked at.
 #[test]
 fn runs_64_images(rt: HostRuntime) -> Result<(), Fail> {
-    let file = image(rt.alloc(), &HI)?;
-    for (count, status, printed) in [(64, 0, 192), (65, 3, 0)] {
-        let mut words = Vec::new(rt.alloc());
-        words.push("exo")?;
-        for _ in 0..count {
-            words.push("h")?;
-        }
-        let mut host = host_of(rt.alloc(), &[("h", &file)], b"", &[])?;
-        let outcome = top(rt.alloc(), &words, &mut host);
-        assert_eq!(rt; outcome.status(), status, "{count} images");
-        assert_eq!(rt;
-            matches!(outcome, Outcome::Limit(Which::Images)),
-            status == 3
-        );
-        assert_eq!(rt; host.console().len(), printed, "{count} images");
-    }
+    check_images(&rt, rt.alloc(), 64, 0, 192)?;
+    check_images(&rt, rt.alloc(), 65, 3, 0)?;
+    Ok(())
+}
+
+/// Whether the file that the second word names is refused as an image that is cut off.
+fn is_truncated(outcome: &Outcome) -> bool {
+    matches!(outcome, Outcome::BadImage(1, ElfFault::Truncated(_)))
+}
+
+/// Runs an image of which only so many bytes are there.
+fn check_part(rt: &impl Abort, alloc: Global, len: usize) -> Result<(), AllocError> {
+    let mut file = image(alloc, &HI)?;
+    file.truncate(len);
+    let mut host = host_of(alloc, &[("h", &file)], b"", &[])?;
+    let outcome = ask(alloc, &["exo", "h"], &mut host);
+    let notes = format!(in alloc; "h: bad image: truncated {len}\n")?;
+    holds(rt, is_truncated(&outcome), &notes);
+    same_bytes(rt, host.notes(), notes.as_bytes(), &notes);
     Ok(())
 }
 
 #[test]
 fn refuses_each_part_of_an_image(rt: HostRuntime) -> Result<(), Fail> {
     for len in 0..HEADERS_LEN + HI.len() {
-        let mut file = image(rt.alloc(), &HI)?;
-        file.truncate(len);
-        let mut host = host_of(rt.alloc(), &[("h", &file)], b"", &[])?;
-        let outcome = top(rt.alloc(), &["exo", "h"], &mut host);
-        assert!(rt;
-            matches!(outcome, Outcome::BadImage(1, ElfFault::Truncated(_))),
-            "{len} bytes"
-        );
-        let note = format!(in rt.alloc(); "h: bad image: truncated {len}\n")?;
-        assert_eq!(rt; host.notes(), note.as_bytes());
+        check_part(&rt, rt.alloc(), len)?;
     }
     Ok(())
 }
@@ -469,8 +641,42 @@ fn runs_an_image_with_symbols(rt: HostRuntime) -> Result<(), Fail> {
     let mut file = Vec::from_slice(rt.alloc(), &USUAL_HEADERS)?;
     file.extend_from_slice(&HI)?;
     let mut host = host_of(rt.alloc(), &[("h", &file)], b"", &[])?;
-    assert_eq!(rt; top(rt.alloc(), &["exo", "h"], &mut host).status(), 0);
-    assert_eq!(rt; host.console(), b"hi\n".as_slice());
+    let outcome = ask(rt.alloc(), &["exo", "h"], &mut host);
+    same_status(&rt, outcome.status(), 0, "symbols");
+    same_bytes(&rt, host.console(), b"hi\n", "symbols");
+    Ok(())
+}
+
+/// An image with this word of its headers at its greatest value.
+fn image_with_greatest(alloc: Global, word: usize) -> Result<Vec<u8>, AllocError> {
+    let mut file = image(alloc, &HI)?;
+    for (at, byte) in file.iter_mut().enumerate() {
+        if at / 4 == word {
+            *byte = 0xff;
+        }
+    }
+    Ok(file)
+}
+
+/// The exit status and the console of a run of that image.
+fn answer_to_greatest(word: usize) -> (u8, &'static str) {
+    match word {
+        2 | 3 | 5 | 8 | 9 | 12 | 16 | 19 | 20 => (0, "hi\n"),
+        6 => (0, "[00001000] user fault va ffffffff ip ffffffff\n"),
+        13 => (0, "[00001000] user fault va 00800020 ip 00800020\n"),
+        _ => (4, ""),
+    }
+}
+
+/// Runs that image.
+fn check_headers(rt: &impl Abort, alloc: Global, word: usize) -> Result<(), AllocError> {
+    let file = image_with_greatest(alloc, word)?;
+    let mut host = host_of(alloc, &[("h", &file)], b"", &[])?;
+    let outcome = ask(alloc, &["exo", "h"], &mut host);
+    let (status, console) = answer_to_greatest(word);
+    let case = format!(in alloc; "word {word}")?;
+    same_status(rt, outcome.status(), status, &case);
+    same_bytes(rt, host.console(), console.as_bytes(), &case);
     Ok(())
 }
 
@@ -479,53 +685,52 @@ fn runs_an_image_with_symbols(rt: HostRuntime) -> Result<(), Fail> {
 #[test]
 fn looks_at_the_headers(rt: HostRuntime) -> Result<(), Fail> {
     for word in 0..HEADERS_LEN / 4 {
-        let mut file = image(rt.alloc(), &HI)?;
-        for at in 4 * word..4 * word + 4 {
-            if at < file.len() {
-                file[at] = 0xff;
-            }
-        }
-        let mut host = host_of(rt.alloc(), &[("h", &file)], b"", &[])?;
-        let status = top(rt.alloc(), &["exo", "h"], &mut host).status();
-        let (want, console) = match word {
-            2 | 3 | 5 | 8 | 9 | 12 | 16 | 19 | 20 => (0, "hi\n"),
-            6 => (0, "[00001000] user fault va ffffffff ip ffffffff\n"),
-            13 => (0, "[00001000] user fault va 00800020 ip 00800020\n"),
-            _ => (4, ""),
-        };
-        assert_eq!(rt; status, want, "word {word}");
-        assert_eq!(rt; host.console(), console.as_bytes(), "word {word}");
+        check_headers(&rt, rt.alloc(), word)?;
     }
+    Ok(())
+}
+
+/// Whether the outcome is one for a file of zeros: a limit is this one, a schedule's fault is at its first byte, and any
+/// other outcome has the status of a bad image.
+fn is_answer_to_zeros(outcome: &Outcome, limit: Which, status: u8) -> bool {
+    match outcome {
+        Outcome::Limit(_) => is_limit(outcome, limit),
+        Outcome::BadSchedule(ScheduleFault::NotANumber(place)) => *place == 0,
+        Outcome::BadSchedule(_) => false,
+        _ => status == 4,
+    }
+}
+
+/// Answers these words over a host where the file `l` is of so many zeros.
+fn check_long_file(
+    rt: &impl Abort,
+    alloc: Global,
+    len: u64,
+    words: &[&str],
+    status: u8,
+    limit: Which,
+) -> Result<(), AllocError> {
+    let file = image(alloc, &HI)?;
+    let long = vec![in alloc; 0; len as usize]?;
+    let mut host = host_of(alloc, &[("h", &file), ("l", &long)], b"", &[])?;
+    let outcome = ask(alloc, words, &mut host);
+    let case = format!(in alloc; "{words:?} {len} bytes")?;
+    same_status(rt, outcome.status(), status, &case);
+    holds(rt, is_answer_to_zeros(&outcome, limit, status), &case);
     Ok(())
 }
 
 #[test]
 fn refuses_files_that_are_too_long(rt: HostRuntime) -> Result<(), Fail> {
-    let file = image(rt.alloc(), &HI)?;
-    for (len, words, status) in [
-        (IMAGE_MAX, ["exo", "l"].as_slice(), 4),
-        (IMAGE_MAX + 1, &["exo", "l"], 3),
-        (SCHEDULE_TEXT_MAX, &["exo", "--schedule", "l", "h"], 5),
-        (SCHEDULE_TEXT_MAX + 1, &["exo", "--schedule", "l", "h"], 3),
+    let image: &[&str] = &["exo", "l"];
+    let schedule: &[&str] = &["exo", "--schedule", "l", "h"];
+    for (len, words, status, limit) in [
+        (IMAGE_MAX, image, 4, Which::Image),
+        (IMAGE_MAX + 1, image, 3, Which::Image),
+        (SCHEDULE_TEXT_MAX, schedule, 5, Which::Schedule),
+        (SCHEDULE_TEXT_MAX + 1, schedule, 3, Which::Schedule),
     ] {
-        let long = vec![in rt.alloc(); 0; len as usize]?;
-        let mut host = host_of(rt.alloc(), &[("h", &file), ("l", &long)], b"", &[])?;
-        let outcome = top(rt.alloc(), words, &mut host);
-        assert_eq!(rt; outcome.status(), status, "{words:?} {len} bytes");
-        assert!(rt;
-            match outcome {
-                Outcome::Limit(which) => {
-                    which
-                        == if words.len() == 2 {
-                            Which::Image
-                        } else {
-                            Which::Schedule
-                        }
-                }
-                Outcome::BadSchedule(fault) => fault == ScheduleFault::NotANumber(0),
-                _ => status == 4,
-            }
-        );
+        check_long_file(&rt, rt.alloc(), len, words, status, limit)?;
     }
     Ok(())
 }

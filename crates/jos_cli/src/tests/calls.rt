@@ -1,8 +1,9 @@
 //! Programs that make each of the system calls, in code by hand: each compares its answers, and halts, which its console
 //! tells, where one is another than it should be.
 
-use super::{host_of, image};
-use crate::answer::top;
+use super::{Ending, ask, ending_of, host_of, image, same_ending};
+use std::alloc::{AllocError, Global};
+use std::process::Abort;
 use std::test::Fail;
 
 /// The place of the flags of an image's segment: whether it may be written is 2.
@@ -11,7 +12,7 @@ const FLAGS: usize = 76;
 // What programs do: the words, of images `a` and `b`, the flags of their segments, their codes, and then the console, the
 // notes and the exit status.
 #[rattlefmt::skip]
-const CALLS: [(&str, &[&str], u8, &[u8], &[u8], &str, &str, u8); 18] = [
+static CALLS: [(&str, &[&str], u8, &[u8], &[u8], &str, &str, u8); 18] = [
     ("gives no write that was not had", &["exo", "a"], 5,
         &[0xb8, 0x05, 0x00, 0x00, 0x00, 0xba, 0x00, 0x00, 0x00, 0x00, 0xb9, 0x00, 0x00, 0x80, 0x00, 0xbb, 0x00, 0x00, 0x00, 0x00, 0xbf, 0x00, 0x00, 0x90, 0x00, 0xbe, 0x07, 0x00, 0x00, 0x00, 0xcd, 0x30, 0x83, 0xf8, 0xfd, 0x75, 0x16, 0xa1, 0x00, 0x24, 0x40, 0xef, 0x83, 0xf8, 0x00, 0x75, 0x0c, 0xb8, 0x03, 0x00, 0x00, 0x00, 0xba, 0x00, 0x00, 0x00, 0x00, 0xcd, 0x30, 0xf4],
         &[],
@@ -86,19 +87,44 @@ const CALLS: [(&str, &[&str], u8, &[u8], &[u8], &str, &str, u8); 18] = [
         "", "done steps 49 turns 4 refused 0 upcalls 0\n", 0),
 ];
 
+/// The image of this code, with these flags of its segment.
+fn image_with_flags(alloc: Global, code: &[u8], flags: u8) -> Result<Vec<u8>, AllocError> {
+    let mut file = image(alloc, code)?;
+    if let Some(byte) = file.get_mut(FLAGS) {
+        *byte = flags;
+    }
+    Ok(file)
+}
+
+/// Answers these words over a host with the images of these codes, of which the first has these flags.
+fn check_calls(
+    rt: &impl Abort,
+    alloc: Global,
+    name: &str,
+    words: &[&str],
+    (flags, first, second): (u8, &[u8], &[u8]),
+    wanted: Ending,
+) -> Result<(), AllocError> {
+    let first = image_with_flags(alloc, first, flags)?;
+    let second = image(alloc, second)?;
+    let mut host = host_of(alloc, &[("a", &first), ("b", &second)], b"", &[])?;
+    let outcome = ask(alloc, words, &mut host);
+    same_ending(rt, &outcome, &host, wanted, name);
+    Ok(())
+}
+
 #[test]
 fn makes_calls(rt: HostRuntime) -> Result<(), Fail> {
-    for (name, words, flags, first, second, console, notes, status) in CALLS {
-        let mut first = image(rt.alloc(), first)?;
-        if FLAGS < first.len() {
-            first[FLAGS] = flags;
-        }
-        let second = image(rt.alloc(), second)?;
-        let mut host = host_of(rt.alloc(), &[("a", &first), ("b", &second)], b"", &[])?;
-        let outcome = top(rt.alloc(), words, &mut host);
-        assert_eq!(rt; host.console(), console.as_bytes(), "{name}");
-        assert_eq!(rt; host.notes(), notes.as_bytes(), "{name}");
-        assert_eq!(rt; outcome.status(), status, "{name}");
+    for (name, words, flags, first, second, console, notes, status) in &CALLS {
+        let wanted = ending_of(*status, console.as_bytes(), notes);
+        check_calls(
+            &rt,
+            rt.alloc(),
+            name,
+            words,
+            (*flags, first, second),
+            wanted,
+        )?;
     }
     Ok(())
 }
