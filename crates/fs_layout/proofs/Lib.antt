@@ -1,3 +1,4 @@
 pub mod FileTrees
 pub mod FileBytes
 mod FileExamples
+mod Fields

@@ -1,3 +1,4 @@
 pub mod FileTree
 pub mod FileActs
 pub mod FileLaws
+pub mod Layout

@@ -53,3 +53,27 @@ pub const E_BAD_PATH: u32 = 12;
 
 /// The error's number where the file is there already. (inc/error.h)
 pub const E_FILE_EXISTS: u32 = 13;
+
+/// The word at the start of a super block.
+pub const FS_MAGIC: u32 = 0x4a05_30ae;
+
+/// In a super block, the place of the number of blocks. (The layout of `struct Super`, as the next)
+pub(crate) const BLOCKS_AT: usize = 4;
+
+/// In a super block, the place of the root's record.
+pub(crate) const ROOT_AT: usize = 8;
+
+/// In a record, the place of the size; the name stands before it. (The layout of `struct File`, as the next ones)
+pub(crate) const SIZE_AT: usize = 128;
+
+/// In a record, the place of the kind.
+pub(crate) const KIND_AT: usize = 132;
+
+/// In a record, the place of the numbers of the blocks that it names by itself.
+pub(crate) const DIRECT_AT: usize = 136;
+
+/// In a record, the place of the number of the indirect block.
+pub(crate) const INDIRECT_AT: usize = 176;
+
+/// In a record, the place of the padding.
+pub(crate) const PADDING_AT: usize = 180;

@@ -1,0 +1,55 @@
+-- How a record and the super block lie on the disk. The numbers have four bytes, the lowest first. The bytes that are read
+-- are seen as a function from each place to the byte there.
+-- (MIT 6.828, lab 5: inc/fs.h, struct File and struct Super.)
+use Rattle.std.specs.Prelude.{ℕ, ◌+◌, ◌-◌, ◌*◌, ◌==◌, List, [], ◌∷◌, ◌++◌, map, length, replicate, if◌then◌else◌}
+use Rattle.std.specs.Prelude.{Option, Some, None}
+use Rattle.std.specs.List.{range_with_len}
+use Rattle.std.specs.Int.{w32, from_le_bytes}
+use Rattle.jos_base.specs.TrapFrames.{bytes_of_words}
+use Rattle.fs_layout.specs.declared.records.Entry.{Entry}
+use Rattle.fs_layout.specs.declared.records.Super.{Super}
+use Rattle.fs_layout.specs.declared.numbers.TheConstants.{BLKSIZE, RECORDSIZE, MAXNAMELEN, NDIRECT, FS_MAGIC}
+use Rattle.fs_layout.specs.declared.numbers.TheConstants.{BLOCKS_AT, ROOT_AT}
+use Rattle.fs_layout.specs.declared.numbers.TheConstants.{SIZE_AT, KIND_AT, DIRECT_AT, INDIRECT_AT, PADDING_AT}
+
+-- ---- reading
+
+-- the number in the four bytes at a place
+abbrev pub word_at : (ℕ → ℕ) → ℕ → ℕ
+word_at byte at = from_le_bytes w32 (byte at ∷ byte (at + 1) ∷ byte (at + 2) ∷ byte (at + 3) ∷ [])
+
+-- so many bytes, and so many numbers, from a place on
+unfoldable pub bytes_at : (ℕ → ℕ) → ℕ → ℕ → List ℕ
+bytes_at byte at n = map (λ k. byte (at + k)) (range_with_len 0 n)
+
+unfoldable pub words_at : (ℕ → ℕ) → ℕ → ℕ → List ℕ
+words_at byte at n = map (λ k. word_at byte (at + 4 * k)) (range_with_len 0 n)
+
+-- the record that begins at a place; its padding says nothing
+unfoldable pub entry_at : (ℕ → ℕ) → ℕ → Entry
+entry_at byte at = record {
+  name = bytes_at byte at MAXNAMELEN;
+  size = word_at byte (at + SIZE_AT);
+  kind = word_at byte (at + KIND_AT);
+  direct = words_at byte (at + DIRECT_AT) NDIRECT;
+  indirect = word_at byte (at + INDIRECT_AT);
+}
+
+-- the super block that begins at a place; none is there where the first word is another than the magic
+unfoldable pub super_at : (ℕ → ℕ) → ℕ → Option Super
+super_at byte at =
+    if word_at byte at == FS_MAGIC
+    then Some (record { blocks = word_at byte (at + BLOCKS_AT); root = entry_at byte (at + ROOT_AT) }) else None
+
+-- ---- writing
+
+-- the name, the words, and zeros as padding
+unfoldable pub entry_bytes : Entry → List ℕ
+entry_bytes e =
+    e.name ++ bytes_of_words (e.size ∷ e.kind ∷ []) ++ bytes_of_words e.direct ++ bytes_of_words (e.indirect ∷ [])
+    ++ replicate (RECORDSIZE - PADDING_AT) 0
+
+-- the magic, the number of blocks and the root's record, and zeros up to the end of the block
+unfoldable pub super_bytes : Super → List ℕ
+super_bytes s =
+    bytes_of_words (FS_MAGIC ∷ s.blocks ∷ []) ++ entry_bytes s.root ++ replicate (BLKSIZE - (ROOT_AT + RECORDSIZE)) 0

@@ -1,0 +1,101 @@
+//! A record and the super block, read.
+
+ghost use Rattle.std.specs.Prelude.{◌≡◌, ◌+◌, ◌≤◌, length, slice_index};
+ghost use Rattle.fs_layout.specs.Layout.{word_at, bytes_at, words_at, entry_at, super_at};
+
+use crate::numbers::{
+    BLKSIZE, BLOCKS_AT, DIRECT_AT, FS_MAGIC, INDIRECT_AT, KIND_AT, MAXNAMELEN, NDIRECT, RECORDSIZE,
+    ROOT_AT, SIZE_AT,
+};
+
+/// What the super block says. (MIT 6.828, inc/fs.h, `struct Super`)
+#[derive(Clone, Copy, Debug, PartialEq, Eq)]
+pub struct Super {
+    /// How many blocks the disk has.
+    pub blocks: u32,
+    /// The root's record.
+    pub root: Entry,
+}
+
+/// A record of a directory. (MIT 6.828, inc/fs.h, `struct File`)
+#[derive(Clone, Copy, Debug, PartialEq, Eq)]
+pub struct Entry {
+    /// The name, with a NUL behind it.
+    pub name: [u8; MAXNAMELEN as usize],
+    /// How many bytes.
+    pub size: u32,
+    /// The kind, `FTYPE_REG` or `FTYPE_DIR`.
+    pub kind: u32,
+    /// The numbers of the first blocks.
+    pub direct: [u32; NDIRECT as usize],
+    /// The number of the block that holds the numbers of the other blocks.
+    pub indirect: u32,
+}
+
+/// The number in the four bytes at a place.
+fn word_at(bytes: &[u8], at: usize) -> u32
+    requires { at + 4 ≤ length bytes.now }
+    ensures { result ≡ word_at (slice_index bytes.now) at }
+{
+    u32::from_le_bytes([bytes[at], bytes[at + 1], bytes[at + 2], bytes[at + 3]])
+}
+
+/// The bytes of a name that begins at a place.
+fn name_at(bytes: &[u8], at: usize) -> [u8; MAXNAMELEN as usize]
+    requires { at + MAXNAMELEN ≤ length bytes.now }
+    ensures { result ≡ bytes_at (slice_index bytes.now) at MAXNAMELEN }
+{
+    let mut name = [0; MAXNAMELEN as usize];
+    for place in 0..MAXNAMELEN as usize {
+        name[place] = bytes[at + place];
+    }
+    name
+}
+
+/// The numbers of blocks that begin at a place.
+fn direct_at(bytes: &[u8], at: usize) -> [u32; NDIRECT as usize]
+    requires { at + 40 ≤ length bytes.now }
+    ensures { result ≡ words_at (slice_index bytes.now) at NDIRECT }
+{
+    let mut direct = [0; NDIRECT as usize];
+    for place in 0..NDIRECT as usize {
+        direct[place] = word_at(bytes, at + 4 * place);
+    }
+    direct
+}
+
+/// The record that begins at a place.
+#[tactic(auto, unfolding(crate::specs::Layout::entry_at))]
+fn entry_at(bytes: &[u8], at: usize) -> Entry
+    requires { at + RECORDSIZE ≤ length bytes.now }
+    ensures { result ≡ entry_at (slice_index bytes.now) at }
+{
+    Entry {
+        name: name_at(bytes, at),
+        size: word_at(bytes, at + SIZE_AT),
+        kind: word_at(bytes, at + KIND_AT),
+        direct: direct_at(bytes, at + DIRECT_AT),
+        indirect: word_at(bytes, at + INDIRECT_AT),
+    }
+}
+
+/// What a record says.
+pub fn decode_entry(bytes: &[u8; RECORDSIZE as usize]) -> Entry
+    ensures { result ≡ entry_at (slice_index bytes.now) 0 }
+{
+    entry_at(bytes, 0)
+}
+
+/// What a super block says; None exactly where its first word is another than the magic.
+#[tactic(auto, unfolding(crate::specs::Layout::super_at))]
+pub fn decode_super(bytes: &[u8; BLKSIZE as usize]) -> Option<Super>
+    ensures { result ≡ super_at (slice_index bytes.now) 0 }
+{
+    if word_at(bytes, 0) != FS_MAGIC {
+        return None;
+    }
+    Some(Super {
+        blocks: word_at(bytes, BLOCKS_AT),
+        root: entry_at(bytes, ROOT_AT),
+    })
+}
