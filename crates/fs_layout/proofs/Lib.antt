@@ -2,3 +2,4 @@ pub mod FileTrees
 pub mod FileBytes
 mod FileExamples
 mod Fields
+mod PathNames

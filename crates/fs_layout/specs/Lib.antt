@@ -2,3 +2,4 @@ pub mod FileTree
 pub mod FileActs
 pub mod FileLaws
 pub mod Layout
+pub mod Paths

@@ -8,6 +8,7 @@
 
 mod laws;
 mod numbers;
+mod paths;
 mod records;
 
 pub use laws::{files_keep_what_is_written, trees_keep_what_is_put};
@@ -16,4 +17,5 @@ pub use numbers::{
     FTYPE_REG, MAXFILESIZE, MAXNAMELEN, MAXPATHLEN, NDIRECT, NINDIRECT, O_CREAT, O_EXCL, O_TRUNC,
     RECORDSIZE,
 };
+pub use paths::{BadPath, NAMES_MAX, Span, parts};
 pub use records::{Entry, Super, decode_entry, decode_super};
