@@ -3,3 +3,4 @@ pub mod FileBytes
 mod FileExamples
 mod Fields
 mod PathNames
+mod PathParts

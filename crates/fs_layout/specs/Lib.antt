@@ -3,3 +3,4 @@ pub mod FileActs
 pub mod FileLaws
 pub mod Layout
 pub mod Paths
+pub mod PathLaws

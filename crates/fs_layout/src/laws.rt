@@ -1,6 +1,7 @@
 //! What the tree of files and the acts on it mean. Nothing here is to be run: each clause is a theorem.
 
 ghost use Rattle.fs_layout.specs.FileLaws.{WritesAreReadBack, WritesLengthen, SizesAreSet, NodesAreReplaced, RecordsAreEmptied};
+ghost use Rattle.fs_layout.specs.PathLaws.{NamesStandInSpans, GoodPathsHaveParts};
 
 /// What is written to a file is read back at its place, a file is no longer than that asks for, and it has the size
 /// that it is given.
@@ -14,4 +15,10 @@ pub fn files_keep_what_is_written()
 pub fn trees_keep_what_is_put()
     ensures replaced { NodesAreReplaced }
     ensures emptied { RecordsAreEmptied }
+{}
+
+/// What `parts` tells of a path are the places of its names, and it refuses what is not a good path.
+pub fn parts_are_names()
+    ensures names { NamesStandInSpans }
+    ensures good { GoodPathsHaveParts }
 {}

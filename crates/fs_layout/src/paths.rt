@@ -28,11 +28,11 @@ fn add_name(
     from: usize,
     to: usize,
 ) -> Result<(), BadPath>
-    requires room { length names.old.items < 512 }
+    requires room { length names.old.items < NAMES_MAX }
     requires order { from ≤ to }
-    requires small { to < 1024 }
-    ensures ok { OnOk result (nat_lt (to - from) 128 ≡ true) }
-    ensures err { OnErr result (nat_lt (to - from) 128 ≡ false) }
+    requires small { to < MAXPATHLEN }
+    ensures ok { OnOk result (nat_lt (to - from) MAXNAMELEN ≡ true) }
+    ensures err { OnErr result (nat_lt (to - from) MAXNAMELEN ≡ false) }
     ensures names { OnOk result (names.new.items ≡ names.old.items ++ span_between from to) }
 {
     if to - from >= MAXNAMELEN as usize {
