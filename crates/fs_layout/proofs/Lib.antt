@@ -4,3 +4,4 @@ mod FileExamples
 mod Fields
 mod PathNames
 mod PathParts
+mod Written

@@ -1,7 +1,7 @@
 -- How a record and the super block lie on the disk. The numbers have four bytes, the lowest first. The bytes that are read
 -- are seen as a function from each place to the byte there.
 -- (MIT 6.828, lab 5: inc/fs.h, struct File and struct Super.)
-use Rattle.std.specs.Prelude.{ℕ, ◌+◌, ◌-◌, ◌*◌, ◌==◌, List, [], ◌∷◌, ◌++◌, map, length, replicate, if◌then◌else◌}
+use Rattle.std.specs.Prelude.{◌≡◌, ℕ, ◌+◌, ◌-◌, ◌*◌, ◌^◌, ◌<◌, ◌==◌, List, [], ◌∷◌, ◌++◌, map, length, replicate, slice_index, if◌then◌else◌}
 use Rattle.std.specs.Prelude.{Option, Some, None}
 use Rattle.std.specs.List.{range_with_len}
 use Rattle.std.specs.Int.{w32, from_le_bytes}
@@ -43,13 +43,23 @@ super_at byte at =
 
 -- ---- writing
 
+unfoldable pub zeros : ℕ → List ℕ
+zeros n = replicate n 0
+
 -- the name, the words, and zeros as padding
 unfoldable pub entry_bytes : Entry → List ℕ
 entry_bytes e =
-    e.name ++ bytes_of_words (e.size ∷ e.kind ∷ []) ++ bytes_of_words e.direct ++ bytes_of_words (e.indirect ∷ [])
-    ++ replicate (RECORDSIZE - PADDING_AT) 0
+    e.name ++ (bytes_of_words (e.size ∷ e.kind ∷ []) ++ (bytes_of_words e.direct ++ (bytes_of_words (e.indirect ∷ []) ++ zeros (RECORDSIZE - PADDING_AT))))
 
 -- the magic, the number of blocks and the root's record, and zeros up to the end of the block
 unfoldable pub super_bytes : Super → List ℕ
-super_bytes s =
-    bytes_of_words (FS_MAGIC ∷ s.blocks ∷ []) ++ entry_bytes s.root ++ replicate (BLKSIZE - (ROOT_AT + RECORDSIZE)) 0
+super_bytes s = bytes_of_words (FS_MAGIC ∷ s.blocks ∷ []) ++ (entry_bytes s.root ++ zeros (BLKSIZE - (ROOT_AT + RECORDSIZE)))
+
+-- what is known of a record by its type: how long its lists are, and that its numbers are words
+pub record EntryFits (e : Entry) : Type 0 where
+  pub name : length e.name ≡ MAXNAMELEN
+  pub size : e.size < 2 ^ 32
+  pub kind : e.kind < 2 ^ 32
+  pub direct : length e.direct ≡ NDIRECT
+  pub each : (k : ℕ) → slice_index e.direct k < 2 ^ 32
+  pub indirect : e.indirect < 2 ^ 32

@@ -10,6 +10,7 @@ mod laws;
 mod numbers;
 mod paths;
 mod records;
+mod writer;
 
 pub use laws::{files_keep_what_is_written, parts_are_names, trees_keep_what_is_put};
 pub use numbers::{
@@ -19,3 +20,4 @@ pub use numbers::{
 };
 pub use paths::{BadPath, NAMES_MAX, Span, parts};
 pub use records::{Entry, Super, decode_entry, decode_super};
+pub use writer::{encode_entry, encode_super};
