@@ -1,7 +1,7 @@
 -- What stands at the places of a path's names are its names.
-use Rattle.std.proofs.Common.{◌≡◌, ℕ, ◌+◌, ◌-◌, ◌<◌, ◌≤◌, List, [], ◌∷◌, ◌++◌, length, take, drop, Bool, true, false, map}
+use Rattle.std.proofs.Common.{◌≡◌, ℕ, ◌+◌, ◌-◌, ◌≤◌, List, [], ◌∷◌, ◌++◌, length, drop, Bool, true, false, map}
 use Rattle.std.proofs.Common.{refl, sym, ap, ◌∙◌, arith, append_assoc, length-append, length-take, length-drop}
-use Rattle.std.specs.Prelude.{◌&&◌, not, ◌==◌, min, nat_lt, filter, is_some, Option, Some, None, if◌then◌else◌}
+use Rattle.std.specs.Prelude.{◌&&◌, not, nat_lt, filter, is_some, Some, None, if◌then◌else◌}
 use Rattle.std.specs.List.{list_all, slice_split, onto_first}
 use Rattle.std.proofs.Math.Seq.{take-append_seam}
 use Rattle.std.proofs.lemmas.Bool.{le-ltb, lt-ltb, ne_eqb}
@@ -76,12 +76,13 @@ names-from path front name (byte ∷ rest) from at whole begins ends =
     let behind : path ≡ (front ++ (name ++ byte ∷ [])) ++ ([] ++ rest) = longer ∙ sym (append_assoc front (name ++ byte ∷ []) rest) in
     let begin : at + 1 ≡ length (front ++ (name ++ byte ∷ [])) = omega (arith, length-append front (name ++ byte ∷ []), length-append name (byte ∷ [])) in
     let end : at + 1 ≡ from + length (name ++ byte ∷ []) = omega (arith, length-append name (byte ∷ [])) in
-    elim (is_slash byte) as (λ (b : Bool). is_slash byte ≡ b → map (name_of path) (if b then span_between from at ++ spans_from (at + 1) (at + 1) rest else spans_from from (at + 1) rest) ≡ some_bytes (with_before name (slice_split is_slash (byte ∷ rest))))
-    [ true ↦ (λ slash. names-slash path name rest byte from at slash (names-at path front name (byte ∷ rest) from at whole begins ends)
-        (names-from path (front ++ (name ++ byte ∷ [])) [] rest (at + 1) (at + 1) behind begin (omega arith)))
-    | false ↦ (λ other. names-from path front (name ++ byte ∷ []) rest from (at + 1) longer begins end
-        ∙ ap (λ (l : List (List ℕ)). some_bytes l) (sym (with_before-onto_first name byte (slice_split is_slash rest)))
-        ∙ ap (λ (l : List (List ℕ)). some_bytes (with_before name l)) (sym (slice_split-cons_no is_slash byte rest other))) ]
+    elim (is_slash byte) as (λ (b : Bool). is_slash byte ≡ b → map (name_of path) (if b then span_between from at ++ spans_from (at + 1) (at + 1) rest else spans_from from (at + 1) rest) ≡ some_bytes (with_before name (slice_split is_slash (byte ∷ rest)))) [
+      | true ↦ (λ slash. names-slash path name rest byte from at slash (names-at path front name (byte ∷ rest) from at whole begins ends)
+          (names-from path (front ++ (name ++ byte ∷ [])) [] rest (at + 1) (at + 1) behind begin (omega arith)))
+      | false ↦ (λ other. names-from path front (name ++ byte ∷ []) rest from (at + 1) longer begins end
+          ∙ ap (λ (l : List (List ℕ)). some_bytes l) (sym (with_before-onto_first name byte (slice_split is_slash rest)))
+          ∙ ap (λ (l : List (List ℕ)). some_bytes (with_before name l)) (sym (slice_split-cons_no is_slash byte rest other)))
+    ]
     refl
 
 pub names-stand : (path : List ℕ) → map (name_of path) (spans_of path) ≡ names_in path
@@ -107,13 +108,14 @@ unfolding spans_from
 room-from path [] from at order within = room-between path from at order (omega arith)
 room-from path (byte ∷ rest) from at order within =
     elim (is_slash byte) as (λ (b : Bool). list_all (leaves_room path) (if b then span_between from at ++ spans_from (at + 1) (at + 1) rest else spans_from from (at + 1) rest)
-        ≡ list_all is_short (if b then span_between from at ++ spans_from (at + 1) (at + 1) rest else spans_from from (at + 1) rest))
-    [ true ↦
-        list_all-append (leaves_room path) (span_between from at) (spans_from (at + 1) (at + 1) rest)
-        ∙ ap (λ b. b && list_all (leaves_room path) (spans_from (at + 1) (at + 1) rest)) (room-between path from at order (omega arith))
-        ∙ ap (λ b. list_all is_short (span_between from at) && b) (room-from path rest (at + 1) (at + 1) (omega arith) (omega arith))
-        ∙ sym (list_all-append is_short (span_between from at) (spans_from (at + 1) (at + 1) rest))
-    | false ↦ room-from path rest from (at + 1) (omega arith) (omega arith) ]
+    ≡ list_all is_short (if b then span_between from at ++ spans_from (at + 1) (at + 1) rest else spans_from from (at + 1) rest)) [
+      | true ↦
+          list_all-append (leaves_room path) (span_between from at) (spans_from (at + 1) (at + 1) rest)
+          ∙ ap (λ b. b && list_all (leaves_room path) (spans_from (at + 1) (at + 1) rest)) (room-between path from at order (omega arith))
+          ∙ ap (λ b. list_all is_short (span_between from at) && b) (room-from path rest (at + 1) (at + 1) (omega arith) (omega arith))
+          ∙ sym (list_all-append is_short (span_between from at) (spans_from (at + 1) (at + 1) rest))
+      | false ↦ room-from path rest from (at + 1) (omega arith) (omega arith)
+    ]
 
 -- a test as an option
 is_some-if : (b : Bool) (names : List Span) → is_some (if b then Some names else None) ≡ b

@@ -1,12 +1,12 @@
 -- What is written from the first byte on, and how it is read back.
-use Rattle.std.proofs.Common.{◌≡◌, ℕ, zero, suc, ◌+◌, ◌-◌, ◌*◌, ◌^◌, ◌<◌, ◌≤◌, List, [], ◌∷◌, ◌++◌, length, get_or, take, drop, Some}
-use Rattle.std.proofs.Common.{refl, sym, ap, ◌∙◌, arith, append_assoc, length-append, length-take, length-drop, add-one}
-use Rattle.std.specs.Prelude.{min, slice_index, replicate}
+use Rattle.std.proofs.Common.{◌≡◌, ℕ, zero, suc, ◌+◌, ◌-◌, ◌*◌, ◌^◌, ◌<◌, ◌≤◌, List, [], ◌∷◌, ◌++◌, length, get_or, take, Some}
+use Rattle.std.proofs.Common.{refl, sym, ap, ◌∙◌, arith, append_assoc, length-append, add-one}
+use Rattle.std.specs.Prelude.{slice_index}
 use Rattle.std.specs.Int.{w32, to_le_bytes, from_le_bytes}
 use Rattle.std.proofs.Math.Seq.{take-suc}
 use Rattle.std.proofs.Math.ListN.{get_or-append}
 use Rattle.std.proofs.lemmas.Nat.{from_le_bytes-to_le_bytes_4}
-use Rattle.std.proofs.lemmas.List.{append-nil, get_or-append-add, take_all}
+use Rattle.std.proofs.lemmas.List.{append-nil, get_or-append-add}
 use Rattle.std.proofs.lemmas.List.FromFn.{fill_by_all}
 use Rattle.std.proofs.lemmas.List.{length-replicate}
 use Rattle.jos_base.specs.TrapFrames.{bytes_of_words}
@@ -14,7 +14,7 @@ use Rattle.fs_layout.specs.declared.records.Entry.{Entry}
 use Rattle.fs_layout.specs.declared.records.Super.{Super}
 use Rattle.fs_layout.specs.declared.numbers.TheConstants.{BLKSIZE, RECORDSIZE, MAXNAMELEN, NDIRECT, FS_MAGIC}
 use Rattle.fs_layout.specs.declared.numbers.TheConstants.{BLOCKS_AT, ROOT_AT, SIZE_AT, KIND_AT, DIRECT_AT, INDIRECT_AT, PADDING_AT}
-use Rattle.fs_layout.specs.Layout.{word_at, bytes_at, words_at, entry_at, super_at, zeros, entry_bytes, super_bytes, EntryFits}
+use Rattle.fs_layout.specs.Layout.{word_at, bytes_from, words_from, entry_at, super_at, zeros, entry_bytes, super_bytes, EntryFits}
 
 -- ---- writing
 
@@ -108,7 +108,7 @@ unfolding bytes_of_words
 kind-stands byte at next size kind behind all = stands-rest byte at next (to_le_bytes w32 size) (bytes_of_words (kind ∷ [])) behind all
 
 pub entry-back : (byte : ℕ → ℕ) (at : ℕ) (e : Entry) → EntryFits e → Stands byte at (entry_bytes e) → entry_at byte at ≡ e
-unfolding entry_at entry_bytes bytes_at words_at
+unfolding entry_at entry_bytes bytes_from words_from
 entry-back byte at e sized all =
     let last : List ℕ = zeros (RECORDSIZE - PADDING_AT) in
     let two : List ℕ = bytes_of_words (e.size ∷ e.kind ∷ []) in
@@ -123,7 +123,7 @@ entry-back byte at e sized all =
     (word-back byte (at + SIZE_AT) e.size (e.kind ∷ []) sized.size sizes)
     (word-back byte (at + KIND_AT) e.kind [] sized.kind (kind-stands byte (at + SIZE_AT) (at + KIND_AT) e.size e.kind (omega arith) sizes))
     (sym (fill_by_all (λ k. word_at byte (at + DIRECT_AT + 4 * k)) e.direct NDIRECT 0 sized.direct
-        (λ k within. sym (words-back byte (at + DIRECT_AT) e.direct sized.each (stands-first byte (at + DIRECT_AT) ten (one ++ last) from_direct) k (omega (arith, sized.direct))))))
+    (λ k within. sym (words-back byte (at + DIRECT_AT) e.direct sized.each (stands-first byte (at + DIRECT_AT) ten (one ++ last) from_direct) k (omega (arith, sized.direct))))))
     (word-back byte (at + INDIRECT_AT) e.indirect [] sized.indirect (stands-first byte (at + INDIRECT_AT) one last from_indirect))
 
 pub length-entry_bytes : (e : Entry) → EntryFits e → length (entry_bytes e) ≡ RECORDSIZE
@@ -133,8 +133,19 @@ length-entry_bytes e sized =
     let two : List ℕ = bytes_of_words (e.size ∷ e.kind ∷ []) in
     let ten : List ℕ = bytes_of_words e.direct in
     let one : List ℕ = bytes_of_words (e.indirect ∷ []) in
-    omega (arith, sized.name, sized.direct, length-zeros (RECORDSIZE - PADDING_AT), length-bytes_of_words (e.size ∷ e.kind ∷ []), length-bytes_of_words e.direct, length-bytes_of_words (e.indirect ∷ []),
-        length-append e.name (two ++ (ten ++ (one ++ last))), length-append two (ten ++ (one ++ last)), length-append ten (one ++ last), length-append one last)
+    omega (
+      arith,
+      sized.name,
+      sized.direct,
+      length-zeros (RECORDSIZE - PADDING_AT),
+      length-bytes_of_words (e.size ∷ e.kind ∷ []),
+      length-bytes_of_words e.direct,
+      length-bytes_of_words (e.indirect ∷ []),
+      length-append e.name (two ++ (ten ++ (one ++ last))),
+      length-append two (ten ++ (one ++ last)),
+      length-append ten (one ++ last),
+      length-append one last,
+    )
 
 pub super-back : (byte : ℕ → ℕ) (at : ℕ) (s : Super) → s.blocks < 2 ^ 32 → EntryFits s.root → Stands byte at (super_bytes s) → super_at byte at ≡ Some s
 unfolding super_at super_bytes

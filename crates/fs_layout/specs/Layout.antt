@@ -19,19 +19,19 @@ abbrev pub word_at : (ℕ → ℕ) → ℕ → ℕ
 word_at byte at = from_le_bytes w32 (byte at ∷ byte (at + 1) ∷ byte (at + 2) ∷ byte (at + 3) ∷ [])
 
 -- so many bytes, and so many numbers, from a place on
-unfoldable pub bytes_at : (ℕ → ℕ) → ℕ → ℕ → List ℕ
-bytes_at byte at n = map (λ k. byte (at + k)) (range_with_len 0 n)
+unfoldable pub bytes_from : (ℕ → ℕ) → ℕ → ℕ → List ℕ
+bytes_from byte at n = map (λ k. byte (at + k)) (range_with_len 0 n)
 
-unfoldable pub words_at : (ℕ → ℕ) → ℕ → ℕ → List ℕ
-words_at byte at n = map (λ k. word_at byte (at + 4 * k)) (range_with_len 0 n)
+unfoldable pub words_from : (ℕ → ℕ) → ℕ → ℕ → List ℕ
+words_from byte at n = map (λ k. word_at byte (at + 4 * k)) (range_with_len 0 n)
 
 -- the record that begins at a place; its padding says nothing
 unfoldable pub entry_at : (ℕ → ℕ) → ℕ → Entry
 entry_at byte at = record {
-  name = bytes_at byte at MAXNAMELEN;
+  name = bytes_from byte at MAXNAMELEN;
   size = word_at byte (at + SIZE_AT);
   kind = word_at byte (at + KIND_AT);
-  direct = words_at byte (at + DIRECT_AT) NDIRECT;
+  direct = words_from byte (at + DIRECT_AT) NDIRECT;
   indirect = word_at byte (at + INDIRECT_AT);
 }
 

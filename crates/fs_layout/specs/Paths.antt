@@ -1,6 +1,6 @@
 -- Where the names stand in a path. `names_in` and `is_good_path` of FileActs tell the names themselves, and whether a path
 -- and its names are short enough; that both agree is proved.
-use Rattle.std.specs.Prelude.{ℕ, ◌+◌, ◌-◌, ◌&&◌, nat_lt, Bool, List, [], ◌∷◌, ◌++◌, length, take, drop, Option, Some, None}
+use Rattle.std.specs.Prelude.{ℕ, ◌+◌, ◌-◌, ◌<◌, ◌≤◌, ◌&&◌, nat_lt, Bool, List, [], ◌∷◌, ◌++◌, length, take, drop, Option, Some, None}
 use Rattle.std.specs.Prelude.{if◌then◌else◌}
 use Rattle.std.specs.List.{list_all}
 use Rattle.fs_layout.specs.declared.paths.Span.{Span}
@@ -28,6 +28,12 @@ name_of path span = take (span.to - span.from) (drop span.from path)
 -- whether a name leaves room for a NUL
 abbrev pub is_short : Span → Bool
 is_short span = nat_lt (span.to - span.from) MAXNAMELEN
+
+-- what is known of a name that is accepted, in a path of so many bytes
+pub record LiesIn (total : ℕ) (span : Span) : Type 0 where
+  pub some : span.from < span.to
+  pub within : span.to ≤ total
+  pub short : span.to - span.from < MAXNAMELEN
 
 -- the names in a path, if the path and each name leave room for a NUL
 unfoldable pub parts_of : List ℕ → Option (List Span)

@@ -1,22 +1,28 @@
 //! The file system as a tree, and what is done to it.
 //!
-//! `specs/FileTree.antt` says what a directory and a file are, how a way leads to them and how many blocks of the
-//! disk they take; `specs/FileActs.antt` what each act of the file server does to them; `specs/FileLaws.antt` what
-//! these mean, which is proved. Where the blocks lie on a disk is not told yet. Nothing here takes memory or is
-//! refused.
+//! `specs/FileTree.antt` says what a directory and a file are, how a way leads to them and how many blocks of the disk
+//! they take; `specs/FileActs.antt` what each act of the file server does to them; `specs/FileLaws.antt` what these mean,
+//! which is proved.
+//!
+//! `specs/Layout.antt` says how a record and the super block lie on the disk: both are read and written exactly so, and
+//! what is written is read back. `specs/Paths.antt` says where the names stand in a path, and `specs/PathLaws.antt` that
+//! these are the names of `FileActs`. `specs/DiskImage.antt` says which bytes are a disk, by tests of which the first that
+//! fails is the fault, and `specs/DiskFiles.antt` which tree of files a disk has. Nothing here takes memory.
 #![tactic(auto)]
 
 mod laws;
 mod numbers;
 mod paths;
 mod records;
+#[cfg(test)]
+mod tests;
 mod writer;
 
 pub use laws::{files_keep_what_is_written, parts_are_names, trees_keep_what_is_put};
 pub use numbers::{
-    BLKBITSIZE, BLKFILES, BLKSIZE, E_BAD_PATH, E_FILE_EXISTS, E_NO_DISK, E_NOT_FOUND, FS_MAGIC, FTYPE_DIR,
-    FTYPE_REG, MAXFILESIZE, MAXNAMELEN, MAXPATHLEN, NDIRECT, NINDIRECT, O_CREAT, O_EXCL, O_TRUNC,
-    RECORDSIZE,
+    BLKBITSIZE, BLKFILES, BLKSIZE, E_BAD_PATH, E_FILE_EXISTS, E_NO_DISK, E_NOT_FOUND, FS_MAGIC,
+    FTYPE_DIR, FTYPE_REG, MAXFILESIZE, MAXNAMELEN, MAXPATHLEN, NDIRECT, NINDIRECT, O_CREAT, O_EXCL,
+    O_TRUNC, RECORDSIZE,
 };
 pub use paths::{BadPath, NAMES_MAX, Span, parts};
 pub use records::{Entry, Super, decode_entry, decode_super};

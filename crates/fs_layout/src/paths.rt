@@ -1,7 +1,7 @@
 //! Paths.
 
-ghost use Rattle.std.specs.Prelude.{◌≡◌, ◌≤◌, ◌<◌, ◌+◌, ◌-◌, ◌*◌, ◌++◌, ◌^◌, Ok, Err, Some, None, IfOk, OnErr, OnOk, true, false, nat_lt, length};
-ghost use Rattle.fs_layout.specs.Paths.{span_between, spans_of, is_short, parts_of};
+ghost use Rattle.std.specs.Prelude.{◌≡◌, ◌≤◌, ◌<◌, ◌-◌, ◌++◌, Some, None, IfOk, OnErr, OnOk, All, true, false, nat_lt, length};
+ghost use Rattle.fs_layout.specs.Paths.{span_between, parts_of, LiesIn};
 
 use crate::numbers::{MAXNAMELEN, MAXPATHLEN};
 use arrayvec::ArrayVec;
@@ -23,11 +23,7 @@ pub struct Span {
 pub struct BadPath;
 
 /// Puts a name behind the others if there is one between these places.
-fn add_name(
-    names: &mut ArrayVec<Span, NAMES_MAX>,
-    from: usize,
-    to: usize,
-) -> Result<(), BadPath>
+fn add_name(names: &mut ArrayVec<Span, NAMES_MAX>, from: usize, to: usize) -> Result<(), BadPath>
     requires room { length names.old.items < NAMES_MAX }
     requires order { from ≤ to }
     requires small { to < MAXPATHLEN }
@@ -52,6 +48,7 @@ fn add_name(
 /// `walk_path`)
 pub fn parts(path: &[u8]) -> Result<ArrayVec<Span, NAMES_MAX>, BadPath>
     ensures ok { IfOk result (λ names. parts_of path.now ≡ Some names.items) }
+    ensures lie { IfOk result (λ names. All (LiesIn (length path.now)) names.items) }
     ensures err { OnErr result (parts_of path.now ≡ None) }
 {
     if path.len() >= MAXPATHLEN as usize {

@@ -1,7 +1,7 @@
 //! A record and the super block, read.
 
 ghost use Rattle.std.specs.Prelude.{◌≡◌, ◌+◌, ◌≤◌, length, slice_index};
-ghost use Rattle.fs_layout.specs.Layout.{word_at, bytes_at, words_at, entry_at, super_at};
+ghost use Rattle.fs_layout.specs.Layout.{word_at, bytes_from, words_from, entry_at, super_at};
 
 use crate::numbers::{
     BLKSIZE, BLOCKS_AT, DIRECT_AT, FS_MAGIC, INDIRECT_AT, KIND_AT, MAXNAMELEN, NDIRECT, RECORDSIZE,
@@ -43,7 +43,7 @@ fn word_at(bytes: &[u8], at: usize) -> u32
 /// The bytes of a name that begins at a place.
 fn name_at(bytes: &[u8], at: usize) -> [u8; MAXNAMELEN as usize]
     requires { at + MAXNAMELEN ≤ length bytes.now }
-    ensures { result ≡ bytes_at (slice_index bytes.now) at MAXNAMELEN }
+    ensures { result ≡ bytes_from (slice_index bytes.now) at MAXNAMELEN }
 {
     let mut name = [0; MAXNAMELEN as usize];
     for place in 0..MAXNAMELEN as usize {
@@ -55,7 +55,7 @@ fn name_at(bytes: &[u8], at: usize) -> [u8; MAXNAMELEN as usize]
 /// The numbers of blocks that begin at a place.
 fn direct_at(bytes: &[u8], at: usize) -> [u32; NDIRECT as usize]
     requires { at + 40 ≤ length bytes.now }
-    ensures { result ≡ words_at (slice_index bytes.now) at NDIRECT }
+    ensures { result ≡ words_from (slice_index bytes.now) at NDIRECT }
 {
     let mut direct = [0; NDIRECT as usize];
     for place in 0..NDIRECT as usize {

@@ -1,7 +1,7 @@
-use Rattle.std.proofs.Common.{◌+◌, ◌*◌, refl, arith, ◌∙◌, length-set}
+use Rattle.std.proofs.Common.{◌+◌, ◌*◌, arith, ◌∙◌, length-set}
 use Rattle.std.specs.Prelude.{slice_index}
 use Rattle.std.proofs.lemmas.List.FromFn.{fill_by_all}
-use Rattle.fs_layout.specs.Layout.{word_at, words_at}
+use Rattle.fs_layout.specs.Layout.{word_at, words_from}
 use Rattle.fs_layout.specs.declared.numbers.TheConstants.{NDIRECT}
 use Rattle.fs_layout.proofs.Fields.{one_more}
 use Rattle.fs_layout.proofs.records.direct_at.Goals as goal
@@ -13,7 +13,7 @@ loop-place-preserved c = record {
 }
 
 pub returns : goal.returns
-unfolding words_at
+unfolding words_from
 returns c =
     fill_by_all (λ k. word_at (slice_index c.args.bytes.now) (c.args.at + 4 * k)) c.loop-place.direct NDIRECT 0 c.loop-place.invariant.whole
     (λ k within. c.loop-place.invariant.read k (omega arith))

@@ -1,7 +1,7 @@
-use Rattle.std.proofs.Common.{◌+◌, ◌*◌, refl, arith, ◌∙◌, length-set}
+use Rattle.std.proofs.Common.{◌+◌, refl, arith, ◌∙◌, length-set}
 use Rattle.std.specs.Prelude.{slice_index}
 use Rattle.std.proofs.lemmas.List.FromFn.{fill_by_all}
-use Rattle.fs_layout.specs.Layout.{word_at, bytes_at}
+use Rattle.fs_layout.specs.Layout.{bytes_from}
 use Rattle.fs_layout.specs.declared.numbers.TheConstants.{MAXNAMELEN}
 use Rattle.fs_layout.proofs.Fields.{one_more}
 use Rattle.fs_layout.proofs.records.name_at.Goals as goal
@@ -13,7 +13,7 @@ loop-place-preserved c = record {
 }
 
 pub returns : goal.returns
-unfolding bytes_at
+unfolding bytes_from
 returns c =
     fill_by_all (λ k. slice_index c.args.bytes.now (c.args.at + k)) c.loop-place.name MAXNAMELEN 0 c.loop-place.invariant.whole
     (λ k within. c.loop-place.invariant.read k (omega arith))

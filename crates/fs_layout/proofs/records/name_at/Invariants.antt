@@ -1,6 +1,5 @@
-use Rattle.std.proofs.Common.{◌≡◌, ℕ, ◌<◌, ◌+◌, ◌*◌, length, get_or}
+use Rattle.std.proofs.Common.{◌≡◌, ℕ, ◌<◌, ◌+◌, length, get_or}
 use Rattle.std.specs.Prelude.{slice_index}
-use Rattle.fs_layout.specs.Layout.{word_at}
 use Rattle.fs_layout.specs.declared.numbers.TheConstants.{MAXNAMELEN}
 use Rattle.fs_layout.proofs.records.name_at.Given as goal
 

@@ -1,6 +1,6 @@
-use Rattle.std.proofs.Common.{◌≡◌, ◌+◌, ◌-◌, ◌*◌, ◌∙◌, ◌^◌, ◌<◌, ℕ, List, [], ◌∷◌, ◌++◌, length, take, get_or, refl, sym, ap, arith, rules, append_assoc}
+use Rattle.std.proofs.Common.{◌≡◌, ◌+◌, ◌-◌, ◌*◌, ◌∙◌, ℕ, [], ◌∷◌, ◌++◌, length, take, ap, arith, rules}
 use Rattle.jos_base.specs.TrapFrames.{bytes_of_words}
-use Rattle.fs_layout.specs.declared.numbers.TheConstants.{RECORDSIZE, MAXNAMELEN, NDIRECT, SIZE_AT, KIND_AT, DIRECT_AT, INDIRECT_AT, PADDING_AT}
+use Rattle.fs_layout.specs.declared.numbers.TheConstants.{RECORDSIZE, MAXNAMELEN, NDIRECT, SIZE_AT, DIRECT_AT, INDIRECT_AT, PADDING_AT}
 use Rattle.fs_layout.specs.Layout.{zeros, entry_bytes}
 use Rattle.fs_layout.proofs.Written.{five}
 use Rattle.fs_layout.proofs.writer.put_entry.Goals as goal

@@ -1,4 +1,4 @@
-use Rattle.std.proofs.Common.{◌≡◌, ◌+◌, ◌*◌, ◌++◌, length, take}
+use Rattle.std.proofs.Common.{◌≡◌, ◌+◌, ◌*◌, ◌++◌, take}
 use Rattle.jos_base.specs.TrapFrames.{bytes_of_words}
 use Rattle.fs_layout.proofs.writer.put_words.Given as goal
 
