@@ -5,3 +5,4 @@ mod Fields
 mod PathNames
 mod PathParts
 mod Written
+mod DiskExamples

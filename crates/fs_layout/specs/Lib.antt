@@ -4,3 +4,5 @@ pub mod FileLaws
 pub mod Layout
 pub mod Paths
 pub mod PathLaws
+pub mod DiskImage
+pub mod DiskFiles

@@ -21,8 +21,8 @@ mod writer;
 pub use laws::{files_keep_what_is_written, parts_are_names, trees_keep_what_is_put};
 pub use numbers::{
     BLKBITSIZE, BLKFILES, BLKSIZE, E_BAD_PATH, E_FILE_EXISTS, E_NO_DISK, E_NOT_FOUND, FS_MAGIC,
-    FTYPE_DIR, FTYPE_REG, MAXFILESIZE, MAXNAMELEN, MAXPATHLEN, NDIRECT, NINDIRECT, O_CREAT, O_EXCL,
-    O_TRUNC, RECORDSIZE,
+    FTYPE_DIR, FTYPE_REG, MAXBLOCKS, MAXFILESIZE, MAXNAMELEN, MAXPATHLEN, MINBLOCKS, NDIRECT,
+    NINDIRECT, O_CREAT, O_EXCL, O_TRUNC, RECORDSIZE,
 };
 pub use paths::{BadPath, NAMES_MAX, Span, parts};
 pub use records::{Entry, Super, decode_entry, decode_super};

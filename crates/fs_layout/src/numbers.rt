@@ -57,6 +57,12 @@ pub const E_FILE_EXISTS: u32 = 13;
 /// The word at the start of a super block.
 pub const FS_MAGIC: u32 = 0x4a05_30ae;
 
+/// The fewest blocks of a disk. (This system's name and bound)
+pub const MINBLOCKS: u32 = 4;
+
+/// The most blocks of a disk. (This system's name and bound)
+pub const MAXBLOCKS: u32 = 16_384;
+
 /// In a super block, the place of the number of blocks. (The layout of `struct Super`, as the next)
 pub(crate) const BLOCKS_AT: usize = 4;
 
