@@ -1,6 +1,6 @@
 -- The file server, slot 0: one request after another, each one act. A client asks, and waits for the reply.
 -- (MIT 6.828, lab 5: fs/serv.c.)
-use Rattle.std.specs.Prelude.{ℕ, ◌+◌, ◌-◌, ◌==◌, nat_lt, not, Bool, true, false, List, [], Option, Some, None, bytes_eq, ◌*◌, ◌/◌}
+use Rattle.std.specs.Prelude.{ℕ, ◌+◌, ◌%◌, ◌==◌, nat_lt, not, Bool, true, false, List, [], Option, Some, None, bytes_eq}
 use Rattle.std.specs.Prelude.{if◌then◌else◌}
 use Rattle.jos_base.specs.Words.{negated, upd}
 use Rattle.lib_os.specs.declared.numbers.TheConstants.{MAXOPEN, E_MAX_OPEN}
@@ -95,7 +95,7 @@ file_opened a client answer (Some k) (Some way) mode =
     }
 
 abbrev pub low_mode : ℕ → ℕ
-low_mode mode = mode - mode / 4 * 4
+low_mode mode = mode % 4
 
 -- after the act on the files
 abbrev pub after_act : AbstractState → ℕ → Act → Option ℕ → Option ℕ → Acted → AbstractState
