@@ -87,39 +87,35 @@ module _ (n va byte : ℕ) where
   abbrev put : AbstractState → AbstractState
   put a = guest_stored a n (born_in (a.slots n)) va byte
 
-  rights_put : (a : AbstractState) (q : ℕ) (access : Access) →
-      guest_allows (born_in ((put a).slots n)) q access ≡ guest_allows (born_in (a.slots n)) q access
-  rights_put a q access = by_slot (a.slots n) refl
+  -- what sees a page of other bytes as it saw the page sees nothing of what was put
+  seen_put : {W : Type 0} (seen : Option Born → W) (a : AbstractState) →
+      ((b : Born) (bytes : List ℕ) (w : Bool) → b.memory (page_number va) ≡ Some (own bytes w) →
+      seen (Some (own_after a n va byte b bytes w)) ≡ seen (Some b)) →
+      seen (born_in ((put a).slots n)) ≡ seen (born_in (a.slots n))
+  seen_put seen a alike = by_slot (a.slots n) refl
     where
       by_page : (b : Born) (page : Option Page) → a.slots n ≡ born b → b.memory (page_number va) ≡ page →
-          guest_allows (born_in ((stored_in a n b va byte page).slots n)) q access ≡ guest_allows (Some b) q access
+          seen (born_in ((stored_in a n b va byte page).slots n)) ≡ seen (Some b)
       by_page b None e p = rw e refl
-      by_page b (Some (own bytes w)) e p = rw (upd-at a.slots n (born (own_after a n va byte b bytes w))) (allows_own a n va byte b bytes w p q access)
+      by_page b (Some (own bytes w)) e p = rw (upd-at a.slots n (born (own_after a n va byte b bytes w))) (alike b bytes w p)
       by_page b (Some (named name w)) e p = rw e refl
 
       by_slot : (slot : Slot) → a.slots n ≡ slot →
-          guest_allows (born_in ((guest_stored a n (born_in slot) va byte).slots n)) q access ≡ guest_allows (born_in slot) q access
+          seen (born_in ((guest_stored a n (born_in slot) va byte).slots n)) ≡ seen (born_in slot)
       by_slot (free id) e = rw e refl
       by_slot (unborn id parent) e = rw e refl
       by_slot (born b) e = by_page b (b.memory (page_number va)) e refl
       by_slot (serving id) e = rw e refl
+
+  rights_put : (a : AbstractState) (q : ℕ) (access : Access) →
+      guest_allows (born_in ((put a).slots n)) q access ≡ guest_allows (born_in (a.slots n)) q access
+  rights_put a q access =
+      seen_put (λ o. guest_allows o q access) a (λ b bytes w p. allows_own a n va byte b bytes w p q access)
 
   faults_put : (a : AbstractState) (q : ℕ) (access : Access) →
       guest_fault (born_in ((put a).slots n)) q access ≡ guest_fault (born_in (a.slots n)) q access
-  faults_put a q access = by_slot (a.slots n) refl
-    where
-      by_page : (b : Born) (page : Option Page) → a.slots n ≡ born b → b.memory (page_number va) ≡ page →
-          guest_fault (born_in ((stored_in a n b va byte page).slots n)) q access ≡ guest_fault (Some b) q access
-      by_page b None e p = rw e refl
-      by_page b (Some (own bytes w)) e p = rw (upd-at a.slots n (born (own_after a n va byte b bytes w))) (fault_own a n va byte b bytes w p q access)
-      by_page b (Some (named name w)) e p = rw e refl
-
-      by_slot : (slot : Slot) → a.slots n ≡ slot →
-          guest_fault (born_in ((guest_stored a n (born_in slot) va byte).slots n)) q access ≡ guest_fault (born_in slot) q access
-      by_slot (free id) e = rw e refl
-      by_slot (unborn id parent) e = rw e refl
-      by_slot (born b) e = by_page b (b.memory (page_number va)) e refl
-      by_slot (serving id) e = rw e refl
+  faults_put a q access =
+      seen_put (λ o. guest_fault o q access) a (λ b bytes w p. fault_own a n va byte b bytes w p q access)
 
   bytes_put : (a : AbstractState) (q : ℕ) →
       (guest_byte (put a) (born_in ((put a).slots n)) q ≡ guest_byte a (born_in (a.slots n)) q)
