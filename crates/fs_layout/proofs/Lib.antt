@@ -6,3 +6,4 @@ mod PathNames
 mod PathParts
 mod Written
 mod DiskExamples
+mod DiskDepth

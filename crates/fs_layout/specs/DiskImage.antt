@@ -265,7 +265,7 @@ slot_test onward byte directory i =
 -- The records of the directory at a place, each with all that stands below it before the next. The first number bounds how
 -- deep directories stand in one another, and is the number of blocks at the root. It is never used up: a directory whose
 -- records are reached has a data block, or Hole or Range was told before, and no other directory has that block, or NamedTwice
--- was told before. So of directories in one another there are fewer than blocks.
+-- was told before. So of directories in one another there are fewer than blocks. (DiskLaws.antt has the law)
 unfoldable pub contents_test : ℕ → (ℕ → ℕ) → ℕ → Test
 contents_test zero byte directory named = Ok named
 contents_test (suc depth) byte directory named =

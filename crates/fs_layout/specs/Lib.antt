@@ -6,3 +6,4 @@ pub mod Paths
 pub mod PathLaws
 pub mod DiskImage
 pub mod DiskFiles
+pub mod DiskLaws

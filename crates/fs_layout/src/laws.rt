@@ -1,7 +1,9 @@
-//! What the tree of files and the acts on it mean. Nothing here is to be run: each clause is a theorem.
+//! What the tree of files, the acts on it and the tests of an image mean. Nothing here is to be run: each clause is a
+//! theorem.
 
 ghost use Rattle.fs_layout.specs.FileLaws.{WritesAreReadBack, WritesLengthen, SizesAreSet, NodesAreReplaced, RecordsAreEmptied};
 ghost use Rattle.fs_layout.specs.PathLaws.{NamesStandInSpans, GoodPathsHaveParts};
+ghost use Rattle.fs_layout.specs.DiskLaws.{DepthSuffices};
 
 /// What is written to a file is read back at its place, a file is no longer than that asks for, and it has the size
 /// that it is given.
@@ -21,4 +23,9 @@ pub fn trees_keep_what_is_put()
 pub fn parts_are_names()
     ensures names { NamesStandInSpans }
     ensures good { GoodPathsHaveParts }
+{}
+
+/// The bound on the depth in the tests of an image is never used up: with a greater one the outcome is the same.
+pub fn depth_suffices()
+    ensures { DepthSuffices }
 {}
