@@ -2,8 +2,9 @@ pub mod FileTrees
 pub mod FileBytes
 mod FileExamples
 mod Fields
-mod PathNames
-mod PathParts
-mod Written
+pub mod PathNames
+pub mod PathParts
+pub mod Written
 mod DiskExamples
 mod DiskDepth
+pub mod Places

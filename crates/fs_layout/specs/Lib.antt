@@ -2,6 +2,7 @@ pub mod FileTree
 pub mod FileActs
 pub mod FileLaws
 pub mod Layout
+pub mod LayoutLaws
 pub mod Paths
 pub mod PathLaws
 pub mod DiskImage

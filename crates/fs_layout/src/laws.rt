@@ -1,7 +1,8 @@
-//! What the tree of files, the acts on it and the tests of an image mean. Nothing here is to be run: each clause is a
-//! theorem.
+//! What the tree of files, the acts on it, paths, records and the tests of an image mean. Nothing here is to be run: each
+//! clause is a theorem.
 
 ghost use Rattle.fs_layout.specs.FileLaws.{WritesAreReadBack, WritesLengthen, SizesAreSet, NodesAreReplaced, RecordsAreEmptied};
+ghost use Rattle.fs_layout.specs.LayoutLaws.{EntriesAreTheirBytes, SupersAreTheirBytes};
 ghost use Rattle.fs_layout.specs.PathLaws.{NamesStandInSpans, GoodPathsHaveParts};
 ghost use Rattle.fs_layout.specs.DiskLaws.{DepthSuffices};
 
@@ -28,4 +29,10 @@ pub fn parts_are_names()
 /// The bound on the depth in the tests of an image is never used up: with a greater one the outcome is the same.
 pub fn depth_suffices()
     ensures { DepthSuffices }
+{}
+
+/// What a record and a super block say depends on their bytes alone, wherever these stand on a disk.
+pub fn records_are_their_bytes()
+    ensures entries { EntriesAreTheirBytes }
+    ensures supers { SupersAreTheirBytes }
 {}

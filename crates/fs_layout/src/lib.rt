@@ -5,10 +5,12 @@
 //! which is proved.
 //!
 //! `specs/Layout.antt` says how a record and the super block lie on the disk: both are read and written exactly so, and
-//! what is written is read back. `specs/Paths.antt` says where the names stand in a path, and `specs/PathLaws.antt` that
-//! these are the names of `FileActs`. `specs/DiskImage.antt` says which bytes are a disk, by tests of which the first that
-//! fails is the fault, `specs/DiskLaws.antt` that the bound on their depth is never used up, and `specs/DiskFiles.antt`
-//! which tree of files a disk has. Nothing here takes memory.
+//! what is written is read back; `specs/LayoutLaws.antt` says that only their own bytes count. `specs/Paths.antt` says
+//! where the names stand in a path, and `specs/PathLaws.antt` that these are the names of `FileActs`.
+//!
+//! `specs/DiskImage.antt` says which bytes are a disk, by tests of which the first that fails is the fault,
+//! `specs/DiskLaws.antt` that the bound on their depth is never used up, and `specs/DiskFiles.antt` which tree of files a
+//! disk has. Nothing here takes memory.
 #![tactic(auto)]
 
 mod laws;
@@ -20,7 +22,8 @@ mod tests;
 mod writer;
 
 pub use laws::{
-    depth_suffices, files_keep_what_is_written, parts_are_names, trees_keep_what_is_put,
+    depth_suffices, files_keep_what_is_written, parts_are_names, records_are_their_bytes,
+    trees_keep_what_is_put,
 };
 pub use numbers::{
     BLKBITSIZE, BLKFILES, BLKSIZE, E_BAD_PATH, E_FILE_EXISTS, E_NO_DISK, E_NOT_FOUND, FS_MAGIC,

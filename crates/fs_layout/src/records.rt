@@ -1,6 +1,6 @@
 //! A record and the super block, read.
 
-ghost use Rattle.std.specs.Prelude.{◌≡◌, ◌+◌, ◌≤◌, length, slice_index};
+ghost use Rattle.std.specs.Prelude.{◌≡◌, ◌+◌, ◌*◌, ◌≤◌, length, slice_index};
 ghost use Rattle.fs_layout.specs.Layout.{word_at, bytes_from, words_from, entry_at, super_at};
 
 use crate::numbers::{
@@ -20,7 +20,7 @@ pub struct Super {
 /// A record of a directory. (MIT 6.828, inc/fs.h, `struct File`)
 #[derive(Clone, Copy, Debug, PartialEq, Eq)]
 pub struct Entry {
-    /// The name, with a NUL behind it.
+    /// The name, which ends at the first NUL.
     pub name: [u8; MAXNAMELEN as usize],
     /// How many bytes.
     pub size: u32,
@@ -28,7 +28,7 @@ pub struct Entry {
     pub kind: u32,
     /// The numbers of the first blocks.
     pub direct: [u32; NDIRECT as usize],
-    /// The number of the block that holds the numbers of the other blocks.
+    /// The number of the block that holds the numbers of the other blocks, or 0.
     pub indirect: u32,
 }
 
@@ -54,7 +54,7 @@ fn name_at(bytes: &[u8], at: usize) -> [u8; MAXNAMELEN as usize]
 
 /// The numbers of blocks that begin at a place.
 fn direct_at(bytes: &[u8], at: usize) -> [u32; NDIRECT as usize]
-    requires { at + 40 ≤ length bytes.now }
+    requires { at + 4 * NDIRECT ≤ length bytes.now }
     ensures { result ≡ words_from (slice_index bytes.now) at NDIRECT }
 {
     let mut direct = [0; NDIRECT as usize];
