@@ -1,0 +1,4 @@
+pub mod OneBlock
+pub mod Each
+pub mod OneRecord
+mod NameBytes

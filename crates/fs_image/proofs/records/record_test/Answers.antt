@@ -1,0 +1,25 @@
+use Rattle.std.proofs.Common.{◌≡◌, sym, true, false, Ok, Err, arith}
+use Rattle.std.specs.Prelude.{nat_le}
+use Rattle.fs_layout.specs.declared.numbers.TheConstants.{MAXFILESIZE}
+use Rattle.fs_layout.specs.DiskImage.{size_of, Stray}
+use Rattle.fs_image.specs.Answers.{answered, blocks_in, fault_of}
+use Rattle.fs_image.proofs.OneRecord.{record_1, record_2, record_3, record_4, stray_1, stray_2, stray_3, size_past, size_within}
+use Rattle.fs_image.proofs.records.record_test.Goals as goal
+
+pub returns-then-not-is_good_size : goal.returns-then-not-is_good_size
+returns-then-not-is_good_size g c = sym (record_1 (g.D.Disk.bytes c.args.disk.now) c.args.place (blocks_in c.args.named.now) (cc))
+
+pub returns-then-size-gt-MAXFILESIZE : goal.returns-then-size-gt-MAXFILESIZE
+returns-then-size-gt-MAXFILESIZE g c = sym (record_2 (g.D.Disk.bytes c.args.disk.now) c.args.place (blocks_in c.args.named.now) (cc) (size_past c.size_of.result (size_of (g.D.Disk.bytes c.args.disk.now) c.args.place) c.size_of.ensures (omega arith)))
+
+pub returns-in-Some : goal.returns-in-Some
+returns-in-Some g c = sym (record_3 (g.D.Disk.bytes c.args.disk.now) c.args.place (blocks_in c.args.named.now) (fault_of c.in-Some.fault) (cc) (size_within c.size_of.result (size_of (g.D.Disk.bytes c.args.disk.now) c.args.place) c.size_of.ensures (omega arith)) (sym c.in-Some.ensures))
+
+pub returns-then-has_stray : goal.returns-then-has_stray
+returns-then-has_stray g c = sym (record_4 (g.D.Disk.bytes c.args.disk.now) c.args.place (blocks_in c.args.named.now) (blocks_in c.numbers_test.new.named) (Err (Stray c.args.place)) (cc) (size_within c.size_of.result (size_of (g.D.Disk.bytes c.args.disk.now) c.args.place) c.size_of.ensures (omega arith)) (sym c.in_default.ensures) (stray_1 (g.D.Disk.bytes c.args.disk.now) c.args.place (blocks_in c.numbers_test.new.named) (cc)))
+
+pub returns-then-has_far_stray : goal.returns-then-has_far_stray
+returns-then-has_far_stray g c = sym (record_4 (g.D.Disk.bytes c.args.disk.now) c.args.place (blocks_in c.args.named.now) (blocks_in c.numbers_test.new.named) (Err (Stray c.args.place)) (cc) (size_within c.size_of.result (size_of (g.D.Disk.bytes c.args.disk.now) c.args.place) c.size_of.ensures (omega arith)) (sym c.in_default.ensures) (stray_2 (g.D.Disk.bytes c.args.disk.now) c.args.place (blocks_in c.numbers_test.new.named) (cc) (cc)))
+
+pub returns : goal.returns
+returns g c = sym (record_4 (g.D.Disk.bytes c.args.disk.now) c.args.place (blocks_in c.args.named.now) (blocks_in c.numbers_test.new.named) (Ok (blocks_in c.numbers_test.new.named)) (cc) (size_within c.size_of.result (size_of (g.D.Disk.bytes c.args.disk.now) c.args.place) c.size_of.ensures (omega arith)) (sym c.in_default.ensures) (stray_3 (g.D.Disk.bytes c.args.disk.now) c.args.place (blocks_in c.numbers_test.new.named) (cc) (cc)))

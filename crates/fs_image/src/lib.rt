@@ -1,0 +1,12 @@
+//! Checks that bytes are a disk image: the fault is the first that `fs_layout`'s `specs/DiskImage.antt` tells.
+#![tactic(auto)]
+
+mod blocks;
+mod disk;
+mod fault;
+mod names;
+mod records;
+mod slots;
+
+pub use disk::{Disk, Memory};
+pub use fault::ImageFault;
