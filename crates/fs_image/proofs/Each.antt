@@ -1,6 +1,6 @@
 -- What tests one after another give.
 use Rattle.std.proofs.Common.{◌≡◌, ℕ, zero, suc, ◌+◌, ◌-◌, ◌<◌, ◌≤◌, ◌≢◌, ◌⊎◌, inl, inr, Bool, true, false, Ok, Err, Result, refl, sym, ◌∙◌, ap, arith, add-one}
-use Rattle.std.specs.Prelude.{◌||◌, List, [], ◌∷◌}
+use Rattle.std.specs.Prelude.{◌||◌, List, [], ◌∷◌, ◌++◌}
 use Rattle.std.proofs.lemmas.Bool.Decides.{eqb_tells}
 use Rattle.fs_layout.specs.DiskImage.{Blocks, Test, ImageFault, after, demand, only_where, in_turn, for_each_below, some_below}
 
@@ -78,3 +78,18 @@ where_not b test named e = rw e refl
 
 pub where_so : (b : Bool) (test : Test) (named : Blocks) → b ≡ true → only_where b test named ≡ test named
 where_so b test named e = rw e refl
+
+after_after : (r : Result Blocks ImageFault) (whole first rest : Test) → ((named : Blocks) → whole named ≡ after (first named) rest) → after r whole ≡ after (after r first) rest
+after_after (Ok named) whole first rest h = h named
+after_after (Err fault) whole first rest h = refl
+
+pub turn_append : (xs ys : List Test) (named : Blocks) → in_turn (xs ++ ys) named ≡ after (in_turn xs named) (in_turn ys)
+unfolding in_turn
+turn_append [] ys named = refl
+turn_append (test ∷ tests) ys named = after_after (test named) (in_turn (tests ++ ys)) (in_turn tests) (in_turn ys) (turn_append tests ys)
+
+pub append_fails : (xs ys : List Test) (named : Blocks) (fault : ImageFault) → in_turn xs named ≡ Err fault → in_turn (xs ++ ys) named ≡ Err fault
+append_fails xs ys named fault e = turn_append xs ys named ∙ ap (λ r. after r (in_turn ys)) e
+
+pub append_passes : (xs ys : List Test) (named now : Blocks) → in_turn xs named ≡ Ok now → in_turn (xs ++ ys) named ≡ in_turn ys now
+append_passes xs ys named now e = turn_append xs ys named ∙ ap (λ r. after r (in_turn ys)) e

@@ -1,4 +1,5 @@
 pub mod OneBlock
 pub mod Each
 pub mod OneRecord
-mod NameBytes
+pub mod NameBytes
+pub mod OneSlot

@@ -16,10 +16,11 @@ loop-j-init g c = some_none (same_at (g.D.Disk.bytes c.args.disk.now) c.args.dir
 pub returns-then-have_one_name : goal.returns-then-have_one_name
 unfolding has_taken_name
 returns-then-have_one_name g c = sym (some_found (same_at (g.D.Disk.bytes c.args.disk.now) c.args.directory c.args.i) c.loop-j.j c.args.i (omega arith)
-    (let h = c in ?))
+    (along (g.D.Disk.bytes c.args.disk.now) c.slot_place-other.result c.slot_place-place.result (slot_place (g.D.Disk.bytes c.args.disk.now) c.args.directory c.loop-j.j) (slot_place (g.D.Disk.bytes c.args.disk.now) c.args.directory c.args.i) c.have_one_name.result true c.slot_place-other.ensures.place c.slot_place-place.ensures.place c.have_one_name.ensures c.if-have_one_name.true))
 
 pub loop-j-preserved : goal.loop-j-preserved
-loop-j-preserved g c = some_passed (same_at (g.D.Disk.bytes c.args.disk.now) c.args.directory c.args.i) c.loop-j.j c.loop-j.invariant (cc)
+loop-j-preserved g c = some_passed (same_at (g.D.Disk.bytes c.args.disk.now) c.args.directory c.args.i) c.loop-j.j c.loop-j.invariant
+    (along (g.D.Disk.bytes c.args.disk.now) c.slot_place-other.result c.slot_place-place.result (slot_place (g.D.Disk.bytes c.args.disk.now) c.args.directory c.loop-j.j) (slot_place (g.D.Disk.bytes c.args.disk.now) c.args.directory c.args.i) c.have_one_name.result false c.slot_place-other.ensures.place c.slot_place-place.ensures.place c.have_one_name.ensures c.if-have_one_name.false)
 
 pub returns : goal.returns
 unfolding has_taken_name
