@@ -3,3 +3,4 @@ pub mod Each
 pub mod OneRecord
 pub mod NameBytes
 pub mod OneSlot
+pub mod Image

@@ -99,8 +99,9 @@ same_nul f h i n e k = rw (e, k) refl
 
 differ_at : (x y : ℕ) (xs ys : List ℕ) → x ≢ y → bytes_eq (if x == 0 then [] else x ∷ xs) (if y == 0 then [] else y ∷ ys) ≡ false
 differ_at x y xs ys ne = elim (eqb_tells x 0) [
-      inl same ↦ elim (eqb_tells y 0) [ inl other ↦ absurd (ne (same.1 ∙ sym other.1)) | inr other ↦ rw (same.0, other.0) refl ]
-    | inr same ↦ elim (eqb_tells y 0) [ inl other ↦ rw (same.0, other.0) refl | inr other ↦ rw (same.0, other.0, test_not x y ne) refl ] ]
+  | inl same ↦ elim (eqb_tells y 0) [ inl other ↦ absurd (ne (same.1 ∙ sym other.1)) | inr other ↦ rw (same.0, other.0) refl ]
+  | inr same ↦ elim (eqb_tells y 0) [ inl other ↦ rw (same.0, other.0) refl | inr other ↦ rw (same.0, other.0, test_not x y ne) refl ]
+]
 
 pub same_differ : (f h : ℕ → ℕ) (i n : ℕ) → f i ≢ h i → bytes_eq (name_from f i (suc n)) (name_from h i (suc n)) ≡ false
 unfolding name_from

@@ -1,5 +1,5 @@
 -- What the tests of a directory's record give.
-use Rattle.std.proofs.Common.{◌≡◌, ℕ, zero, suc, ◌+◌, ◌-◌, ◌/◌, ◌<◌, ◌≢◌, ◌⊎◌, inl, inr, arith, Bool, true, false, Ok, Err, Result, List, [], ◌∷◌, ◌++◌, refl, sym, ◌∙◌, ap, sub-one}
+use Rattle.std.proofs.Common.{◌≡◌, ℕ, zero, suc, ◌+◌, ◌-◌, ◌/◌, ◌<◌, ◌≢◌, ◌⊎◌, inl, inr, arith, Bool, true, false, Ok, Err, Result, List, [], ◌∷◌, ◌++◌, refl, sym, ◌∙◌, ap, subst, ◌≤◌}
 use Rattle.std.specs.Prelude.{◌==◌, not}
 use Rattle.std.proofs.lemmas.Bool.Decides.{eqb_tells}
 use Rattle.fs_layout.specs.declared.numbers.TheConstants.{FTYPE_DIR, RECORDSIZE}
@@ -123,3 +123,9 @@ unfolding contents_test
 contents_deep zero byte directory n h = absurd (omega arith)
 contents_deep (suc depth) byte directory n h =
     let e : suc depth - 1 ≡ depth = omega arith in ap (λ d. for_each_below (slot_count byte directory) (slot_test (contents_test d byte) byte directory) n) (sym e)
+
+pub slots_within : (a s i : ℕ) → a ≡ s → i < a / RECORDSIZE → i < s / RECORDSIZE
+slots_within a s i e h = subst (λ (x : ℕ). i < x / RECORDSIZE) e h
+
+pub slots_end : (a s i : ℕ) → a ≡ s → a / RECORDSIZE ≤ i → i ≤ a / RECORDSIZE → i ≡ s / RECORDSIZE
+slots_end a s i e h k = let same : i ≡ a / RECORDSIZE = omega arith in same ∙ ap (λ x. x / RECORDSIZE) e

@@ -26,14 +26,12 @@ unfoldable pub blocks_in : List Bool → disk.Blocks
 blocks_in named block = get_or named block false
 
 -- a fault, or the blocks that were named by then
-abbrev pub answered : Option ImageFault → List Bool → Result disk.Blocks disk.ImageFault
-answered None named = Ok (blocks_in named)
-answered (Some fault) named = Err (fault_of fault)
-
--- the same, of blocks that are told otherwise
 abbrev pub told : Option ImageFault → disk.Blocks → Result disk.Blocks disk.ImageFault
 told None named = Ok named
 told (Some fault) named = Err (fault_of fault)
+
+abbrev pub answered : Option ImageFault → List Bool → Result disk.Blocks disk.ImageFault
+answered fault named = told fault (blocks_in named)
 
 -- the tests of a directory's record, as `slot_tests` has them, but for what stands below it
 unfoldable pub own_tests : (ℕ → ℕ) → ℕ → ℕ → List disk.Test

@@ -7,6 +7,8 @@ mod fault;
 mod names;
 mod records;
 mod slots;
+mod tree;
 
 pub use disk::{Disk, Memory};
 pub use fault::ImageFault;
+pub use tree::check;
