@@ -5,6 +5,7 @@ use Rattle.std.specs.Option.{option_map}
 use Rattle.std.specs.Result.{result_err}
 use Rattle.std.proofs.lemmas.List.{get_or_past}
 use Rattle.std.proofs.lemmas.Bool.{leb-true}
+use Rattle.std.proofs.lemmas.Bool.Decides.{leb_tells}
 use Rattle.fs_layout.specs.declared.numbers.TheConstants.{BLKSIZE, FS_MAGIC, MAXBLOCKS, MINBLOCKS}
 use Rattle.fs_layout.specs.DiskImage as image
 use Rattle.fs_layout.specs.DiskImage.{Blocks, Test, none_named, in_turn, for_each_below, demand}
@@ -94,7 +95,7 @@ element l q h (inl within) = h q within
 element l q h (inr past) = get_or_past l q false past
 
 within_or_past : (q n : ℕ) → (q < n) ⊎ (n ≤ q)
-within_or_past q n = elim (ltb_tells q n) [ inl yes_so ↦ inl yes_so.1 | inr not_so ↦ inr (omega (arith, not_so.1)) ]
+within_or_past q n = elim (leb_tells n q) [ inl past ↦ inr past.1 | inr within ↦ inl within.1 ]
 
 pub cleared : (l : List Bool) → ((k : ℕ) → k < length l → get_or l k false ≡ false) → blocks_in l ≡ none_named
 unfolding blocks_in
