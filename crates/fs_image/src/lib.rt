@@ -7,6 +7,8 @@ mod fault;
 mod names;
 mod records;
 mod slots;
+#[cfg(test)]
+mod tests;
 mod tree;
 
 pub use disk::{Disk, Memory};
