@@ -13,4 +13,4 @@ mod tree;
 
 pub use disk::{Disk, Memory};
 pub use fault::ImageFault;
-pub use tree::check;
+pub use tree::{check, check_bytes};

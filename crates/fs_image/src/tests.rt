@@ -34,7 +34,7 @@ fn told(at: usize, word: u32) -> Option<ImageFault> {
     }
     put(&mut bytes, at, word);
     let mut named = [true; 16_384];
-    check(&Memory::new(&bytes), &mut named)
+    check_bytes(&bytes, &mut named)
 }
 
 #[test]

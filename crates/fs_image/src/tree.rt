@@ -1,12 +1,12 @@
 //! All the tests, in their order.
 
-ghost use Rattle.std.specs.Prelude.{◌≡◌, ◌+◌, ◌*◌, ◌<◌, ◌≤◌, ◌^◌, length, ◌&&◌, ◌==◌, nat_le, IfNone};
+ghost use Rattle.std.specs.Prelude.{◌≡◌, ◌+◌, ◌*◌, ◌<◌, ◌≤◌, ◌^◌, length, ◌&&◌, ◌==◌, nat_le, slice_index, IfNone};
 ghost use Rattle.std.specs.Option.{option_map};
 ghost use Rattle.fs_layout.specs.DiskImage as image;
 ghost use Rattle.fs_image.specs.Answers.{answered, blocks_in, fault_of, told};
 
 use crate::blocks::{block_count, first_data_block, is_marked_free};
-use crate::disk::Disk;
+use crate::disk::{Disk, Memory};
 use crate::fault::ImageFault;
 use crate::records::{kind_of, record_test};
 use crate::slots::contents_test;
@@ -111,4 +111,12 @@ pub fn check<D: Disk>(disk: &D, named: &mut [bool]) -> Option<ImageFault>
     }
     clear(named);
     tree_test(disk, named)
+}
+
+/// The same of bytes in memory.
+pub fn check_bytes(bytes: &[u8], named: &mut [bool]) -> Option<ImageFault>
+    requires { MAXBLOCKS ≤ length named.old }
+    ensures { option_map fault_of result ≡ image.image_fault (length bytes.now) (slice_index bytes.now) }
+{
+    check(&Memory::new(bytes), named)
 }
