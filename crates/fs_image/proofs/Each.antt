@@ -1,5 +1,5 @@
 -- What tests one after another give.
-use Rattle.std.proofs.Common.{◌≡◌, ℕ, zero, suc, ◌+◌, ◌-◌, ◌<◌, ◌≤◌, ◌≢◌, ◌⊎◌, inl, inr, Bool, true, false, Ok, Err, Result, refl, sym, ◌∙◌, ap, arith, add-one}
+use Rattle.std.proofs.Common.{◌≡◌, ℕ, zero, suc, ◌+◌, ◌<◌, ◌≢◌, ◌⊎◌, inl, inr, Bool, true, false, Ok, Err, Result, refl, sym, ◌∙◌, ap, arith, add-one}
 use Rattle.std.specs.Prelude.{◌||◌, List, [], ◌∷◌, ◌++◌}
 use Rattle.std.proofs.lemmas.Bool.Decides.{eqb_tells}
 use Rattle.fs_layout.specs.DiskImage.{Blocks, Test, ImageFault, after, demand, only_where, in_turn, for_each_below, some_below}

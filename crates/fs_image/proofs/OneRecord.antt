@@ -1,12 +1,12 @@
 -- What the tests of a record give.
-use Rattle.std.proofs.Common.{◌≡◌, ℕ, ◌+◌, ◌-◌, ◌<◌, ◌≤◌, arith, Bool, true, false, Ok, Err, Result, List, [], ◌∷◌, refl, sym, ◌∙◌, ap}
-use Rattle.std.specs.Prelude.{◌==◌, ◌&&◌, not, nat_le, nat_lt, min}
+use Rattle.std.proofs.Common.{◌≡◌, ℕ, ◌-◌, ◌<◌, ◌≤◌, arith, Bool, true, false, Ok, Err, Result, [], ◌∷◌, refl, ◌∙◌}
+use Rattle.std.specs.Prelude.{◌&&◌, not, nat_le, min}
 use Rattle.std.proofs.lemmas.Bool.Decides.{nat_tests}
 use Rattle.fs_layout.specs.declared.numbers.TheConstants.{NDIRECT, MAXFILESIZE}
 use Rattle.fs_layout.specs.DiskImage.{Blocks, Test, ImageFault, DirSize, TooLong, Stray, in_turn, demand, for_each_below, only_where}
 use Rattle.fs_layout.specs.DiskImage.{number_test, direct_of, number_in_indirect, indirect_test, blocks_needed, numbers_tests}
 use Rattle.fs_layout.specs.DiskImage.{record_tests, stray_tests, has_stray, has_indirect, has_stray_in_indirect, is_good_size, size_of, kind_of}
-use Rattle.fs_image.proofs.Each.{turn_fails, turn_passes, turn_last, turn_done, demand_fails, demand_passes, where_not, where_so}
+use Rattle.fs_image.proofs.Each.{turn_fails, turn_passes, turn_last, demand_passes}
 
 abbrev pub directs : (ℕ → ℕ) → ℕ → Test
 directs byte place = for_each_below (min (blocks_needed byte place) NDIRECT) (λ i. number_test byte place (direct_of byte place i))

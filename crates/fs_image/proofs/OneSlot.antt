@@ -1,13 +1,13 @@
 -- What the tests of a directory's record give.
-use Rattle.std.proofs.Common.{◌≡◌, ℕ, zero, suc, ◌+◌, ◌-◌, ◌/◌, ◌<◌, ◌≢◌, ◌⊎◌, inl, inr, arith, Bool, true, false, Ok, Err, Result, List, [], ◌∷◌, ◌++◌, refl, sym, ◌∙◌, ap, subst, ◌≤◌}
+use Rattle.std.proofs.Common.{◌≡◌, ℕ, zero, suc, ◌-◌, ◌/◌, ◌<◌, ◌≢◌, inl, inr, arith, true, false, Ok, Err, Result, List, [], ◌∷◌, ◌++◌, refl, sym, ◌∙◌, ap, subst, ◌≤◌}
 use Rattle.std.specs.Prelude.{◌==◌, not}
 use Rattle.std.proofs.lemmas.Bool.Decides.{eqb_tells}
 use Rattle.fs_layout.specs.declared.numbers.TheConstants.{FTYPE_DIR, RECORDSIZE}
-use Rattle.fs_layout.specs.DiskImage.{Blocks, Test, ImageFault, Kind, BadName, SameName, in_turn, demand, only_where, after, for_each_below}
+use Rattle.fs_layout.specs.DiskImage.{Blocks, Test, ImageFault, Kind, BadName, SameName, in_turn, demand, only_where, for_each_below}
 use Rattle.fs_layout.specs.DiskImage.{is_good_kind, kind_of, is_good_name, name_of, record_tests, has_taken_name, slot_place, slot_tests, slot_test}
-use Rattle.fs_layout.specs.DiskImage.{is_directory, is_empty_record, contents_test, slot_count, size_of}
+use Rattle.fs_layout.specs.DiskImage.{is_directory, is_empty_record, contents_test, slot_count}
 use Rattle.fs_image.specs.Answers.{own_tests}
-use Rattle.fs_image.proofs.Each.{turn_fails, turn_passes, turn_last, turn_done, demand_fails, demand_passes, where_not, where_so, append_fails, append_passes}
+use Rattle.fs_image.proofs.Each.{turn_fails, turn_passes, turn_last, demand_fails, demand_passes, where_not, where_so, append_fails, append_passes}
 
 -- the same tests, of a record at a place
 abbrev own_at : (ℕ → ℕ) → ℕ → ℕ → ℕ → List Test

@@ -1,5 +1,5 @@
 -- What a check answers, as the definition of disk images has it.
-use Rattle.std.specs.Prelude.{ℕ, Bool, true, false, not, List, [], ◌∷◌, get_or, Option, Some, None, Result, Ok, Err}
+use Rattle.std.specs.Prelude.{ℕ, Bool, false, not, List, [], ◌∷◌, get_or, Option, Some, None, Result, Ok, Err}
 use Rattle.fs_image.specs.declared.fault.ImageFault.{ImageFault}
 use Rattle.fs_image.specs.declared.fault.ImageFault.TheVariants.{TooShort, Magic, BlockCount, RootKind, Kind, BadName, DirSize}
 use Rattle.fs_image.specs.declared.fault.ImageFault.TheVariants.{TooLong, Hole, Range, NamedTwice, MarkedFree, Stray, SameName}

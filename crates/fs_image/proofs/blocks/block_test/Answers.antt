@@ -1,4 +1,4 @@
-use Rattle.std.proofs.Common.{sym, arith}
+use Rattle.std.proofs.Common.{sym}
 use Rattle.fs_image.proofs.OneBlock.{named_twice, marked_free, block_passed}
 use Rattle.fs_image.proofs.blocks.block_test.Goals as goal
 

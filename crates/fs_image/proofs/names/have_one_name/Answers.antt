@@ -1,4 +1,4 @@
-use Rattle.std.proofs.Common.{◌≡◌, ◌≢◌, ◌+◌, ◌-◌, ℕ, suc, sym, arith, ◌∙◌, ap}
+use Rattle.std.proofs.Common.{◌≡◌, ◌≢◌, ◌+◌, ◌-◌, suc, sym, arith, ◌∙◌}
 use Rattle.fs_image.proofs.NameBytes.{same_first, same_nul, same_differ, same_step, same_end}
 use Rattle.fs_image.proofs.names.have_one_name.Goals as goal
 

@@ -1,4 +1,4 @@
-use Rattle.std.proofs.Common.{◌≡◌, ◌≢◌, ◌+◌, ◌-◌, ℕ, suc, sym, arith, ◌∙◌, ap}
+use Rattle.std.proofs.Common.{◌≡◌, ◌≢◌, ◌+◌, ◌-◌, suc, sym, arith, ◌∙◌}
 use Rattle.fs_image.proofs.NameBytes.{good_first, good_nul, good_slash, good_step, good_end}
 use Rattle.fs_image.proofs.names.is_good_name.Goals as goal
 

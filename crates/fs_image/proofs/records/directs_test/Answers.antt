@@ -1,4 +1,4 @@
-use Rattle.std.proofs.Common.{◌≡◌, ◌∙◌, ap, sym, arith, Ok, Err}
+use Rattle.std.proofs.Common.{◌∙◌, ap, sym, arith, Ok}
 use Rattle.fs_layout.specs.DiskImage.{number_test, direct_of}
 use Rattle.fs_image.specs.Answers.{blocks_in, fault_of}
 use Rattle.fs_image.proofs.Each.{each_none, each_passed, each_failed}

@@ -1,6 +1,5 @@
-use Rattle.std.proofs.Common.{◌≡◌, ◌+◌, ℕ, Bool, sym, arith, ◌∙◌, ap}
+use Rattle.std.proofs.Common.{◌≡◌, ℕ, Bool, sym, arith, ◌∙◌, ap}
 use Rattle.std.specs.Prelude.{◌&&◌, ◌==◌, not, nat_le}
-use Rattle.fs_layout.specs.declared.numbers.TheConstants.{NDIRECT}
 use Rattle.fs_layout.specs.DiskImage.{some_below, blocks_needed, direct_of, has_stray}
 use Rattle.fs_image.proofs.Each.{some_none, some_passed, some_found}
 use Rattle.fs_image.proofs.records.has_stray.Goals as goal

@@ -1,4 +1,4 @@
-use Rattle.std.proofs.Common.{sym, Ok}
+use Rattle.std.proofs.Common.{sym}
 use Rattle.fs_image.specs.Answers.{answered, blocks_in, fault_of}
 use Rattle.fs_image.proofs.OneRecord.{numbers_1, numbers_2, numbers_3}
 use Rattle.fs_image.proofs.records.numbers_test.Goals as goal

@@ -1,8 +1,6 @@
-use Rattle.std.proofs.Common.{◌≡◌, sym, true, false, Ok, Err, arith}
-use Rattle.std.specs.Prelude.{nat_le}
-use Rattle.fs_layout.specs.declared.numbers.TheConstants.{MAXFILESIZE}
+use Rattle.std.proofs.Common.{sym, Ok, Err, arith}
 use Rattle.fs_layout.specs.DiskImage.{size_of, Stray}
-use Rattle.fs_image.specs.Answers.{answered, blocks_in, fault_of}
+use Rattle.fs_image.specs.Answers.{blocks_in, fault_of}
 use Rattle.fs_image.proofs.OneRecord.{record_1, record_2, record_3, record_4, stray_1, stray_2, stray_3, size_past, size_within}
 use Rattle.fs_image.proofs.records.record_test.Goals as goal
 

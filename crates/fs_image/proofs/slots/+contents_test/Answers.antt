@@ -1,5 +1,5 @@
 use Rattle.std.proofs.Common.{◌≡◌, ◌≢◌, ◌-◌, ◌<◌, sym, arith, ◌∙◌, ap, Ok, Err}
-use Rattle.fs_layout.specs.DiskImage.{for_each_below, slot_test, contents_test, slot_count, size_of, kind_of}
+use Rattle.fs_layout.specs.DiskImage.{for_each_below, slot_test, contents_test, slot_count, size_of}
 use Rattle.fs_image.specs.Answers.{blocks_in, fault_of}
 use Rattle.fs_image.proofs.Each.{each_none, each_passed, each_failed}
 use Rattle.fs_image.proofs.OneSlot.{contents_none, contents_deep, slot_empty, slot_fails, slot_file, slot_directory, slots_within, slots_end}

@@ -1,4 +1,4 @@
-use Rattle.std.proofs.Common.{◌≡◌, sym}
+use Rattle.std.proofs.Common.{sym}
 use Rattle.fs_image.specs.Answers.{blocks_in, fault_of}
 use Rattle.fs_image.proofs.Image.{image_1, image_2}
 use Rattle.fs_image.proofs.tree.check.Goals as goal

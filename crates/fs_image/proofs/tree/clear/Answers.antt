@@ -1,4 +1,4 @@
-use Rattle.std.proofs.Common.{◌<◌, ◌≤◌, length, arith}
+use Rattle.std.proofs.Common.{◌<◌, arith}
 use Rattle.fs_image.proofs.Image.{cleared}
 use Rattle.fs_image.proofs.tree.clear.Goals as goal
 

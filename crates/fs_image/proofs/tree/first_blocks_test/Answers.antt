@@ -1,5 +1,5 @@
 use Rattle.std.proofs.Common.{◌≡◌, sym, arith, ◌∙◌, ap}
-use Rattle.fs_layout.specs.DiskImage.{first_data_block, block_count}
+use Rattle.fs_layout.specs.DiskImage.{first_data_block}
 use Rattle.fs_image.proofs.Image.{blocks_none, blocks_passed, blocks_failed, blocks_done}
 use Rattle.fs_image.proofs.tree.first_blocks_test.Goals as goal
 

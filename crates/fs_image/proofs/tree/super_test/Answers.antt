@@ -1,5 +1,5 @@
-use Rattle.std.proofs.Common.{◌≡◌, sym, ◌∙◌, ap}
-use Rattle.fs_layout.specs.DiskImage.{is_good_count, none_named}
+use Rattle.std.proofs.Common.{sym}
+use Rattle.fs_layout.specs.DiskImage.{none_named}
 use Rattle.fs_image.proofs.Image.{super_1, super_2, super_3, super_4, super_5}
 use Rattle.fs_image.proofs.tree.super_test.Goals as goal
 

@@ -1,4 +1,4 @@
-use Rattle.std.proofs.Common.{◌≡◌, sym, ◌∙◌, ap}
+use Rattle.std.proofs.Common.{sym, ◌∙◌, ap}
 use Rattle.fs_layout.specs.DiskImage.{contents_test, root_place}
 use Rattle.fs_image.specs.Answers.{blocks_in, fault_of, told}
 use Rattle.fs_image.proofs.Image.{tree_1, tree_2, tree_3}
