@@ -1,5 +1,5 @@
 -- What the abstract system means: a fork copies, what is an environment's own is seen by no other, what is shared is
--- one page, a message comes to the one that waits for it, and a pipe holds no more than it can.
+-- one page, a write leaves a pipe with no more than it can hold, and a step of one environment leaves the others.
 use Rattle.std.specs.Prelude.{◌≡◌, ◌≢◌, ◌≤◌, ℕ, Bool, true, false, List, length, Some, IfSome, slice_set}
 use Rattle.jos_base.specs.declared.registers.Regs.{Regs}
 use Rattle.jos_base.specs.Words.{page_offset, upd}

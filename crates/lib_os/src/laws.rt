@@ -15,7 +15,7 @@ pub fn pages_are_own_or_shared()
     ensures shared { SharedStoresAreSeen }
 {}
 
-/// A pipe never holds more bytes than it can.
+/// A write leaves a pipe that held no more bytes than it can with no more than that.
 pub fn pipes_are_bounded()
     ensures { PipesAreBounded }
 {}
