@@ -13,7 +13,7 @@ use Rattle.lib_os.specs.declared.service.Service.{Service}
 use Rattle.lib_os.specs.declared.service.Service.TheVariants as service
 use Rattle.lib_os.specs.AbstractState.{AbstractState, Born, own, free, born, serving, terminal, read_end, write_end}
 use Rattle.lib_os.specs.AbstractState.{Program, guest, shell, in_service, entered, idle}
-use Rattle.lib_os.specs.AbstractMemory.{any_below}
+use Rattle.fs_layout.specs.DiskImage.{some_below}
 use Rattle.lib_os.specs.Fence.{in_fence}
 use Rattle.lib_os.specs.GuestStep.{born_in}
 use Rattle.lib_os.specs.Answers.{bytes_from, all_stored}
@@ -146,7 +146,7 @@ other_sender = refl
 
 -- a request for a file that is not there: two of the path's bytes, the ask, the wait; the server's look, act and reply; the answer
 not_found : option_map (eax 1) (steps (1 ∷ 1 ∷ 1 ∷ 1 ∷ 0 ∷ 0 ∷ 0 ∷ 1 ∷ []) (two (service.OpenFile 0x00900002 0) service.GetId)) ≡ Some (negated E_NOT_FOUND)
-unfolding step steps eax upd in_fence bytes_from first_from any_below file_act open_act look_up look_from names_in is_good_path find_name listed
+unfolding step steps eax upd in_fence bytes_from first_from some_below file_act open_act look_up look_from names_in is_good_path find_name listed
 not_found = refl
 
 -- the server asks nobody, and is not idle again before its next step
@@ -174,12 +174,12 @@ joined first second =
 
 -- nothing is there yet
 reads_too_early : step (joined (service.Read 0 0x00900000 2) (service.Write 1 0x00900001 2)) 1 ≡ None
-unfolding step upd in_fence any_below
+unfolding step upd in_fence some_below
 reads_too_early = refl
 
 -- The writer takes its two bytes, puts one, and then the reader has it: it takes it, sees no more, and puts it in its page.
 byte_through : option_map (eax 1) (steps (2 ∷ 2 ∷ 2 ∷ 1 ∷ 1 ∷ 1 ∷ []) (joined (service.Read 0 0x00900000 2) (service.Write 1 0x00900001 2))) ≡ Some 1
-unfolding step steps eax upd in_fence any_below bytes_from all_stored
+unfolding step steps eax upd in_fence some_below bytes_from all_stored
 byte_through = refl
 
 -- ---- the end

@@ -13,6 +13,8 @@ use Rattle.jos_cpu.specs.Steps.{step_of}
 use Rattle.jos_cpu.proofs.Agreement.{Agrees}
 use Rattle.jos_cpu.proofs.Through.{step_through}
 use Rattle.fs_layout.specs.FileTree.{remove_path}
+use Rattle.fs_layout.specs.declared.numbers.TheConstants.{FTYPE_REG}
+use Rattle.fs_layout.specs.FileActs.{stat_bytes}
 use Rattle.lib_os.specs.declared.service.Service.{Service}
 use Rattle.lib_os.specs.declared.service.Service.TheVariants as service
 use Rattle.lib_os.specs.AbstractState.{AbstractState, Born, Page, own, named, Slot, Object, file, terminal, read_end}
@@ -31,7 +33,7 @@ use Rattle.lib_os.specs.AbstractPipes.{read_over, read_from, write_pipe}
 use Rattle.lib_os.specs.FileServer.{ask_of, ask}
 use Rattle.lib_os.specs.FileServices.{after_asking, read_terminal, read_object, read_begun, read_moving, read_step}
 use Rattle.lib_os.specs.FileServices.{write_object, write_with, write_begun, write_gathering, write_moving, write_step}
-use Rattle.lib_os.specs.FileServices.{named_request, seek_begun, seek_step, set_size_begun, set_size_step, stat_of}
+use Rattle.lib_os.specs.FileServices.{named_request, seek_begun, seek_step, set_size_begun, set_size_step}
 use Rattle.lib_os.specs.FileServices.{stat_object, stat_begun, stat_step}
 use Rattle.lib_os.specs.FileServices.{path_step, open_asked, open_step, remove_step, sync_step}
 use Rattle.lib_os.specs.LibraryCall.{library_step, at_once, only_at_once, receive_step}
@@ -275,9 +277,9 @@ module _ (a : AbstractState) (n m : ℕ) (ne : m ≢ n) where
 
       stat_object_left : (va : ℕ) (object : Object) → LeftIf (stat_object a n b regs s va object)
       stat_object_left va (file f) = search ask_left
-      stat_object_left va terminal = handed_left a va (stat_of (codes "<cons>") 0) 0 refl
-      stat_object_left va (read_end pipe) = handed_left a va (stat_of (codes "<pipe>") (length (a.pipes pipe))) 0 refl
-      stat_object_left va (write_end pipe) = handed_left a va (stat_of (codes "<pipe>") (length (a.pipes pipe))) 0 refl
+      stat_object_left va terminal = handed_left a va (stat_bytes (codes "<cons>") 0 FTYPE_REG) 0 refl
+      stat_object_left va (read_end pipe) = handed_left a va (stat_bytes (codes "<pipe>") (length (a.pipes pipe)) FTYPE_REG) 0 refl
+      stat_object_left va (write_end pipe) = handed_left a va (stat_bytes (codes "<pipe>") (length (a.pipes pipe)) FTYPE_REG) 0 refl
 
       stat_begun_left : (va : ℕ) (o : Option Object) → LeftIf (stat_begun a n b regs s va o)
       stat_begun_left va None = set_left _

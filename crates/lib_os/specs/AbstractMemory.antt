@@ -1,12 +1,13 @@
 -- The memory of an environment of the abstract system, and its end.
 -- (MIT 6.828, lib/fork.c and lib/pgfault.c, as what comes of them.)
-use Rattle.std.specs.Prelude.{ℕ, ◌+◌, ◌*◌, ◌/◌, ◌||◌, zero, suc, is_some, Bool, true, false, List, ◌∷◌, Option, Some, None, slice_index, slice_set}
+use Rattle.std.specs.Prelude.{ℕ, ◌+◌, ◌*◌, ◌/◌, is_some, Bool, true, false, List, ◌∷◌, Option, Some, None, slice_index, slice_set}
 use Rattle.jos_base.specs.declared.memory.Access.{Access}
 use Rattle.jos_base.specs.declared.memory.Access.TheVariants.{Read, Write}
 use Rattle.jos_base.specs.declared.memory.PageFault.{PageFault}
 use Rattle.jos_base.specs.declared.numbers.TheConstants.{FEC_U, FEC_PR, NPTENTRIES}
 use Rattle.jos_base.specs.Words.{page_number, page_offset, upd}
 use Rattle.jos_base.specs.Reach.{write_bit}
+use Rattle.fs_layout.specs.DiskImage.{some_below}
 use Rattle.lib_os.specs.AbstractState.{AbstractState, Born, Page, own, named, free, with_born, with_slot, with_printed}
 
 abbrev pub page_at : Born → ℕ → Option Page
@@ -68,14 +69,9 @@ with_page b va page = record b {
 abbrev pub without_page : Born → ℕ → Born
 without_page b va = record b { memory = upd b.memory (page_number va) None }
 
--- a number below n has this
-unfoldable pub any_below : (ℕ → Bool) → ℕ → Bool
-any_below has zero = false
-any_below has (suc n) = has n || any_below has n
-
 -- a page of a region of 4 MB is there
 abbrev pub has_page_in : (ℕ → Option Page) → ℕ → Bool
-has_page_in memory region = any_below (λ p. is_some (memory (region * NPTENTRIES + p))) NPTENTRIES
+has_page_in memory region = some_below NPTENTRIES (λ p. is_some (memory (region * NPTENTRIES + p)))
 
 -- ---- the end
 

@@ -10,7 +10,7 @@ use Rattle.lib_os.specs.declared.numbers.TheConstants.{PIPEBUFSIZ}
 use Rattle.lib_os.specs.declared.numbers.TheConstants.{DESCRIPTORS}
 use Rattle.lib_os.specs.declared.service.Service.{Service}
 use Rattle.lib_os.specs.AbstractState.{AbstractState, Born, Object, read_end, write_end, moving}
-use Rattle.lib_os.specs.AbstractMemory.{any_below}
+use Rattle.fs_layout.specs.DiskImage.{some_below}
 use Rattle.lib_os.specs.GuestStep.{born_in}
 use Rattle.lib_os.specs.Answers.{answered, at_stage, handed_back}
 
@@ -30,11 +30,11 @@ is_such a is (Some name) = is (a.objects name)
 
 abbrev pub holds_such : AbstractState → (Object → Bool) → Option Born → Bool
 holds_such a is None = false
-holds_such a is (Some b) = any_below (λ fd. is_such a is (b.descriptors fd)) DESCRIPTORS
+holds_such a is (Some b) = some_below DESCRIPTORS (λ fd. is_such a is (b.descriptors fd))
 
 -- some environment has a descriptor for such an object
 abbrev pub is_such_held : AbstractState → (Object → Bool) → Bool
-is_such_held a is = any_below (λ n. holds_such a is (born_in (a.slots n))) NENV
+is_such_held a is = some_below NENV (λ n. holds_such a is (born_in (a.slots n)))
 
 -- ---- reading
 

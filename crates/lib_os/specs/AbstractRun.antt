@@ -8,7 +8,7 @@ use Rattle.lib_os.specs.declared.service.Service.{Service}
 use Rattle.lib_os.specs.declared.service.Service.TheVariants as service
 use Rattle.lib_os.specs.AbstractState.{AbstractState, Born, Slot, free, unborn, born, serving, Program, guest, shell, Phase, at_guest, faulted, in_service}
 use Rattle.lib_os.specs.AbstractState.{Server, idle, acted, is_idle, Object, read_end, write_end}
-use Rattle.lib_os.specs.AbstractMemory.{any_below}
+use Rattle.fs_layout.specs.DiskImage.{some_below}
 use Rattle.lib_os.specs.GuestStep.{guest_step, ends_with, born_in}
 use Rattle.lib_os.specs.MemoryServices.{lives}
 use Rattle.lib_os.specs.Descriptors.{object_of}
@@ -77,7 +77,7 @@ is_pipe pipe (Some other) = pipe == other
 
 -- another slot is inside read, write or stat on the pipe
 abbrev pub is_moved_by_another : AbstractState → ℕ → ℕ → Bool
-is_moved_by_another a n pipe = any_below (λ m. not (m == n) && is_pipe pipe (pipe_moved a (born_in (a.slots m)))) NENV
+is_moved_by_another a n pipe = some_below NENV (λ m. not (m == n) && is_pipe pipe (pipe_moved a (born_in (a.slots m))))
 
 -- services that give ends of pipes on, or drop them
 abbrev pub changes_holders : Option Service → Bool
@@ -97,7 +97,7 @@ is_changing a pipe (Some b) = holds_such a (is_end pipe) (Some b) && changes_hol
 
 -- a slot that holds an end of the pipe is about to give it on, or to drop it
 abbrev pub is_changed : AbstractState → ℕ → Bool
-is_changed a pipe = any_below (λ m. is_changing a pipe (born_in (a.slots m))) NENV
+is_changed a pipe = some_below NENV (λ m. is_changing a pipe (born_in (a.slots m)))
 
 -- the other end may still be open, as far as can be seen in a turn of this length
 abbrev pub may_be_open : AbstractState → ℕ → (Object → Bool) → ℕ → Bool

@@ -8,7 +8,8 @@ use Rattle.jos_base.specs.Words.{upd}
 use Rattle.lib_os.specs.declared.numbers.TheConstants.{E_MAX_OPEN}
 use Rattle.lib_os.specs.declared.numbers.TheConstants.{DESCRIPTORS}
 use Rattle.lib_os.specs.AbstractState.{AbstractState, Born, Object, read_end, write_end, with_born}
-use Rattle.lib_os.specs.AbstractMemory.{any_below, ended}
+use Rattle.fs_layout.specs.DiskImage.{some_below}
+use Rattle.lib_os.specs.AbstractMemory.{ended}
 use Rattle.lib_os.specs.GuestStep.{born_in}
 use Rattle.lib_os.specs.Answers.{answered, refused, back_with}
 
@@ -30,11 +31,11 @@ is_name (Some other) name = other == name
 
 abbrev pub holds_in : Option Born → ℕ → Bool
 holds_in None name = false
-holds_in (Some b) name = any_below (λ fd. is_name (b.descriptors fd) name) DESCRIPTORS
+holds_in (Some b) name = some_below DESCRIPTORS (λ fd. is_name (b.descriptors fd) name)
 
 -- some environment has a descriptor for the object
 abbrev pub is_held : AbstractState → ℕ → Bool
-is_held a name = any_below (λ n. holds_in (born_in (a.slots n)) name) NENV
+is_held a name = some_below NENV (λ n. holds_in (born_in (a.slots n)) name)
 
 -- ---- the lowest descriptors
 

@@ -3,14 +3,14 @@
 -- own steps.
 -- (MIT 6.828, lab 5: lib/fd.c, lib/file.c and lib/console.c.)
 use Rattle.std.specs.Prelude.{ℕ, ◌+◌, ◌-◌, ◌%◌, ◌^◌, ◌==◌, ◌&&◌, nat_lt, nat_le, not, min, is_none, bit_and, codes}
-use Rattle.std.specs.Prelude.{Bool, true, false, List, [], ◌∷◌, ◌++◌, length, take, replicate, Option, Some, None, if◌then◌else◌}
-use Rattle.std.specs.List.{position_or_len}
+use Rattle.std.specs.Prelude.{Bool, true, false, List, [], ◌∷◌, ◌++◌, length, Option, Some, None, if◌then◌else◌}
+use Rattle.std.specs.List.{before_first, position_or_len}
 use Rattle.jos_base.specs.declared.registers.Regs.{Regs}
 use Rattle.jos_base.specs.declared.numbers.TheConstants.{E_INVAL}
-use Rattle.jos_base.specs.TrapFrames.{bytes_of_words}
 use Rattle.lib_os.specs.declared.numbers.TheConstants.{TRANSFER_MAX, FILE_WRITE_MAX, OFFSET_MAX, STAT_SIZE, MODE_BITS, E_MAX_OPEN, E_NOT_SUPP}
-use Rattle.fs_layout.specs.declared.numbers.TheConstants.{MAXPATHLEN, E_BAD_PATH, MAXNAMELEN}
+use Rattle.fs_layout.specs.declared.numbers.TheConstants.{MAXPATHLEN, E_BAD_PATH, FTYPE_REG}
 use Rattle.lib_os.specs.declared.service.Service.{Service}
+use Rattle.fs_layout.specs.FileActs.{stat_bytes}
 use Rattle.fs_layout.specs.FileTree.{open_path, read_file, write_file, set_file_size, stat_file, remove_path, sync_files}
 use Rattle.lib_os.specs.AbstractState.{AbstractState, Born, Object, file, terminal, read_end, write_end, Request, act, seek}
 use Rattle.lib_os.specs.AbstractState.{Stage, entered, gathering, delivering, moving, asked, replied, with_printed}
@@ -145,16 +145,13 @@ abbrev pub set_size_step : AbstractState → ℕ → Born → Regs → Service �
 set_size_step a n b regs service fd size entered = set_size_begun a n b regs service size (object_of a b fd)
 set_size_step a n b regs service fd size stage = after_asking a n b regs service 0 stage
 
-abbrev pub stat_of : List ℕ → ℕ → List ℕ
-stat_of name size = name ++ replicate (MAXNAMELEN - length name) 0 ++ bytes_of_words (size ∷ 0 ∷ [])
-
 abbrev pub stat_object : AbstractState → ℕ → Born → Regs → Service → ℕ → Object → Option AbstractState
 stat_object a n b regs service va (file f) = ask a n b service (act (stat_file f.way) None)
-stat_object a n b regs service va terminal = Some (handed_back a n b regs service va (stat_of (codes "<cons>") 0) 0)
+stat_object a n b regs service va terminal = Some (handed_back a n b regs service va (stat_bytes (codes "<cons>") 0 FTYPE_REG) 0)
 stat_object a n b regs service va (read_end pipe) =
-    Some (handed_back a n b regs service va (stat_of (codes "<pipe>") (length (a.pipes pipe))) 0)
+    Some (handed_back a n b regs service va (stat_bytes (codes "<pipe>") (length (a.pipes pipe)) FTYPE_REG) 0)
 stat_object a n b regs service va (write_end pipe) =
-    Some (handed_back a n b regs service va (stat_of (codes "<pipe>") (length (a.pipes pipe))) 0)
+    Some (handed_back a n b regs service va (stat_bytes (codes "<pipe>") (length (a.pipes pipe)) FTYPE_REG) 0)
 
 abbrev pub stat_begun : AbstractState → ℕ → Born → Regs → Service → ℕ → Option Object → Option AbstractState
 stat_begun a n b regs service va None = Some (refused a n b regs E_INVAL)
@@ -171,15 +168,11 @@ stat_step a n b regs service fd va stage = after_asking a n b regs service va st
 abbrev pub is_nul : ℕ → Bool
 is_nul byte = byte == 0
 
--- the bytes before the NUL
-abbrev pub before_nul : List ℕ → List ℕ
-before_nul bytes = take (position_or_len is_nul bytes) bytes
-
 -- A path is taken up to its NUL: of the bytes that are taken with it in one step, those behind it count for nothing.
 -- Then `next` is the step.
 abbrev pub path_step : AbstractState → ℕ → Born → Regs → Service → ℕ → List ℕ → (List ℕ → Option AbstractState) → Option AbstractState
 path_step a n b regs service path taken next =
-    if nat_lt (position_or_len is_nul taken) (length taken) then next (before_nul taken)
+    if nat_lt (position_or_len is_nul taken) (length taken) then next (before_first is_nul taken)
     else if nat_le MAXPATHLEN (length taken) then Some (refused a n b regs E_BAD_PATH)
     else if not (in_fence ((path + length taken) % 2 ^ 32) 1) then Some (refused a n b regs E_INVAL)
     else Some (gathered a n b regs service ((path + length taken) % 2 ^ 32) (MAXPATHLEN - length taken) (λ more. gathering (taken ++ more)))
