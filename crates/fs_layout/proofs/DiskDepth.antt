@@ -71,10 +71,10 @@ unnamed_below-upd (suc n) block named within new = elim (same_or n block) [
 ]
 
 -- how many blocks of the image are not named
-unnamed : (ℕ → ℕ) → Blocks → ℕ
+pub unnamed : (ℕ → ℕ) → Blocks → ℕ
 unnamed byte named = unnamed_below (block_count byte) named
 
-unnamed-none : (byte : ℕ → ℕ) → unnamed byte none_named ≤ block_count byte
+pub unnamed-none : (byte : ℕ → ℕ) → unnamed byte none_named ≤ block_count byte
 unfolding unnamed
 unnamed-none byte = unnamed_below-none (block_count byte)
 
@@ -86,7 +86,7 @@ unnamed-upd byte block named within new = unnamed_below-upd (block_count byte) b
 -- ---- what holds of the named blocks after tests
 
 -- this holds of them, where no fault was told
-abbrev Meets : (Blocks → Type 0) → Result Blocks ImageFault → Type 0
+abbrev pub Meets : (Blocks → Type 0) → Result Blocks ImageFault → Type 0
 Meets holds (Ok named) = holds named
 Meets holds (Err fault) = Unit {0}
 
@@ -131,8 +131,8 @@ same-in_turn holds test ones others named met same =
 -- ---- tests that name blocks
 
 -- there are no more unnamed blocks after the test than before
-record Keeps (byte : ℕ → ℕ) (test : Test) : Type 0 where
-  keeps : (bound : ℕ) (named : Blocks) → unnamed byte named < bound →
+pub record Keeps (byte : ℕ → ℕ) (test : Test) : Type 0 where
+  pub keeps : (bound : ℕ) (named : Blocks) → unnamed byte named < bound →
       Meets (λ then. unnamed byte then < bound) (test named)
 
 -- there are fewer, since the test names a block that wasn't named
@@ -147,7 +147,7 @@ keeps-demand : (byte : ℕ → ℕ) (passes : Bool) (fault : ImageFault) → Kee
 keeps-demand byte true fault = record { keeps = λ bound named below. below }
 keeps-demand byte false fault = record { keeps = λ bound named below. tt }
 
-keeps-where : {byte : ℕ → ℕ} {test : Test} (made : Bool) → Keeps byte test → Keeps byte (only_where made test)
+pub keeps-where : {byte : ℕ → ℕ} {test : Test} (made : Bool) → Keeps byte test → Keeps byte (only_where made test)
 keeps-where true k = record { keeps = λ bound named below. k.keeps bound named below }
 keeps-where false k = record { keeps = λ bound named below. below }
 
@@ -185,7 +185,7 @@ uses-later {byte} {test} rest k u = record {
 }
 
 -- a test for each number below a count
-keeps-each : (byte : ℕ → ℕ) (n : ℕ) (test : ℕ → Test) → ((i : ℕ) → Keeps byte (test i)) →
+pub keeps-each : (byte : ℕ → ℕ) (n : ℕ) (test : ℕ → Test) → ((i : ℕ) → Keeps byte (test i)) →
     Keeps byte (for_each_below n test)
 unfolding for_each_below
 keeps-each byte zero test all = record { keeps = λ bound named below. below }
@@ -308,7 +308,7 @@ uses-record byte place some =
 
 -- This depth suffices for what stands below a record whose tests were made: there is nothing, or fewer blocks are
 -- unnamed.
-abbrev Suffices : (ℕ → ℕ) → ℕ → ℕ → Blocks → Type 0
+abbrev pub Suffices : (ℕ → ℕ) → ℕ → ℕ → Blocks → Type 0
 Suffices byte place depth named = 0 < slot_count byte place → unnamed byte named < depth
 
 none_or_some : (n : ℕ) → (n ≡ 0) ⊎ (0 < n)
@@ -316,7 +316,7 @@ none_or_some zero = inl refl
 none_or_some (suc n) = inr (omega arith)
 
 -- a directory that has records names a block
-record-suffices : (byte : ℕ → ℕ) (place depth : ℕ) (named : Blocks) → unnamed byte named ≤ depth →
+pub record-suffices : (byte : ℕ → ℕ) (place depth : ℕ) (named : Blocks) → unnamed byte named ≤ depth →
     Meets (Suffices byte place depth) (in_turn (record_tests byte place) named)
 record-suffices byte place depth named enough = elim (none_or_some (slot_count byte place)) [
   | inl none ↦
@@ -366,7 +366,7 @@ same-slot byte directory i depth one other same named enough =
     (in_turn (slot_tests other byte directory i)) named
     (same-slot_tests byte directory i depth one other same named enough)
 
-keeps-slot_tests : (byte : ℕ → ℕ) (directory i : ℕ) (onward : ℕ → Test) → ((place : ℕ) → Keeps byte (onward place)) →
+pub keeps-slot_tests : (byte : ℕ → ℕ) (directory i : ℕ) (onward : ℕ → Test) → ((place : ℕ) → Keeps byte (onward place)) →
     Keeps byte (in_turn (slot_tests onward byte directory i))
 unfolding slot_tests
 keeps-slot_tests byte directory i onward keeps =
@@ -375,7 +375,7 @@ keeps-slot_tests byte directory i onward keeps =
     (keeps-more _ (keeps-record byte _)
     (keeps-more _ (keeps-demand byte _ _) (keeps-more _ (keeps-where _ (keeps _)) (keeps-no_tests byte)))))
 
-keeps-contents : (byte : ℕ → ℕ) (depth place : ℕ) → Keeps byte (contents_test depth byte place)
+pub keeps-contents : (byte : ℕ → ℕ) (depth place : ℕ) → Keeps byte (contents_test depth byte place)
 unfolding contents_test
 keeps-contents byte zero place = record { keeps = λ bound named below. below }
 keeps-contents byte (suc depth) place =

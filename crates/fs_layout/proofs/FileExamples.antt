@@ -1,9 +1,9 @@
 -- Acts on the files of small disks, computed.
 use Rattle.std.specs.Prelude.{◌≡◌, ℕ, ◌+◌, Bool, true, false, List, [], ◌∷◌, ◌++◌, codes, Some, None, refl, replicate}
-use Rattle.jos_base.specs.declared.numbers.TheConstants.{E_INVAL}
+use Rattle.jos_base.specs.declared.numbers.TheConstants.{E_INVAL, E_NO_DISK, E_NOT_FOUND, E_BAD_PATH, E_FILE_EXISTS}
 use Rattle.jos_base.specs.Words.{negated}
 use Rattle.jos_base.specs.TrapFrames.{bytes_of_words}
-use Rattle.fs_layout.specs.declared.numbers.TheConstants.{E_BAD_PATH, E_FILE_EXISTS, E_NOT_FOUND, E_NO_DISK, MAXFILESIZE, O_CREAT, O_EXCL, O_TRUNC}
+use Rattle.fs_layout.specs.declared.numbers.TheConstants.{MAXFILESIZE, O_CREAT, O_EXCL, O_TRUNC}
 use Rattle.fs_layout.specs.FileTree.{a_file, a_directory, no_more, empty_record, named_record, FileSystem, node_at}
 use Rattle.fs_layout.specs.FileTree.{needs_indirect, blocks_taken, bitmap_blocks, blocks_in_use, blocks_free}
 use Rattle.fs_layout.specs.FileTree.{listed, records_from, named_from, replaced, emptied, tree_blocks}

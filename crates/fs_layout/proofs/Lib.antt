@@ -7,4 +7,5 @@ pub mod PathParts
 pub mod Written
 mod DiskExamples
 mod DiskDepth
+pub mod DiskSound
 pub mod Places

@@ -8,11 +8,11 @@ use Rattle.std.specs.Prelude.{ℕ, ◌+◌, ◌-◌, ◌==◌, ◌&&◌, ◌||�
 use Rattle.std.specs.Prelude.{List, [], ◌∷◌, ◌++◌, length, take, drop, replicate, filter, slice_set, slice_index_or, bytes_eq, position}
 use Rattle.std.specs.Prelude.{Option, Some, None, option_map, is_none, bit_and, if◌then◌else◌}
 use Rattle.std.specs.List.{slice_split, list_all, position_or_len}
-use Rattle.jos_base.specs.declared.numbers.TheConstants.{E_INVAL}
+use Rattle.jos_base.specs.declared.numbers.TheConstants.{E_INVAL, E_NO_DISK, E_NOT_FOUND, E_BAD_PATH, E_FILE_EXISTS}
 use Rattle.jos_base.specs.Words.{negated}
 use Rattle.jos_base.specs.TrapFrames.{bytes_of_words}
 use Rattle.fs_layout.specs.declared.numbers.TheConstants.{BLKSIZE, BLKFILES, MAXNAMELEN, MAXFILESIZE, MAXPATHLEN, FTYPE_REG}
-use Rattle.fs_layout.specs.declared.numbers.TheConstants.{O_CREAT, O_TRUNC, O_EXCL, E_NO_DISK, E_NOT_FOUND, E_BAD_PATH, E_FILE_EXISTS}
+use Rattle.fs_layout.specs.declared.numbers.TheConstants.{O_CREAT, O_TRUNC, O_EXCL}
 use Rattle.fs_layout.specs.FileTree.{Node, a_file, a_directory, Named, FileSystem}
 use Rattle.fs_layout.specs.FileTree.{listed, records_from, directory_size, needs_indirect, blocks_in_use, blocks_free}
 use Rattle.fs_layout.specs.FileTree.{named_at, node_at, with_node, without_node}

@@ -4,7 +4,7 @@
 ghost use Rattle.fs_layout.specs.FileLaws.{WritesAreReadBack, WritesLengthen, SizesAreSet, NodesAreReplaced, RecordsAreEmptied};
 ghost use Rattle.fs_layout.specs.LayoutLaws.{EntriesAreTheirBytes, SupersAreTheirBytes};
 ghost use Rattle.fs_layout.specs.PathLaws.{NamesStandInSpans, GoodPathsHaveParts};
-ghost use Rattle.fs_layout.specs.DiskLaws.{DepthSuffices};
+ghost use Rattle.fs_layout.specs.DiskLaws.{DepthSuffices, DisksAreSound, TreeDepthSuffices};
 
 /// What is written to a file is read back at its place, a file is no longer than that asks for, and it has the size
 /// that it is given.
@@ -29,6 +29,12 @@ pub fn parts_are_names()
 /// The bound on the depth in the tests of an image is never used up: with a greater one the outcome is the same.
 pub fn depth_suffices()
     ensures { DepthSuffices }
+{}
+
+/// Every record of a disk can be read, in blocks that are there, and the bound on the depth of its tree is never used up.
+pub fn disks_are_sound()
+    ensures sound { DisksAreSound }
+    ensures depth { TreeDepthSuffices }
 {}
 
 /// What a record and a super block say depends on their bytes alone, wherever these stand on a disk.

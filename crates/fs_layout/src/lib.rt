@@ -9,7 +9,7 @@
 //! where the names stand in a path, and `specs/PathLaws.antt` that these are the names of `FileActs`.
 //!
 //! `specs/DiskImage.antt` says which bytes are a disk, by tests of which the first that fails is the fault,
-//! `specs/DiskLaws.antt` that the bound on their depth is never used up, and `specs/DiskFiles.antt` which tree of files a
+//! `specs/DiskLaws.antt` that the bound on their depth is never used up and that the records of a disk can be read, and `specs/DiskFiles.antt` which tree of files a
 //! disk has. Nothing here takes memory.
 #![tactic(auto)]
 
@@ -22,13 +22,12 @@ mod tests;
 mod writer;
 
 pub use laws::{
-    depth_suffices, files_keep_what_is_written, parts_are_names, records_are_their_bytes,
-    trees_keep_what_is_put,
+    depth_suffices, disks_are_sound, files_keep_what_is_written, parts_are_names,
+    records_are_their_bytes, trees_keep_what_is_put,
 };
 pub use numbers::{
-    BLKBITSIZE, BLKFILES, BLKSIZE, E_BAD_PATH, E_FILE_EXISTS, E_NO_DISK, E_NOT_FOUND, FS_MAGIC,
-    FTYPE_DIR, FTYPE_REG, MAXBLOCKS, MAXFILESIZE, MAXNAMELEN, MAXPATHLEN, MINBLOCKS, NDIRECT,
-    NINDIRECT, O_CREAT, O_EXCL, O_TRUNC, RECORDSIZE,
+    BLKBITSIZE, BLKFILES, BLKSIZE, FS_MAGIC, FTYPE_DIR, FTYPE_REG, MAXBLOCKS, MAXFILESIZE,
+    MAXNAMELEN, MAXPATHLEN, MINBLOCKS, NDIRECT, NINDIRECT, O_CREAT, O_EXCL, O_TRUNC, RECORDSIZE,
 };
 pub use paths::{BadPath, NAMES_MAX, Span, parts};
 pub use records::{Entry, Super, decode_entry, decode_super};

@@ -42,18 +42,6 @@ pub const O_TRUNC: u32 = 0x200;
 /// Of a mode, beside `O_CREAT`: it is an error where the file is there. (inc/lib.h)
 pub const O_EXCL: u32 = 0x400;
 
-/// The error's number where too few blocks are free, or a size would be past the greatest. (inc/error.h)
-pub const E_NO_DISK: u32 = 9;
-
-/// The error's number where no file has the name. (inc/error.h)
-pub const E_NOT_FOUND: u32 = 11;
-
-/// The error's number where a path or a name in it is too long. (inc/error.h)
-pub const E_BAD_PATH: u32 = 12;
-
-/// The error's number where the file is there already. (inc/error.h)
-pub const E_FILE_EXISTS: u32 = 13;
-
 /// The word at the start of a super block.
 pub const FS_MAGIC: u32 = 0x4a05_30ae;
 

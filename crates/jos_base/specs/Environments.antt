@@ -1,11 +1,14 @@
 -- The table of environments: its slots, the ids that they get, and who may change whom.
 -- (MIT 6.828, inc/env.h, and env_alloc, env_free and envid2env of kern/env.c.)
 use Rattle.std.specs.Prelude.{ℕ, ◌+◌, ◌-◌, ◌%◌, ◌^◌, ◌==◌, ◌&&◌, ◌||◌, nat_lt, not, Bool, true, false, List, [], ◌∷◌}
-use Rattle.std.specs.Prelude.{Option, Some, None, if◌then◌else◌}
+use Rattle.std.specs.Prelude.{Option, Some, None, replicate, if◌then◌else◌}
 use Rattle.jos_base.specs.declared.registers.Regs.{Regs}
+use Rattle.jos_base.specs.declared.environment.EnvType.{EnvType}
+use Rattle.jos_base.specs.declared.environment.EnvType.TheVariants.{User, FileServer}
 use Rattle.jos_base.specs.declared.environment.Status.{Status}
 use Rattle.jos_base.specs.declared.environment.Status.TheVariants.{Free, Dying, NotRunnable, Runnable, Running}
 use Rattle.jos_base.specs.declared.numbers.TheConstants.{NENV, ENV_GENERATION, FIRST_ENV_ID}
+use Rattle.jos_base.specs.declared.numbers.TheConstants.{ENV_TYPE_USER, ENV_TYPE_FS, EXTRA_WORDS}
 use Rattle.jos_base.specs.declared.numbers.TheConstants.{ENV_FREE, ENV_DYING, ENV_RUNNABLE, ENV_RUNNING, ENV_NOT_RUNNABLE}
 use Rattle.jos_base.specs.Words.{upd}
 use Rattle.jos_base.specs.Messages.{Rendezvous, no_rendezvous}
@@ -15,10 +18,13 @@ pub record Slot : Type 0 where
   -- the id of its environment, or the last that it had; 0 where it never had one
   pub id : ℕ
   pub parent : ℕ
+  pub env_type : EnvType
   pub status : Status
   -- how many turns it has had, as a word
   pub runs : ℕ
   pub registers : Regs
+  -- the words that it keeps for a library outside of the kernel
+  pub extra : List ℕ
   -- the frame of its directory
   pub directory : ℕ
   -- where it handles its page faults; 0 where it does not
@@ -60,14 +66,20 @@ zero_registers = record {
   eflags = 0;
 }
 
+-- no library has words in them
+abbrev pub no_extra : List ℕ
+no_extra = replicate EXTRA_WORDS 0
+
 -- a slot without an environment keeps the last id alone
 abbrev pub free_slot : ℕ → Slot
 free_slot id = record {
   id = id;
   parent = 0;
+  env_type = User;
   status = Free;
   runs = 0;
   registers = zero_registers;
+  extra = no_extra;
   directory = 0;
   upcall = 0;
   rendezvous = no_rendezvous;
@@ -137,15 +149,18 @@ status_number Runnable = ENV_RUNNABLE
 status_number Running = ENV_RUNNING
 status_number NotRunnable = ENV_NOT_RUNNABLE
 
+abbrev pub env_type_number : EnvType → ℕ
+env_type_number User = ENV_TYPE_USER
+env_type_number FileServer = ENV_TYPE_FS
+
 abbrev pub bit_of : Bool → ℕ
 bit_of true = 1
 bit_of false = 0
 
--- The words of a slot's record. The third is its kind, which is 0 for a user's; the last three are empty. (The form is this
--- system's own.)
+-- The words of a slot's record. The last three are empty. (The form is this system's own.)
 unfoldable pub record_words : Slot → List ℕ
 record_words slot =
-    slot.id ∷ slot.parent ∷ 0 ∷ status_number slot.status ∷ slot.runs ∷ slot.directory ∷ slot.upcall
+    slot.id ∷ slot.parent ∷ env_type_number slot.env_type ∷ status_number slot.status ∷ slot.runs ∷ slot.directory ∷ slot.upcall
     ∷ bit_of slot.rendezvous.receiving ∷ slot.rendezvous.wanted ∷ slot.rendezvous.destination
     ∷ slot.rendezvous.value ∷ slot.rendezvous.sender ∷ slot.rendezvous.perm ∷ 0 ∷ 0 ∷ 0 ∷ []
 

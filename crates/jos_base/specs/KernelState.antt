@@ -3,6 +3,7 @@
 -- (MIT 6.828, inc/env.h, kern/env.c and kern/pmap.c.)
 use Rattle.std.specs.Prelude.{◌≡◌, ℕ, ◌+◌, ◌-◌, ◌%◌, ◌^◌, min, true, List, Option, None, Some, if◌then◌else◌}
 use Rattle.jos_base.specs.declared.registers.Regs.{Regs}
+use Rattle.jos_base.specs.declared.environment.EnvType.{EnvType}
 use Rattle.jos_base.specs.declared.environment.Status.{Status}
 use Rattle.jos_base.specs.declared.environment.Status.TheVariants.{Runnable, Running}
 use Rattle.jos_base.specs.Messages.{Rendezvous}
@@ -35,6 +36,12 @@ with_status s n status = with_slot_at s n (record (slot_at s n) { status = statu
 
 abbrev pub with_registers : KernelState → ℕ → Regs → KernelState
 with_registers s n registers = with_slot_at s n (record (slot_at s n) { registers = registers })
+
+abbrev pub with_extra : KernelState → ℕ → List ℕ → KernelState
+with_extra s n words = with_slot_at s n (record (slot_at s n) { extra = words })
+
+abbrev pub with_env_type : KernelState → ℕ → EnvType → KernelState
+with_env_type s n env_type = with_slot_at s n (record (slot_at s n) { env_type = env_type })
 
 abbrev pub with_directory : KernelState → ℕ → ℕ → KernelState
 with_directory s n frame = with_slot_at s n (record (slot_at s n) { directory = frame })

@@ -10,7 +10,7 @@ use Rattle.jos_base.specs.declared.registers.Regs.{Regs}
 use Rattle.jos_base.specs.declared.environment.Status.{Status}
 use Rattle.jos_base.specs.declared.environment.Status.TheVariants.{NotRunnable, Runnable}
 use Rattle.jos_base.specs.declared.errno.Errno.{Errno}
-use Rattle.jos_base.specs.declared.errno.Errno.TheVariants.{BadEnv, Invalid, NoMem, NoFreeEnv, IpcNotRecv}
+use Rattle.jos_base.specs.declared.errno.Errno.TheVariants.{BadEnv, Invalid, NoMem, NoFreeEnv, IpcNotRecv, NotFound, BadPath}
 use Rattle.jos_base.specs.declared.called.Called.{Called}
 use Rattle.jos_base.specs.declared.called.Called.TheVariants.{Answered, Ended, Blocked}
 use Rattle.jos_base.specs.declared.line.Line.{Line}
@@ -19,7 +19,7 @@ use Rattle.jos_base.specs.declared.numbers.TheConstants.{SYS_CPUTS, SYS_CGETC, S
 use Rattle.jos_base.specs.declared.numbers.TheConstants.{SYS_PAGE_ALLOC, SYS_PAGE_MAP, SYS_PAGE_UNMAP}
 use Rattle.jos_base.specs.declared.numbers.TheConstants.{SYS_EXOFORK, SYS_ENV_SET_STATUS, SYS_ENV_SET_TRAPFRAME}
 use Rattle.jos_base.specs.declared.numbers.TheConstants.{SYS_ENV_SET_PGFAULT_UPCALL, SYS_YIELD, SYS_IPC_TRY_SEND, SYS_IPC_RECV}
-use Rattle.jos_base.specs.declared.numbers.TheConstants.{E_BAD_ENV, E_INVAL, E_NO_MEM, E_NO_FREE_ENV, E_IPC_NOT_RECV, CPUTS_MAX}
+use Rattle.jos_base.specs.declared.numbers.TheConstants.{E_BAD_ENV, E_INVAL, E_NO_MEM, E_NO_FREE_ENV, E_IPC_NOT_RECV, E_NOT_FOUND, E_BAD_PATH, CPUTS_MAX}
 use Rattle.jos_base.specs.declared.numbers.TheConstants.{ENV_RUNNABLE, ENV_NOT_RUNNABLE, END_OF_INPUT, TRAPFRAME_WORDS}
 use Rattle.jos_base.specs.declared.numbers.TheConstants.{PGSIZE, PTE_P, PTE_W, PTE_U, PTE_SYSCALL, UTOP}
 use Rattle.jos_base.specs.Words.{negated, page_number}
@@ -39,6 +39,8 @@ error_number Invalid = E_INVAL
 error_number NoMem = E_NO_MEM
 error_number NoFreeEnv = E_NO_FREE_ENV
 error_number IpcNotRecv = E_IPC_NOT_RECV
+error_number NotFound = E_NOT_FOUND
+error_number BadPath = E_BAD_PATH
 
 -- what a call or a fault has done: the state after it, what the caller gets, and the bytes that are written
 pub record Did : Type 0 where

@@ -3,10 +3,12 @@
 ghost use Rattle.std.specs.Prelude.{◌≡◌};
 ghost use Rattle.jos_base.specs.SystemCalls.{error_number};
 
-use crate::numbers::{E_BAD_ENV, E_INVAL, E_IPC_NOT_RECV, E_NO_FREE_ENV, E_NO_MEM};
+use crate::numbers::{
+    E_BAD_ENV, E_BAD_PATH, E_INVAL, E_IPC_NOT_RECV, E_NO_FREE_ENV, E_NO_MEM, E_NOT_FOUND,
+};
 use std::alloc::{AllocError, AllocFailed};
 
-/// The error of a system call, which is answered as its number, negated as a word. (MIT 6.828, inc/error.h)
+/// The error of a call, which a program is answered as its number, negated as a word. (MIT 6.828, inc/error.h)
 #[derive(Clone, Copy, Debug, PartialEq, Eq)]
 pub enum Errno {
     /// No such environment, or none that the caller may change.
@@ -19,6 +21,10 @@ pub enum Errno {
     NoFreeEnv,
     /// The environment does not wait for a word, or not for the caller's.
     IpcNotRecv,
+    /// No file has the name.
+    NotFound,
+    /// A path or a name in it is too long.
+    BadPath,
 }
 
 impl Errno {
@@ -32,6 +38,8 @@ impl Errno {
             Errno::NoMem => E_NO_MEM,
             Errno::NoFreeEnv => E_NO_FREE_ENV,
             Errno::IpcNotRecv => E_IPC_NOT_RECV,
+            Errno::NotFound => E_NOT_FOUND,
+            Errno::BadPath => E_BAD_PATH,
         }
     }
 }
@@ -65,6 +73,8 @@ mod tests {
             (Errno::NoMem, 4),
             (Errno::NoFreeEnv, 5),
             (Errno::IpcNotRecv, 7),
+            (Errno::NotFound, 11),
+            (Errno::BadPath, 12),
         ] {
             assert_eq!(rt; errno.code(), number, "{errno:?}");
         }

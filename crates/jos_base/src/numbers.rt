@@ -183,6 +183,24 @@ pub const E_NO_FREE_ENV: u32 = 5;
 /// The environment does not wait for a word, or not for the caller's.
 pub const E_IPC_NOT_RECV: u32 = 7;
 
+/// Too few blocks of the disk are free, or a size would be past the greatest.
+pub const E_NO_DISK: u32 = 9;
+
+/// As many files or descriptors are open as there may be.
+pub const E_MAX_OPEN: u32 = 10;
+
+/// No file has the name.
+pub const E_NOT_FOUND: u32 = 11;
+
+/// A path or a name in it is too long.
+pub const E_BAD_PATH: u32 = 12;
+
+/// The file is there already.
+pub const E_FILE_EXISTS: u32 = 13;
+
+/// It cannot be asked of what the descriptor is for.
+pub const E_NOT_SUPP: u32 = 15;
+
 /// What `cgetc` answers where the console's input is at its end.
 pub const END_OF_INPUT: u32 = 4;
 
@@ -212,6 +230,15 @@ pub const ENV_RUNNING: u32 = 3;
 /// Of an environment that may not run.
 pub const ENV_NOT_RUNNABLE: u32 = 4;
 
+/// Of an environment that runs a user's program. (MIT 6.828, lab 5, inc/env.h)
+pub const ENV_TYPE_USER: u32 = 0;
+
+/// Of the file server. (MIT 6.828, lab 5, inc/env.h)
+pub const ENV_TYPE_FS: u32 = 1;
+
+/// The words that an environment keeps for a library outside of the kernel. (This system's own.)
+pub const EXTRA_WORDS: usize = 12;
+
 /// The words of a record that a user reads of a slot. (This system's own.)
 pub const ENV_WORDS: usize = 16;
 
@@ -230,6 +257,9 @@ pub const CPUTS_MAX: u32 = 4096;
 
 /// The most bytes of an image file.
 pub const IMAGE_MAX: u64 = 16_777_216;
+
+/// The most bytes of a file that is put on a disk.
+pub const FILE_MAX: u64 = 16_777_216;
 
 /// The most program headers of an image.
 pub const SEGMENT_MAX: u16 = 16;

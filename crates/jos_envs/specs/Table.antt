@@ -1,9 +1,10 @@
 -- What a table keeps, and the environments that it holds.
 use Rattle.std.specs.Prelude.{◌≡◌, ◌≢◌, ℕ, zero, suc, nat_lt, ◌||◌, Bool, true, false, List, [], ◌∷◌, get_or}
 use Rattle.std.specs.Prelude.{Option, Some, None, if◌then◌else◌}
+use Rattle.jos_base.specs.declared.environment.EnvType.TheVariants.{User}
 use Rattle.jos_base.specs.declared.environment.Status.TheVariants.{Free}
 use Rattle.jos_base.specs.declared.numbers.TheConstants.{NENV}
-use Rattle.jos_base.specs.Environments.{Environments, Slot, free_slot, slot_freed, is_live, is_runnable, zero_registers}
+use Rattle.jos_base.specs.Environments.{Environments, Slot, free_slot, slot_freed, is_live, is_runnable, zero_registers, no_extra}
 use Rattle.jos_envs.specs.declared.environment.Environment.{Environment}
 use Rattle.jos_envs.specs.declared.recent.Recent.{Recent}
 use Rattle.jos_envs.specs.Slots.{slot_of}
@@ -24,9 +25,11 @@ abbrev pub unused : Environment
 unused = record {
   id = record { 0 = 0 };
   parent = record { 0 = 0 };
+  env_type = User;
   status = Free;
   runs = 0;
   registers = zero_registers;
+  extra = record { 0 = no_extra };
   directory = record { 0 = 0 };
   upcall = 0;
   rendezvous = record {

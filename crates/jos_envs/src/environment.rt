@@ -1,11 +1,12 @@
 //! An environment, and the ids that a slot gives.
 
 ghost use Rattle.std.specs.Prelude.{◌≡◌, ◌<◌};
-ghost use Rattle.jos_base.specs.Environments.{next_id, is_runnable, status_number};
+ghost use Rattle.jos_base.specs.Environments.{next_id, is_runnable, env_type_number, status_number};
 
 use jos_base::{
-    ENV_DYING, ENV_FREE, ENV_GENERATION, ENV_NOT_RUNNABLE, ENV_RUNNABLE, ENV_RUNNING, ENV_WORDS,
-    EnvId, FIRST_ENV_ID, Frame, NENV, Regs, Status,
+    ENV_DYING, ENV_FREE, ENV_GENERATION, ENV_NOT_RUNNABLE, ENV_RUNNABLE, ENV_RUNNING, ENV_TYPE_FS,
+    ENV_TYPE_USER, ENV_WORDS, EXTRA_WORDS, EnvId, EnvType, Extra, FIRST_ENV_ID, Frame, NENV, Regs,
+    Status,
 };
 use jos_ipc::Rendezvous;
 
@@ -15,10 +16,13 @@ pub struct Environment {
     pub id: EnvId,
     /// The id of the environment that made it, 0 for one that the kernel made.
     pub parent: EnvId,
+    pub env_type: EnvType,
     pub status: Status,
     /// How many turns it has had, as a word.
     pub runs: u32,
     pub registers: Regs,
+    /// What it keeps for a library outside of the kernel.
+    pub extra: Extra,
     /// The frame of its directory.
     pub directory: Frame,
     /// Where it handles its page faults, 0 where it does not.
@@ -38,6 +42,7 @@ impl Environment {
         Environment {
             id,
             parent: EnvId(0),
+            env_type: EnvType::User,
             status: Status::Free,
             runs: 0,
             registers: Regs {
@@ -52,6 +57,7 @@ impl Environment {
                 eip: 0,
                 eflags: 0,
             },
+            extra: Extra([0; EXTRA_WORDS]),
             directory: Frame(0),
             upcall: 0,
             rendezvous: Rendezvous::none(),
@@ -69,7 +75,7 @@ impl Environment {
         }
     }
 
-    /// The words that a user reads of it: its id, its parent's, its kind, which is 0 for a user's, its status, its turns, the
+    /// The words that a user reads of it: its id, its parent's, its type, its status, its turns, the
     /// frame of its directory, its upcall, then whether it waits for a word, the sender that it waits for, where a page is
     /// to stand, the word that came, the sender's id and the bits of the page's entry, and three that are empty. (This
     /// system's own.)
@@ -80,7 +86,7 @@ impl Environment {
         [
             self.id.0,
             self.parent.0,
-            0,
+            env_type_number(self.env_type),
             status_number(self.status),
             self.runs,
             self.directory.0,
@@ -112,6 +118,16 @@ pub(crate) fn next_id(id: EnvId, slot: usize) -> EnvId
         FIRST_ENV_ID
     };
     EnvId(generation + slot as u32)
+}
+
+/// The number of what an environment is there for. (MIT 6.828, lab 5, inc/env.h)
+fn env_type_number(env_type: EnvType) -> u32
+    ensures { result ≡ env_type_number env_type }
+{
+    match env_type {
+        EnvType::User => ENV_TYPE_USER,
+        EnvType::FileServer => ENV_TYPE_FS,
+    }
 }
 
 /// The number of what an environment is doing. (MIT 6.828, inc/env.h)

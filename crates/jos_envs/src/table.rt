@@ -15,7 +15,7 @@ use crate::beginning::first_order;
 use crate::environment::{Environment, is_runnable, next_id};
 use crate::recent::Recent;
 use crate::slot_set::SlotSet;
-use jos_base::{EnvId, Frame, NENV, NoMemory, Regs, Status};
+use jos_base::{EnvId, EnvType, Extra, Frame, NENV, NoMemory, Regs, Status};
 use jos_ipc::Rendezvous;
 use std::alloc::Global;
 use std::marker::Model;
@@ -155,6 +155,28 @@ impl Table {
     {
         let old = self.get(slot);
         self.put(slot, Environment { rendezvous, ..old });
+    }
+
+    /// Sets what an environment keeps for a library outside of the kernel.
+    pub fn set_extra(&mut self, slot: usize, extra: Extra)
+        requires { is_live ((environments self.old).slots slot) ≡ true }
+        ensures set { environments self.new ≡ with_slot (environments self.old) slot
+            (record ((environments self.old).slots slot) { extra = extra.0 }) }
+        ensures live { KeepsLive (environments self.old) (environments self.new) }
+    {
+        let old = self.get(slot);
+        self.put(slot, Environment { extra, ..old });
+    }
+
+    /// Sets what an environment is there for.
+    pub fn set_env_type(&mut self, slot: usize, env_type: EnvType)
+        requires { is_live ((environments self.old).slots slot) ≡ true }
+        ensures set { environments self.new ≡ with_slot (environments self.old) slot
+            (record ((environments self.old).slots slot) { env_type = env_type }) }
+        ensures live { KeepsLive (environments self.old) (environments self.new) }
+    {
+        let old = self.get(slot);
+        self.put(slot, Environment { env_type, ..old });
     }
 
     /// Begins a turn of an environment, which counts it.

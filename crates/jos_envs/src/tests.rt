@@ -5,7 +5,7 @@ ghost use Rattle.jos_base.specs.declared.numbers.TheConstants.{NENV};
 
 use super::*;
 use crate::environment::next_id;
-use jos_base::{EnvId, Frame, Status};
+use jos_base::{EnvId, EnvType, Frame, Status};
 use jos_ipc::Rendezvous;
 
 /// Gives a slot to an environment that the kernel makes, and tells its id.
@@ -48,6 +48,7 @@ fn begins_anew_where_an_id_would_be_negative(rt: HostRuntime) {
 #[test]
 fn tells_an_environment_in_its_record(rt: HostRuntime) {
     let environment = Environment {
+        env_type: EnvType::FileServer,
         status: Status::Running,
         runs: 3,
         directory: Frame(40),
@@ -67,7 +68,7 @@ fn tells_an_environment_in_its_record(rt: HostRuntime) {
         [
             0x1005,
             0x1001,
-            0,
+            1,
             3,
             3,
             40,

@@ -10,7 +10,7 @@ use Rattle.std.proofs.lemmas.Bool.Decides.{nat_tests}
 use Rattle.jos_base.specs.declared.registers.Regs.{Regs}
 use Rattle.jos_base.specs.declared.environment.Status.{Status}
 use Rattle.jos_base.specs.declared.errno.Errno.{Errno}
-use Rattle.jos_base.specs.declared.errno.Errno.TheVariants.{BadEnv, Invalid, NoMem, NoFreeEnv, IpcNotRecv}
+use Rattle.jos_base.specs.declared.errno.Errno.TheVariants.{BadEnv, Invalid, NoMem, NoFreeEnv, IpcNotRecv, NotFound, BadPath}
 use Rattle.jos_base.specs.declared.called.Called.TheVariants.{Ended}
 use Rattle.jos_base.specs.declared.numbers.TheConstants.{NENV, CPUTS_MAX}
 use Rattle.jos_base.specs.Words.{negated}
@@ -29,6 +29,8 @@ negated_is Invalid code e = omega arith
 negated_is NoMem code e = omega arith
 negated_is NoFreeEnv code e = omega arith
 negated_is IpcNotRecv code e = omega arith
+negated_is NotFound code e = omega arith
+negated_is BadPath code e = omega arith
 
 -- ---- who is live
 

@@ -19,6 +19,11 @@ pub registers_unshown : (slot : Slot) (registers : Regs) → record_words (recor
 unfolding record_words
 registers_unshown slot registers = refl
 
+-- nor do the words that a library keeps
+pub extra_unshown : (slot : Slot) (words : List ℕ) → record_words (record slot { extra = words }) ≡ record_words slot
+unfolding record_words
+extra_unshown slot words = refl
+
 module _ (e f : Environments) where
   -- a slot whose place another takes that is shown as the same
   pub shown_same : (n : ℕ) (slot : Slot) → f ≡ with_slot e n slot → record_words slot ≡ record_words (e.slots n) → records_of f ≡ records_of e

@@ -144,7 +144,7 @@ impl System {
 
     /// The bytes at an address as an environment reads them, which sets the bits of what is reached. Where one of them can't
     /// be read, nothing is set, and its fault is the result.
-    fn read_user(
+    pub fn read_user(
         &mut self,
         current: usize,
         va: u32,

@@ -3,7 +3,7 @@
 ghost use Rattle.std.specs.Prelude.{◌≡◌, ◌≢◌, ℕ, ◌<◌, ◌≤◌, ◌-◌, ◌^◌, List, [], Ok, Err, IfOk, IfErr, OnErr, true};
 ghost use Rattle.jos_base.specs.declared.environment.Status.TheVariants.{Free};
 ghost use Rattle.jos_base.specs.KernelState.{first_state, slot_at, with_registers, with_status, turn_begun, turn_ended};
-ghost use Rattle.jos_base.specs.KernelState.{with_upcall, with_rendezvous};
+ghost use Rattle.jos_base.specs.KernelState.{with_upcall, with_rendezvous, with_extra, with_env_type};
 ghost use Rattle.jos_ipc.specs.Messages.{rendezvous_of};
 ghost use Rattle.jos_base.specs.Environments.{records_of};
 ghost use Rattle.jos_base.specs.SystemCalls.{environment_made, without_environment};
@@ -12,7 +12,9 @@ ghost use Rattle.jos_envs.specs.Slots.{slot_of};
 ghost use Rattle.jos_envs.specs.Table.{environments, KeepsLive, KeepsOthersLive};
 ghost use Rattle.jos_sys.specs.System.{state_of, environments_of, Keeps, ShowsOthers, is_live_in, in_use};
 
-use jos_base::{Called, EnvId, Errno, FRAMES_MAX, FRAMES_MIN, NENV, NoMemory, Regs, Status};
+use jos_base::{
+    Called, EnvId, EnvType, Errno, Extra, FRAMES_MAX, FRAMES_MIN, NENV, NoMemory, Regs, Status,
+};
 use jos_envs::{Environment, Table};
 use jos_ipc::Rendezvous;
 use jos_space::{Space, Spaces};
@@ -122,6 +124,27 @@ impl System {
         ensures spaces { Keeps self.old → Keeps self.new }
     {
         self.table.set_registers(slot, registers);
+    }
+
+    /// Sets what an environment keeps for a library outside of the kernel.
+    pub fn set_extra(&mut self, slot: usize, extra: Extra)
+        requires { is_live_in self.old slot ≡ true }
+        ensures state { (input : List ℕ) → state_of self.new input ≡ with_extra (state_of self.old input) slot extra.0 }
+        ensures live { KeepsLive (environments_of self.old) (environments_of self.new) }
+        ensures spaces { Keeps self.old → Keeps self.new }
+    {
+        self.table.set_extra(slot, extra);
+    }
+
+    /// Sets what an environment is there for.
+    pub fn set_env_type(&mut self, slot: usize, env_type: EnvType)
+        requires { is_live_in self.old slot ≡ true }
+        ensures state { (input : List ℕ) → state_of self.new input ≡ with_env_type (state_of self.old input) slot env_type }
+        ensures live { KeepsLive (environments_of self.old) (environments_of self.new) }
+        ensures spaces { Keeps self.old → Keeps self.new }
+    {
+        self.table.set_env_type(slot, env_type);
+        show(&mut self.spaces, &self.table, slot);
     }
 
     /// Sets whether an environment may run.

@@ -2,11 +2,10 @@
 use Rattle.std.specs.Prelude.{◌≡◌, ℕ, ◌==◌, true, false, List, [], ◌∷◌, codes, Option, Some, None, option_map}
 use Rattle.std.specs.Prelude.{option_and_then, refl, if◌then◌else◌}
 use Rattle.jos_base.specs.declared.registers.Regs.{Regs}
-use Rattle.jos_base.specs.declared.numbers.TheConstants.{E_INVAL}
+use Rattle.jos_base.specs.declared.numbers.TheConstants.{E_INVAL, E_NOT_FOUND}
 use Rattle.jos_base.specs.Words.{negated, upd}
 use Rattle.jos_base.specs.Environments.{next_id, zero_registers}
 use Rattle.jos_base.specs.Reach.{bytes_read}
-use Rattle.fs_layout.specs.declared.numbers.TheConstants.{E_NOT_FOUND}
 use Rattle.fs_layout.specs.FileTree.{a_directory, no_more, listed}
 use Rattle.fs_layout.specs.FileActs.{file_act, open_act, look_up, look_from, names_in, is_good_path, find_name}
 use Rattle.lib_os.specs.declared.service.Service.{Service}

@@ -3,9 +3,8 @@
 use Rattle.std.specs.Prelude.{ℕ, ◌+◌, ◌==◌, zero, suc, nat_lt, nat_le, is_none, is_some, Bool, false}
 use Rattle.std.specs.Prelude.{[], Option, Some, None, option_map, if◌then◌else◌}
 use Rattle.jos_base.specs.declared.registers.Regs.{Regs}
-use Rattle.jos_base.specs.declared.numbers.TheConstants.{E_INVAL, NENV}
+use Rattle.jos_base.specs.declared.numbers.TheConstants.{E_INVAL, E_MAX_OPEN, NENV}
 use Rattle.jos_base.specs.Words.{upd}
-use Rattle.lib_os.specs.declared.numbers.TheConstants.{E_MAX_OPEN}
 use Rattle.lib_os.specs.declared.numbers.TheConstants.{DESCRIPTORS}
 use Rattle.lib_os.specs.AbstractState.{AbstractState, Born, Object, read_end, write_end, with_born}
 use Rattle.fs_layout.specs.DiskImage.{some_below}

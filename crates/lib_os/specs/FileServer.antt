@@ -3,7 +3,8 @@
 use Rattle.std.specs.Prelude.{ℕ, ◌+◌, ◌%◌, ◌==◌, nat_lt, not, Bool, true, false, List, [], Option, Some, None, bytes_eq}
 use Rattle.std.specs.Prelude.{if◌then◌else◌}
 use Rattle.jos_base.specs.Words.{negated, upd}
-use Rattle.lib_os.specs.declared.numbers.TheConstants.{MAXOPEN, E_MAX_OPEN}
+use Rattle.jos_base.specs.declared.numbers.TheConstants.{E_MAX_OPEN}
+use Rattle.lib_os.specs.declared.numbers.TheConstants.{MAXOPEN}
 use Rattle.lib_os.specs.declared.service.Service.{Service}
 use Rattle.fs_layout.specs.FileTree.{Act, open_path}
 use Rattle.fs_layout.specs.FileActs.{Acted, file_act, file_named}

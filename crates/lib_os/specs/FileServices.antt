@@ -6,9 +6,9 @@ use Rattle.std.specs.Prelude.{ℕ, ◌+◌, ◌-◌, ◌%◌, ◌^◌, ◌==◌,
 use Rattle.std.specs.Prelude.{Bool, true, false, List, [], ◌∷◌, ◌++◌, length, Option, Some, None, if◌then◌else◌}
 use Rattle.std.specs.List.{before_first, position_or_len}
 use Rattle.jos_base.specs.declared.registers.Regs.{Regs}
-use Rattle.jos_base.specs.declared.numbers.TheConstants.{E_INVAL}
-use Rattle.lib_os.specs.declared.numbers.TheConstants.{TRANSFER_MAX, FILE_WRITE_MAX, OFFSET_MAX, STAT_SIZE, MODE_BITS, E_MAX_OPEN, E_NOT_SUPP}
-use Rattle.fs_layout.specs.declared.numbers.TheConstants.{MAXPATHLEN, E_BAD_PATH, FTYPE_REG}
+use Rattle.jos_base.specs.declared.numbers.TheConstants.{E_INVAL, E_MAX_OPEN, E_BAD_PATH, E_NOT_SUPP}
+use Rattle.lib_os.specs.declared.numbers.TheConstants.{TRANSFER_MAX, FILE_WRITE_MAX, OFFSET_MAX, STAT_SIZE, MODE_BITS}
+use Rattle.fs_layout.specs.declared.numbers.TheConstants.{MAXPATHLEN, FTYPE_REG}
 use Rattle.lib_os.specs.declared.service.Service.{Service}
 use Rattle.fs_layout.specs.FileActs.{stat_bytes}
 use Rattle.fs_layout.specs.FileTree.{open_path, read_file, write_file, set_file_size, stat_file, remove_path, sync_files}

@@ -14,3 +14,4 @@ pub mod FileServices
 pub mod LibraryCall
 pub mod AbstractRun
 pub mod AbstractLaws
+pub mod UserCalls

@@ -17,6 +17,7 @@ mod numbers;
 mod service;
 #[cfg(test)]
 mod tests;
+mod user_os;
 
 pub use laws::{
     fork_copies, guest_memory_is_lawful, pages_are_own_or_shared, pipes_are_bounded,
@@ -24,3 +25,4 @@ pub use laws::{
 };
 pub use numbers::{DESCRIPTORS, FDTABLE_END, RESIDENT};
 pub use service::{Service, service_of};
+pub use user_os::{Stop, UserOs};

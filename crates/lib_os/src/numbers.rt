@@ -32,9 +32,3 @@ pub const MODE_BITS: u32 = 0x703;
 
 /// A turn of fewer steps may be too short to see that the other end of a pipe is closed.
 pub const SHORT_QUANTUM: u32 = 16;
-
-/// The error's number where there are no more descriptors, or no more places for open files. (MIT 6.828, inc/error.h)
-pub const E_MAX_OPEN: u32 = 10;
-
-/// The error's number where the operation is not one of this kind of object. (MIT 6.828, inc/error.h)
-pub const E_NOT_SUPP: u32 = 15;

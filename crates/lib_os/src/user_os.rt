@@ -1,0 +1,137 @@
+//! What the library asks of the kernel for an environment.
+
+ghost use Rattle.std.specs.Prelude.{◌≡◌, ℕ, ◌+◌, ◌-◌, ◌%◌, ◌<◌, ◌^◌, true};
+ghost use Rattle.jos_host.specs.Told.{HasCause};
+ghost use Rattle.jos_host.specs.Frames.{Unchanged, around};
+ghost use Rattle.jos_base.specs.Environments.{is_live};
+ghost use Rattle.jos_base.specs.KernelState.{KernelState, slot_at, with_registers, with_extra};
+ghost use Rattle.lib_os.specs.UserCalls as call;
+ghost use Rattle.lib_os.specs.UserCalls.{IsStep, IsCallStep, HasStopCause};
+
+use jos_base::{Called, Extra, Regs};
+use jos_host::{Failed, Host};
+
+/// Why a call gave the library nothing.
+#[derive(Clone, Copy, Debug, PartialEq, Eq)]
+pub enum Stop {
+    /// The access faulted, and the environment's handler goes on.
+    Upcall,
+    /// The access faulted, and the environment is destroyed, with its line.
+    Ended,
+    /// The host failed while the line was written.
+    Failed,
+}
+
+/// The kernel, as the library has it while it serves one environment: each call is one step of the kernel's state, and is
+/// counted. (`specs/UserCalls.antt` has each call.)
+pub trait UserOs {
+    /// The kernel's state.
+    ghost state: { Self → KernelState };
+    /// The slot of the environment that is served.
+    ghost slot: { Self → ℕ };
+    /// How many calls were made.
+    ghost calls: { Self → ℕ };
+
+    /// The word at an address that is a multiple of four.
+    fn load<H: Host>(&mut self, host: &mut H, va: u32) -> Result<u32, Stop>
+        requires live { is_live (slot_at (state self.old) (slot self.old)) ≡ true }
+        requires aligned { va % 4 ≡ 0 }
+        requires few { calls self.old < 2 ^ 32 - 1 }
+        ensures step { IsStep (call.load (state self.old) (slot self.old) va) result (state self.new) (around H.console host.old host.new) }
+        ensures slot { slot self.new ≡ slot self.old }
+        ensures calls { calls self.new ≡ calls self.old + 1 }
+        ensures rest { Unchanged H.files H.input H.asked H.notes host.old host.new }
+        ensures cause { HasStopCause (around H.faults host.old host.new) result };
+
+    /// The byte at an address.
+    fn load_byte<H: Host>(&mut self, host: &mut H, va: u32) -> Result<u8, Stop>
+        requires live { is_live (slot_at (state self.old) (slot self.old)) ≡ true }
+        requires few { calls self.old < 2 ^ 32 - 1 }
+        ensures step { IsStep (call.load_byte (state self.old) (slot self.old) va) result (state self.new) (around H.console host.old host.new) }
+        ensures slot { slot self.new ≡ slot self.old }
+        ensures calls { calls self.new ≡ calls self.old + 1 }
+        ensures rest { Unchanged H.files H.input H.asked H.notes host.old host.new }
+        ensures cause { HasStopCause (around H.faults host.old host.new) result };
+
+    /// Puts a word at an address that is a multiple of four.
+    fn store<H: Host>(&mut self, host: &mut H, va: u32, word: u32) -> Result<(), Stop>
+        requires live { is_live (slot_at (state self.old) (slot self.old)) ≡ true }
+        requires aligned { va % 4 ≡ 0 }
+        requires few { calls self.old < 2 ^ 32 - 1 }
+        ensures step { IsStep (call.store (state self.old) (slot self.old) va word) result (state self.new) (around H.console host.old host.new) }
+        ensures slot { slot self.new ≡ slot self.old }
+        ensures calls { calls self.new ≡ calls self.old + 1 }
+        ensures rest { Unchanged H.files H.input H.asked H.notes host.old host.new }
+        ensures cause { HasStopCause (around H.faults host.old host.new) result };
+
+    /// Puts a byte at an address.
+    fn store_byte<H: Host>(&mut self, host: &mut H, va: u32, byte: u8) -> Result<(), Stop>
+        requires live { is_live (slot_at (state self.old) (slot self.old)) ≡ true }
+        requires few { calls self.old < 2 ^ 32 - 1 }
+        ensures step { IsStep (call.store_byte (state self.old) (slot self.old) va byte) result (state self.new) (around H.console host.old host.new) }
+        ensures slot { slot self.new ≡ slot self.old }
+        ensures calls { calls self.new ≡ calls self.old + 1 }
+        ensures rest { Unchanged H.files H.input H.asked H.notes host.old host.new }
+        ensures cause { HasStopCause (around H.faults host.old host.new) result };
+
+    /// Puts a word at an address that is a multiple of four, and gives the one that stood there.
+    fn exchange<H: Host>(&mut self, host: &mut H, va: u32, word: u32) -> Result<u32, Stop>
+        requires live { is_live (slot_at (state self.old) (slot self.old)) ≡ true }
+        requires aligned { va % 4 ≡ 0 }
+        requires few { calls self.old < 2 ^ 32 - 1 }
+        ensures step { IsStep (call.exchange (state self.old) (slot self.old) va word) result (state self.new) (around H.console host.old host.new) }
+        ensures slot { slot self.new ≡ slot self.old }
+        ensures calls { calls self.new ≡ calls self.old + 1 }
+        ensures rest { Unchanged H.files H.input H.asked H.notes host.old host.new }
+        ensures cause { HasStopCause (around H.faults host.old host.new) result };
+
+    /// Makes the system call with a number, given these words. The environment's registers are as before, but where the call
+    /// set them.
+    fn system<H: Host>(
+        &mut self,
+        host: &mut H,
+        number: u32,
+        args: [u32; 5],
+    ) -> Result<Called, Failed>
+        requires live { is_live (slot_at (state self.old) (slot self.old)) ≡ true }
+        requires few { calls self.old < 2 ^ 32 - 1 }
+        ensures step { IsCallStep (call.system (state self.old) (slot self.old) number args) result (state self.new) (around H.console host.old host.new) }
+        ensures slot { slot self.new ≡ slot self.old }
+        ensures calls { calls self.new ≡ calls self.old + 1 }
+        ensures rest { Unchanged H.files H.input H.asked H.notes host.old host.new }
+        ensures cause { HasCause (H.faults host.old) (H.faults host.new) result };
+
+    /// Takes the registers back from the frame of a page fault that stands at ESP.
+    fn restore_frame<H: Host>(&mut self, host: &mut H) -> Result<(), Stop>
+        requires live { is_live (slot_at (state self.old) (slot self.old)) ≡ true }
+        requires few { calls self.old < 2 ^ 32 - 1 }
+        ensures step { IsStep (call.restore_frame (state self.old) (slot self.old)) result (state self.new) (around H.console host.old host.new) }
+        ensures slot { slot self.new ≡ slot self.old }
+        ensures calls { calls self.new ≡ calls self.old + 1 }
+        ensures rest { Unchanged H.files H.input H.asked H.notes host.old host.new }
+        ensures cause { HasStopCause (around H.faults host.old host.new) result };
+
+    /// The environment's registers. This is no call that is counted, nor are the next three.
+    fn registers(&self) -> Regs
+        requires { is_live (slot_at (state self.now) (slot self.now)) ≡ true }
+        ensures { result ≡ (slot_at (state self.now) (slot self.now)).registers };
+
+    /// Sets the environment's registers.
+    fn set_registers(&mut self, registers: Regs)
+        requires { is_live (slot_at (state self.old) (slot self.old)) ≡ true }
+        ensures state { state self.new ≡ with_registers (state self.old) (slot self.old) registers }
+        ensures slot { slot self.new ≡ slot self.old }
+        ensures calls { calls self.new ≡ calls self.old };
+
+    /// The words that the environment keeps for the library.
+    fn extra(&self) -> Extra
+        requires { is_live (slot_at (state self.now) (slot self.now)) ≡ true }
+        ensures { result.0 ≡ (slot_at (state self.now) (slot self.now)).extra };
+
+    /// Sets the words that the environment keeps for the library.
+    fn set_extra(&mut self, extra: Extra)
+        requires { is_live (slot_at (state self.old) (slot self.old)) ≡ true }
+        ensures state { state self.new ≡ with_extra (state self.old) (slot self.old) extra.0 }
+        ensures slot { slot self.new ≡ slot self.old }
+        ensures calls { calls self.new ≡ calls self.old };
+}
