@@ -63,10 +63,6 @@ pub turn_last : (test : Test) (named : Blocks) → in_turn (test ∷ []) named �
 unfolding in_turn
 turn_last test named = after_last (test named)
 
-pub turn_done : (named : Blocks) → in_turn [] named ≡ Ok named
-unfolding in_turn
-turn_done named = refl
-
 pub demand_fails : (b : Bool) (fault : ImageFault) (named : Blocks) → b ≡ false → demand b fault named ≡ Err fault
 demand_fails b fault named e = rw e refl
 

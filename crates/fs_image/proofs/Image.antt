@@ -4,9 +4,8 @@ use Rattle.std.specs.Prelude.{◌==◌, ◌&&◌, not, nat_le}
 use Rattle.std.specs.Option.{option_map}
 use Rattle.std.specs.Result.{result_err}
 use Rattle.std.proofs.lemmas.List.{get_or_past}
-use Rattle.std.proofs.lemmas.Bool.{leb-true}
 use Rattle.std.proofs.lemmas.Bool.Decides.{leb_tells}
-use Rattle.fs_layout.specs.declared.numbers.TheConstants.{BLKSIZE, FS_MAGIC, MAXBLOCKS, MINBLOCKS}
+use Rattle.fs_layout.specs.declared.numbers.TheConstants.{BLKSIZE, FS_MAGIC}
 use Rattle.fs_layout.specs.DiskImage as image
 use Rattle.fs_layout.specs.DiskImage.{Blocks, Test, none_named, in_turn, for_each_below, demand}
 use Rattle.fs_image.specs.declared.fault.ImageFault.{ImageFault}
@@ -15,7 +14,7 @@ use Rattle.fs_image.proofs.Each.{turn_fails, turn_passes, turn_last, append_fail
 
 -- ---- the super block
 
-abbrev long : ℕ → (ℕ → ℕ) → Bool
+abbrev pub long : ℕ → (ℕ → ℕ) → Bool
 long total byte = nat_le (3 * BLKSIZE) total && nat_le (BLKSIZE * image.block_count byte) total
 
 pub super_1 : (total : ℕ) (byte : ℕ → ℕ) (n : Blocks) → long total byte ≡ false → in_turn (image.super_tests total byte) n ≡ Err image.TooShort
@@ -37,13 +36,6 @@ super_4 total byte n e h k l = rw (e, h, k, l) refl
 pub super_5 : (total : ℕ) (byte : ℕ → ℕ) (n : Blocks) → long total byte ≡ true → (image.magic_of byte == FS_MAGIC) ≡ true → image.is_good_count (image.block_count byte) ≡ true → image.is_directory byte image.root_place ≡ true → in_turn (image.super_tests total byte) n ≡ Ok n
 unfolding image.super_tests in_turn
 super_5 total byte n e h k l = rw (e, h, k, l) refl
-
-and_right : (x y : Bool) → (x && y) ≡ true → y ≡ true
-and_right true y e = e
-and_right false y e = absurd cc
-
-pub few_blocks : (blocks : ℕ) → image.is_good_count blocks ≡ true → blocks ≤ MAXBLOCKS
-few_blocks blocks e = leb-true blocks MAXBLOCKS (and_right (nat_le MINBLOCKS blocks) (nat_le blocks MAXBLOCKS) e)
 
 -- ---- the first blocks
 

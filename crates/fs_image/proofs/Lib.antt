@@ -4,3 +4,7 @@ pub mod OneRecord
 pub mod NameBytes
 pub mod OneSlot
 pub mod Image
+pub mod Reading
+pub mod Checked
+pub mod Walking
+pub mod Taken

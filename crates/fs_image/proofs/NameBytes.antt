@@ -1,11 +1,10 @@
 -- A record's name, byte by byte.
-use Rattle.std.proofs.Common.{◌≡◌, ℕ, zero, suc, ◌+◌, ◌≢◌, Bool, true, false, cond, List, [], ◌∷◌, ◌++◌, length, refl, sym, ◌∙◌, ap, arith, inl, inr, add-one, add-zero, take}
-use Rattle.std.specs.Prelude.{◌==◌, ◌&&◌, not, nat_lt, bytes_eq, if◌then◌else◌}
-use Rattle.std.specs.List.{before_first, list_any, prefix_len}
-use Rattle.std.proofs.lemmas.Bool.{eq-eqb}
-use Rattle.std.proofs.lemmas.Bool.Decides.{eqb_tells, nat_tests}
-use Rattle.fs_layout.specs.FileActs.{is_slash}
-use Rattle.fs_layout.specs.DiskImage.{values_below, name_of, is_good_name}
+use Rattle.std.proofs.Common.{◌≡◌, ℕ, zero, suc, ◌+◌, ◌≢◌, true, false, cond, List, [], ◌∷◌, ◌++◌, length, get_or, drop, ◌-◌, ◌<◌, refl, sym, ◌∙◌, ap, arith, inl, inr, add-one, add-zero, take}
+use Rattle.std.specs.Prelude.{◌==◌, not, slice_index, if◌then◌else◌}
+use Rattle.std.specs.List.{before_first, prefix_len}
+use Rattle.std.proofs.lemmas.List.{append-nil, append_assoc, take_more, get_or-drop, get_or_past, length-drop}
+use Rattle.std.proofs.lemmas.Bool.Decides.{eqb_tells, leb_tells}
+use Rattle.fs_layout.specs.DiskImage.{values_below, name_of}
 
 -- the bytes before the NUL, among so many from a place on
 unfoldable pub name_from : (ℕ → ℕ) → ℕ → ℕ → List ℕ
@@ -47,70 +46,68 @@ name_is byte place =
     ap (before_first (λ b. b == 0)) (same_values 128 (λ k. byte (place + k)) (λ k. byte (place + (0 + k))) (λ k. ap (λ m. byte (place + m)) (sym (from_none k))))
     ∙ named_from 128 0 (λ k. byte (place + k))
 
--- ---- whether a name is good
-
--- what is left to ask of it with so many bytes to come
-abbrev pub good : ℕ → List ℕ → Bool
-good n name = nat_lt (length name) n && not (list_any is_slash name)
-
-pub good_first : (byte : ℕ → ℕ) (place n : ℕ) → 0 + n ≡ 128 → is_good_name (name_of byte place) ≡ good n (name_from (λ k. byte (place + k)) 0 n)
-good_first byte place n e =
-    ap is_good_name (name_is byte place) ∙ ap (λ m. good m (name_from (λ k. byte (place + k)) 0 m)) (sym (sym (from_none n) ∙ e))
+-- ---- the bytes of a name among those of an image
 
 test_not : (a b : ℕ) → a ≢ b → (a == b) ≡ false
 test_not a b ne = elim (eqb_tells a b) [ inl same ↦ absurd (ne same.1) | inr other ↦ other.0 ]
 
-and_false : (x : Bool) → (x && false) ≡ false
-and_false true = refl
-and_false false = refl
+-- so many of its bytes are there, and so many are to come
+abbrev pub IsNamedBy : List ℕ → ℕ → ℕ → Type 0
+IsNamedBy bytes place k =
+    (n : ℕ) → k + n ≡ 128 → name_of (slice_index bytes) place
+    ≡ take k (drop place bytes) ++ name_from (λ i. slice_index bytes (place + i)) k n
 
-lt_suc : (a b : ℕ) → nat_lt (suc a) (suc b) ≡ nat_lt a b
-lt_suc a b = grind (arith, nat_tests)
+pub named_none : (bytes : List ℕ) (place : ℕ) → IsNamedBy bytes place 0
+named_none bytes place = λ n e.
+    name_is (slice_index bytes) place
+    ∙ ap (λ m. name_from (λ i. slice_index bytes (place + i)) 0 m) (sym (sym (from_none n) ∙ e))
 
-lt_first : (n : ℕ) → nat_lt 0 (suc n) ≡ true
-lt_first n = grind (arith, nat_tests)
-
-pub good_nul : (f : ℕ → ℕ) (i n : ℕ) → f i ≡ 0 → good (suc n) (name_from f i (suc n)) ≡ true
+pub named_more : (bytes : List ℕ) (place k : ℕ) → IsNamedBy bytes place k → slice_index bytes (place + k) ≢ 0 → place + k < length bytes → IsNamedBy bytes place (k + 1)
 unfolding name_from
-good_nul f i n e = rw e (ap (λ t. t && true) (lt_first n))
+named_more bytes place k named ne within = λ n e.
+    let left : k + suc n ≡ 128 = omega (arith, e) in
+    let more : k < length (drop place bytes) = omega (arith, length-drop place bytes) in
+    let here : get_or (drop place bytes) k 0 ≡ slice_index bytes (place + k) = get_or-drop place bytes k 0 in
+    named (suc n) left
+    ∙ ap (λ l. take k (drop place bytes) ++ l) (rw (test_not (slice_index bytes (place + k)) 0 ne, add-one) refl)
+    ∙ sym (append_assoc (take k (drop place bytes)) (slice_index bytes (place + k) ∷ []) (name_from (λ i. slice_index bytes (place + i)) (k + 1) n))
+    ∙ ap (λ x. (take k (drop place bytes) ++ x ∷ []) ++ name_from (λ i. slice_index bytes (place + i)) (k + 1) n) (sym here)
+    ∙ ap (λ l. l ++ name_from (λ i. slice_index bytes (place + i)) (k + 1) n) (sym (take_more (drop place bytes) k 0 more))
 
-pub good_slash : (f : ℕ → ℕ) (i n : ℕ) → f i ≡ 47 → good (suc n) (name_from f i (suc n)) ≡ false
+pub named_nul : (bytes : List ℕ) (place k : ℕ) → IsNamedBy bytes place k → slice_index bytes (place + k) ≡ 0 → k < 128 → take k (drop place bytes) ≡ name_of (slice_index bytes) place
 unfolding name_from
-good_slash f i n e = rw e (and_false (nat_lt (length (47 ∷ name_from f (suc i) n)) (suc n)))
+named_nul bytes place k named e few =
+    let left : k + suc (127 - k) ≡ 128 = omega arith in
+    sym
+    (named (suc (127 - k)) left
+    ∙ ap (λ l. take k (drop place bytes) ++ l) (rw e refl)
+    ∙ append-nil (take k (drop place bytes)))
 
-pub good_step : (f : ℕ → ℕ) (i n : ℕ) → f i ≢ 0 → f i ≢ 47 → good (suc n) (name_from f i (suc n)) ≡ good n (name_from f (i + 1) n)
+pub named_all : (bytes : List ℕ) (place k : ℕ) → IsNamedBy bytes place k → k ≡ 128 → take 128 (drop place bytes) ≡ name_of (slice_index bytes) place
 unfolding name_from
-good_step f i n ne no_slash = rw (add-one, test_not (f i) 0 ne, test_not (f i) 47 no_slash) (ap (λ t. t && not (list_any is_slash (name_from f (suc i) n))) (lt_suc (length (name_from f (suc i) n)) n))
+named_all bytes place k named e =
+    let left : k + 0 ≡ 128 = omega arith in
+    ap (λ m. take m (drop place bytes)) (sym e)
+    ∙ sym (named 0 left ∙ append-nil (take k (drop place bytes)))
 
-pub good_end : (f : ℕ → ℕ) (i : ℕ) → good 0 (name_from f i 0) ≡ false
-unfolding name_from
-good_end f i = refl
-
--- ---- whether two are the same
-
-pub same_first : (byte : ℕ → ℕ) (a b n : ℕ) → 0 + n ≡ 128 → bytes_eq (name_of byte a) (name_of byte b) ≡ bytes_eq (name_from (λ k. byte (a + k)) 0 n) (name_from (λ k. byte (b + k)) 0 n)
-same_first byte a b n e =
-    ap (λ x. bytes_eq x (name_of byte b)) (name_is byte a) ∙ ap (bytes_eq (name_from (λ k. byte (a + k)) 0 128)) (name_is byte b)
-    ∙ ap (λ m. bytes_eq (name_from (λ k. byte (a + k)) 0 m) (name_from (λ k. byte (b + k)) 0 m)) (sym (sym (from_none n) ∙ e))
-
-pub same_nul : (f h : ℕ → ℕ) (i n : ℕ) → f i ≡ 0 → h i ≡ 0 → bytes_eq (name_from f i (suc n)) (name_from h i (suc n)) ≡ true
-unfolding name_from
-same_nul f h i n e k = rw (e, k) refl
-
-differ_at : (x y : ℕ) (xs ys : List ℕ) → x ≢ y → bytes_eq (if x == 0 then [] else x ∷ xs) (if y == 0 then [] else y ∷ ys) ≡ false
-differ_at x y xs ys ne = elim (eqb_tells x 0) [
-  | inl same ↦ elim (eqb_tells y 0) [ inl other ↦ absurd (ne (same.1 ∙ sym other.1)) | inr other ↦ rw (same.0, other.0) refl ]
-  | inr same ↦ elim (eqb_tells y 0) [ inl other ↦ rw (same.0, other.0) refl | inr other ↦ rw (same.0, other.0, test_not x y ne) refl ]
+-- a byte that is not 0 stands within
+pub within_bytes : (bytes : List ℕ) (at : ℕ) → slice_index bytes at ≢ 0 → at < length bytes
+within_bytes bytes at ne = elim (leb_tells (length bytes) at) [
+  | inl past ↦ absurd (ne (get_or_past bytes at 0 past.1))
+  | inr within ↦ within.1
 ]
 
-pub same_differ : (f h : ℕ → ℕ) (i n : ℕ) → f i ≢ h i → bytes_eq (name_from f i (suc n)) (name_from h i (suc n)) ≡ false
-unfolding name_from
-same_differ f h i n ne = differ_at (f i) (h i) (name_from f (suc i) n) (name_from h (suc i) n) ne
+-- ---- names that are empty
 
-pub same_step : (f h : ℕ → ℕ) (i n : ℕ) → f i ≢ 0 → f i ≡ h i → bytes_eq (name_from f i (suc n)) (name_from h i (suc n)) ≡ bytes_eq (name_from f (i + 1) n) (name_from h (i + 1) n)
+pub empty_name : (byte : ℕ → ℕ) (place : ℕ) → byte place ≡ 0 → name_of byte place ≡ []
 unfolding name_from
-same_step f h i n ne e = rw (add-one, ← e, test_not (f i) 0 ne, eq-eqb (f i) (f i) refl) refl
+empty_name byte place e =
+    let first : byte (place + 0) ≡ 0 = ap byte (add-zero place) ∙ e in
+    name_is byte place ∙ rw first refl
 
-pub same_end : (f h : ℕ → ℕ) (i : ℕ) → bytes_eq (name_from f i 0) (name_from h i 0) ≡ true
+pub full_name : (byte : ℕ → ℕ) (place : ℕ) → byte place ≢ 0 → name_of byte place ≢ []
 unfolding name_from
-same_end f h i = refl
+full_name byte place ne e =
+    let first : byte (place + 0) ≢ 0 = λ z. ne (ap byte (sym (add-zero place)) ∙ z) in
+    let is_full : name_of byte place ≡ byte (place + 0) ∷ name_from (λ k. byte (place + k)) 1 127 = name_is byte place ∙ rw (test_not (byte (place + 0)) 0 first) refl in
+    absurd (cc)

@@ -1,8 +1,8 @@
 -- What the tests of a directory's record give.
-use Rattle.std.proofs.Common.{◌≡◌, ℕ, zero, suc, ◌-◌, ◌/◌, ◌<◌, ◌≢◌, inl, inr, arith, true, false, Ok, Err, Result, List, [], ◌∷◌, ◌++◌, refl, sym, ◌∙◌, ap, subst, ◌≤◌}
+use Rattle.std.proofs.Common.{◌≡◌, ℕ, zero, suc, ◌-◌, ◌<◌, ◌≢◌, inl, inr, arith, true, false, Ok, Err, Result, List, [], ◌∷◌, ◌++◌, refl, sym, ◌∙◌, ap}
 use Rattle.std.specs.Prelude.{◌==◌, not}
 use Rattle.std.proofs.lemmas.Bool.Decides.{eqb_tells}
-use Rattle.fs_layout.specs.declared.numbers.TheConstants.{FTYPE_DIR, RECORDSIZE}
+use Rattle.fs_layout.specs.declared.numbers.TheConstants.{FTYPE_DIR}
 use Rattle.fs_layout.specs.DiskImage.{Blocks, Test, ImageFault, Kind, BadName, SameName, in_turn, demand, only_where, for_each_below}
 use Rattle.fs_layout.specs.DiskImage.{is_good_kind, kind_of, is_good_name, name_of, record_tests, has_taken_name, slot_place, slot_tests, slot_test}
 use Rattle.fs_layout.specs.DiskImage.{is_directory, is_empty_record, contents_test, slot_count}
@@ -123,9 +123,3 @@ unfolding contents_test
 contents_deep zero byte directory n h = absurd (omega arith)
 contents_deep (suc depth) byte directory n h =
     let e : suc depth - 1 ≡ depth = omega arith in ap (λ d. for_each_below (slot_count byte directory) (slot_test (contents_test d byte) byte directory) n) (sym e)
-
-pub slots_within : (a s i : ℕ) → a ≡ s → i < a / RECORDSIZE → i < s / RECORDSIZE
-slots_within a s i e h = subst (λ (x : ℕ). i < x / RECORDSIZE) e h
-
-pub slots_end : (a s i : ℕ) → a ≡ s → a / RECORDSIZE ≤ i → i ≤ a / RECORDSIZE → i ≡ s / RECORDSIZE
-slots_end a s i e h k = let same : i ≡ a / RECORDSIZE = omega arith in same ∙ ap (λ x. x / RECORDSIZE) e

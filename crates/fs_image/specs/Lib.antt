@@ -1,1 +1,5 @@
 pub mod Answers
+pub mod DiskHeld
+pub mod FaultTexts
+pub mod Pieces
+pub mod Walk

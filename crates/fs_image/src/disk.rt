@@ -1,31 +1,12 @@
 //! What is read.
 
-ghost use Rattle.std.specs.Prelude.{◌≡◌, ℕ, ◌+◌, ◌<◌, ◌^◌, length, slice_index};
+ghost use Rattle.std.specs.Prelude.{◌≡◌, ◌+◌, ◌<◌, ◌≤◌, ◌^◌, length, take, drop, slice_index};
 ghost use Rattle.fs_layout.specs.Layout.{word_at};
+ghost use Rattle.fs_layout.specs.DiskImage.{name_of};
 
-/// Bytes that may be a disk image. Each place has a byte, past the last too.
-pub trait Disk {
-    /// The byte at each place.
-    ghost bytes: { Self → ℕ → ℕ };
+use fs_layout::MAXNAMELEN;
 
-    /// How many bytes there are.
-    ghost total: { Self → ℕ };
-
-    /// How many bytes there are.
-    fn len(&self) -> u64
-        ensures { result ≡ total self.now };
-
-    /// The byte at a place.
-    fn byte(&self, place: u64) -> u8
-        ensures { result ≡ bytes self.now place };
-
-    /// The word at a place, the lowest byte first.
-    fn word(&self, place: u64) -> u32
-        requires { place < 2 ^ 60 }
-        ensures { result ≡ word_at (bytes self.now) place };
-}
-
-/// Bytes in memory; past their end each is 0.
+/// Bytes in memory that may be a disk image. Each place has a byte, past the last too: there it is 0.
 #[derive(Clone, Copy)]
 pub struct Memory<'a> {
     bytes: &'a [u8],
@@ -37,18 +18,11 @@ impl<'a> Memory<'a> {
     {
         Memory { bytes }
     }
-}
 
-impl<'a> Disk for Memory<'a> {
-    ghost bytes = { λ m. slice_index m.bytes.now };
-
-    ghost total = { λ m. length m.bytes.now };
-
-    fn len(&self) -> u64 {
-        self.bytes.len() as u64
-    }
-
-    fn byte(&self, place: u64) -> u8 {
+    /// The byte at a place.
+    pub fn byte(&self, place: u64) -> u8
+        ensures { result ≡ slice_index self.now.bytes.now place }
+    {
         if place < self.bytes.len() as u64 {
             self.bytes[place as usize]
         } else {
@@ -56,12 +30,40 @@ impl<'a> Disk for Memory<'a> {
         }
     }
 
-    fn word(&self, place: u64) -> u32 {
+    /// The word at a place, the lowest byte first.
+    pub(crate) fn word(&self, place: u64) -> u32
+        requires { place < 2 ^ 60 }
+        ensures { result ≡ word_at (slice_index self.now.bytes.now) place }
+    {
         u32::from_le_bytes([
             self.byte(place),
             self.byte(place + 1),
             self.byte(place + 2),
             self.byte(place + 3),
         ])
+    }
+
+    /// So many bytes from a place on.
+    fn piece(&self, place: u64, len: usize) -> &'a [u8]
+        requires { 0 < len → place + len ≤ length self.now.bytes.now }
+        ensures { result.now ≡ take len (drop place self.now.bytes.now) }
+    {
+        if len == 0 {
+            return &[];
+        }
+        &self.bytes[place as usize..place as usize + len]
+    }
+
+    /// The bytes of the name at a place, before its NUL or all of them.
+    pub fn name(&self, place: u64) -> &'a [u8]
+        requires { place < 2 ^ 60 }
+        ensures { result.now ≡ name_of (slice_index self.now.bytes.now) place }
+    {
+        for len in 0..MAXNAMELEN {
+            if self.byte(place + len as u64) == 0 {
+                return self.piece(place, len as usize);
+            }
+        }
+        self.piece(place, MAXNAMELEN as usize)
     }
 }

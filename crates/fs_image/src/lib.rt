@@ -1,10 +1,13 @@
-//! Checks that bytes are a disk image: the fault is the first that `fs_layout`'s `specs/DiskImage.antt` tells. The bytes are
-//! read by places, through the trait `Disk`. Nothing here takes memory: the caller lends the marks of the blocks that were
-//! named.
+//! Reads what may be a disk from a host, and checks that it is one: the fault is the first that `fs_layout`'s
+//! `specs/DiskImage.antt` tells. A host's file is read once, in pieces, as far as its super block counts blocks
+//! (`specs/DiskHeld.antt`), and the tests read its bytes from memory by places. Memory is taken from
+//! the allocator for the bytes, the marks of the blocks, the way down the directories and the names of one directory.
 #![tactic(auto)]
 
 mod blocks;
+mod checking;
 mod disk;
+mod disk_bytes;
 mod fault;
 mod names;
 mod records;
@@ -12,7 +15,11 @@ mod slots;
 #[cfg(test)]
 mod tests;
 mod tree;
+mod walk;
 
-pub use disk::{Disk, Memory};
-pub use fault::ImageFault;
-pub use tree::{check, check_bytes};
+pub use checking::{CheckFault, DiskInfo, check};
+pub use disk::Memory;
+pub use disk_bytes::{DiskBytes, DiskFault, read_disk};
+pub use fault::{ImageFault, ImageFaultText};
+pub use names::slot_place;
+pub use records::{kind_of, number_of, size_of};

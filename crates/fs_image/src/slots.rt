@@ -1,15 +1,14 @@
 //! The tests of a directory's records.
 
-ghost use Rattle.std.specs.Prelude.{◌≡◌, ◌+◌, ◌*◌, ◌<◌, ◌≤◌, ◌^◌, length};
+ghost use Rattle.std.specs.Prelude.{◌≡◌, ◌+◌, ◌*◌, ◌<◌, ◌≤◌, ◌^◌, length, false, IfNone, slice_index};
 ghost use Rattle.fs_layout.specs.DiskImage as image;
 ghost use Rattle.fs_image.specs.Answers.{answered, blocks_in, own_tests};
 
-use crate::blocks::block_count;
-use crate::disk::Disk;
+use crate::disk::Memory;
 use crate::fault::ImageFault;
-use crate::names::{has_taken_name, is_good_name, slot_place};
-use crate::records::{kind_of, record_test, size_of};
-use fs_layout::{FTYPE_DIR, FTYPE_REG, RECORDSIZE};
+use crate::names::{is_good_name, slot_place};
+use crate::records::{kind_of, record_test};
+use fs_layout::{FTYPE_DIR, FTYPE_REG};
 
 fn is_good_kind(kind: u32) -> bool
     ensures { result ≡ image.is_good_kind kind }
@@ -17,11 +16,19 @@ fn is_good_kind(kind: u32) -> bool
     kind == FTYPE_REG || kind == FTYPE_DIR
 }
 
-/// The tests of a directory's record but for what stands below it.
-fn own_test<D: Disk>(disk: &D, named: &mut [bool], directory: u64, i: u32) -> Option<ImageFault>
-    requires room { image.block_count (D.bytes disk.now) ≤ length named.old }
+/// The tests of a directory's record but for what stands below it; `is_taken` says whether a record before it has its name.
+pub(crate) fn own_test(
+    disk: &Memory,
+    named: &mut [bool],
+    directory: u64,
+    i: u32,
+    is_taken: bool,
+) -> Option<ImageFault>
+    requires room { image.block_count (slice_index disk.now.bytes.now) ≤ length named.old }
     requires directory { directory < 2 ^ 50 }
-    ensures { answered result named.new ≡ image.in_turn (own_tests (D.bytes disk.now) directory i) (blocks_in named.old) }
+    requires taken { is_taken ≡ image.has_taken_name (slice_index disk.now.bytes.now) directory i }
+    ensures free { IfNone result (is_taken ≡ false) }
+    ensures exact { answered result named.new ≡ image.in_turn (own_tests (slice_index disk.now.bytes.now) directory i) (blocks_in named.old) }
 {
     let place = slot_place(disk, directory, i);
     if !is_good_kind(kind_of(disk, place)) {
@@ -33,40 +40,8 @@ fn own_test<D: Disk>(disk: &D, named: &mut [bool], directory: u64, i: u32) -> Op
     if let Some(fault) = record_test(disk, named, place) {
         return Some(fault);
     }
-    if has_taken_name(disk, directory, i) {
+    if is_taken {
         return Some(ImageFault::SameName(place));
-    }
-    None
-}
-
-/// The records of a directory, each with all that stands below it before the next.
-pub(crate) fn contents_test<D: Disk>(
-    disk: &D,
-    named: &mut [bool],
-    depth: u32,
-    directory: u64,
-) -> Option<ImageFault>
-    requires room { image.block_count (D.bytes disk.now) ≤ length named.old }
-    requires directory { directory < 2 ^ 50 }
-    ensures { answered result named.new ≡ image.contents_test depth (D.bytes disk.now) directory (blocks_in named.old) }
-{
-    if depth == 0 {
-        return None;
-    }
-    for i in 0..size_of(disk, directory) / RECORDSIZE {
-        let place = slot_place(disk, directory, i);
-        if disk.byte(place) == 0 {
-            continue;
-        }
-        if let Some(fault) = own_test(disk, named, directory, i) {
-            return Some(fault);
-        }
-        if kind_of(disk, place) != FTYPE_DIR {
-            continue;
-        }
-        if let Some(fault) = contents_test(disk, named, depth - 1, place) {
-            return Some(fault);
-        }
     }
     None
 }

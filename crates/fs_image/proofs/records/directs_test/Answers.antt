@@ -1,3 +1,4 @@
+use Rattle.std.specs.Prelude.{slice_index}
 use Rattle.std.proofs.Common.{◌∙◌, ap, sym, arith, Ok}
 use Rattle.fs_layout.specs.DiskImage.{number_test, direct_of}
 use Rattle.fs_image.specs.Answers.{blocks_in, fault_of}
@@ -5,16 +6,16 @@ use Rattle.fs_image.proofs.Each.{each_none, each_passed, each_failed}
 use Rattle.fs_image.proofs.records.directs_test.Goals as goal
 
 pub loop-i-init : goal.loop-i-init
-loop-i-init g c = each_none (λ i. number_test (g.D.Disk.bytes c.args.disk.now) c.args.place (direct_of (g.D.Disk.bytes c.args.disk.now) c.args.place i)) (blocks_in c.args.named.now)
+loop-i-init c = each_none (λ i. number_test (slice_index c.args.disk.now.bytes.now) c.args.place (direct_of (slice_index c.args.disk.now.bytes.now) c.args.place i)) (blocks_in c.args.named.now)
 
 pub returns-in-Some : goal.returns-in-Some
-returns-in-Some g c =
-    sym (each_failed (λ i. number_test (g.D.Disk.bytes c.args.disk.now) c.args.place (direct_of (g.D.Disk.bytes c.args.disk.now) c.args.place i))
+returns-in-Some c =
+    sym (each_failed (λ i. number_test (slice_index c.args.disk.now.bytes.now) c.args.place (direct_of (slice_index c.args.disk.now.bytes.now) c.args.place i))
     (blocks_in c.args.named.now) (blocks_in c.loop-i.named) (fault_of c.in-Some.fault) c.loop-i.i c.args.count (omega arith) c.loop-i.invariant
-    (ap (λ n. number_test (g.D.Disk.bytes c.args.disk.now) c.args.place n (blocks_in c.loop-i.named)) (sym c.direct_of.ensures) ∙ sym c.in-Some.ensures))
+    (ap (λ n. number_test (slice_index c.args.disk.now.bytes.now) c.args.place n (blocks_in c.loop-i.named)) (sym c.direct_of.ensures) ∙ sym c.in-Some.ensures))
 
 pub loop-i-preserved : goal.loop-i-preserved
-loop-i-preserved g c =
-    each_passed (λ i. number_test (g.D.Disk.bytes c.args.disk.now) c.args.place (direct_of (g.D.Disk.bytes c.args.disk.now) c.args.place i))
+loop-i-preserved c =
+    each_passed (λ i. number_test (slice_index c.args.disk.now.bytes.now) c.args.place (direct_of (slice_index c.args.disk.now.bytes.now) c.args.place i))
     (blocks_in c.args.named.now) (blocks_in c.loop-i.named) (Ok (blocks_in c.number_test.new.named)) c.loop-i.i c.loop-i.invariant
-    (ap (λ n. number_test (g.D.Disk.bytes c.args.disk.now) c.args.place n (blocks_in c.loop-i.named)) (sym c.direct_of.ensures) ∙ sym c.in_default.ensures)
+    (ap (λ n. number_test (slice_index c.args.disk.now.bytes.now) c.args.place n (blocks_in c.loop-i.named)) (sym c.direct_of.ensures) ∙ sym c.in_default.ensures)

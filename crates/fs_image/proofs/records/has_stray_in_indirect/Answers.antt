@@ -1,5 +1,5 @@
 use Rattle.std.proofs.Common.{◌≡◌, ◌+◌, ℕ, Bool, sym, arith, ◌∙◌, ap}
-use Rattle.std.specs.Prelude.{◌&&◌, ◌==◌, not, nat_le}
+use Rattle.std.specs.Prelude.{◌&&◌, ◌==◌, not, nat_le, slice_index}
 use Rattle.fs_layout.specs.declared.numbers.TheConstants.{NDIRECT}
 use Rattle.fs_layout.specs.DiskImage.{some_below, blocks_needed, number_in_indirect, has_stray_in_indirect}
 use Rattle.fs_image.proofs.Each.{some_none, some_passed, some_found}
@@ -9,15 +9,15 @@ abbrev stray_at : (ℕ → ℕ) → ℕ → ℕ → Bool
 stray_at byte place i = nat_le (blocks_needed byte place) (NDIRECT + i) && not (number_in_indirect byte place i == 0)
 
 pub loop-i-init : goal.loop-i-init
-loop-i-init g c = some_none (stray_at (g.D.Disk.bytes c.args.disk.now) c.args.place)
+loop-i-init c = some_none (stray_at (slice_index c.args.disk.now.bytes.now) c.args.place)
 
 pub returns-then-is_stray_in_indirect : goal.returns-then-is_stray_in_indirect
 unfolding has_stray_in_indirect
-returns-then-is_stray_in_indirect g c = sym (some_found (stray_at (g.D.Disk.bytes c.args.disk.now) c.args.place) c.loop-i.i 1024 (omega arith) (cc))
+returns-then-is_stray_in_indirect c = sym (some_found (stray_at (slice_index c.args.disk.now.bytes.now) c.args.place) c.loop-i.i 1024 (omega arith) (cc))
 
 pub loop-i-preserved : goal.loop-i-preserved
-loop-i-preserved g c = some_passed (stray_at (g.D.Disk.bytes c.args.disk.now) c.args.place) c.loop-i.i c.loop-i.invariant (cc)
+loop-i-preserved c = some_passed (stray_at (slice_index c.args.disk.now.bytes.now) c.args.place) c.loop-i.i c.loop-i.invariant (cc)
 
 pub returns : goal.returns
 unfolding has_stray_in_indirect
-returns g c = let e : c.loop-i.i ≡ 1024 = omega arith in sym (ap (λ k. some_below k (stray_at (g.D.Disk.bytes c.args.disk.now) c.args.place)) (sym e) ∙ c.loop-i.invariant)
+returns c = let e : c.loop-i.i ≡ 1024 = omega arith in sym (ap (λ k. some_below k (stray_at (slice_index c.args.disk.now.bytes.now) c.args.place)) (sym e) ∙ c.loop-i.invariant)
