@@ -1,0 +1,4 @@
+pub mod MakeFaults
+pub mod MadeImage
+pub mod MadeLaws
+pub mod FaultTexts
