@@ -1,12 +1,14 @@
 -- Calls on files that were made, one list after another.
-use Rattle.std.proofs.Common.{◌≡◌, List, [], ◌∷◌, ◌++◌, Option, refl, sym, ap, subst, ◌∙◌}
+use Rattle.std.proofs.Common.{◌≡◌, ℕ, List, [], ◌∷◌, ◌++◌, Option, Some, None, refl, sym, ap, subst, ◌∙◌}
 use mathlib.Core.Logic.{inl, inr}
 use Rattle.jos_host.specs.Asked.{Asked, and_asked}
 use Rattle.jos_host.specs.Frames.{from_to}
 use Rattle.std.proofs.lemmas.List.{append-nil}
 use Rattle.std.proofs.Common.{append_assoc}
 use Rattle.jos_words.specs.Arguments.{Word}
-use Rattle.jos_cli.specs.FilesAsked.{AsksFor, AsksAll, read_calls, images_calls}
+use Rattle.jos_words.specs.Commands.{Command, exo, demo, mkfs, ls, cat}
+use Rattle.fs_image.specs.DiskHeld.{IsReadInPieces}
+use Rattle.jos_cli.specs.FilesAsked.{AsksFor, AsksAll, AsksOnly, read_calls, write_calls, files_calls, exo_calls, mkfs_calls}
 
 -- none is made
 pub asks_none : (calls : List Asked) (old new : Option (List Asked)) → new ≡ old → AsksFor calls (from_to old new)
@@ -38,33 +40,48 @@ asks_all (c ∷ rest) old new h = inr (asks_all rest (and_asked old c.call c.nam
 
 -- ---- images
 
-images_calls-append : (words more : List Word) → images_calls (words ++ more) ≡ images_calls words ++ images_calls more
-unfolding images_calls
-images_calls-append [] more = refl
-images_calls-append (word ∷ words) more =
-    ap (λ calls. read_calls word.text ++ calls) (images_calls-append words more) ∙ sym (append_assoc (read_calls word.text) (images_calls words) (images_calls more))
+files_calls-append : (words more : List Word) → files_calls (words ++ more) ≡ files_calls words ++ files_calls more
+unfolding files_calls
+files_calls-append [] more = refl
+files_calls-append (word ∷ words) more =
+    ap (λ calls. read_calls word.text ++ calls) (files_calls-append words more) ∙ sym (append_assoc (read_calls word.text) (files_calls words) (files_calls more))
 
-images_calls-one : (word : Word) → images_calls (word ∷ []) ≡ read_calls word.text
-unfolding images_calls
-images_calls-one word = append-nil (read_calls word.text)
+files_calls-one : (word : Word) → files_calls (word ∷ []) ≡ read_calls word.text
+unfolding files_calls
+files_calls-one word = append-nil (read_calls word.text)
 
-pub asks_nothing : (log : Option (List Asked)) → AsksAll (images_calls []) (from_to log log)
-unfolding images_calls
+pub asks_nothing : (log : Option (List Asked)) → AsksAll (files_calls []) (from_to log log)
+unfolding files_calls
 asks_nothing log = refl
 
-pub asks_image : (words : List Word) (word : Word) (old mid new : Option (List Asked)) → AsksAll (images_calls words) (from_to old mid) →
-    AsksAll (read_calls word.text) (from_to mid new) → AsksAll (images_calls (words ++ word ∷ [])) (from_to old new)
-asks_image words word old mid new all one =
-    subst (λ (calls : List Asked). AsksAll calls (from_to old new)) (sym (images_calls-append words (word ∷ []) ∙ ap (λ calls. images_calls words ++ calls) (images_calls-one word)))
-    (asks_both (images_calls words) (read_calls word.text) old mid new all one)
+pub asks_file : (words : List Word) (word : Word) (old mid new : Option (List Asked)) → AsksAll (files_calls words) (from_to old mid) →
+    AsksAll (read_calls word.text) (from_to mid new) → AsksAll (files_calls (words ++ word ∷ [])) (from_to old new)
+asks_file words word old mid new all one =
+    subst (λ (calls : List Asked). AsksAll calls (from_to old new)) (sym (files_calls-append words (word ∷ []) ∙ ap (λ calls. files_calls words ++ calls) (files_calls-one word)))
+    (asks_both (files_calls words) (read_calls word.text) old mid new all one)
 
-pub asks_part : (words : List Word) (word : Word) (rest : List Word) (old mid new : Option (List Asked)) → AsksAll (images_calls words) (from_to old mid) →
-    AsksFor (read_calls word.text) (from_to mid new) → AsksFor (images_calls (words ++ word ∷ rest)) (from_to old new)
-unfolding images_calls
+pub asks_part : (words : List Word) (word : Word) (rest : List Word) (old mid new : Option (List Asked)) → AsksAll (files_calls words) (from_to old mid) →
+    AsksFor (read_calls word.text) (from_to mid new) → AsksFor (files_calls (words ++ word ∷ rest)) (from_to old new)
+unfolding files_calls
 asks_part words word rest old mid new all some =
-    subst (λ (calls : List Asked). AsksFor calls (from_to old new)) (sym (images_calls-append words (word ∷ rest)))
-    (asks_then (images_calls words) (read_calls word.text ++ images_calls rest) old mid new all (asks_first (read_calls word.text) (images_calls rest) mid new some))
+    subst (λ (calls : List Asked). AsksFor calls (from_to old new)) (sym (files_calls-append words (word ∷ rest)))
+    (asks_then (files_calls words) (read_calls word.text ++ files_calls rest) old mid new all (asks_first (read_calls word.text) (files_calls rest) mid new some))
 
-pub asks_part_whole : (words : List Word) (word : Word) (rest : List Word) (old mid new : Option (List Asked)) → AsksAll (images_calls words) (from_to old mid) →
-    AsksAll (read_calls word.text) (from_to mid new) → AsksFor (images_calls (words ++ word ∷ rest)) (from_to old new)
+pub asks_part_whole : (words : List Word) (word : Word) (rest : List Word) (old mid new : Option (List Asked)) → AsksAll (files_calls words) (from_to old mid) →
+    AsksAll (read_calls word.text) (from_to mid new) → AsksFor (files_calls (words ++ word ∷ rest)) (from_to old new)
 asks_part_whole words word rest old mid new all one = asks_part words word rest old mid new all (asks_all (read_calls word.text) mid new one)
+
+-- ---- commands
+
+reads_none : (name : List ℕ) (old new : Option (List Asked)) → new ≡ old → IsReadInPieces name (from_to old new)
+reads_none name None new same = (0, same)
+reads_none name (Some asked) new same = (0, same ∙ ap (λ l. Some l) (sym (append-nil asked)))
+
+-- a command may make no call
+pub asks_no_more : (command : Option Command) (old new : Option (List Asked)) → new ≡ old → AsksOnly command (from_to old new)
+asks_no_more None old new same = same
+asks_no_more (Some (exo e)) old new same = asks_none (exo_calls e) old new same
+asks_no_more (Some (demo d)) old new same = asks_none (write_calls d.file.text) old new same
+asks_no_more (Some (mkfs m)) old new same = asks_none (mkfs_calls m) old new same
+asks_no_more (Some (ls l)) old new same = reads_none l.disk.text old new same
+asks_no_more (Some (cat c)) old new same = reads_none c.disk.text old new same

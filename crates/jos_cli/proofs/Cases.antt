@@ -1,20 +1,35 @@
 -- Which outcomes there can be where nothing stands in the way.
-use Rattle.std.proofs.Common.{◌≡◌, ℕ, List, Option, Some, None, Result, Ok, Err, refl, ap, subst, ◌∙◌}
+use Rattle.std.proofs.Common.{◌≡◌, ℕ, List, [], ◌∷◌, length, map, Option, Some, None, Result, Ok, Err, refl, ap, subst, ◌∙◌}
 use Rattle.std.specs.Prelude.{IsOk, IsSome}
 use Rattle.jos_host.specs.Files.{Files}
 use Rattle.jos_host.specs.Told.{Rose}
 use Rattle.jos_host.specs.Frames.{Around}
 use Rattle.jos_base.specs.KernelState.{KernelState}
-use Rattle.jos_words.specs.Commands.{Command, Exo, exo}
+use Rattle.jos_words.specs.Arguments.{Word}
+use Rattle.jos_words.specs.Commands.{Command, Exo, Mkfs, Ls, Cat, exo, mkfs, ls, cat}
+use Rattle.jos_host.specs.MemHost.{Named}
+use Rattle.fs_image.specs.DiskHeld.{Held, held_of}
+use Rattle.fs_layout.specs.DiskImage.{ImageFault}
+use Rattle.fs_contents.specs.Contents.{Told, listed_at, read_at}
+use Rattle.fs_make.specs.declared.fault.MakeFault.{MakeFault}
+use Rattle.fs_make.specs.MakeFaults.{make_fault}
+use Rattle.fs_make.specs.MadeImage.{made_image}
+use Rattle.jos_base.specs.declared.errno.Errno.{Errno}
 use Rattle.jos_kernel.specs.Boot.{Loadable, booted}
 use Rattle.jos_kernel.specs.ExoRun.{Ran, exo_run, run_of}
 use Rattle.jos_cli.specs.declared.outcome.Outcome.{Outcome}
 use Rattle.jos_cli.specs.declared.outcome.Outcome.TheVariants as outcome
 use Rattle.jos_cli.specs.Limits.{frames_of, steps_of, trace_of}
-use Rattle.jos_cli.specs.Found.{Found, found_in}
+use Rattle.jos_cli.specs.Found.{FileAt, file_at, Found, found_in}
 use Rattle.jos_cli.specs.Answer.{Judged, within, schedule_of, images_of, input_of, Expected, expected_if, expected_of_run, expected_of_exo}
-use Rattle.jos_cli.specs.Outcomes.{Answers, AnswersCommand, HasOutcomeCause, CanRun, IsRunCase}
+use Rattle.jos_cli.specs.Answer.{and_then, made, refused}
+use Rattle.jos_cli.specs.Making.{named_files, made_unless, disk_made, expected_of_disk, expected_of_named, expected_of_mkfs}
+use Rattle.jos_cli.specs.Disks.{held_at, checked, checked_by, disk_of, tree_of, if_there, path_of, listing, printed}
+use Rattle.jos_cli.specs.Disks.{expected_of_listing, expected_of_bytes, expected_of_ls, expected_of_cat}
+use Rattle.jos_cli.specs.Outcomes.{Answers, AnswersCommand, HasOutcomeCause, CanRun, IsRunCase, CanMake, CanList, CanPrint, IsMadeCase}
+use Rattle.jos_cli.specs.Stages.{AreFilesAt}
 use Rattle.jos_cli.proofs.InputRead.{within_limit}
+use Rattle.jos_cli.proofs.NamedRead.{named_are}
 
 is_ok : {X E : Type 0} (r : Result X E) → IsOk r → (x : X) × (r ≡ Ok x)
 is_ok (Ok x) h = (x, refl)
@@ -54,6 +69,9 @@ run_case trace r faults (outcome.Limit which) console h cause calm = absurd (let
 run_case trace r faults (outcome.BadSchedule fault) console h cause calm = absurd (let e = h.0 in cc)
 run_case trace r faults (outcome.BadImage word fault) console h cause calm = absurd (let e = h.0 in cc)
 run_case trace r faults (outcome.Made bytes) console h cause calm = absurd (let e = h.0 in cc)
+run_case trace r faults (outcome.BadDisk fault) console h cause calm = absurd (let e = h.0 in cc)
+run_case trace r faults (outcome.NotThere errno) console h cause calm = absurd (let e = h.0 in cc)
+run_case trace r faults (outcome.BadMake fault) console h cause calm = absurd (let e = h.0 in cc)
 
 -- images are run where they can be
 pub is_run : (told : Option Files) (told_input : Option (List ℕ)) (command : Option Command) (faults : Around ℕ) (own : Outcome) (console : Around (Option (List ℕ))) →
@@ -66,3 +84,96 @@ is_run told told_input command faults own console h cause files input e f i c ca
     let run = runs e (found_in files e) input can in
     run_case (trace_of e) run.0 faults own console
     (subst (λ (x : Expected). Answers x own console) ((λ k. expected_of_exo e (answers.2 k) (answers.3 k)) ∙ run.1) answers.4) cause calm
+
+-- ---- something made
+
+made_case : (e : Expected) (n : ℕ) (faults : Around ℕ) (own : Outcome) (console : Around (Option (List ℕ))) → e.answer ≡ made n → Answers e own console →
+    HasOutcomeCause faults own → (Rose faults.before faults.after → ⊥) → IsMadeCase own
+made_case e n faults (outcome.Made bytes) console is h cause calm = tt
+made_case e n faults outcome.NoMemory console is h cause calm = tt
+made_case e n faults (outcome.HostFault stopped) console is h cause calm = absurd (calm cause.0)
+made_case e n faults (outcome.Ran report last) console is h cause calm = absurd (let same = h.0 ∙ is in cc)
+made_case e n faults outcome.Usage console is h cause calm = absurd (let same = h.0 ∙ is in cc)
+made_case e n faults (outcome.Absent word) console is h cause calm = absurd (let same = h.0 ∙ is in cc)
+made_case e n faults (outcome.Limit which) console is h cause calm = absurd (let same = h.0 ∙ is in cc)
+made_case e n faults (outcome.BadSchedule fault) console is h cause calm = absurd (let same = h.0 ∙ is in cc)
+made_case e n faults (outcome.BadImage word fault) console is h cause calm = absurd (let same = h.0 ∙ is in cc)
+made_case e n faults (outcome.BadDisk fault) console is h cause calm = absurd (let same = h.0 ∙ is in cc)
+made_case e n faults (outcome.NotThere errno) console is h cause calm = absurd (let same = h.0 ∙ is in cc)
+made_case e n faults (outcome.BadMake fault) console is h cause calm = absurd (let same = h.0 ∙ is in cc)
+
+are_at : (files : Files) (words : List Word) → AreFilesAt (Some files) words (map (file_at files) words)
+unfolding AreFilesAt
+are_at files [] = tt
+are_at files (word ∷ words) = (refl, are_at files words)
+
+-- a disk is made
+makes : (m : Mkfs) (files : Files) → CanMake m files → (n : ℕ) × ((expected_of_mkfs m (map (file_at files) m.files)).answer ≡ made n)
+unfolding expected_of_mkfs disk_made
+makes m files can =
+    let found = map (file_at files) m.files in
+    let l = is_ok (named_files m.files found) can.read in
+    let disk = made_image m.blocks.value l.0 in
+    let good : make_fault m.blocks.value l.0 ≡ None =
+    ap (make_fault m.blocks.value) (named_are files m.files found l.0 (are_at files m.files) l.1) ∙ can.no_fault in (
+      length disk,
+      ap (λ (e : Expected). e.answer)
+          (ap (λ (w : Judged (Unit {0})). expected_if w (λ _. expected_of_named m found)) (ap within can.blocks)
+          ∙ ap (λ (j : Judged (List Named)). expected_if j (expected_of_disk m.blocks.value)) l.1
+          ∙ ap (λ (f : Option MakeFault). expected_if (made_unless f disk) (λ bytes. refused (made (length bytes)))) good),
+    )
+
+-- a disk is there
+there : (file : FileAt) (bytes : List ℕ) (fault : Option ImageFault) → file.bytes ≡ Some bytes → checked (held_of bytes) ≡ checked_by fault (held_of bytes) → fault ≡ None →
+    disk_of file ≡ Ok (held_of bytes)
+unfolding disk_of
+there file bytes fault stands same none =
+    ap (λ (s : Option (List ℕ)). and_then (held_at file.place s) checked) stands ∙ same ∙ ap (λ (f : Option ImageFault). checked_by f (held_of bytes)) none
+
+-- a directory is printed
+lists : (l : Ls) (files : Files) → CanList l files → (n : ℕ) × ((expected_of_ls l (file_at files l.disk)).answer ≡ made n)
+unfolding expected_of_ls
+lists l files can =
+    let held = held_of can.bytes in
+    let told = is_ok (listed_at (tree_of held) (path_of l.path)) can.path in (
+      length (listing told.0),
+      ap (λ (e : Expected). e.answer)
+          (ap (λ (j : Judged Held). expected_if j (expected_of_listing (path_of l.path))) (there (file_at files l.disk) can.bytes _ can.there refl can.no_fault)
+          ∙ ap (λ (r : Result (List Told) Errno). expected_if (if_there r) (λ records. printed (listing records))) told.1),
+    )
+
+-- a file is printed
+prints : (c : Cat) (files : Files) → CanPrint c files → (n : ℕ) × ((expected_of_cat c (file_at files c.disk)).answer ≡ made n)
+unfolding expected_of_cat
+prints c files can =
+    let held = held_of can.bytes in
+    let bytes = is_ok (read_at (tree_of held) c.path.text) can.path in (
+      length bytes.0,
+      ap (λ (e : Expected). e.answer)
+          (ap (λ (j : Judged Held). expected_if j (expected_of_bytes c.path.text)) (there (file_at files c.disk) can.bytes _ can.there refl can.no_fault)
+          ∙ ap (λ (r : Result (List ℕ) Errno). expected_if (if_there r) printed) bytes.1),
+    )
+
+module _ (told : Option Files) (told_input : Option (List ℕ)) (command : Option Command) (faults : Around ℕ) (own : Outcome) (console : Around (Option (List ℕ)))
+    (h : AnswersCommand told told_input command own console) (cause : HasOutcomeCause faults own) (calm : Rose faults.before faults.after → ⊥) (files : Files)
+    (f : told ≡ Some files) where
+  -- the same of the files and the command that there are
+  of_command : (one : Command) → command ≡ Some one → AnswersCommand (Some files) told_input (Some one) own console
+  of_command one is =
+      subst (λ (o : Option Command). AnswersCommand (Some files) told_input o own console) is
+      (subst (λ (o : Option Files). AnswersCommand o told_input command own console) f h)
+
+  pub is_made : (m : Mkfs) → command ≡ Some (mkfs m) → CanMake m files → IsMadeCase own
+  is_made m is can =
+      let answers = of_command (mkfs m) is in let n = makes m files can in
+      made_case (expected_of_mkfs m answers.0) n.0 faults own console (ap (λ (found : List FileAt). (expected_of_mkfs m found).answer) answers.1 ∙ n.1) answers.2 cause calm
+
+  pub is_listed : (l : Ls) → command ≡ Some (ls l) → CanList l files → IsMadeCase own
+  is_listed l is can =
+      let answers = of_command (ls l) is in let n = lists l files can in
+      made_case (expected_of_ls l answers.0) n.0 faults own console (ap (λ (file : FileAt). (expected_of_ls l file).answer) answers.1 ∙ n.1) answers.2 cause calm
+
+  pub is_printed : (c : Cat) → command ≡ Some (cat c) → CanPrint c files → IsMadeCase own
+  is_printed c is can =
+      let answers = of_command (cat c) is in let n = prints c files can in
+      made_case (expected_of_cat c answers.0) n.0 faults own console (ap (λ (file : FileAt). (expected_of_cat c file).answer) answers.1 ∙ n.1) answers.2 cause calm

@@ -10,12 +10,13 @@ use Rattle.jos_host.specs.Told.{Creates, WritesAt}
 use Rattle.jos_cli.specs.declared.outcome.Outcome.{Outcome}
 use Rattle.jos_cli.specs.declared.outcome.Outcome.TheVariants as outcome
 use Rattle.jos_kernel.specs.declared.report.Stopped.{Stopped}
-use Rattle.jos_host.specs.Frames.{from_to}
-use Rattle.jos_words.specs.Commands.{Command, exo, demo}
+use Rattle.jos_host.specs.Frames.{Around, from_to}
+use Rattle.jos_words.specs.Commands.{Command, Mkfs, exo, demo, mkfs, ls, cat}
 use Rattle.jos_cli.specs.Commands.{program_file}
-use Rattle.jos_cli.specs.FilesLeft.{KeepsOthers, told_with, LeavesProgram, Leaves}
+use Rattle.jos_cli.specs.Making.{disk_in}
+use Rattle.jos_cli.specs.FilesLeft.{KeepsOthers, told_with, told_with_disk, LeavesBy, Leaves, LeavesGoodDisk}
 
-itself : (name : List ℕ) → bytes_eq name name ≡ true
+pub itself : (name : List ℕ) → bytes_eq name name ≡ true
 itself name = (bytes_eq-Decides name name).1 refl
 
 from_nothing : (old bytes : List ℕ) → old ≡ [] → overwritten old 0 bytes ≡ bytes
@@ -40,7 +41,7 @@ file_written old mid new name bytes (Err e) u c w = tt
 
 -- ---- what is left where the note could not be written
 
-keeps_all : (old new : Option Files) (name : List ℕ) → new ≡ old → KeepsOthers name (from_to old new)
+pub keeps_all : (old new : Option Files) (name : List ℕ) → new ≡ old → KeepsOthers name (from_to old new)
 keeps_all None new name e = e
 keeps_all (Some files) new name e = (files, e, λ q apart. refl)
 
@@ -52,20 +53,54 @@ keeps_others (Some files) new name bytes e = (with_bytes files name bytes, e, λ
     elsewhere q apart true e = absurd (apart ((bytes_eq-Decides q name).0 e))
     elsewhere q apart false e = refl
 
-program_fault : (old new : Option Files) (program file : List ℕ) (result : Outcome) → LeavesProgram program file result (from_to old new) → KeepsOthers file (from_to old new)
-program_fault old new program file (outcome.Made bytes) h = keeps_others old new file (program_file program) h
-program_fault old new program file (outcome.HostFault stopped) h = h
-program_fault old new program file (outcome.Ran report trace) h = keeps_all old new file h
-program_fault old new program file outcome.Usage h = keeps_all old new file h
-program_fault old new program file (outcome.Absent word) h = keeps_all old new file h
-program_fault old new program file (outcome.Limit which) h = keeps_all old new file h
-program_fault old new program file (outcome.BadImage word fault) h = keeps_all old new file h
-program_fault old new program file outcome.NoMemory h = keeps_all old new file h
-program_fault old new program file (outcome.BadSchedule fault) h = keeps_all old new file h
+disk_others : (old new : Option Files) (m : Mkfs) → new ≡ told_with_disk old m → KeepsOthers m.disk.text (from_to old new)
+disk_others None new m e = e
+disk_others (Some files) new m e = keeps_others (Some files) new m.disk.text (disk_in files m) e
+
+-- what is left where one was made, and where a call of the host failed then
+module _ (old new : Option Files) (name : List ℕ) (made : Option Files) (others : new ≡ made → KeepsOthers name (from_to old new)) where
+  by_fault : (result : Outcome) → LeavesBy name made result (from_to old new) → KeepsOthers name (from_to old new)
+  by_fault (outcome.Made bytes) h = others h
+  by_fault (outcome.HostFault stopped) h = h
+  by_fault (outcome.Ran report trace) h = keeps_all old new name h
+  by_fault outcome.Usage h = keeps_all old new name h
+  by_fault (outcome.Absent word) h = keeps_all old new name h
+  by_fault (outcome.Limit which) h = keeps_all old new name h
+  by_fault (outcome.BadImage word fault) h = keeps_all old new name h
+  by_fault outcome.NoMemory h = keeps_all old new name h
+  by_fault (outcome.BadSchedule fault) h = keeps_all old new name h
+  by_fault (outcome.BadDisk fault) h = keeps_all old new name h
+  by_fault (outcome.NotThere errno) h = keeps_all old new name h
+  by_fault (outcome.BadMake fault) h = keeps_all old new name h
 
 pub leaves_fault : (old new later : Option Files) (command : Option Command) (result : Outcome) (stopped : Stopped) → Leaves command result (from_to old new) → later ≡ new →
     Leaves command (outcome.HostFault stopped) (from_to old later)
 leaves_fault old new later None result stopped h same = same ∙ h
 leaves_fault old new later (Some (exo e)) result stopped h same = same ∙ h
 leaves_fault old new later (Some (demo d)) result stopped h same =
-    subst (λ (f : Option Files). KeepsOthers d.file.text (from_to old f)) (sym same) (program_fault old new d.name.text d.file.text result h)
+    let file = d.file.text in let bytes = program_file d.name.text in
+    subst (λ (f : Option Files). KeepsOthers file (from_to old f)) (sym same)
+    (by_fault old new file (told_with old file bytes) (keeps_others old new file bytes) result h)
+leaves_fault old new later (Some (mkfs m)) result stopped h same =
+    subst (λ (f : Option Files). KeepsOthers m.disk.text (from_to old f)) (sym same)
+    (by_fault old new m.disk.text (told_with_disk old m) (disk_others old new m) result h)
+leaves_fault old new later (Some (ls l)) result stopped h same = same ∙ h
+leaves_fault old new later (Some (cat c)) result stopped h same = same ∙ h
+
+-- where there was no memory
+pub leaves_no_memory : (command : Option Command) (old new : Option Files) → Leaves command outcome.NoMemory (from_to old new) → new ≡ old
+leaves_no_memory None old new h = h
+leaves_no_memory (Some (exo e)) old new h = h
+leaves_no_memory (Some (demo d)) old new h = h
+leaves_no_memory (Some (mkfs m)) old new h = h
+leaves_no_memory (Some (ls l)) old new h = h
+leaves_no_memory (Some (cat c)) old new h = h
+
+-- a failed call of the host tells of no disk
+pub no_good_disk : (command : Option Command) (stopped : Stopped) (told : Around (Option Files)) → LeavesGoodDisk command (outcome.HostFault stopped) told
+no_good_disk None stopped told = tt
+no_good_disk (Some (exo e)) stopped told = tt
+no_good_disk (Some (demo d)) stopped told = tt
+no_good_disk (Some (mkfs m)) stopped told = tt
+no_good_disk (Some (ls l)) stopped told = tt
+no_good_disk (Some (cat c)) stopped told = tt

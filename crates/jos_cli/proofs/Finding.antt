@@ -4,8 +4,8 @@ use Rattle.std.specs.Option.{option_map}
 use Rattle.jos_host.specs.Files.{Files}
 use Rattle.jos_words.specs.Arguments.{Word}
 use Rattle.jos_words.specs.Commands.{Exo}
-use Rattle.jos_cli.specs.Found.{FileAt, file_at, Found, IsFound, IsInput}
-use Rattle.jos_cli.specs.Stages.{IsFileAt, IsScheduleAt, AreFilesAt}
+use Rattle.jos_cli.specs.Found.{FileAt, file_at, IsFileAt, AreFound, Found, IsFound, IsInput}
+use Rattle.jos_cli.specs.Stages.{IsScheduleAt, AreFilesAt}
 
 pub some_file : (told : Option Files) (word : Word) → (file : FileAt) × IsFileAt told word file
 some_file (Some files) word = (file_at files word, refl)
@@ -49,6 +49,14 @@ schedule_stands None None h = refl
 schedule_stands None (Some file) h = absurd h
 schedule_stands (Some word) None h = absurd h
 schedule_stands (Some word) (Some file) h = ap (λ p. Some p) h
+
+-- files that stand under their names
+pub are_found : (told : Option Files) (words : List Word) (found : List FileAt) → AreFilesAt told words found → AreFound told words found
+are_found (Some files) words found h = files_are files words found h
+are_found None words found h = files_stand words found h
+
+pub some_are_found : (told : Option Files) (words : List Word) → (found : List FileAt) × AreFound told words found
+some_are_found told words = let found = some_files told words in (found.0, are_found told words found.0 found.1)
 
 pub all_found : (told : Option Files) (e : Exo) (schedule : Option FileAt) (images : List FileAt) → IsScheduleAt told e.schedule schedule → AreFilesAt told e.images images →
     IsFound told e (record { schedule = schedule; images = images })

@@ -9,16 +9,16 @@ use Rattle.jos_words.specs.Arguments.{Word}
 use Rattle.jos_elf.specs.Parsed.{Layout, parsed}
 use Rattle.jos_kernel.specs.Boot.{Loadable, loadables}
 use Rattle.jos_kernel.specs.Loading.{IsRead}
-use Rattle.jos_cli.specs.Found.{FileAt}
+use Rattle.jos_cli.specs.Found.{FileAt, IsFileAt}
 use Rattle.jos_cli.specs.Answer.{Judged, and_then, image_of, images_of}
 use Rattle.jos_cli.specs.Outcomes.{Kind}
-use Rattle.jos_cli.specs.Stages.{IsFileAt, AreFilesAt, RefusesBy}
+use Rattle.jos_cli.specs.Stages.{AreFilesAt, RefusesBy}
 use Rattle.jos_cli.proofs.Finding.{some_files}
-use Rattle.jos_cli.proofs.Reading.{refused_then}
+use Rattle.jos_cli.proofs.Reading.{refused_then, joined, joined_none, joined_more}
 
 -- ---- one list behind another
 
-are_more : (told : Option Files) (words more : List Word) (files others : List FileAt) → AreFilesAt told words files → AreFilesAt told more others →
+pub are_more : (told : Option Files) (words more : List Word) (files others : List FileAt) → AreFilesAt told words files → AreFilesAt told more others →
     AreFilesAt told (words ++ more) (files ++ others)
 unfolding AreFilesAt
 are_more told [] more [] others h k = k
@@ -26,27 +26,12 @@ are_more told [] more (file ∷ files) others h k = absurd h
 are_more told (word ∷ words) more [] others h k = absurd h
 are_more told (word ∷ words) more (file ∷ files) others h k = (h.0, are_more told words more files others h.1 k)
 
-joined : Judged (List Loadable) → Judged (List Loadable) → Judged (List Loadable)
-joined first second = and_then first (λ l. and_then second (λ more. Ok (l ++ more)))
-
 images_of-append : (files others : List FileAt) → images_of (files ++ others) ≡ joined (images_of files) (images_of others)
-unfolding images_of joined
-images_of-append [] others = alone (images_of others)
-  where
-    alone : (m : Judged (List Loadable)) → m ≡ and_then m (λ more. Ok more)
-    alone (Ok l) = refl
-    alone (Err answer) = refl
+unfolding images_of
+images_of-append [] others = joined_none (images_of others)
 images_of-append (file ∷ files) others =
     ap (λ (j : Judged (List Loadable)). and_then (image_of file) (λ first. and_then j (λ l. Ok (first ∷ l)))) (images_of-append files others)
-    ∙ go (image_of file) (images_of files) (images_of others)
-  where
-    go : (a : Judged Loadable) (b m : Judged (List Loadable)) →
-        and_then a (λ first. and_then (and_then b (λ l. and_then m (λ more. Ok (l ++ more)))) (λ l. Ok (first ∷ l)))
-        ≡ and_then (and_then a (λ first. and_then b (λ l. Ok (first ∷ l)))) (λ l. and_then m (λ more. Ok (l ++ more)))
-    go (Err answer) b m = refl
-    go (Ok x) (Err answer) m = refl
-    go (Ok x) (Ok l) (Err answer) = refl
-    go (Ok x) (Ok l) (Ok more) = refl
+    ∙ joined_more (image_of file) (images_of files) (images_of others)
 
 loadables-append : (images : List Layout) (files : List (Vec ℕ Global)) (image : Layout) (file : Vec ℕ Global) → length images ≡ length files →
     loadables (images ++ image ∷ []) (files ++ file ∷ []) ≡ loadables images files ++ record { image = image; file = file.items } ∷ []

@@ -7,12 +7,12 @@ use Rattle.jos_cli.specs.declared.outcome.Which.TheVariants as which
 use Rattle.jos_cli.specs.declared.outcome.Outcome.{Outcome}
 use Rattle.jos_cli.specs.declared.outcome.Outcome.TheVariants as outcome
 use Rattle.jos_base.specs.declared.numbers.TheConstants.{INPUT_MAX, FRAMES_MIN, FRAMES_MAX, STEPS_MAX, TRACE_MAX, IMAGES_MAX}
-use Rattle.jos_words.specs.Commands.{Command, Exo, exo, demo}
+use Rattle.jos_words.specs.Commands.{Command, Exo, exo, demo, mkfs, ls, cat}
 use Rattle.jos_cli.specs.declared.outcome.Which.{Which}
 use Rattle.jos_cli.specs.Limits.{place_out, out_of, earlier, numbers_out, or_images, limit_of_words}
 use Rattle.jos_kernel.specs.declared.report.Stopped.{Stopped}
-use Rattle.jos_cli.specs.Answer.{Answer, usage, absent, limit, bad_schedule, bad_image, ran, made}
-use Rattle.jos_cli.specs.Outcomes.{Kind, answered, cut_off, no_memory, kind_of, left_by, LeavesInputBy, LeavesInput}
+use Rattle.jos_cli.specs.Answer.{Answer, usage, absent, limit, bad_schedule, bad_image, ran, made, bad_disk, not_there, bad_make}
+use Rattle.jos_cli.specs.Outcomes.{Kind, answered, cut_off, no_memory, kind_of, left_by, LeavesInputBy, LeavesInput, IsMemoryCase}
 use Rattle.jos_cli.specs.InputTaken.{HasLost}
 use Rattle.jos_cli.specs.Stages.{IsUnread, IsBooted}
 
@@ -43,11 +43,16 @@ left_booted (outcome.Limit which.Schedule) old new h e = absurd h
 left_booted (outcome.Limit which.Image) old new h e = absurd h
 left_booted (outcome.Limit which.Input) old new h e = absurd h
 left_booted (outcome.Limit which.Boot) old new h e = e
+left_booted (outcome.Limit which.Blocks) old new h e = absurd h
+left_booted (outcome.Limit which.File) old new h e = absurd h
 left_booted (outcome.BadSchedule fault) old new h e = absurd h
 left_booted (outcome.BadImage word fault) old new h e = absurd h
 left_booted (outcome.HostFault stopped) old new h e = some_left old new e
 left_booted outcome.NoMemory old new h e = some_left old new e
 left_booted (outcome.Made bytes) old new h e = absurd h
+left_booted (outcome.BadDisk fault) old new h e = absurd h
+left_booted (outcome.NotThere errno) old new h e = absurd h
+left_booted (outcome.BadMake fault) old new h e = absurd h
 
 -- where a file was not read
 pub left_unread : (o : Outcome) (old new : Option (List ℕ)) → IsUnread o → new ≡ old → LeavesInputBy (kind_of o) (from_to old new)
@@ -62,11 +67,16 @@ left_unread (outcome.Limit which.Schedule) old new h e = kept (limit which.Sched
 left_unread (outcome.Limit which.Image) old new h e = kept (limit which.Image) old new e (λ input. refl)
 left_unread (outcome.Limit which.Input) old new h e = absurd h
 left_unread (outcome.Limit which.Boot) old new h e = absurd h
+left_unread (outcome.Limit which.Blocks) old new h e = absurd h
+left_unread (outcome.Limit which.File) old new h e = kept (limit which.File) old new e (λ input. refl)
 left_unread (outcome.BadSchedule fault) old new h e = kept (bad_schedule fault) old new e (λ input. refl)
 left_unread (outcome.BadImage word fault) old new h e = kept (bad_image word fault) old new e (λ input. refl)
 left_unread (outcome.HostFault stopped) old new h e = none_left old new e
 left_unread outcome.NoMemory old new h e = none_left old new e
 left_unread (outcome.Made bytes) old new h e = absurd h
+left_unread (outcome.BadDisk fault) old new h e = absurd h
+left_unread (outcome.NotThere errno) old new h e = absurd h
+left_unread (outcome.BadMake fault) old new h e = absurd h
 
 pub unread_no_usage : (o : Outcome) → IsUnread o → o ≢ outcome.Usage
 unread_no_usage o h e = subst IsUnread e h
@@ -96,6 +106,8 @@ number_keeps which.Schedule h input = absurd h
 number_keeps which.Image h input = absurd h
 number_keeps which.Input h input = absurd h
 number_keeps which.Boot h input = absurd h
+number_keeps which.Blocks h input = absurd h
+number_keeps which.File h input = absurd h
 
 out_number : (which : Which) (place : Option ℕ) → IsNumber which → OfNumber (option_map (λ p. (p, which)) place)
 out_number which None h = tt
@@ -144,9 +156,14 @@ left_is (limit which.Schedule) input = (0, refl)
 left_is (limit which.Image) input = (0, refl)
 left_is (limit which.Input) input = (INPUT_MAX + 1, refl)
 left_is (limit which.Boot) input = (length input, sym (drop_all (length input) input (omega arith)))
+left_is (limit which.Blocks) input = (0, refl)
+left_is (limit which.File) input = (0, refl)
 left_is (bad_schedule fault) input = (0, refl)
 left_is (bad_image word fault) input = (0, refl)
 left_is (made bytes) input = (0, refl)
+left_is (bad_disk fault) input = (0, refl)
+left_is (not_there errno) input = (0, refl)
+left_is (bad_make fault) input = (0, refl)
 
 left_part : (kind : Kind) (old new : Option (List ℕ)) → LeavesInputBy kind (from_to old new) → HasLost old new
 left_part (answered answer) None new h = (0, h)
@@ -158,4 +175,27 @@ pub left_fault : (command : Option Command) (own : Outcome) (stopped : Stopped) 
     LeavesInput command (outcome.HostFault stopped) (from_to old later)
 left_fault None own stopped old new later h same = same ∙ h
 left_fault (Some (demo d)) own stopped old new later h same = same ∙ h
+left_fault (Some (mkfs m)) own stopped old new later h same = same ∙ h
+left_fault (Some (ls l)) own stopped old new later h same = same ∙ h
+left_fault (Some (cat c)) own stopped old new later h same = same ∙ h
 left_fault (Some (exo e)) own stopped old new later h same = let part = left_part (kind_of own) old new h in (part.0, same ∙ part.1)
+
+-- where there was no memory for the words
+pub left_no_memory : (command : Option Command) (own : Outcome) (old new : Option (List ℕ)) → IsMemoryCase own → new ≡ old → LeavesInput command own (from_to old new)
+left_no_memory None own old new h same = same
+left_no_memory (Some (demo d)) own old new h same = same
+left_no_memory (Some (mkfs m)) own old new h same = same
+left_no_memory (Some (ls l)) own old new h same = same
+left_no_memory (Some (cat c)) own old new h same = same
+left_no_memory (Some (exo e)) outcome.NoMemory old new h same = none_left old new same
+left_no_memory (Some (exo e)) (outcome.HostFault stopped) old new h same = none_left old new same
+left_no_memory (Some (exo e)) (outcome.Made bytes) old new h same = absurd h
+left_no_memory (Some (exo e)) (outcome.Ran report trace) old new h same = absurd h
+left_no_memory (Some (exo e)) outcome.Usage old new h same = absurd h
+left_no_memory (Some (exo e)) (outcome.Absent word) old new h same = absurd h
+left_no_memory (Some (exo e)) (outcome.Limit which) old new h same = absurd h
+left_no_memory (Some (exo e)) (outcome.BadImage word fault) old new h same = absurd h
+left_no_memory (Some (exo e)) (outcome.BadSchedule fault) old new h same = absurd h
+left_no_memory (Some (exo e)) (outcome.BadDisk fault) old new h same = absurd h
+left_no_memory (Some (exo e)) (outcome.NotThere errno) old new h same = absurd h
+left_no_memory (Some (exo e)) (outcome.BadMake fault) old new h same = absurd h

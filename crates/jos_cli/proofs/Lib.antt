@@ -6,6 +6,9 @@ pub mod Judging
 pub mod Reading
 pub mod WordsRead
 pub mod ImagesRead
+pub mod FileNames
+pub mod NamedRead
+pub mod DisksRead
 pub mod Leaving
 pub mod Runs
 pub mod InputRead

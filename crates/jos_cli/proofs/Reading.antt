@@ -1,5 +1,5 @@
 -- What was read, as it is judged.
-use Rattle.std.proofs.Common.{◌≡◌, ◌≢◌, ℕ, ◌<◌, ◌≤◌, nat_lt, zero, suc, true, false, List, [], ◌∷◌, length, Option, Some, None, Ok, Err}
+use Rattle.std.proofs.Common.{◌≡◌, ◌≢◌, ℕ, ◌<◌, ◌≤◌, nat_lt, zero, suc, true, false, List, [], ◌∷◌, ◌++◌, length, Option, Some, None, Ok, Err}
 use Rattle.std.proofs.Common.{Result, refl, sym, ap, subst, ◌∙◌, arith}
 use Rattle.std.proofs.lemmas.Bool.Decides.{nat_tests}
 use Rattle.std.specs.Prelude.{⊤, MatchOption}
@@ -15,14 +15,14 @@ use Rattle.jos_base.specs.declared.numbers.TheConstants.{IMAGE_MAX}
 use Rattle.jos_cli.specs.declared.outcome.Which.{Which}
 use Rattle.jos_cli.specs.declared.outcome.Which.TheVariants.{Image}
 use Rattle.jos_cli.specs.declared.files.FileFault.TheVariants as fault
-use Rattle.jos_cli.specs.Found.{FileAt, file_at}
+use Rattle.jos_cli.specs.Found.{FileAt, file_at, IsFileAt}
 use Rattle.jos_cli.specs.FilesRead.{IsFile, IsFileFault}
 use Rattle.jos_cli.specs.Answer.{absent, limit, Judged, and_then, bytes_of, text_of, numbers_of, schedule_of, loadable_of, image_of}
 use Rattle.jos_kernel.specs.Reports.{CutOff}
 use Rattle.jos_cli.specs.declared.outcome.Outcome.{Outcome}
 use Rattle.jos_cli.specs.declared.outcome.Outcome.TheVariants.{HostFault}
 use Rattle.jos_cli.specs.Outcomes.{Kind, answered, cut_off, no_memory, kind_of}
-use Rattle.jos_cli.specs.Stages.{IsFileAt, RefusesBy, refusal_of}
+use Rattle.jos_cli.specs.Stages.{RefusesBy, refusal_of}
 
 -- ---- a file
 
@@ -78,6 +78,23 @@ pub refused_then : {X Y : Type 0} (judged : Judged X) (next : X → Judged Y) (k
 refused_then {X = X} judged next (answered answer) h = ap (λ (j : Judged X). and_then j next) h
 refused_then judged next (cut_off stopped) h = tt
 refused_then judged next no_memory h = tt
+
+-- two lists, the first of which is judged before the second
+unfoldable pub joined : {X : Type 0} → Judged (List X) → Judged (List X) → Judged (List X)
+joined first second = and_then first (λ l. and_then second (λ more. Ok (l ++ more)))
+
+pub joined_none : {X : Type 0} (m : Judged (List X)) → m ≡ joined (Ok []) m
+unfolding joined
+joined_none (Ok l) = refl
+joined_none (Err answer) = refl
+
+pub joined_more : {X : Type 0} (a : Judged X) (b m : Judged (List X)) →
+    and_then a (λ first. and_then (joined b m) (λ l. Ok (first ∷ l))) ≡ joined (and_then a (λ first. and_then b (λ l. Ok (first ∷ l)))) m
+unfolding joined
+joined_more (Err answer) b m = refl
+joined_more (Ok x) (Err answer) m = refl
+joined_more (Ok x) (Ok l) (Err answer) = refl
+joined_more (Ok x) (Ok l) (Ok more) = refl
 
 pub schedule_parsed : (file : Option FileAt) (text : List ℕ) (read : Result (List ℕ) ScheduleFault) → text_of file ≡ Ok text → schedule.parsed text ≡ read →
     schedule_of file ≡ numbers_of read

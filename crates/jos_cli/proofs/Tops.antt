@@ -9,15 +9,17 @@ use Rattle.jos_cli.specs.declared.outcome.Outcome.{Outcome}
 use Rattle.jos_cli.specs.declared.outcome.Outcome.TheVariants as outcome
 use Rattle.jos_host.specs.Frames.{Around, from_to}
 use Rattle.jos_host.specs.Gains.{Gains, GainsPart}
-use Rattle.jos_words.specs.Commands.{Command, exo, demo}
+use Rattle.jos_words.specs.Commands.{Command, exo, demo, mkfs, ls, cat}
 use Rattle.jos_cli.specs.Commands.{command_of}
 use Rattle.jos_cli.specs.Answer.{Expected, refused, usage, expected_of_exo, expected_of_demo}
+use Rattle.jos_cli.specs.Making.{expected_of_mkfs}
+use Rattle.jos_cli.specs.Disks.{expected_of_ls, expected_of_cat}
 use Rattle.jos_cli.specs.Outcomes.{Kind, answered, cut_off, no_memory, kind_of, AnswersBy, AnswersCommand}
 use Rattle.jos_cli.specs.Outcomes.{HasOutcomeCause}
 use Rattle.jos_cli.specs.Notes.{note_of, IsNoted}
 use Rattle.jos_cli.specs.FaultNotes.{IfHostFault, IfNoFault, FaultIsNoted}
 use Rattle.jos_kernel.proofs.ToldBytes.{gains_none}
-use Rattle.jos_cli.proofs.Finding.{some_found, some_input}
+use Rattle.jos_cli.proofs.Finding.{some_found, some_input, some_file, some_are_found}
 
 all_of : (stream : Around (Option (List ℕ))) (bytes : List ℕ) → Gains stream bytes → GainsPart stream bytes
 all_of stream bytes h =
@@ -40,6 +42,12 @@ answers_part told input None result stopped console later h same = part (refused
 answers_part told input (Some (demo d)) result stopped console later h same = part (expected_of_demo d.name.text) (kind_of result) console later h same
 answers_part told input (Some (exo e)) result stopped console later h same =
     (h.0, h.1, h.2, h.3, part (expected_of_exo e h.0 h.1) (kind_of result) console later h.4 same)
+answers_part told input (Some (mkfs m)) result stopped console later h same =
+    (h.0, h.1, part (expected_of_mkfs m h.0) (kind_of result) console later h.2 same)
+answers_part told input (Some (ls l)) result stopped console later h same =
+    (h.0, h.1, part (expected_of_ls l h.0) (kind_of result) console later h.2 same)
+answers_part told input (Some (cat c)) result stopped console later h same =
+    (h.0, h.1, part (expected_of_cat c h.0) (kind_of result) console later h.2 same)
 
 -- ---- the note where a call of the host failed
 
@@ -56,6 +64,9 @@ noted files input words (outcome.BadSchedule fault) faults console notes h = tt
 noted files input words (outcome.BadImage word fault) faults console notes h = tt
 noted files input words outcome.NoMemory faults console notes h = tt
 noted files input words (outcome.Made bytes) faults console notes h = tt
+noted files input words (outcome.BadDisk fault) faults console notes h = tt
+noted files input words (outcome.NotThere errno) faults console notes h = tt
+noted files input words (outcome.BadMake fault) faults console notes h = tt
 
 pub is_noted : (words : List (List ℕ)) (outcome : Outcome) (notes : Around (Option (List ℕ))) → Gains notes (note_of words outcome) → IsNoted words outcome notes
 is_noted words (outcome.HostFault stopped) notes h = (note_of words (outcome.HostFault stopped), h)
@@ -67,6 +78,9 @@ is_noted words (outcome.BadSchedule fault) notes h = h
 is_noted words (outcome.BadImage word fault) notes h = h
 is_noted words outcome.NoMemory notes h = h
 is_noted words (outcome.Made bytes) notes h = h
+is_noted words (outcome.BadDisk fault) notes h = h
+is_noted words (outcome.NotThere errno) notes h = h
+is_noted words (outcome.BadMake fault) notes h = h
 
 -- or it failed
 module _ (files : Option Files) (input : Option (List ℕ)) (words : List (List ℕ)) (faults : Around ℕ) (now : ℕ) (console notes : Around (Option (List ℕ)))
@@ -92,6 +106,9 @@ module _ (files : Option Files) (input : Option (List ℕ)) (words : List (List 
   not_noted (outcome.BadImage word fault) cause answer part = others (outcome.BadImage word fault) (moved (outcome.BadImage word fault) answer) part
   not_noted outcome.NoMemory cause answer part = others outcome.NoMemory (moved outcome.NoMemory answer) part
   not_noted (outcome.Made bytes) cause answer part = others (outcome.Made bytes) (moved (outcome.Made bytes) answer) part
+  not_noted (outcome.BadDisk fault) cause answer part = others (outcome.BadDisk fault) (moved (outcome.BadDisk fault) answer) part
+  not_noted (outcome.NotThere errno) cause answer part = others (outcome.NotThere errno) (moved (outcome.NotThere errno) answer) part
+  not_noted (outcome.BadMake fault) cause answer part = others (outcome.BadMake fault) (moved (outcome.BadMake fault) answer) part
 
 -- there was no memory
 pub at_no_memory : (files : Option Files) (input : Option (List ℕ)) (command : Option Command) (console : Around (Option (List ℕ))) →
@@ -100,3 +117,6 @@ at_no_memory files input None console same = same
 at_no_memory files input (Some (demo d)) console same = same
 at_no_memory files input (Some (exo e)) console same =
     let found = some_found files e in let given = some_input input in (found.0, given.0, found.1, given.1, same)
+at_no_memory files input (Some (mkfs m)) console same = let found = some_are_found files m.files in (found.0, found.1, same)
+at_no_memory files input (Some (ls l)) console same = let file = some_file files l.disk in (file.0, file.1, same)
+at_no_memory files input (Some (cat c)) console same = let file = some_file files c.disk in (file.0, file.1, same)

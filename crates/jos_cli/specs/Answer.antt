@@ -8,6 +8,9 @@ use Rattle.jos_sched.specs.Schedule as schedule
 use Rattle.jos_elf.specs.declared.fault.ElfFault.{ElfFault}
 use Rattle.jos_elf.specs.Parsed.{Layout}
 use Rattle.jos_elf.specs.Parsed as image
+use Rattle.jos_base.specs.declared.errno.Errno.{Errno}
+use Rattle.fs_layout.specs.DiskImage.{ImageFault}
+use Rattle.fs_make.specs.declared.fault.MakeFault.{MakeFault}
 use Rattle.circular_buffer.specs.Buffer.{keep_last}
 use Rattle.jos_kernel.specs.declared.trace.TrapLine.{TrapLine}
 use Rattle.jos_kernel.specs.Reports.{Reported}
@@ -30,6 +33,12 @@ pub data Answer : Type 0 where
   ran : Reported → List TrapLine → Answer
   -- the number of bytes that are written
   made : ℕ → Answer
+  -- the fault that the disk has
+  bad_disk : ImageFault → Answer
+  -- the error by which the path is refused
+  not_there : Errno → Answer
+  -- the fault that the files have, of which a disk was to be made
+  bad_make : MakeFault → Answer
 
 -- the answer, and what comes to the console before it
 pub record Expected : Type 0 where

@@ -1,12 +1,16 @@
 -- What the program leaves of the host's files. (This system's own.)
-use Rattle.std.specs.Prelude.{◌≡◌, ℕ, List, Option, Some, None, MatchOption}
+use Rattle.std.specs.Prelude.{◌≡◌, ℕ, ⊤, List, map, length, slice_index, Option, Some, None, MatchOption}
 use Rattle.std.specs.Option.{option_map}
 use Rattle.jos_host.specs.Files.{Files, with_bytes, SameElsewhere}
+use Rattle.jos_host.specs.MemHost.{Named}
+use Rattle.fs_layout.specs.DiskFiles.{IsDiskImage, files_of}
+use Rattle.fs_make.specs.MadeImage.{made_files}
 use Rattle.jos_cli.specs.declared.outcome.Outcome.{Outcome}
 use Rattle.jos_cli.specs.declared.outcome.Outcome.TheVariants.{Made, HostFault}
 use Rattle.jos_host.specs.Frames.{Around}
-use Rattle.jos_words.specs.Commands.{Command, exo, demo}
+use Rattle.jos_words.specs.Commands.{Command, Mkfs, exo, demo, mkfs, ls, cat}
 use Rattle.jos_cli.specs.Commands.{program_file}
+use Rattle.jos_cli.specs.Making.{named_in, disk_in}
 
 -- every other name keeps its bytes
 abbrev pub KeepsOthers : List ℕ → Around (Option Files) → Type 0
@@ -17,15 +21,53 @@ KeepsOthers name told =
 abbrev pub told_with : Option Files → List ℕ → List ℕ → Option Files
 told_with told name bytes = option_map (λ files. with_bytes files name bytes) told
 
--- The file has the program's bytes where it was made. Where a call of the host failed, every other name keeps its
--- bytes, and else every name does.
-abbrev pub LeavesProgram : List ℕ → List ℕ → Outcome → Around (Option Files) → Type 0
-LeavesProgram program file (Made bytes) told = told.after ≡ told_with told.before file (program_file program)
-LeavesProgram program file (HostFault stopped) told = KeepsOthers file told
-LeavesProgram program file outcome told = told.after ≡ told.before
+-- These are the files where one was made. Where a call of the host failed, every other name keeps its bytes, and else
+-- every name does.
+abbrev pub LeavesBy : List ℕ → Option Files → Outcome → Around (Option Files) → Type 0
+LeavesBy name made (Made bytes) told = told.after ≡ made
+LeavesBy name made (HostFault stopped) told = KeepsOthers name told
+LeavesBy name made outcome told = told.after ≡ told.before
 
--- Only `demo` writes a file.
+-- The file that is made has the program's bytes.
+abbrev pub LeavesProgram : List ℕ → List ℕ → Outcome → Around (Option Files) → Type 0
+LeavesProgram program file outcome told = LeavesBy file (told_with told.before file (program_file program)) outcome told
+
+-- the files told, with the disk that is made of them
+abbrev pub told_with_disk : Option Files → Mkfs → Option Files
+told_with_disk told m = option_map (λ files. with_bytes files m.disk.text (disk_in files m)) told
+
+-- The file that is made has the disk's bytes.
+abbrev pub LeavesDisk : Mkfs → Outcome → Around (Option Files) → Type 0
+LeavesDisk m outcome told = LeavesBy m.disk.text (told_with_disk told.before m) outcome told
+
+-- Only `demo` and `mkfs` write a file.
 abbrev pub Leaves : Option Command → Outcome → Around (Option Files) → Type 0
 Leaves None outcome told = told.after ≡ told.before
 Leaves (Some (exo e)) outcome told = told.after ≡ told.before
 Leaves (Some (demo d)) outcome told = LeavesProgram d.name.text d.file.text outcome told
+Leaves (Some (mkfs m)) outcome told = LeavesDisk m outcome told
+Leaves (Some (ls l)) outcome told = told.after ≡ told.before
+Leaves (Some (cat c)) outcome told = told.after ≡ told.before
+
+-- ---- the disk that is made
+
+-- the bytes are a disk without a fault, which has the files
+pub record IsDiskWith (blocks : ℕ) (files : List Named) (disk : List ℕ) : Type 0 where
+  pub good : IsDiskImage (length disk) (slice_index disk)
+  pub tree : files_of (slice_index disk) ≡ made_files blocks files
+
+-- Such a disk stands under the name, with the files that the words name.
+pub record HasDisk (m : Mkfs) (before after : Files) : Type 0 where
+  pub disk : List ℕ
+  pub stands : after m.disk.text ≡ Some disk
+  pub good : IsDiskWith m.blocks.value (map (named_in before) m.files) disk
+
+-- It does so where it was made.
+abbrev pub HoldsDisk : Mkfs → Outcome → Around (Option Files) → Type 0
+HoldsDisk m (Made bytes) told =
+    MatchOption told.before ⊤ (λ before. (after : Files) × (told.after ≡ Some after) × HasDisk m before after)
+HoldsDisk m outcome told = Unit {0}
+
+abbrev pub LeavesGoodDisk : Option Command → Outcome → Around (Option Files) → Type 0
+LeavesGoodDisk (Some (mkfs m)) outcome told = HoldsDisk m outcome told
+LeavesGoodDisk command outcome told = Unit {0}

@@ -13,6 +13,16 @@ pub record FileAt : Type 0 where
 abbrev pub file_at : Files → Word → FileAt
 file_at files word = record { place = word.place; bytes = files word.text }
 
+-- This stands under the name, where the host tells its files. Where it does not, anything may.
+abbrev pub IsFileAt : Option Files → Word → FileAt → Type 0
+IsFileAt (Some files) word file = file ≡ file_at files word
+IsFileAt None word file = file.place ≡ word.place
+
+-- The same under each name.
+abbrev pub AreFound : Option Files → List Word → List FileAt → Type 0
+AreFound (Some files) words found = found ≡ map (file_at files) words
+AreFound None words found = map (λ file. file.place) found ≡ map (λ word. word.place) words
+
 -- the files of `exo`
 pub record Found : Type 0 where
   -- None where no schedule is named

@@ -3,6 +3,8 @@ pub mod Limits
 pub mod Found
 pub mod InputTaken
 pub mod Answer
+pub mod Making
+pub mod Disks
 pub mod Outcomes
 pub mod Given
 pub mod FilesRead

@@ -1,11 +1,12 @@
--- The numbers that the words of `exo` give, and the limits of these words. (This system's own.)
+-- The numbers that the words of `exo` and `mkfs` give, and the limits of these words. (This system's own.)
 use Rattle.std.specs.Prelude.{◌≡◌, ℕ, ◌||◌, nat_lt, length, Option, Some, None, if◌then◌else◌}
 use Rattle.std.specs.Option.{option_map}
 use Rattle.jos_base.specs.declared.numbers.TheConstants.{FRAMES, FRAMES_MIN, FRAMES_MAX, STEPS, STEPS_MAX, TRACE_MAX, IMAGES_MAX}
+use Rattle.fs_layout.specs.declared.numbers.TheConstants.{MINBLOCKS, MAXBLOCKS}
 use Rattle.jos_words.specs.declared.values.NumberAt.{NumberAt}
 use Rattle.jos_words.specs.Commands.{Exo}
 use Rattle.jos_cli.specs.declared.outcome.Which.{Which}
-use Rattle.jos_cli.specs.declared.outcome.Which.TheVariants.{Frames, Steps, Trace, Images}
+use Rattle.jos_cli.specs.declared.outcome.Which.TheVariants.{Frames, Steps, Trace, Images, Blocks}
 
 -- the number that is given, or another where none is
 abbrev pub value_or : ℕ → Option NumberAt → ℕ
@@ -55,3 +56,8 @@ pub record AreWithin (e : Exo) : Type 0 where
   pub frames : place_out FRAMES_MIN FRAMES_MAX e.frames ≡ None
   pub steps : place_out 1 STEPS_MAX e.steps ≡ None
   pub trace : place_out 0 TRACE_MAX e.trace ≡ None
+
+-- the limit that the number of a disk's blocks passes
+abbrev pub limit_of_blocks : NumberAt → Option Which
+limit_of_blocks blocks =
+    if nat_lt blocks.value MINBLOCKS || nat_lt MAXBLOCKS blocks.value then Some Blocks else None

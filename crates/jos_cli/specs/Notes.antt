@@ -2,6 +2,12 @@
 use Rattle.std.specs.Prelude.{ℕ, List, [], ◌∷◌, ◌++◌, length, slice_get, unwrap_or, Option, codes, decimal}
 use Rattle.jos_elf.specs.declared.fault.ElfFault.{ElfFault}
 use Rattle.jos_elf.specs.FaultTexts.{fault_text}
+use Rattle.jos_base.specs.declared.errno.Errno.{Errno}
+use Rattle.jos_base.specs.SystemCalls.{error_number}
+use Rattle.fs_image.specs.declared.fault.ImageFault.{ImageFault}
+use Rattle.fs_image.specs.FaultTexts.{image_fault_text}
+use Rattle.fs_make.specs.declared.fault.MakeFault.{MakeFault}
+use Rattle.fs_make.specs.FaultTexts.{make_fault_text}
 use Rattle.jos_sched.specs.declared.fault.ScheduleFault.{ScheduleFault}
 use Rattle.jos_sched.specs.declared.fault.ScheduleFault.TheVariants as schedule
 use Rattle.jos_kernel.specs.declared.report.End.{End}
@@ -10,7 +16,7 @@ use Rattle.jos_cli.specs.declared.outcome.Which.{Which}
 use Rattle.jos_cli.specs.declared.outcome.Which.TheVariants as which
 use Rattle.jos_cli.specs.declared.outcome.Outcome.{Outcome}
 use Rattle.jos_cli.specs.declared.outcome.Outcome.TheVariants.{Ran, Usage, Absent, Limit, BadSchedule, BadImage}
-use Rattle.jos_cli.specs.declared.outcome.Outcome.TheVariants.{HostFault, NoMemory, Made}
+use Rattle.jos_cli.specs.declared.outcome.Outcome.TheVariants.{HostFault, NoMemory, Made, BadDisk, NotThere, BadMake}
 use Rattle.jos_host.specs.Frames.{Around}
 use Rattle.jos_base.specs.Lines.{trace_line}
 use Rattle.jos_kernel.specs.declared.trace.TrapLine.{TrapLine}
@@ -37,6 +43,8 @@ limit_text which.Schedule = codes "limit: schedule\n"
 limit_text which.Image = codes "limit: image\n"
 limit_text which.Input = codes "limit: input\n"
 limit_text which.Boot = codes "limit: boot\n"
+limit_text which.Blocks = codes "limit: blocks\n"
+limit_text which.File = codes "limit: file\n"
 
 abbrev pub schedule_fault_text : ScheduleFault → List ℕ
 schedule_fault_text (schedule.NotANumber place) = codes "not a number " ++ decimal place
@@ -54,6 +62,15 @@ bad_image_text fault = codes ": bad image: " ++ fault_text fault ++ codes "\n"
 abbrev pub made_text : ℕ → List ℕ
 made_text bytes = codes "made " ++ decimal bytes ++ codes "\n"
 
+abbrev pub bad_disk_text : ImageFault → List ℕ
+bad_disk_text fault = codes "bad disk: " ++ image_fault_text fault ++ codes "\n"
+
+abbrev pub not_there_text : Errno → List ℕ
+not_there_text errno = codes "not there: " ++ decimal (error_number errno) ++ codes "\n"
+
+abbrev pub bad_make_text : MakeFault → List ℕ
+bad_make_text fault = codes "cannot make: " ++ make_fault_text fault ++ codes "\n"
+
 -- the line, but for the word that begins it
 abbrev pub note_text : Outcome → List ℕ
 note_text (Ran report trace) = report_text report
@@ -65,6 +82,9 @@ note_text (BadImage word fault) = bad_image_text fault
 note_text (HostFault stopped) = codes "host fault\n"
 note_text NoMemory = codes "out of memory\n"
 note_text (Made bytes) = made_text bytes
+note_text (BadDisk fault) = bad_disk_text fault
+note_text (NotThere errno) = not_there_text errno
+note_text (BadMake fault) = bad_make_text fault
 
 -- the word that begins the line, if one does
 abbrev pub word_in_note : List (List ℕ) → Outcome → List ℕ

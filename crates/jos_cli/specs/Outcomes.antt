@@ -1,25 +1,31 @@
 -- What an outcome of the program says of the answer that is expected, and when it may come. (This system's own.)
-use Rattle.std.specs.Prelude.{◌≡◌, ◌≢◌, ◌≤◌, ℕ, ◌+◌, List, [], length, drop, Option, Some, None, IsOk, IsSome, option_map}
+use Rattle.std.specs.Prelude.{◌≡◌, ◌≢◌, ◌≤◌, ℕ, ◌+◌, List, [], length, drop, map, Option, Some, None, IsOk, IsSome, option_map}
 use Rattle.std.specs.Prelude.{Ok}
 use Rattle.jos_host.specs.Files.{Files}
 use Rattle.jos_host.specs.Told.{Rose}
 use Rattle.jos_host.specs.Frames.{Around}
 use Rattle.jos_host.specs.Gains.{Gains, GainsPart}
 use Rattle.jos_base.specs.declared.numbers.TheConstants.{INPUT_MAX}
-use Rattle.jos_words.specs.Commands.{Command, Exo, exo, demo}
+use Rattle.jos_words.specs.Commands.{Command, Exo, Mkfs, Ls, Cat, exo, demo, mkfs, ls, cat}
 use Rattle.jos_kernel.specs.declared.report.End.{End}
 use Rattle.jos_kernel.specs.declared.report.End.TheVariants.{Done, Stuck, Budget, TurnsFull}
 use Rattle.jos_kernel.specs.Reports.{CutOff}
+use Rattle.fs_image.specs.Answers.{fault_of}
+use Rattle.fs_image.specs.DiskHeld.{held_of, fault_in}
+use Rattle.fs_contents.specs.Contents.{listed_at, read_at}
+use Rattle.fs_make.specs.MakeFaults.{make_fault}
 use Rattle.jos_kernel.specs.Boot.{Loadable, booted}
 use Rattle.jos_cli.specs.declared.outcome.Which.TheVariants.{Input, Boot}
 use Rattle.jos_cli.specs.declared.outcome.Outcome.{Outcome}
 use Rattle.jos_cli.specs.declared.outcome.Outcome.TheVariants.{Ran, Usage, Absent, Limit, BadSchedule, BadImage}
-use Rattle.jos_cli.specs.declared.outcome.Outcome.TheVariants.{HostFault, NoMemory, Made}
-use Rattle.jos_cli.specs.Limits.{limit_of_words, frames_of}
-use Rattle.jos_cli.specs.Found.{Found, IsFound, IsInput}
+use Rattle.jos_cli.specs.declared.outcome.Outcome.TheVariants.{HostFault, NoMemory, Made, BadDisk, NotThere, BadMake}
+use Rattle.jos_cli.specs.Limits.{limit_of_words, frames_of, limit_of_blocks}
+use Rattle.jos_cli.specs.Found.{Found, IsFound, IsInput, FileAt, file_at, IsFileAt, AreFound}
 use Rattle.jos_cli.specs.InputTaken.{HasLost}
 use Rattle.jos_cli.specs.Answer.{Answer, usage, absent, limit, bad_schedule, bad_image, ran, made, Expected, refused}
-use Rattle.jos_cli.specs.Answer.{schedule_of, images_of, expected_of_exo, expected_of_demo}
+use Rattle.jos_cli.specs.Answer.{schedule_of, images_of, expected_of_exo, expected_of_demo, bad_disk, not_there, bad_make}
+use Rattle.jos_cli.specs.Making.{named_files, named_in, expected_of_mkfs}
+use Rattle.jos_cli.specs.Disks.{tree_of, path_of, expected_of_ls, expected_of_cat}
 
 -- an outcome: an answer, or a call of the host failed, or there was no memory
 pub data Kind : Type 0 where
@@ -35,6 +41,9 @@ kind_of (Limit which) = answered (limit which)
 kind_of (BadSchedule fault) = answered (bad_schedule fault)
 kind_of (BadImage word fault) = answered (bad_image word fault)
 kind_of (Made bytes) = answered (made bytes)
+kind_of (BadDisk fault) = answered (bad_disk (fault_of fault))
+kind_of (NotThere errno) = answered (not_there errno)
+kind_of (BadMake fault) = answered (bad_make fault)
 kind_of (HostFault stopped) = cut_off stopped
 kind_of NoMemory = no_memory
 
@@ -58,6 +67,12 @@ AnswersCommand told told_input (Some (demo d)) outcome console = Answers (expect
 AnswersCommand told told_input (Some (exo e)) outcome console =
     (found : Found) × (input : List ℕ) × IsFound told e found × IsInput told_input input
     × Answers (expected_of_exo e found input) outcome console
+AnswersCommand told told_input (Some (mkfs m)) outcome console =
+    (found : List FileAt) × AreFound told m.files found × Answers (expected_of_mkfs m found) outcome console
+AnswersCommand told told_input (Some (ls l)) outcome console =
+    (file : FileAt) × IsFileAt told l.disk file × Answers (expected_of_ls l file) outcome console
+AnswersCommand told told_input (Some (cat c)) outcome console =
+    (file : FileAt) × IsFileAt told c.disk file × Answers (expected_of_cat c file) outcome console
 
 -- the words alone decide this answer, whatever the host tells
 abbrev pub IsUsageCase : Option Command → Outcome → Type 0
@@ -88,6 +103,26 @@ pub record CanRun (e : Exo) (found : Found) (input : List ℕ) : Type 0 where
   pub read : images_of found.images ≡ Ok images
   pub short : length input ≤ INPUT_MAX
   pub frames : IsSome (booted images (frames_of e) input)
+
+-- the number, the files and the room of a disk that can be made
+pub record CanMake (m : Mkfs) (files : Files) : Type 0 where
+  pub blocks : limit_of_blocks m.blocks ≡ None
+  pub read : IsOk (named_files m.files (map (file_at files) m.files))
+  pub no_fault : make_fault m.blocks.value (map (named_in files) m.files) ≡ None
+
+-- a disk without a fault, and a path that leads to a directory of it
+pub record CanList (l : Ls) (files : Files) : Type 0 where
+  pub bytes : List ℕ
+  pub there : files l.disk.text ≡ Some bytes
+  pub no_fault : fault_in (held_of bytes) ≡ None
+  pub path : IsOk (listed_at (tree_of (held_of bytes)) (path_of l.path))
+
+-- a disk without a fault, and a path that leads to a file of it
+pub record CanPrint (c : Cat) (files : Files) : Type 0 where
+  pub bytes : List ℕ
+  pub there : files c.disk.text ≡ Some bytes
+  pub no_fault : fault_in (held_of bytes) ≡ None
+  pub path : IsOk (read_at (tree_of (held_of bytes)) c.path.text)
 
 -- it was run, or there was no memory to begin with
 abbrev pub IsRunCase : Outcome → Type 0
@@ -125,6 +160,9 @@ LeavesInputBy no_memory input = HasLost input.before input.after
 abbrev pub LeavesInput : Option Command → Outcome → Around (Option (List ℕ)) → Type 0
 LeavesInput None outcome input = input.after ≡ input.before
 LeavesInput (Some (demo d)) outcome input = input.after ≡ input.before
+LeavesInput (Some (mkfs m)) outcome input = input.after ≡ input.before
+LeavesInput (Some (ls l)) outcome input = input.after ≡ input.before
+LeavesInput (Some (cat c)) outcome input = input.after ≡ input.before
 LeavesInput (Some (exo e)) outcome input = LeavesInputBy (kind_of outcome) input
 
 -- ---- the exit status
@@ -145,6 +183,9 @@ status_of (BadSchedule fault) = 5
 status_of (HostFault stopped) = 7
 status_of NoMemory = 8
 status_of (Made bytes) = 0
+status_of (BadDisk fault) = 6
+status_of (NotThere errno) = 12
+status_of (BadMake fault) = 13
 
 -- The status of a failed call of the host is answered only where the count of its faults rose, and every other leaves
 -- the count.

@@ -1,4 +1,4 @@
--- What is found, judged and expected in the parts of `exo`, one after another.
+-- What is found, judged and expected in the parts of the commands, one after another.
 use Rattle.std.specs.Prelude.{◌≡◌, ℕ, List, [], ◌∷◌, Option, Some, None, Result, Ok, Err}
 use Rattle.jos_host.specs.Files.{Files}
 use Rattle.jos_words.specs.Arguments.{Word}
@@ -8,20 +8,15 @@ use Rattle.jos_sched.specs.declared.fault.ScheduleFault.TheVariants as schedule
 use Rattle.jos_kernel.specs.Boot.{Loadable}
 use Rattle.jos_kernel.specs.ExoRun.{exo_run}
 use Rattle.jos_cli.specs.declared.outcome.Outcome.{Outcome}
-use Rattle.jos_cli.specs.declared.outcome.Outcome.TheVariants.{Ran, Absent, Limit, BadSchedule, BadImage, HostFault, NoMemory}
-use Rattle.jos_cli.specs.declared.outcome.Which.TheVariants.{Schedule, Image, Boot}
+use Rattle.jos_cli.specs.declared.outcome.Outcome.TheVariants.{Ran, Usage, Absent, Limit, BadSchedule, BadImage, HostFault, NoMemory, Made}
+use Rattle.jos_cli.specs.declared.outcome.Which.TheVariants.{Schedule, Image, Boot, File}
 use Rattle.jos_cli.specs.declared.limits.Settings.{Settings}
 use Rattle.jos_cli.specs.Limits.{frames_of, steps_of, trace_of}
-use Rattle.jos_cli.specs.Found.{FileAt, file_at, Found}
+use Rattle.jos_cli.specs.Found.{FileAt, IsFileAt, Found}
 use Rattle.jos_cli.specs.Answer.{Judged, schedule_of, images_of, input_of, Expected, expected_if, expected_of_run}
 use Rattle.jos_cli.specs.Outcomes.{Kind, answered, cut_off, no_memory, kind_of}
 
 -- ---- what is found
-
--- under one name
-abbrev pub IsFileAt : Option Files → Word → FileAt → Type 0
-IsFileAt (Some files) word file = file ≡ file_at files word
-IsFileAt None word file = file.place ≡ word.place
 
 abbrev pub IsScheduleAt : Option Files → Option Word → Option FileAt → Type 0
 IsScheduleAt told None None = Unit {0}
@@ -73,11 +68,23 @@ abbrev pub IsUnread : Outcome → Type 0
 IsUnread (Absent word) = Unit {0}
 IsUnread (Limit Schedule) = Unit {0}
 IsUnread (Limit Image) = Unit {0}
+IsUnread (Limit File) = Unit {0}
 IsUnread (BadSchedule fault) = Unit {0}
 IsUnread (BadImage word fault) = Unit {0}
 IsUnread (HostFault stopped) = Unit {0}
 IsUnread NoMemory = Unit {0}
 IsUnread _ = ⊥
+
+-- the outcome where nothing was written
+abbrev pub IsUnmade : Outcome → Type 0
+IsUnmade Usage = ⊥
+IsUnmade (Made bytes) = ⊥
+IsUnmade _ = Unit {0}
+
+-- a fact for an answer that tells of something made
+abbrev pub IfMade : Outcome → Type 0 → Type 0
+IfMade (Made bytes) P = P
+IfMade _ P = Unit {0}
 
 -- the outcome of a run that began
 abbrev pub IsEnd : Outcome → Type 0

@@ -6,7 +6,7 @@ ghost use Rattle.jos_host.specs.Told.{Rose};
 ghost use Rattle.jos_host.specs.Frames.{Unchanged, around};
 ghost use Rattle.jos_base.specs.declared.numbers.TheConstants.{FRAMES_MIN, FRAMES_MAX, STEPS_MAX};
 ghost use Rattle.jos_words.specs.Arguments.{word_in_bytes};
-ghost use Rattle.jos_words.specs.Commands.{Exo, Demo, exo, demo, exo_in_bytes, demo_in_bytes};
+ghost use Rattle.jos_words.specs.Commands.{Exo, Demo, Mkfs, Ls, Cat, exo, demo, mkfs, ls, cat, exo_in_bytes, demo_in_bytes};
 ghost use Rattle.jos_demo.specs.Programs.{file_of};
 ghost use Rattle.jos_kernel.specs.Boot.{loadables};
 ghost use Rattle.jos_kernel.specs.Loading.{IsRead};
@@ -15,19 +15,21 @@ ghost use Rattle.jos_kernel.specs.Kernel.{progress_of, nothing, Counts, Holds};
 ghost use Rattle.jos_cli.specs.Commands.{known, command_of};
 ghost use Rattle.jos_cli.specs.Found.{FileAt, Found, found_in, IsFound, IsInput};
 ghost use Rattle.jos_cli.specs.Answer.{expected_of_run, expected_of_exo, expected_of_demo};
-ghost use Rattle.jos_cli.specs.Outcomes.{kind_of, Answers, AnswersCommand, HasOutcomeCause, IsUsageCase, CanRun};
+ghost use Rattle.jos_cli.specs.Outcomes.{kind_of, Answers, AnswersCommand, HasOutcomeCause, IsUsageCase, CanRun, CanMake, CanList, CanPrint};
 ghost use Rattle.jos_cli.specs.Outcomes.{IsRunCase, IsMadeCase, IsMemoryCase, LeavesInputBy, LeavesInput};
 ghost use Rattle.jos_cli.specs.Stages.{AreFilesAt, IsEnd, IsBooted, expected_of_input, expected_of_images};
 ghost use Rattle.jos_cli.specs.Stages.{expected_of_files};
-ghost use Rattle.jos_cli.specs.FilesAsked.{AsksFor, images_calls, write_calls, calls_of};
-ghost use Rattle.jos_cli.specs.FilesLeft.{LeavesProgram, Leaves};
+ghost use Rattle.jos_cli.specs.FilesAsked.{AsksFor, files_calls, write_calls, exo_calls, AsksOnly};
+ghost use Rattle.jos_cli.specs.FilesLeft.{LeavesProgram, Leaves, LeavesGoodDisk};
 ghost use Rattle.jos_cli.specs.Notes.{IsNoted};
 ghost use Rattle.jos_cli.specs.FaultNotes.{IfHostFault, FaultIsNoted};
 
-use crate::files::{host_fault, write_file};
+use crate::disks::{answer_cat, answer_ls};
+use crate::files::{host_fault, write_made};
 use crate::input::read_input;
 use crate::limits::{Settings, limit_of_words, settings_of};
 use crate::loading::{Images, read_images, read_schedule};
+use crate::making::answer_mkfs;
 use crate::notes::write_note;
 use crate::outcome::{Outcome, Which};
 use jos_demo::{is_program, program};
@@ -38,14 +40,15 @@ use jos_words::{Command, DemoWords, ExoWords, WordAt, WordsFault, read_words};
 use std::alloc::Global;
 
 /// Does what the words ask: `exo [--frames N] [--steps N] [--schedule FILE] [--trace N] IMAGE..` runs the images, and
-/// `demo NAME FILE` writes an example program. The words are those behind the program's name. Each answer has its
-/// note, one line, and before it stand the last traps of a run, as many as the words ask for; where a call of the host
-/// fails, the note `host fault` is tried once.
+/// `demo NAME FILE` writes an example program. `mkfs DISK BLOCKS [FILE..]` makes a disk of the files, `ls DISK [PATH]`
+/// prints the records of a directory of a disk, and `cat DISK PATH` the bytes of a file of it. The words are those behind
+/// the program's name. Each answer has its note, one line, and before it stand the last traps of a run, as many as the
+/// words ask for; where a call of the host fails, the note `host fault` is tried once.
 ///
 /// (The lines and limits are in `docs/commands.md`.)
 pub fn top<'a, H: Host>(alloc: Global, words: &'a [&'a str], host: &mut H) -> Outcome
-    // The answer and the console are what the words decide and, of a run, the files and the input: those that the host
-    // tells, and else some; where a call of the host failed, the console has a part of that.
+    // The answer and the console are what the words decide with the files that they name and, of a run, the input: those
+    // that the host tells, and else some; where a call of the host failed, the console has a part of that.
     ensures answer { AnswersCommand (H.files host.old) (H.input host.old) (command_of (map (λ w. w.now) words.now)) result
         (around H.console host.old host.new) }
     // The notes are the lines of the traps that are told, and the line of the answer.
@@ -58,8 +61,8 @@ pub fn top<'a, H: Host>(alloc: Global, words: &'a [&'a str], host: &mut H) -> Ou
     // Each answer has its cause.
     ensures usage { IsUsageCase (command_of (map (λ w. w.now) words.now)) result }
     ensures cause { HasOutcomeCause (around H.faults host.old host.new) result }
-    // Want of memory comes before anything is written to the console.
-    ensures memory { result ≡ Outcome.NoMemory → H.console host.new ≡ H.console host.old }
+    // Want of memory comes before anything is written to the console or to a file.
+    ensures memory { result ≡ Outcome.NoMemory → (H.console host.new ≡ H.console host.old) × (H.files host.new ≡ H.files host.old) }
     // Images are run where the words, the files, the input and the frames allow it, unless a call of the host fails.
     ensures complete { (files : Files) (input : List ℕ) (e : Exo) →
         H.files host.old ≡ Some files → H.input host.old ≡ Some input → command_of (map (λ w. w.now) words.now) ≡ Some (exo e) →
@@ -67,13 +70,27 @@ pub fn top<'a, H: Host>(alloc: Global, words: &'a [&'a str], host: &mut H) -> Ou
     // An example program is written, unless a call of the host fails.
     ensures made { (d : Demo) → command_of (map (λ w. w.now) words.now) ≡ Some (demo d) →
         (Rose (H.faults host.old) (H.faults host.new) → ⊥) → IsMadeCase result }
+    // A disk is made where the number, the files and the room allow it, unless a call of the host fails.
+    ensures disk_made { (files : Files) (m : Mkfs) →
+        H.files host.old ≡ Some files → command_of (map (λ w. w.now) words.now) ≡ Some (mkfs m) → CanMake m files →
+        (Rose (H.faults host.old) (H.faults host.new) → ⊥) → IsMadeCase result }
+    // A directory and a file are printed where the disk has no fault and the path leads there, unless a call of the host
+    // fails.
+    ensures listed { (files : Files) (l : Ls) →
+        H.files host.old ≡ Some files → command_of (map (λ w. w.now) words.now) ≡ Some (ls l) → CanList l files →
+        (Rose (H.faults host.old) (H.faults host.new) → ⊥) → IsMadeCase result }
+    ensures printed { (files : Files) (c : Cat) →
+        H.files host.old ≡ Some files → command_of (map (λ w. w.now) words.now) ≡ Some (cat c) → CanPrint c files →
+        (Rose (H.faults host.old) (H.faults host.new) → ⊥) → IsMadeCase result }
 
-    // Every name keeps its bytes but the one that `demo` writes, which has those of the program.
+    // Every name keeps its bytes but the one that `demo` or `mkfs` writes, which has those of the program or the disk.
     ensures files { Leaves (command_of (map (λ w. w.now) words.now)) result (around H.files host.old host.new) }
+    // What `mkfs` writes is a disk without a fault, and it has the files that the words name.
+    ensures disk { LeavesGoodDisk (command_of (map (λ w. w.now) words.now)) result (around H.files host.old host.new) }
     // Only `exo` reads input, once it has read all files: all of it, up to one byte past the limit.
     ensures input { LeavesInput (command_of (map (λ w. w.now) words.now)) result (around H.input host.old host.new) }
     // Only files that the words name are asked for, in their order, each call once.
-    ensures asked { AsksFor (calls_of (command_of (map (λ w. w.now) words.now))) (around H.asked host.old host.new) }
+    ensures asked { AsksOnly (command_of (map (λ w. w.now) words.now)) (around H.asked host.old host.new) }
 {
     let outcome = answer_words(alloc, words, host);
     match write_note(&outcome, words, host) {
@@ -200,7 +217,7 @@ fn run_named<'a, H: Host>(
     ensures files { H.files host.new ≡ H.files host.old }
     ensures notes { H.notes host.new ≡ H.notes host.old }
     ensures input { LeavesInputBy (kind_of result) (around H.input host.old host.new) }
-    ensures asked { AsksFor (images_calls (map word_in_bytes words.now)) (around H.asked host.old host.new) }
+    ensures asked { AsksFor (files_calls (map word_in_bytes words.now)) (around H.asked host.old host.new) }
     ensures cause { HasOutcomeCause (around H.faults host.old host.new) result }
     ensures no_usage { result ≢ Outcome.Usage }
 {
@@ -220,7 +237,7 @@ fn run_within<H: Host>(alloc: Global, words: &ExoWords, settings: Settings, host
     ensures files { H.files host.new ≡ H.files host.old }
     ensures notes { H.notes host.new ≡ H.notes host.old }
     ensures input { LeavesInputBy (kind_of result) (around H.input host.old host.new) }
-    ensures asked { AsksFor (calls_of (Some (exo (exo_in_bytes words.now)))) (around H.asked host.old host.new) }
+    ensures asked { AsksFor (exo_calls (exo_in_bytes words.now)) (around H.asked host.old host.new) }
     ensures cause { HasOutcomeCause (around H.faults host.old host.new) result }
     ensures no_usage { result ≢ Outcome.Usage }
 {
@@ -238,7 +255,7 @@ fn answer_exo<H: Host>(alloc: Global, words: &ExoWords, host: &mut H) -> Outcome
     ensures files { H.files host.new ≡ H.files host.old }
     ensures notes { H.notes host.new ≡ H.notes host.old }
     ensures input { LeavesInputBy (kind_of result) (around H.input host.old host.new) }
-    ensures asked { AsksFor (calls_of (Some (exo (exo_in_bytes words.now)))) (around H.asked host.old host.new) }
+    ensures asked { AsksFor (exo_calls (exo_in_bytes words.now)) (around H.asked host.old host.new) }
     ensures cause { HasOutcomeCause (around H.faults host.old host.new) result }
     ensures no_usage { result ≢ Outcome.Usage }
 {
@@ -260,10 +277,7 @@ fn write_program<H: Host>(alloc: Global, name: &str, file: &str, host: &mut H) -
     ensures no_usage { result ≢ Outcome.Usage }
 {
     match program(alloc, name) {
-        Ok(Some(bytes)) => match write_file(file, &bytes, host) {
-            Ok(()) => Outcome::Made(bytes.len() as u64),
-            Err(_) => host_fault(alloc),
-        },
+        Ok(Some(bytes)) => write_made(alloc, file, &bytes, host),
         Ok(None) => unreachable!(),
         Err(_) => Outcome::NoMemory,
     }
@@ -276,7 +290,7 @@ fn answer_demo<'a, H: Host>(alloc: Global, words: DemoWords<'a>, host: &mut H) -
     ensures usage { IsUsageCase (known (Some (demo (demo_in_bytes words.entry)))) result }
     ensures files { Leaves (known (Some (demo (demo_in_bytes words.entry)))) result (around H.files host.old host.new) }
     ensures input { H.input host.new ≡ H.input host.old }
-    ensures asked { AsksFor (calls_of (known (Some (demo (demo_in_bytes words.entry))))) (around H.asked host.old host.new) }
+    ensures asked { AsksOnly (known (Some (demo (demo_in_bytes words.entry)))) (around H.asked host.old host.new) }
     ensures notes { H.notes host.new ≡ H.notes host.old }
     ensures cause { HasOutcomeCause (around H.faults host.old host.new) result }
 {
@@ -294,13 +308,17 @@ fn answer_words<'a, H: Host>(alloc: Global, words: &'a [&'a str], host: &mut H) 
     ensures usage { IsUsageCase (command_of (map (λ w. w.now) words.now)) result }
     ensures files { Leaves (command_of (map (λ w. w.now) words.now)) result (around H.files host.old host.new) }
     ensures input { LeavesInput (command_of (map (λ w. w.now) words.now)) result (around H.input host.old host.new) }
-    ensures asked { AsksFor (calls_of (command_of (map (λ w. w.now) words.now))) (around H.asked host.old host.new) }
+    ensures asked { AsksOnly (command_of (map (λ w. w.now) words.now)) (around H.asked host.old host.new) }
+    ensures disk { LeavesGoodDisk (command_of (map (λ w. w.now) words.now)) result (around H.files host.old host.new) }
     ensures notes { H.notes host.new ≡ H.notes host.old }
     ensures cause { HasOutcomeCause (around H.faults host.old host.new) result }
 {
     match read_words(alloc, words) {
         Ok(Command::Exo(words)) => answer_exo(alloc, &words, host),
         Ok(Command::Demo(words)) => answer_demo(alloc, words, host),
+        Ok(Command::Mkfs(words)) => answer_mkfs(alloc, &words, host),
+        Ok(Command::Ls(words)) => answer_ls(alloc, words, host),
+        Ok(Command::Cat(words)) => answer_cat(alloc, words, host),
         Err(WordsFault::Usage) => Outcome::Usage,
         Err(WordsFault::NoMemory) => Outcome::NoMemory,
     }

@@ -4,12 +4,12 @@ ghost use Rattle.std.specs.Prelude.{◌≡◌, ◌≢◌, ◌≤◌, ⊤, [], No
 ghost use Rattle.jos_host.specs.Told.{HasCause};
 ghost use Rattle.jos_host.specs.Frames.{Unchanged, around};
 ghost use Rattle.jos_words.specs.Arguments.{word_in_bytes};
-ghost use Rattle.jos_cli.specs.Found.{FileAt};
-ghost use Rattle.jos_cli.specs.Answer.{bytes_of};
-ghost use Rattle.jos_cli.specs.Outcomes.{HasOutcomeCause};
-ghost use Rattle.jos_cli.specs.Stages.{IsFileAt, Judges, IsUnread};
+ghost use Rattle.jos_cli.specs.Found.{FileAt, IsFileAt};
+ghost use Rattle.jos_cli.specs.Answer.{bytes_of, made, refused};
+ghost use Rattle.jos_cli.specs.Outcomes.{Answers, HasOutcomeCause};
+ghost use Rattle.jos_cli.specs.Stages.{Judges, IsUnread};
 ghost use Rattle.jos_cli.specs.FilesRead.{IsFile, IsFileFault, HasFileCause};
-ghost use Rattle.jos_cli.specs.FilesLeft.{KeepsOthers, told_with};
+ghost use Rattle.jos_cli.specs.FilesLeft.{KeepsOthers, told_with, LeavesBy};
 ghost use Rattle.jos_cli.specs.FilesAsked.{AsksFor, AsksAll, read_calls, write_calls};
 
 use crate::outcome::{Outcome, Stopped, Which};
@@ -110,5 +110,21 @@ pub(crate) fn write_file<H: Host>(name: &str, bytes: &[u8], host: &mut H) -> Res
     match host.create(name) {
         Ok(()) => host.write_at(name, 0, bytes),
         Err(failed) => Err(failed),
+    }
+}
+
+/// Writes a file that was made.
+pub(crate) fn write_made<H: Host>(alloc: Global, name: &str, bytes: &[u8], host: &mut H) -> Outcome
+    ensures told { Answers (refused (made (length bytes.now))) result (around H.console host.old host.new) }
+    ensures files { LeavesBy name.now (told_with (H.files host.old) name.now bytes.now) result (around H.files host.old host.new) }
+    ensures input { H.input host.new ≡ H.input host.old }
+    ensures asked { AsksFor (write_calls name.now) (around H.asked host.old host.new) }
+    ensures notes { H.notes host.new ≡ H.notes host.old }
+    ensures cause { HasOutcomeCause (around H.faults host.old host.new) result }
+    ensures no_usage { result ≢ Outcome.Usage }
+{
+    match write_file(name, bytes, host) {
+        Ok(()) => Outcome::Made(bytes.len() as u64),
+        Err(_) => host_fault(alloc),
     }
 }

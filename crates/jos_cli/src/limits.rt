@@ -1,12 +1,14 @@
-//! The numbers that the words of `exo` give, and the limits of these words.
+//! The numbers that the words of `exo` and `mkfs` give, and the limits of these words.
 
 ghost use Rattle.std.specs.Prelude.{◌≡◌, ◌≤◌, None};
 ghost use Rattle.jos_base.specs.declared.numbers.TheConstants.{FRAMES_MIN, FRAMES_MAX};
+ghost use Rattle.fs_layout.specs.declared.numbers.TheConstants.{MAXBLOCKS};
 ghost use Rattle.jos_words.specs.Commands.{exo_in_bytes};
-ghost use Rattle.jos_cli.specs.Limits.{place_out, out_of, earlier, limit_of_words, AreWithin};
+ghost use Rattle.jos_cli.specs.Limits.{place_out, out_of, earlier, limit_of_words, limit_of_blocks, AreWithin};
 ghost use Rattle.jos_cli.specs.Stages.{settings_of};
 
 use crate::outcome::Which;
+use fs_layout::{MAXBLOCKS, MINBLOCKS};
 use jos_base::{FRAMES, FRAMES_MAX, FRAMES_MIN, IMAGES_MAX, STEPS, STEPS_MAX, TRACE_MAX};
 use jos_words::{ExoWords, NumberAt};
 
@@ -70,6 +72,18 @@ pub(crate) fn limit_of_words(words: &ExoWords) -> Option<Which>
                 None
             }
         }
+    }
+}
+
+/// The limit that the number of a disk's blocks passes.
+pub(crate) fn limit_of_blocks(blocks: NumberAt) -> Option<Which>
+    ensures limit { result ≡ limit_of_blocks blocks }
+    ensures most { result ≡ None → blocks.value ≤ MAXBLOCKS }
+{
+    if blocks.value < MINBLOCKS as u128 || blocks.value > MAXBLOCKS as u128 {
+        Some(Which::Blocks)
+    } else {
+        None
     }
 }
 

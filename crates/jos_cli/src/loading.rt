@@ -8,11 +8,11 @@ ghost use Rattle.jos_elf.specs.Parsed.{parsed};
 ghost use Rattle.jos_base.specs.declared.numbers.TheConstants.{SCHEDULE_TEXT_MAX};
 ghost use Rattle.jos_kernel.specs.Boot.{loadables};
 ghost use Rattle.jos_kernel.specs.Loading.{IsRead};
-ghost use Rattle.jos_cli.specs.Found.{FileAt};
+ghost use Rattle.jos_cli.specs.Found.{FileAt, IsFileAt};
 ghost use Rattle.jos_cli.specs.Answer.{text_of, schedule_of, image_of, images_of};
 ghost use Rattle.jos_cli.specs.Outcomes.{HasOutcomeCause};
-ghost use Rattle.jos_cli.specs.Stages.{IsFileAt, IsScheduleAt, AreFilesAt, Judges, refusal_of, IsUnread};
-ghost use Rattle.jos_cli.specs.FilesAsked.{AsksFor, AsksAll, read_calls, schedule_calls, images_calls};
+ghost use Rattle.jos_cli.specs.Stages.{IsScheduleAt, AreFilesAt, Judges, refusal_of, IsUnread};
+ghost use Rattle.jos_cli.specs.FilesAsked.{AsksFor, AsksAll, read_calls, schedule_calls, files_calls};
 
 use crate::files::read_file;
 use crate::outcome::{Outcome, Which};
@@ -139,8 +139,8 @@ pub(crate) fn read_images<'a, H: Host>(
     ensures cause { MatchResult result (λ _. H.faults host.new ≡ H.faults host.old) (HasOutcomeCause (around H.faults host.old host.new)) }
     ensures rest { Unchanged H.files H.input H.console H.notes host.old host.new }
     ensures asked { MatchResult result
-        (λ _. AsksAll (images_calls (map word_in_bytes words.now)) (around H.asked host.old host.new))
-        (λ _. AsksFor (images_calls (map word_in_bytes words.now)) (around H.asked host.old host.new)) }
+        (λ _. AsksAll (files_calls (map word_in_bytes words.now)) (around H.asked host.old host.new))
+        (λ _. AsksFor (files_calls (map word_in_bytes words.now)) (around H.asked host.old host.new)) }
 {
     let mut read = Images {
         images: Vec::new(alloc),

@@ -13,16 +13,18 @@ ghost use Rattle.jos_cli.specs.declared.outcome.Outcome.{Outcome};
 ghost use Rattle.jos_cli.specs.Outcomes.{AnswersCommand, HasOutcomeCause, HasStatusCause, IsUsageCase, LeavesInput, status_of};
 ghost use Rattle.jos_cli.specs.FaultNotes.{IfHostFault, FaultIsNoted};
 ghost use Rattle.jos_cli.specs.Commands.{command_of};
-ghost use Rattle.jos_cli.specs.FilesAsked.{AsksFor, calls_of};
-ghost use Rattle.jos_cli.specs.FilesLeft.{Leaves};
+ghost use Rattle.jos_cli.specs.FilesAsked.{AsksOnly};
+ghost use Rattle.jos_cli.specs.FilesLeft.{Leaves, LeavesGoodDisk};
 ghost use Rattle.jos_cli.specs.Given.{given_words};
 ghost use Rattle.jos_cli.specs.Notes.{IsNoted};
 
 mod answer;
+mod disks;
 mod files;
 mod input;
 mod limits;
 mod loading;
+mod making;
 mod notes;
 mod outcome;
 mod texts;
@@ -53,9 +55,10 @@ fn answer_arguments<H: Host>(alloc: Global, read: io::Result<Args>, host: &mut H
         × IfHostFault outcome (FaultIsNoted (H.files host.old) (H.input host.old) (given_words read) (around H.faults host.old host.new)
         (around H.console host.old host.new) (around H.notes host.old host.new))
         × Leaves (command_of (given_words read)) outcome (around H.files host.old host.new)
+        × LeavesGoodDisk (command_of (given_words read)) outcome (around H.files host.old host.new)
         × LeavesInput (command_of (given_words read)) outcome (around H.input host.old host.new) }
     ensures cause { HasStatusCause (around H.faults host.old host.new) (exit_status result) }
-    ensures asked { AsksFor (calls_of (command_of (given_words read))) (around H.asked host.old host.new) }
+    ensures asked { AsksOnly (command_of (given_words read)) (around H.asked host.old host.new) }
 {
     exit_code(&answer_texts(alloc, read, host))
 }

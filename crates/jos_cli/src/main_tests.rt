@@ -36,7 +36,7 @@ impl Env for Words<'_> {
 }
 
 // The words of a command line, the exit status and the notes.
-static CASES: [(&[u8], u8, &str); 9] = [
+static CASES: [(&[u8], u8, &str); 11] = [
     (b"", 1, USAGE),
     (b"jos", 1, USAGE),
     (b"jos\nexo\nh", 2, "h: absent\n"),
@@ -46,6 +46,8 @@ static CASES: [(&[u8], u8, &str); 9] = [
     (b"jos\nexo\n--frames", 1, USAGE),
     (b"jos\ndemo\nxhello\nf", 0, "made 119\n"),
     (b"jos\ndemo\nxhello\nf\nf", 1, USAGE),
+    (b"jos\nmkfs\nd\n4", 0, "made 16384\n"),
+    (b"jos\ncat\nd", 1, USAGE),
 ];
 
 /// Answers this command line.

@@ -5,10 +5,13 @@ ghost use Rattle.jos_host.specs.Told.{HasCause, Appends};
 ghost use Rattle.jos_host.specs.Frames.{Unchanged, around};
 ghost use Rattle.jos_host.specs.Gains.{Gains, GainsPart};
 ghost use Rattle.jos_cli.specs.Notes.{end_text, report_text, limit_text, bad_schedule_text, bad_image_text, made_text, note_text};
+ghost use Rattle.jos_cli.specs.Notes.{bad_disk_text, not_there_text, bad_make_text};
 ghost use Rattle.jos_cli.specs.Notes.{word_in_note, trace_text, traps_told, note_of};
 
 use crate::outcome::{End, Outcome, Report, Trace, Which};
-use jos_base::{EnvId, LINE_MAX, LineText, push_decimal, push_text, trace_line};
+use fs_image::ImageFault;
+use fs_make::MakeFault;
+use jos_base::{EnvId, Errno, LINE_MAX, LineText, push_decimal, push_text, trace_line};
 use jos_elf::ElfFault;
 use jos_host::{Failed, Host};
 use jos_sched::ScheduleFault;
@@ -67,6 +70,8 @@ fn limit_text(which: Which) -> &'static [u8]
         Which::Image => b"limit: image\n",
         Which::Input => b"limit: input\n",
         Which::Boot => b"limit: boot\n",
+        Which::Blocks => b"limit: blocks\n",
+        Which::File => b"limit: file\n",
     }
 }
 
@@ -111,6 +116,33 @@ fn made_text(bytes: u64) -> LineText
     line
 }
 
+fn bad_disk_text(fault: ImageFault) -> LineText
+    ensures { result.items ≡ bad_disk_text fault }
+{
+    let mut line = text_line(b"bad disk: ");
+    push_text(&mut line, fault.text().as_str().as_bytes());
+    push_text(&mut line, b"\n");
+    line
+}
+
+fn not_there_text(errno: Errno) -> LineText
+    ensures { result.items ≡ not_there_text errno }
+{
+    let mut line = text_line(b"not there: ");
+    push_decimal(&mut line, errno.code() as u64);
+    push_text(&mut line, b"\n");
+    line
+}
+
+fn bad_make_text(fault: MakeFault) -> LineText
+    ensures { result.items ≡ bad_make_text fault }
+{
+    let mut line = text_line(b"cannot make: ");
+    push_text(&mut line, fault.text().as_str().as_bytes());
+    push_text(&mut line, b"\n");
+    line
+}
+
 /// The line, but for the word that begins it.
 fn note_text(outcome: &Outcome) -> LineText
     ensures { result.items ≡ note_text outcome.now }
@@ -125,6 +157,9 @@ fn note_text(outcome: &Outcome) -> LineText
         Outcome::HostFault(_) => text_line(b"host fault\n"),
         Outcome::NoMemory => text_line(b"out of memory\n"),
         Outcome::Made(bytes) => made_text(*bytes),
+        Outcome::BadDisk(fault) => bad_disk_text(*fault),
+        Outcome::NotThere(errno) => not_there_text(*errno),
+        Outcome::BadMake(fault) => bad_make_text(*fault),
     }
 }
 

@@ -2,6 +2,9 @@
 
 ghost use Rattle.std.specs.Prelude.{◌≡◌};
 
+use fs_image::ImageFault;
+use fs_make::MakeFault;
+use jos_base::Errno;
 use jos_elf::ElfFault;
 pub use jos_kernel::{End, Refusal, Report, Stopped, Trace, TrapLine, Turn};
 use jos_sched::ScheduleFault;
@@ -25,6 +28,10 @@ pub enum Which {
     Input,
     /// The frames, which are too few to boot the images.
     Boot,
+    /// The number of a disk's blocks that the words give (`MINBLOCKS`, `MAXBLOCKS`).
+    Blocks,
+    /// The length of a file that is put on a disk (`FILE_MAX`).
+    File,
 }
 
 /// What the program answers.
@@ -46,8 +53,14 @@ pub enum Outcome {
     HostFault(Stopped),
     /// There was no memory to begin with.
     NoMemory,
-    /// A file is written, of so many bytes.
+    /// So many bytes are written, to a file or to the console.
     Made(u64),
+    /// The file is no disk, with the fault that it has.
+    BadDisk(ImageFault),
+    /// The path leads to nothing on the disk that can be read so: the error by which the file server refuses it.
+    NotThere(Errno),
+    /// No disk can be made of the files, with the fault that they have.
+    BadMake(MakeFault),
 }
 
 impl Outcome {
@@ -72,6 +85,9 @@ impl Outcome {
             Outcome::HostFault(_) => 7,
             Outcome::NoMemory => 8,
             Outcome::Made(_) => 0,
+            Outcome::BadDisk(_) => 6,
+            Outcome::NotThere(_) => 12,
+            Outcome::BadMake(_) => 13,
         }
     }
 }

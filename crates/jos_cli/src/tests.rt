@@ -1,6 +1,6 @@
 use crate::answer::top;
 use crate::outcome::{Outcome, Turn, Which};
-use jos_base::{IMAGE_MAX, INPUT_MAX, SCHEDULE_TEXT_MAX};
+use jos_base::{FILE_MAX, IMAGE_MAX, INPUT_MAX, SCHEDULE_TEXT_MAX};
 use jos_elf::ElfFault;
 use jos_host::{MemHost, NamedBytes};
 use jos_sched::ScheduleFault;
@@ -9,6 +9,7 @@ use std::process::Abort;
 use std::test::Fail;
 
 mod calls;
+mod disk_commands;
 
 // The headers of a file whose one segment is the 32-bit words behind them at 0x00800020, where it starts.
 #[rattlefmt::skip]
@@ -691,13 +692,13 @@ fn looks_at_the_headers(rt: HostRuntime) -> Result<(), Fail> {
 }
 
 /// Whether the outcome is one for a file of zeros: a limit is this one, a schedule's fault is at its first byte, and any
-/// other outcome has the status of a bad image.
+/// other outcome has the status of a bad image or of files that no disk is made of.
 fn is_answer_to_zeros(outcome: &Outcome, limit: Which, status: u8) -> bool {
     match outcome {
         Outcome::Limit(_) => is_limit(outcome, limit),
         Outcome::BadSchedule(ScheduleFault::NotANumber(place)) => *place == 0,
         Outcome::BadSchedule(_) => false,
-        _ => status == 4,
+        _ => status == 4 || status == 13,
     }
 }
 
@@ -724,11 +725,15 @@ fn check_long_file(
 fn refuses_files_that_are_too_long(rt: HostRuntime) -> Result<(), Fail> {
     let image: &[&str] = &["exo", "l"];
     let schedule: &[&str] = &["exo", "--schedule", "l", "h"];
+    let disk: &[&str] = &["mkfs", "d", "16", "l"];
+    let disk_of_two: &[&str] = &["mkfs", "d", "16", "l", "no"];
     for (len, words, status, limit) in [
         (IMAGE_MAX, image, 4, Which::Image),
         (IMAGE_MAX + 1, image, 3, Which::Image),
         (SCHEDULE_TEXT_MAX, schedule, 5, Which::Schedule),
         (SCHEDULE_TEXT_MAX + 1, schedule, 3, Which::Schedule),
+        (FILE_MAX, disk, 13, Which::File),
+        (FILE_MAX + 1, disk_of_two, 3, Which::File),
     ] {
         check_long_file(&rt, rt.alloc(), len, words, status, limit)?;
     }

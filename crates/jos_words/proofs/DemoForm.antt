@@ -1,27 +1,26 @@
 -- `demo` as clap is told of it.
-use Rattle.std.proofs.Common.{◌≡◌, ◌<◌, ℕ, ◌+◌, zero, suc, false, List, [], ◌∷◌, length, drop, Some, None, codes, refl, sym, arith, true≢false}
+use Rattle.std.proofs.Common.{◌≡◌, ◌<◌, ℕ, ◌+◌, zero, suc, true, false, List, [], ◌∷◌, length, drop, Some, None, codes, refl, sym, arith, true≢false}
 use Rattle.std.specs.Str.{bytes_eq}
-use Rattle.clap.specs.Simple.{filled, with_index}
 use Rattle.clap.specs.Walk.{Rule, Text}
 use Rattle.clap.proofs.OnLiterals.{clap_on_literals}
 use Rattle.jos_words.specs.Arguments.{◌>>=◌, Word, Arguments, arguments_of}
 use Rattle.jos_words.specs.Commands.{Demo, two_of, demo_of, demo_words}
 use Rattle.jos_words.specs.ClapCommands.{required_rule, demo_app, clap_takes}
-use Rattle.jos_words.proofs.Rules.{required_is}
+use Rattle.jos_words.proofs.Rules.{word_rule, word_is}
 use Rattle.jos_words.proofs.Taking.{both_some, none_if}
 use Rattle.jos_words.proofs.ClapWalk.{Form, Slot, Fits, rules_of, words_taken}
 
-abbrev word_rule : ℕ → Rule
-word_rule zero = with_index 1 (filled (required_rule (codes "name")))
-word_rule (suc k) = with_index 2 (filled (required_rule (codes "file")))
+abbrev demo_rule : ℕ → Rule
+demo_rule zero = word_rule true 1 (codes "name")
+demo_rule (suc k) = word_rule true 2 (codes "file")
 
 abbrev demo_form : Form
-demo_form = record { name = codes "demo"; options = []; positionals = required_rule (codes "name") ∷ required_rule (codes "file") ∷ []; slot = word_rule; number = λ k. k + 1 }
+demo_form = record { name = codes "demo"; options = []; positionals = required_rule (codes "name") ∷ required_rule (codes "file") ∷ []; slot = demo_rule; number = λ k. k + 1 }
 
 demo_slot : (k : ℕ) → k < 2 → Slot demo_form k
 unfolding rules_of
 demo_slot zero below = record {
-  argument = required_is (rules_of demo_form) 1 (codes "name") refl;
+  argument = word_is (rules_of demo_form) true 1 (codes "name") refl;
   at = refl;
   next = refl;
   one = refl;
@@ -29,7 +28,7 @@ demo_slot zero below = record {
   apart = λ name known. absurd (true≢false (sym known));
 }
 demo_slot (suc zero) below = record {
-  argument = required_is (rules_of demo_form) 2 (codes "file") refl;
+  argument = word_is (rules_of demo_form) true 2 (codes "file") refl;
   at = refl;
   next = refl;
   one = refl;
@@ -38,7 +37,7 @@ demo_slot (suc zero) below = record {
 }
 demo_slot (suc (suc k)) below = absurd (omega arith)
 
-distinct : (j k : ℕ) → j < k → k < 2 → bytes_eq (word_rule j).id (word_rule k).id ≡ false
+distinct : (j k : ℕ) → j < k → k < 2 → bytes_eq (demo_rule j).id (demo_rule k).id ≡ false
 distinct zero zero earlier below = absurd (omega arith)
 distinct zero (suc k) earlier below = refl
 distinct (suc j) k earlier below = absurd (omega arith)
@@ -56,7 +55,7 @@ demo_fits = record {
 }
 
 -- there are two words
-two_words : (words : List Word) (two : Word × Word) → two_of words ≡ Some two → length words ≡ 2
+pub two_words : (words : List Word) (two : Word × Word) → two_of words ≡ Some two → length words ≡ 2
 two_words [] two e = absurd cc
 two_words (first ∷ []) two e = absurd cc
 two_words (first ∷ second ∷ []) two e = refl

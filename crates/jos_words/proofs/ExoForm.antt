@@ -1,18 +1,16 @@
 -- `exo` as clap is told of it.
-use Rattle.std.proofs.Common.{◌≡◌, ◌<◌, ℕ, false, List, [], ◌∷◌, length, drop, Some, None, codes, refl, arith, true≢false}
-use Rattle.clap.specs.Simple.{filled, with_index}
+use Rattle.std.proofs.Common.{◌≡◌, ◌<◌, ℕ, true, false, List, [], ◌∷◌, length, drop, Some, None, codes, refl, arith, true≢false}
 use Rattle.clap.specs.Walk.{Rule, Text}
 use Rattle.clap.proofs.OnLiterals.{clap_on_literals}
 use Rattle.jos_words.specs.Arguments.{◌>>=◌, Word, Arguments, value_of, arguments_of}
 use Rattle.jos_words.specs.Commands.{Exo, exo_options, number_in, at_least_one, exo_of, exo_words}
 use Rattle.jos_words.specs.ClapCommands.{repeated_rule, exo_app, clap_takes}
-use Rattle.jos_words.proofs.Rows.{has_row-with, given-with, given-with_other}
-use Rattle.jos_words.proofs.Rules.{apart_from, apart_to}
+use Rattle.jos_words.proofs.Rules.{words_rule, words_are, apart_from, apart_to}
 use Rattle.jos_words.proofs.Taking.{both_some, none_if}
 use Rattle.jos_words.proofs.ClapWalk.{Form, Slot, Fits, rules_of, words_taken}
 
 abbrev image : Rule
-image = with_index 1 (filled (repeated_rule (codes "image")))
+image = words_rule true 1 (codes "image")
 
 abbrev exo_form : Form
 exo_form = record { name = codes "exo"; options = exo_options; positionals = repeated_rule (codes "image") ∷ []; slot = λ k. image; number = λ k. 1 }
@@ -20,13 +18,7 @@ exo_form = record { name = codes "exo"; options = exo_options; positionals = rep
 exo_slot : (k : ℕ) → Slot exo_form k
 unfolding rules_of
 exo_slot k = record {
-  argument = record {
-    by_id = refl;
-    passes = λ value rows free. refl;
-    row = λ value id rows. has_row-with (codes "image") id _ (value ∷ []) rows;
-    given = λ value rows. given-with (codes "image") _ (value ∷ []) rows;
-    given_other = λ value id rows other. given-with_other (codes "image") id _ (value ∷ []) rows other;
-  };
+  argument = words_are (rules_of exo_form) true 1 (codes "image") refl;
   at = refl;
   next = refl;
   one = refl;

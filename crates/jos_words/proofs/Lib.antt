@@ -7,3 +7,6 @@ pub mod Taking
 pub mod ClapWalk
 pub mod ExoForm
 pub mod DemoForm
+pub mod MkfsForm
+pub mod LsForm
+pub mod CatForm

@@ -3,12 +3,13 @@ use Rattle.std.proofs.Common.{◌≡◌, ◌∙◌, ℕ, ◌&&◌, ◌||◌, not
 use Rattle.std.specs.List.{list_any}
 use Rattle.std.specs.Str.{bytes_eq}
 use Rattle.clap.specs.declared.parser.matches.ValueSource.TheVariants.{CommandLine}
-use Rattle.clap.specs.Simple.{filled, filled_from, with_index}
+use Rattle.clap.specs.declared.builder.action.ArgAction.TheVariants.{Append}
+use Rattle.clap.specs.Simple.{filled, filled_from, new_rule, with_index}
 use Rattle.clap.specs.Takes.{use_passes, is_given}
 use Rattle.clap.specs.Walk as clap
 use Rattle.clap.specs.Walk.{Rule, Row, Text, has_row, arg_by_id, arg_by_long, arg_by_index, with_values, without}
 use Rattle.jos_words.specs.Arguments.{contains}
-use Rattle.jos_words.specs.ClapCommands.{option_rule, required_rule}
+use Rattle.jos_words.specs.ClapCommands.{option_rule}
 use Rattle.jos_words.proofs.Rows.{same_text, bytes_eq-sym, has_row-with, has_row-without, given-with, given-with_other, given-without}
 
 -- ---- an argument whose uses have one value each
@@ -39,7 +40,7 @@ module _ (a : Rule) (value id : Text) (rows : List Row) where
   once-given_other : bytes_eq a.id id ≡ false → is_given id (once_used a value rows) ≡ is_given id rows
   once-given_other other = given-with_other a.id id (clap.reading_by a) (value ∷ []) (without a.id rows) other ∙ given-without a.id id other rows
 
--- what clap makes of an option, and of a positional word that has to be there
+-- what clap makes of an option
 abbrev pub option_named : Text → Rule
 option_named name = filled (option_rule name)
 
@@ -52,13 +53,29 @@ option_is rules name by_id = record {
   given_other = once-given_other (option_named name);
 }
 
-pub required_is : (rules : List Rule) (i : ℕ) (name : Text) → arg_by_id rules name ≡ Some (with_index i (filled (required_rule name))) → IsArgument rules (with_index i (filled (required_rule name)))
-required_is rules i name by_id = record {
+-- what clap makes of a positional word, and of positional words, that have to be there or not
+abbrev pub word_rule : Bool → ℕ → Text → Rule
+word_rule required i name = with_index i (filled (record (new_rule name) { required = required }))
+
+abbrev pub words_rule : Bool → ℕ → Text → Rule
+words_rule required i name = with_index i (filled (record (new_rule name) { action = Some Append; required = required }))
+
+pub word_is : (rules : List Rule) (required : Bool) (i : ℕ) (name : Text) → arg_by_id rules name ≡ Some (word_rule required i name) → IsArgument rules (word_rule required i name)
+word_is rules required i name by_id = record {
   by_id = by_id;
   passes = λ value rows free. passes_once (has_row name rows) (free refl);
-  row = once-row (with_index i (filled (required_rule name)));
+  row = once-row (word_rule required i name);
   given = λ value rows. given-with name _ (value ∷ []) (without name rows);
-  given_other = once-given_other (with_index i (filled (required_rule name)));
+  given_other = once-given_other (word_rule required i name);
+}
+
+pub words_are : (rules : List Rule) (required : Bool) (i : ℕ) (name : Text) → arg_by_id rules name ≡ Some (words_rule required i name) → IsArgument rules (words_rule required i name)
+words_are rules required i name by_id = record {
+  by_id = by_id;
+  passes = λ value rows free. refl;
+  row = λ value id rows. has_row-with name id _ (value ∷ []) rows;
+  given = λ value rows. given-with name _ (value ∷ []) rows;
+  given_other = λ value id rows other. given-with_other name id _ (value ∷ []) rows other;
 }
 
 -- ---- the options among the rules

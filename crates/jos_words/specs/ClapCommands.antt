@@ -12,9 +12,17 @@ option_rule name = record (new_rule name) { long = Some name }
 abbrev pub required_rule : List ℕ → Rule
 required_rule name = record (new_rule name) { required = true }
 
+-- a positional word that need not be there
+abbrev pub optional_rule : List ℕ → Rule
+optional_rule name = new_rule name
+
 -- positional words, of which one has to be there
 abbrev pub repeated_rule : List ℕ → Rule
 repeated_rule name = record (new_rule name) { action = Some Append; required = true }
+
+-- positional words, of which none has to be there
+abbrev pub optional_repeated_rule : List ℕ → Rule
+optional_repeated_rule name = record (new_rule name) { action = Some Append }
 
 -- a command with these arguments, and without help and version flags
 abbrev pub app_with : List ℕ → List Rule → App
@@ -27,6 +35,15 @@ exo_app = app_with (codes "exo") (map option_rule exo_options ++ repeated_rule (
 
 abbrev pub demo_app : App
 demo_app = app_with (codes "demo") (required_rule (codes "name") ∷ required_rule (codes "file") ∷ [])
+
+abbrev pub mkfs_app : App
+mkfs_app = app_with (codes "mkfs") (required_rule (codes "disk") ∷ required_rule (codes "blocks") ∷ optional_repeated_rule (codes "file") ∷ [])
+
+abbrev pub ls_app : App
+ls_app = app_with (codes "ls") (required_rule (codes "disk") ∷ optional_rule (codes "path") ∷ [])
+
+abbrev pub cat_app : App
+cat_app = app_with (codes "cat") (required_rule (codes "disk") ∷ required_rule (codes "path") ∷ [])
 
 -- clap takes these words, the first of which is the command's name
 unfoldable pub clap_takes : App → List (List ℕ) → Bool

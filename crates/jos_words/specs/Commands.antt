@@ -7,6 +7,9 @@ use Rattle.jos_words.specs.Arguments.{◌>>=◌, Word, Arguments, value_of, argu
 use Rattle.jos_words.specs.declared.values.NumberAt.{NumberAt}
 use Rattle.jos_words.specs.declared.commands.ExoWords.{ExoWords}
 use Rattle.jos_words.specs.declared.commands.DemoWords.{DemoWords}
+use Rattle.jos_words.specs.declared.commands.MkfsWords.{MkfsWords}
+use Rattle.jos_words.specs.declared.commands.LsWords.{LsWords}
+use Rattle.jos_words.specs.declared.commands.CatWords.{CatWords}
 use Rattle.jos_words.specs.declared.commands.Command.{Command as ReadCommand}
 use Rattle.jos_words.specs.declared.commands.Command.TheVariants as read
 
@@ -66,11 +69,80 @@ demo_words words = do
   arguments ← arguments_of [] words
   demo_of arguments
 
+-- ---- `mkfs DISK BLOCKS [FILE..]`
+
+pub record Mkfs : Type 0 where
+  pub disk : Word
+  pub blocks : NumberAt
+  pub files : List Word
+
+abbrev pub two_and_more : List Word → Option (Word × Word × List Word)
+two_and_more (first ∷ second ∷ more) = Some (first, second, more)
+two_and_more _ = None
+
+-- a positional word that has to be a number
+abbrev pub number_at : Word → Option NumberAt
+number_at word = option_map (λ value. record { place = word.place; value = value }) (number_of word.text)
+
+unfoldable pub mkfs_of : Arguments → Option Mkfs
+mkfs_of arguments = do
+  words ← two_and_more arguments.positionals
+  blocks ← number_at words.1
+  Some (record { disk = words.0; blocks = blocks; files = words.2 })
+
+-- the words behind `mkfs`, which has no options
+unfoldable pub mkfs_words : List (List ℕ) → Option Mkfs
+mkfs_words words = do
+  arguments ← arguments_of [] words
+  mkfs_of arguments
+
+-- ---- `ls DISK [PATH]`
+
+pub record Ls : Type 0 where
+  pub disk : Word
+  pub path : Option Word
+
+abbrev pub one_or_two : List Word → Option (Word × Option Word)
+one_or_two (first ∷ []) = Some (first, None)
+one_or_two (first ∷ second ∷ []) = Some (first, Some second)
+one_or_two _ = None
+
+unfoldable pub ls_of : Arguments → Option Ls
+ls_of arguments = do
+  words ← one_or_two arguments.positionals
+  Some (record { disk = words.0; path = words.1 })
+
+-- the words behind `ls`, which has no options
+unfoldable pub ls_words : List (List ℕ) → Option Ls
+ls_words words = do
+  arguments ← arguments_of [] words
+  ls_of arguments
+
+-- ---- `cat DISK PATH`
+
+pub record Cat : Type 0 where
+  pub disk : Word
+  pub path : Word
+
+unfoldable pub cat_of : Arguments → Option Cat
+cat_of arguments = do
+  two ← two_of arguments.positionals
+  Some (record { disk = two.0; path = two.1 })
+
+-- the words behind `cat`, which has no options
+unfoldable pub cat_words : List (List ℕ) → Option Cat
+cat_words words = do
+  arguments ← arguments_of [] words
+  cat_of arguments
+
 -- ---- all commands
 
 pub data Command : Type 0 where
   exo : Exo → Command
   demo : Demo → Command
+  mkfs : Mkfs → Command
+  ls : Ls → Command
+  cat : Cat → Command
 
 -- the first word is the command's name
 unfoldable pub command_of : List (List ℕ) → Option Command
@@ -78,6 +150,9 @@ command_of [] = None
 command_of (name ∷ words) =
     if bytes_eq name (codes "exo") then option_map exo (exo_words words)
     else if bytes_eq name (codes "demo") then option_map demo (demo_words words)
+    else if bytes_eq name (codes "mkfs") then option_map mkfs (mkfs_words words)
+    else if bytes_eq name (codes "ls") then option_map ls (ls_words words)
+    else if bytes_eq name (codes "cat") then option_map cat (cat_words words)
     else None
 
 -- ---- a command that was read, with its words in bytes
@@ -94,6 +169,22 @@ exo_in_bytes words = record {
 abbrev pub demo_in_bytes : DemoWords → Demo
 demo_in_bytes words = record { name = word_in_bytes words.name; file = word_in_bytes words.file }
 
+abbrev pub mkfs_in_bytes : MkfsWords → Mkfs
+mkfs_in_bytes words = record {
+  disk = word_in_bytes words.disk;
+  blocks = words.blocks;
+  files = map word_in_bytes words.files.items;
+}
+
+abbrev pub ls_in_bytes : LsWords → Ls
+ls_in_bytes words = record { disk = word_in_bytes words.disk; path = option_map word_in_bytes words.path }
+
+abbrev pub cat_in_bytes : CatWords → Cat
+cat_in_bytes words = record { disk = word_in_bytes words.disk; path = word_in_bytes words.path }
+
 abbrev pub in_bytes : ReadCommand → Command
 in_bytes (read.Exo words) = exo (exo_in_bytes words)
 in_bytes (read.Demo words) = demo (demo_in_bytes words)
+in_bytes (read.Mkfs words) = mkfs (mkfs_in_bytes words)
+in_bytes (read.Ls words) = ls (ls_in_bytes words)
+in_bytes (read.Cat words) = cat (cat_in_bytes words)

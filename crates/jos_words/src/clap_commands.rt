@@ -4,8 +4,8 @@ ghost use Rattle.std.specs.Prelude.{◌≡◌, IfOk, IfErr, map, true, false};
 ghost use Rattle.clap.specs.Words.{app_of, rule_of};
 ghost use Rattle.jos_words.specs.declared.words.WordsFault.TheVariants.{Usage};
 ghost use Rattle.jos_words.specs.Arguments.{texts};
-ghost use Rattle.jos_words.specs.ClapCommands.{option_rule, required_rule, repeated_rule, app_with};
-ghost use Rattle.jos_words.specs.ClapCommands.{exo_app, demo_app, clap_takes};
+ghost use Rattle.jos_words.specs.ClapCommands.{option_rule, required_rule, optional_rule, repeated_rule, optional_repeated_rule};
+ghost use Rattle.jos_words.specs.ClapCommands.{app_with, exo_app, demo_app, mkfs_app, ls_app, cat_app, clap_takes};
 
 use crate::commands::EXO_OPTIONS;
 use crate::words::WordsFault;
@@ -29,6 +29,14 @@ fn required<'a>(alloc: Global, name: &'a str) -> Arg<'a>
     Arg::new(alloc, name).required(true)
 }
 
+/// A positional word that need not be there.
+fn optional<'a>(alloc: Global, name: &'a str) -> Arg<'a>
+    ensures rule { rule_of result ≡ optional_rule name.now }
+    ensures local { result.global ≡ false }
+{
+    Arg::new(alloc, name)
+}
+
 /// Positional words, one at least.
 fn repeated<'a>(alloc: Global, name: &'a str) -> Arg<'a>
     ensures rule { rule_of result ≡ repeated_rule name.now }
@@ -37,6 +45,14 @@ fn repeated<'a>(alloc: Global, name: &'a str) -> Arg<'a>
     Arg::new(alloc, name)
         .action(ArgAction::Append)
         .required(true)
+}
+
+/// Positional words, none too.
+fn optional_repeated<'a>(alloc: Global, name: &'a str) -> Arg<'a>
+    ensures rule { rule_of result ≡ optional_repeated_rule name.now }
+    ensures local { result.global ≡ false }
+{
+    Arg::new(alloc, name).action(ArgAction::Append)
 }
 
 /// A command with options of these names, and without help and version flags.
@@ -70,6 +86,34 @@ pub(crate) fn demo_command<'a>(alloc: Global) -> Result<Command<'a>, AllocError>
     command_with(alloc, "demo", &[])?
         .arg(required(alloc, "name"))?
         .arg(required(alloc, "file"))
+}
+
+/// `mkfs`, whose words are a disk, a number of blocks and files.
+pub(crate) fn mkfs_command<'a>(alloc: Global) -> Result<Command<'a>, AllocError>
+    ensures { IfOk result (λ command. app_of command ≡ mkfs_app) }
+{
+    command_with(alloc, "mkfs", &[])?
+        .arg(required(alloc, "disk"))?
+        .arg(required(alloc, "blocks"))?
+        .arg(optional_repeated(alloc, "file"))
+}
+
+/// `ls`, whose words are a disk and perhaps a path.
+pub(crate) fn ls_command<'a>(alloc: Global) -> Result<Command<'a>, AllocError>
+    ensures { IfOk result (λ command. app_of command ≡ ls_app) }
+{
+    command_with(alloc, "ls", &[])?
+        .arg(required(alloc, "disk"))?
+        .arg(optional(alloc, "path"))
+}
+
+/// `cat`, whose words are a disk and a path.
+pub(crate) fn cat_command<'a>(alloc: Global) -> Result<Command<'a>, AllocError>
+    ensures { IfOk result (λ command. app_of command ≡ cat_app) }
+{
+    command_with(alloc, "cat", &[])?
+        .arg(required(alloc, "disk"))?
+        .arg(required(alloc, "path"))
 }
 
 /// Has clap take the words, the first of which is the command's name.

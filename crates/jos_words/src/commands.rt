@@ -3,11 +3,14 @@
 ghost use Rattle.std.specs.Prelude.{◌≡◌, ◌<◌, IfOk, IfErr, Some, None, length, map, option_map, drop};
 ghost use Rattle.jos_words.specs.declared.words.WordsFault.TheVariants.{Usage};
 ghost use Rattle.jos_words.specs.Arguments.{word_in_bytes, arguments_in_bytes, texts};
-ghost use Rattle.jos_words.specs.Commands.{number_in, exo_of, exo_words, demo_of, demo_words, command_of};
-ghost use Rattle.jos_words.specs.Commands.{exo_in_bytes, demo_in_bytes, in_bytes};
+ghost use Rattle.jos_words.specs.Commands.{number_in, number_at, exo_of, exo_words, demo_of, demo_words};
+ghost use Rattle.jos_words.specs.Commands.{mkfs_of, mkfs_words, ls_of, ls_words, cat_of, cat_words, command_of};
+ghost use Rattle.jos_words.specs.Commands.{exo_in_bytes, demo_in_bytes, mkfs_in_bytes, ls_in_bytes, cat_in_bytes, in_bytes};
 
 use crate::arguments::{Arguments, read_arguments, value_of};
-use crate::clap_commands::{ask_clap, demo_command, exo_command};
+use crate::clap_commands::{
+    ask_clap, cat_command, demo_command, exo_command, ls_command, mkfs_command,
+};
 use crate::values::{NumberAt, number_of};
 use crate::words::{WordAt, WordsFault};
 use std::alloc::Global;
@@ -19,6 +22,12 @@ pub enum Command<'a> {
     Exo(ExoWords<'a>),
     /// `demo NAME FILE`: writes an example program.
     Demo(DemoWords<'a>),
+    /// `mkfs DISK BLOCKS [FILE..]`: makes a disk with files.
+    Mkfs(MkfsWords<'a>),
+    /// `ls DISK [PATH]`: lists what a disk has at a path.
+    Ls(LsWords<'a>),
+    /// `cat DISK PATH`: writes a file of a disk.
+    Cat(CatWords<'a>),
 }
 
 /// The words of `exo`.
@@ -39,8 +48,42 @@ pub struct DemoWords<'a> {
     pub file: WordAt<'a>,
 }
 
+/// The words of `mkfs`.
+#[derive(Drop)]
+pub struct MkfsWords<'a> {
+    pub disk: WordAt<'a>,
+    pub blocks: NumberAt,
+    /// In the order of the words.
+    pub files: Vec<WordAt<'a>>,
+}
+
+/// The words of `ls`.
+#[derive(Clone, Copy)]
+pub struct LsWords<'a> {
+    pub disk: WordAt<'a>,
+    pub path: Option<WordAt<'a>>,
+}
+
+/// The words of `cat`.
+#[derive(Clone, Copy)]
+pub struct CatWords<'a> {
+    pub disk: WordAt<'a>,
+    pub path: WordAt<'a>,
+}
+
 /// The names of the options of `exo`.
 pub(crate) const EXO_OPTIONS: [&str; 4] = ["frames", "steps", "schedule", "trace"];
+
+/// The number that a word is.
+fn number_at<'a>(word: WordAt<'a>) -> Option<NumberAt>
+    ensures { result ≡ number_at (word_in_bytes word.entry) }
+{
+    let value = number_of(word.text)?;
+    Some(NumberAt {
+        place: word.place,
+        value,
+    })
+}
 
 /// The number that a value is, where it is there; `None` where it is no number.
 fn number_in<'a>(word: Option<WordAt<'a>>) -> Option<Option<NumberAt>>
@@ -48,12 +91,9 @@ fn number_in<'a>(word: Option<WordAt<'a>>) -> Option<Option<NumberAt>>
 {
     match word {
         None => Some(None),
-        Some(word) => match number_of(word.text) {
+        Some(word) => match number_at(word) {
             None => None,
-            Some(value) => Some(Some(NumberAt {
-                place: word.place,
-                value,
-            })),
+            Some(number) => Some(Some(number)),
         },
     }
 }
@@ -93,6 +133,56 @@ fn demo_of<'a>(arguments: Arguments<'a>) -> Option<DemoWords<'a>>
     }
 }
 
+/// The words of `mkfs`, if these are.
+#[tactic(auto, unfolding(crate::specs::Commands::mkfs_of))]
+fn mkfs_of<'a>(arguments: Arguments<'a>) -> Option<MkfsWords<'a>>
+    ensures { option_map mkfs_in_bytes result ≡ mkfs_of (arguments_in_bytes arguments.entry) }
+{
+    let mut files = arguments.positionals;
+    if files.len() < 2 {
+        return None;
+    }
+    let disk = files.remove(0);
+    let blocks = number_at(files.remove(0))?;
+    Some(MkfsWords {
+        disk,
+        blocks,
+        files,
+    })
+}
+
+/// The words of `ls`, if these are.
+#[tactic(auto, unfolding(crate::specs::Commands::ls_of))]
+fn ls_of<'a>(arguments: Arguments<'a>) -> Option<LsWords<'a>>
+    ensures { option_map ls_in_bytes result ≡ ls_of (arguments_in_bytes arguments.entry) }
+{
+    match arguments.positionals.as_slice() {
+        [disk] => Some(LsWords {
+            disk: *disk,
+            path: None,
+        }),
+        [disk, path] => Some(LsWords {
+            disk: *disk,
+            path: Some(*path),
+        }),
+        _ => None,
+    }
+}
+
+/// The words of `cat`, if these are.
+#[tactic(auto, unfolding(crate::specs::Commands::cat_of))]
+fn cat_of<'a>(arguments: Arguments<'a>) -> Option<CatWords<'a>>
+    ensures { option_map cat_in_bytes result ≡ cat_of (arguments_in_bytes arguments.entry) }
+{
+    match arguments.positionals.as_slice() {
+        [disk, path] => Some(CatWords {
+            disk: *disk,
+            path: *path,
+        }),
+        _ => None,
+    }
+}
+
 /// Reads the words of `exo`, the first of which is its name.
 fn read_exo<'a>(alloc: Global, words: &'a [&'a str]) -> Result<ExoWords<'a>, WordsFault>
     requires { 0 < length words.now }
@@ -123,6 +213,51 @@ fn read_demo<'a>(alloc: Global, words: &'a [&'a str]) -> Result<DemoWords<'a>, W
     }
 }
 
+/// Reads the words of `mkfs`, the first of which is its name.
+fn read_mkfs<'a>(alloc: Global, words: &'a [&'a str]) -> Result<MkfsWords<'a>, WordsFault>
+    requires { 0 < length words.now }
+    ensures ok { IfOk result (λ read. mkfs_words (drop 1 (texts words.now)) ≡ Some (mkfs_in_bytes read)) }
+    ensures usage { IfErr result (λ fault. fault ≡ Usage → mkfs_words (drop 1 (texts words.now)) ≡ None) }
+{
+    let command = mkfs_command(alloc)?;
+    ask_clap(command, words)?;
+    let arguments = read_arguments(alloc, &[], words)?;
+    match mkfs_of(arguments) {
+        Some(read) => Ok(read),
+        None => Err(WordsFault::Usage),
+    }
+}
+
+/// Reads the words of `ls`, the first of which is its name.
+fn read_ls<'a>(alloc: Global, words: &'a [&'a str]) -> Result<LsWords<'a>, WordsFault>
+    requires { 0 < length words.now }
+    ensures ok { IfOk result (λ read. ls_words (drop 1 (texts words.now)) ≡ Some (ls_in_bytes read)) }
+    ensures usage { IfErr result (λ fault. fault ≡ Usage → ls_words (drop 1 (texts words.now)) ≡ None) }
+{
+    let command = ls_command(alloc)?;
+    ask_clap(command, words)?;
+    let arguments = read_arguments(alloc, &[], words)?;
+    match ls_of(arguments) {
+        Some(read) => Ok(read),
+        None => Err(WordsFault::Usage),
+    }
+}
+
+/// Reads the words of `cat`, the first of which is its name.
+fn read_cat<'a>(alloc: Global, words: &'a [&'a str]) -> Result<CatWords<'a>, WordsFault>
+    requires { 0 < length words.now }
+    ensures ok { IfOk result (λ read. cat_words (drop 1 (texts words.now)) ≡ Some (cat_in_bytes read)) }
+    ensures usage { IfErr result (λ fault. fault ≡ Usage → cat_words (drop 1 (texts words.now)) ≡ None) }
+{
+    let command = cat_command(alloc)?;
+    ask_clap(command, words)?;
+    let arguments = read_arguments(alloc, &[], words)?;
+    match cat_of(arguments) {
+        Some(read) => Ok(read),
+        None => Err(WordsFault::Usage),
+    }
+}
+
 /// The command that the words are: `Usage` exactly where they are none, unless there is no memory to read them.
 ///
 /// A number may be out of its range, there may be any number of images, and `demo` may have any name: the caller
@@ -139,6 +274,12 @@ pub fn read_words<'a>(alloc: Global, words: &'a [&'a str]) -> Result<Command<'a>
                 read_exo(alloc, words).map(Command::Exo)
             } else if *name == "demo" {
                 read_demo(alloc, words).map(Command::Demo)
+            } else if *name == "mkfs" {
+                read_mkfs(alloc, words).map(Command::Mkfs)
+            } else if *name == "ls" {
+                read_ls(alloc, words).map(Command::Ls)
+            } else if *name == "cat" {
+                read_cat(alloc, words).map(Command::Cat)
             } else {
                 Err(WordsFault::Usage)
             }

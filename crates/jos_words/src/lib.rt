@@ -14,6 +14,6 @@ mod tests;
 mod values;
 mod words;
 
-pub use commands::{Command, DemoWords, ExoWords, read_words};
+pub use commands::{CatWords, Command, DemoWords, ExoWords, LsWords, MkfsWords, read_words};
 pub use values::{DIGITS_MAX, NumberAt};
 pub use words::{WordAt, WordsFault};

@@ -36,6 +36,22 @@ fn add_command(line: &mut String, command: &Command) -> Result<(), AllocError> {
             add_word(line, "demo ", Some(demo.name))?;
             add_word(line, " ", Some(demo.file))
         }
+        Command::Mkfs(mkfs) => {
+            add_word(line, "mkfs ", Some(mkfs.disk))?;
+            add_number(line, " blocks ", Some(mkfs.blocks))?;
+            for file in &mkfs.files {
+                add_word(line, " ", Some(*file))?;
+            }
+            Ok(())
+        }
+        Command::Ls(ls) => {
+            add_word(line, "ls ", Some(ls.disk))?;
+            add_word(line, " path ", ls.path)
+        }
+        Command::Cat(cat) => {
+            add_word(line, "cat ", Some(cat.disk))?;
+            add_word(line, " ", Some(cat.path))
+        }
     }
 }
 
@@ -70,7 +86,15 @@ exo|--steps=99999999999999999999|a => exo steps 99999999999999999999@1 a@2
 demo|xhello|h => demo xhello@1 h@2
 demo|--|-n|-- => demo -n@2 --@3
 demo|a|--|b => demo a@1 b@3
-demo||-|-- => demo @1 -@2";
+demo||-|-- => demo @1 -@2
+mkfs|d|64 => mkfs d@1 blocks 64@2
+mkfs|d|064|a|b|a => mkfs d@1 blocks 64@2 a@3 b@4 a@5
+mkfs|-|--|99999999999999999999||-x|-- => mkfs -@1 blocks 99999999999999999999@3 @4 -x@5 --@6
+ls|d => ls d@1
+ls|d|a/b => ls d@1 path a/b@2
+ls|--|-d| => ls -d@2 path @3
+cat|d|a => cat d@1 a@2
+cat|--|--|-a => cat --@2 -a@3";
 
 // Words that are no command; the last line is one empty word.
 const NO_COMMAND: &str = "\
@@ -114,6 +138,26 @@ demo|a|b|c
 demo|--frames=1|a|b
 demo|-n|a
 demo|--help|a
+mkfs
+mkfs|d
+mkfs|64|d
+mkfs|d|
+mkfs|d|+64
+mkfs|d|0x40|a
+mkfs|d|000000000000000000064
+mkfs|-f|d|64
+mkfs|d|64|--a
+ls
+ls|--
+ls|d|a|b
+ls|-l|d
+ls|d|--help
+Ls|d
+cat
+cat|d
+cat|d|a|b
+cat|d|-a
+cat|--help|d|a
 exo|--frames=\u{663}|a
 ";
 

@@ -2,7 +2,7 @@ use Rattle.std.proofs.Common.{sym, refl}
 use Rattle.jos_host.specs.Frames.{around}
 use Rattle.jos_words.specs.Commands.{exo_in_bytes}
 use Rattle.jos_cli.specs.Outcomes.{kind_of}
-use Rattle.jos_cli.specs.FilesAsked.{schedule_calls, images_calls}
+use Rattle.jos_cli.specs.FilesAsked.{schedule_calls, files_calls}
 use Rattle.std.specs.Prelude.{◌++◌}
 use Rattle.jos_cli.proofs.Asking.{asks_none}
 use Rattle.jos_cli.proofs.Finding.{some_found, some_input}
@@ -23,7 +23,7 @@ returns-in-Some-clause-told g c =
 
 pub returns-in-Some-clause-asked : goal.returns-in-Some-clause-asked
 returns-in-Some-clause-asked g c =
-    asks_none (schedule_calls (exo_in_bytes c.args.words.now).schedule ++ images_calls (exo_in_bytes c.args.words.now).images) _ _ refl
+    asks_none (schedule_calls (exo_in_bytes c.args.words.now).schedule ++ files_calls (exo_in_bytes c.args.words.now).images) _ _ refl
 
 pub returns-in-None-clause-told : goal.returns-in-None-clause-told
 returns-in-None-clause-told g c =

@@ -1,5 +1,5 @@
 use Rattle.std.proofs.Common.{refl}
-use Rattle.jos_cli.proofs.Asking.{asks_none}
+use Rattle.jos_cli.proofs.Asking.{asks_no_more}
 use Rattle.jos_cli.proofs.Tops.{at_no_memory}
 use Rattle.jos_cli.proofs.answer.answer_words.Goals as goal
 
@@ -7,4 +7,4 @@ pub returns-in-Err-NoMemory-clause-told : goal.returns-in-Err-NoMemory-clause-to
 returns-in-Err-NoMemory-clause-told g c = at_no_memory _ _ _ _ refl
 
 pub returns-in-Err-NoMemory-clause-asked : goal.returns-in-Err-NoMemory-clause-asked
-returns-in-Err-NoMemory-clause-asked g c = asks_none _ _ _ refl
+returns-in-Err-NoMemory-clause-asked g c = asks_no_more _ _ _ refl

@@ -2,7 +2,7 @@ use Rattle.jos_host.specs.Frames.{around}
 use Rattle.jos_words.specs.Commands.{exo_in_bytes}
 use Rattle.jos_cli.specs.Answer.{schedule_of}
 use Rattle.jos_cli.specs.Outcomes.{kind_of}
-use Rattle.jos_cli.specs.FilesAsked.{schedule_calls, images_calls}
+use Rattle.jos_cli.specs.FilesAsked.{schedule_calls, files_calls}
 use Rattle.jos_cli.proofs.Asking.{asks_then, asks_first}
 use Rattle.jos_cli.proofs.Finding.{all_found, some_files, some_input}
 use Rattle.jos_cli.proofs.Judging.{refuses, goes_on}
@@ -34,12 +34,12 @@ returns-in-Err-clause-told g c =
 
 pub returns-in-Ok-clause-asked : goal.returns-in-Ok-clause-asked
 returns-in-Ok-clause-asked g c =
-    asks_then (schedule_calls (exo_in_bytes c.args.words.now).schedule) (images_calls (exo_in_bytes c.args.words.now).images) _ _ _
+    asks_then (schedule_calls (exo_in_bytes c.args.words.now).schedule) (files_calls (exo_in_bytes c.args.words.now).images) _ _ _
     c.in-Ok.ensures.asked (rw c.deref.ensures.value at c.run_named.ensures.asked)
 
 pub returns-in-Err-clause-asked : goal.returns-in-Err-clause-asked
 returns-in-Err-clause-asked g c =
-    asks_first (schedule_calls (exo_in_bytes c.args.words.now).schedule) (images_calls (exo_in_bytes c.args.words.now).images) _ _ c.in-Err.ensures.asked
+    asks_first (schedule_calls (exo_in_bytes c.args.words.now).schedule) (files_calls (exo_in_bytes c.args.words.now).images) _ _ c.in-Err.ensures.asked
 
 pub returns-in-Err-clause-input : goal.returns-in-Err-clause-input
 returns-in-Err-clause-input g c = left_unread c.in-Err.outcome _ _ c.in-Err.ensures.kind c.in-Err.ensures.rest.second

@@ -2,8 +2,8 @@ use Rattle.std.proofs.Common.{ℕ, sym, subst}
 use Rattle.jos_host.specs.Told.{Rose}
 use Rattle.jos_host.specs.Frames.{around}
 use Rattle.jos_cli.proofs.Tops.{answers_part, is_noted, noted, not_noted}
-use Rattle.jos_cli.proofs.Cases.{is_run}
-use Rattle.jos_cli.proofs.FilesWritten.{leaves_fault}
+use Rattle.jos_cli.proofs.Cases.{is_run, is_made, is_listed, is_printed}
+use Rattle.jos_cli.proofs.FilesWritten.{leaves_fault, no_good_disk}
 use Rattle.jos_cli.proofs.Leaving.{left_fault}
 use Rattle.jos_cli.proofs.answer.top.Goals as goal
 
@@ -40,3 +40,27 @@ returns-in-Err-clause-files g c =
 pub returns-in-Err-clause-input : goal.returns-in-Err-clause-input
 returns-in-Err-clause-input g c =
     rw c.host_fault.ensures (left_fault _ c.answer_words-outcome.result _ _ _ _ c.answer_words-outcome.ensures.input c.in-Err.ensures.rest.second)
+
+pub returns-in-Ok-clause-disk_made : goal.returns-in-Ok-clause-disk_made
+returns-in-Ok-clause-disk_made g c files one f is can calm =
+    let faults = g.H.Host.faults c.args.host.now in
+    is_made _ _ _ (around g.H.Host.faults c.args.host.now c.answer_words-outcome.new.host) c.answer_words-outcome.result
+    (around g.H.Host.console c.args.host.now c.answer_words-outcome.new.host) c.answer_words-outcome.ensures.told c.answer_words-outcome.ensures.cause
+    (λ rose. calm (subst (λ (n : ℕ). Rose faults n) (sym c.in-Ok.ensures.cause.stayed) rose)) files f one is can
+
+pub returns-in-Ok-clause-listed : goal.returns-in-Ok-clause-listed
+returns-in-Ok-clause-listed g c files one f is can calm =
+    let faults = g.H.Host.faults c.args.host.now in
+    is_listed _ _ _ (around g.H.Host.faults c.args.host.now c.answer_words-outcome.new.host) c.answer_words-outcome.result
+    (around g.H.Host.console c.args.host.now c.answer_words-outcome.new.host) c.answer_words-outcome.ensures.told c.answer_words-outcome.ensures.cause
+    (λ rose. calm (subst (λ (n : ℕ). Rose faults n) (sym c.in-Ok.ensures.cause.stayed) rose)) files f one is can
+
+pub returns-in-Ok-clause-printed : goal.returns-in-Ok-clause-printed
+returns-in-Ok-clause-printed g c files one f is can calm =
+    let faults = g.H.Host.faults c.args.host.now in
+    is_printed _ _ _ (around g.H.Host.faults c.args.host.now c.answer_words-outcome.new.host) c.answer_words-outcome.result
+    (around g.H.Host.console c.args.host.now c.answer_words-outcome.new.host) c.answer_words-outcome.ensures.told c.answer_words-outcome.ensures.cause
+    (λ rose. calm (subst (λ (n : ℕ). Rose faults n) (sym c.in-Ok.ensures.cause.stayed) rose)) files f one is can
+
+pub returns-in-Err-clause-disk : goal.returns-in-Err-clause-disk
+returns-in-Err-clause-disk g c = rw c.host_fault.ensures (no_good_disk _ _ _)

@@ -5,9 +5,9 @@ use Rattle.jos_cli.specs.Found.{FileAt}
 use Rattle.jos_cli.specs.Outcomes.{kind_of}
 use Rattle.jos_cli.specs.Answer.{images_of}
 use Rattle.jos_cli.specs.Stages.{AreFilesAt, RefusesBy}
-use Rattle.jos_cli.specs.FilesAsked.{AsksFor, AsksAll, images_calls}
+use Rattle.jos_cli.specs.FilesAsked.{AsksFor, AsksAll, files_calls}
 use Rattle.jos_kernel.proofs.Frames.{still}
-use Rattle.jos_cli.proofs.Asking.{asks_nothing, asks_image, asks_part, asks_part_whole}
+use Rattle.jos_cli.proofs.Asking.{asks_nothing, asks_file, asks_part, asks_part_whole}
 use Rattle.jos_cli.proofs.Finding.{some_files}
 use Rattle.jos_cli.proofs.WordsRead.{one_more, at_one}
 use Rattle.jos_cli.proofs.ImagesRead.{HasRead, nothing_read, on_read, on_refused}
@@ -27,7 +27,7 @@ returns-in-Err-push-clause-told g c =
 
 pub returns-in-Err-push-clause-asked : goal.returns-in-Err-push-clause-asked
 returns-in-Err-push-clause-asked g c =
-    subst (λ (ws : List Word). AsksFor (images_calls ws) (from_to (g.H.Host.asked c.args.host.now) (g.H.Host.asked c.read_image.new.host)))
+    subst (λ (ws : List Word). AsksFor (files_calls ws) (from_to (g.H.Host.asked c.args.host.now) (g.H.Host.asked c.read_image.new.host)))
     (sym (at_one word_in_bytes c.args.words.now c.loop-word.word-index _ c.loop-word-test.true))
     (asks_part_whole _ _ _ _ _ _ c.loop-word.invariant.asked c.in-Ok.ensures.asked)
 
@@ -40,7 +40,7 @@ returns-in-Err-clause-told g c =
 
 pub returns-in-Err-clause-asked : goal.returns-in-Err-clause-asked
 returns-in-Err-clause-asked g c =
-    subst (λ (ws : List Word). AsksFor (images_calls ws) (from_to (g.H.Host.asked c.args.host.now) (g.H.Host.asked c.read_image.new.host)))
+    subst (λ (ws : List Word). AsksFor (files_calls ws) (from_to (g.H.Host.asked c.args.host.now) (g.H.Host.asked c.read_image.new.host)))
     (sym (at_one word_in_bytes c.args.words.now c.loop-word.word-index _ c.loop-word-test.true))
     (asks_part _ _ _ _ _ _ c.loop-word.invariant.asked c.in-Err.ensures.asked)
 
@@ -55,6 +55,6 @@ loop-word-preserved g c =
       rest = still c.loop-word.invariant.rest c.in-Ok.ensures.rest;
       faults = c.in-Ok.ensures.cause ∙ c.loop-word.invariant.faults;
       asked =
-          subst (λ (ws : List Word). AsksAll (images_calls ws) (from_to (g.H.Host.asked c.args.host.now) (g.H.Host.asked c.read_image.new.host))) more
-          (asks_image _ _ _ _ _ c.loop-word.invariant.asked c.in-Ok.ensures.asked);
+          subst (λ (ws : List Word). AsksAll (files_calls ws) (from_to (g.H.Host.asked c.args.host.now) (g.H.Host.asked c.read_image.new.host))) more
+          (asks_file _ _ _ _ _ c.loop-word.invariant.asked c.in-Ok.ensures.asked);
     }

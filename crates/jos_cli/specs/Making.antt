@@ -1,0 +1,67 @@
+-- What `mkfs` makes of the files that its words name. (This system's own.)
+use Rattle.std.specs.Prelude.{ℕ, List, [], ◌∷◌, length, map, Option, Some, None, Ok, Err, if◌then◌else◌}
+use Rattle.jos_host.specs.Files as host
+use Rattle.jos_host.specs.MemHost.{Named}
+use Rattle.jos_base.specs.declared.numbers.TheConstants.{FILE_MAX}
+use Rattle.jos_words.specs.Arguments.{Word}
+use Rattle.jos_words.specs.Commands.{Mkfs}
+use Rattle.fs_layout.specs.FileActs.{is_slash}
+use Rattle.fs_make.specs.declared.fault.MakeFault.{MakeFault}
+use Rattle.fs_make.specs.MakeFaults.{make_fault}
+use Rattle.fs_make.specs.MadeImage.{made_image}
+use Rattle.jos_cli.specs.declared.outcome.Which.TheVariants.{File}
+use Rattle.jos_cli.specs.Limits.{limit_of_blocks}
+use Rattle.jos_cli.specs.Found.{FileAt}
+use Rattle.jos_cli.specs.Answer.{Judged, and_then, within, bytes_of, bad_make, made, Expected, expected_if, refused}
+
+-- ---- the files
+
+-- what stands behind the last slash of a text, or another name where there is none
+unfoldable pub behind_last_slash : List ℕ → List ℕ → List ℕ
+behind_last_slash name [] = name
+behind_last_slash name (byte ∷ rest) = behind_last_slash (if is_slash byte then rest else name) rest
+
+-- the name of a file on the disk: what stands behind the last slash of its word, or all where there is none
+abbrev pub file_name : List ℕ → List ℕ
+file_name text = behind_last_slash text text
+
+abbrev pub named_with : Word → List ℕ → Named
+named_with word bytes = record { name = file_name word.text; bytes = bytes }
+
+unfoldable pub named_file : Word → FileAt → Judged Named
+named_file word file = and_then (bytes_of FILE_MAX File file.place file.bytes) (λ bytes. Ok (named_with word bytes))
+
+-- Each file is read before the next is looked at.
+unfoldable pub named_files : List Word → List FileAt → Judged (List Named)
+named_files (word ∷ words) (file ∷ files) =
+    and_then (named_file word file) (λ first. and_then (named_files words files) (λ others. Ok (first ∷ others)))
+named_files _ _ = Ok []
+
+-- ---- the disk
+
+abbrev pub made_unless : Option MakeFault → List ℕ → Judged (List ℕ)
+made_unless None disk = Ok disk
+made_unless (Some fault) disk = Err (bad_make fault)
+
+unfoldable pub disk_made : ℕ → List Named → Judged (List ℕ)
+disk_made blocks files = made_unless (make_fault blocks files) (made_image blocks files)
+
+abbrev pub expected_of_disk : ℕ → List Named → Expected
+expected_of_disk blocks files = expected_if (disk_made blocks files) (λ disk. refused (made (length disk)))
+
+abbrev pub expected_of_named : Mkfs → List FileAt → Expected
+expected_of_named m found = expected_if (named_files m.files found) (expected_of_disk m.blocks.value)
+
+-- of `mkfs`, for the files that are found
+unfoldable pub expected_of_mkfs : Mkfs → List FileAt → Expected
+expected_of_mkfs m found = expected_if (within (limit_of_blocks m.blocks)) (λ _. expected_of_named m found)
+
+-- ---- of a host that tells its files
+
+-- a file that a word names, as it is put on the disk
+abbrev pub named_in : host.Files → Word → Named
+named_in files word = named_with word (host.bytes_of files word.text)
+
+-- the disk that is made of the files that the words name
+abbrev pub disk_in : host.Files → Mkfs → List ℕ
+disk_in files m = made_image m.blocks.value (map (named_in files) m.files)

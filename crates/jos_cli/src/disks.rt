@@ -1,0 +1,205 @@
+//! What is told of a disk: the records of a directory, and the bytes of a file.
+
+ghost use Rattle.std.specs.Prelude.{◌≡◌, ◌≢◌, ℕ, ◌<◌, ◌==◌, IfSome, position, Some, IfOk, IfErr, length, map, slice_index, MatchResult};
+ghost use Rattle.std.specs.Option.{option_map};
+ghost use Rattle.jos_host.specs.Frames.{Unchanged, around, from_to};
+ghost use Rattle.fs_layout.specs.DiskFiles.{IsDiskImage};
+ghost use Rattle.fs_image.specs.DiskHeld.{IsReadInPieces};
+ghost use Rattle.fs_contents.specs.Contents.{told_of_entry};
+ghost use Rattle.jos_words.specs.Arguments.{word_in_bytes};
+ghost use Rattle.jos_words.specs.Commands.{ls, cat, ls_in_bytes, cat_in_bytes};
+ghost use Rattle.jos_cli.specs.Found.{FileAt, IsFileAt};
+ghost use Rattle.jos_cli.specs.Disks.{checked, disk_of, size_text, listing, path_of, printed, expected_of_listing, expected_of_bytes};
+ghost use Rattle.jos_cli.specs.Outcomes.{Answers, AnswersCommand, HasOutcomeCause};
+ghost use Rattle.jos_cli.specs.Stages.{Judges};
+
+use crate::files::host_fault;
+use crate::outcome::Outcome;
+use fs_contents::{ReadFault, list, read_file};
+use fs_image::{CheckFault, DiskBytes, DiskFault, check, read_disk};
+use fs_layout::{Entry, FTYPE_DIR};
+use jos_base::{LineText, push_decimal, push_text};
+use jos_host::Host;
+use jos_words::{CatWords, LsWords, WordAt};
+use std::alloc::{AllocError, Global};
+
+/// The disk, if it has no fault.
+fn checked(alloc: Global, disk: DiskBytes) -> Result<DiskBytes, Outcome>
+    ensures told { Judges (checked disk) (λ disk. disk) result }
+    ensures disk { IfOk result (λ disk. IsDiskImage (length disk.bytes) (slice_index disk.bytes)) }
+    ensures cause { (faults : ℕ) → IfErr result (HasOutcomeCause (from_to faults faults)) }
+    ensures no_usage { IfErr result (λ outcome. outcome ≢ Outcome.Usage) }
+{
+    match check(alloc, &disk) {
+        Ok(_) => Ok(disk),
+        Err(CheckFault::Bad(fault)) => Err(Outcome::BadDisk(fault)),
+        Err(CheckFault::NoMemory) => Err(Outcome::NoMemory),
+    }
+}
+
+/// The disk that a word names, without a fault.
+fn read_checked<'a, H: Host>(
+    alloc: Global,
+    word: WordAt<'a>,
+    host: &mut H,
+) -> Result<DiskBytes, Outcome>
+    ensures told { (file : FileAt) × IsFileAt (H.files host.old) (word_in_bytes word.entry) file
+        × Judges (disk_of file) (λ disk. disk) result }
+    ensures disk { IfOk result (λ disk. IsDiskImage (length disk.bytes) (slice_index disk.bytes)) }
+    ensures rest { Unchanged H.files H.input H.console H.notes host.old host.new }
+    ensures asked { IsReadInPieces word.entry.text.now (around H.asked host.old host.new) }
+    ensures cause { MatchResult result (λ _. H.faults host.new ≡ H.faults host.old) (HasOutcomeCause (around H.faults host.old host.new)) }
+    ensures no_usage { IfErr result (λ outcome. outcome ≢ Outcome.Usage) }
+{
+    match read_disk(alloc, word.text, host) {
+        Ok(disk) => checked(alloc, disk),
+        Err(DiskFault::Absent) => Err(Outcome::Absent(word.place)),
+        Err(DiskFault::Host) => Err(host_fault(alloc)),
+        Err(DiskFault::NoMemory) => Err(Outcome::NoMemory),
+    }
+}
+
+/// What follows the name in a record's line.
+fn size_text(entry: &Entry) -> LineText
+    ensures { result.items ≡ size_text (told_of_entry entry.now) }
+{
+    let mut line = LineText::new();
+    if entry.kind == FTYPE_DIR {
+        push_text(&mut line, b"/");
+    } else {
+        push_text(&mut line, b" ");
+        push_decimal(&mut line, entry.size as u64);
+    }
+    push_text(&mut line, b"\n");
+    line
+}
+
+/// The place of the first NUL.
+fn first_nul(bytes: &[u8]) -> Option<usize>
+    ensures exact { result ≡ position (λ byte. byte == 0) bytes.now }
+    ensures within { IfSome result (λ place. place < length bytes.now) }
+{
+    bytes.iter().position(|byte| *byte == 0)
+}
+
+/// A record's name, which ends at its first NUL.
+fn name_of(entry: &Entry) -> &[u8]
+    ensures { result.now ≡ (told_of_entry entry.now).name }
+{
+    match first_nul(&entry.name) {
+        Some(end) => &entry.name[..end],
+        None => &entry.name,
+    }
+}
+
+/// The lines of records.
+fn listing(alloc: Global, entries: &[Entry]) -> Result<Vec<u8>, AllocError>
+    ensures { IfOk result (λ text. text.items ≡ listing (map told_of_entry entries.now)) }
+{
+    let mut text = Vec::new(alloc);
+    for entry in entries {
+        text.extend_from_slice(name_of(entry))?;
+        text.extend_from_slice(size_text(entry).as_slice())?;
+    }
+    Ok(text)
+}
+
+/// Writes bytes to the console.
+fn print<H: Host>(alloc: Global, bytes: &[u8], host: &mut H) -> Outcome
+    ensures told { Answers (printed bytes.now) result (around H.console host.old host.new) }
+    ensures rest { Unchanged H.files H.input H.asked H.notes host.old host.new }
+    ensures cause { HasOutcomeCause (around H.faults host.old host.new) result }
+    ensures no_usage { result ≢ Outcome.Usage }
+{
+    match host.console_write(bytes) {
+        Ok(()) => Outcome::Made(bytes.len() as u64),
+        Err(_) => host_fault(alloc),
+    }
+}
+
+/// Prints the lines of records.
+fn print_listing<H: Host>(alloc: Global, entries: &[Entry], host: &mut H) -> Outcome
+    ensures told { Answers (printed (listing (map told_of_entry entries.now))) result (around H.console host.old host.new) }
+    ensures rest { Unchanged H.files H.input H.asked H.notes host.old host.new }
+    ensures cause { HasOutcomeCause (around H.faults host.old host.new) result }
+    ensures no_usage { result ≢ Outcome.Usage }
+{
+    match listing(alloc, entries) {
+        Ok(text) => print(alloc, &text, host),
+        Err(_) => Outcome::NoMemory,
+    }
+}
+
+/// Prints the records of the directory that a path names.
+fn print_directory<H: Host>(alloc: Global, disk: &DiskBytes, path: &str, host: &mut H) -> Outcome
+    requires { IsDiskImage (length disk.now.bytes) (slice_index disk.now.bytes) }
+    ensures told { Answers (expected_of_listing path.now disk.now) result (around H.console host.old host.new) }
+    ensures rest { Unchanged H.files H.input H.asked H.notes host.old host.new }
+    ensures cause { HasOutcomeCause (around H.faults host.old host.new) result }
+    ensures no_usage { result ≢ Outcome.Usage }
+{
+    match list(alloc, disk.bytes(), path.as_bytes()) {
+        Ok(entries) => print_listing(alloc, &entries, host),
+        Err(ReadFault::NotThere(errno)) => Outcome::NotThere(errno),
+        Err(ReadFault::NoMemory) => Outcome::NoMemory,
+    }
+}
+
+/// Prints the bytes of the file that a path names.
+fn print_file<H: Host>(alloc: Global, disk: &DiskBytes, path: &str, host: &mut H) -> Outcome
+    requires { IsDiskImage (length disk.now.bytes) (slice_index disk.now.bytes) }
+    ensures told { Answers (expected_of_bytes path.now disk.now) result (around H.console host.old host.new) }
+    ensures rest { Unchanged H.files H.input H.asked H.notes host.old host.new }
+    ensures cause { HasOutcomeCause (around H.faults host.old host.new) result }
+    ensures no_usage { result ≢ Outcome.Usage }
+{
+    match read_file(alloc, disk.bytes(), path.as_bytes()) {
+        Ok(bytes) => print(alloc, &bytes, host),
+        Err(ReadFault::NotThere(errno)) => Outcome::NotThere(errno),
+        Err(ReadFault::NoMemory) => Outcome::NoMemory,
+    }
+}
+
+/// The path of the directory, which is the root's where none is named.
+fn path_of<'a>(path: Option<WordAt<'a>>) -> &'a str
+    ensures { result.now ≡ path_of (option_map word_in_bytes path.entry) }
+{
+    match path {
+        Some(word) => word.text,
+        None => "",
+    }
+}
+
+/// Does what the words of `ls` ask, but for the note.
+pub(crate) fn answer_ls<'a, H: Host>(alloc: Global, words: LsWords<'a>, host: &mut H) -> Outcome
+    ensures told { AnswersCommand (H.files host.old) (H.input host.old) (Some (ls (ls_in_bytes words.entry))) result
+        (around H.console host.old host.new) }
+    ensures files { H.files host.new ≡ H.files host.old }
+    ensures input { H.input host.new ≡ H.input host.old }
+    ensures notes { H.notes host.new ≡ H.notes host.old }
+    ensures asked { IsReadInPieces words.entry.disk.text.now (around H.asked host.old host.new) }
+    ensures cause { HasOutcomeCause (around H.faults host.old host.new) result }
+    ensures no_usage { result ≢ Outcome.Usage }
+{
+    match read_checked(alloc, words.disk, host) {
+        Ok(disk) => print_directory(alloc, &disk, path_of(words.path), host),
+        Err(outcome) => outcome,
+    }
+}
+
+/// Does what the words of `cat` ask, but for the note.
+pub(crate) fn answer_cat<'a, H: Host>(alloc: Global, words: CatWords<'a>, host: &mut H) -> Outcome
+    ensures told { AnswersCommand (H.files host.old) (H.input host.old) (Some (cat (cat_in_bytes words.entry))) result
+        (around H.console host.old host.new) }
+    ensures files { H.files host.new ≡ H.files host.old }
+    ensures input { H.input host.new ≡ H.input host.old }
+    ensures notes { H.notes host.new ≡ H.notes host.old }
+    ensures asked { IsReadInPieces words.entry.disk.text.now (around H.asked host.old host.new) }
+    ensures cause { HasOutcomeCause (around H.faults host.old host.new) result }
+    ensures no_usage { result ≢ Outcome.Usage }
+{
+    match read_checked(alloc, words.disk, host) {
+        Ok(disk) => print_file(alloc, &disk, words.path.text, host),
+        Err(outcome) => outcome,
+    }
+}
