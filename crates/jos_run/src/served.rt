@@ -1,0 +1,340 @@
+//! An environment that the library serves.
+
+ghost use Rattle.std.specs.Prelude.{◌≡◌, ◌+◌, ◌-◌, ◌*◌, ◌%◌, ◌^◌, ◌<◌, length, true, false, IfErr, OnOk, OnErr};
+ghost use Rattle.jos_host.specs.Frames.{Unchanged, around};
+ghost use Rattle.jos_base.specs.declared.memory.Access.TheVariants.{Write};
+ghost use Rattle.jos_base.specs.declared.numbers.TheConstants.{NENV, UTRAPFRAME_WORDS};
+ghost use Rattle.jos_base.specs.Environments.{is_live};
+ghost use Rattle.jos_base.specs.KernelState.{slot_at, with_spaces};
+ghost use Rattle.jos_base.specs.TrapFrames.{words_of_bytes};
+ghost use Rattle.jos_base.specs.UserMemory.{is_allowed, fault_at, touched};
+ghost use Rattle.jos_sys.specs.System.{state_of, left_of, Keeps, in_use};
+ghost use Rattle.lib_os.specs.UserCalls.{user_byte, user_word, with_user_byte, with_user_word};
+ghost use Rattle.lib_os.specs.UserCalls.{asking, sets_own, taken_back, HasStopCause};
+ghost use Rattle.jos_run.specs.Served.{kernel_state, IsRaised};
+
+use byteorder::{ByteOrder, LittleEndian};
+use jos_base::{
+    Access, Called, EnvId, Extra, Line, NENV, PageFault, Regs, SYS_ENV_SET_TRAPFRAME, Status,
+    UTRAPFRAME_WORDS,
+};
+use jos_host::{Failed, Host};
+use jos_space::Space;
+use jos_sys::{Faulted, Input, System};
+use jos_trap::{FRAME_SIZE, from_frame};
+use lib_os::{Stop, UserOs};
+use std::marker::Model;
+
+/// The system with the console's input, an environment of it that the library serves, and how many calls it has made for it.
+#[derive(Drop)]
+pub struct Served {
+    system: System,
+    input: Input,
+    slot: usize,
+    calls: u32,
+}
+
+impl Model for Served {
+    ghost use Rattle.jos_run.specs.Served.{Parts, Lawful};
+
+    ghost Value = { Parts };
+
+    ghost view = { λ s. record { system = s.system; input = s.input; slot = s.slot; calls = s.calls } };
+
+    ghost invariant = { λ s. Lawful (record { system = s.system; input = s.input; slot = s.slot; calls = s.calls }) };
+}
+
+/// The registers with which a system call with this number is made, given these words.
+fn asking(registers: Regs, number: u32, args: [u32; 5]) -> Regs
+    ensures { result ≡ asking registers number args }
+{
+    let [first, second, third, fourth, fifth] = args;
+    Regs {
+        eax: number,
+        edx: first,
+        ecx: second,
+        ebx: third,
+        edi: fourth,
+        esi: fifth,
+        ..registers
+    }
+}
+
+/// The words that stand in the bytes of a page fault's frame.
+fn words_of_frame(bytes: &[u8]) -> [u32; UTRAPFRAME_WORDS]
+    requires { length bytes.now ≡ 4 * UTRAPFRAME_WORDS }
+    ensures { result ≡ words_of_bytes bytes.now }
+{
+    let mut words = [0; UTRAPFRAME_WORDS];
+    LittleEndian::read_u32_into(bytes, &mut words);
+    words
+}
+
+impl Served {
+    /// Begins to serve an environment.
+    pub fn new(system: System, input: Input, slot: usize) -> Served
+        requires keeps { Keeps system }
+        requires slot { slot < NENV }
+        ensures state { kernel_state result ≡ state_of system (left_of input) }
+        ensures slot { result.slot ≡ slot }
+        ensures calls { result.calls ≡ 0 }
+    {
+        Served {
+            system,
+            input,
+            slot,
+            calls: 0,
+        }
+    }
+
+    /// Ends the service.
+    pub fn into_parts(self) -> (System, Input)
+        ensures keeps { Keeps result.0 }
+        ensures state { state_of result.0 (left_of result.1) ≡ kernel_state self }
+    {
+        (self.system, self.input)
+    }
+
+    /// Hands a page fault of the environment to its handler, or destroys the environment where it has none.
+    #[cold]
+    fn raise<H: Host>(&mut self, host: &mut H, fault: PageFault) -> Stop
+        requires { is_live (slot_at (kernel_state self.old) self.old.slot) ≡ true }
+        ensures raised { IsRaised (kernel_state self.old) self.old.slot fault result (kernel_state self.new) (around H.console host.old host.new) }
+        ensures slot { self.new.slot ≡ self.old.slot }
+        ensures calls { self.new.calls ≡ self.old.calls }
+        ensures rest { Unchanged H.files H.input H.asked H.notes host.old host.new }
+        ensures cause { HasStopCause {X = Unit {0}} (around H.faults host.old host.new) (Err result) }
+    {
+        match self.system.fault(self.slot, fault) {
+            Faulted::Upcall => Stop::Upcall,
+            Faulted::Killed => {
+                let ip = self.system.registers(self.slot).eip;
+                match self
+                    .system
+                    .kill(host, self.slot, Line::UserFault { va: fault.va, ip })
+                {
+                    Ok(_) => Stop::Ended,
+                    Err(_) => Stop::Failed,
+                }
+            }
+        }
+    }
+
+    /// The environment's space.
+    fn space(&self) -> Space
+        requires { is_live (slot_at (kernel_state self.now) self.now.slot) ≡ true }
+        ensures directory { result.directory.0 ≡ (slot_at (kernel_state self.now) self.now.slot).directory }
+        ensures in_use { in_use self.now.system result.directory.0 ≡ true }
+    {
+        self.system.space(self.slot)
+    }
+
+    /// Counts a call, and reaches for a byte as the environment does.
+    fn reach<H: Host>(&mut self, host: &mut H, va: u32, access: Access) -> Result<(), Stop>
+        requires live { is_live (slot_at (kernel_state self.old) self.old.slot) ≡ true }
+        requires few { self.old.calls < 2 ^ 32 - 1 }
+        ensures allowed { OnOk result (is_allowed (kernel_state self.old).spaces (slot_at (kernel_state self.old) self.old.slot).directory va access ≡ true) }
+        ensures reached { OnOk result (kernel_state self.new ≡ with_spaces (kernel_state self.old)
+            (touched (kernel_state self.old).spaces (slot_at (kernel_state self.old) self.old.slot).directory va access)) }
+        ensures still { OnOk result (is_allowed (kernel_state self.new).spaces (slot_at (kernel_state self.new) self.new.slot).directory va access ≡ true) }
+        ensures quiet { OnOk result (H.console host.new ≡ H.console host.old) }
+        ensures refused { OnErr result (is_allowed (kernel_state self.old).spaces (slot_at (kernel_state self.old) self.old.slot).directory va access ≡ false) }
+        ensures raised { IfErr result (λ why. IsRaised (kernel_state self.old) self.old.slot
+            (fault_at (kernel_state self.old).spaces (slot_at (kernel_state self.old) self.old.slot).directory va access) why (kernel_state self.new) (around H.console host.old host.new)) }
+        ensures slot { self.new.slot ≡ self.old.slot }
+        ensures calls { self.new.calls ≡ self.old.calls + 1 }
+        ensures rest { Unchanged H.files H.input H.asked H.notes host.old host.new }
+        ensures cause { HasStopCause (around H.faults host.old host.new) result }
+    {
+        let space = self.space();
+        self.calls += 1;
+        match self.system.reach(space, va, access) {
+            Ok(()) => Ok(()),
+            Err(fault) => Err(self.raise(host, fault)),
+        }
+    }
+
+    /// The byte that the environment reads at an address.
+    fn byte(&self, va: u32) -> u8
+        requires { is_live (slot_at (kernel_state self.now) self.now.slot) ≡ true }
+        ensures { result ≡ user_byte (kernel_state self.now) self.now.slot va }
+    {
+        self.system.byte_at(self.space(), va)
+    }
+
+    /// The word that it reads at a multiple of four.
+    fn word(&self, va: u32) -> u32
+        requires live { is_live (slot_at (kernel_state self.now) self.now.slot) ≡ true }
+        requires aligned { va % 4 ≡ 0 }
+        ensures { result ≡ user_word (kernel_state self.now) self.now.slot va }
+    {
+        u32::from_le_bytes([
+            self.byte(va),
+            self.byte(va + 1),
+            self.byte(va + 2),
+            self.byte(va + 3),
+        ])
+    }
+
+    /// Puts a byte at an address that the environment may write.
+    fn put_byte(&mut self, va: u32, byte: u8)
+        requires live { is_live (slot_at (kernel_state self.old) self.old.slot) ≡ true }
+        requires allowed { is_allowed (kernel_state self.old).spaces (slot_at (kernel_state self.old) self.old.slot).directory va Write ≡ true }
+        ensures state { kernel_state self.new ≡ with_user_byte (kernel_state self.old) self.old.slot va byte }
+        ensures slot { self.new.slot ≡ self.old.slot }
+        ensures calls { self.new.calls ≡ self.old.calls }
+    {
+        let space = self.space();
+        self.system.store_byte(space, va, byte);
+    }
+
+    /// Puts a word at a multiple of four that it may write.
+    fn put_word(&mut self, va: u32, word: u32)
+        requires live { is_live (slot_at (kernel_state self.old) self.old.slot) ≡ true }
+        requires aligned { va % 4 ≡ 0 }
+        requires allowed { is_allowed (kernel_state self.old).spaces (slot_at (kernel_state self.old) self.old.slot).directory va Write ≡ true }
+        ensures state { kernel_state self.new ≡ with_user_word (kernel_state self.old) self.old.slot va word }
+        ensures slot { self.new.slot ≡ self.old.slot }
+        ensures calls { self.new.calls ≡ self.old.calls }
+    {
+        let [first, second, third, fourth] = word.to_le_bytes();
+        self.put_byte(va, first);
+        self.put_byte(va + 1, second);
+        self.put_byte(va + 2, third);
+        self.put_byte(va + 3, fourth);
+    }
+
+    /// Whether the environment is there still.
+    pub(crate) fn is_live(&self) -> bool
+        ensures { result ≡ is_live (slot_at (kernel_state self.now) self.now.slot) }
+    {
+        !matches!(self.system.environment(self.slot).status, Status::Free)
+    }
+
+    /// Whether a system call sets the registers of the environment that makes it.
+    fn sets_own(&self, number: u32, args: [u32; 5]) -> bool
+        requires { is_live (slot_at (kernel_state self.now) self.now.slot) ≡ true }
+        ensures { result ≡ sets_own (kernel_state self.now) self.now.slot number args }
+    {
+        if number != SYS_ENV_SET_TRAPFRAME {
+            return false;
+        }
+        match self.system.table().find(EnvId(args[0]), self.slot, true) {
+            Some(target) => target == self.slot,
+            None => false,
+        }
+    }
+
+    /// Puts the registers back with which a system call was made, but where the environment is gone or has set its own.
+    fn take_back(&mut self, own: bool, registers: Regs)
+        ensures state { kernel_state self.new ≡ taken_back (kernel_state self.old) self.old.slot own registers }
+        ensures slot { self.new.slot ≡ self.old.slot }
+        ensures calls { self.new.calls ≡ self.old.calls }
+    {
+        if self.is_live() && !own {
+            self.system.set_registers(self.slot, registers);
+        }
+    }
+}
+
+impl UserOs for Served {
+    ghost state = { kernel_state };
+
+    ghost slot = { λ s. s.slot };
+
+    ghost calls = { λ s. s.calls };
+
+    fn load<H: Host>(&mut self, host: &mut H, va: u32) -> Result<u32, Stop> {
+        match self.reach(host, va, Access::Read) {
+            Ok(()) => Ok(self.word(va)),
+            Err(stop) => Err(stop),
+        }
+    }
+
+    fn load_byte<H: Host>(&mut self, host: &mut H, va: u32) -> Result<u8, Stop> {
+        match self.reach(host, va, Access::Read) {
+            Ok(()) => Ok(self.byte(va)),
+            Err(stop) => Err(stop),
+        }
+    }
+
+    fn store<H: Host>(&mut self, host: &mut H, va: u32, word: u32) -> Result<(), Stop> {
+        match self.reach(host, va, Access::Write) {
+            Ok(()) => {
+                self.put_word(va, word);
+                Ok(())
+            }
+            Err(stop) => Err(stop),
+        }
+    }
+
+    fn store_byte<H: Host>(&mut self, host: &mut H, va: u32, byte: u8) -> Result<(), Stop> {
+        match self.reach(host, va, Access::Write) {
+            Ok(()) => {
+                self.put_byte(va, byte);
+                Ok(())
+            }
+            Err(stop) => Err(stop),
+        }
+    }
+
+    fn exchange<H: Host>(&mut self, host: &mut H, va: u32, word: u32) -> Result<u32, Stop> {
+        match self.reach(host, va, Access::Write) {
+            Ok(()) => {
+                let stood = self.word(va);
+                self.put_word(va, word);
+                Ok(stood)
+            }
+            Err(stop) => Err(stop),
+        }
+    }
+
+    fn system<H: Host>(
+        &mut self,
+        host: &mut H,
+        number: u32,
+        args: [u32; 5],
+    ) -> Result<Called, Failed> {
+        let own = self.sets_own(number, args);
+        let registers = self.registers();
+        self.calls += 1;
+        self.system
+            .set_registers(self.slot, asking(registers, number, args));
+        match self.system.call(host, &mut self.input, self.slot) {
+            Ok(answer) => {
+                self.take_back(own, registers);
+                Ok(answer.called)
+            }
+            Err(failed) => Err(failed),
+        }
+    }
+
+    fn restore_frame<H: Host>(&mut self, host: &mut H) -> Result<(), Stop> {
+        let esp = self.registers().esp;
+        self.calls += 1;
+        match self.system.read_user(self.slot, esp, FRAME_SIZE as u32) {
+            Ok(bytes) => {
+                let words = words_of_frame(bytes.as_slice());
+                self.system.set_registers(self.slot, from_frame(&words));
+                Ok(())
+            }
+            Err(fault) => Err(self.raise(host, fault)),
+        }
+    }
+
+    fn registers(&self) -> Regs {
+        self.system.registers(self.slot)
+    }
+
+    fn set_registers(&mut self, registers: Regs) {
+        self.system.set_registers(self.slot, registers);
+    }
+
+    fn extra(&self) -> Extra {
+        self.system.environment(self.slot).extra
+    }
+
+    fn set_extra(&mut self, extra: Extra) {
+        self.system.set_extra(self.slot, extra);
+    }
+}
