@@ -13,3 +13,4 @@ pub mod Related
 pub mod Through
 pub mod Fenced
 pub mod Locality
+pub mod RegistersLeft

@@ -3,7 +3,7 @@
 ghost use Rattle.std.specs.Prelude.{◌≡◌, ◌≤◌, IfOk};
 ghost use Rattle.jos_base.specs.SpacesState.{first_spaces};
 ghost use Rattle.jos_base.specs.Environments.{first_environments, records_of};
-ghost use Rattle.jos_space.specs.Frames.{state, records};
+ghost use Rattle.jos_space.specs.Frames.{state, records, AreSound};
 
 use crate::beginning::{
     byte_lists, first_order, first_roles, reserved, word_lists, zero_counts, zero_records,
@@ -92,5 +92,13 @@ impl Spaces {
             free_len: frames - reserved(frames),
             records,
         })
+    }
+
+    /// Tells what holds of the frames at every moment. Nothing is done.
+    #[inline(always)]
+    pub fn keep_sound(&self)
+        ensures { AreSound self.now }
+    {
+        let _ = &self.words;
     }
 }

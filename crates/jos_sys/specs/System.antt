@@ -8,7 +8,7 @@ use Rattle.jos_base.specs.SpacesState.{SpacesState, directories}
 use Rattle.jos_base.specs.Environments.{Environments, is_live, records_of}
 use Rattle.jos_base.specs.KernelState.{KernelState, HasSpaces}
 use Rattle.jos_base.specs.SystemCalls.{Did}
-use Rattle.jos_space.specs.Frames.{state, records}
+use Rattle.jos_space.specs.Frames.{state, records, AreSound}
 use Rattle.jos_envs.specs.Table.{environments}
 use Rattle.jos_sys.specs.declared.input.Input.{Input}
 use Rattle.jos_sys.specs.declared.system.System.{System}
@@ -46,6 +46,10 @@ in_use system d = directories (spaces_of system) d
 pub record Keeps (system : System) : Type 0 where
   pub spaces : HasSpaces (spaces_of system) (environments_of system)
   pub records : records system.spaces ≡ records_of (environments_of system)
+
+-- the frames are what jos_space keeps them to be
+abbrev pub HasSoundFrames : System → Type 0
+HasSoundFrames system = AreSound system.spaces
 
 -- what a user reads of every slot but one is what they are
 abbrev pub ShowsOthers : (ℕ → List ℕ) → Environments → ℕ → Type 0

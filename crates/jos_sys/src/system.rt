@@ -10,7 +10,7 @@ ghost use Rattle.jos_base.specs.SystemCalls.{environment_made, without_environme
 ghost use Rattle.jos_space.specs.Frames.{state, records};
 ghost use Rattle.jos_envs.specs.Slots.{slot_of};
 ghost use Rattle.jos_envs.specs.Table.{environments, KeepsLive, KeepsOthersLive};
-ghost use Rattle.jos_sys.specs.System.{state_of, environments_of, Keeps, ShowsOthers, is_live_in, in_use};
+ghost use Rattle.jos_sys.specs.System.{state_of, environments_of, Keeps, HasSoundFrames, ShowsOthers, is_live_in, in_use};
 
 use jos_base::{
     Called, EnvId, EnvType, Errno, Extra, FRAMES_MAX, FRAMES_MIN, NENV, NoMemory, Regs, Status,
@@ -66,6 +66,14 @@ impl System {
             last: None,
             turns: 0,
         })
+    }
+
+    /// Tells what holds of the frames at every moment. Nothing is done.
+    #[inline(always)]
+    pub fn keep_sound(&self)
+        ensures { HasSoundFrames self.now }
+    {
+        self.spaces.keep_sound();
     }
 
     /// How often the free list or the table of environments was asked and empty.
