@@ -1,4 +1,15 @@
 pub mod Accesses
 pub mod Answers
+pub mod Choices
+pub mod InOrder
+pub mod OthersKept
 pub mod Puts
+pub mod RunsKept
+pub mod TurnsTaken
 pub mod Words
+pub mod SpacesKept
+pub mod ServicesEntered
+pub mod GuestStands
+pub mod Guests
+pub mod ProgramSteps
+pub mod Serves

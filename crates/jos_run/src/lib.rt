@@ -1,11 +1,18 @@
 //! The library's programs over the kernel.
 //!
 //! `Served` is the kernel as the library has it while it serves one environment: each call of `UserOs` (`lib_os`) is the step
-//! of the kernel's state that `UserCalls.antt` says.
+//! of the kernel's state that `UserCalls.antt` says, and `step_guest` makes the step of its program that `GuestSteps.antt` says.
 #![tactic(auto)]
 
+mod guest;
+mod laws;
 mod served;
+#[cfg(test)]
+mod step_tests;
+mod steps;
 #[cfg(test)]
 mod tests;
 
+pub use laws::{calls_leave_turns, runs_go_on_alike, turns_are_chosen_alike};
 pub use served::Served;
+pub use steps::Stepped;

@@ -9,6 +9,7 @@ ghost use Rattle.jos_base.specs.KernelState.{slot_at, with_spaces};
 ghost use Rattle.jos_base.specs.TrapFrames.{words_of_bytes};
 ghost use Rattle.jos_base.specs.UserMemory.{is_allowed, fault_at, touched};
 ghost use Rattle.jos_sys.specs.System.{state_of, left_of, Keeps, in_use};
+ghost use Rattle.lib_os.specs.InOrder.{IsInOrder};
 ghost use Rattle.lib_os.specs.UserCalls.{user_byte, user_word, with_user_byte, with_user_word};
 ghost use Rattle.lib_os.specs.UserCalls.{asking, sets_own, taken_back, HasStopCause};
 ghost use Rattle.jos_run.specs.Served.{kernel_state, IsRaised};
@@ -28,9 +29,9 @@ use std::marker::Model;
 /// The system with the console's input, an environment of it that the library serves, and how many calls it has made for it.
 #[derive(Drop)]
 pub struct Served {
-    system: System,
+    pub(crate) system: System,
     input: Input,
-    slot: usize,
+    pub(crate) slot: usize,
     calls: u32,
 }
 
@@ -95,6 +96,14 @@ impl Served {
         (self.system, self.input)
     }
 
+    /// Tells that the kernel's state is in order. Nothing is done.
+    #[inline(always)]
+    pub(crate) fn keep_in_order(&self)
+        ensures { IsInOrder (kernel_state self.now) }
+    {
+        self.system.keep_sound();
+    }
+
     /// Hands a page fault of the environment to its handler, or destroys the environment where it has none.
     #[cold]
     fn raise<H: Host>(&mut self, host: &mut H, fault: PageFault) -> Stop
@@ -121,7 +130,7 @@ impl Served {
     }
 
     /// The environment's space.
-    fn space(&self) -> Space
+    pub(crate) fn space(&self) -> Space
         requires { is_live (slot_at (kernel_state self.now) self.now.slot) ≡ true }
         ensures directory { result.directory.0 ≡ (slot_at (kernel_state self.now) self.now.slot).directory }
         ensures in_use { in_use self.now.system result.directory.0 ≡ true }
@@ -143,19 +152,27 @@ impl Served {
             (fault_at (kernel_state self.old).spaces (slot_at (kernel_state self.old) self.old.slot).directory va access) why (kernel_state self.new) (around H.console host.old host.new)) }
         ensures slot { self.new.slot ≡ self.old.slot }
         ensures calls { self.new.calls ≡ self.old.calls + 1 }
+        ensures in_order { IsInOrder (kernel_state self.new) }
         ensures rest { Unchanged H.files H.input H.asked H.notes host.old host.new }
         ensures cause { HasStopCause (around H.faults host.old host.new) result }
     {
         let space = self.space();
         self.calls += 1;
         match self.system.reach(space, va, access) {
-            Ok(()) => Ok(()),
-            Err(fault) => Err(self.raise(host, fault)),
+            Ok(()) => {
+                self.keep_in_order();
+                Ok(())
+            }
+            Err(fault) => {
+                let stop = self.raise(host, fault);
+                self.keep_in_order();
+                Err(stop)
+            }
         }
     }
 
     /// The byte that the environment reads at an address.
-    fn byte(&self, va: u32) -> u8
+    pub(crate) fn byte(&self, va: u32) -> u8
         requires { is_live (slot_at (kernel_state self.now) self.now.slot) ≡ true }
         ensures { result ≡ user_byte (kernel_state self.now) self.now.slot va }
     {
@@ -183,9 +200,11 @@ impl Served {
         ensures state { kernel_state self.new ≡ with_user_byte (kernel_state self.old) self.old.slot va byte }
         ensures slot { self.new.slot ≡ self.old.slot }
         ensures calls { self.new.calls ≡ self.old.calls }
+        ensures in_order { IsInOrder (kernel_state self.new) }
     {
         let space = self.space();
         self.system.store_byte(space, va, byte);
+        self.keep_in_order();
     }
 
     /// Puts a word at a multiple of four that it may write.
@@ -196,6 +215,7 @@ impl Served {
         ensures state { kernel_state self.new ≡ with_user_word (kernel_state self.old) self.old.slot va word }
         ensures slot { self.new.slot ≡ self.old.slot }
         ensures calls { self.new.calls ≡ self.old.calls }
+        ensures in_order { IsInOrder (kernel_state self.new) }
     {
         let [first, second, third, fourth] = word.to_le_bytes();
         self.put_byte(va, first);
@@ -303,9 +323,13 @@ impl UserOs for Served {
         match self.system.call(host, &mut self.input, self.slot) {
             Ok(answer) => {
                 self.take_back(own, registers);
+                self.keep_in_order();
                 Ok(answer.called)
             }
-            Err(failed) => Err(failed),
+            Err(failed) => {
+                self.keep_in_order();
+                Err(failed)
+            }
         }
     }
 
@@ -316,9 +340,14 @@ impl UserOs for Served {
             Ok(bytes) => {
                 let words = words_of_frame(bytes.as_slice());
                 self.system.set_registers(self.slot, from_frame(&words));
+                self.keep_in_order();
                 Ok(())
             }
-            Err(fault) => Err(self.raise(host, fault)),
+            Err(fault) => {
+                let stop = self.raise(host, fault);
+                self.keep_in_order();
+                Err(stop)
+            }
         }
     }
 
@@ -328,6 +357,7 @@ impl UserOs for Served {
 
     fn set_registers(&mut self, registers: Regs) {
         self.system.set_registers(self.slot, registers);
+        self.keep_in_order();
     }
 
     fn extra(&self) -> Extra {
@@ -336,5 +366,6 @@ impl UserOs for Served {
 
     fn set_extra(&mut self, extra: Extra) {
         self.system.set_extra(self.slot, extra);
+        self.keep_in_order();
     }
 }

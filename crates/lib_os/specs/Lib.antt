@@ -14,4 +14,9 @@ pub mod FileServices
 pub mod LibraryCall
 pub mod AbstractRun
 pub mod AbstractLaws
+pub mod InOrder
+pub mod Places
+pub mod StandsFor
+pub mod LibrarySteps
+pub mod StandingLaws
 pub mod UserCalls

@@ -1,6 +1,6 @@
 -- Which service a program asks for by INT 0x40. Its number stands in EAX, what it is given in EDX, ECX and EBX, in this
 -- order, and it answers in EAX. (The numbers are this system's own.)
-use Rattle.std.specs.Prelude.{◌==◌, if◌then◌else◌}
+use Rattle.std.specs.Prelude.{ℕ, ◌==◌, ◌&&◌, ◌||◌, nat_le, nat_lt, Bool, true, false, if◌then◌else◌}
 use Rattle.jos_base.specs.declared.registers.Regs.{Regs}
 use Rattle.lib_os.specs.declared.service.Service.{Service}
 use Rattle.lib_os.specs.declared.service.Service.TheVariants as service
@@ -37,5 +37,27 @@ last_services r =
     else if r.eax == 21 then service.Spawn r.edx r.ecx
     else service.Unknown
 
+-- the service of a number in this list
+unfoldable pub named_service : Regs → Service
+named_service r = first_services r (last_services r)
+
+-- The numbers that name a service so far: fork, and all that stands on the file server, is not built yet.
+abbrev pub is_built : ℕ → Bool
+is_built number = nat_lt number 4 || (nat_le 5 number && nat_le number 9)
+
 unfoldable pub service_of : Regs → Service
-service_of r = first_services r (last_services r)
+service_of r = if is_built r.eax then named_service r else service.Unknown
+
+-- the services of these numbers, and the answer to any other
+abbrev pub is_built_service : Service → Bool
+is_built_service service.Exit = true
+is_built_service (service.Cputs va len) = true
+is_built_service service.GetId = true
+is_built_service service.Yield = true
+is_built_service (service.Wait id) = true
+is_built_service (service.PageNew va flags) = true
+is_built_service (service.PageDrop va) = true
+is_built_service (service.Send id value va) = true
+is_built_service (service.Receive va from) = true
+is_built_service service.Unknown = true
+is_built_service _ = false

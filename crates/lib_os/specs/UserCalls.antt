@@ -2,10 +2,11 @@
 -- moved as a user moves it, a system call, registers taken back from the frame of a page fault. Each call is one step, and
 -- another environment may have its turn between any two.
 -- (MIT 6.828, lib/syscall.c, and the loads and stores of lib/*.c.)
-use Rattle.std.specs.Prelude.{◌≡◌, ℕ, ◌+◌, ◌==◌, ◌&&◌, Bool, true, false, not, List, [], ◌∷◌, get_or, Option, Some, None, Result, Ok, Err}
+use Rattle.std.specs.Prelude.{◌≡◌, ◌≤◌, ℕ, ◌+◌, ◌==◌, ◌&&◌, Bool, true, false, not, List, [], ◌∷◌, get_or, Option, Some, None, Result, Ok, Err}
 use Rattle.std.specs.Prelude.{if◌then◌else◌}
 use Rattle.std.specs.Int.{w32, to_le_bytes, from_le_bytes}
 use Rattle.jos_base.specs.declared.called.Called.{Called}
+use Rattle.jos_base.specs.declared.called.Called.TheVariants.{Answered}
 use Rattle.jos_base.specs.declared.line.Line.TheVariants.{UserFault}
 use Rattle.jos_base.specs.declared.memory.Access.{Access}
 use Rattle.jos_base.specs.declared.memory.Access.TheVariants.{Read, Write}
@@ -157,9 +158,14 @@ abbrev pub IsCallStep : Step Called → Result Called Failed → KernelState →
 IsCallStep step (Ok called) state console = (step.gives ≡ got called) × (state ≡ step.state) × Gains console step.written
 IsCallStep step (Err _) state console = GainsPart console step.written
 
+-- the word that a system call has answered; 0 where it has answered nothing
+abbrev pub answer_of : Called → ℕ
+answer_of (Answered word) = word
+answer_of _ = 0
+
 -- A failed call of the host is answered only where the count of its faults rose, and every other answer leaves the count.
 abbrev pub HasStopCause : {X : Type 0} → Around ℕ → Result X Stop → Type 0
-HasStopCause faults (Err stop.Failed) = Rose faults.before faults.after
+HasStopCause faults (Err stop.Failed) = (faults.before ≤ faults.after) × Rose faults.before faults.after
 HasStopCause faults (Err stop.Upcall) = faults.after ≡ faults.before
 HasStopCause faults (Err stop.Ended) = faults.after ≡ faults.before
 HasStopCause faults (Ok x) = faults.after ≡ faults.before

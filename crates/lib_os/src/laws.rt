@@ -2,6 +2,7 @@
 
 ghost use Rattle.lib_os.specs.AbstractLaws.{ForkCopies, OwnStoresAreUnseen, SharedStoresAreSeen, PipesAreBounded};
 ghost use Rattle.lib_os.specs.AbstractLaws.{GuestMemoryIsLawful, StepsLeaveOthers};
+ghost use Rattle.lib_os.specs.StandingLaws.{SomeStateStands, WordsTellThePlace};
 
 /// A child of fork is born with the memory, the descriptors and the registers of its parent, but for EAX.
 pub fn fork_copies()
@@ -28,4 +29,14 @@ pub fn guest_memory_is_lawful()
 /// A step of an environment leaves every other slot as it was, where it sends no message and forks no child.
 pub fn steps_leave_others()
     ensures { StepsLeaveOthers }
+{}
+
+/// There are states of the kernel that stand for abstract ones.
+pub fn some_state_stands()
+    ensures { SomeStateStands }
+{}
+
+/// The words that a service keeps at a step tell which service it is and how far.
+pub fn words_tell_the_place()
+    ensures { WordsTellThePlace }
 {}

@@ -12,17 +12,25 @@
 //! programs by this system yet.
 #![tactic(auto)]
 
+mod answers;
+mod fence;
 mod laws;
 mod numbers;
+mod place;
+mod progress;
 mod service;
 #[cfg(test)]
 mod tests;
 mod user_os;
 
+pub use answers::{answer, answer_of, go_back, go_on, stopped};
+pub use fence::{in_fence, is_buffer, is_page_inside, is_resident};
 pub use laws::{
     fork_copies, guest_memory_is_lawful, pages_are_own_or_shared, pipes_are_bounded,
-    steps_leave_others,
+    some_state_stands, steps_leave_others, words_tell_the_place,
 };
-pub use numbers::{DESCRIPTORS, FDTABLE_END, RESIDENT};
+pub use numbers::{DESCRIPTORS, FDTABLE_END, PTE_SHARE, RESIDENT, SERVICES, UVPD};
+pub use place::{Place, Step, find_place, words_at};
+pub use progress::Progress;
 pub use service::{Service, service_of};
 pub use user_os::{Stop, UserOs};

@@ -32,3 +32,13 @@ pub const MODE_BITS: u32 = 0x703;
 
 /// A turn of fewer steps may be too short to see that the other end of a pipe is closed.
 pub const SHORT_QUANTUM: u32 = 16;
+
+/// The bit of a page's entry that says that the page is shared. (MIT 6.828, inc/lib.h)
+pub const PTE_SHARE: u32 = 0x400;
+
+/// The numbers of services are below this one. Any number from here on names none.
+pub const SERVICES: u32 = 22;
+
+/// Where a user reads the directory: the region of `UVPT` has the directory for its table, and so the directory for one of its
+/// pages. (MIT 6.828, inc/memlayout.h: `uvpd`)
+pub const UVPD: u32 = 0xef7b_d000;

@@ -57,10 +57,29 @@ pub enum Service {
     Unknown,
 }
 
+/// Whether a number names a service that is built.
+fn is_built(number: u32) -> bool
+    ensures { result ≡ services.is_built number }
+{
+    number < 4 || (5 <= number && number <= 9)
+}
+
 /// The service that a program asks for by INT 0x40, with its number in EAX and what it gives in EDX, ECX and EBX.
 #[tactic(auto, unfolding(crate::specs::Services::service_of))]
 pub fn service_of(regs: &Regs) -> Service
     ensures { result ≡ services.service_of regs.now }
+{
+    if is_built(regs.eax) {
+        named_service(regs)
+    } else {
+        Service::Unknown
+    }
+}
+
+/// The service of a number in EAX, built or not.
+#[tactic(auto, unfolding(crate::specs::Services::named_service))]
+fn named_service(regs: &Regs) -> Service
+    ensures { result ≡ services.named_service regs.now }
 {
     match regs.eax {
         0 => Service::Exit,

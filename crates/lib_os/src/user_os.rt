@@ -5,6 +5,7 @@ ghost use Rattle.jos_host.specs.Told.{HasCause};
 ghost use Rattle.jos_host.specs.Frames.{Unchanged, around};
 ghost use Rattle.jos_base.specs.Environments.{is_live};
 ghost use Rattle.jos_base.specs.KernelState.{KernelState, slot_at, with_registers, with_extra};
+ghost use Rattle.lib_os.specs.InOrder.{IsInOrder};
 ghost use Rattle.lib_os.specs.UserCalls as call;
 ghost use Rattle.lib_os.specs.UserCalls.{IsStep, IsCallStep, HasStopCause};
 
@@ -38,6 +39,7 @@ pub trait UserOs {
         requires aligned { va % 4 ≡ 0 }
         requires few { calls self.old < 2 ^ 32 - 1 }
         ensures step { IsStep (call.load (state self.old) (slot self.old) va) result (state self.new) (around H.console host.old host.new) }
+        ensures in_order { IsInOrder (state self.new) }
         ensures slot { slot self.new ≡ slot self.old }
         ensures calls { calls self.new ≡ calls self.old + 1 }
         ensures rest { Unchanged H.files H.input H.asked H.notes host.old host.new }
@@ -48,6 +50,7 @@ pub trait UserOs {
         requires live { is_live (slot_at (state self.old) (slot self.old)) ≡ true }
         requires few { calls self.old < 2 ^ 32 - 1 }
         ensures step { IsStep (call.load_byte (state self.old) (slot self.old) va) result (state self.new) (around H.console host.old host.new) }
+        ensures in_order { IsInOrder (state self.new) }
         ensures slot { slot self.new ≡ slot self.old }
         ensures calls { calls self.new ≡ calls self.old + 1 }
         ensures rest { Unchanged H.files H.input H.asked H.notes host.old host.new }
@@ -59,6 +62,7 @@ pub trait UserOs {
         requires aligned { va % 4 ≡ 0 }
         requires few { calls self.old < 2 ^ 32 - 1 }
         ensures step { IsStep (call.store (state self.old) (slot self.old) va word) result (state self.new) (around H.console host.old host.new) }
+        ensures in_order { IsInOrder (state self.new) }
         ensures slot { slot self.new ≡ slot self.old }
         ensures calls { calls self.new ≡ calls self.old + 1 }
         ensures rest { Unchanged H.files H.input H.asked H.notes host.old host.new }
@@ -69,6 +73,7 @@ pub trait UserOs {
         requires live { is_live (slot_at (state self.old) (slot self.old)) ≡ true }
         requires few { calls self.old < 2 ^ 32 - 1 }
         ensures step { IsStep (call.store_byte (state self.old) (slot self.old) va byte) result (state self.new) (around H.console host.old host.new) }
+        ensures in_order { IsInOrder (state self.new) }
         ensures slot { slot self.new ≡ slot self.old }
         ensures calls { calls self.new ≡ calls self.old + 1 }
         ensures rest { Unchanged H.files H.input H.asked H.notes host.old host.new }
@@ -80,6 +85,7 @@ pub trait UserOs {
         requires aligned { va % 4 ≡ 0 }
         requires few { calls self.old < 2 ^ 32 - 1 }
         ensures step { IsStep (call.exchange (state self.old) (slot self.old) va word) result (state self.new) (around H.console host.old host.new) }
+        ensures in_order { IsInOrder (state self.new) }
         ensures slot { slot self.new ≡ slot self.old }
         ensures calls { calls self.new ≡ calls self.old + 1 }
         ensures rest { Unchanged H.files H.input H.asked H.notes host.old host.new }
@@ -96,6 +102,7 @@ pub trait UserOs {
         requires live { is_live (slot_at (state self.old) (slot self.old)) ≡ true }
         requires few { calls self.old < 2 ^ 32 - 1 }
         ensures step { IsCallStep (call.system (state self.old) (slot self.old) number args) result (state self.new) (around H.console host.old host.new) }
+        ensures in_order { IsInOrder (state self.new) }
         ensures slot { slot self.new ≡ slot self.old }
         ensures calls { calls self.new ≡ calls self.old + 1 }
         ensures rest { Unchanged H.files H.input H.asked H.notes host.old host.new }
@@ -106,6 +113,7 @@ pub trait UserOs {
         requires live { is_live (slot_at (state self.old) (slot self.old)) ≡ true }
         requires few { calls self.old < 2 ^ 32 - 1 }
         ensures step { IsStep (call.restore_frame (state self.old) (slot self.old)) result (state self.new) (around H.console host.old host.new) }
+        ensures in_order { IsInOrder (state self.new) }
         ensures slot { slot self.new ≡ slot self.old }
         ensures calls { calls self.new ≡ calls self.old + 1 }
         ensures rest { Unchanged H.files H.input H.asked H.notes host.old host.new }
@@ -120,6 +128,7 @@ pub trait UserOs {
     fn set_registers(&mut self, registers: Regs)
         requires { is_live (slot_at (state self.old) (slot self.old)) ≡ true }
         ensures state { state self.new ≡ with_registers (state self.old) (slot self.old) registers }
+        ensures in_order { IsInOrder (state self.new) }
         ensures slot { slot self.new ≡ slot self.old }
         ensures calls { calls self.new ≡ calls self.old };
 
@@ -132,6 +141,7 @@ pub trait UserOs {
     fn set_extra(&mut self, extra: Extra)
         requires { is_live (slot_at (state self.old) (slot self.old)) ≡ true }
         ensures state { state self.new ≡ with_extra (state self.old) (slot self.old) extra.0 }
+        ensures in_order { IsInOrder (state self.new) }
         ensures slot { slot self.new ≡ slot self.old }
         ensures calls { calls self.new ≡ calls self.old };
 }

@@ -9,8 +9,8 @@ use Rattle.jos_run.specs.Served.{Parts, kernel_state, IsRaised}
 use Rattle.jos_run.proofs.Accesses.{still_allowed, refused_state}
 use Rattle.jos_run.proofs.served.Served.reach.Goals as goal
 
-pub raise-requires : goal.raise-requires
-raise-requires g c =
+pub raise-stop-requires : goal.raise-stop-requires
+raise-stop-requires g c =
     ap (λ (k : KernelState). is_live (slot_at k c.self.inside.slot)) (c.reach.ensures.state (left_of c.self.inside.input))
     ∙ subst (λ (m : Parts). is_live (slot_at (kernel_state m) m.slot) ≡ true) (sym c.self.view_is) c.requires.live
 
@@ -35,11 +35,11 @@ returns-in-Err-clause-raised g c =
     let before = state_of c.self.inside.system input in
     let n = c.self.inside.slot in
     let d = c.space-space.result.directory.0 in
-    let after = kernel_state c.raise.new.self in
-    let console = around g.H.Host.console c.args.host.now c.raise.new.host in
+    let after = kernel_state c.raise-stop.new.self in
+    let console = around g.H.Host.console c.args.host.now c.raise-stop.new.host in
     let state_is = refused_state before (state_of c.reach.new.self input) d c.args.va c.args.access (sym c.in-Err.ensures.allowed) (c.reach.ensures.state input) in
     let here = subst (λ (m : Parts). c.space-space.result.directory.0 ≡ (slot_at (kernel_state m) m.slot).directory) (sym c.self.view_is) c.space-space.ensures.directory in
     let fault_is = subst (λ (space : ℕ). c.in-Err.fault ≡ fault_at before.spaces space c.args.va c.args.access) here c.in-Err.ensures.fault in
     rw (← c.self.view_is)
-    (subst (λ (fault : PageFault). IsRaised before n fault c.raise.result after console) fault_is
-    (subst (λ (k : KernelState). IsRaised k n c.in-Err.fault c.raise.result after console) state_is c.raise.ensures.raised))
+    (subst (λ (fault : PageFault). IsRaised before n fault c.raise-stop.result after console) fault_is
+    (subst (λ (k : KernelState). IsRaised k n c.in-Err.fault c.raise-stop.result after console) state_is c.raise-stop.ensures.raised))

@@ -27,9 +27,9 @@ returns-in-Err-clause-step g c =
     let input = left_of c.self.inside.input in
     let n = c.self.inside.slot in
     let esp_is = ap (λ (regs : Regs). regs.esp) (subst (λ (m : Parts). c.registers-esp.result ≡ (slot_at (kernel_state m) m.slot).registers) (sym c.self.view_is) c.registers-esp.ensures) in
-    let after = kernel_state c.raise.new.self in
-    let console = around g.H.Host.console c.args.host.now c.raise.new.host in
-    subst (λ (m : Parts). IsStep (restore_frame (kernel_state m) m.slot) (Err c.raise.result) after console) c.self.view_is
-    (unread_step (state_of c.self.inside.system input) n _ esp_is after console c.in-Err.fault c.raise.result
+    let after = kernel_state c.raise-stop.new.self in
+    let console = around g.H.Host.console c.args.host.now c.raise-stop.new.host in
+    subst (λ (m : Parts). IsStep (restore_frame (kernel_state m) m.slot) (Err c.raise-stop.result) after console) c.self.view_is
+    (unread_step (state_of c.self.inside.system input) n _ esp_is after console c.in-Err.fault c.raise-stop.result
     (c.in-Err.ensures.err input)
-    (subst (λ (system : System). IsRaised (state_of system input) n c.in-Err.fault c.raise.result after console) c.in-Err.ensures.stays c.raise.ensures.raised))
+    (subst (λ (system : System). IsRaised (state_of system input) n c.in-Err.fault c.raise-stop.result after console) c.in-Err.ensures.stays c.raise-stop.ensures.raised))

@@ -1,0 +1,175 @@
+-- Who gets the next turn, and whether anybody is left: between two turns the kernel and the abstract system that it stands
+-- for answer alike.
+use Rattle.std.proofs.Common.{◌≡◌, ◌≢◌, ◌∙◌, ℕ, zero, suc, ◌+◌, ◌%◌, ◌^◌, ◌<◌, ◌==◌, ◌&&◌, ◌||◌, Bool, true, false, Option, Some, None}
+use Rattle.std.proofs.Common.{refl, sym, ap, subst, arith, if◌then◌else◌}
+use Rattle.std.proofs.lemmas.Bool.Decides.{nat_tests}
+use Rattle.std.specs.Prelude.{not, nat_le, is_none}
+use Rattle.jos_base.specs.declared.environment.EnvType.{EnvType}
+use Rattle.jos_base.specs.declared.environment.Status.{Status}
+use Rattle.jos_base.specs.declared.environment.Status.TheVariants.{Runnable, Running, NotRunnable}
+use Rattle.jos_base.specs.declared.numbers.TheConstants.{NENV, TURN_MAX}
+use Rattle.jos_base.specs.Environments.{Slot as KernelSlot, Environments, is_free, is_live as is_live_slot, is_running, is_runnable}
+use Rattle.jos_base.specs.KernelState.{KernelState, slot_at, with_slot_at, turn_begun, turn_ended}
+use Rattle.jos_base.specs.SpacesState.{SpacesState}
+use Rattle.jos_envs.specs.Table.{may_run}
+use Rattle.jos_sched.specs.RoundRobin.{start, next}
+use Rattle.jos_sched.specs.RoundRobin as robin
+use Rattle.jos_kernel.specs.declared.report.End.{End}
+use Rattle.jos_kernel.specs.declared.report.End.TheVariants.{Done, Stuck, Budget, TurnsFull}
+use Rattle.fs_layout.specs.DiskImage.{some_below}
+use Rattle.lib_os.specs.AbstractState.{AbstractState, Slot, free, unborn, born, serving, Server, idle, can_run, can_run_as}
+use Rattle.lib_os.specs.StandsFor.{StandsFor, StandsForSlot, Names, RunsAs}
+use Rattle.lib_os.proofs.Maps.{upd-all, upd-other}
+use Rattle.lib_os.proofs.SlotsStand.{born_live}
+use Rattle.jos_run.specs.AbstractTurns.{first_of, next_slot, is_client, any_live, end_of}
+use Rattle.jos_run.specs.LibraryRuns.{NoneRuns, OnlyRuns, OnlyFirstServes, is_user, others_live, end_seen}
+
+-- ---- who may run
+
+runs_alike : (status : Status) (blocked : Bool) → RunsAs status blocked → is_running status ≡ false → is_runnable status ≡ not blocked
+runs_alike Runnable false h idle_now = refl
+runs_alike Running false h idle_now = absurd (let contradiction : true ≡ false = idle_now in cc)
+runs_alike NotRunnable true h idle_now = refl
+runs_alike _ _ h idle_now = absurd h
+
+slot_runs : (names : Names) (sp : SpacesState) (k : KernelSlot) (slot : Slot) → StandsForSlot names sp k slot →
+    is_running k.status ≡ false → is_runnable k.status ≡ can_run_as idle slot
+slot_runs names sp k (free id) h idle_now = ap (λ (x : KernelSlot). is_runnable x.status) h
+slot_runs names sp k (unborn id parent) h idle_now = absurd h
+slot_runs names sp k (born b) h idle_now = runs_alike k.status b.blocked h.runs idle_now
+slot_runs names sp k (serving id) h idle_now = ap (λ (x : Status). is_runnable x) h.status
+
+-- A slot that is not RUNNING may have the next turn where it may have it in the abstract system.
+pub runs_stand : {names : Names} {s : KernelState} {a : AbstractState} → StandsFor names s a → (n : ℕ) →
+    is_running (slot_at s n).status ≡ false → may_run s.environments n ≡ can_run a n
+runs_stand {names = names} {s = s} {a = a} h n idle_now =
+    slot_runs names s.spaces (slot_at s n) (a.slots n) (h.slots n) idle_now
+    ∙ ap (λ (x : Server). can_run_as x (a.slots n)) (sym h.server)
+
+-- ---- who gets the next turn
+
+if_alike : (c d : Bool) (n : ℕ) (x y : Option ℕ) → c ≡ d → x ≡ y → (if c then Some n else x) ≡ (if d then Some n else y)
+if_alike c d n x y same others = ap (λ (b : Bool). if b then Some n else x) same ∙ ap (λ (o : Option ℕ). if d then Some n else o) others
+
+first_alike : (e : Environments) (a : AbstractState) → ((n : ℕ) → may_run e n ≡ can_run a n) → (slot count : ℕ) →
+    robin.first_of e slot count ≡ first_of a slot count
+unfolding robin.first_of first_of
+first_alike e a same slot zero = refl
+first_alike e a same slot (suc count) =
+    if_alike (may_run e (slot % NENV)) (can_run a (slot % NENV)) (slot % NENV) (robin.first_of e (slot + 1) count) (first_of a (slot + 1) count)
+    (same (slot % NENV)) (first_alike e a same (slot + 1) count)
+
+-- The kernel and the abstract system choose the same slot.
+pub next_stands : {names : Names} {s : KernelState} {a : AbstractState} → StandsFor names s a → NoneRuns s →
+    next s.environments s.last ≡ next_slot a
+unfolding next next_slot
+next_stands {s = s} {a = a} h none =
+    first_alike s.environments a (λ n. runs_stand h n (none n)) (start s.last) NENV
+    ∙ ap (λ (last : Option ℕ). first_of a (start last) NENV) h.last
+
+-- ---- whether anybody is left
+
+some_alike : (f g : ℕ → Bool) (bound : ℕ) → ((n : ℕ) → n < bound → f n ≡ g n) → some_below bound f ≡ some_below bound g
+unfolding some_below
+some_alike f g zero same = refl
+some_alike f g (suc n) same =
+    ap (λ (c : Bool). c || f n) (some_alike f g n (λ m below. same m (omega arith)))
+    ∙ ap (λ (c : Bool). some_below n g || c) (same n (omega arith))
+
+client_counts : (names : Names) (sp : SpacesState) (k : KernelSlot) (slot : Slot) → StandsForSlot names sp k slot →
+    is_client slot ≡ (is_live_slot k && is_user k.env_type)
+client_counts names sp k (free id) h = sym (ap (λ (x : KernelSlot). is_live_slot x && is_user x.env_type) h)
+client_counts names sp k (unborn id parent) h = absurd h
+client_counts names sp k (born b) h =
+    sym (ap (λ (c : Bool). c && is_user k.env_type) (born_live h) ∙ ap (λ (x : EnvType). is_user x) h.env_type)
+client_counts names sp k (serving id) h =
+    sym (ap (λ (x : Status). not (is_free x) && is_user k.env_type) h.status ∙ ap (λ (x : EnvType). is_user x) h.env_type)
+
+-- a client is a live environment but a file server
+pub clients_stand : {names : Names} {s : KernelState} {a : AbstractState} → StandsFor names s a → (n : ℕ) →
+    is_client (a.slots n) ≡ (is_live_slot (slot_at s n) && is_user (slot_at s n).env_type)
+clients_stand {names = names} {s = s} {a = a} h n = client_counts names s.spaces (slot_at s n) (a.slots n) (h.slots n)
+
+pub any_user_stands : {names : Names} {s : KernelState} {a : AbstractState} → StandsFor names s a →
+    any_live a ≡ some_below NENV (λ n. is_live_slot (slot_at s n) && is_user (slot_at s n).env_type)
+any_user_stands {s = s} {a = a} h =
+    some_alike (λ n. is_client (a.slots n)) (λ n. is_live_slot (slot_at s n) && is_user (slot_at s n).env_type) NENV
+    (λ n below. clients_stand h n)
+
+and_true : (c : Bool) → (c && true) ≡ c
+and_true true = refl
+and_true false = refl
+
+client_other : {names : Names} {s : KernelState} {a : AbstractState} → StandsFor names s a → OnlyFirstServes s → (n : ℕ) →
+    is_client (a.slots n) ≡ (not (n == 0) && is_live_slot (slot_at s n))
+client_other {s = s} {a = a} h only n = by_test (n == 0) refl
+  where
+    by_test : (c : Bool) → (n == 0) ≡ c → is_client (a.slots n) ≡ (not c && is_live_slot (slot_at s n))
+    by_test true test =
+        let at : n ≡ 0 = grind (arith, nat_tests) in
+        ap (λ (x : ℕ). is_client (a.slots x)) at ∙ ap (λ (slot : Slot). is_client slot) h.first
+    by_test false test =
+        let other : n ≢ 0 = grind (arith, nat_tests) in
+        clients_stand h n ∙ ap (λ (c : Bool). is_live_slot (slot_at s n) && c) (only n other) ∙ and_true (is_live_slot (slot_at s n))
+
+-- Somebody is left in the abstract system where a slot other than 0 is live.
+pub any_live_stands : {names : Names} {s : KernelState} {a : AbstractState} → StandsFor names s a → OnlyFirstServes s →
+    any_live a ≡ others_live s
+any_live_stands {s = s} {a = a} h only =
+    some_alike (λ n. is_client (a.slots n)) (λ n. not (n == 0) && is_live_slot (slot_at s n)) NENV (λ n below. client_other h only n)
+
+-- ids tell it, where each live environment's id is that of its slot
+pub ids_tell : {names : Names} {s : KernelState} {a : AbstractState} → StandsFor names s a →
+    ((n : ℕ) → is_live_slot (slot_at s n) ≡ true → (slot_at s n).id % NENV ≡ n) → OnlyFirstServes s
+ids_tell {names = names} {s = s} {a = a} h ids n other = by_slot (slot_at s n) (a.slots n) (h.slots n) (ids n)
+  where
+    by_slot : (k : KernelSlot) (slot : Slot) → StandsForSlot names s.spaces k slot →
+        (is_live_slot k ≡ true → k.id % NENV ≡ n) → is_user k.env_type ≡ true
+    by_slot k (free id) so own_id = ap (λ (x : KernelSlot). is_user x.env_type) so
+    by_slot k (unborn id parent) so own_id = absurd so
+    by_slot k (born b) so own_id = ap (λ (x : EnvType). is_user x) so.env_type
+    by_slot k (serving id) so own_id =
+        let at : 0 ≡ n = sym (ap (λ (x : ℕ). x % NENV) (so.id_is ∙ so.first)) ∙ own_id (ap (λ (x : Status). not (is_free x)) so.status) in
+        absurd (other (sym at))
+
+-- ---- the end
+
+-- Between two turns the end tests of the abstract system are told by the kernel's state.
+pub end_stands : {names : Names} {s : KernelState} {a : AbstractState} → StandsFor names s a → NoneRuns s → OnlyFirstServes s →
+    (turns : ℕ) (spent : Bool) → end_of a turns spent ≡ end_seen s turns spent
+unfolding end_of
+end_stands {s = s} {a = a} h none only turns spent =
+    ap (λ (c : Bool). end_by c (is_none (next_slot a)) turns spent) (any_live_stands h only)
+    ∙ ap (λ (o : Option ℕ). end_by (others_live s) (is_none o) turns spent) (sym (next_stands h none))
+  where
+    end_by : Bool → Bool → ℕ → Bool → Option End
+    end_by live stuck turns spent =
+        if not live then Some Done
+        else if stuck then Some Stuck
+        else if spent then Some Budget
+        else if nat_le TURN_MAX turns then Some TurnsFull
+        else None
+
+-- ---- RUNNING
+
+pub begun_only : (s : KernelState) (n : ℕ) → NoneRuns s → OnlyRuns (turn_begun s n) n
+begun_only s n none m ne =
+    let k : KernelSlot = record (slot_at s n) { status = Running; runs = ((slot_at s n).runs + 1) % 2 ^ 32 } in
+    ap (λ (x : KernelSlot). is_running x.status) (upd-other s.environments.slots n k m ne) ∙ none m
+
+-- at the end of the turn of the slot that had it no slot is RUNNING
+pub ended_none : (s : KernelState) (n : ℕ) → OnlyRuns s n → NoneRuns (turn_ended s n)
+ended_none s n only = by_test (is_running (slot_at s n).status) refl
+  where
+    runnable : KernelSlot
+    runnable = record (slot_at s n) { status = Runnable }
+
+    by_test : (c : Bool) → is_running (slot_at s n).status ≡ c →
+        (m : ℕ) → is_running (slot_at (if c then with_slot_at s n runnable else s) m).status ≡ false
+    by_test true is m = upd-all (λ m (k : KernelSlot). is_running k.status ≡ false) s.environments.slots n runnable refl only m
+    by_test false is m = by_place (m == n) refl
+      where
+        by_place : (c : Bool) → (m == n) ≡ c → is_running (slot_at s m).status ≡ false
+        by_place true test =
+            let at : n ≡ m = grind (arith, nat_tests) in subst (λ (x : ℕ). is_running (slot_at s x).status ≡ false) at is
+        by_place false test = only m (grind (arith, nat_tests))

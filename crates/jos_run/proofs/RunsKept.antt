@@ -1,0 +1,388 @@
+-- A run of the library's programs goes on as one of the abstract system: at its beginning, where a turn begins, by each step,
+-- and where a turn ends.
+use Rattle.std.proofs.Common.{◌≡◌, ◌∙◌, ℕ, ◌+◌, ◌<◌, ◌≤◌, ◌==◌, ◌||◌, Bool, true, false, List, [], ◌∷◌, ◌++◌, length}
+use Rattle.std.proofs.Common.{Option, Some, refl, sym, ap, subst, arith, add-one, append_assoc}
+use Rattle.std.specs.Prelude.{not, nat_le, nat_lt}
+use Rattle.std.proofs.lemmas.Bool.Decides.{nat_tests}
+use Rattle.std.proofs.lemmas.List.{append-nil}
+use Rattle.jos_base.specs.declared.environment.Status.{Status}
+use Rattle.jos_base.specs.declared.environment.Status.TheVariants.{Runnable, Running, NotRunnable}
+use Rattle.jos_base.specs.Environments.{Slot as KernelSlot, is_running, is_runnable}
+use Rattle.jos_base.specs.KernelState.{KernelState, slot_at}
+use Rattle.jos_base.specs.KernelState as kernel
+use Rattle.jos_base.specs.SpacesState.{SpacesState}
+use Rattle.jos_sched.specs.Quantum.{quantum}
+use Rattle.jos_sched.specs.RoundRobin.{next}
+use Rattle.jos_sched.proofs.RoundRobin.{next_runs}
+use Rattle.jos_kernel.specs.declared.report.Turn.{Turn}
+use Rattle.lib_os.specs.declared.place.Place.{Place}
+use Rattle.lib_os.specs.declared.place.Place.TheVariants as place
+use Rattle.lib_os.specs.declared.place.Step.{Step}
+use Rattle.lib_os.specs.declared.place.Step.TheVariants as step
+use Rattle.lib_os.specs.declared.progress.Progress.{Progress}
+use Rattle.lib_os.specs.declared.progress.Progress.TheVariants as progress
+use Rattle.lib_os.specs.declared.service.Service.{Service}
+use Rattle.lib_os.specs.declared.service.Service.TheVariants as service
+use Rattle.lib_os.specs.AbstractState.{AbstractState, Born, Slot, free, unborn, born, serving, Stage, Phase, in_service, can_run}
+use Rattle.lib_os.specs.AbstractRun.{abs_step}
+use Rattle.lib_os.specs.LibrarySteps.{Stands, Stays, GoesOn, Keeps, NothingRefused, is_pausing}
+use Rattle.lib_os.specs.Places.{place_of}
+use Rattle.lib_os.specs.StandsFor.{StandsFor, StandsForSlot, StandsAt, StandsAtStep, Names, Row, rows_of, RunsAs, WaitsOrHas, waits, has}
+use Rattle.lib_os.proofs.SlotsStand.{born_at}
+use Rattle.lib_os.proofs.StatesStand.{turn_begun_stands, turn_ended_stands}
+use Rattle.jos_run.specs.AbstractTurns.{turn_begun, steps_taken, abs_run, is_waiting_service, waits_in, stands_waiting}
+use Rattle.jos_run.specs.AbstractTurns.{yields_in, is_yielding, has_yielded, has_yielded_after, may_end, turn_fits, fits}
+use Rattle.jos_run.specs.LibraryRuns.{NoneRuns, OnlyRuns, turn_of, all_fit, IsBetween, IsInTurn, seen_after, is_yield}
+use Rattle.jos_run.proofs.Choices.{runs_stand, next_stands, begun_only, ended_none}
+use Rattle.jos_run.proofs.TurnsTaken.{run_with_turn, taken_is, no_steps, one_more_step, all_fit_append, fits_append, all_fit_fits}
+
+-- ---- the beginning
+
+-- before the first turn
+pub run_begins : (schedule : List ℕ) (first : AbstractState) (s : KernelState) → Stands s first → NoneRuns s →
+    IsBetween schedule first [] s []
+unfolding abs_run all_fit
+run_begins schedule first s h none = record {
+  now = first;
+  ran = refl;
+  stands = h;
+  console = sym (append-nil first.console);
+  none = none;
+  fit = refl;
+}
+
+-- ---- a turn begins
+
+-- who is RUNNABLE is an environment that does not wait
+runnable_born : (names : Names) (sp : SpacesState) (k : KernelSlot) (slot : Slot) → StandsForSlot names sp k slot →
+    is_runnable k.status ≡ true → (b : Born) × (slot ≡ born b) × (b.blocked ≡ false)
+runnable_born names sp k (free id) h runs =
+    absurd (let contradiction : true ≡ false = sym runs ∙ ap (λ (x : KernelSlot). is_runnable x.status) h in cc)
+runnable_born names sp k (unborn id parent) h runs = absurd h
+runnable_born names sp k (born b) h runs = (b, refl, awake k.status b.blocked h.runs runs)
+  where
+    awake : (status : Status) (blocked : Bool) → RunsAs status blocked → is_runnable status ≡ true → blocked ≡ false
+    awake Runnable false h runs = refl
+    awake Running false h runs = refl
+    awake NotRunnable true h runs = absurd (let contradiction : false ≡ true = runs in cc)
+    awake _ _ h runs = absurd h
+runnable_born names sp k (serving id) h runs =
+    absurd (let contradiction : true ≡ false = sym runs ∙ ap (λ (x : Status). is_runnable x) h.status in cc)
+
+-- the turn of the slot that the kernel chooses
+pub turn_begins : {schedule : List ℕ} {first : AbstractState} {turns : List Turn} {s : KernelState} {written : List ℕ} →
+    IsBetween schedule first turns s written → (n : ℕ) → next s.environments s.last ≡ Some n →
+    IsInTurn schedule first turns n 0 (kernel.turn_begun s n) written
+turn_begins {s = s} h n chosen =
+    let stands = h.stands.1 in
+    let who = runnable_born h.stands.0 s.spaces (slot_at s n) (h.now.slots n) (stands.slots n) (next_runs s.environments s.last n chosen).1 in
+    record {
+      before = h.now;
+      ran = h.ran;
+      chosen = sym (next_stands stands h.none) ∙ chosen;
+      now = turn_begun h.now n;
+      taken = no_steps (turn_begun h.now n) n;
+      stands = (h.stands.0, turn_begun_stands stands n who.0 who.1 who.2);
+      console = h.console;
+      only = begun_only s n h.none;
+      fit = h.fit;
+    }
+
+-- ---- a step
+
+-- one that nobody sees
+unfoldable pub step_hidden : {schedule : List ℕ} {first : AbstractState} {turns : List Turn} {n visible : ℕ} {s after : KernelState}
+    {written : List ℕ} (bytes : List ℕ) → (h : IsInTurn schedule first turns n visible s written) → Stays after h.now bytes → OnlyRuns after n →
+    IsInTurn schedule first turns n visible after (written ++ bytes)
+step_hidden {first = first} {written = written} bytes h stays only = record {
+  before = h.before;
+  ran = h.ran;
+  chosen = h.chosen;
+  now = h.now;
+  taken = h.taken;
+  stands = stays.1;
+  console = h.console ∙ ap (λ (l : List ℕ). first.console ++ l) (sym (append-nil written) ∙ ap (λ (l : List ℕ). written ++ l) (sym stays.0));
+  only = only;
+  fit = h.fit;
+}
+
+-- one that is a step of the abstract system
+unfoldable pub step_visible : {schedule : List ℕ} {first : AbstractState} {turns : List Turn} {n visible : ℕ} {s after : KernelState}
+    {written : List ℕ} (bytes : List ℕ) → (h : IsInTurn schedule first turns n visible s written) → GoesOn n after h.now bytes → OnlyRuns after n →
+    IsInTurn schedule first turns n (visible + 1) after (written ++ bytes)
+step_visible {first = first} {n = n} {visible = visible} {written = written} bytes h goes_on only = record {
+  before = h.before;
+  ran = h.ran;
+  chosen = h.chosen;
+  now = goes_on.0;
+  taken = one_more_step (turn_begun h.before n) h.now goes_on.0 n visible h.taken goes_on.1;
+  stands = goes_on.3;
+  console = goes_on.2 ∙ ap (λ (l : List ℕ). l ++ bytes) h.console ∙ append_assoc first.console written bytes;
+  only = only;
+  fit = h.fit;
+}
+
+-- whatever the step has come to
+pub step_kept : {schedule : List ℕ} {first : AbstractState} {turns : List Turn} {n visible : ℕ} {s after : KernelState}
+    {written : List ℕ} (bytes : List ℕ) → IsInTurn schedule first turns n visible s written → (progress : Progress) →
+    Keeps progress n s after bytes → NothingRefused s after → OnlyRuns after n →
+    IsInTurn schedule first turns n (seen_after progress visible) after (written ++ bytes)
+step_kept bytes h progress.Hidden keeps none_refused only = step_hidden bytes h (keeps h.now h.stands none_refused) only
+step_kept bytes h progress.Waited keeps none_refused only = step_hidden bytes h (keeps h.now h.stands none_refused).0 only
+step_kept bytes h progress.Visible keeps none_refused only = step_visible bytes h (keeps h.now h.stands none_refused) only
+step_kept bytes h progress.Finished keeps none_refused only = step_visible bytes h (keeps h.now h.stands none_refused) only
+step_kept bytes h progress.Ended keeps none_refused only = step_visible bytes h (keeps h.now h.stands none_refused) only
+
+-- ---- a turn ends
+
+pub turn_ends : {schedule : List ℕ} {first : AbstractState} {turns : List Turn} {n visible : ℕ} {s : KernelState} {written : List ℕ} →
+    (h : IsInTurn schedule first turns n visible s written) → (hidden : ℕ) →
+    turn_fits schedule (length turns) false h.before (turn_of n visible hidden) h.now ≡ true →
+    IsBetween schedule first (turns ++ turn_of n visible hidden ∷ []) (kernel.turn_ended s n) written
+turn_ends {schedule = schedule} {first = first} {turns = turns} {n = n} {visible = visible} {s = s} h hidden fit =
+    let same : length turns ≡ 0 + length turns = omega arith in
+    record {
+      now = h.now;
+      ran = run_with_turn first h.before h.now turns n visible hidden h.ran h.chosen h.taken;
+      stands = (h.stands.0, turn_ended_stands h.stands.1 n);
+      console = h.console;
+      none = ended_none s n h.only;
+      fit = all_fit_append schedule 0 first h.before h.now turns (turn_of n visible hidden) h.fit h.ran
+          (taken_is h.before n visible hidden h.chosen ∙ h.taken)
+          (subst (λ (k : ℕ). turn_fits schedule k false h.before (turn_of n visible hidden) h.now ≡ true) same fit);
+    }
+
+-- The steps of a turn that ends are as many as the schedule gives it, or fewer, where it may end.
+
+fits_by : (schedule : List ℕ) (k : ℕ) (before after : AbstractState) (is_last : Bool) (t : Turn) → 0 < t.visible + t.hidden →
+    t.visible + t.hidden ≤ quantum schedule k →
+    ((t.visible + t.hidden == quantum schedule k) || is_last || may_end before t after) ≡ true → turn_fits schedule k is_last before t after ≡ true
+fits_by schedule k before after is_last t some within ends =
+    let some_is : nat_lt 0 (t.visible + t.hidden) ≡ true = grind (arith, nat_tests) in
+    let within_is : nat_le (t.visible + t.hidden) (quantum schedule k) ≡ true = grind (arith, nat_tests) in
+    rw (some_is, within_is, ends) refl
+
+pub whole_turn_fits : (schedule : List ℕ) (k : ℕ) (before after : AbstractState) (t : Turn) → 0 < t.visible + t.hidden →
+    t.visible + t.hidden ≡ quantum schedule k → turn_fits schedule k false before t after ≡ true
+whole_turn_fits schedule k before after t some whole =
+    let same : (t.visible + t.hidden == quantum schedule k) ≡ true = grind (arith, nat_tests) in
+    fits_by schedule k before after false t some (omega arith) (ap (λ (c : Bool). c || false || may_end before t after) same)
+
+or_true : (c : Bool) → (c || true) ≡ true
+or_true true = refl
+or_true false = refl
+
+pub short_turn_fits : (schedule : List ℕ) (k : ℕ) (before after : AbstractState) (t : Turn) → 0 < t.visible + t.hidden →
+    t.visible + t.hidden ≤ quantum schedule k → may_end before t after ≡ true → turn_fits schedule k false before t after ≡ true
+short_turn_fits schedule k before after t some within may =
+    fits_by schedule k before after false t some within
+    (ap (λ (c : Bool). (t.visible + t.hidden == quantum schedule k) || false || c) may ∙ or_true ((t.visible + t.hidden == quantum schedule k) || false))
+
+pub last_turn_fits : (schedule : List ℕ) (k : ℕ) (before after : AbstractState) (t : Turn) → 0 < t.visible + t.hidden →
+    t.visible + t.hidden ≤ quantum schedule k → turn_fits schedule k true before t after ≡ true
+last_turn_fits schedule k before after t some within =
+    fits_by schedule k before after true t some within
+    (ap (λ (c : Bool). c || may_end before t after) (or_true (t.visible + t.hidden == quantum schedule k)))
+
+-- ---- where a turn may end
+
+-- its slot can't run on
+pub stopped_may_end : (before after : AbstractState) (t : Turn) → can_run after t.slot ≡ false → may_end before t after ≡ true
+stopped_may_end before after t cannot =
+    ap (λ (c : Bool). not c || stands_waiting (after.slots t.slot) || has_yielded (turn_begun before t.slot) t.slot t.visible) cannot
+
+-- it waits in a service
+pub waiting_may_end : (before after : AbstractState) (t : Turn) → stands_waiting (after.slots t.slot) ≡ true → may_end before t after ≡ true
+waiting_may_end before after t in_wait =
+    by_cases (not (can_run after t.slot)) (stands_waiting (after.slots t.slot)) (has_yielded (turn_begun before t.slot) t.slot t.visible) in_wait
+  where
+    by_cases : (stopped waiting yielded : Bool) → waiting ≡ true → (stopped || waiting || yielded) ≡ true
+    by_cases true waiting yielded is = refl
+    by_cases false true yielded is = refl
+    by_cases false false yielded is = absurd (let contradiction : false ≡ true = is in cc)
+
+-- it has just given up its turn
+pub yielded_may_end : (before after : AbstractState) (t : Turn) → has_yielded (turn_begun before t.slot) t.slot t.visible ≡ true →
+    may_end before t after ≡ true
+yielded_may_end before after t yielded =
+    ap (λ (c : Bool). not (can_run after t.slot) || stands_waiting (after.slots t.slot) || c) yielded
+    ∙ or_true (not (can_run after t.slot) || stands_waiting (after.slots t.slot))
+
+-- ---- how the kernel tells it
+
+-- whoever is neither RUNNING nor RUNNABLE can't run
+pub stopped_cannot : {names : Names} {s : KernelState} {a : AbstractState} → StandsFor names s a → (n : ℕ) →
+    is_running (slot_at s n).status ≡ false → is_runnable (slot_at s n).status ≡ false → can_run a n ≡ false
+stopped_cannot h n not_running not_runnable = sym (runs_stand h n not_running) ∙ not_runnable
+
+running_slot : (names : Names) (sp : SpacesState) (k : KernelSlot) (slot : Slot) → StandsForSlot names sp k slot →
+    is_running k.status ≡ true → (b : Born) × (slot ≡ born b)
+running_slot names sp k (free id) h runs =
+    absurd (let contradiction : true ≡ false = sym runs ∙ ap (λ (x : KernelSlot). is_running x.status) h in cc)
+running_slot names sp k (unborn id parent) h runs = absurd h
+running_slot names sp k (born b) h runs = (b, refl)
+running_slot names sp k (serving id) h runs =
+    absurd (let contradiction : true ≡ false = sym runs ∙ ap (λ (x : Status). is_running x) h.status in cc)
+
+-- who is RUNNING is an environment
+pub running_born : {names : Names} {s : KernelState} {a : AbstractState} → StandsFor names s a → (n : ℕ) →
+    is_running (slot_at s n).status ≡ true → (b : Born) × (a.slots n ≡ born b)
+running_born {names = names} {s = s} {a = a} h n runs = running_slot names s.spaces (slot_at s n) (a.slots n) (h.slots n) runs
+
+step_phase : (row : Row) (k : KernelSlot) (b : Born) (s : Service) (stands : Step) → StandsAtStep row k b s stands →
+    (stage : Stage) × (b.phase ≡ in_service s stage)
+step_phase row k b s step.Entered h = (_, h.phase)
+step_phase row k b (service.Wait id) (step.Trying perm) h = (_, h.is_in.phase)
+step_phase row k b (service.Wait id) (step.Pausing perm) h = (_, h.is_in.phase)
+step_phase row k b (service.Send id value va) (step.Trying perm) h = (_, h.is_in.phase)
+step_phase row k b (service.Send id value va) (step.Pausing perm) h = (_, h.is_in.phase)
+step_phase row k b (service.Send id value va) step.ReadingRegion h = (_, h.is_in.phase)
+step_phase row k b (service.Send id value va) step.ReadingEntry h = (_, h.0.is_in.phase)
+step_phase row k b (service.Receive va from) (step.Receiving id) h = (_, h.is_in.phase)
+step_phase row k b (service.Receive va from) (step.ReadingValue id) h = by_come h.1
+  where
+    by_come : WaitsOrHas k b va from → (stage : Stage) × (b.phase ≡ in_service (service.Receive va from) stage)
+    by_come (waits so) = (_, so.phase)
+    by_come (has so) = (_, so.phase)
+step_phase row k b (service.Receive va from) (step.ReadingSender id value) h = (_, h.2.phase)
+step_phase row k b (service.Receive va from) (step.ReadingPerm id value sender) h = (_, h.3.phase)
+step_phase row k b _ _ h = absurd h
+
+-- An environment that stands in a service is in that service in the abstract system.
+pub place_tells : {names : Names} {s : KernelState} {a : AbstractState} → StandsFor names s a → (n : ℕ) (b : Born) → a.slots n ≡ born b →
+    (service : Service) (stands : Step) → place_of (slot_at s n) ≡ place.InService service stands →
+    (stage : Stage) × (b.phase ≡ in_service service stage)
+place_tells {names = names} {s = s} h n b at service stands is =
+    step_phase (rows_of s.spaces (slot_at s n).directory) (slot_at s n) b service stands
+    (subst (λ (p : Place). StandsAt p (rows_of s.spaces (slot_at s n).directory) (slot_at s n) b) is (born_at h n b at).at)
+
+-- one that stands in a service that may wait, waits
+pub waiting_place : {names : Names} {s : KernelState} {a : AbstractState} → StandsFor names s a → (n : ℕ) (b : Born) → a.slots n ≡ born b →
+    (service : Service) (stands : Step) → place_of (slot_at s n) ≡ place.InService service stands → is_waiting_service service ≡ true →
+    stands_waiting (a.slots n) ≡ true
+waiting_place h n b at service stands is may_wait =
+    ap (λ (slot : Slot). stands_waiting slot) at ∙ ap (λ (p : Phase). waits_in p) (place_tells h n b at service stands is).1 ∙ may_wait
+
+pausing_phase : (row : Row) (k : KernelSlot) (b : Born) (p : Place) → StandsAt p row k b → is_pausing p ≡ true → waits_in b.phase ≡ true
+pausing_phase row k b (place.InService (service.Wait id) (step.Pausing perm)) h pauses = ap (λ (x : Phase). waits_in x) h.is_in.phase
+pausing_phase row k b (place.InService (service.Send id value va) (step.Pausing perm)) h pauses = ap (λ (x : Phase). waits_in x) h.is_in.phase
+pausing_phase row k b (place.InService _ (step.Pausing perm)) h pauses = absurd h
+pausing_phase row k b _ h pauses = absurd (let contradiction : false ≡ true = pauses in cc)
+
+-- and so does one that is about to give up its turn
+pub pausing_waits : {names : Names} {s : KernelState} {a : AbstractState} → StandsFor names s a → (n : ℕ) → is_running (slot_at s n).status ≡ true →
+    is_pausing (place_of (slot_at s n)) ≡ true → stands_waiting (a.slots n) ≡ true
+pausing_waits {s = s} h n runs pauses =
+    let who = running_born h n runs in
+    ap (λ (slot : Slot). stands_waiting slot) who.1
+    ∙ pausing_phase (rows_of s.spaces (slot_at s n).directory) (slot_at s n) who.0 (place_of (slot_at s n)) (born_at h n who.0 who.1).at pauses
+
+yield_phase : (row : Row) (k : KernelSlot) (b : Born) (p : Place) → StandsAt p row k b → is_yield p ≡ true → yields_in b.phase ≡ true
+yield_phase row k b (place.InService service.Yield stands) h yields =
+    ap (λ (x : Phase). yields_in x) (step_phase row k b service.Yield stands h).1
+yield_phase row k b _ h yields = absurd (let contradiction : false ≡ true = yields in cc)
+
+pub yield_tells : {names : Names} {s : KernelState} {a : AbstractState} → StandsFor names s a → (n : ℕ) → is_running (slot_at s n).status ≡ true →
+    is_yield (place_of (slot_at s n)) ≡ true → is_yielding (a.slots n) ≡ true
+yield_tells {s = s} h n runs yields =
+    let who = running_born h n runs in
+    ap (λ (slot : Slot). is_yielding slot) who.1
+    ∙ yield_phase (rows_of s.spaces (slot_at s n).directory) (slot_at s n) who.0 (place_of (slot_at s n)) (born_at h n who.0 who.1).at yields
+
+-- A turn ends where its steps are as many as the schedule gives it.
+pub turn_ends_whole : {schedule : List ℕ} {first : AbstractState} {turns : List Turn} {n visible : ℕ} {s : KernelState} {written : List ℕ} →
+    IsInTurn schedule first turns n visible s written → (hidden : ℕ) → 0 < visible + hidden →
+    visible + hidden ≡ quantum schedule (length turns) →
+    IsBetween schedule first (turns ++ turn_of n visible hidden ∷ []) (kernel.turn_ended s n) written
+turn_ends_whole {schedule = schedule} {turns = turns} {n = n} {visible = visible} h hidden some whole =
+    turn_ends h hidden (whole_turn_fits schedule (length turns) h.before h.now (turn_of n visible hidden) some whole)
+
+-- or before that, where it may
+pub turn_ends_early : {schedule : List ℕ} {first : AbstractState} {turns : List Turn} {n visible : ℕ} {s : KernelState} {written : List ℕ} →
+    (h : IsInTurn schedule first turns n visible s written) → (hidden : ℕ) → 0 < visible + hidden →
+    visible + hidden ≤ quantum schedule (length turns) → may_end h.before (turn_of n visible hidden) h.now ≡ true →
+    IsBetween schedule first (turns ++ turn_of n visible hidden ∷ []) (kernel.turn_ended s n) written
+turn_ends_early {schedule = schedule} {turns = turns} {n = n} {visible = visible} h hidden some within may =
+    turn_ends h hidden (short_turn_fits schedule (length turns) h.before h.now (turn_of n visible hidden) some within may)
+
+-- as where its environment waits to be woken, or is gone
+pub turn_ends_stopped : {schedule : List ℕ} {first : AbstractState} {turns : List Turn} {n visible : ℕ} {s : KernelState} {written : List ℕ} →
+    IsInTurn schedule first turns n visible s written → (hidden : ℕ) → 0 < visible + hidden →
+    visible + hidden ≤ quantum schedule (length turns) → is_running (slot_at s n).status ≡ false → is_runnable (slot_at s n).status ≡ false →
+    IsBetween schedule first (turns ++ turn_of n visible hidden ∷ []) (kernel.turn_ended s n) written
+turn_ends_stopped {n = n} {visible = visible} h hidden some within not_running not_runnable =
+    turn_ends_early h hidden some within
+    (stopped_may_end h.before h.now (turn_of n visible hidden) (stopped_cannot h.stands.1 n not_running not_runnable))
+
+-- or stands in a service that may wait
+pub turn_ends_waiting : {schedule : List ℕ} {first : AbstractState} {turns : List Turn} {n visible : ℕ} {s : KernelState} {written : List ℕ} →
+    (h : IsInTurn schedule first turns n visible s written) → (hidden : ℕ) → 0 < visible + hidden →
+    visible + hidden ≤ quantum schedule (length turns) → stands_waiting (h.now.slots n) ≡ true →
+    IsBetween schedule first (turns ++ turn_of n visible hidden ∷ []) (kernel.turn_ended s n) written
+turn_ends_waiting {n = n} {visible = visible} h hidden some within in_wait =
+    turn_ends_early h hidden some within (waiting_may_end h.before h.now (turn_of n visible hidden) in_wait)
+
+-- The step by which one that waits gives up its turn: then the turn may end.
+pub step_gives_up : {schedule : List ℕ} {first : AbstractState} {turns : List Turn} {n visible : ℕ} {s after : KernelState}
+    {written : List ℕ} (bytes : List ℕ) → (h : IsInTurn schedule first turns n visible s written) → Stays after h.now bytes → OnlyRuns after n →
+    is_running (slot_at s n).status ≡ true → is_pausing (place_of (slot_at s n)) ≡ true → (hidden : ℕ) →
+    (t : IsInTurn schedule first turns n visible after (written ++ bytes)) × (may_end t.before (turn_of n visible hidden) t.now ≡ true)
+unfolding step_hidden
+step_gives_up {n = n} {visible = visible} bytes h stays only runs pauses hidden = (
+  step_hidden bytes h stays only,
+  waiting_may_end h.before h.now (turn_of n visible hidden) (pausing_waits h.stands.1 n runs pauses),
+)
+
+yielded_further : (n : ℕ) (begun b : AbstractState) (visible : ℕ) → steps_taken begun n visible ≡ Some b → is_yielding (b.slots n) ≡ true →
+    has_yielded begun n (visible + 1) ≡ true
+yielded_further n begun b visible taken yields =
+    subst (λ (k : ℕ). has_yielded begun n k ≡ true) (sym (add-one visible))
+    (ap (λ (o : Option AbstractState). has_yielded_after n o) taken ∙ yields)
+
+-- The step by which one gives up its turn by a service.
+pub step_yields : {schedule : List ℕ} {first : AbstractState} {turns : List Turn} {n visible : ℕ} {s after : KernelState}
+    {written : List ℕ} (bytes : List ℕ) → (h : IsInTurn schedule first turns n visible s written) → GoesOn n after h.now bytes → OnlyRuns after n →
+    is_running (slot_at s n).status ≡ true → is_yield (place_of (slot_at s n)) ≡ true → (hidden : ℕ) →
+    (t : IsInTurn schedule first turns n (visible + 1) after (written ++ bytes)) × (may_end t.before (turn_of n (visible + 1) hidden) t.now ≡ true)
+unfolding step_visible
+step_yields {n = n} {visible = visible} bytes h goes_on only runs yields hidden = (
+  step_visible bytes h goes_on only,
+  yielded_may_end h.before goes_on.0 (turn_of n (visible + 1) hidden)
+      (yielded_further n (turn_begun h.before n) h.now visible h.taken (yield_tells h.stands.1 n runs yields)),
+)
+
+-- ---- what is told
+
+pub between_fits : {schedule : List ℕ} {first : AbstractState} {turns : List Turn} {s : KernelState} {written : List ℕ} →
+    IsBetween schedule first turns s written → fits schedule 0 first turns ≡ true
+between_fits {schedule = schedule} {first = first} {turns = turns} h = all_fit_fits schedule 0 first turns h.fit
+
+-- the turn under way is told too, whichever way it would end
+pub in_turn_ran : {schedule : List ℕ} {first : AbstractState} {turns : List Turn} {n visible : ℕ} {s : KernelState} {written : List ℕ} →
+    (h : IsInTurn schedule first turns n visible s written) → (hidden : ℕ) →
+    abs_run first (turns ++ turn_of n visible hidden ∷ []) ≡ Some h.now
+in_turn_ran {first = first} {turns = turns} {n = n} {visible = visible} h hidden =
+    run_with_turn first h.before h.now turns n visible hidden h.ran h.chosen h.taken
+
+pub in_turn_fits : {schedule : List ℕ} {first : AbstractState} {turns : List Turn} {n visible : ℕ} {s : KernelState} {written : List ℕ} →
+    IsInTurn schedule first turns n visible s written → (hidden : ℕ) → 0 < visible + hidden → visible + hidden ≤ quantum schedule (length turns) →
+    fits schedule 0 first (turns ++ turn_of n visible hidden ∷ []) ≡ true
+in_turn_fits {schedule = schedule} {first = first} {turns = turns} {n = n} {visible = visible} h hidden some within =
+    let same : length turns ≡ 0 + length turns = omega arith in
+    fits_append schedule 0 first h.before h.now turns (turn_of n visible hidden) h.fit h.ran
+    (taken_is h.before n visible hidden h.chosen ∙ h.taken)
+    (subst (λ (k : ℕ). turn_fits schedule k true h.before (turn_of n visible hidden) h.now ≡ true) same
+    (last_turn_fits schedule (length turns) h.before h.now (turn_of n visible hidden) some within))
+
+-- Where the host fails in a step, what was written is the beginning of what the abstract system has written after that step.
+pub step_failed : {schedule : List ℕ} {first : AbstractState} {turns : List Turn} {n visible : ℕ} {s : KernelState}
+    {written : List ℕ} (bytes : List ℕ) → IsInTurn schedule first turns n visible s written → (hidden : ℕ) →
+    ((a : AbstractState) → Stands s a → (b : AbstractState) × (abs_step a n ≡ Some b) × (b.console ≡ a.console ++ bytes)) →
+    (b : AbstractState) × (abs_run first (turns ++ turn_of n (visible + 1) hidden ∷ []) ≡ Some b) × (b.console ≡ first.console ++ (written ++ bytes))
+step_failed {first = first} {turns = turns} {n = n} {visible = visible} {written = written} bytes h hidden would =
+    let b = would h.now h.stands in (
+      b.0,
+      run_with_turn first h.before b.0 turns n (visible + 1) hidden h.ran h.chosen
+          (one_more_step (turn_begun h.before n) h.now b.0 n visible h.taken b.1),
+      b.2 ∙ ap (λ (l : List ℕ). l ++ bytes) h.console ∙ append_assoc first.console written bytes,
+    )

@@ -1,0 +1,32 @@
+-- The words that INT 0x40 leaves tell which service was asked for, and that nothing of it is done.
+use Rattle.std.proofs.Common.{◌≡◌, ◌∙◌, ◌<◌, ◌≤◌, Bool, true, false, ℕ, refl, ap, arith}
+use Rattle.std.specs.Prelude.{min, nat_lt}
+use Rattle.std.proofs.lemmas.Bool.Decides.{nat_tests}
+use Rattle.jos_base.specs.declared.registers.Regs.{Regs}
+use Rattle.lib_os.specs.declared.numbers.TheConstants.{SERVICES}
+use Rattle.lib_os.specs.declared.place.Place.TheVariants as place
+use Rattle.lib_os.specs.declared.place.Step.TheVariants as step
+use Rattle.lib_os.specs.declared.service.Service.{Service}
+use Rattle.lib_os.specs.Places.{place_in, words_entered}
+use Rattle.lib_os.specs.Services.{is_built, service_of}
+use Rattle.lib_os.proofs.WordsTell.{place_at}
+
+-- numbers that name no service are kept as one
+number_kept : (regs : Regs) → service_of (record regs { eax = min regs.eax SERVICES }) ≡ service_of regs
+unfolding service_of
+number_kept regs = by_number (nat_lt regs.eax SERVICES) refl
+  where
+    by_number : (c : Bool) → nat_lt regs.eax SERVICES ≡ c → service_of (record regs { eax = min regs.eax SERVICES }) ≡ service_of regs
+    by_number true small =
+        let below : regs.eax < SERVICES = grind (arith, nat_tests) in
+        let same : min regs.eax SERVICES ≡ regs.eax = omega arith in
+        ap (λ (n : ℕ). service_of (record regs { eax = n })) same
+    by_number false large =
+        let above : SERVICES ≤ regs.eax = grind (arith, nat_tests) in
+        let same : min regs.eax SERVICES ≡ SERVICES = omega arith in
+        let unbuilt : is_built regs.eax ≡ false = grind (arith, nat_tests) in
+        rw (same, unbuilt) refl
+
+pub place_entered : (regs : Regs) → place_in regs (words_entered regs) ≡ place.InService (service_of regs) step.Entered
+place_entered regs =
+    place_at regs (min regs.eax SERVICES) step.Entered ∙ ap (λ (s : Service). place.InService s step.Entered) (number_kept regs)

@@ -1,0 +1,19 @@
+use Rattle.jos_host.specs.Frames.{around}
+use Rattle.jos_run.specs.Served.{kernel_state}
+use Rattle.jos_run.proofs.ProgramSteps.{program_goes_on, program_ends, program_fails}
+use Rattle.jos_run.proofs.served.Served.step_program.Goals as goal
+
+pub returns-then-is_live-clause-step : goal.returns-then-is_live-clause-step
+returns-then-is_live-clause-step g c =
+    program_goes_on (kernel_state c.args.self.now) _ c.args.self.now.slot _ c.requires.awake c.requires.at c.step_guest.ensures.in_order
+    c.in-Ok.followed c.in-Ok.ensures.told
+
+pub returns-else-is_live-clause-step : goal.returns-else-is_live-clause-step
+returns-else-is_live-clause-step g c =
+    program_ends (kernel_state c.args.self.now) _ c.args.self.now.slot _ c.requires.awake c.requires.at c.step_guest.ensures.in_order
+    c.in-Ok.followed c.in-Ok.ensures.told
+
+pub returns-in-Err-clause-step : goal.returns-in-Err-clause-step
+returns-in-Err-clause-step g c =
+    program_fails (kernel_state c.args.self.now) _ c.args.self.now.slot _ c.requires.awake c.requires.at c.step_guest.ensures.in_order
+    c.in-Err.failed c.in-Err.ensures.told

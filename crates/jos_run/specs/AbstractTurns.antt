@@ -1,0 +1,142 @@
+-- Runs of the abstract system: turn after turn, each of the slot that round robin chooses among those that can run, with
+-- so many of its steps. And which turns a schedule allows.
+-- (MIT 6.828, kern/sched.c; turns of so many steps are this system's own.)
+use Rattle.std.specs.Prelude.{ℕ, ◌+◌, ◌%◌, ◌==◌, ◌&&◌, ◌||◌, nat_le, nat_lt, not, zero, suc, Bool, true, false, List, [], ◌∷◌}
+use Rattle.std.specs.Prelude.{Option, Some, None, is_none, if◌then◌else◌}
+use Rattle.jos_base.specs.declared.numbers.TheConstants.{NENV, TURN_MAX}
+use Rattle.jos_sched.specs.Quantum.{quantum}
+use Rattle.jos_sched.specs.RoundRobin.{start}
+use Rattle.jos_kernel.specs.declared.report.End.{End}
+use Rattle.jos_kernel.specs.declared.report.End.TheVariants.{Done, Stuck, Budget, TurnsFull}
+use Rattle.jos_kernel.specs.declared.report.Turn.{Turn}
+use Rattle.fs_layout.specs.DiskImage.{some_below}
+use Rattle.lib_os.specs.declared.service.Service.{Service}
+use Rattle.lib_os.specs.declared.service.Service.TheVariants as service
+use Rattle.lib_os.specs.AbstractState.{AbstractState, Slot, born, serving, Phase, in_service, can_run, is_live}
+use Rattle.lib_os.specs.AbstractRun.{abs_step}
+
+-- ---- turns
+
+-- the first that can run of so many slots, from one on and round the table's end
+unfoldable pub first_of : AbstractState → ℕ → ℕ → Option ℕ
+first_of a slot zero = None
+first_of a slot (suc more) = if can_run a (slot % NENV) then Some (slot % NENV) else first_of a (slot + 1) more
+
+-- the slot that gets the next turn
+unfoldable pub next_slot : AbstractState → Option ℕ
+next_slot a = first_of a (start a.last) NENV
+
+abbrev pub turn_begun : AbstractState → ℕ → AbstractState
+turn_begun a n = record a { last = Some n; turns = a.turns + 1 }
+
+abbrev pub and_then : {X Y : Type 0} → Option X → (X → Option Y) → Option Y
+and_then None f = None
+and_then (Some x) f = f x
+
+-- so many steps of a slot; None where one of them is none
+unfoldable pub steps_taken : AbstractState → ℕ → ℕ → Option AbstractState
+steps_taken a n zero = Some a
+steps_taken a n (suc more) = and_then (steps_taken a n more) (λ b. abs_step b n)
+
+abbrev pub is_chosen : ℕ → Option ℕ → Bool
+is_chosen n None = false
+is_chosen n (Some next) = next == n
+
+-- A turn is that of the slot that is chosen, with the steps that are visible. The others change nothing here.
+unfoldable pub turn_taken : AbstractState → Turn → Option AbstractState
+turn_taken a turn =
+    if is_chosen turn.slot (next_slot a) then steps_taken (turn_begun a turn.slot) turn.slot turn.visible else None
+
+unfoldable pub abs_run : AbstractState → List Turn → Option AbstractState
+abs_run a [] = Some a
+abs_run a (turn ∷ rest) = and_then (turn_taken a turn) (λ b. abs_run b rest)
+
+-- ---- the end
+
+-- an environment but the server is live
+abbrev pub is_client : Slot → Bool
+is_client (serving id) = false
+is_client slot = is_live slot
+
+abbrev pub any_live : AbstractState → Bool
+any_live a = some_below NENV (λ n. is_client (a.slots n))
+
+-- The end tests between two turns, in their order, after so many turns; `spent` says whether the budget is used up.
+unfoldable pub end_of : AbstractState → ℕ → Bool → Option End
+end_of a turns spent =
+    if not (any_live a) then Some Done
+    else if is_none (next_slot a) then Some Stuck
+    else if spent then Some Budget
+    else if nat_le TURN_MAX turns then Some TurnsFull
+    else None
+
+-- ---- schedules
+
+-- Where a turn may end before its steps are used up: its slot can't run on, or waits in a service, or has just given up
+-- its turn.
+
+-- services in which an environment may wait for others
+abbrev pub is_waiting_service : Service → Bool
+is_waiting_service (service.Wait id) = true
+is_waiting_service (service.Send id value va) = true
+is_waiting_service (service.OpenFile path mode) = true
+is_waiting_service (service.Read fd va len) = true
+is_waiting_service (service.Write fd va len) = true
+is_waiting_service (service.Seek fd offset) = true
+is_waiting_service (service.Stat fd va) = true
+is_waiting_service (service.SetSize fd size) = true
+is_waiting_service (service.Remove path) = true
+is_waiting_service service.Sync = true
+is_waiting_service (service.Spawn path argv) = true
+is_waiting_service _ = false
+
+abbrev pub waits_in : Phase → Bool
+waits_in (in_service s stage) = is_waiting_service s
+waits_in _ = false
+
+abbrev pub stands_waiting : Slot → Bool
+stands_waiting (born b) = waits_in b.phase
+stands_waiting _ = false
+
+abbrev pub yields_in : Phase → Bool
+yields_in (in_service service.Yield stage) = true
+yields_in _ = false
+
+abbrev pub is_yielding : Slot → Bool
+is_yielding (born b) = yields_in b.phase
+is_yielding _ = false
+
+-- the last step of so many was that of yield
+abbrev pub has_yielded_after : ℕ → Option AbstractState → Bool
+has_yielded_after n None = false
+has_yielded_after n (Some before) = is_yielding (before.slots n)
+
+abbrev pub has_yielded : AbstractState → ℕ → ℕ → Bool
+has_yielded begun n zero = false
+has_yielded begun n (suc visible) = has_yielded_after n (steps_taken begun n visible)
+
+abbrev pub may_end : AbstractState → Turn → AbstractState → Bool
+may_end before turn after =
+    not (can_run after turn.slot) || stands_waiting (after.slots turn.slot)
+    || has_yielded (turn_begun before turn.slot) turn.slot turn.visible
+
+-- The steps of a turn are as many as the schedule gives it, or fewer, where it is the last or may end.
+abbrev pub turn_fits : List ℕ → ℕ → Bool → AbstractState → Turn → AbstractState → Bool
+turn_fits schedule k is_last before turn after =
+    let steps = turn.visible + turn.hidden in
+    nat_lt 0 steps && nat_le steps (quantum schedule k)
+    && ((steps == quantum schedule k) || is_last || may_end before turn after)
+
+abbrev pub is_empty : List Turn → Bool
+is_empty [] = true
+is_empty _ = false
+
+abbrev pub holds_of : Option AbstractState → (AbstractState → Bool) → Bool
+holds_of None is = false
+holds_of (Some b) is = is b
+
+-- each turn fits, from turn k on
+unfoldable pub fits : List ℕ → ℕ → AbstractState → List Turn → Bool
+fits schedule k a [] = true
+fits schedule k a (turn ∷ rest) =
+    holds_of (turn_taken a turn) (λ b. turn_fits schedule k (is_empty rest) a turn b && fits schedule (k + 1) b rest)

@@ -1,0 +1,68 @@
+-- What an environment that is served is to the processor: its memory inside the fence. And what a step of its program has
+-- done.
+use Rattle.std.specs.Prelude.{◌≡◌, ℕ, List, [], length, Option, Some, None, Result, Ok, Err, if◌then◌else◌}
+use Rattle.jos_host.specs.declared.host.Failed.{Failed}
+use Rattle.jos_host.specs.Frames.{Around}
+use Rattle.jos_host.specs.Gains.{Gains, GainsPart}
+use Rattle.jos_base.specs.declared.line.Line.{Line}
+use Rattle.jos_base.specs.Environments.{Slot, is_live}
+use Rattle.jos_base.specs.KernelState.{KernelState, slot_at}
+use Rattle.jos_base.specs.SystemCalls.{Trapped, killed, trapped_by}
+use Rattle.jos_cpu.specs.Memory.{Memory, IsLawful}
+use Rattle.jos_kernel.specs.Running.{Running}
+use Rattle.jos_kernel.specs.Steps.{EnvStep}
+use Rattle.jos_run.specs.declared.guest.Followed.{Followed}
+use Rattle.jos_run.specs.FencedMemory.{fenced_memory, fenced_memory_is_lawful}
+use Rattle.jos_run.specs.Served.{Parts, kernel_state}
+
+-- the memory that the processor sees, and beside it what no access changes
+pub record Serving : Type 0 where
+  pub memory : Running
+  pub slot : ℕ
+  pub calls : ℕ
+
+abbrev pub with_memory : Serving → Running → Serving
+with_memory m memory = record m { memory = memory }
+
+unfoldable pub served_memory : Memory Serving
+served_memory = record {
+  byte = λ m va. fenced_memory.byte m.memory va;
+  allowed = λ m va access. fenced_memory.allowed m.memory va access;
+  fault = λ m va access. fenced_memory.fault m.memory va access;
+  reached = λ m va access. with_memory m (fenced_memory.reached m.memory va access);
+  stored = λ m va byte. with_memory m (fenced_memory.stored m.memory va byte);
+}
+
+-- This is a proof and no definition: `lawful` of a memory can import it from here alone.
+pub served_memory_is_lawful : IsLawful served_memory
+unfolding served_memory
+served_memory_is_lawful =
+    let f = fenced_memory_is_lawful in record {
+      reached_rights = λ m va access. f.reached_rights m.memory va access;
+      reached_faults = λ m va access. f.reached_faults m.memory va access;
+      stored_bytes = λ m va byte q. f.stored_bytes m.memory va byte q;
+      stored_rights = λ m va byte. f.stored_rights m.memory va byte;
+      stored_faults = λ m va byte. f.stored_faults m.memory va byte;
+    }
+
+-- the directory of an environment, where there is one
+abbrev pub directory_in : Slot → Option ℕ
+directory_in slot = if is_live slot then Some slot.directory else None
+
+abbrev pub own_memory : KernelState → ℕ → Running
+own_memory s n = record { state = s; directory = directory_in (slot_at s n) }
+
+abbrev pub serving_of : Parts → Serving
+serving_of s = record { memory = own_memory (kernel_state s) s.slot; slot = s.slot; calls = s.calls }
+
+-- A trap was handed to a handler; or nothing is changed, and the line tells of its environment's end.
+abbrev pub IsHanded : Option Line → Trapped → KernelState → ℕ → KernelState → Type 0
+IsHanded None did before n now = did ≡ record { state = now; written = [] }
+IsHanded (Some line) did before n now = (did ≡ trapped_by (killed before n line)) × (now ≡ before)
+
+-- A step is done, with the trap that it raised, and so many bytes are written, all of them; or the host failed in the
+-- middle of them.
+abbrev pub Follows : Result Followed Failed → EnvStep → KernelState → Around (Option (List ℕ)) → Type 0
+Follows (Ok followed) step state console =
+    (state ≡ step.state) × (followed.written ≡ length step.written) × (followed.trap ≡ step.trap) × Gains console step.written
+Follows (Err _) step state console = GainsPart console step.written

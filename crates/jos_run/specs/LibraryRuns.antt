@@ -1,0 +1,110 @@
+-- Where a run of the library's programs stands, between two turns and in one: the abstract system has made the turns so far,
+-- with the visible steps of the turn under way, and the kernel's state stands for where it has come to.
+use Rattle.std.specs.Prelude.{◌≡◌, ◌≢◌, ℕ, ◌+◌, ◌==◌, ◌&&◌, nat_le, not, Bool, true, false, List, [], ◌∷◌, ◌++◌}
+use Rattle.std.specs.Prelude.{Option, Some, None, is_none, if◌then◌else◌}
+use Rattle.jos_base.specs.declared.environment.EnvType.{EnvType}
+use Rattle.jos_base.specs.declared.environment.EnvType.TheVariants.{User, FileServer}
+use Rattle.jos_base.specs.declared.numbers.TheConstants.{NENV, TURN_MAX}
+use Rattle.jos_base.specs.Environments.{Slot as KernelSlot, is_live, is_running}
+use Rattle.jos_base.specs.KernelState.{KernelState, slot_at}
+use Rattle.jos_sched.specs.RoundRobin.{next}
+use Rattle.jos_kernel.specs.declared.report.End.{End}
+use Rattle.jos_kernel.specs.declared.report.End.TheVariants.{Done, Stuck, Budget, TurnsFull}
+use Rattle.jos_kernel.specs.declared.report.Turn.{Turn}
+use Rattle.fs_layout.specs.DiskImage.{some_below}
+use Rattle.lib_os.specs.declared.place.Place.{Place}
+use Rattle.lib_os.specs.declared.place.Place.TheVariants as place
+use Rattle.lib_os.specs.declared.progress.Progress.{Progress}
+use Rattle.lib_os.specs.declared.progress.Progress.TheVariants as progress
+use Rattle.lib_os.specs.declared.service.Service.TheVariants as service
+use Rattle.lib_os.specs.AbstractState.{AbstractState}
+use Rattle.lib_os.specs.LibrarySteps.{Stands}
+use Rattle.jos_run.specs.AbstractTurns.{next_slot, turn_begun, steps_taken, turn_taken, abs_run, turn_fits, holds_of}
+
+-- ---- the kernel's slots
+
+-- between two turns no slot is RUNNING
+abbrev pub NoneRuns : KernelState → Type 0
+NoneRuns s = (n : ℕ) → is_running (slot_at s n).status ≡ false
+
+-- and in a turn no other
+abbrev pub OnlyRuns : KernelState → ℕ → Type 0
+OnlyRuns s n = (m : ℕ) → m ≢ n → is_running (slot_at s m).status ≡ false
+
+abbrev pub is_user : EnvType → Bool
+is_user User = true
+is_user FileServer = false
+
+-- no file server stands but in slot 0
+abbrev pub OnlyFirstServes : KernelState → Type 0
+OnlyFirstServes s = (n : ℕ) → n ≢ 0 → is_user (slot_at s n).env_type ≡ true
+
+-- so each slot is one of these, while slot n has its turn
+abbrev pub Calm : ℕ → ℕ → KernelSlot → Type 0
+Calm n m k = (m ≢ n → is_running k.status ≡ false) × (m ≢ 0 → is_user k.env_type ≡ true)
+
+pub record OneRuns (s : KernelState) (n : ℕ) : Type 0 where
+  pub each : (m : ℕ) → Calm n m (slot_at s m)
+
+-- ---- turns
+
+abbrev pub turn_of : ℕ → ℕ → ℕ → Turn
+turn_of n visible hidden = record { slot = n; visible = visible; hidden = hidden }
+
+-- Each turn fits as one that is not the last, from turn k on.
+unfoldable pub all_fit : List ℕ → ℕ → AbstractState → List Turn → Bool
+all_fit schedule k a [] = true
+all_fit schedule k a (turn ∷ rest) =
+    holds_of (turn_taken a turn) (λ b. turn_fits schedule k false a turn b && all_fit schedule (k + 1) b rest)
+
+-- ---- where a run stands
+
+-- After these turns, and in none: these bytes were written.
+pub record IsBetween (schedule : List ℕ) (first : AbstractState) (turns : List Turn) (s : KernelState) (written : List ℕ) : Type 0 where
+  pub now : AbstractState
+  pub ran : abs_run first turns ≡ Some now
+  pub stands : Stands s now
+  pub console : now.console ≡ first.console ++ written
+  pub none : NoneRuns s
+  pub fit : all_fit schedule 0 first turns ≡ true
+
+-- After these turns, in that of slot n, which has made so many visible steps.
+pub record IsInTurn (schedule : List ℕ) (first : AbstractState) (turns : List Turn) (n visible : ℕ) (s : KernelState) (written : List ℕ) : Type 0 where
+  pub before : AbstractState
+  pub ran : abs_run first turns ≡ Some before
+  pub chosen : next_slot before ≡ Some n
+  pub now : AbstractState
+  pub taken : steps_taken (turn_begun before n) n visible ≡ Some now
+  pub stands : Stands s now
+  pub console : now.console ≡ first.console ++ written
+  pub only : OnlyRuns s n
+  pub fit : all_fit schedule 0 first turns ≡ true
+
+-- ---- steps
+
+-- the visible steps of a turn after one that has come to this
+abbrev pub seen_after : Progress → ℕ → ℕ
+seen_after progress.Hidden visible = visible
+seen_after progress.Waited visible = visible
+seen_after progress.Visible visible = visible + 1
+seen_after progress.Finished visible = visible + 1
+seen_after progress.Ended visible = visible + 1
+
+abbrev pub is_yield : Place → Bool
+is_yield (place.InService service.Yield s) = true
+is_yield _ = false
+
+-- ---- the end
+
+-- a slot but the file server's is live
+abbrev pub others_live : KernelState → Bool
+others_live s = some_below NENV (λ n. not (n == 0) && is_live (slot_at s n))
+
+-- the end tests between two turns as the kernel's state tells them
+abbrev pub end_seen : KernelState → ℕ → Bool → Option End
+end_seen s turns spent =
+    if not (others_live s) then Some Done
+    else if is_none (next s.environments s.last) then Some Stuck
+    else if spent then Some Budget
+    else if nat_le TURN_MAX turns then Some TurnsFull
+    else None

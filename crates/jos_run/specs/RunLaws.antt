@@ -1,0 +1,57 @@
+-- What turns of the kernel are to the abstract system: the same slot is chosen, the same end test holds, and a run goes on
+-- from turn to turn and from step to step as the abstract run does.
+use Rattle.std.specs.Prelude.{◌≡◌, ℕ, true, Bool, List, [], ◌∷◌, ◌++◌, length, false, Some}
+use Rattle.jos_base.specs.KernelState.{KernelState, turn_begun, turn_ended}
+use Rattle.jos_sched.specs.RoundRobin.{next}
+use Rattle.jos_kernel.specs.declared.report.Turn.{Turn}
+use Rattle.lib_os.specs.declared.progress.Progress.{Progress}
+use Rattle.lib_os.specs.AbstractState.{AbstractState}
+use Rattle.lib_os.specs.LibrarySteps.{Stands, Keeps, NothingRefused}
+use Rattle.lib_os.specs.StandsFor.{StandsFor, Names}
+use Rattle.lib_os.specs.UserCalls.{system}
+use Rattle.jos_run.specs.AbstractTurns.{next_slot, end_of, turn_fits, fits}
+use Rattle.jos_run.specs.LibraryRuns.{NoneRuns, OnlyRuns, OnlyFirstServes, OneRuns, turn_of, IsBetween, IsInTurn, seen_after, end_seen}
+
+-- Between two turns the kernel chooses the slot that the abstract system chooses.
+abbrev pub ChoicesAgree : Type 0
+ChoicesAgree = (names : Names) (s : KernelState) (a : AbstractState) → StandsFor names s a → NoneRuns s →
+    next s.environments s.last ≡ next_slot a
+
+-- And the same end test holds there, after so many turns, with the budget spent or not.
+abbrev pub EndsAgree : Type 0
+EndsAgree = (names : Names) (s : KernelState) (a : AbstractState) → StandsFor names s a → NoneRuns s → OnlyFirstServes s →
+    (turns : ℕ) (spent : Bool) → end_of a turns spent ≡ end_seen s turns spent
+
+-- A run begins where the kernel's state stands for the first abstract one.
+abbrev pub RunsBegin : Type 0
+RunsBegin = (schedule : List ℕ) (first : AbstractState) (s : KernelState) → Stands s first → NoneRuns s →
+    IsBetween schedule first [] s []
+
+-- The turn of the slot that is chosen begins.
+abbrev pub TurnsBegin : Type 0
+TurnsBegin = (schedule : List ℕ) (first : AbstractState) (turns : List Turn) (s : KernelState) (written : List ℕ) →
+    IsBetween schedule first turns s written → (n : ℕ) → next s.environments s.last ≡ Some n →
+    IsInTurn schedule first turns n 0 (turn_begun s n) written
+
+-- A step that keeps what the library's steps promise leads on in its turn.
+abbrev pub StepsLeadOn : Type 0
+StepsLeadOn = (schedule : List ℕ) (first : AbstractState) (turns : List Turn) (n visible : ℕ) (s after : KernelState)
+    (written bytes : List ℕ) → IsInTurn schedule first turns n visible s written → (progress : Progress) →
+    Keeps progress n s after bytes → NothingRefused s after → OnlyRuns after n →
+    IsInTurn schedule first turns n (seen_after progress visible) after (written ++ bytes)
+
+-- A turn that fits ends.
+abbrev pub TurnsEnd : Type 0
+TurnsEnd = (schedule : List ℕ) (first : AbstractState) (turns : List Turn) (n visible : ℕ) (s : KernelState) (written : List ℕ)
+    (h : IsInTurn schedule first turns n visible s written) (hidden : ℕ) →
+    turn_fits schedule (length turns) false h.before (turn_of n visible hidden) h.now ≡ true →
+    IsBetween schedule first (turns ++ turn_of n visible hidden ∷ []) (turn_ended s n) written
+
+-- Between two turns all turns fit the schedule.
+abbrev pub RunsFit : Type 0
+RunsFit = (schedule : List ℕ) (first : AbstractState) (turns : List Turn) (s : KernelState) (written : List ℕ) →
+    IsBetween schedule first turns s written → fits schedule 0 first turns ≡ true
+
+-- A system call that the library makes for a slot leaves no other RUNNING.
+abbrev pub CallsLeaveTurns : Type 0
+CallsLeaveTurns = (n : ℕ) (s : KernelState) (number : ℕ) (args : List ℕ) → OneRuns s n → OneRuns (system s n number args).state n

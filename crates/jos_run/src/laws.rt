@@ -1,0 +1,25 @@
+//! What turns of the kernel are to the abstract system. Nothing here is to be run: each clause is a theorem.
+
+ghost use Rattle.jos_run.specs.RunLaws.{ChoicesAgree, EndsAgree, RunsBegin, TurnsBegin, StepsLeadOn, TurnsEnd, RunsFit};
+ghost use Rattle.jos_run.specs.RunLaws.{CallsLeaveTurns};
+
+/// Between two turns the kernel chooses the slot that the abstract system chooses, and ends where that does.
+pub fn turns_are_chosen_alike()
+    ensures choice { ChoicesAgree }
+    ensures end { EndsAgree }
+{}
+
+/// A run of the kernel goes on, from turn to turn and step to step, as the abstract system's run does, and its turns fit the
+/// schedule.
+pub fn runs_go_on_alike()
+    ensures run_begins { RunsBegin }
+    ensures turn_begins { TurnsBegin }
+    ensures step { StepsLeadOn }
+    ensures turn_ends { TurnsEnd }
+    ensures fit { RunsFit }
+{}
+
+/// A system call that the library makes leaves the turns of others.
+pub fn calls_leave_turns()
+    ensures { CallsLeaveTurns }
+{}

@@ -1,0 +1,131 @@
+//! One step of an environment that the library serves.
+
+ghost use Rattle.std.specs.Prelude.{◌≡◌, ◌+◌, ◌-◌, ◌%◌, ◌==◌, ◌<◌, ◌≤◌, ◌^◌, true};
+ghost use Rattle.jos_host.specs.Told.{HasCause};
+ghost use Rattle.jos_host.specs.Frames.{Unchanged, around};
+ghost use Rattle.jos_base.specs.declared.numbers.TheConstants.{NENV};
+ghost use Rattle.jos_base.specs.Environments.{is_live, is_runnable, is_running};
+ghost use Rattle.jos_base.specs.KernelState.{slot_at};
+ghost use Rattle.lib_os.specs.InOrder.{IsInOrder};
+ghost use Rattle.lib_os.specs.LibrarySteps.{IsLibraryStep, Lowers};
+ghost use Rattle.lib_os.specs.Places.{place_of};
+ghost use Rattle.lib_os.specs.declared.place.Place.TheVariants as place;
+ghost use Rattle.jos_run.specs.Served.{kernel_state};
+ghost use Rattle.jos_run.specs.Steps.{is_awake, progress_of};
+
+use crate::served::Served;
+use jos_base::{NENV, Status};
+use jos_host::{Failed, Host};
+use jos_kernel::TrapLine;
+use lib_mem::mem_step;
+use lib_msg::msg_step;
+use lib_os::{Place, Progress, Service, UserOs, find_place};
+use lib_spawn::spawn_step;
+
+/// What a step has come to, and the trap that it raised, if it raised one.
+#[derive(Clone, Copy, Debug, PartialEq, Eq)]
+pub struct Stepped {
+    pub progress: Progress,
+    pub trap: Option<TrapLine>,
+}
+
+/// A step of a service raises no trap.
+fn served_quietly(answer: Result<Progress, Failed>) -> Result<Stepped, Failed>
+    ensures { progress_of result ≡ answer }
+{
+    match answer {
+        Ok(progress) => Ok(Stepped {
+            progress,
+            trap: None,
+        }),
+        Err(failed) => Err(failed),
+    }
+}
+
+impl Served {
+    /// Whether the environment waits for its turn.
+    fn is_runnable(&self) -> bool
+        ensures { result ≡ is_runnable (slot_at (kernel_state self.now) self.now.slot).status }
+    {
+        matches!(self.system.environment(self.slot).status, Status::Runnable)
+    }
+
+    /// Whether it is its turn.
+    fn is_running(&self) -> bool
+        ensures { result ≡ is_running (slot_at (kernel_state self.now) self.now.slot).status }
+    {
+        matches!(self.system.environment(self.slot).status, Status::Running)
+    }
+
+    /// Whether the environment may have steps.
+    pub fn is_awake(&self) -> bool
+        ensures { result ≡ is_awake (slot_at (kernel_state self.now) self.now.slot).status }
+    {
+        self.is_runnable() || self.is_running()
+    }
+
+    /// Whether the environment's id names its slot, as each does that the table has given.
+    pub fn is_numbered(&self) -> bool
+        ensures { result ≡ ((slot_at (kernel_state self.now) self.now.slot).id % NENV == self.now.slot) }
+    {
+        self.system.environment(self.slot).id.0 % NENV == self.slot as u32
+    }
+
+    /// Makes one step of the program: an instruction, with what comes of it.
+    fn step_program<H: Host>(&mut self, host: &mut H) -> Result<Stepped, Failed>
+        requires live { is_live (slot_at (kernel_state self.old) self.old.slot) ≡ true }
+        requires awake { is_awake (slot_at (kernel_state self.old) self.old.slot).status ≡ true }
+        requires at { place_of (slot_at (kernel_state self.old) self.old.slot) ≡ place.Guest }
+        ensures step { IsLibraryStep (progress_of result) self.old.slot (kernel_state self.old) (kernel_state self.new) (around H.console host.old host.new) }
+        ensures lowers { Lowers (progress_of result) (place_of (slot_at (kernel_state self.old) self.old.slot)) (place_of (slot_at (kernel_state self.new) self.new.slot)) }
+        ensures slot { self.new.slot ≡ self.old.slot }
+        ensures calls { self.new.calls ≡ self.old.calls }
+        ensures rest { Unchanged H.files H.input H.asked H.notes host.old host.new }
+        ensures cause { HasCause (H.faults host.old) (H.faults host.new) result }
+    {
+        match self.step_guest(host) {
+            Ok(followed) => {
+                let progress = if self.is_live() {
+                    Progress::Visible
+                } else {
+                    Progress::Ended
+                };
+                Ok(Stepped {
+                    progress,
+                    trap: followed.trap,
+                })
+            }
+            Err(failed) => Err(failed),
+        }
+    }
+
+    /// Makes one step of the environment that is served: of its program, or of the service that it is in.
+    ///
+    /// # Errors
+    /// A call of the host failed while the step wrote to the console.
+    pub fn step<H: Host>(&mut self, host: &mut H) -> Result<Stepped, Failed>
+        requires live { is_live (slot_at (kernel_state self.old) self.old.slot) ≡ true }
+        requires awake { is_awake (slot_at (kernel_state self.old) self.old.slot).status ≡ true }
+        requires numbered { (slot_at (kernel_state self.old) self.old.slot).id % NENV ≡ self.old.slot }
+        requires few { self.old.calls < 2 ^ 32 - 1 }
+        ensures step { IsLibraryStep (progress_of result) self.old.slot (kernel_state self.old) (kernel_state self.new) (around H.console host.old host.new) }
+        ensures lowers { Lowers (progress_of result) (place_of (slot_at (kernel_state self.old) self.old.slot)) (place_of (slot_at (kernel_state self.new) self.new.slot)) }
+        ensures slot { self.new.slot ≡ self.old.slot }
+        ensures calls { self.new.calls ≤ self.old.calls + 1 }
+        ensures rest { Unchanged H.files H.input H.asked H.notes host.old host.new }
+        ensures cause { HasCause (H.faults host.old) (H.faults host.new) result }
+    {
+        let registers = self.registers();
+        let words = self.extra();
+        match find_place(&registers, &words) {
+            Place::Guest => self.step_program(host),
+            Place::InService { service, step: _ } => match service {
+                Service::Exit | Service::Wait { .. } => served_quietly(spawn_step(self, host)),
+                Service::Send { .. } | Service::Receive { .. } => {
+                    served_quietly(msg_step(self, host))
+                }
+                _ => served_quietly(mem_step(self, host)),
+            },
+        }
+    }
+}

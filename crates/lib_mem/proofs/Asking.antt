@@ -1,0 +1,88 @@
+-- getid and yield: the state is as before, or the environment may run on and has given up its turn.
+use Rattle.std.proofs.Common.{◌≡◌, ◌∙◌, ℕ, true, List, [], Option, Some, Result, refl, sym, ap, subst}
+use Rattle.jos_host.specs.declared.host.Failed.{Failed}
+use Rattle.jos_host.specs.Frames.{Around}
+use Rattle.jos_base.specs.declared.environment.Status.TheVariants.{Runnable}
+use Rattle.jos_base.specs.declared.numbers.TheConstants.{SYS_GETENVID, SYS_YIELD}
+use Rattle.jos_base.specs.declared.registers.Regs.{Regs}
+use Rattle.jos_base.specs.Environments.{Slot as KernelSlot, is_live}
+use Rattle.jos_base.specs.KernelState.{KernelState, slot_at, with_status}
+use Rattle.lib_os.specs.declared.place.Place.TheVariants as place
+use Rattle.lib_os.specs.declared.place.Step.{Step}
+use Rattle.lib_os.specs.declared.progress.Progress.{Progress}
+use Rattle.lib_os.specs.declared.service.Service.TheVariants as service
+use Rattle.lib_os.specs.AbstractState.{AbstractState, Born, entered}
+use Rattle.lib_os.specs.Answers.{back_with}
+use Rattle.lib_os.specs.LibraryCall.{library_step}
+use Rattle.lib_os.specs.LibrarySteps.{IsLibraryStep, answered}
+use Rattle.lib_os.specs.Places.{place_of}
+use Rattle.lib_os.specs.StandsFor.{StandsFor, Names}
+use Rattle.lib_os.specs.UserCalls.{system}
+use Rattle.lib_os.proofs.Calls.{getenvid_is, yield_is}
+use Rattle.lib_os.proofs.Serving.{printed_nothing}
+use Rattle.lib_os.proofs.Slots.{slot_put}
+use Rattle.lib_os.proofs.StatesStand.{status_stands}
+use Rattle.lib_mem.specs.Passing.{MayPass, IsPassed}
+use Rattle.lib_mem.proofs.Passing.{here, Leads, answer_stands, passed_kept}
+
+-- ---- getid
+
+getid_step : (a : AbstractState) (n : ℕ) (b : Born) (regs : Regs) →
+    library_step a n b regs service.GetId entered ≡ Some (back_with a n b (record regs { eax = b.id }))
+unfolding library_step
+getid_step a n b regs = refl
+
+module _ (s : KernelState) (n : ℕ) (step : Step) (args : List ℕ) (live : is_live (slot_at s n) ≡ true)
+    (at : place_of (slot_at s n) ≡ place.InService service.GetId step) where
+  pub getid_may : MayPass n (system s n SYS_GETENVID args)
+  getid_may = subst (λ call. MayPass n call) (sym (getenvid_is s n live args)) live
+
+  getid_leads : (names : Names) (a : AbstractState) → StandsFor names s a → Leads s n [] s (answered s n (slot_at s n).id) a
+  getid_leads names a h =
+      let i = here h n service.GetId step refl at in
+      let id_is : (slot_at s n).id ≡ i.b.id = i.own.id in
+      let regs = (slot_at s n).registers in (
+        back_with a n i.b (record regs { eax = (slot_at s n).id }),
+        i.goes ∙ getid_step a n i.b regs ∙ ap (λ (word : ℕ). Some (back_with a n i.b (record regs { eax = word }))) (sym id_is),
+        printed_nothing a,
+        λ in_order quiet. (names, answer_stands h n i.b i.is i.at.silent i.at.awake (slot_at s n).id),
+      )
+
+  pub getid_kept : (result : Result Progress Failed) (after : KernelState) (console : Around (Option (List ℕ))) →
+      IsPassed (system s n SYS_GETENVID args) n result after console → IsLibraryStep result n s after console
+  getid_kept result after console passed =
+      passed_kept s after n console s [] (system s n SYS_GETENVID args) (slot_at s n).id result (getenvid_is s n live args) getid_leads passed
+
+-- ---- yield
+
+yield_step : (a : AbstractState) (n : ℕ) (b : Born) (regs : Regs) →
+    library_step a n b regs service.Yield entered ≡ Some (back_with a n b (record regs { eax = 0 }))
+unfolding library_step
+yield_step a n b regs = refl
+
+module _ (s : KernelState) (n : ℕ) (step : Step) (args : List ℕ) (live : is_live (slot_at s n) ≡ true)
+    (at : place_of (slot_at s n) ≡ place.InService service.Yield step) where
+  pub yield_may : MayPass n (system s n SYS_YIELD args)
+  yield_may =
+      subst (λ call. MayPass n call) (sym (yield_is s n live args)) (ap (λ (k : KernelSlot). is_live k) (slot_put s n (record (slot_at s n) { status = Runnable })))
+
+  yield_leads : (names : Names) (a : AbstractState) → StandsFor names s a → Leads s n [] (with_status s n Runnable) (answered (with_status s n Runnable) n 0) a
+  yield_leads names a h =
+      let i = here h n service.Yield step refl at in
+      let put : slot_at (with_status s n Runnable) n ≡ record (slot_at s n) { status = Runnable } =
+      slot_put s n (record (slot_at s n) { status = Runnable }) in (
+        back_with a n i.b (record (slot_at (with_status s n Runnable) n).registers { eax = 0 }),
+        i.goes ∙ yield_step a n i.b (slot_at s n).registers
+            ∙ ap (λ (k : KernelSlot). Some (back_with a n i.b (record k.registers { eax = 0 }))) (sym put),
+        printed_nothing a,
+        λ in_order quiet. (
+          names,
+          answer_stands (status_stands h n i.b i.is i.at.awake) n i.b i.is
+              (ap (λ (k : KernelSlot). k.rendezvous.receiving) put ∙ i.at.silent) i.at.awake 0,
+        ),
+      )
+
+  pub yield_kept : (result : Result Progress Failed) (after : KernelState) (console : Around (Option (List ℕ))) →
+      IsPassed (system s n SYS_YIELD args) n result after console → IsLibraryStep result n s after console
+  yield_kept result after console passed =
+      passed_kept s after n console (with_status s n Runnable) [] (system s n SYS_YIELD args) 0 result (yield_is s n live args) yield_leads passed

@@ -1,0 +1,6 @@
+pub mod Passing
+pub mod Asking
+pub mod Refusing
+pub mod Dropping
+pub mod Making
+pub mod Printing

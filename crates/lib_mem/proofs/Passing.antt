@@ -1,0 +1,161 @@
+-- A service of this crate, at its only step, and its answer. Where the kernel's state stands for an abstract one, so it does
+-- behind the answer.
+use Rattle.std.proofs.Common.{◌≡◌, ◌∙◌, ℕ, true, false, List, Option, Some, Result, Ok, Err, refl, sym, ap, subst}
+use Rattle.std.specs.Prelude.{◌++◌}
+use Rattle.jos_host.specs.declared.host.Failed.{Failed}
+use Rattle.jos_host.specs.Frames.{Around}
+use Rattle.jos_host.specs.Gains.{GainsPart}
+use Rattle.jos_base.specs.declared.called.Called.{Called}
+use Rattle.jos_base.specs.declared.called.Called.TheVariants.{Answered, Ended}
+use Rattle.jos_base.specs.declared.registers.Regs.{Regs}
+use Rattle.jos_base.specs.Environments.{Slot as KernelSlot, no_extra}
+use Rattle.jos_base.specs.KernelState.{KernelState, slot_at}
+use Rattle.lib_os.specs.declared.place.Place.TheVariants as place
+use Rattle.lib_os.specs.declared.place.Step.{Step}
+use Rattle.lib_os.specs.declared.place.Step.TheVariants as step
+use Rattle.lib_os.specs.declared.progress.Progress.{Progress}
+use Rattle.lib_os.specs.declared.progress.Progress.TheVariants as progress
+use Rattle.lib_os.specs.declared.service.Service.{Service}
+use Rattle.lib_os.specs.declared.service.Service.TheVariants as service
+use Rattle.lib_os.specs.AbstractState.{AbstractState, Born, born, guest, at_guest, entered, with_born}
+use Rattle.lib_os.specs.AbstractRun.{abs_step}
+use Rattle.lib_os.specs.Answers.{back_with}
+use Rattle.lib_os.specs.InOrder.{IsInOrder}
+use Rattle.lib_os.specs.LibraryCall.{library_step}
+use Rattle.lib_os.specs.LibrarySteps.{Stands, NothingRefused, IsLibraryStep, answered}
+use Rattle.lib_os.specs.Places.{place_of}
+use Rattle.lib_os.specs.StandsFor.{StandsFor, Names, Row, rows_of, StandsForBorn, StandsAtStep, IsIn}
+use Rattle.lib_os.specs.UserCalls.{got, Step as Call}
+use Rattle.lib_os.proofs.Maps.{upd-at, upd-twice}
+use Rattle.lib_os.proofs.Serving.{served, step_in, back_at_guest}
+use Rattle.lib_os.proofs.StatesStand.{slot_changed}
+use Rattle.lib_os.proofs.SlotsStand.{born_at}
+use Rattle.lib_mem.specs.Own.{is_own_service}
+use Rattle.lib_mem.specs.Passing.{IsPassed}
+
+-- ---- at the beginning
+
+-- each of these services is one step
+own_in : (row : Row) (k : KernelSlot) (b : Born) (s : Service) (t : Step) → is_own_service s ≡ true → StandsAtStep row k b s t → IsIn k b s entered
+own_in row k b (service.Cputs va len) step.Entered own h = h
+own_in row k b service.GetId step.Entered own h = h
+own_in row k b service.Yield step.Entered own h = h
+own_in row k b (service.PageNew va flags) step.Entered own h = h
+own_in row k b (service.PageDrop va) step.Entered own h = h
+own_in row k b service.Unknown step.Entered own h = h
+own_in row k b (service.Wait id) t own h = absurd (let no_own : false ≡ true = own in cc)
+own_in row k b (service.Send id value va) t own h = absurd (let no_own : false ≡ true = own in cc)
+own_in row k b (service.Receive va from) t own h = absurd (let no_own : false ≡ true = own in cc)
+own_in row k b _ step.Entered own h = absurd (let no_own : false ≡ true = own in cc)
+own_in row k b _ _ own h = absurd h
+
+-- an environment that is in one of them
+pub record IsHere (names : Names) (s : KernelState) (a : AbstractState) (n : ℕ) (service : Service) : Type 0 where
+  pub b : Born
+  pub is : a.slots n ≡ born b
+  pub own : StandsForBorn names s.spaces (slot_at s n) b
+  pub at : IsIn (slot_at s n) b service entered
+  pub goes : abs_step a n ≡ library_step a n b (slot_at s n).registers service entered
+
+pub here : {names : Names} {s : KernelState} {a : AbstractState} → StandsFor names s a → (n : ℕ) (service : Service) (step : Step) →
+    is_own_service service ≡ true → place_of (slot_at s n) ≡ place.InService service step → IsHere names s a n service
+here {s = s} {a = a} h n service step own at =
+    let begun = served h n service step at in
+    let is_in = own_in (rows_of s.spaces (slot_at s n).directory) (slot_at s n) begun.b service step own begun.at in
+    record {
+      b = begun.b;
+      is = begun.is;
+      own = begun.own;
+      at = is_in;
+      goes = step_in a n begun.b (slot_at s n) service entered begun.is is_in;
+    }
+
+-- ---- its answer
+
+-- whoever is in a service of this slot goes back to its program with an answer
+pub answer_stands : {names : Names} {s : KernelState} {a : AbstractState} → StandsFor names s a → (n : ℕ) (b : Born) → a.slots n ≡ born b →
+    (slot_at s n).rendezvous.receiving ≡ false → b.blocked ≡ false → (word : ℕ) →
+    StandsFor names (answered s n word) (back_with a n b (record (slot_at s n).registers { eax = word }))
+answer_stands {s = s} h n b at silent awake word =
+    let regs : Regs = record (slot_at s n).registers { eax = word } in
+    slot_changed h n b at (record (slot_at s n) { registers = regs; extra = no_extra }) _ refl
+    (back_at_guest regs (born_at h n b at) silent awake refl)
+
+born_twice : (a : AbstractState) (n : ℕ) (b c : Born) → with_born (with_born a n b) n c ≡ with_born a n c
+born_twice a n b c = λ i. record a { slots = upd-twice a.slots n (born b) (born c) i }
+
+-- the same where its own part has changed before
+pub changed_stands : {names : Names} {s : KernelState} (a : AbstractState) (n : ℕ) (b : Born) → StandsFor names s (with_born a n b) →
+    (slot_at s n).rendezvous.receiving ≡ false → b.blocked ≡ false → (word : ℕ) →
+    StandsFor names (answered s n word) (back_with a n b (record (slot_at s n).registers { eax = word }))
+changed_stands {names = names} {s = s} a n b h silent awake word =
+    let back = record b { program = guest (record (slot_at s n).registers { eax = word }); phase = at_guest; blocked = false } in
+    subst (λ (x : AbstractState). StandsFor names (answered s n word) x) (born_twice a n b back)
+    (answer_stands h n b (upd-at a.slots n (born b)) silent awake word)
+
+-- ---- the call
+
+-- What is to be shown of a call that writes these bytes and leads to a state, behind its answer to another: the abstract step,
+-- which prints the bytes, and that the last state stands for the abstract one after it.
+abbrev pub Leads : KernelState → ℕ → List ℕ → KernelState → KernelState → AbstractState → Type 0
+Leads s n written state last a =
+    (b : AbstractState) × (abs_step a n ≡ Some b) × (b.console ≡ a.console ++ written)
+    × (IsInOrder state → NothingRefused s last → Stands last b)
+
+-- a call that answers in a state, and one that ends the environment
+abbrev pub telling : KernelState → ℕ → List ℕ → Call Called
+telling state word written = record { state = state; gives = got (Answered word); written = written }
+
+abbrev pub ending : KernelState → List ℕ → Call Called
+ending state written = record { state = state; gives = got Ended; written = written }
+
+module _ (s after : KernelState) (n : ℕ) (console : Around (Option (List ℕ))) (state : KernelState) (written : List ℕ) where
+  -- whatever it gives, where the host has failed
+  failed_kept : (last : KernelState) (failed : Failed) →
+      ((names : Names) (a : AbstractState) → StandsFor names s a → Leads s n written state last a) →
+      GainsPart console written → IsLibraryStep (Err failed) n s after console
+  failed_kept last failed leads gains = (written, gains, λ a h wrote. let l = leads h.0 a h.1 in (l.0, l.1, l.2))
+
+  pub told_kept : (word : ℕ) (result : Result Progress Failed) →
+      ((names : Names) (a : AbstractState) → StandsFor names s a → Leads s n written state (answered state n word) a) →
+      IsPassed (telling state word written) n result after console → IsLibraryStep result n s after console
+  told_kept word (Ok progress.Finished) leads passed =
+      let told : got (Answered word) ≡ got (Answered passed.0) = passed.1 in
+      let word_is : word ≡ passed.0 = cc in
+      let same : answered state n word ≡ after = ap (λ (w : ℕ). answered state n w) word_is ∙ sym passed.2 in (
+        written,
+        passed.3,
+        λ a h quiet. let l = leads h.0 a h.1 in
+            (l.0, l.1, l.2, subst (λ (x : KernelState). NothingRefused s x → Stands x l.0) same (l.3 passed.4) quiet),
+      )
+  told_kept word (Ok progress.Ended) leads passed =
+      absurd (let told : got (Answered word) ≡ got Ended = passed.0 in cc)
+  told_kept word (Err failed) leads passed = failed_kept (answered state n word) failed leads passed
+  told_kept word (Ok _) leads passed = absurd passed
+
+  pub over_kept : (result : Result Progress Failed) →
+      ((names : Names) (a : AbstractState) → StandsFor names s a → Leads s n written state state a) →
+      IsPassed (ending state written) n result after console → IsLibraryStep result n s after console
+  over_kept (Ok progress.Finished) leads passed =
+      absurd (let told : got Ended ≡ got (Answered passed.0) = passed.1 in cc)
+  over_kept (Ok progress.Ended) leads passed = (
+    written,
+    passed.2,
+    λ a h quiet. let l = leads h.0 a h.1 in
+        (l.0, l.1, l.2, subst (λ (x : KernelState). NothingRefused s x → Stands x l.0) (sym passed.1) (l.3 passed.3) quiet),
+  )
+  over_kept (Err failed) leads passed = failed_kept state failed leads passed
+  over_kept (Ok _) leads passed = absurd passed
+
+  -- the same of a call that comes to one
+  pub passed_kept : (call : Call Called) (word : ℕ) (result : Result Progress Failed) → call ≡ telling state word written →
+      ((names : Names) (a : AbstractState) → StandsFor names s a → Leads s n written state (answered state n word) a) →
+      IsPassed call n result after console → IsLibraryStep result n s after console
+  passed_kept call word result is leads passed =
+      told_kept word result leads (subst (λ (x : Call Called). IsPassed x n result after console) is passed)
+
+  pub ended_kept : (call : Call Called) (result : Result Progress Failed) → call ≡ ending state written →
+      ((names : Names) (a : AbstractState) → StandsFor names s a → Leads s n written state state a) →
+      IsPassed call n result after console → IsLibraryStep result n s after console
+  ended_kept call result is leads passed =
+      over_kept result leads (subst (λ (x : Call Called). IsPassed x n result after console) is passed)

@@ -1,0 +1,111 @@
+-- What is refused for what stands in the registers: the state is as before, and the answer is E_INVAL's number, negated.
+use Rattle.std.proofs.Common.{◌≡◌, ◌∙◌, ℕ, Bool, true, false, ◌||◌, not, List, [], Option, Some, Ok, Err, refl, sym, ap, subst, if◌then◌else◌}
+use Rattle.std.specs.Prelude.{nat_lt}
+use Rattle.jos_host.specs.declared.host.Failed.{Failed}
+use Rattle.jos_host.specs.Frames.{Around}
+use Rattle.jos_base.specs.declared.called.Called.{Called}
+use Rattle.jos_base.specs.declared.called.Called.TheVariants.{Answered}
+use Rattle.jos_base.specs.declared.numbers.TheConstants.{SYS_GETENVID, E_INVAL, CPUTS_MAX}
+use Rattle.jos_base.specs.declared.registers.Regs.{Regs}
+use Rattle.jos_base.specs.Environments.{is_live}
+use Rattle.jos_base.specs.KernelState.{KernelState, slot_at}
+use Rattle.jos_base.specs.Words.{negated}
+use Rattle.lib_os.specs.declared.place.Place.TheVariants as place
+use Rattle.lib_os.specs.declared.place.Step.{Step}
+use Rattle.lib_os.specs.declared.progress.Progress.TheVariants as progress
+use Rattle.lib_os.specs.declared.service.Service.{Service}
+use Rattle.lib_os.specs.declared.service.Service.TheVariants as service
+use Rattle.lib_os.specs.AbstractState.{AbstractState, Born, entered}
+use Rattle.lib_os.specs.Answers.{refused}
+use Rattle.lib_os.specs.Fence.{is_buffer, is_page_inside}
+use Rattle.lib_os.specs.InOrder.{IsInOrder}
+use Rattle.lib_os.specs.LibraryCall.{library_step}
+use Rattle.lib_os.specs.LibrarySteps.{IsLibraryStep, answered}
+use Rattle.lib_os.specs.Places.{place_of}
+use Rattle.lib_os.specs.StandsFor.{StandsFor, Names}
+use Rattle.lib_os.specs.UserCalls.{system, giving, IsCallStep, Step as Call}
+use Rattle.lib_os.proofs.Calls.{getenvid_is}
+use Rattle.lib_os.proofs.Serving.{printed_nothing}
+use Rattle.lib_mem.specs.Own.{is_own_service, IsRefused}
+use Rattle.lib_mem.proofs.Passing.{here, Leads, answer_stands, told_kept}
+
+-- ---- its step in the abstract system
+
+-- of two tests the first that holds refuses
+either : {X : Type 0} (p q : Bool) (x y : X) → (p || q) ≡ true → (if p then x else if q then x else y) ≡ x
+either true q x y is = refl
+either false true x y is = refl
+either false false x y is = absurd (let no_test : false ≡ true = is in cc)
+
+module _ (a : AbstractState) (n : ℕ) (b : Born) (regs : Regs) where
+  cputs_refused : (va len : ℕ) → IsRefused (service.Cputs va len) →
+      library_step a n b regs (service.Cputs va len) entered ≡ Some (refused a n b regs E_INVAL)
+  unfolding library_step
+  cputs_refused va len is = ap Some (either (nat_lt CPUTS_MAX len) (not (is_buffer va len)) _ _ is)
+
+  page_new_refused : (va flags : ℕ) → IsRefused (service.PageNew va flags) →
+      library_step a n b regs (service.PageNew va flags) entered ≡ Some (refused a n b regs E_INVAL)
+  unfolding library_step
+  page_new_refused va flags is = ap Some (either (nat_lt 3 flags) (not (is_page_inside va)) _ _ is)
+
+  page_drop_refused : (va : ℕ) → IsRefused (service.PageDrop va) →
+      library_step a n b regs (service.PageDrop va) entered ≡ Some (refused a n b regs E_INVAL)
+  unfolding library_step
+  page_drop_refused va is = rw is refl
+
+  unknown_refused : library_step a n b regs service.Unknown entered ≡ Some (refused a n b regs E_INVAL)
+  unfolding library_step
+  unknown_refused = refl
+
+  refused_step : (s : Service) → IsRefused s → library_step a n b regs s entered ≡ Some (refused a n b regs E_INVAL)
+  refused_step (service.Cputs va len) is = cputs_refused va len is
+  refused_step (service.PageNew va flags) is = page_new_refused va flags is
+  refused_step (service.PageDrop va) is = page_drop_refused va is
+  refused_step service.Unknown is = unknown_refused
+  refused_step _ is = absurd is
+
+refused_own : (s : Service) → IsRefused s → is_own_service s ≡ true
+refused_own (service.Cputs va len) is = refl
+refused_own (service.PageNew va flags) is = refl
+refused_own (service.PageDrop va) is = refl
+refused_own service.Unknown is = refl
+refused_own _ is = absurd is
+
+-- ---- its step
+
+module _ (s : KernelState) (n : ℕ) (of : Service) (step : Step) (args : List ℕ) (live : is_live (slot_at s n) ≡ true)
+    (at : place_of (slot_at s n) ≡ place.InService of step) (is : IsRefused of) where
+  refused_leads : (names : Names) (a : AbstractState) → StandsFor names s a → Leads s n [] s (answered s n (negated E_INVAL)) a
+  refused_leads names a h =
+      let i = here h n of step (refused_own of is) at in (
+        refused a n i.b (slot_at s n).registers E_INVAL,
+        i.goes ∙ refused_step a n i.b (slot_at s n).registers of is,
+        printed_nothing a,
+        λ in_order quiet. (names, answer_stands h n i.b i.is i.at.silent i.at.awake (negated E_INVAL)),
+      )
+
+  -- the call has left the state as it was, whatever it answered
+  asked_is : (called : Called) (mid : KernelState) (console : Around (Option (List ℕ))) →
+      IsCallStep (system s n SYS_GETENVID args) (Ok called) mid console → IsCallStep (giving s (Answered (slot_at s n).id)) (Ok called) mid console
+  asked_is called mid console came = subst (λ (x : Call Called). IsCallStep x (Ok called) mid console) (getenvid_is s n live args) came
+
+  pub refused_live : (called : Called) (mid : KernelState) (m : ℕ) (console : Around (Option (List ℕ))) →
+      IsCallStep (system s n SYS_GETENVID args) (Ok called) mid console → m ≡ n → is_live (slot_at mid m) ≡ true
+  refused_live called mid m console came same =
+      let was = asked_is called mid console came in
+      subst (λ (q : ℕ). is_live (slot_at mid q) ≡ true) (sym same)
+      (subst (λ (x : KernelState). is_live (slot_at x n) ≡ true) (sym was.1) live)
+
+  pub refused_kept : (called : Called) (mid after : KernelState) (m word : ℕ) (console : Around (Option (List ℕ))) → IsInOrder mid →
+      IsCallStep (system s n SYS_GETENVID args) (Ok called) mid console → m ≡ n → after ≡ answered mid m word → word ≡ negated E_INVAL →
+      IsLibraryStep (Ok progress.Finished) n s after console
+  refused_kept called mid after m word console in_order came same is_after word_is =
+      let was = asked_is called mid console came in
+      told_kept s after n console s [] (negated E_INVAL) (Ok progress.Finished) refused_leads
+      (negated E_INVAL, refl, is_after ∙ (λ i. answered (was.1 i) (same i) (word_is i)), was.2, subst (λ (x : KernelState). IsInOrder x) was.1 in_order)
+
+  pub refused_failed : (failed : Failed) (after : KernelState) (console : Around (Option (List ℕ))) →
+      IsCallStep (system s n SYS_GETENVID args) (Err failed) after console → IsLibraryStep (Err failed) n s after console
+  refused_failed failed after console came =
+      told_kept s after n console s [] (negated E_INVAL) (Err failed) refused_leads
+      (subst (λ (x : Call Called). IsCallStep x (Err failed) after console) (getenvid_is s n live args) came)

@@ -1,0 +1,8 @@
+use Rattle.lib_mem.proofs.Asking.{yield_may, yield_kept}
+use Rattle.lib_mem.proofs.services.give_up_turn.Goals as goal
+
+pub pass_on-requires-clause-answers : goal.pass_on-requires-clause-answers
+pass_on-requires-clause-answers g c = yield_may _ _ _ _ c.requires.live c.requires.at
+
+pub returns-clause-step : goal.returns-clause-step
+returns-clause-step g c = yield_kept _ _ _ _ c.requires.live c.requires.at _ _ _ c.pass_on.ensures.passed

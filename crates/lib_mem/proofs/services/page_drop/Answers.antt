@@ -1,0 +1,12 @@
+use Rattle.std.proofs.Common.{◌∙◌, sym}
+use Rattle.lib_mem.proofs.Dropping.{drop_may, drop_kept}
+use Rattle.lib_mem.proofs.services.page_drop.Goals as goal
+
+pub pass_on-requires-clause-answers : goal.pass_on-requires-clause-answers
+pass_on-requires-clause-answers g c =
+    drop_may _ _ _ _ _ c.requires.live c.requires.at (sym c.is_page_inside.ensures ∙ c.if-not-is_page_inside.false)
+
+pub returns-clause-step : goal.returns-clause-step
+returns-clause-step g c =
+    drop_kept _ _ _ _ _ c.requires.live c.requires.at (sym c.is_page_inside.ensures ∙ c.if-not-is_page_inside.false) _ _ _
+    c.pass_on.ensures.passed

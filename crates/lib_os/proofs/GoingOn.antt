@@ -1,0 +1,131 @@
+-- A service's step that does not answer: the words that tell how far it is are set, and its environment stands at another
+-- step of the same service. And what comes of a step that the host failed, or that is none of the service's.
+use Rattle.std.proofs.Common.{◌≡◌, ◌≢◌, ◌∙◌, ◌<◌, ℕ, Bool, true, false, List, [], Option, Some, None, Result, Ok, Err, refl, sym, ap, subst}
+use Rattle.jos_base.specs.declared.called.Called.{Called}
+use Rattle.jos_base.specs.declared.called.Called.TheVariants.{Answered}
+use Rattle.jos_base.specs.declared.environment.Status.TheVariants.{Runnable}
+use Rattle.jos_base.specs.declared.registers.Regs.{Regs}
+use Rattle.jos_base.specs.Environments.{Slot as KernelSlot, is_live, is_runnable}
+use Rattle.jos_base.specs.KernelState.{KernelState, slot_at, with_slot_at, with_extra, with_status}
+use Rattle.jos_host.specs.declared.host.Failed.{Failed}
+use Rattle.jos_host.specs.Frames.{Around}
+use Rattle.jos_host.specs.Gains.{Gains, GainsPart}
+use Rattle.lib_os.specs.declared.place.Place.{Place}
+use Rattle.lib_os.specs.declared.place.Place.TheVariants as place
+use Rattle.lib_os.specs.declared.place.Step.{Step}
+use Rattle.lib_os.specs.declared.place.Step.TheVariants as step
+use Rattle.lib_os.specs.declared.progress.Progress.{Progress}
+use Rattle.lib_os.specs.declared.progress.Progress.TheVariants as progress
+use Rattle.lib_os.specs.declared.service.Service.{Service}
+use Rattle.lib_os.specs.AbstractState.{AbstractState, Born, Slot, born, Stage}
+use Rattle.lib_os.specs.LibrarySteps.{Stands, IsLibraryStep, Keeps, Stays, Lowers, GivesUp, NothingRefused, steps_left, is_pausing}
+use Rattle.lib_os.specs.Places.{place_in, place_of, words_at}
+use Rattle.lib_os.specs.Services.{service_of}
+use Rattle.lib_os.specs.StandsFor.{StandsFor, Names, rows_of, StandsForBorn, StandsAt, StandsAtStep, IsIn}
+use Rattle.lib_os.specs.UserCalls.{Step as Call, IsCallStep}
+use Rattle.lib_os.proofs.Maps.{upd-at}
+use Rattle.lib_os.proofs.Numbered.{number_of, named_at}
+use Rattle.lib_os.proofs.Serving.{IsServed, served}
+use Rattle.lib_os.proofs.StatesStand.{slot_replaced}
+use Rattle.lib_os.proofs.WordsTell.{place_at}
+
+-- ---- places
+
+-- the place of one whose words are set, where the registers with the number name the service
+pub place_set : (s : KernelState) (n number : ℕ) (service : Service) (at : Step) →
+    service_of (record (slot_at s n).registers { eax = number }) ≡ service →
+    place_of (slot_at (with_extra s n (words_at number at)) n) ≡ place.InService service at
+place_set s n number service at is =
+    ap (λ (k : KernelSlot). place_of k) (upd-at s.environments.slots n (record (slot_at s n) { extra = words_at number at }))
+    ∙ place_at (slot_at s n).registers number at
+    ∙ ap (λ (x : Service). place.InService x at) is
+
+-- a service has gone on at a step, behind a call that left the registers as they were
+pub went_to : (s mid after : KernelState) (n m p : ℕ) (service : Service) (from to : Step) →
+    place_of (slot_at s n) ≡ place.InService service from → (slot_at mid n).registers ≡ (slot_at s n).registers → m ≡ n → p ≡ m →
+    after ≡ with_extra mid m (words_at (number_of service) to) → place_of (slot_at after p) ≡ place.InService service to
+went_to s mid after n m p service from to was kept same too state =
+    let named : service_of (record (slot_at mid n).registers { eax = number_of service }) ≡ service =
+    ap (λ (r : Regs). service_of (record r { eax = number_of service })) kept ∙ named_at (slot_at s n) service from was in
+    (λ i. place_of (slot_at (state i) (too i)))
+    ∙ (λ i. place_of (slot_at (with_extra mid (same i) (words_at (number_of service) to)) (same i)))
+    ∙ place_set mid n (number_of service) service to named
+
+-- ---- words
+
+-- an environment whose words alone are others is in its service as before
+pub in_with_words : {k : KernelSlot} {b : Born} {service : Service} {stage : Stage} (words : List ℕ) → IsIn k b service stage →
+    IsIn (record k { extra = words }) b service stage
+in_with_words words h = record { program = h.program; phase = h.phase; silent = h.silent; awake = h.awake }
+
+pub words_stand : {names : Names} {s : KernelState} {a : AbstractState} → StandsFor names s a → (n number : ℕ) (b : Born) →
+    a.slots n ≡ born b → StandsForBorn names s.spaces (slot_at s n) b → (service : Service) (at : Step) →
+    service_of (record (slot_at s n).registers { eax = number }) ≡ service →
+    StandsAtStep (rows_of s.spaces (slot_at s n).directory) (record (slot_at s n) { extra = words_at number at }) b service at →
+    StandsFor names (with_extra s n (words_at number at)) a
+words_stand {s = s} h n number b is own service at names_it so =
+    let k : KernelSlot = record (slot_at s n) { extra = words_at number at } in
+    let there : place_of k ≡ place.InService service at =
+    place_at (slot_at s n).registers number at ∙ ap (λ (x : Service). place.InService x at) names_it in
+    slot_replaced h n b is k refl (record {
+      id = own.id;
+      id_small = own.id_small;
+      parent = own.parent;
+      env_type = own.env_type;
+      runs = own.runs;
+      upcall = own.upcall;
+      descriptors = own.descriptors;
+      memory = own.memory;
+      regions = own.regions;
+      stack = own.stack;
+      at = subst (λ (p : Place). StandsAt p (rows_of s.spaces k.directory) k b) (sym there) so;
+    })
+
+-- ---- the clauses of a step
+
+pub hidden : (s after : KernelState) (n : ℕ) (console : Around (Option (List ℕ))) → Gains console [] →
+    ((names : Names) (a : AbstractState) → StandsFor names s a → NothingRefused s after → StandsFor names after a) →
+    IsLibraryStep (Ok progress.Hidden) n s after console
+hidden s after n console gains goes = ([], gains, λ a h quiet. (refl, (h.0, goes h.0 a h.1 quiet)))
+
+-- no state in which the environment is there stands for an abstract one
+pub never : (s mid after : KernelState) (n : ℕ) (call : Call Called) (called : Called) (console : Around (Option (List ℕ))) (p : Progress) →
+    IsCallStep call (Ok called) mid console → ((names : Names) (a : AbstractState) → StandsFor names s a → ⊥) →
+    IsLibraryStep (Ok p) n s after console
+never s mid after n call called console p is none = (call.written, is.2, λ a h quiet. absurd (none h.0 a h.1))
+
+-- the host failed in a call that writes nothing
+pub failed : (s mid : KernelState) (n : ℕ) (call : Call Called) (e : Failed) (console : Around (Option (List ℕ))) →
+    call.written ≡ [] → IsCallStep call (Err e) mid console → IsLibraryStep (Err e) n s mid console
+failed s mid n call e console nothing is =
+    ([], subst (λ (written : List ℕ). GainsPart console written) nothing is, λ a h some. absurd (some refl))
+
+pub lowered : (before after : Place) (service : Service) (from to : Step) → before ≡ place.InService service from →
+    after ≡ place.InService service to →
+    steps_left (place.InService service to) < steps_left (place.InService service from) → Lowers (Ok progress.Hidden) before after
+lowered before after service from to was is less =
+    subst (λ (p : Place). steps_left after < steps_left p) (sym was)
+    (subst (λ (p : Place). steps_left p < steps_left (place.InService service from)) (sym is) less)
+
+pub pauses : (before after : Place) (service : Service) (perm : ℕ) → is_pausing (place.InService service (step.Pausing perm)) ≡ true → after ≡ place.InService service (step.Pausing perm) →
+    Lowers (Ok progress.Waited) before after
+pauses before after service perm tries is = ap is_pausing is ∙ tries
+
+-- a service that was about to give up its turn has given it up
+pub gave_up : (s mid after : KernelState) (n m p : ℕ) (words : List ℕ) → mid ≡ with_status s n Runnable → m ≡ n → p ≡ m →
+    after ≡ with_extra mid m words → GivesUp (Ok progress.Hidden) (slot_at s n) (slot_at after p)
+gave_up s mid after n m p words yielded same too state = λ pausing. (refl, ran)
+  where
+    ran : is_runnable (slot_at after p).status ≡ true
+    ran =
+        (λ i. is_runnable (slot_at (state i) (too i)).status)
+        ∙ (λ i. is_runnable (slot_at (with_extra (yielded i) (same i) words) (same i)).status)
+        ∙ ap (λ (k : KernelSlot). is_runnable k.status)
+        (upd-at (with_status s n Runnable).environments.slots n (record (slot_at (with_status s n Runnable) n) { extra = words }))
+        ∙ ap (λ (k : KernelSlot). is_runnable k.status) (upd-at s.environments.slots n (record (slot_at s n) { status = Runnable }))
+
+-- one that is not about to give up its turn need not
+pub gives_nothing_up : (result : Result Progress Failed) (before after : KernelSlot) → is_pausing (place_of before) ≡ false →
+    GivesUp result before after
+gives_nothing_up (Ok p) before after not_pausing = λ pausing. absurd (let contradiction : true ≡ false = sym pausing ∙ not_pausing in cc)
+gives_nothing_up (Err e) before after not_pausing = tt

@@ -1,0 +1,216 @@
+-- The kernel's state goes on standing for the abstract one where one slot's environment changes, where nothing that is seen
+-- of address spaces does, and where turns begin and end.
+use Rattle.std.proofs.Common.{◌≡◌, ◌≢◌, ◌∙◌, ℕ, ◌+◌, ◌%◌, ◌^◌, Bool, true, false, List, refl, sym, ap, subst, if◌then◌else◌}
+use Rattle.std.specs.Prelude.{Some}
+use Rattle.jos_base.specs.declared.environment.Status.{Status}
+use Rattle.jos_base.specs.declared.environment.Status.TheVariants.{Runnable, Running, NotRunnable}
+use Rattle.jos_base.specs.declared.numbers.TheConstants.{FIRST_ENV_ID}
+use Rattle.jos_base.specs.Environments.{Slot as KernelSlot, Environments, is_live as is_live_slot, is_running}
+use Rattle.jos_base.specs.KernelState.{KernelState, HasSpaces, slot_at, with_slot_at, with_spaces, with_status, turn_begun, turn_ended}
+use Rattle.jos_base.specs.SpacesState.{SpacesState, directories}
+use Rattle.lib_os.specs.AbstractState.{AbstractState, Born, Slot, free, unborn, born, serving, is_live, with_born, with_printed}
+use Rattle.lib_os.specs.InOrder.{HasOneUse, IsInOrder}
+use Rattle.lib_os.specs.StandsFor.{StandsFor, StandsForSlot, StandsForBorn, Names, Rows, rows_of, RunsAs, Apart, AreNamed, AreUsers}
+use Rattle.lib_os.proofs.Effects.{Quiet}
+use Rattle.lib_os.proofs.Maps.{upd-alike, upd-all, upd-both, upd-other}
+use Rattle.lib_os.proofs.SlotsStand.{SeenAlike, slot_stands, born_at, born_live, live_stands, status_born}
+
+-- ---- one slot
+
+-- as long as the same slots are live, in the same spaces
+pub spaces_alike : (sp : SpacesState) (e after : Environments) →
+    ((n : ℕ) → is_live_slot (after.slots n) ≡ is_live_slot (e.slots n)) →
+    ((n : ℕ) → (after.slots n).directory ≡ (e.slots n).directory) → HasSpaces sp e → HasSpaces sp after
+spaces_alike sp e after live directory h = record {
+  in_use = λ n lives. subst (λ d. directories sp d ≡ true) (sym (directory n)) (h.in_use n (sym (live n) ∙ lives));
+  apart = λ n m lives lives_too same. h.apart n m (sym (live n) ∙ lives) (sym (live m) ∙ lives_too) (sym (directory n) ∙ same ∙ directory m);
+  owned = λ d used. let o = h.owned d used in (o.0, live o.0 ∙ o.1, directory o.0 ∙ o.2);
+}
+
+-- no environment stands in slot 0
+pub born_not_first : {names : Names} {s : KernelState} {a : AbstractState} → StandsFor names s a → (n : ℕ) (b : Born) →
+    a.slots n ≡ born b → 0 ≢ n
+born_not_first {a = a} h n b at zero_is =
+    let contradiction : serving FIRST_ENV_ID ≡ born b = sym h.first ∙ ap a.slots zero_is ∙ at in cc
+
+pub slot_in_order : (s : KernelState) (n : ℕ) (k : KernelSlot) → is_live_slot k ≡ is_live_slot (slot_at s n) →
+    k.directory ≡ (slot_at s n).directory → IsInOrder s → IsInOrder (with_slot_at s n k)
+slot_in_order s n k live directory h = record {
+  frames = h.frames;
+  spaces = spaces_alike s.spaces s.environments (with_slot_at s n k).environments
+      (upd-alike (λ (x : KernelSlot). is_live_slot x) s.environments.slots n k live)
+      (upd-alike (λ (x : KernelSlot). x.directory) s.environments.slots n k directory) h.spaces;
+}
+
+-- a state is in order where one is that has the same spaces, and the same slots live in them
+pub in_order_alike : (s t : KernelState) → t.spaces ≡ s.spaces → ((n : ℕ) → is_live_slot (slot_at t n) ≡ is_live_slot (slot_at s n)) →
+    ((n : ℕ) → (slot_at t n).directory ≡ (slot_at s n).directory) → IsInOrder s → IsInOrder t
+in_order_alike s t same live directory h = record {
+  frames = subst (λ (sp : SpacesState). HasOneUse sp) (sym same) h.frames;
+  spaces = subst (λ (sp : SpacesState). HasSpaces sp t.environments) (sym same)
+      (spaces_alike s.spaces s.environments t.environments live directory h.spaces);
+}
+
+-- so it was before a slot was another, in the same space
+pub slot_was_in_order : (s : KernelState) (n : ℕ) (k : KernelSlot) → is_live_slot k ≡ is_live_slot (slot_at s n) →
+    k.directory ≡ (slot_at s n).directory → IsInOrder (with_slot_at s n k) → IsInOrder s
+slot_was_in_order s n k live directory h =
+    in_order_alike (with_slot_at s n k) s refl
+    (λ m. sym (upd-alike (λ (x : KernelSlot). is_live_slot x) s.environments.slots n k live m))
+    (λ m. sym (upd-alike (λ (x : KernelSlot). x.directory) s.environments.slots n k directory m)) h
+
+-- the environment in a slot is another, in the same space
+pub slot_changed : {names : Names} {s : KernelState} {a : AbstractState} → StandsFor names s a → (n : ℕ) (b : Born) →
+    a.slots n ≡ born b → (k : KernelSlot) (after : Born) → k.directory ≡ (slot_at s n).directory →
+    StandsForBorn names s.spaces k after → StandsFor names (with_slot_at s n k) (with_born a n after)
+slot_changed {names = names} {s = s} {a = a} h n b at k after directory so = record {
+  slots = upd-both (λ m (x : KernelSlot) (y : Slot). StandsForSlot names s.spaces x y) s.environments.slots a.slots n k (born after) so
+      (λ m ne. h.slots m);
+  apart = h.apart;
+  named = h.named;
+  users = h.users;
+  free_slots = h.free_slots;
+  first = upd-other a.slots n (born after) 0 (born_not_first h n b at) ∙ h.first;
+  server = h.server;
+  input = h.input;
+  last = h.last;
+  turns = h.turns;
+  in_order = slot_in_order s n k (born_live so ∙ sym (born_live (born_at h n b at))) directory h.in_order;
+}
+
+-- only the kernel's slot is another
+pub slot_replaced : {names : Names} {s : KernelState} {a : AbstractState} → StandsFor names s a → (n : ℕ) (b : Born) →
+    a.slots n ≡ born b → (k : KernelSlot) → k.directory ≡ (slot_at s n).directory → StandsForBorn names s.spaces k b →
+    StandsFor names (with_slot_at s n k) a
+slot_replaced {names = names} {s = s} {a = a} h n b at k directory so = record {
+  slots = upd-all (λ m (x : KernelSlot). StandsForSlot names s.spaces x (a.slots m)) s.environments.slots n k
+      (subst (λ (y : Slot). StandsForSlot names s.spaces k y) (sym at) so) (λ m ne. h.slots m);
+  apart = h.apart;
+  named = h.named;
+  users = h.users;
+  free_slots = h.free_slots;
+  first = h.first;
+  server = h.server;
+  input = h.input;
+  last = h.last;
+  turns = h.turns;
+  in_order = slot_in_order s n k (born_live so ∙ sym (born_live (born_at h n b at))) directory h.in_order;
+}
+
+-- ---- the other slots
+
+-- each live slot has a space of its own
+pub directories_apart : {names : Names} {s : KernelState} {a : AbstractState} → StandsFor names s a → (n : ℕ) (b : Born) →
+    a.slots n ≡ born b → (m : ℕ) → m ≢ n → is_live (a.slots m) ≡ true → (slot_at s m).directory ≢ (slot_at s n).directory
+directories_apart h n b at m ne live same =
+    ne (h.in_order.spaces.apart m n (live_stands h m ∙ live) (born_live (born_at h n b at)) same)
+
+-- where only one environment's space is seen to change, the others' slots stand for what they stood for
+pub others_stand : {names after : Names} {s : KernelState} {a : AbstractState} {sp : SpacesState} → StandsFor names s a →
+    (n : ℕ) (b : Born) → a.slots n ≡ born b → ((d : ℕ) → d ≢ (slot_at s n).directory → SeenAlike names after s.spaces sp d) →
+    (m : ℕ) → m ≢ n → StandsForSlot after sp (slot_at s m) (a.slots m)
+others_stand {names = names} {after = after} {s = s} {a = a} {sp = sp} h n b at same m ne =
+    slot_stands names after s.spaces sp (slot_at s m) (a.slots m) (h.slots m)
+    (λ live. same (slot_at s m).directory (directories_apart h n b at m ne live))
+
+-- ---- what is printed, and turns
+
+pub printed_stands : {names : Names} {s : KernelState} {a : AbstractState} → StandsFor names s a → (bytes : List ℕ) →
+    StandsFor names s (with_printed a bytes)
+printed_stands h bytes = record {
+  slots = h.slots;
+  apart = h.apart;
+  named = h.named;
+  users = h.users;
+  free_slots = h.free_slots;
+  first = h.first;
+  server = h.server;
+  input = h.input;
+  last = h.last;
+  turns = h.turns;
+  in_order = h.in_order;
+}
+
+-- an environment that does not wait may be RUNNABLE or RUNNING
+awake_runs : (blocked : Bool) → blocked ≡ false → RunsAs Runnable blocked × RunsAs Running blocked
+awake_runs blocked awake = subst (λ c. RunsAs Runnable c × RunsAs Running c) (sym awake) (tt, tt)
+
+pub status_stands : {names : Names} {s : KernelState} {a : AbstractState} → StandsFor names s a → (n : ℕ) (b : Born) →
+    a.slots n ≡ born b → b.blocked ≡ false → StandsFor names (with_status s n Runnable) a
+status_stands {s = s} h n b at awake =
+    slot_replaced h n b at (record (slot_at s n) { status = Runnable }) refl
+    (status_born (slot_at s n) b Runnable (slot_at s n).runs (awake_runs b.blocked awake).0 (born_at h n b at))
+
+pub turn_begun_stands : {names : Names} {s : KernelState} {a : AbstractState} → StandsFor names s a → (n : ℕ) (b : Born) →
+    a.slots n ≡ born b → b.blocked ≡ false → StandsFor names (turn_begun s n) (record a { last = Some n; turns = a.turns + 1 })
+turn_begun_stands {names = names} {s = s} {a = a} h n b at awake =
+    let runs = ((slot_at s n).runs + 1) % 2 ^ 32 in
+    let k : KernelSlot = record (slot_at s n) { status = Running; runs = runs } in
+    let begun : StandsFor names (with_slot_at s n k) a = slot_replaced h n b at k refl
+    (status_born (slot_at s n) b Running runs (awake_runs b.blocked awake).1 (born_at h n b at)) in
+    record {
+      slots = begun.slots;
+      apart = h.apart;
+      named = h.named;
+      users = h.users;
+      free_slots = h.free_slots;
+      first = h.first;
+      server = h.server;
+      input = h.input;
+      last = refl;
+      turns = ap (λ (t : ℕ). t + 1) h.turns;
+      in_order = record { frames = begun.in_order.frames; spaces = begun.in_order.spaces };
+    }
+
+running_awake : (status : Status) (blocked : Bool) → RunsAs status blocked → is_running status ≡ true → RunsAs Runnable blocked
+running_awake Running false h is = tt
+running_awake Runnable false h is = tt
+running_awake NotRunnable true h is = absurd (let contradiction : false ≡ true = is in cc)
+running_awake _ _ h is = absurd h
+
+pub turn_ended_stands : {names : Names} {s : KernelState} {a : AbstractState} → StandsFor names s a → (n : ℕ) →
+    StandsFor names (turn_ended s n) a
+turn_ended_stands {names = names} {s = s} {a = a} h n = by_running (is_running (slot_at s n).status) refl
+  where
+    by_slot : is_running (slot_at s n).status ≡ true → (slot : Slot) → a.slots n ≡ slot →
+        StandsForSlot names s.spaces (slot_at s n) slot → StandsFor names (with_status s n Runnable) a
+    by_slot running (free id) at so =
+        absurd (let contradiction : true ≡ false = sym running ∙ ap (λ (x : KernelSlot). is_running x.status) so in cc)
+    by_slot running (unborn id parent) at so = absurd so
+    by_slot running (born b) at so =
+        slot_replaced h n b at (record (slot_at s n) { status = Runnable }) refl
+        (status_born (slot_at s n) b Runnable (slot_at s n).runs (running_awake (slot_at s n).status b.blocked so.runs running) so)
+    by_slot running (serving id) at so =
+        absurd (let contradiction : true ≡ false = sym running ∙ ap (λ (x : Status). is_running x) so.status in cc)
+
+    by_running : (c : Bool) → is_running (slot_at s n).status ≡ c → StandsFor names (if c then with_status s n Runnable else s) a
+    by_running true is = by_slot is (a.slots n) refl (h.slots n)
+    by_running false is = h
+
+-- ---- address spaces of which nothing that is seen changes
+
+pub quiet_alike : {s t : SpacesState} (names : Names) → Quiet s t → (d : ℕ) → SeenAlike names names s t d
+quiet_alike names quiet d = record {
+  rows = ap (λ (r : Rows). r d) quiet.rows;
+  bytes = λ p x at own_page. ap (λ (pages : ℕ → List ℕ). pages x.frame) quiet.pages;
+  named_so = λ p x at shared_page. refl;
+  regions = quiet.regions d;
+}
+
+pub quiet_stands : {names : Names} {s : KernelState} {a : AbstractState} {sp : SpacesState} → StandsFor names s a →
+    Quiet s.spaces sp → IsInOrder (with_spaces s sp) → StandsFor names (with_spaces s sp) a
+quiet_stands {names = names} {s = s} {a = a} {sp = sp} h quiet in_order = record {
+  slots = λ m. slot_stands names names s.spaces sp (slot_at s m) (a.slots m) (h.slots m)
+      (λ live. quiet_alike names quiet (slot_at s m).directory);
+  apart = subst (λ (r : Rows). Apart r) (sym quiet.rows) h.apart;
+  named = subst (λ (r : Rows). AreNamed names sp.pages a.shared a.next_name r) (sym quiet.rows)
+      (subst (λ (pages : ℕ → List ℕ). AreNamed names pages a.shared a.next_name (rows_of s.spaces)) (sym quiet.pages) h.named);
+  users = subst (λ (r : Rows). AreUsers r) (sym quiet.rows) h.users;
+  free_slots = h.free_slots;
+  first = h.first;
+  server = h.server;
+  input = h.input;
+  last = h.last;
+  turns = h.turns;
+  in_order = in_order;
+}

@@ -1,0 +1,119 @@
+-- What a step of the library promises. Wherever the kernel's state stands for one of the abstract system, the state after
+-- the step stands for the same one, where the step is hidden, or for the one after the slot's step there. Nothing is said
+-- of a step that was refused a frame or a slot.
+use Rattle.std.specs.Prelude.{◌≡◌, ◌≢◌, ◌<◌, ℕ, ◌+◌, ◌-◌, ◌^◌, ◌++◌, Bool, true, false, List, [], Option, Some, Result, Ok, Err}
+use Rattle.jos_host.specs.declared.host.Failed.{Failed}
+use Rattle.jos_host.specs.Frames.{Around}
+use Rattle.jos_host.specs.Gains.{Gains, GainsPart}
+use Rattle.jos_base.specs.declared.registers.Regs.{Regs}
+use Rattle.jos_base.specs.Environments.{Slot as KernelSlot, is_runnable, no_extra}
+use Rattle.jos_base.specs.KernelState.{KernelState, slot_at, with_slot_at}
+use Rattle.lib_os.specs.declared.user_os.Stop.{Stop}
+use Rattle.lib_os.specs.declared.user_os.Stop.TheVariants as stop
+use Rattle.lib_os.specs.declared.progress.Progress.{Progress}
+use Rattle.lib_os.specs.declared.progress.Progress.TheVariants as progress
+use Rattle.lib_os.specs.declared.numbers.TheConstants.{SHORT_QUANTUM}
+use Rattle.lib_os.specs.declared.place.Place.{Place}
+use Rattle.lib_os.specs.declared.place.Place.TheVariants as place
+use Rattle.lib_os.specs.declared.place.Step.TheVariants as step
+use Rattle.lib_os.specs.declared.service.Service.TheVariants as service
+use Rattle.lib_os.specs.AbstractState.{AbstractState}
+use Rattle.lib_os.specs.AbstractRun.{abs_step, may_wait}
+use Rattle.lib_os.specs.Places.{place_of}
+use Rattle.lib_os.specs.StandsFor.{StandsFor, Names}
+
+-- the state stands for an abstract one, by some names of the shared pages
+abbrev pub Stands : KernelState → AbstractState → Type 0
+Stands s a = (names : Names) × StandsFor names s a
+
+-- the same abstract state
+abbrev pub Stays : KernelState → AbstractState → List ℕ → Type 0
+Stays after a written = (written ≡ []) × Stands after a
+
+-- the abstract state after the slot's step, in which it has printed the bytes that are written
+abbrev pub GoesOn : ℕ → KernelState → AbstractState → List ℕ → Type 0
+GoesOn n after a written =
+    (b : AbstractState) × (abs_step a n ≡ Some b) × (b.console ≡ a.console ++ written) × Stands after b
+
+abbrev pub Follows : Progress → ℕ → KernelState → AbstractState → List ℕ → Type 0
+Follows progress.Hidden n after a written = Stays after a written
+Follows progress.Waited n after a written = Stays after a written × (may_wait a n SHORT_QUANTUM ≡ true)
+Follows progress.Visible n after a written = GoesOn n after a written
+Follows progress.Finished n after a written = GoesOn n after a written
+Follows progress.Ended n after a written = GoesOn n after a written
+
+-- Nothing was refused: the count of refusals did not rise, and was not at the end of its type, where it stands still.
+pub record NothingRefused (before after : KernelState) : Type 0 where
+  pub stays : after.refusals ≡ before.refusals
+  pub could : before.refusals < 2 ^ 64 - 1
+
+-- A step of the environment in slot n that has come to this, from one state of the kernel to another.
+abbrev pub Keeps : Progress → ℕ → KernelState → KernelState → List ℕ → Type 0
+Keeps progress n before after written =
+    (a : AbstractState) → Stands before a → NothingRefused before after → Follows progress n after a written
+
+-- The same with what came to the console. Where the host failed, nothing is said of the state, and what came is a part of what
+-- the slot's step prints, or nothing.
+abbrev pub IsLibraryStep : Result Progress Failed → ℕ → KernelState → KernelState → Around (Option (List ℕ)) → Type 0
+IsLibraryStep (Ok progress) n before after console =
+    (written : List ℕ) × Gains console written × Keeps progress n before after written
+IsLibraryStep (Err _) n before after console =
+    (written : List ℕ) × GainsPart console written
+    × ((a : AbstractState) → Stands before a → written ≢ [] → (b : AbstractState) × (abs_step a n ≡ Some b) × (b.console ≡ a.console ++ written))
+
+-- ---- the number that falls
+
+-- How many hidden steps a service may still make, at most, from a place on.
+abbrev pub steps_left : Place → ℕ
+steps_left place.Guest = 0
+steps_left (place.InService s step.Entered) = 10
+steps_left (place.InService s step.ReadingRegion) = 9
+steps_left (place.InService s step.ReadingEntry) = 8
+steps_left (place.InService s (step.Pausing perm)) = 7
+steps_left (place.InService s (step.Trying perm)) = 6
+steps_left (place.InService s (step.Receiving id)) = 5
+steps_left (place.InService s (step.ReadingValue id)) = 4
+steps_left (place.InService s (step.ReadingSender id value)) = 3
+steps_left (place.InService s (step.ReadingPerm id value sender)) = 2
+
+-- the services that try again and again
+abbrev pub is_pausing : Place → Bool
+is_pausing (place.InService (service.Wait id) (step.Pausing perm)) = true
+is_pausing (place.InService (service.Send id value va) (step.Pausing perm)) = true
+is_pausing _ = false
+
+-- A hidden step lowers the number. One that waits is followed by one that gives up the turn.
+abbrev pub Lowers : Result Progress Failed → Place → Place → Type 0
+Lowers (Ok progress.Hidden) before after = steps_left after < steps_left before
+Lowers (Ok progress.Waited) before after = is_pausing after ≡ true
+Lowers _ before after = Unit {0}
+
+-- The step of one that gives up its turn does that, and is hidden. Where the host failed nothing is said.
+abbrev pub GivesUp : Result Progress Failed → KernelSlot → KernelSlot → Type 0
+GivesUp (Ok done) before after =
+    is_pausing (place_of before) ≡ true → (done ≡ progress.Hidden) × (is_runnable after.status ≡ true)
+GivesUp (Err _) before after = Unit {0}
+
+-- ---- calls
+
+-- What a step comes to when a load gave it nothing. A load at a window never faults, so that it is the host that has failed.
+abbrev pub IsStopped : Stop → Result Progress Failed → Type 0
+IsStopped stop.Failed (Err failed) = Unit {0}
+IsStopped stop.Failed (Ok done) = ⊥
+IsStopped _ (Err failed) = ⊥
+IsStopped _ (Ok done) = done ≡ progress.Ended
+
+-- One call was made, for the same environment.
+pub record MakesOneCall (slot calls : Around ℕ) : Type 0 where
+  pub same : slot.after ≡ slot.before
+  pub one : calls.after ≡ calls.before + 1
+
+-- ---- how a service goes back to its program
+
+-- the slot's environment stands at its program, with these registers
+abbrev pub gone_back : KernelState → ℕ → Regs → KernelState
+gone_back s n regs = with_slot_at s n (record (slot_at s n) { registers = regs; extra = no_extra })
+
+-- and with an answer
+abbrev pub answered : KernelState → ℕ → ℕ → KernelState
+answered s n word = gone_back s n (record (slot_at s n).registers { eax = word })

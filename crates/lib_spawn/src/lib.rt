@@ -1,0 +1,11 @@
+//! The library's services on the ends of environments: exit and wait.
+//!
+//! Each is one step of the abstract system behind INT 0x40 (`exit` in `Descriptors.antt` and `wait` in
+//! `MemoryServices.antt` of `lib_os`). exit is one call of the kernel. wait asks for the environment's id, and then tries
+//! to send to the other one, by an address that is none of a page, so that nothing is ever sent: as long as the other one
+//! lives, it gives up its turn and tries again.
+#![tactic(auto)]
+
+mod services;
+
+pub use services::spawn_step;
