@@ -53,7 +53,7 @@ use Rattle.lib_os.proofs.Removing.{destroyed_gone}
 use Rattle.lib_os.proofs.Serving.{words_of_none}
 use Rattle.lib_os.proofs.SlotsSet.{both_set}
 use Rattle.lib_os.proofs.SlotsStand.{born_at, born_live}
-use Rattle.lib_os.proofs.StatesStand.{slot_changed, printed_stands, quiet_stands}
+use Rattle.lib_os.proofs.StatesStand.{slot_changed, printed_stands, quiet_stands, Settles}
 use Rattle.lib_os.proofs.Touching.{touched_quiet, byte_stored}
 use Rattle.lib_os.proofs.UsesKept.{touched_kept, stored_kept}
 use Rattle.jos_run.specs.FencedMemory.{fenced_memory, fenced_memory_is_lawful}
@@ -347,11 +347,11 @@ module _ (names : Names) (n : ℕ) (k : KernelSlot) (is_guest : place_of k ≡ p
         subst (λ (did : Did). Goes did.state did.written (ends_with g.state n r.after.it why)) (sym (killed_set m.state n regs why)) (ends why)
 
     -- it goes on, with nothing written
-    moves : (slot : KernelSlot) (next : Born) → slot.directory ≡ (slot_at m.state n).directory → StandsForBorn names m.state.spaces slot next →
+    moves : (slot : KernelSlot) (next : Born) → slot.directory ≡ (slot_at m.state n).directory → Settles (slot_at m.state n) slot → StandsForBorn names m.state.spaces slot next →
         Goes (with_slot_at m.state n slot) [] (with_born g.state n next)
-    moves slot next same h = record {
+    moves slot next same settles h = record {
       printed = r.after.console_is ∙ sym (append-nil console);
-      stands = λ order. slot_changed r.stands n r.after.it r.after.there slot next same h;
+      stands = λ order. slot_changed r.stands n r.after.it r.after.there slot next same settles h;
     }
 
     abbrev with_regs : Regs → KernelSlot
@@ -414,7 +414,7 @@ module _ (names : Names) (n : ℕ) (k : KernelSlot) (is_guest : place_of k ≡ p
             GoesOnTo (if c then after_trap (with_registers m.state n regs) n T_GPFLT 0 0 ip else quietly (with_registers m.state n regs))
             (if c then ends_with g.state n r.after.it (line.Trap T_GPFLT 0 ip) else with_born g.state n (record r.after.it { program = guest regs }))
         by_stack true is = ends_set regs (line.Trap T_GPFLT 0 ip)
-        by_stack false is = moves (with_regs regs) (record r.after.it { program = guest regs }) refl (stepped regs is)
+        by_stack false is = moves (with_regs regs) (record r.after.it { program = guest regs }) refl (record { id = refl; env_type = refl; calm = λ runs. runs }) (stepped regs is)
 
     on_soft : (regs : Regs) (vector : ℕ) → regs.esp ≡ k.registers.esp →
         GoesOnTo (after_event (with_registers m.state n regs) n ip (Soft vector)) (guests.after_event g.state n r.after.it ip regs (Soft vector))
@@ -435,7 +435,7 @@ module _ (names : Names) (n : ℕ) (k : KernelSlot) (is_guest : place_of k ≡ p
             (if c then guests.service_entered g.state n r.after.it regs else ends_with g.state n r.after.it (line.Trap T_BRKPT 0 regs.eip))
         by_vector true =
             subst (λ (state : KernelState). Goes state [] (with_born g.state n (asked_born regs))) (sym entered_is)
-            (moves (asked_slot regs) (asked_born regs) refl (asked regs outside))
+            (moves (asked_slot regs) (asked_born regs) refl (record { id = refl; env_type = refl; calm = λ runs. runs }) (asked regs outside))
         by_vector false =
             let e : (slot_at (with_registers m.state n regs) n).registers.eip ≡ regs.eip =
             ap (λ (slot : KernelSlot). slot.registers.eip) (slot_set m.state n regs) in

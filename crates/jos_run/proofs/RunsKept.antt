@@ -82,7 +82,7 @@ turn_begins {s = s} h n chosen =
       chosen = sym (next_stands stands h.none) ∙ chosen;
       now = turn_begun h.now n;
       taken = no_steps (turn_begun h.now n) n;
-      stands = (h.stands.0, turn_begun_stands stands n who.0 who.1 who.2);
+      stands = (h.stands.0, turn_begun_stands stands n who.0 who.1 who.2 h.none);
       console = h.console;
       only = begun_only s n h.none;
       fit = h.fit;

@@ -92,7 +92,7 @@ fn comes_of(served: &mut Served, host: &mut MemHost, steps: u32) -> Comes
         if !served.is_live() {
             return Comes::Ends;
         }
-        if !served.is_awake() || !served.is_numbered() {
+        if !served.is_awake() {
             return Comes::Waits;
         }
         if served.step(host).is_err() {

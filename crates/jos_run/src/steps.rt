@@ -1,9 +1,8 @@
 //! One step of an environment that the library serves.
 
-ghost use Rattle.std.specs.Prelude.{◌≡◌, ◌+◌, ◌-◌, ◌%◌, ◌==◌, ◌<◌, ◌≤◌, ◌^◌, true};
+ghost use Rattle.std.specs.Prelude.{◌≡◌, ◌+◌, ◌-◌, ◌<◌, ◌≤◌, ◌^◌, true};
 ghost use Rattle.jos_host.specs.Told.{HasCause};
 ghost use Rattle.jos_host.specs.Frames.{Unchanged, around};
-ghost use Rattle.jos_base.specs.declared.numbers.TheConstants.{NENV};
 ghost use Rattle.jos_base.specs.Environments.{is_live, is_runnable, is_running};
 ghost use Rattle.jos_base.specs.KernelState.{slot_at};
 ghost use Rattle.lib_os.specs.InOrder.{IsInOrder};
@@ -14,7 +13,7 @@ ghost use Rattle.jos_run.specs.Served.{kernel_state};
 ghost use Rattle.jos_run.specs.Steps.{is_awake, progress_of};
 
 use crate::served::Served;
-use jos_base::{NENV, Status};
+use jos_base::Status;
 use jos_host::{Failed, Host};
 use jos_kernel::TrapLine;
 use lib_mem::mem_step;
@@ -64,13 +63,6 @@ impl Served {
         self.is_runnable() || self.is_running()
     }
 
-    /// Whether the environment's id names its slot, as each does that the table has given.
-    pub fn is_numbered(&self) -> bool
-        ensures { result ≡ ((slot_at (kernel_state self.now) self.now.slot).id % NENV == self.now.slot) }
-    {
-        self.system.environment(self.slot).id.0 % NENV == self.slot as u32
-    }
-
     /// Makes one step of the program: an instruction, with what comes of it.
     fn step_program<H: Host>(&mut self, host: &mut H) -> Result<Stepped, Failed>
         requires live { is_live (slot_at (kernel_state self.old) self.old.slot) ≡ true }
@@ -106,7 +98,6 @@ impl Served {
     pub fn step<H: Host>(&mut self, host: &mut H) -> Result<Stepped, Failed>
         requires live { is_live (slot_at (kernel_state self.old) self.old.slot) ≡ true }
         requires awake { is_awake (slot_at (kernel_state self.old) self.old.slot).status ≡ true }
-        requires numbered { (slot_at (kernel_state self.old) self.old.slot).id % NENV ≡ self.old.slot }
         requires few { self.old.calls < 2 ^ 32 - 1 }
         ensures step { IsLibraryStep (progress_of result) self.old.slot (kernel_state self.old) (kernel_state self.new) (around H.console host.old host.new) }
         ensures lowers { Lowers (progress_of result) (place_of (slot_at (kernel_state self.old) self.old.slot)) (place_of (slot_at (kernel_state self.new) self.new.slot)) }

@@ -27,9 +27,8 @@ use Rattle.lib_os.specs.Places.{place_of}
 use Rattle.lib_os.specs.StandsFor.{StandsFor, Names, Row, rows_of, StandsForBorn, StandsAtStep, IsIn}
 use Rattle.lib_os.specs.UserCalls.{got, Step as Call}
 use Rattle.lib_os.proofs.Maps.{upd-at, upd-twice}
-use Rattle.lib_os.proofs.Serving.{served, step_in, back_at_guest}
-use Rattle.lib_os.proofs.StatesStand.{slot_changed}
-use Rattle.lib_os.proofs.SlotsStand.{born_at}
+use Rattle.lib_os.proofs.Answering.{back_stands}
+use Rattle.lib_os.proofs.Serving.{served, step_in}
 use Rattle.lib_mem.specs.Own.{is_own_service}
 use Rattle.lib_mem.specs.Passing.{IsPassed}
 
@@ -77,9 +76,7 @@ pub answer_stands : {names : Names} {s : KernelState} {a : AbstractState} → St
     (slot_at s n).rendezvous.receiving ≡ false → b.blocked ≡ false → (word : ℕ) →
     StandsFor names (answered s n word) (back_with a n b (record (slot_at s n).registers { eax = word }))
 answer_stands {s = s} h n b at silent awake word =
-    let regs : Regs = record (slot_at s n).registers { eax = word } in
-    slot_changed h n b at (record (slot_at s n) { registers = regs; extra = no_extra }) _ refl
-    (back_at_guest regs (born_at h n b at) silent awake refl)
+    back_stands h n b at (record (slot_at s n).registers { eax = word }) silent awake refl
 
 born_twice : (a : AbstractState) (n : ℕ) (b c : Born) → with_born (with_born a n b) n c ≡ with_born a n c
 born_twice a n b c = λ i. record a { slots = upd-twice a.slots n (born b) (born c) i }

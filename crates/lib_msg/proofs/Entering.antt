@@ -37,7 +37,7 @@ use Rattle.lib_os.proofs.Numbered.{named_at}
 use Rattle.lib_os.proofs.Quieting.{own_id, same_state, no_bytes}
 use Rattle.lib_os.proofs.Serving.{served, step_in, finished, printed_nothing}
 use Rattle.lib_os.proofs.Slots.{words_put}
-use Rattle.lib_os.proofs.StatesStand.{slot_changed}
+use Rattle.lib_os.proofs.StatesStand.{slot_changed, stopped_settles}
 use Rattle.lib_os.proofs.Trying.{LivesOn, recv_lives}
 use Rattle.lib_os.proofs.WordsTell.{place_at}
 use Rattle.lib_msg.specs.Own.{may_receive}
@@ -196,7 +196,7 @@ module _ (s mid : KernelState) (n va from id : ℕ) (called : Called) (console :
             (
               names,
               subst (λ (t : KernelState). StandsFor names t (with_born a n (waiting v.b va from))) (sym state_is)
-                  (slot_changed h n v.b v.is k (waiting v.b va from) refl (record {
+                  (slot_changed h n v.b v.is k (waiting v.b va from) refl (stopped_settles (slot_at s n) k refl refl refl) (record {
                     id = v.own.id;
                     id_small = v.own.id_small;
                     parent = v.own.parent;

@@ -25,7 +25,7 @@ use Rattle.lib_os.proofs.GoingOn.{words_stand, hidden}
 use Rattle.lib_os.proofs.Loading.{loaded, loaded_state, loaded_quiet, loaded_stands, loaded_word, GivesWord}
 use Rattle.lib_os.proofs.Numbered.{named_at}
 use Rattle.lib_os.proofs.Serving.{served, service_step, finished, printed_nothing}
-use Rattle.lib_os.proofs.SlotsStand.{born_at}
+use Rattle.lib_os.proofs.SlotsStand.{born_at, born_live}
 use Rattle.lib_os.proofs.WindowWords.{read_at, load_record_word}
 use Rattle.lib_msg.specs.Own.{is_awake}
 
@@ -80,7 +80,7 @@ with_words_received words h = record {
   come = h.come;
 }
 
-module _ (s : KernelState) (n va from id at_word : ℕ) (numbered : (slot_at s n).id % NENV ≡ n) where
+module _ (s : KernelState) (n va from id at_word : ℕ) where
   -- ---- the word
 
   module _ (stands : place_of (slot_at s n) ≡ place.InService (service.Receive va from) (step.ReadingValue id))
@@ -90,7 +90,7 @@ module _ (s : KernelState) (n va from id at_word : ℕ) (numbered : (slot_at s n
         let v = served h n (service.Receive va from) (step.ReadingValue id) stands in
         let at : (id ≡ (slot_at s n).id) × WaitsOrHas (slot_at s n) v.b va from = v.at in
         let it = awake_has (slot_at s n) v.b va from v.own.runs awake (at.1) in
-        own_word s n id at_word 10 (slot_at s n).rendezvous.value numbered (at.0) address (omega arith) (value_word (slot_at s n)) it.come.value_small
+        own_word s n id at_word 10 (slot_at s n).rendezvous.value (h.tabled.ids n (born_live v.own)) (at.0) address (omega arith) (value_word (slot_at s n)) it.come.value_small
 
     pub gives_value : (names : Names) (a : AbstractState) → StandsFor names s a → GivesWord s n at_word
     gives_value names a h = record { word = (slot_at s n).rendezvous.value; is = value_there names a h }
@@ -123,7 +123,7 @@ module _ (s : KernelState) (n va from id at_word : ℕ) (numbered : (slot_at s n
     sender_there names a h =
         let v = served h n (service.Receive va from) (step.ReadingSender id value) stands in
         let at : (id ≡ (slot_at s n).id) × (value ≡ (slot_at s n).rendezvous.value) × HasReceived (slot_at s n) v.b va from = v.at in
-        own_word s n id at_word 11 (slot_at s n).rendezvous.sender numbered (at.0) address (omega arith) (sender_word (slot_at s n)) at.2.come.sender_small
+        own_word s n id at_word 11 (slot_at s n).rendezvous.sender (h.tabled.ids n (born_live v.own)) (at.0) address (omega arith) (sender_word (slot_at s n)) at.2.come.sender_small
 
     pub gives_sender : (names : Names) (a : AbstractState) → StandsFor names s a → GivesWord s n at_word
     gives_sender names a h = record { word = (slot_at s n).rendezvous.sender; is = sender_there names a h }
@@ -157,7 +157,7 @@ module _ (s : KernelState) (n va from id at_word : ℕ) (numbered : (slot_at s n
         let at : (id ≡ (slot_at s n).id) × (value ≡ (slot_at s n).rendezvous.value) × (sender ≡ (slot_at s n).rendezvous.sender)
         × HasReceived (slot_at s n) v.b va from = v.at in
         let small = at.3.come.perm_small in
-        own_word s n id at_word 12 (slot_at s n).rendezvous.perm numbered (at.0) address (omega arith) (perm_word (slot_at s n)) (omega (arith, small))
+        own_word s n id at_word 12 (slot_at s n).rendezvous.perm (h.tabled.ids n (born_live v.own)) (at.0) address (omega arith) (perm_word (slot_at s n)) (omega (arith, small))
 
     pub gives_perm : (names : Names) (a : AbstractState) → StandsFor names s a → GivesWord s n at_word
     gives_perm names a h = record { word = (slot_at s n).rendezvous.perm; is = perm_there names a h }

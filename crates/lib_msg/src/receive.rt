@@ -127,7 +127,6 @@ pub(crate) fn read_value<O: UserOs, H: Host>(
 ) -> Result<Progress, Failed>
     requires live { is_live (slot_at (O.state os.old) (O.slot os.old)) ≡ true }
     requires few { O.calls os.old < 2 ^ 32 - 1 }
-    requires numbered { (slot_at (O.state os.old) (O.slot os.old)).id % NENV ≡ O.slot os.old }
     requires awake { is_awake (slot_at (O.state os.old) (O.slot os.old)).status ≡ true }
     requires at { place_of (slot_at (O.state os.old) (O.slot os.old)) ≡ Place.InService (Service.Receive va from) (Step.ReadingValue id) }
     ensures step { IsLibraryStep result (O.slot os.old) (O.state os.old) (O.state os.new) (around H.console host.old host.new) }
@@ -157,7 +156,6 @@ pub(crate) fn read_sender<O: UserOs, H: Host>(
 ) -> Result<Progress, Failed>
     requires live { is_live (slot_at (O.state os.old) (O.slot os.old)) ≡ true }
     requires few { O.calls os.old < 2 ^ 32 - 1 }
-    requires numbered { (slot_at (O.state os.old) (O.slot os.old)).id % NENV ≡ O.slot os.old }
     requires at { place_of (slot_at (O.state os.old) (O.slot os.old)) ≡ Place.InService (Service.Receive va from) (Step.ReadingSender id value) }
     ensures step { IsLibraryStep result (O.slot os.old) (O.state os.old) (O.state os.new) (around H.console host.old host.new) }
     ensures lowers { Lowers result (place_of (slot_at (O.state os.old) (O.slot os.old))) (place_of (slot_at (O.state os.new) (O.slot os.new))) }
@@ -187,7 +185,6 @@ pub(crate) fn read_perm<O: UserOs, H: Host>(
 ) -> Result<Progress, Failed>
     requires live { is_live (slot_at (O.state os.old) (O.slot os.old)) ≡ true }
     requires few { O.calls os.old < 2 ^ 32 - 1 }
-    requires numbered { (slot_at (O.state os.old) (O.slot os.old)).id % NENV ≡ O.slot os.old }
     requires at { place_of (slot_at (O.state os.old) (O.slot os.old)) ≡ Place.InService (Service.Receive va from) (Step.ReadingPerm id value sender) }
     ensures step { IsLibraryStep result (O.slot os.old) (O.state os.old) (O.state os.new) (around H.console host.old host.new) }
     ensures lowers { Lowers result (place_of (slot_at (O.state os.old) (O.slot os.old))) (place_of (slot_at (O.state os.new) (O.slot os.new))) }

@@ -7,7 +7,6 @@ ghost use Rattle.jos_base.specs.Environments.{is_live};
 ghost use Rattle.jos_base.specs.KernelState.{slot_at};
 ghost use Rattle.lib_os.specs.LibrarySteps.{IsLibraryStep, Lowers, GivesUp, MakesOneCall};
 ghost use Rattle.lib_os.specs.Places.{place_of};
-ghost use Rattle.jos_base.specs.declared.numbers.TheConstants.{NENV};
 ghost use Rattle.lib_msg.specs.Own.{is_own, is_awake};
 
 use crate::receive::{
@@ -24,7 +23,6 @@ use lib_os::{Place, Progress, Service, Step, UserOs, find_place};
 pub fn msg_step<O: UserOs, H: Host>(os: &mut O, host: &mut H) -> Result<Progress, Failed>
     requires live { is_live (slot_at (O.state os.old) (O.slot os.old)) ≡ true }
     requires few { O.calls os.old < 2 ^ 32 - 1 }
-    requires numbered { (slot_at (O.state os.old) (O.slot os.old)).id % NENV ≡ O.slot os.old }
     requires awake { is_awake (slot_at (O.state os.old) (O.slot os.old)).status ≡ true }
     requires at { is_own (place_of (slot_at (O.state os.old) (O.slot os.old))) ≡ true }
     ensures step { IsLibraryStep result (O.slot os.old) (O.state os.old) (O.state os.new) (around H.console host.old host.new) }

@@ -17,4 +17,5 @@ pub back_stands : {names : Names} {s : KernelState} {a : AbstractState} → Stan
 back_stands {s = s} h n b at regs silent awake stack =
     slot_changed h n b at (record (slot_at s n) { registers = regs; extra = no_extra })
     (record b { program = guest regs; phase = at_guest; blocked = false }) refl
+    (record { id = refl; env_type = refl; calm = λ runs. runs })
     (back_at_guest regs (born_at h n b at) silent awake stack)

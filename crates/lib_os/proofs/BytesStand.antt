@@ -106,6 +106,7 @@ module _ {names : Names} {s : KernelState} {a : AbstractState} {sp : SpacesState
       input = h.input;
       last = h.last;
       turns = h.turns;
+      tabled = h.tabled;
       in_order = in_order;
     }
 
@@ -161,6 +162,7 @@ module _ {names : Names} {s : KernelState} {a : AbstractState} {sp : SpacesState
       input = h.input;
       last = h.last;
       turns = h.turns;
+      tabled = h.tabled;
       in_order = in_order;
     }
 

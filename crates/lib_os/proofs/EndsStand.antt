@@ -16,7 +16,7 @@ use Rattle.lib_os.specs.StandsFor.{StandsFor, StandsForSlot, Names, rows_of}
 use Rattle.lib_os.proofs.Effects.{Gone}
 use Rattle.lib_os.proofs.Maps.{upd-other, upd-both}
 use Rattle.lib_os.proofs.SlotsStand.{SeenAlike, born_at}
-use Rattle.lib_os.proofs.StatesStand.{born_not_first, others_stand}
+use Rattle.lib_os.proofs.StatesStand.{born_not_first, others_stand, tabled_freed}
 
 -- what stands after a space is gone stood there before
 pub gone_kept : {s t : SpacesState} {d : ℕ} → Gone s t d → (q r : ℕ) (x : Entry) → rows_of t q r ≡ Some x → rows_of s q r ≡ Some x
@@ -56,5 +56,6 @@ ended_stands {names = names} {s = s} {a = a} h n b at gone in_order =
       input = h.input;
       last = h.last;
       turns = h.turns;
+      tabled = tabled_freed h.tabled n (slot_at s n).id;
       in_order = in_order;
     }

@@ -67,7 +67,7 @@ words_stand {s = s} h n number b is own service at names_it so =
     let k : KernelSlot = record (slot_at s n) { extra = words_at number at } in
     let there : place_of k ≡ place.InService service at =
     place_at (slot_at s n).registers number at ∙ ap (λ (x : Service). place.InService x at) names_it in
-    slot_replaced h n b is k refl (record {
+    slot_replaced h n b is k refl (record { id = refl; env_type = refl; calm = λ runs. runs }) (record {
       id = own.id;
       id_small = own.id_small;
       parent = own.parent;

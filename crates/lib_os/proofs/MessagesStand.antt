@@ -40,7 +40,7 @@ use Rattle.lib_os.proofs.PagesStand.{given_stands}
 use Rattle.lib_os.proofs.Sends.{received_in, with_message}
 use Rattle.lib_os.proofs.Serving.{service_step, step_in}
 use Rattle.lib_os.proofs.SlotsStand.{minds_page, born_at, born_live}
-use Rattle.lib_os.proofs.StatesStand.{slot_changed, slot_was_in_order}
+use Rattle.lib_os.proofs.StatesStand.{slot_changed, slot_was_in_order, stopped_settles}
 use Rattle.lib_os.proofs.Waiters.{IsTaken}
 use Rattle.lib_os.proofs.WordsTell.{place_at}
 
@@ -117,7 +117,8 @@ waits_stand {names = names} {s = s} {a = a} h n b is va from id about names_it =
     let first : server_id a ≡ 0x1000 = ap slot_id h.first in
     subst (λ (x : AbstractState). StandsFor names (with_slot_at s n (waiting_in_slot (slot_at s n) va from id)) x)
     (sym (receive_is a n b (slot_at s n).registers va from about.page about.other.0 (λ same. about.other.1 (same ∙ first))))
-    (slot_changed h n b is (waiting_in_slot (slot_at s n) va from id) c refl (waiting_own va from id (born_at h n b is) about names_it))
+    (slot_changed h n b is (waiting_in_slot (slot_at s n) va from id) c refl
+    (stopped_settles (slot_at s n) (waiting_in_slot (slot_at s n) va from id) refl refl refl) (waiting_own va from id (born_at h n b is) about names_it))
 
 -- its step
 pub receive_step : (a : AbstractState) (n : ℕ) (b : Born) (k : KernelSlot) (va from id : ℕ) → a.slots n ≡ born b →
@@ -180,6 +181,7 @@ module _ {names : Names} {s : KernelState} {a : AbstractState} (h : StandsFor na
   pub word_stands : StandsFor names (with_message s n t value 0) (with_born a t (woken c taken.w b.id value (c, 0)))
   word_stands =
       slot_changed h t c there (received_in (slot_at s t) (slot_at s n).id value 0) (woken c taken.w b.id value (c, 0)) refl
+      (stopped_settles (slot_at s t) (received_in (slot_at s t) (slot_at s n).id value 0) refl refl refl)
       (told_own b.id taken (slot_at s n).id value 0 0 (born_at h t c there) refl refl refl mine.id mine.id_small small (omega arith) refl)
 
   pub word_alone : (va : ℕ) → ((va == 0) || (taken.w.va == 0)) ≡ true →
@@ -258,6 +260,7 @@ module _ {names : Names} {s : KernelState} {a : AbstractState} {sp : SpacesState
   told =
       slot_changed placed t with_it put_there (received_in (slot_at s t) (slot_at s n).id value x.perm)
       (woken c taken.w b.id value (with_it, kind_of page)) refl
+      (stopped_settles (slot_at s t) (received_in (slot_at s t) (slot_at s n).id value x.perm) refl refl refl)
       (told_own b.id taken (slot_at s n).id value x.perm (kind_of page) (born_at placed t with_it put_there) refl refl refl
       (born_at h n b at).id (born_at h n b at).id_small small (perm_small x.perm user) (kind_alike names s.spaces.pages x user))
     where

@@ -56,6 +56,7 @@ puts_stand {names = names} {after = after} {s = s} {a = a} {sp = sp} {p = p} {v 
       input = h.input;
       last = h.last;
       turns = h.turns;
+      tabled = h.tabled;
       in_order = in_order;
     }
   where

@@ -1,15 +1,16 @@
 -- A state of the kernel with a server and one environment, which has one page of its own, and the abstract state that it
 -- stands for.
-use Rattle.std.proofs.Common.{◌≡◌, ◌∙◌, ℕ, ◌==◌, ◌&&◌, ◌⊎◌, inl, inr, Bool, true, false, [], Option, Some, None, refl, sym, ap, subst, arith, if◌then◌else◌}
+use Rattle.std.proofs.Common.{◌≡◌, ◌∙◌, ℕ, ◌≢◌, ◌%◌, ◌==◌, ◌&&◌, ◌⊎◌, inl, inr, Bool, true, false, [], Option, Some, None, refl, sym, ap, subst, arith, if◌then◌else◌}
 use Rattle.std.specs.Prelude.{is_some}
 use Rattle.std.specs.Option.{option_map}
 use Rattle.std.proofs.lemmas.Bool.{false≢true}
 use Rattle.std.proofs.lemmas.Bool.Decides.{nat_tests}
-use Rattle.jos_base.specs.declared.environment.EnvType.TheVariants.{FileServer}
+use Rattle.jos_base.specs.declared.environment.EnvType.TheVariants.{User, FileServer}
 use Rattle.jos_base.specs.declared.environment.Status.TheVariants.{Runnable, NotRunnable}
+use Rattle.jos_base.specs.declared.numbers.TheConstants.{NENV}
 use Rattle.jos_base.specs.declared.registers.Regs.{Regs}
 use Rattle.jos_base.specs.Counting.{frame_limit, page_limit}
-use Rattle.jos_base.specs.Environments.{Slot as KernelSlot, Environments, free_slot, zero_registers, no_extra, is_live}
+use Rattle.jos_base.specs.Environments.{Slot as KernelSlot, Environments, free_slot, zero_registers, no_extra, is_live, is_running}
 use Rattle.jos_base.specs.KernelState.{KernelState, HasSpaces}
 use Rattle.jos_base.specs.Reach.{Entry}
 use Rattle.jos_base.specs.SpacesState.{SpacesState, Use, reserved, directory, table, page, Region, zero_page, directories, is_directory}
@@ -18,7 +19,7 @@ use Rattle.lib_os.specs.AbstractState.{AbstractState, Born, Slot, free, born, se
 use Rattle.lib_os.specs.InOrder.{HasOneUse}
 use Rattle.lib_os.specs.declared.place.Place.{Place}
 use Rattle.lib_os.specs.StandingLaws.{SomeStateStands}
-use Rattle.lib_os.specs.StandsFor.{StandsFor, Names, rows_of, StandsForSlot, StandsForServer, StandsForBorn, StandsAt, lasting, page_seen, page_by, is_shared}
+use Rattle.lib_os.specs.StandsFor.{StandsFor, Names, rows_of, StandsForSlot, StandsForServer, StandsForBorn, StandsAt, lasting, page_seen, page_by, is_shared, IsTabled}
 use Rattle.lib_os.proofs.Serving.{words_of_none}
 
 -- ---- the spaces
@@ -304,6 +305,23 @@ have_spaces = record {
         by_tests false true a b = (1, refl, grind (arith, nat_tests))
         by_tests false false a b = absurd (false≢true (sym (no_directory d a b) ∙ is))
 
+are_tabled : IsTabled slot_by None
+are_tabled = record {
+  ids = λ n live. (at_slot n).0 live;
+  servers = λ n other. (at_slot n).1 other;
+  running = λ n runs. (at_slot n).2 runs;
+}
+  where
+    at_slot : (n : ℕ) → (is_live (slot_by n) ≡ true → (slot_by n).id % NENV ≡ n) × (n ≢ 0 → (slot_by n).env_type ≡ User)
+        × (is_running (slot_by n).status ≡ true → None ≡ Some n)
+    at_slot n = by_slot (which_slot n)
+      where
+        by_slot : WhichSlot n → (is_live (slot_by n) ≡ true → (slot_by n).id % NENV ≡ n) × (n ≢ 0 → (slot_by n).env_type ≡ User)
+            × (is_running (slot_by n).status ≡ true → None ≡ Some n)
+        by_slot (first is) = rw is ((λ live. refl), (λ other. absurd (other refl)), (λ runs. absurd (false≢true runs)))
+        by_slot (second is) = rw is ((λ live. refl), (λ other. refl), (λ runs. absurd (false≢true runs)))
+        by_slot (unused a b) = rw (a, b) ((λ live. absurd (false≢true live)), (λ other. refl), (λ runs. absurd (false≢true runs)))
+
 some_stands : StandsFor the_names the_state the_abstract
 some_stands = record {
   slots = slot_stands;
@@ -318,6 +336,7 @@ some_stands = record {
   input = refl;
   last = refl;
   turns = refl;
+  tabled = are_tabled;
   in_order = record { frames = one_use; spaces = have_spaces };
 }
 

@@ -1,16 +1,18 @@
 -- The kernel's state goes on standing for the abstract one where one slot's environment changes, where nothing that is seen
 -- of address spaces does, and where turns begin and end.
-use Rattle.std.proofs.Common.{◌≡◌, ◌≢◌, ◌∙◌, ℕ, ◌+◌, ◌%◌, ◌^◌, Bool, true, false, List, refl, sym, ap, subst, if◌then◌else◌}
+use Rattle.std.proofs.Common.{◌≡◌, ◌≢◌, ◌∙◌, ℕ, ◌+◌, ◌%◌, ◌^◌, Bool, true, false, List, Option, refl, sym, ap, subst, if◌then◌else◌}
 use Rattle.std.specs.Prelude.{Some}
+use Rattle.jos_base.specs.Words.{upd}
+use Rattle.jos_base.specs.declared.environment.EnvType.TheVariants.{User}
 use Rattle.jos_base.specs.declared.environment.Status.{Status}
 use Rattle.jos_base.specs.declared.environment.Status.TheVariants.{Runnable, Running, NotRunnable}
-use Rattle.jos_base.specs.declared.numbers.TheConstants.{FIRST_ENV_ID}
-use Rattle.jos_base.specs.Environments.{Slot as KernelSlot, Environments, is_live as is_live_slot, is_running}
+use Rattle.jos_base.specs.declared.numbers.TheConstants.{FIRST_ENV_ID, NENV}
+use Rattle.jos_base.specs.Environments.{Slot as KernelSlot, Environments, free_slot, is_live as is_live_slot, is_running}
 use Rattle.jos_base.specs.KernelState.{KernelState, HasSpaces, slot_at, with_slot_at, with_spaces, with_status, turn_begun, turn_ended}
 use Rattle.jos_base.specs.SpacesState.{SpacesState, directories}
 use Rattle.lib_os.specs.AbstractState.{AbstractState, Born, Slot, free, unborn, born, serving, is_live, with_born, with_printed}
 use Rattle.lib_os.specs.InOrder.{HasOneUse, IsInOrder}
-use Rattle.lib_os.specs.StandsFor.{StandsFor, StandsForSlot, StandsForBorn, Names, Rows, rows_of, RunsAs, Apart, AreNamed, AreUsers}
+use Rattle.lib_os.specs.StandsFor.{StandsFor, StandsForSlot, StandsForBorn, Names, Rows, rows_of, RunsAs, IsTabled, Apart, AreNamed, AreUsers}
 use Rattle.lib_os.proofs.Effects.{Quiet}
 use Rattle.lib_os.proofs.Maps.{upd-alike, upd-all, upd-both, upd-other}
 use Rattle.lib_os.proofs.SlotsStand.{SeenAlike, slot_stands, born_at, born_live, live_stands, status_born}
@@ -59,11 +61,60 @@ slot_was_in_order s n k live directory h =
     (λ m. sym (upd-alike (λ (x : KernelSlot). is_live_slot x) s.environments.slots n k live m))
     (λ m. sym (upd-alike (λ (x : KernelSlot). x.directory) s.environments.slots n k directory m)) h
 
+-- ---- the table
+
+-- What a slot has when another is put in its place: its id and what it is there for, and it is not made RUNNING.
+pub record Settles (before after : KernelSlot) : Type 0 where
+  pub id : after.id ≡ before.id
+  pub env_type : after.env_type ≡ before.env_type
+  pub calm : is_running after.status ≡ true → is_running before.status ≡ true
+
+-- one that is not RUNNING
+pub stopped_settles : (before after : KernelSlot) → after.id ≡ before.id → after.env_type ≡ before.env_type →
+    is_running after.status ≡ false → Settles before after
+stopped_settles before after id env_type stopped = record {
+  id = id;
+  env_type = env_type;
+  calm = λ runs. absurd (let contradiction : false ≡ true = sym stopped ∙ runs in cc);
+}
+
+tabled_at : {slots : ℕ → KernelSlot} {last : Option ℕ} → IsTabled slots last → (n : ℕ) (k : KernelSlot) → is_live_slot (slots n) ≡ true →
+    Settles (slots n) k → (m : ℕ) → (is_live_slot (upd slots n k m) ≡ true → (upd slots n k m).id % NENV ≡ m)
+    × (m ≢ 0 → (upd slots n k m).env_type ≡ User) × (is_running (upd slots n k m).status ≡ true → last ≡ Some m)
+tabled_at {slots = slots} {last = last} h n k live settles =
+    upd-all (λ m (x : KernelSlot). (is_live_slot x ≡ true → x.id % NENV ≡ m) × (m ≢ 0 → x.env_type ≡ User) × (is_running x.status ≡ true → last ≡ Some m))
+    slots n k
+    ((λ is. ap (λ (id : ℕ). id % NENV) settles.id ∙ h.ids n live), (λ other. settles.env_type ∙ h.servers n other), (λ runs. h.running n (settles.calm runs)))
+    (λ m ne. (h.ids m, h.servers m, h.running m))
+
+pub tabled_set : {slots : ℕ → KernelSlot} {last : Option ℕ} → IsTabled slots last → (n : ℕ) (k : KernelSlot) → is_live_slot (slots n) ≡ true →
+    Settles (slots n) k → IsTabled (upd slots n k) last
+tabled_set h n k live settles = record {
+  ids = λ m. (tabled_at h n k live settles m).0;
+  servers = λ m. (tabled_at h n k live settles m).1;
+  running = λ m. (tabled_at h n k live settles m).2;
+}
+
+pub tabled_freed : {slots : ℕ → KernelSlot} {last : Option ℕ} → IsTabled slots last → (n id : ℕ) → IsTabled (upd slots n (free_slot id)) last
+tabled_freed {slots = slots} {last = last} h n id = record {
+  ids = λ m. (at_slot m).0;
+  servers = λ m. (at_slot m).1;
+  running = λ m. (at_slot m).2;
+}
+  where
+    at_slot : (m : ℕ) → (is_live_slot (upd slots n (free_slot id) m) ≡ true → (upd slots n (free_slot id) m).id % NENV ≡ m)
+        × (m ≢ 0 → (upd slots n (free_slot id) m).env_type ≡ User) × (is_running (upd slots n (free_slot id) m).status ≡ true → last ≡ Some m)
+    at_slot =
+        upd-all (λ m (x : KernelSlot). (is_live_slot x ≡ true → x.id % NENV ≡ m) × (m ≢ 0 → x.env_type ≡ User) × (is_running x.status ≡ true → last ≡ Some m))
+        slots n (free_slot id)
+        ((λ is. absurd (let contradiction : false ≡ true = is in cc)), (λ other. refl), (λ is. absurd (let contradiction : false ≡ true = is in cc)))
+        (λ m ne. (h.ids m, h.servers m, h.running m))
+
 -- the environment in a slot is another, in the same space
 pub slot_changed : {names : Names} {s : KernelState} {a : AbstractState} → StandsFor names s a → (n : ℕ) (b : Born) →
-    a.slots n ≡ born b → (k : KernelSlot) (after : Born) → k.directory ≡ (slot_at s n).directory →
+    a.slots n ≡ born b → (k : KernelSlot) (after : Born) → k.directory ≡ (slot_at s n).directory → Settles (slot_at s n) k →
     StandsForBorn names s.spaces k after → StandsFor names (with_slot_at s n k) (with_born a n after)
-slot_changed {names = names} {s = s} {a = a} h n b at k after directory so = record {
+slot_changed {names = names} {s = s} {a = a} h n b at k after directory settles so = record {
   slots = upd-both (λ m (x : KernelSlot) (y : Slot). StandsForSlot names s.spaces x y) s.environments.slots a.slots n k (born after) so
       (λ m ne. h.slots m);
   apart = h.apart;
@@ -75,14 +126,15 @@ slot_changed {names = names} {s = s} {a = a} h n b at k after directory so = rec
   input = h.input;
   last = h.last;
   turns = h.turns;
+  tabled = tabled_set h.tabled n k (born_live (born_at h n b at)) settles;
   in_order = slot_in_order s n k (born_live so ∙ sym (born_live (born_at h n b at))) directory h.in_order;
 }
 
 -- only the kernel's slot is another
 pub slot_replaced : {names : Names} {s : KernelState} {a : AbstractState} → StandsFor names s a → (n : ℕ) (b : Born) →
-    a.slots n ≡ born b → (k : KernelSlot) → k.directory ≡ (slot_at s n).directory → StandsForBorn names s.spaces k b →
+    a.slots n ≡ born b → (k : KernelSlot) → k.directory ≡ (slot_at s n).directory → Settles (slot_at s n) k → StandsForBorn names s.spaces k b →
     StandsFor names (with_slot_at s n k) a
-slot_replaced {names = names} {s = s} {a = a} h n b at k directory so = record {
+slot_replaced {names = names} {s = s} {a = a} h n b at k directory settles so = record {
   slots = upd-all (λ m (x : KernelSlot). StandsForSlot names s.spaces x (a.slots m)) s.environments.slots n k
       (subst (λ (y : Slot). StandsForSlot names s.spaces k y) (sym at) so) (λ m ne. h.slots m);
   apart = h.apart;
@@ -94,6 +146,7 @@ slot_replaced {names = names} {s = s} {a = a} h n b at k directory so = record {
   input = h.input;
   last = h.last;
   turns = h.turns;
+  tabled = tabled_set h.tabled n k (born_live (born_at h n b at)) settles;
   in_order = slot_in_order s n k (born_live so ∙ sym (born_live (born_at h n b at))) directory h.in_order;
 }
 
@@ -128,6 +181,7 @@ printed_stands h bytes = record {
   input = h.input;
   last = h.last;
   turns = h.turns;
+  tabled = h.tabled;
   in_order = h.in_order;
 }
 
@@ -135,21 +189,25 @@ printed_stands h bytes = record {
 awake_runs : (blocked : Bool) → blocked ≡ false → RunsAs Runnable blocked × RunsAs Running blocked
 awake_runs blocked awake = subst (λ c. RunsAs Runnable c × RunsAs Running c) (sym awake) (tt, tt)
 
+runnable_settles : (k : KernelSlot) → Settles k (record k { status = Runnable })
+runnable_settles k = stopped_settles k (record k { status = Runnable }) refl refl refl
+
 pub status_stands : {names : Names} {s : KernelState} {a : AbstractState} → StandsFor names s a → (n : ℕ) (b : Born) →
     a.slots n ≡ born b → b.blocked ≡ false → StandsFor names (with_status s n Runnable) a
 status_stands {s = s} h n b at awake =
-    slot_replaced h n b at (record (slot_at s n) { status = Runnable }) refl
+    slot_replaced h n b at (record (slot_at s n) { status = Runnable }) refl (runnable_settles (slot_at s n))
     (status_born (slot_at s n) b Runnable (slot_at s n).runs (awake_runs b.blocked awake).0 (born_at h n b at))
 
 pub turn_begun_stands : {names : Names} {s : KernelState} {a : AbstractState} → StandsFor names s a → (n : ℕ) (b : Born) →
-    a.slots n ≡ born b → b.blocked ≡ false → StandsFor names (turn_begun s n) (record a { last = Some n; turns = a.turns + 1 })
-turn_begun_stands {names = names} {s = s} {a = a} h n b at awake =
+    a.slots n ≡ born b → b.blocked ≡ false → ((m : ℕ) → is_running (slot_at s m).status ≡ false) →
+    StandsFor names (turn_begun s n) (record a { last = Some n; turns = a.turns + 1 })
+turn_begun_stands {names = names} {s = s} {a = a} h n b at awake none =
     let runs = ((slot_at s n).runs + 1) % 2 ^ 32 in
     let k : KernelSlot = record (slot_at s n) { status = Running; runs = runs } in
-    let begun : StandsFor names (with_slot_at s n k) a = slot_replaced h n b at k refl
-    (status_born (slot_at s n) b Running runs (awake_runs b.blocked awake).1 (born_at h n b at)) in
+    let own = status_born (slot_at s n) b Running runs (awake_runs b.blocked awake).1 (born_at h n b at) in
     record {
-      slots = begun.slots;
+      slots = upd-all (λ m (x : KernelSlot). StandsForSlot names s.spaces x (a.slots m)) s.environments.slots n k
+          (subst (λ (y : Slot). StandsForSlot names s.spaces k y) (sym at) own) (λ m ne. h.slots m);
       apart = h.apart;
       named = h.named;
       users = h.users;
@@ -159,8 +217,25 @@ turn_begun_stands {names = names} {s = s} {a = a} h n b at awake =
       input = h.input;
       last = refl;
       turns = ap (λ (t : ℕ). t + 1) h.turns;
-      in_order = record { frames = begun.in_order.frames; spaces = begun.in_order.spaces };
+      tabled = record {
+        ids = λ m. (at_turn m).0;
+        servers = λ m. (at_turn m).1;
+        running = λ m. (at_turn m).2;
+      };
+      in_order = let order = slot_in_order s n k (born_live own ∙ sym (born_live (born_at h n b at))) refl h.in_order in
+          record { frames = order.frames; spaces = order.spaces };
     }
+  where
+    at_turn : (m : ℕ) →
+        (is_live_slot (upd s.environments.slots n (record (slot_at s n) { status = Running; runs = ((slot_at s n).runs + 1) % 2 ^ 32 }) m) ≡ true →
+        (upd s.environments.slots n (record (slot_at s n) { status = Running; runs = ((slot_at s n).runs + 1) % 2 ^ 32 }) m).id % NENV ≡ m)
+        × (m ≢ 0 → (upd s.environments.slots n (record (slot_at s n) { status = Running; runs = ((slot_at s n).runs + 1) % 2 ^ 32 }) m).env_type ≡ User)
+        × (is_running (upd s.environments.slots n (record (slot_at s n) { status = Running; runs = ((slot_at s n).runs + 1) % 2 ^ 32 }) m).status ≡ true → Some n ≡ Some m)
+    at_turn =
+        upd-all (λ m (x : KernelSlot). (is_live_slot x ≡ true → x.id % NENV ≡ m) × (m ≢ 0 → x.env_type ≡ User) × (is_running x.status ≡ true → Some n ≡ Some m))
+        s.environments.slots n (record (slot_at s n) { status = Running; runs = ((slot_at s n).runs + 1) % 2 ^ 32 })
+        ((λ is. h.tabled.ids n (born_live (born_at h n b at))), (λ other. h.tabled.servers n other), (λ is. refl))
+        (λ m ne. (h.tabled.ids m, h.tabled.servers m, (λ is. absurd (let contradiction : false ≡ true = sym (none m) ∙ is in cc))))
 
 running_awake : (status : Status) (blocked : Bool) → RunsAs status blocked → is_running status ≡ true → RunsAs Runnable blocked
 running_awake Running false h is = tt
@@ -178,7 +253,7 @@ turn_ended_stands {names = names} {s = s} {a = a} h n = by_running (is_running (
         absurd (let contradiction : true ≡ false = sym running ∙ ap (λ (x : KernelSlot). is_running x.status) so in cc)
     by_slot running (unborn id parent) at so = absurd so
     by_slot running (born b) at so =
-        slot_replaced h n b at (record (slot_at s n) { status = Runnable }) refl
+        slot_replaced h n b at (record (slot_at s n) { status = Runnable }) refl (runnable_settles (slot_at s n))
         (status_born (slot_at s n) b Runnable (slot_at s n).runs (running_awake (slot_at s n).status b.blocked so.runs running) so)
     by_slot running (serving id) at so =
         absurd (let contradiction : true ≡ false = sym running ∙ ap (λ (x : Status). is_running x) so.status in cc)
@@ -212,5 +287,6 @@ quiet_stands {names = names} {s = s} {a = a} {sp = sp} h quiet in_order = record
   input = h.input;
   last = h.last;
   turns = h.turns;
+  tabled = h.tabled;
   in_order = in_order;
 }

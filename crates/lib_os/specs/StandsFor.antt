@@ -2,15 +2,15 @@
 -- with its registers, its place in a service and its pages; one of each frame, with the entries that name it; and one of
 -- what is there once. Nothing here speaks of steps. (That the library keeps this is what its steps promise, in
 -- `LibrarySteps.antt`. As far as services are built: there are no descriptors, no files and no handlers of page faults.)
-use Rattle.std.specs.Prelude.{◌≡◌, ◌≢◌, ◌<◌, ℕ, ◌/◌, ◌^◌, ◌==◌, ◌||◌, not, Bool, true, false, is_some, List, Option, Some, None}
+use Rattle.std.specs.Prelude.{◌≡◌, ◌≢◌, ◌<◌, ℕ, ◌/◌, ◌%◌, ◌^◌, ◌==◌, ◌||◌, not, Bool, true, false, is_some, List, Option, Some, None}
 use Rattle.std.specs.Prelude.{bit_and, if◌then◌else◌}
 use Rattle.std.specs.Option.{option_map}
 use Rattle.jos_base.specs.declared.environment.EnvType.TheVariants.{User, FileServer}
 use Rattle.jos_base.specs.declared.environment.Status.{Status}
 use Rattle.jos_base.specs.declared.environment.Status.TheVariants.{Runnable, Running, NotRunnable}
-use Rattle.jos_base.specs.declared.numbers.TheConstants.{FIRST_ENV_ID, NPTENTRIES, PTE_SYSCALL, UTOP}
+use Rattle.jos_base.specs.declared.numbers.TheConstants.{FIRST_ENV_ID, NENV, NPTENTRIES, PTE_SYSCALL, UTOP}
 use Rattle.jos_base.specs.declared.registers.Regs.{Regs}
-use Rattle.jos_base.specs.Environments.{Slot as KernelSlot, free_slot, no_extra}
+use Rattle.jos_base.specs.Environments.{Slot as KernelSlot, free_slot, no_extra, is_live, is_running}
 use Rattle.jos_base.specs.KernelState.{KernelState, slot_at}
 use Rattle.jos_base.specs.Messages.{Rendezvous}
 use Rattle.jos_base.specs.Reach.{Entry}
@@ -256,6 +256,14 @@ StandsForSlot names s k (unborn id parent) = ⊥
 StandsForSlot names s k (born b) = StandsForBorn names s k b
 StandsForSlot names s k (serving id) = StandsForServer s k id
 
+-- ---- the table
+
+-- An id names its slot, a file server stands in slot 0 alone, and no slot is RUNNING but that which had the last turn.
+pub record IsTabled (slots : ℕ → KernelSlot) (last : Option ℕ) : Type 0 where
+  pub ids : (n : ℕ) → is_live (slots n) ≡ true → (slots n).id % NENV ≡ n
+  pub servers : (n : ℕ) → n ≢ 0 → (slots n).env_type ≡ User
+  pub running : (n : ℕ) → is_running (slots n).status ≡ true → last ≡ Some n
+
 -- ---- the whole
 
 pub record StandsFor (names : Names) (s : KernelState) (a : AbstractState) : Type 0 where
@@ -272,4 +280,5 @@ pub record StandsFor (names : Names) (s : KernelState) (a : AbstractState) : Typ
   pub input : s.input ≡ a.input
   pub last : s.last ≡ a.last
   pub turns : s.turns ≡ a.turns
+  pub tabled : IsTabled s.environments.slots s.last
   pub in_order : IsInOrder s

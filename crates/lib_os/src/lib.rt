@@ -8,8 +8,13 @@
 //! slot, with when a slot may wait (`AbstractRun`). What these mean is said by a few laws, which are proved
 //! (`AbstractLaws`).
 //!
-//! The code here finds the service that a program asks for. It refuses nothing and takes no memory. Nothing runs
-//! programs by this system yet.
+//! The library stands between this system and the kernel: `UserOs` has its calls of the kernel (`UserCalls`), `Places` where
+//! a service stands between two of them, `StandsFor` when a state of the kernel stands for an abstract one, and
+//! `LibrarySteps` what a step of the library promises. The services are crates of their own; what their proofs share is in
+//! `proofs/` here.
+//!
+//! The code finds the service that a program asks for and where it stands, tells what a program may touch, and ends a
+//! service. It refuses nothing and takes no memory.
 #![tactic(auto)]
 
 mod answers;

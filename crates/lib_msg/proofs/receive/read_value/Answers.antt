@@ -13,7 +13,7 @@ go_on-requires-clause-live g c =
 
 pub returns-in-Ok-clause-step : goal.returns-in-Ok-clause-step
 returns-in-Ok-clause-step g c =
-    value_read (g.O.UserOs.state c.args.os.now) (g.O.UserOs.slot c.args.os.now) c.args.va c.args.from c.args.id c.record_word.result c.requires.numbered c.requires.at c.requires.awake c.record_word.ensures (g.O.UserOs.state c.load.new.self) _ c.in-Ok.value _ _ c.load.ensures.in_order c.in-Ok.ensures.step c.load.ensures.slot c.go_on.ensures.state
+    value_read (g.O.UserOs.state c.args.os.now) (g.O.UserOs.slot c.args.os.now) c.args.va c.args.from c.args.id c.record_word.result c.requires.at c.requires.awake c.record_word.ensures (g.O.UserOs.state c.load.new.self) _ c.in-Ok.value _ _ c.load.ensures.in_order c.in-Ok.ensures.step c.load.ensures.slot c.go_on.ensures.state
 
 pub returns-in-Ok-clause-lowers : goal.returns-in-Ok-clause-lowers
 returns-in-Ok-clause-lowers g c =
@@ -25,7 +25,7 @@ returns-in-Ok-clause-lowers g c =
 
 pub returns-in-Err-clause-step : goal.returns-in-Err-clause-step
 returns-in-Err-clause-step g c =
-    stopped_step (g.O.UserOs.state c.args.os.now) (g.O.UserOs.state c.load.new.self) (g.O.UserOs.slot c.args.os.now) _ c.in-Err.stop _ _ (gives_value (g.O.UserOs.state c.args.os.now) (g.O.UserOs.slot c.args.os.now) c.args.va c.args.from c.args.id c.record_word.result c.requires.numbered c.requires.at c.requires.awake c.record_word.ensures) c.in-Err.ensures.step c.stopped.ensures
+    stopped_step (g.O.UserOs.state c.args.os.now) (g.O.UserOs.state c.load.new.self) (g.O.UserOs.slot c.args.os.now) _ c.in-Err.stop _ _ (gives_value (g.O.UserOs.state c.args.os.now) (g.O.UserOs.slot c.args.os.now) c.args.va c.args.from c.args.id c.record_word.result c.requires.at c.requires.awake c.record_word.ensures) c.in-Err.ensures.step c.stopped.ensures
 
 pub returns-in-Err-clause-lowers : goal.returns-in-Err-clause-lowers
 returns-in-Err-clause-lowers g c = stopped_lowers c.in-Err.stop c.stopped.result _ _ c.stopped.ensures

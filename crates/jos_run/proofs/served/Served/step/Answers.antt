@@ -21,6 +21,3 @@ mem_step-requires g c =
           ∙ mem_serves c.in-InService.service (built_at slot.registers slot.extra c.in-InService.service c.in-InService.step is)
           c.in_default.not-Exit c.in_default.not-Wait c.in_default.not-Send c.in_default.not-Receive;
     }
-
-pub msg_step-requires-clause-numbered : goal.msg_step-requires-clause-numbered
-msg_step-requires-clause-numbered g c = c.requires.numbered
