@@ -470,7 +470,7 @@ static WORDS: [(&[&str], u8, &str); 48] = [
     (&["exo", "--frames", "63", "--steps", "x", "h"], 1, USAGE),
     (&["demo", "xhello"], 1, USAGE),
     (&["demo", "xhello", "-f"], 1, USAGE),
-    (&["demo", "hello", "f"], 1, USAGE),
+    (&["demo", "hell", "f"], 1, USAGE),
     (&["demo", "xhello", "f", "f"], 1, USAGE),
     (&["exo", "absent"], 2, "absent: absent\n"),
     (&["exo", "h", "absent"], 2, "absent: absent\n"),

@@ -23,6 +23,12 @@ pub(crate) const ECX: u8 = 1;
 /// The number of EDX.
 pub(crate) const EDX: u8 = 2;
 
+/// The number of the service that ends a program. (`lib_os`, specs/Services.antt)
+pub(crate) const SERVICE_EXIT: u32 = 0;
+
+/// The number of the service that prints bytes. (`lib_os`, specs/Services.antt)
+pub(crate) const SERVICE_CPUTS: u32 = 1;
+
 /// A software interrupt.
 pub(crate) fn int(vector: u8) -> Insn
     ensures value { result ≡ int vector }

@@ -1,34 +1,64 @@
 //! The programs.
 
-ghost use Rattle.std.specs.Prelude.{◌≡◌, ◌≤◌, IfOk, IsOk, Ok, None, false, is_some, length, codes};
+ghost use Rattle.std.specs.Prelude.{◌≡◌, ◌≤◌, ◌||◌, [], ◌∷◌, IfOk, IsOk, Ok, None, false, is_some, length, codes};
 ghost use Rattle.std.specs.Str.{bytes_eq};
 ghost use Rattle.std.specs.Option.{option_map};
+ghost use Rattle.jos_isa.specs.Moves.{mov};
+ghost use Rattle.jos_asm.specs.declared.item.Item.TheVariants.{Insn, Address};
 ghost use Rattle.jos_asm.specs.Program.{finished};
 ghost use Rattle.jos_asm.specs.Calls.{IsFault};
-ghost use Rattle.jos_demo.specs.Programs.{xhello, named, file_of};
+ghost use Rattle.jos_demo.specs.declared.code.TheConstants.{TEXT, EAX, ECX, EDX};
+ghost use Rattle.jos_demo.specs.Code.{int};
+ghost use Rattle.jos_demo.specs.Programs.{xhello, hello, named, file_of};
 
-use crate::code::{EAX, ECX, EDX, TEXT, image, int};
+use crate::code::{EAX, ECX, EDX, SERVICE_CPUTS, SERVICE_EXIT, TEXT, image, int};
 use jos_asm::{AsmFault, Builder, CODE_MAX};
-use jos_base::{NoMemory, SYS_CPUTS, SYS_ENV_DESTROY, T_SYSCALL};
+use jos_base::{NoMemory, SYS_CPUTS, SYS_ENV_DESTROY, T_SERVICE, T_SYSCALL};
 use jos_isa::mov;
 use std::alloc::Global;
+
+/// The line that is printed.
+const LINE: [u8; 6] = *b"hello\n";
+
+/// The beginning of a program: the line, at the label `text`, is printed by a call of this number through this gate.
+fn printing(alloc: Global, number: u32, gate: u8) -> Result<Builder, NoMemory>
+    ensures { IfOk result (λ program. program ≡ record {
+      base = TEXT;
+      items = Insn (mov EAX number) ∷ Address EDX (codes "text") ∷ Insn (mov ECX 6) ∷ Insn (int gate) ∷ [];
+    }) }
+{
+    let mut program = Builder::new(alloc, TEXT);
+    program.insn(mov(EAX, number))?;
+    program.address(EDX, "text")?;
+    program.insn(mov(ECX, LINE.len() as u32))?;
+    program.insn(int(gate))?;
+    Ok(program)
+}
 
 /// Prints a line on the bare kernel, and ends.
 #[tactic(auto, unfolding(crate::specs::Programs::xhello))]
 fn xhello(alloc: Global) -> Result<Builder, NoMemory>
     ensures { IfOk result (λ program. program ≡ xhello) }
 {
-    let line = b"hello\n";
-    let mut program = Builder::new(alloc, TEXT);
-    program.insn(mov(EAX, SYS_CPUTS))?;
-    program.address(EDX, "text")?;
-    program.insn(mov(ECX, line.len() as u32))?;
-    program.insn(int(T_SYSCALL))?;
+    let mut program = printing(alloc, SYS_CPUTS, T_SYSCALL)?;
     program.insn(mov(EAX, SYS_ENV_DESTROY))?;
     program.insn(mov(EDX, 0))?;
     program.insn(int(T_SYSCALL))?;
     program.label("text")?;
-    program.bytes(line)?;
+    program.bytes(&LINE)?;
+    Ok(program)
+}
+
+/// Prints a line under the library, and ends.
+#[tactic(auto, unfolding(crate::specs::Programs::hello))]
+fn hello(alloc: Global) -> Result<Builder, NoMemory>
+    ensures { IfOk result (λ program. program ≡ hello) }
+{
+    let mut program = printing(alloc, SERVICE_CPUTS, T_SERVICE)?;
+    program.insn(mov(EAX, SERVICE_EXIT))?;
+    program.insn(int(T_SERVICE))?;
+    program.label("text")?;
+    program.bytes(&LINE)?;
     Ok(program)
 }
 
@@ -40,6 +70,8 @@ fn named(alloc: Global, name: &str) -> Result<Option<Builder>, NoMemory>
 {
     if name == "xhello" {
         Ok(Some(xhello(alloc)?))
+    } else if name == "hello" {
+        Ok(Some(hello(alloc)?))
     } else {
         Ok(None)
     }
@@ -48,10 +80,10 @@ fn named(alloc: Global, name: &str) -> Result<Option<Builder>, NoMemory>
 /// Whether a program has this name.
 pub fn is_program(name: &str) -> bool
     ensures file { result ≡ is_some (file_of name.now) }
-    // There is one program.
-    ensures named { result ≡ bytes_eq name.now (codes "xhello") }
+    // There are two programs.
+    ensures named { result ≡ (bytes_eq name.now (codes "xhello") || bytes_eq name.now (codes "hello")) }
 {
-    name == "xhello"
+    name == "xhello" || name == "hello"
 }
 
 /// What is left of the faults of a program that has none.
@@ -78,7 +110,7 @@ fn assemble(program: Builder) -> Result<Vec<u8>, NoMemory>
 
 /// The file of the program of a name, or `None` where no program has it. That no program has it takes no memory.
 ///
-/// `xhello` runs on the bare kernel, and prints `hello` and a newline.
+/// `xhello` and `hello` print `hello` and a newline: `xhello` runs on the bare kernel, `hello` under the library.
 #[tactic(auto, unfolding(crate::specs::Programs::file_of))]
 pub fn program(alloc: Global, name: &str) -> Result<Option<Vec<u8>>, NoMemory>
     ensures exact { IfOk result (λ file. option_map (λ bytes. bytes.items) file ≡ file_of name.now) }

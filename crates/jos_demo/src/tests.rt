@@ -11,14 +11,26 @@ const XHELLO: [u8; 119] = [
     0xb8, 3, 0, 0, 0, 0xba, 0, 0, 0, 0, 0xcd, 0x30, b'h', b'e', b'l', b'l', b'o', b'\n',
 ];
 
+// As `as` of GNU makes its code: mov eax,1; mov edx,text; mov ecx,6; int 0x40; mov eax,0; int 0x40.
+#[rattlefmt::skip]
+const HELLO: [u8; 114] = [
+    0x7f, b'E', b'L', b'F', 1, 1, 1, 0, 0, 0, 0, 0, 0, 0, 0, 0, 2, 0, 3, 0, 1, 0, 0, 0, 0x20, 0, 0x80, 0,
+    52, 0, 0, 0, 0, 0, 0, 0, 0, 0, 0, 0, 52, 0, 32, 0, 1, 0, 0, 0, 0, 0, 0, 0,
+    1, 0, 0, 0, 84, 0, 0, 0, 0x20, 0, 0x80, 0, 0x20, 0, 0x80, 0, 30, 0, 0, 0, 30, 0, 0, 0, 5, 0, 0, 0, 1, 0, 0, 0,
+    0xb8, 1, 0, 0, 0, 0xba, 0x38, 0, 0x80, 0, 0xb9, 6, 0, 0, 0, 0xcd, 0x40,
+    0xb8, 0, 0, 0, 0, 0xcd, 0x40, b'h', b'e', b'l', b'l', b'o', b'\n',
+];
+
 #[test]
 fn gives_the_file_of_each_name(rt: HostRuntime) -> Result<(), Fail> {
-    assert!(rt; is_program("xhello"));
-    let Some(file) = program(rt.alloc(), "xhello")? else {
-        panic!(rt; "no program xhello");
-    };
-    assert_eq!(rt; file.as_slice(), XHELLO.as_slice());
-    for name in ["", "xhell", "xhello ", "XHELLO", "hello"] {
+    for (name, want) in [("xhello", XHELLO.as_slice()), ("hello", HELLO.as_slice())] {
+        assert!(rt; is_program(name), "{name}");
+        let Some(file) = program(rt.alloc(), name)? else {
+            panic!(rt; "no program {name}");
+        };
+        assert_eq!(rt; file.as_slice(), want, "{name}");
+    }
+    for name in ["", "xhell", "xhello ", "XHELLO", "hell", "hello ", "Hello"] {
         assert!(rt; program(rt.alloc(), name)?.is_none(), "{name}");
         assert!(rt; !is_program(name), "{name}");
     }
