@@ -6,7 +6,7 @@ use Rattle.jos_host.specs.Frames.{from_to}
 use Rattle.std.proofs.lemmas.List.{append-nil}
 use Rattle.std.proofs.Common.{append_assoc}
 use Rattle.jos_words.specs.Arguments.{Word}
-use Rattle.jos_words.specs.Commands.{Command, exo, demo, mkfs, ls, cat}
+use Rattle.jos_words.specs.Commands.{Command, exo, run, demo, mkfs, ls, cat}
 use Rattle.fs_image.specs.DiskHeld.{IsReadInPieces}
 use Rattle.jos_cli.specs.FilesAsked.{AsksFor, AsksAll, AsksOnly, read_calls, write_calls, files_calls, exo_calls, mkfs_calls}
 
@@ -81,6 +81,7 @@ reads_none name (Some asked) new same = (0, same ∙ ap (λ l. Some l) (sym (app
 pub asks_no_more : (command : Option Command) (old new : Option (List Asked)) → new ≡ old → AsksOnly command (from_to old new)
 asks_no_more None old new same = same
 asks_no_more (Some (exo e)) old new same = asks_none (exo_calls e) old new same
+asks_no_more (Some (run r)) old new same = same
 asks_no_more (Some (demo d)) old new same = asks_none (write_calls d.file.text) old new same
 asks_no_more (Some (mkfs m)) old new same = asks_none (mkfs_calls m) old new same
 asks_no_more (Some (ls l)) old new same = reads_none l.disk.text old new same

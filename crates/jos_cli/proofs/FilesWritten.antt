@@ -11,7 +11,7 @@ use Rattle.jos_cli.specs.declared.outcome.Outcome.{Outcome}
 use Rattle.jos_cli.specs.declared.outcome.Outcome.TheVariants as outcome
 use Rattle.jos_kernel.specs.declared.report.Stopped.{Stopped}
 use Rattle.jos_host.specs.Frames.{Around, from_to}
-use Rattle.jos_words.specs.Commands.{Command, Mkfs, exo, demo, mkfs, ls, cat}
+use Rattle.jos_words.specs.Commands.{Command, Mkfs, exo, run, demo, mkfs, ls, cat}
 use Rattle.jos_cli.specs.Commands.{program_file}
 use Rattle.jos_cli.specs.Making.{disk_in}
 use Rattle.jos_cli.specs.FilesLeft.{KeepsOthers, told_with, told_with_disk, LeavesBy, Leaves, LeavesGoodDisk}
@@ -77,6 +77,7 @@ pub leaves_fault : (old new later : Option Files) (command : Option Command) (re
     Leaves command (outcome.HostFault stopped) (from_to old later)
 leaves_fault old new later None result stopped h same = same ∙ h
 leaves_fault old new later (Some (exo e)) result stopped h same = same ∙ h
+leaves_fault old new later (Some (run r)) result stopped h same = same ∙ h
 leaves_fault old new later (Some (demo d)) result stopped h same =
     let file = d.file.text in let bytes = program_file d.name.text in
     subst (λ (f : Option Files). KeepsOthers file (from_to old f)) (sym same)
@@ -91,6 +92,7 @@ leaves_fault old new later (Some (cat c)) result stopped h same = same ∙ h
 pub leaves_no_memory : (command : Option Command) (old new : Option Files) → Leaves command outcome.NoMemory (from_to old new) → new ≡ old
 leaves_no_memory None old new h = h
 leaves_no_memory (Some (exo e)) old new h = h
+leaves_no_memory (Some (run r)) old new h = h
 leaves_no_memory (Some (demo d)) old new h = h
 leaves_no_memory (Some (mkfs m)) old new h = h
 leaves_no_memory (Some (ls l)) old new h = h
@@ -100,6 +102,7 @@ leaves_no_memory (Some (cat c)) old new h = h
 pub no_good_disk : (command : Option Command) (stopped : Stopped) (told : Around (Option Files)) → LeavesGoodDisk command (outcome.HostFault stopped) told
 no_good_disk None stopped told = tt
 no_good_disk (Some (exo e)) stopped told = tt
+no_good_disk (Some (run r)) stopped told = tt
 no_good_disk (Some (demo d)) stopped told = tt
 no_good_disk (Some (mkfs m)) stopped told = tt
 no_good_disk (Some (ls l)) stopped told = tt

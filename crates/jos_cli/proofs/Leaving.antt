@@ -7,7 +7,7 @@ use Rattle.jos_cli.specs.declared.outcome.Which.TheVariants as which
 use Rattle.jos_cli.specs.declared.outcome.Outcome.{Outcome}
 use Rattle.jos_cli.specs.declared.outcome.Outcome.TheVariants as outcome
 use Rattle.jos_base.specs.declared.numbers.TheConstants.{INPUT_MAX, FRAMES_MIN, FRAMES_MAX, STEPS_MAX, TRACE_MAX, IMAGES_MAX}
-use Rattle.jos_words.specs.Commands.{Command, Exo, exo, demo, mkfs, ls, cat}
+use Rattle.jos_words.specs.Commands.{Command, Exo, exo, run, demo, mkfs, ls, cat}
 use Rattle.jos_cli.specs.declared.outcome.Which.{Which}
 use Rattle.jos_cli.specs.Limits.{place_out, out_of, earlier, numbers_out, or_images, limit_of_words}
 use Rattle.jos_kernel.specs.declared.report.Stopped.{Stopped}
@@ -174,6 +174,7 @@ left_part no_memory old new h = h
 pub left_fault : (command : Option Command) (own : Outcome) (stopped : Stopped) (old new later : Option (List ℕ)) → LeavesInput command own (from_to old new) → later ≡ new →
     LeavesInput command (outcome.HostFault stopped) (from_to old later)
 left_fault None own stopped old new later h same = same ∙ h
+left_fault (Some (run r)) own stopped old new later h same = same ∙ h
 left_fault (Some (demo d)) own stopped old new later h same = same ∙ h
 left_fault (Some (mkfs m)) own stopped old new later h same = same ∙ h
 left_fault (Some (ls l)) own stopped old new later h same = same ∙ h
@@ -183,6 +184,7 @@ left_fault (Some (exo e)) own stopped old new later h same = let part = left_par
 -- where there was no memory for the words
 pub left_no_memory : (command : Option Command) (own : Outcome) (old new : Option (List ℕ)) → IsMemoryCase own → new ≡ old → LeavesInput command own (from_to old new)
 left_no_memory None own old new h same = same
+left_no_memory (Some (run r)) own old new h same = same
 left_no_memory (Some (demo d)) own old new h same = same
 left_no_memory (Some (mkfs m)) own old new h same = same
 left_no_memory (Some (ls l)) own old new h same = same

@@ -9,7 +9,7 @@ use Rattle.jos_cli.specs.declared.outcome.Outcome.{Outcome}
 use Rattle.jos_cli.specs.declared.outcome.Outcome.TheVariants as outcome
 use Rattle.jos_host.specs.Frames.{Around, from_to}
 use Rattle.jos_host.specs.Gains.{Gains, GainsPart}
-use Rattle.jos_words.specs.Commands.{Command, exo, demo, mkfs, ls, cat}
+use Rattle.jos_words.specs.Commands.{Command, exo, run, demo, mkfs, ls, cat}
 use Rattle.jos_cli.specs.Commands.{command_of}
 use Rattle.jos_cli.specs.Answer.{Expected, refused, usage, expected_of_exo, expected_of_demo}
 use Rattle.jos_cli.specs.Making.{expected_of_mkfs}
@@ -42,6 +42,7 @@ answers_part told input None result stopped console later h same = part (refused
 answers_part told input (Some (demo d)) result stopped console later h same = part (expected_of_demo d.name.text) (kind_of result) console later h same
 answers_part told input (Some (exo e)) result stopped console later h same =
     (h.0, h.1, h.2, h.3, part (expected_of_exo e h.0 h.1) (kind_of result) console later h.4 same)
+answers_part told input (Some (run r)) result stopped console later h same = part (refused usage) (kind_of result) console later h same
 answers_part told input (Some (mkfs m)) result stopped console later h same =
     (h.0, h.1, part (expected_of_mkfs m h.0) (kind_of result) console later h.2 same)
 answers_part told input (Some (ls l)) result stopped console later h same =
@@ -117,6 +118,7 @@ at_no_memory files input None console same = same
 at_no_memory files input (Some (demo d)) console same = same
 at_no_memory files input (Some (exo e)) console same =
     let found = some_found files e in let given = some_input input in (found.0, given.0, found.1, given.1, same)
+at_no_memory files input (Some (run r)) console same = same
 at_no_memory files input (Some (mkfs m)) console same = let found = some_are_found files m.files in (found.0, found.1, same)
 at_no_memory files input (Some (ls l)) console same = let file = some_file files l.disk in (file.0, file.1, same)
 at_no_memory files input (Some (cat c)) console same = let file = some_file files c.disk in (file.0, file.1, same)

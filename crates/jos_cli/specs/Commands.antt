@@ -1,13 +1,14 @@
 -- What the words of the command line ask. (This system's own.)
 use Rattle.std.specs.Prelude.{ℕ, List, [], Option, Some, None, is_some, unwrap_or, if◌then◌else◌}
 use Rattle.jos_demo.specs.Programs.{file_of}
-use Rattle.jos_words.specs.Commands.{Command, exo, demo, mkfs, ls, cat}
+use Rattle.jos_words.specs.Commands.{Command, exo, run, demo, mkfs, ls, cat}
 use Rattle.jos_words.specs.Commands as words
 
--- a command, but for `demo` with a name that no example program has
+-- a command, but for `demo` with a name that no example program has, and for `run`, which is not built yet
 abbrev pub known : Option Command → Option Command
 known None = None
 known (Some (exo e)) = Some (exo e)
+known (Some (run r)) = None
 known (Some (demo d)) = if is_some (file_of d.name.text) then Some (demo d) else None
 known (Some (mkfs m)) = Some (mkfs m)
 known (Some (ls l)) = Some (ls l)

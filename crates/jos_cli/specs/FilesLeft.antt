@@ -8,7 +8,7 @@ use Rattle.fs_make.specs.MadeImage.{made_files}
 use Rattle.jos_cli.specs.declared.outcome.Outcome.{Outcome}
 use Rattle.jos_cli.specs.declared.outcome.Outcome.TheVariants.{Made, HostFault}
 use Rattle.jos_host.specs.Frames.{Around}
-use Rattle.jos_words.specs.Commands.{Command, Mkfs, exo, demo, mkfs, ls, cat}
+use Rattle.jos_words.specs.Commands.{Command, Mkfs, exo, run, demo, mkfs, ls, cat}
 use Rattle.jos_cli.specs.Commands.{program_file}
 use Rattle.jos_cli.specs.Making.{named_in, disk_in}
 
@@ -44,6 +44,7 @@ LeavesDisk m outcome told = LeavesBy m.disk.text (told_with_disk told.before m) 
 abbrev pub Leaves : Option Command → Outcome → Around (Option Files) → Type 0
 Leaves None outcome told = told.after ≡ told.before
 Leaves (Some (exo e)) outcome told = told.after ≡ told.before
+Leaves (Some (run r)) outcome told = told.after ≡ told.before
 Leaves (Some (demo d)) outcome told = LeavesProgram d.name.text d.file.text outcome told
 Leaves (Some (mkfs m)) outcome told = LeavesDisk m outcome told
 Leaves (Some (ls l)) outcome told = told.after ≡ told.before

@@ -6,7 +6,7 @@ use Rattle.jos_host.specs.Told.{Rose}
 use Rattle.jos_host.specs.Frames.{Around}
 use Rattle.jos_host.specs.Gains.{Gains, GainsPart}
 use Rattle.jos_base.specs.declared.numbers.TheConstants.{INPUT_MAX}
-use Rattle.jos_words.specs.Commands.{Command, Exo, Mkfs, Ls, Cat, exo, demo, mkfs, ls, cat}
+use Rattle.jos_words.specs.Commands.{Command, Exo, Mkfs, Ls, Cat, exo, run, demo, mkfs, ls, cat}
 use Rattle.jos_kernel.specs.declared.report.End.{End}
 use Rattle.jos_kernel.specs.declared.report.End.TheVariants.{Done, Stuck, Budget, TurnsFull}
 use Rattle.jos_kernel.specs.Reports.{CutOff}
@@ -67,6 +67,7 @@ AnswersCommand told told_input (Some (demo d)) outcome console = Answers (expect
 AnswersCommand told told_input (Some (exo e)) outcome console =
     (found : Found) × (input : List ℕ) × IsFound told e found × IsInput told_input input
     × Answers (expected_of_exo e found input) outcome console
+AnswersCommand told told_input (Some (run r)) outcome console = Answers (refused usage) outcome console
 AnswersCommand told told_input (Some (mkfs m)) outcome console =
     (found : List FileAt) × AreFound told m.files found × Answers (expected_of_mkfs m found) outcome console
 AnswersCommand told told_input (Some (ls l)) outcome console =
@@ -159,6 +160,7 @@ LeavesInputBy no_memory input = HasLost input.before input.after
 -- Only `exo` reads input.
 abbrev pub LeavesInput : Option Command → Outcome → Around (Option (List ℕ)) → Type 0
 LeavesInput None outcome input = input.after ≡ input.before
+LeavesInput (Some (run r)) outcome input = input.after ≡ input.before
 LeavesInput (Some (demo d)) outcome input = input.after ≡ input.before
 LeavesInput (Some (mkfs m)) outcome input = input.after ≡ input.before
 LeavesInput (Some (ls l)) outcome input = input.after ≡ input.before

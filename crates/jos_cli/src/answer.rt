@@ -315,6 +315,8 @@ fn answer_words<'a, H: Host>(alloc: Global, words: &'a [&'a str], host: &mut H) 
 {
     match read_words(alloc, words) {
         Ok(Command::Exo(words)) => answer_exo(alloc, &words, host),
+        // `run` is not built yet.
+        Ok(Command::Run(_words)) => Outcome::Usage,
         Ok(Command::Demo(words)) => answer_demo(alloc, words, host),
         Ok(Command::Mkfs(words)) => answer_mkfs(alloc, &words, host),
         Ok(Command::Ls(words)) => answer_ls(alloc, words, host),

@@ -5,7 +5,7 @@ pub mod Rows
 pub mod Rules
 pub mod Taking
 pub mod ClapWalk
-pub mod ExoForm
+pub mod RunningForm
 pub mod DemoForm
 pub mod MkfsForm
 pub mod LsForm

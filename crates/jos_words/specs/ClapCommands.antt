@@ -2,7 +2,7 @@
 use Rattle.std.specs.Prelude.{ℕ, Bool, List, [], ◌∷◌, ◌++◌, Some, true, codes, map}
 use Rattle.clap.specs.Words.{App, Rule, new_app, new_rule, takes}
 use Rattle.clap.specs.declared.builder.action.ArgAction.TheVariants.{Append}
-use Rattle.jos_words.specs.Commands.{exo_options}
+use Rattle.jos_words.specs.Commands.{running_options}
 
 -- an option `--name`, which takes one value
 abbrev pub option_rule : List ℕ → Rule
@@ -30,8 +30,9 @@ app_with name rules =
     let app = new_app name in
     record app { top = record app.top { rules = rules; disable_help_flag = true; disable_version_flag = true } }
 
-abbrev pub exo_app : App
-exo_app = app_with (codes "exo") (map option_rule exo_options ++ repeated_rule (codes "image") ∷ [])
+-- `exo` or `run`
+abbrev pub running_app : List ℕ → App
+running_app name = app_with name (map option_rule running_options ++ repeated_rule (codes "word") ∷ [])
 
 abbrev pub demo_app : App
 demo_app = app_with (codes "demo") (required_rule (codes "name") ∷ required_rule (codes "file") ∷ [])

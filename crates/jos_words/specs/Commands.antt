@@ -6,6 +6,7 @@ use Rattle.jos_words.specs.Values.{number_of}
 use Rattle.jos_words.specs.Arguments.{◌>>=◌, Word, Arguments, value_of, arguments_of, word_in_bytes}
 use Rattle.jos_words.specs.declared.values.NumberAt.{NumberAt}
 use Rattle.jos_words.specs.declared.commands.ExoWords.{ExoWords}
+use Rattle.jos_words.specs.declared.commands.RunWords.{RunWords}
 use Rattle.jos_words.specs.declared.commands.DemoWords.{DemoWords}
 use Rattle.jos_words.specs.declared.commands.MkfsWords.{MkfsWords}
 use Rattle.jos_words.specs.declared.commands.LsWords.{LsWords}
@@ -22,8 +23,9 @@ pub record Exo : Type 0 where
   pub trace : Option NumberAt
   pub images : List Word
 
-abbrev pub exo_options : List (List ℕ)
-exo_options = codes "frames" ∷ codes "steps" ∷ codes "schedule" ∷ codes "trace" ∷ []
+-- the options of `exo` and `run`
+abbrev pub running_options : List (List ℕ)
+running_options = codes "frames" ∷ codes "steps" ∷ codes "schedule" ∷ codes "trace" ∷ []
 
 -- an option that is not given is fine, and one that is given has to be a number
 abbrev pub number_in : Option Word → Option (Option NumberAt)
@@ -45,8 +47,30 @@ exo_of arguments = do
 -- the words behind `exo`
 unfoldable pub exo_words : List (List ℕ) → Option Exo
 exo_words words = do
-  arguments ← arguments_of exo_options words
+  arguments ← arguments_of running_options words
   exo_of arguments
+
+-- ---- `run [--frames N] [--steps N] [--schedule FILE] [--trace N] IMAGE [WORD..]`
+
+-- the first of the words names the image, and all of them are the program's
+pub record Run : Type 0 where
+  pub frames : Option NumberAt
+  pub steps : Option NumberAt
+  pub schedule : Option Word
+  pub trace : Option NumberAt
+  pub words : List Word
+
+-- as of `exo`, with words in place of images
+unfoldable pub run_of : Arguments → Option Run
+run_of arguments = do
+  e ← exo_of arguments
+  Some (record { frames = e.frames; steps = e.steps; schedule = e.schedule; trace = e.trace; words = e.images })
+
+-- the words behind `run`
+unfoldable pub run_words : List (List ℕ) → Option Run
+run_words words = do
+  arguments ← arguments_of running_options words
+  run_of arguments
 
 -- ---- `demo NAME FILE`
 
@@ -139,6 +163,7 @@ cat_words words = do
 
 pub data Command : Type 0 where
   exo : Exo → Command
+  run : Run → Command
   demo : Demo → Command
   mkfs : Mkfs → Command
   ls : Ls → Command
@@ -149,6 +174,7 @@ unfoldable pub command_of : List (List ℕ) → Option Command
 command_of [] = None
 command_of (name ∷ words) =
     if bytes_eq name (codes "exo") then option_map exo (exo_words words)
+    else if bytes_eq name (codes "run") then option_map run (run_words words)
     else if bytes_eq name (codes "demo") then option_map demo (demo_words words)
     else if bytes_eq name (codes "mkfs") then option_map mkfs (mkfs_words words)
     else if bytes_eq name (codes "ls") then option_map ls (ls_words words)
@@ -164,6 +190,15 @@ exo_in_bytes words = record {
   schedule = option_map word_in_bytes words.schedule;
   trace = words.trace;
   images = map word_in_bytes words.images.items;
+}
+
+abbrev pub run_in_bytes : RunWords → Run
+run_in_bytes words = record {
+  frames = words.frames;
+  steps = words.steps;
+  schedule = option_map word_in_bytes words.schedule;
+  trace = words.trace;
+  words = map word_in_bytes words.words.items;
 }
 
 abbrev pub demo_in_bytes : DemoWords → Demo
@@ -184,6 +219,7 @@ cat_in_bytes words = record { disk = word_in_bytes words.disk; path = word_in_by
 
 abbrev pub in_bytes : ReadCommand → Command
 in_bytes (read.Exo words) = exo (exo_in_bytes words)
+in_bytes (read.Run words) = run (run_in_bytes words)
 in_bytes (read.Demo words) = demo (demo_in_bytes words)
 in_bytes (read.Mkfs words) = mkfs (mkfs_in_bytes words)
 in_bytes (read.Ls words) = ls (ls_in_bytes words)

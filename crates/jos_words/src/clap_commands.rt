@@ -5,9 +5,9 @@ ghost use Rattle.clap.specs.Words.{app_of, rule_of};
 ghost use Rattle.jos_words.specs.declared.words.WordsFault.TheVariants.{Usage};
 ghost use Rattle.jos_words.specs.Arguments.{texts};
 ghost use Rattle.jos_words.specs.ClapCommands.{option_rule, required_rule, optional_rule, repeated_rule, optional_repeated_rule};
-ghost use Rattle.jos_words.specs.ClapCommands.{app_with, exo_app, demo_app, mkfs_app, ls_app, cat_app, clap_takes};
+ghost use Rattle.jos_words.specs.ClapCommands.{app_with, running_app, demo_app, mkfs_app, ls_app, cat_app, clap_takes};
 
-use crate::commands::EXO_OPTIONS;
+use crate::commands::RUNNING_OPTIONS;
 use crate::words::WordsFault;
 use clap::error::ErrorKind;
 use clap::{Arg, ArgAction, Command};
@@ -72,11 +72,11 @@ fn command_with<'a>(
     Ok(command)
 }
 
-/// `exo`, whose words are images.
-pub(crate) fn exo_command<'a>(alloc: Global) -> Result<Command<'a>, AllocError>
-    ensures { IfOk result (λ command. app_of command ≡ exo_app) }
+/// `exo`, whose words are images, or `run`, whose words are an image and a program's words.
+pub(crate) fn running_command<'a>(alloc: Global, name: &'a str) -> Result<Command<'a>, AllocError>
+    ensures { IfOk result (λ command. app_of command ≡ running_app name.now) }
 {
-    command_with(alloc, "exo", &EXO_OPTIONS)?.arg(repeated(alloc, "image"))
+    command_with(alloc, name, &RUNNING_OPTIONS)?.arg(repeated(alloc, "word"))
 }
 
 /// `demo`, whose words are a name and a file.

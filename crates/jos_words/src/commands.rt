@@ -3,13 +3,13 @@
 ghost use Rattle.std.specs.Prelude.{◌≡◌, ◌<◌, IfOk, IfErr, Some, None, length, map, option_map, drop};
 ghost use Rattle.jos_words.specs.declared.words.WordsFault.TheVariants.{Usage};
 ghost use Rattle.jos_words.specs.Arguments.{word_in_bytes, arguments_in_bytes, texts};
-ghost use Rattle.jos_words.specs.Commands.{number_in, number_at, exo_of, exo_words, demo_of, demo_words};
+ghost use Rattle.jos_words.specs.Commands.{number_in, number_at, exo_of, exo_words, run_of, run_words, demo_of, demo_words};
 ghost use Rattle.jos_words.specs.Commands.{mkfs_of, mkfs_words, ls_of, ls_words, cat_of, cat_words, command_of};
-ghost use Rattle.jos_words.specs.Commands.{exo_in_bytes, demo_in_bytes, mkfs_in_bytes, ls_in_bytes, cat_in_bytes, in_bytes};
+ghost use Rattle.jos_words.specs.Commands.{exo_in_bytes, run_in_bytes, demo_in_bytes, mkfs_in_bytes, ls_in_bytes, cat_in_bytes, in_bytes};
 
 use crate::arguments::{Arguments, read_arguments, value_of};
 use crate::clap_commands::{
-    ask_clap, cat_command, demo_command, exo_command, ls_command, mkfs_command,
+    ask_clap, cat_command, demo_command, ls_command, mkfs_command, running_command,
 };
 use crate::values::{NumberAt, number_of};
 use crate::words::{WordAt, WordsFault};
@@ -20,6 +20,8 @@ use std::alloc::Global;
 pub enum Command<'a> {
     /// `exo [--frames N] [--steps N] [--schedule FILE] [--trace N] IMAGE..`: runs images.
     Exo(ExoWords<'a>),
+    /// `run [--frames N] [--steps N] [--schedule FILE] [--trace N] IMAGE [WORD..]`: runs a program under the library.
+    Run(RunWords<'a>),
     /// `demo NAME FILE`: writes an example program.
     Demo(DemoWords<'a>),
     /// `mkfs DISK BLOCKS [FILE..]`: makes a disk with files.
@@ -39,6 +41,17 @@ pub struct ExoWords<'a> {
     pub trace: Option<NumberAt>,
     /// At least one, in the order of the words.
     pub images: Vec<WordAt<'a>>,
+}
+
+/// The words of `run`.
+#[derive(Drop)]
+pub struct RunWords<'a> {
+    pub frames: Option<NumberAt>,
+    pub steps: Option<NumberAt>,
+    pub schedule: Option<WordAt<'a>>,
+    pub trace: Option<NumberAt>,
+    /// At least one, in the order of the words: the first names the image, and all of them are the program's.
+    pub words: Vec<WordAt<'a>>,
 }
 
 /// The words of `demo`. Whether a program has the name is not tested.
@@ -71,8 +84,8 @@ pub struct CatWords<'a> {
     pub path: WordAt<'a>,
 }
 
-/// The names of the options of `exo`.
-pub(crate) const EXO_OPTIONS: [&str; 4] = ["frames", "steps", "schedule", "trace"];
+/// The names of the options of `exo` and `run`.
+pub(crate) const RUNNING_OPTIONS: [&str; 4] = ["frames", "steps", "schedule", "trace"];
 
 /// The number that a word is.
 fn number_at<'a>(word: WordAt<'a>) -> Option<NumberAt>
@@ -116,6 +129,27 @@ fn exo_of<'a>(arguments: Arguments<'a>) -> Option<ExoWords<'a>>
         schedule,
         trace,
         images: arguments.positionals,
+    })
+}
+
+/// The words of `run`, if these are.
+#[tactic(auto, unfolding(crate::specs::Commands::run_of))]
+fn run_of<'a>(arguments: Arguments<'a>) -> Option<RunWords<'a>>
+    ensures { option_map run_in_bytes result ≡ run_of (arguments_in_bytes arguments.entry) }
+{
+    let ExoWords {
+        frames,
+        steps,
+        schedule,
+        trace,
+        images,
+    } = exo_of(arguments)?;
+    Some(RunWords {
+        frames,
+        steps,
+        schedule,
+        trace,
+        words: images,
     })
 }
 
@@ -189,10 +223,25 @@ fn read_exo<'a>(alloc: Global, words: &'a [&'a str]) -> Result<ExoWords<'a>, Wor
     ensures ok { IfOk result (λ read. exo_words (drop 1 (texts words.now)) ≡ Some (exo_in_bytes read)) }
     ensures usage { IfErr result (λ fault. fault ≡ Usage → exo_words (drop 1 (texts words.now)) ≡ None) }
 {
-    let command = exo_command(alloc)?;
+    let command = running_command(alloc, "exo")?;
     ask_clap(command, words)?;
-    let arguments = read_arguments(alloc, &EXO_OPTIONS, words)?;
+    let arguments = read_arguments(alloc, &RUNNING_OPTIONS, words)?;
     match exo_of(arguments) {
+        Some(read) => Ok(read),
+        None => Err(WordsFault::Usage),
+    }
+}
+
+/// Reads the words of `run`, the first of which is its name.
+fn read_run<'a>(alloc: Global, words: &'a [&'a str]) -> Result<RunWords<'a>, WordsFault>
+    requires { 0 < length words.now }
+    ensures ok { IfOk result (λ read. run_words (drop 1 (texts words.now)) ≡ Some (run_in_bytes read)) }
+    ensures usage { IfErr result (λ fault. fault ≡ Usage → run_words (drop 1 (texts words.now)) ≡ None) }
+{
+    let command = running_command(alloc, "run")?;
+    ask_clap(command, words)?;
+    let arguments = read_arguments(alloc, &RUNNING_OPTIONS, words)?;
+    match run_of(arguments) {
         Some(read) => Ok(read),
         None => Err(WordsFault::Usage),
     }
@@ -260,8 +309,8 @@ fn read_cat<'a>(alloc: Global, words: &'a [&'a str]) -> Result<CatWords<'a>, Wor
 
 /// The command that the words are: `Usage` exactly where they are none, unless there is no memory to read them.
 ///
-/// A number may be out of its range, there may be any number of images, and `demo` may have any name: the caller
-/// tests these.
+/// A number may be out of its range, there may be any number of images or of a program's words, and `demo` may have
+/// any name: the caller tests these.
 #[tactic(auto, unfolding(crate::specs::Commands::command_of))]
 pub fn read_words<'a>(alloc: Global, words: &'a [&'a str]) -> Result<Command<'a>, WordsFault>
     ensures ok { IfOk result (λ command. command_of (map (λ word. word.now) words.now) ≡ Some (in_bytes command)) }
@@ -272,6 +321,8 @@ pub fn read_words<'a>(alloc: Global, words: &'a [&'a str]) -> Result<Command<'a>
         [name, ..] => {
             if *name == "exo" {
                 read_exo(alloc, words).map(Command::Exo)
+            } else if *name == "run" {
+                read_run(alloc, words).map(Command::Run)
             } else if *name == "demo" {
                 read_demo(alloc, words).map(Command::Demo)
             } else if *name == "mkfs" {

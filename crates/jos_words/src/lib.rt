@@ -14,6 +14,8 @@ mod tests;
 mod values;
 mod words;
 
-pub use commands::{CatWords, Command, DemoWords, ExoWords, LsWords, MkfsWords, read_words};
+pub use commands::{
+    CatWords, Command, DemoWords, ExoWords, LsWords, MkfsWords, RunWords, read_words,
+};
 pub use values::{DIGITS_MAX, NumberAt};
 pub use words::{WordAt, WordsFault};

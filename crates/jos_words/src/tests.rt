@@ -32,6 +32,17 @@ fn add_command(line: &mut String, command: &Command) -> Result<(), AllocError> {
             }
             Ok(())
         }
+        Command::Run(run) => {
+            line.push_str("run")?;
+            add_number(line, " frames ", run.frames)?;
+            add_number(line, " steps ", run.steps)?;
+            add_word(line, " schedule ", run.schedule)?;
+            add_number(line, " trace ", run.trace)?;
+            for word in &run.words {
+                add_word(line, " ", Some(*word))?;
+            }
+            Ok(())
+        }
         Command::Demo(demo) => {
             add_word(line, "demo ", Some(demo.name))?;
             add_word(line, " ", Some(demo.file))
@@ -83,6 +94,13 @@ exo|--steps|0|a => exo steps 0@2 a@3
 exo|--steps|00000000000000000017|a => exo steps 17@2 a@3
 exo|--trace|7|a|--frames=3|--steps=2 => exo frames 3@4 steps 2@5 trace 7@2 a@3
 exo|--steps=99999999999999999999|a => exo steps 99999999999999999999@1 a@2
+run|i => run i@1
+run|i|a|i||help => run i@1 a@2 i@3 @4 help@5
+run|--frames|5|--steps=7|--schedule|s|--trace=2|i|a => run frames 5@2 steps 7@3 schedule s@5 trace 2@6 i@7 a@8
+run|i|--steps=7|a|--trace|2 => run steps 7@2 trace 2@5 i@1 a@3
+run|i|--|-x|--steps=7|-- => run i@1 -x@3 --steps=7@4 --@5
+run|--|-i|a => run -i@2 a@3
+run|i|1|2|3|4|5|6|7|8|9|a|b|c|d|e|f|g => run i@1 1@2 2@3 3@4 4@5 5@6 6@7 7@8 8@9 9@10 a@11 b@12 c@13 d@14 e@15 f@16 g@17
 demo|xhello|h => demo xhello@1 h@2
 demo|--|-n|-- => demo -n@2 --@3
 demo|a|--|b => demo a@1 b@3
@@ -98,7 +116,7 @@ cat|--|--|-a => cat --@2 -a@3";
 
 // Words that are no command; the last line is one empty word.
 const NO_COMMAND: &str = "\
-run|d
+Run|i
 Exo|a
 --frames=1|exo|a
 --|exo|a
@@ -132,6 +150,17 @@ exo|--steps|-1|a
 exo|--steps| 1|a
 exo|--steps|1 |a
 exo|--frames=0x1|a
+run
+run|--
+run|--steps=7
+run|--steps=7|--
+run|-x|i
+run|i|-x
+run|i|--help
+run|i|--step=7
+run|i|a|--steps
+run|i|--steps=7|--steps=7
+run|i|--steps=a
 demo
 demo|a
 demo|a|b|c

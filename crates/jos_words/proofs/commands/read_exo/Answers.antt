@@ -5,7 +5,7 @@ use Rattle.clap.proofs.TakesLemmas.{passed_up}
 use Rattle.jos_words.specs.Arguments.{◌>>=◌, Arguments}
 use Rattle.jos_words.specs.ClapCommands.{clap_takes}
 use Rattle.jos_words.specs.Commands.{exo_of, exo_words}
-use Rattle.jos_words.proofs.ExoForm.{exo_refused}
+use Rattle.jos_words.proofs.RunningForm.{exo_refused}
 use Rattle.jos_words.proofs.commands.read_exo.Goals as goal
 
 pub returns-in_err-ask_clap-clause-usage : goal.returns-in_err-ask_clap-clause-usage
