@@ -40,4 +40,7 @@ pub mod Receiving
 pub mod Sending
 pub mod Looking
 pub mod Tried
+pub mod Sums
+pub mod Covering
+pub mod NeedReached
 mod AbstractExamples

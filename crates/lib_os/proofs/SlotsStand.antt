@@ -8,7 +8,7 @@ use Rattle.jos_base.specs.declared.environment.Status.TheVariants.{Runnable, Run
 use Rattle.jos_base.specs.Environments.{Slot as KernelSlot, is_free, is_live as is_live_slot}
 use Rattle.jos_base.specs.KernelState.{KernelState, slot_at}
 use Rattle.jos_base.specs.Reach.{Entry}
-use Rattle.jos_base.specs.SpacesState.{SpacesState}
+use Rattle.jos_base.specs.SpacesState.{SpacesState, Region}
 use Rattle.jos_base.specs.SystemCalls.{has_write}
 use Rattle.lib_os.specs.declared.place.Place.{Place}
 use Rattle.lib_os.specs.declared.place.Place.TheVariants as place
@@ -224,6 +224,10 @@ born_at {names = names} {s = s} h n b at = subst (λ (slot : Slot). StandsForSlo
 
 -- ---- slots
 
+is_none : (o : Option Region) → is_some o ≡ false → o ≡ None
+is_none None is = refl
+is_none (Some region) is = absurd cc
+
 -- A slot stands for what it stood for while nothing that is seen of its space differs. Of a slot that is not live no space is
 -- seen.
 pub slot_stands : (names after : Names) (s t : SpacesState) (k : KernelSlot) (slot : Slot) → StandsForSlot names s k slot →
@@ -239,6 +243,7 @@ slot_stands names after s t k (serving id) h same = record {
   silent = h.silent;
   words = h.words;
   empty = λ p. ap (λ (r : Row). r p) (same refl).rows ∙ h.empty p;
+  tables = λ r. is_none (t.regions k.directory r) ((same refl).regions r ∙ ap is_some (h.tables r));
 }
 
 pub other_stands : (names after : Names) (s t : SpacesState) (k : KernelSlot) (slot : Slot) → StandsForSlot names s k slot →

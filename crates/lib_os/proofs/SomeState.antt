@@ -247,6 +247,7 @@ server_stands = record {
   silent = refl;
   words = refl;
   empty = no_page;
+  tables = λ r. refl;
 }
 
 slot_stands : (n : ℕ) → StandsForSlot the_names spaces (slot_by n) (abstract_slot n)

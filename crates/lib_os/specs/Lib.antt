@@ -18,5 +18,6 @@ pub mod InOrder
 pub mod Places
 pub mod StandsFor
 pub mod LibrarySteps
+pub mod Need
 pub mod StandingLaws
 pub mod UserCalls

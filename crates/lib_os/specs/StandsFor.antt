@@ -240,7 +240,7 @@ pub record StandsForBorn (names : Names) (s : SpacesState) (k : KernelSlot) (b :
   pub stack : is_resident k.registers.esp ≡ false
   pub at : StandsAt (place_of k) (rows_of s k.directory) k b
 
--- the file server, which nobody has asked for anything: it has a space without pages, and never runs
+-- the file server, which nobody has asked for anything: it has a space without pages and tables, and never runs
 pub record StandsForServer (s : SpacesState) (k : KernelSlot) (id : ℕ) : Type 0 where
   pub first : id ≡ FIRST_ENV_ID
   pub id_is : k.id ≡ id
@@ -249,6 +249,7 @@ pub record StandsForServer (s : SpacesState) (k : KernelSlot) (id : ℕ) : Type 
   pub silent : k.rendezvous.receiving ≡ false
   pub words : k.extra ≡ no_extra
   pub empty : (p : ℕ) → rows_of s k.directory p ≡ None
+  pub tables : (r : ℕ) → s.regions k.directory r ≡ None
 
 abbrev pub StandsForSlot : Names → SpacesState → KernelSlot → Slot → Type 0
 StandsForSlot names s k (free id) = k ≡ free_slot id

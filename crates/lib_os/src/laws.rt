@@ -2,6 +2,7 @@
 
 ghost use Rattle.lib_os.specs.AbstractLaws.{ForkCopies, OwnStoresAreUnseen, SharedStoresAreSeen, PipesAreBounded};
 ghost use Rattle.lib_os.specs.AbstractLaws.{GuestMemoryIsLawful, StepsLeaveOthers};
+ghost use Rattle.lib_os.specs.Need.{NeedIsReached};
 ghost use Rattle.lib_os.specs.StandingLaws.{SomeStateStands, WordsTellThePlace};
 
 /// A child of fork is born with the memory, the descriptors and the registers of its parent, but for EAX.
@@ -39,4 +40,10 @@ pub fn some_state_stands()
 /// The words that a service keeps at a step tell which service it is and how far.
 pub fn words_tell_the_place()
     ensures { WordsTellThePlace }
+{}
+
+/// Where each frame that the kernel hands out has a use and no more than one is free, the abstract system wants as many
+/// frames as are handed out.
+pub fn need_is_reached()
+    ensures { NeedIsReached }
 {}

@@ -31,8 +31,8 @@ mod user_os;
 pub use answers::{answer, answer_of, go_back, go_on, stopped};
 pub use fence::{in_fence, is_buffer, is_page_inside, is_resident};
 pub use laws::{
-    fork_copies, guest_memory_is_lawful, pages_are_own_or_shared, pipes_are_bounded,
-    some_state_stands, steps_leave_others, words_tell_the_place,
+    fork_copies, guest_memory_is_lawful, need_is_reached, pages_are_own_or_shared,
+    pipes_are_bounded, some_state_stands, steps_leave_others, words_tell_the_place,
 };
 pub use numbers::{DESCRIPTORS, FDTABLE_END, PTE_SHARE, RESIDENT, SERVICES, UVPD};
 pub use place::{Place, Step, find_place, words_at};

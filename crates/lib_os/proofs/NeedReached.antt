@@ -1,0 +1,261 @@
+-- Where each frame that is handed out has a use, and no more than one is free, the abstract system wants as many frames: each
+-- stands in a place of a live slot or of a shared page's name, and for each of these places the abstract system wants one.
+use Rattle.std.proofs.Common.{◌≡◌, ◌∙◌, ◌+◌, ◌<◌, ◌≤◌, ◌||◌, ℕ, zero, suc, Bool, true, false, List, [], ◌∷◌, length, refl, sym, ap, subst, arith}
+use Rattle.std.specs.Prelude.{Option, Some, None, is_some, if◌then◌else◌}
+use Rattle.std.specs.List.{Contains}
+use Rattle.std.specs.Option.{option_map}
+use Rattle.jos_base.specs.declared.numbers.TheConstants.{FIRST_ENV_ID, NENV}
+use Rattle.jos_base.specs.Counting.{total, page_limit}
+use Rattle.jos_base.specs.Environments.{Slot as KernelSlot, bit_of, free_slot, is_live}
+use Rattle.jos_base.specs.KernelState.{KernelState, slot_at}
+use Rattle.jos_base.specs.Reach.{Entry}
+use Rattle.jos_base.specs.SpacesState.{SpacesState, Region, directory, is_directory, region_limit, reserved_frames}
+use Rattle.jos_base.specs.SystemCalls.{has_write}
+use Rattle.lib_os.specs.AbstractState.{AbstractState, Born, Page, own, named, Slot, free, unborn, born, serving}
+use Rattle.lib_os.specs.Need.{NeedIsReached, HasUse, in_list, in_entry, as_directory, as_table, EachHasUse, pool_of, need, slot_need, born_need}
+use Rattle.lib_os.specs.Need.{server_need, count_below, is_own, is_library_region, someone, born_passes, has_page_of, is_page_of}
+use Rattle.lib_os.specs.StandsFor.{StandsFor, StandsForSlot, StandsForBorn, StandsForServer, Names, rows_of, lasting, is_shared, page_by}
+use Rattle.std.proofs.lemmas.Bool.Decides.{nat_tests}
+use Rattle.lib_os.proofs.Covering.{no_more_frames, filled, times_in}
+use Rattle.lib_os.proofs.SlotsStand.{born_at}
+use Rattle.lib_os.proofs.Sums.{is_at, is_at-here, total-less, total-mono, total-none, total-one, some_one}
+
+-- ---- the places
+
+abbrev where_so : Bool → Option ℕ → Option ℕ
+where_so true place = place
+where_so false place = None
+
+abbrev own_frame : Option Entry → Option ℕ
+own_frame None = None
+own_frame (Some e) = if is_shared e.perm then None else Some e.frame
+
+abbrev head_of : List ℕ → Option ℕ
+head_of [] = None
+head_of (f ∷ rest) = Some f
+
+abbrev directory_of : KernelSlot → Option ℕ
+directory_of k = where_so (is_live k) (Some k.directory)
+
+abbrev table_of : SpacesState → KernelSlot → ℕ → Option ℕ
+table_of s k r = where_so (is_live k) (option_map (λ (x : Region). x.table) (s.regions k.directory r))
+
+abbrev page_of : SpacesState → KernelSlot → ℕ → Option ℕ
+page_of s k p = where_so (is_live k) (own_frame (rows_of s k.directory p))
+
+abbrev named_frame : Names → AbstractState → ℕ → Option ℕ
+named_frame names a m = where_so (someone a (has_page_of m)) (Some (names.frame m))
+
+-- ---- each place is wanted
+
+so_of_some : (t : Bool) (x : ℕ) → bit_of (is_some (where_so t (Some x))) ≤ bit_of t
+so_of_some true x = omega arith
+so_of_some false x = omega arith
+
+bit_small : (t : Bool) → bit_of t ≤ 1
+bit_small true = omega arith
+bit_small false = omega arith
+
+so_of_region : (t library : Bool) (o : Option Region) →
+    bit_of (is_some (where_so t (option_map (λ (x : Region). x.table) o))) ≤ bit_of (is_some o || library)
+so_of_region false library o = omega arith
+so_of_region true library None = omega arith
+so_of_region true library (Some x) = omega arith
+
+so_of_page : (names : Names) (bytes : ℕ → List ℕ) (t : Bool) (o : Option Entry) →
+    bit_of (is_some (where_so t (own_frame o))) ≤ bit_of (is_own (option_map (page_by names bytes) o))
+so_of_page names bytes false o = omega arith
+so_of_page names bytes true None = omega arith
+so_of_page names bytes true (Some e) = by_test (is_shared e.perm)
+  where
+    by_test : (shared : Bool) → bit_of (is_some (if shared then None else Some e.frame))
+        ≤ bit_of (is_own (Some (if shared then named (names.name e.frame) (has_write e.perm) else own (bytes e.frame) (has_write e.perm))))
+    by_test true = omega arith
+    by_test false = omega arith
+
+abbrev slot_frames : SpacesState → KernelSlot → ℕ
+slot_frames s k = bit_of (is_some (directory_of k)) + (filled region_limit (table_of s k) + filled page_limit (page_of s k))
+
+-- a slot that is not live has none
+free_frames : (s : SpacesState) (id : ℕ) → slot_frames s (free_slot id) ≡ 0
+free_frames s id =
+    let tables = total-none region_limit (λ r. bit_of (is_some (table_of s (free_slot id) r))) (λ q lt. refl) in
+    let pages = total-none page_limit (λ p. bit_of (is_some (page_of s (free_slot id) p))) (λ q lt. refl) in
+    omega (arith, tables, pages)
+
+born_frames : (names : Names) (s : SpacesState) (k : KernelSlot) (b : Born) → StandsForBorn names s k b → slot_frames s k ≤ born_need b
+born_frames names s k b h =
+    let one = bit_small (is_some (directory_of k)) in
+    let tables = total-mono region_limit (λ r. bit_of (is_some (table_of s k r))) (λ r. bit_of (b.regions r || is_library_region r))
+    (λ r lt. subst (λ (t : Bool). bit_of (is_some (table_of s k r)) ≤ bit_of (t || is_library_region r)) (sym (h.regions r))
+    (so_of_region (is_live k) (is_library_region r) (s.regions k.directory r))) in
+    let pages = total-mono page_limit (λ p. bit_of (is_some (page_of s k p))) (λ p. bit_of (is_own (b.memory p)))
+    (λ p lt. subst (λ (x : Option Page). bit_of (is_some (page_of s k p)) ≤ bit_of (is_own x)) (sym (h.memory p))
+    (so_of_page names s.pages (is_live k) (rows_of s k.directory p))) in
+    omega (arith, one, tables, pages)
+
+-- the server wants more than it has
+server_frames : (a : AbstractState) (s : SpacesState) (k : KernelSlot) (id : ℕ) → StandsForServer s k id → 1 + slot_frames s k ≤ server_need a
+server_frames a s k id h =
+    let one = bit_small (is_some (directory_of k)) in
+    let tables = total-none region_limit (λ r. bit_of (is_some (table_of s k r))) (λ r lt. no_table (is_live k) r) in
+    let pages = total-none page_limit (λ p. bit_of (is_some (page_of s k p))) (λ p lt. no_page (is_live k) p) in
+    omega (arith, one, tables, pages)
+  where
+    no_table : (t : Bool) (r : ℕ) → bit_of (is_some (where_so t (option_map (λ (x : Region). x.table) (s.regions k.directory r)))) ≡ 0
+    no_table false r = refl
+    no_table true r = ap (λ (o : Option Region). bit_of (is_some (option_map (λ (x : Region). x.table) o))) (h.tables r)
+
+    no_page : (t : Bool) (p : ℕ) → bit_of (is_some (where_so t (own_frame (rows_of s k.directory p)))) ≡ 0
+    no_page false p = refl
+    no_page true p = ap (λ (o : Option Entry). bit_of (is_some (own_frame o))) (h.empty p)
+
+wanted_frames : (names : Names) (a : AbstractState) (s : SpacesState) (k : KernelSlot) (slot : Slot) → StandsForSlot names s k slot →
+    slot_frames s k ≤ slot_need a slot
+wanted_frames names a s k (free id) h = let none = ap (slot_frames s) h ∙ free_frames s id in omega (arith, none)
+wanted_frames names a s k (unborn id parent) h = absurd h
+wanted_frames names a s k (born b) h = born_frames names s k b h
+wanted_frames names a s k (serving id) h = let more = server_frames a s k id h in omega (arith, more)
+
+-- ---- each frame stands in a place
+
+listed_first : (list : List ℕ) (f : ℕ) → length list ≤ 1 → Contains list f → is_at (head_of list) f ≡ 1
+listed_first [] f small (k, lt, at) = absurd (omega (arith, lt))
+listed_first (g ∷ rest) f small (zero, lt, at) = is_at-here (Some g) f g refl at
+listed_first (g ∷ rest) f small (suc k, lt, at) = absurd (omega (arith, small, lt))
+
+module _ (names : Names) (s : KernelState) (a : AbstractState) (h : StandsFor names s a) where
+  abbrev slot : ℕ → KernelSlot
+  slot n = slot_at s n
+
+  abbrev the_row : ℕ → ℕ → Option ℕ
+  the_row n = table_of s.spaces (slot n)
+
+  abbrev the_page : ℕ → ℕ → Option ℕ
+  the_page n = page_of s.spaces (slot n)
+
+  abbrev times_of : ℕ → ℕ → ℕ
+  times_of n f = is_at (directory_of (slot n)) f + (times_in region_limit (the_row n) f + times_in page_limit (the_page n) f)
+
+  abbrev times : ℕ → ℕ
+  times f = is_at (head_of s.spaces.free) f + (total NENV (λ n. times_of n f) + times_in a.next_name (named_frame names a) f)
+
+  record IsOwner (d n : ℕ) : Type 0 where
+    below : n < NENV
+    live : is_live (slot n) ≡ true
+    home : (slot n).directory ≡ d
+
+  owner : (d : ℕ) → s.spaces.uses d ≡ directory → (n : ℕ) × IsOwner d n
+  owner d is =
+      let found = h.in_order.spaces.owned d (ap is_directory is) in
+      let id = h.tabled.ids found.0 found.1 in
+      (found.0, record { below = omega (arith, id); live = found.1; home = found.2 })
+
+  in_slot : (n f : ℕ) → n < NENV → 1 ≤ times_of n f → 1 ≤ times f
+  in_slot n f lt once = let one = total-one NENV n (λ m. times_of m f) lt in omega (arith, one, once)
+
+  -- a directory
+  directory_stands : (f : ℕ) → s.spaces.uses f ≡ directory → 1 ≤ times f
+  directory_stands f is =
+      let found = owner f is in
+      let n = found.0 in
+      let o = found.1 in
+      let here = is_at-here (directory_of (slot n)) f (slot n).directory (ap (λ (t : Bool). where_so t (Some (slot n).directory)) o.live) o.home in
+      in_slot n f o.below (omega (arith, here))
+
+  -- a table
+  table_stands : (d r f : ℕ) (region : Region) → s.spaces.uses d ≡ directory → r < region_limit → s.spaces.regions d r ≡ Some region →
+      region.table ≡ f → 1 ≤ times f
+  table_stands d r f region is lt stands same =
+      let found = owner d is in
+      let n = found.0 in
+      let o = found.1 in
+      let at : the_row n r ≡ Some region.table =
+      ap (λ (t : Bool). where_so t (option_map (λ (x : Region). x.table) (s.spaces.regions (slot n).directory r))) o.live
+      ∙ ap (λ (q : ℕ). option_map (λ (x : Region). x.table) (s.spaces.regions q r)) o.home ∙ ap (option_map (λ (x : Region). x.table)) stands in
+      let here = is_at-here (the_row n r) f region.table at same in
+      let one = total-one region_limit r (λ q. is_at (the_row n q) f) lt in
+      in_slot n f o.below (omega (arith, here, one))
+
+  -- a slot with a page is an environment's
+  born_here : (n p : ℕ) (e : Entry) → is_live (slot n) ≡ true → rows_of s.spaces (slot n).directory p ≡ Some e → (b : Born) × (a.slots n ≡ born b)
+  born_here n p e live stands = by_slot (a.slots n) refl (h.slots n)
+    where
+      by_slot : (y : Slot) → a.slots n ≡ y → StandsForSlot names s.spaces (slot n) y → (b : Born) × (a.slots n ≡ born b)
+      by_slot (free id) at k_is = absurd (let e : ◌≡◌ {A = Bool} false true = sym (ap (λ (k : KernelSlot). is_live k) k_is) ∙ live in cc)
+      by_slot (unborn id parent) at k_is = absurd k_is
+      by_slot (born b) at k_is = (b, at)
+      by_slot (serving id) at k_is = absurd (let e : ◌≡◌ {A = Option Entry} None (Some e) = sym (k_is.empty p) ∙ stands in cc)
+
+  -- a page of an environment's own, or one that is shared
+  page_stands : (n p : ℕ) (e : Entry) → n < NENV → is_live (slot n) ≡ true → p < page_limit → rows_of s.spaces (slot n).directory p ≡ Some e →
+      1 ≤ times e.frame
+  page_stands n p e below live lt stands = by_test (is_shared e.perm) refl
+    where
+      by_test : (t : Bool) → is_shared e.perm ≡ t → 1 ≤ times e.frame
+      by_test false mine =
+          let at : the_page n p ≡ Some e.frame =
+          ap (λ (t : Bool). where_so t (own_frame (rows_of s.spaces (slot n).directory p))) live ∙ ap own_frame stands
+          ∙ ap (λ (t : Bool). if t then None else Some e.frame) mine in
+          let here = is_at-here (the_page n p) e.frame e.frame at refl in
+          let one = total-one page_limit p (λ q. is_at (the_page n q) e.frame) lt in
+          in_slot n e.frame below (omega (arith, here, one))
+      by_test true shared =
+          let m = names.name e.frame in
+          let name = h.named (slot n).directory p e stands shared in
+          let found = born_here n p e live stands in
+          let b = found.0 in
+          let memory : b.memory p ≡ Some (named m (has_write e.perm)) =
+          (born_at h n b found.1).memory p ∙ ap (option_map (page_by names s.spaces.pages)) stands
+          ∙ ap (λ (t : Bool). Some (if t then named m (has_write e.perm) else own (s.spaces.pages e.frame) (has_write e.perm))) shared in
+          let self : is_page_of m (Some (named m (has_write e.perm))) ≡ true = grind (arith, nat_tests) in
+          let has : has_page_of m b ≡ true = some_one page_limit p (λ q. is_page_of m (b.memory q)) lt (ap (is_page_of m) memory ∙ self) in
+          let some : someone a (has_page_of m) ≡ true =
+          some_one NENV n (λ q. born_passes (has_page_of m) (a.slots q)) below (ap (born_passes (has_page_of m)) found.1 ∙ has) in
+          let here = is_at-here (named_frame names a m) e.frame (names.frame m) (ap (λ (t : Bool). where_so t (Some (names.frame m))) some) name.home in
+          let one = total-one a.next_name m (λ q. is_at (named_frame names a q) e.frame) name.old in
+          omega (arith, here, one)
+
+  entry_stands : (d p : ℕ) (e : Entry) → s.spaces.entries d p ≡ Some e → 1 ≤ times e.frame
+  unfolding rows_of
+  entry_stands d p e stands =
+      let uses = h.in_order.frames in
+      let found = owner d (uses.owners d p e stands) in
+      let o = found.1 in
+      page_stands found.0 p (lasting e) o.below o.live (uses.within d p e stands).1
+      (ap (λ (q : ℕ). option_map lasting (s.spaces.entries q p)) o.home ∙ ap (option_map lasting) stands)
+
+  stands_somewhere : length s.spaces.free ≤ 1 → (f : ℕ) → HasUse s.spaces f → 1 ≤ times f
+  stands_somewhere small f (in_list listed) = let here = listed_first s.spaces.free f small listed in omega (arith, here)
+  stands_somewhere small f (in_entry d p e stands same) = subst (λ x. 1 ≤ times x) same (entry_stands d p e stands)
+  stands_somewhere small f (as_directory is) = directory_stands f is
+  stands_somewhere small f (as_table d r region is lt stands same) = table_stands d r f region is lt stands same
+
+  -- ---- together
+
+  slots_want : 1 + total NENV (λ n. slot_frames s.spaces (slot n)) ≤ total NENV (λ n. slot_need a (a.slots n))
+  slots_want =
+      total-less NENV 0 1 (λ n. slot_frames s.spaces (slot n)) (λ n. slot_need a (a.slots n)) (omega arith)
+      (λ n lt. wanted_frames names a s.spaces (slot n) (a.slots n) (h.slots n))
+      (subst (λ (y : Slot). 1 + slot_frames s.spaces (slot 0) ≤ slot_need a y) (sym h.first)
+      (server_frames a s.spaces (slot 0) FIRST_ENV_ID (subst (λ (y : Slot). StandsForSlot names s.spaces (slot 0) y) h.first (h.slots 0))))
+
+  names_want : filled a.next_name (named_frame names a) ≤ count_below a.next_name (λ name. someone a (has_page_of name))
+  names_want =
+      total-mono a.next_name (λ m. bit_of (is_some (named_frame names a m))) (λ m. bit_of (someone a (has_page_of m)))
+      (λ m lt. so_of_some (someone a (has_page_of m)) (names.frame m))
+
+  need_covers : EachHasUse s.spaces → length s.spaces.free ≤ 1 → pool_of s.spaces ≤ need a
+  unfolding need
+  need_covers all small =
+      let base = reserved_frames s.spaces.frames in
+      let covered = no_more_frames (pool_of s.spaces) base NENV region_limit page_limit a.next_name (head_of s.spaces.free)
+      (λ n. directory_of (slot n)) the_row the_page (named_frame names a)
+      (λ i lt. stands_somewhere small (base + i) (all (base + i) (omega arith) (omega (arith, lt)))) in
+      let first = bit_small (is_some (head_of s.spaces.free)) in
+      let slots = slots_want in
+      let shared = names_want in
+      omega (arith, covered, first, slots, shared)
+
+pub need_is_reached : NeedIsReached
+need_is_reached names s a h all small = need_covers names s a h all small
