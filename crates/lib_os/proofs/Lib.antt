@@ -43,4 +43,8 @@ pub mod Tried
 pub mod Sums
 pub mod Covering
 pub mod NeedReached
+pub mod UsesFound
+pub mod UsesRemoved
+pub mod UsesPlaced
+pub mod UsesCalled
 mod AbstractExamples
