@@ -22,7 +22,8 @@ module _ (pool base : ℕ) where
       (λ k lt. at_most_once pool base (place k)) in
       omega (arith, swapped, each)
 
-  module _ (slots rows pages names : ℕ) (first : Option ℕ) (alone : ℕ → Option ℕ) (row page : ℕ → ℕ → Option ℕ) (name : ℕ → Option ℕ) where
+  module _ (slots rows pages names : ℕ) (first : Option ℕ) (alone : ℕ → Option ℕ) (row page : ℕ → ℕ → Option ℕ)
+      (name : ℕ → Option ℕ) where
     abbrev pub times_in_slot : ℕ → ℕ → ℕ
     times_in_slot n f = is_at (alone n) f + (times_in rows (row n) f + times_in pages (page n) f)
 

@@ -1,6 +1,7 @@
 -- Where each frame that is handed out has a use, and no more than one is free, the abstract system wants as many frames: each
 -- stands in a place of a live slot or of a shared page's name, and for each of these places the abstract system wants one.
-use Rattle.std.proofs.Common.{◌≡◌, ◌∙◌, ◌+◌, ◌<◌, ◌≤◌, ◌||◌, ℕ, zero, suc, Bool, true, false, List, [], ◌∷◌, length, refl, sym, ap, subst, arith}
+use Rattle.std.proofs.Common.{◌≡◌, ◌∙◌, ◌+◌, ◌<◌, ◌≤◌, ◌||◌, ℕ, zero, suc, Bool, true, false, List, [], ◌∷◌, length, refl, sym}
+use Rattle.std.proofs.Common.{ap, subst, arith}
 use Rattle.std.specs.Prelude.{Option, Some, None, is_some, if◌then◌else◌}
 use Rattle.std.specs.List.{Contains}
 use Rattle.std.specs.Option.{option_map}
@@ -12,9 +13,11 @@ use Rattle.jos_base.specs.Reach.{Entry}
 use Rattle.jos_base.specs.SpacesState.{SpacesState, Region, directory, is_directory, region_limit, reserved_frames}
 use Rattle.jos_base.specs.SystemCalls.{has_write}
 use Rattle.lib_os.specs.AbstractState.{AbstractState, Born, Page, own, named, Slot, free, unborn, born, serving}
-use Rattle.lib_os.specs.Need.{NeedIsReached, HasUse, in_list, in_entry, as_directory, as_table, EachHasUse, pool_of, need, slot_need, born_need}
+use Rattle.lib_os.specs.Need.{NeedIsReached, HasUse, in_list, in_entry, as_directory, as_table, EachHasUse, pool_of, need}
+use Rattle.lib_os.specs.Need.{slot_need, born_need}
 use Rattle.lib_os.specs.Need.{server_need, count_below, is_own, is_library_region, someone, born_passes, has_page_of, is_page_of}
-use Rattle.lib_os.specs.StandsFor.{StandsFor, StandsForSlot, StandsForBorn, StandsForServer, Names, rows_of, lasting, is_shared, page_by}
+use Rattle.lib_os.specs.StandsFor.{StandsFor, StandsForSlot, StandsForBorn, StandsForServer, Names, rows_of, lasting, is_shared}
+use Rattle.lib_os.specs.StandsFor.{page_by}
 use Rattle.std.proofs.lemmas.Bool.Decides.{nat_tests}
 use Rattle.lib_os.proofs.Covering.{no_more_frames, filled, times_in}
 use Rattle.lib_os.proofs.SlotsStand.{born_at}
@@ -69,7 +72,8 @@ so_of_page names bytes true None = omega arith
 so_of_page names bytes true (Some e) = by_test (is_shared e.perm)
   where
     by_test : (shared : Bool) → bit_of (is_some (if shared then None else Some e.frame))
-        ≤ bit_of (is_own (Some (if shared then named (names.name e.frame) (has_write e.perm) else own (bytes e.frame) (has_write e.perm))))
+        ≤ bit_of (is_own (Some (if shared then named (names.name e.frame) (has_write e.perm) else own (bytes e.frame)
+        (has_write e.perm))))
     by_test true = omega arith
     by_test false = omega arith
 
@@ -83,7 +87,8 @@ free_frames s id =
     let pages = total-none page_limit (λ p. bit_of (is_some (page_of s (free_slot id) p))) (λ q lt. refl) in
     omega (arith, tables, pages)
 
-born_frames : (names : Names) (s : SpacesState) (k : KernelSlot) (b : Born) → StandsForBorn names s k b → slot_frames s k ≤ born_need b
+born_frames : (names : Names) (s : SpacesState) (k : KernelSlot) (b : Born) → StandsForBorn names s k b →
+    slot_frames s k ≤ born_need b
 born_frames names s k b h =
     let one = bit_small (is_some (directory_of k)) in
     let tables = total-mono region_limit (λ r. bit_of (is_some (table_of s k r))) (λ r. bit_of (b.regions r || is_library_region r))
@@ -95,14 +100,16 @@ born_frames names s k b h =
     omega (arith, one, tables, pages)
 
 -- the server wants more than it has
-server_frames : (a : AbstractState) (s : SpacesState) (k : KernelSlot) (id : ℕ) → StandsForServer s k id → 1 + slot_frames s k ≤ server_need a
+server_frames : (a : AbstractState) (s : SpacesState) (k : KernelSlot) (id : ℕ) → StandsForServer s k id →
+    1 + slot_frames s k ≤ server_need a
 server_frames a s k id h =
     let one = bit_small (is_some (directory_of k)) in
     let tables = total-none region_limit (λ r. bit_of (is_some (table_of s k r))) (λ r lt. no_table (is_live k) r) in
     let pages = total-none page_limit (λ p. bit_of (is_some (page_of s k p))) (λ p lt. no_page (is_live k) p) in
     omega (arith, one, tables, pages)
   where
-    no_table : (t : Bool) (r : ℕ) → bit_of (is_some (where_so t (option_map (λ (x : Region). x.table) (s.regions k.directory r)))) ≡ 0
+    no_table : (t : Bool) (r : ℕ) →
+        bit_of (is_some (where_so t (option_map (λ (x : Region). x.table) (s.regions k.directory r)))) ≡ 0
     no_table false r = refl
     no_table true r = ap (λ (o : Option Region). bit_of (is_some (option_map (λ (x : Region). x.table) o))) (h.tables r)
 
@@ -110,7 +117,8 @@ server_frames a s k id h =
     no_page false p = refl
     no_page true p = ap (λ (o : Option Entry). bit_of (is_some (own_frame o))) (h.empty p)
 
-wanted_frames : (names : Names) (a : AbstractState) (s : SpacesState) (k : KernelSlot) (slot : Slot) → StandsForSlot names s k slot →
+wanted_frames : (names : Names) (a : AbstractState) (s : SpacesState) (k : KernelSlot) (slot : Slot) →
+    StandsForSlot names s k slot →
     slot_frames s k ≤ slot_need a slot
 wanted_frames names a s k (free id) h = let none = ap (slot_frames s) h ∙ free_frames s id in omega (arith, none)
 wanted_frames names a s k (unborn id parent) h = absurd h
@@ -160,11 +168,13 @@ module _ (names : Names) (s : KernelState) (a : AbstractState) (h : StandsFor na
       let found = owner f is in
       let n = found.0 in
       let o = found.1 in
-      let here = is_at-here (directory_of (slot n)) f (slot n).directory (ap (λ (t : Bool). where_so t (Some (slot n).directory)) o.live) o.home in
+      let here = is_at-here (directory_of (slot n)) f (slot n).directory
+      (ap (λ (t : Bool). where_so t (Some (slot n).directory)) o.live) o.home in
       in_slot n f o.below (omega (arith, here))
 
   -- a table
-  table_stands : (d r f : ℕ) (region : Region) → s.spaces.uses d ≡ directory → r < region_limit → s.spaces.regions d r ≡ Some region →
+  table_stands : (d r f : ℕ) (region : Region) → s.spaces.uses d ≡ directory → r < region_limit →
+      s.spaces.regions d r ≡ Some region →
       region.table ≡ f → 1 ≤ times f
   table_stands d r f region is lt stands same =
       let found = owner d is in
@@ -172,23 +182,27 @@ module _ (names : Names) (s : KernelState) (a : AbstractState) (h : StandsFor na
       let o = found.1 in
       let at : the_row n r ≡ Some region.table =
       ap (λ (t : Bool). where_so t (option_map (λ (x : Region). x.table) (s.spaces.regions (slot n).directory r))) o.live
-      ∙ ap (λ (q : ℕ). option_map (λ (x : Region). x.table) (s.spaces.regions q r)) o.home ∙ ap (option_map (λ (x : Region). x.table)) stands in
+      ∙ ap (λ (q : ℕ). option_map (λ (x : Region). x.table) (s.spaces.regions q r)) o.home
+      ∙ ap (option_map (λ (x : Region). x.table)) stands in
       let here = is_at-here (the_row n r) f region.table at same in
       let one = total-one region_limit r (λ q. is_at (the_row n q) f) lt in
       in_slot n f o.below (omega (arith, here, one))
 
   -- a slot with a page is an environment's
-  born_here : (n p : ℕ) (e : Entry) → is_live (slot n) ≡ true → rows_of s.spaces (slot n).directory p ≡ Some e → (b : Born) × (a.slots n ≡ born b)
+  born_here : (n p : ℕ) (e : Entry) → is_live (slot n) ≡ true → rows_of s.spaces (slot n).directory p ≡ Some e →
+      (b : Born) × (a.slots n ≡ born b)
   born_here n p e live stands = by_slot (a.slots n) refl (h.slots n)
     where
       by_slot : (y : Slot) → a.slots n ≡ y → StandsForSlot names s.spaces (slot n) y → (b : Born) × (a.slots n ≡ born b)
-      by_slot (free id) at k_is = absurd (let e : ◌≡◌ {A = Bool} false true = sym (ap (λ (k : KernelSlot). is_live k) k_is) ∙ live in cc)
+      by_slot (free id) at k_is = absurd (let e : ◌≡◌ {A = Bool} false true = sym (ap (λ (k : KernelSlot). is_live k) k_is)
+          ∙ live in cc)
       by_slot (unborn id parent) at k_is = absurd k_is
       by_slot (born b) at k_is = (b, at)
       by_slot (serving id) at k_is = absurd (let e : ◌≡◌ {A = Option Entry} None (Some e) = sym (k_is.empty p) ∙ stands in cc)
 
   -- a page of an environment's own, or one that is shared
-  page_stands : (n p : ℕ) (e : Entry) → n < NENV → is_live (slot n) ≡ true → p < page_limit → rows_of s.spaces (slot n).directory p ≡ Some e →
+  page_stands : (n p : ℕ) (e : Entry) → n < NENV → is_live (slot n) ≡ true → p < page_limit →
+      rows_of s.spaces (slot n).directory p ≡ Some e →
       1 ≤ times e.frame
   page_stands n p e below live lt stands = by_test (is_shared e.perm) refl
     where
@@ -207,12 +221,15 @@ module _ (names : Names) (s : KernelState) (a : AbstractState) (h : StandsFor na
           let b = found.0 in
           let memory : b.memory p ≡ Some (named m (has_write e.perm)) =
           (born_at h n b found.1).memory p ∙ ap (option_map (page_by names s.spaces.pages)) stands
-          ∙ ap (λ (t : Bool). Some (if t then named m (has_write e.perm) else own (s.spaces.pages e.frame) (has_write e.perm))) shared in
+          ∙ ap (λ (t : Bool). Some (if t then named m (has_write e.perm) else own (s.spaces.pages e.frame)
+          (has_write e.perm))) shared in
           let self : is_page_of m (Some (named m (has_write e.perm))) ≡ true = grind (arith, nat_tests) in
-          let has : has_page_of m b ≡ true = some_one page_limit p (λ q. is_page_of m (b.memory q)) lt (ap (is_page_of m) memory ∙ self) in
+          let has : has_page_of m b ≡ true = some_one page_limit p (λ q. is_page_of m (b.memory q)) lt
+          (ap (is_page_of m) memory ∙ self) in
           let some : someone a (has_page_of m) ≡ true =
           some_one NENV n (λ q. born_passes (has_page_of m) (a.slots q)) below (ap (born_passes (has_page_of m)) found.1 ∙ has) in
-          let here = is_at-here (named_frame names a m) e.frame (names.frame m) (ap (λ (t : Bool). where_so t (Some (names.frame m))) some) name.home in
+          let here = is_at-here (named_frame names a m) e.frame (names.frame m)
+          (ap (λ (t : Bool). where_so t (Some (names.frame m))) some) name.home in
           let one = total-one a.next_name m (λ q. is_at (named_frame names a q) e.frame) name.old in
           omega (arith, here, one)
 
@@ -238,7 +255,8 @@ module _ (names : Names) (s : KernelState) (a : AbstractState) (h : StandsFor na
       total-less NENV 0 1 (λ n. slot_frames s.spaces (slot n)) (λ n. slot_need a (a.slots n)) (omega arith)
       (λ n lt. wanted_frames names a s.spaces (slot n) (a.slots n) (h.slots n))
       (subst (λ (y : Slot). 1 + slot_frames s.spaces (slot 0) ≤ slot_need a y) (sym h.first)
-      (server_frames a s.spaces (slot 0) FIRST_ENV_ID (subst (λ (y : Slot). StandsForSlot names s.spaces (slot 0) y) h.first (h.slots 0))))
+      (server_frames a s.spaces (slot 0) FIRST_ENV_ID (subst (λ (y : Slot). StandsForSlot names s.spaces (slot 0) y) h.first
+      (h.slots 0))))
 
   names_want : filled a.next_name (named_frame names a) ≤ count_below a.next_name (λ name. someone a (has_page_of name))
   names_want =

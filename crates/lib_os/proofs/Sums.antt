@@ -1,6 +1,7 @@
 -- Sums of numbers at places: compared, added, and taken in the other order; and how often things stand in places that are
 -- looked at one after another: each thing once at the most.
-use Rattle.std.proofs.Common.{◌≡◌, ◌≢◌, ◌∙◌, ◌+◌, ◌<◌, ◌≤◌, ◌==◌, ◌||◌, inl, inr, ℕ, zero, suc, Bool, true, false, refl, sym, ap, arith}
+use Rattle.std.proofs.Common.{◌≡◌, ◌≢◌, ◌∙◌, ◌+◌, ◌<◌, ◌≤◌, ◌==◌, ◌||◌, inl, inr, ℕ, zero, suc, Bool, true, false, refl, sym}
+use Rattle.std.proofs.Common.{ap, arith}
 use Rattle.std.specs.Prelude.{Option, Some, None, is_some}
 use Rattle.std.proofs.lemmas.Bool.Decides.{nat_tests}
 use Rattle.jos_base.specs.Counting.{total}
@@ -77,7 +78,8 @@ is_at None f = 0
 is_at (Some x) f = bit_of (x == f)
 
 pub is_at-here : (o : Option ℕ) (f x : ℕ) → o ≡ Some x → x ≡ f → is_at o f ≡ 1
-is_at-here o f x is same = let here : (x == f) ≡ true = grind (arith, nat_tests) in ap (λ (z : Option ℕ). is_at z f) is ∙ ap bit_of here
+is_at-here o f x is same = let here : (x == f) ≡ true = grind (arith, nat_tests) in
+    ap (λ (z : Option ℕ). is_at z f) is ∙ ap bit_of here
 
 -- of the places from a first one on it stands in one at the most
 stands_once : (n c x : ℕ) → total n (λ i. bit_of (x == c + i)) ≤ 1
@@ -85,7 +87,8 @@ unfolding total
 stands_once zero c x = omega arith
 stands_once (suc n) c x = by_test (stands_once n c x) (x == c + n) refl
   where
-    by_test : total n (λ i. bit_of (x == c + i)) ≤ 1 → (t : Bool) → (x == c + n) ≡ t → total n (λ i. bit_of (x == c + i)) + bit_of t ≤ 1
+    by_test : total n (λ i. bit_of (x == c + i)) ≤ 1 → (t : Bool) → (x == c + n) ≡ t →
+        total n (λ i. bit_of (x == c + i)) + bit_of t ≤ 1
     by_test rest false test = omega (arith, rest)
     by_test rest true test =
         let at : x ≡ c + n = grind (arith, nat_tests) in

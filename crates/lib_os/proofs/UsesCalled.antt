@@ -1,5 +1,6 @@
 -- Each frame that is handed out goes on having a use behind every system call, a page fault and an access of an environment.
-use Rattle.std.proofs.Common.{◌≡◌, ◌∙◌, ◌+◌, ◌%◌, ◌==◌, ◌&&◌, ◌<◌, ℕ, not, Bool, true, false, List, [], ◌∷◌, refl, sym, ap, subst, arith}
+use Rattle.std.proofs.Common.{◌≡◌, ◌∙◌, ◌+◌, ◌%◌, ◌==◌, ◌&&◌, ◌<◌, ℕ, not, Bool, true, false, List, [], ◌∷◌, refl, sym, ap}
+use Rattle.std.proofs.Common.{subst, arith}
 use Rattle.std.specs.Prelude.{nat_lt, Option, Some, None, Result, Ok, Err, if◌then◌else◌}
 use Rattle.std.specs.Int.{w32, to_le_bytes}
 use Rattle.std.proofs.lemmas.Bool.Decides.{nat_tests}
@@ -24,18 +25,24 @@ use Rattle.jos_base.specs.Messages.{accepts}
 use Rattle.jos_base.specs.Reach.{Entry, Location}
 use Rattle.jos_base.specs.SpacesState.{SpacesState, Use, directory, is_directory, created, allocated, overlaid}
 use Rattle.jos_base.specs.SystemCalls.{Did, Passing, a_page, invalid, nothing, killed, handler_entered}
-use Rattle.jos_base.specs.SystemCalls.{handled_at, handled, cputs, cputs_of, cgetc_from, env_destroy_of, made_of, environment_made, exofork_of}
-use Rattle.jos_base.specs.SystemCalls.{exofork, status_named, env_set_status_of, is_page_address, is_page_perm, has_write, shared_entry, entry_at}
-use Rattle.jos_base.specs.SystemCalls.{inserted_at, answered_with, second_of, page_alloc_of, page_map_by, page_map_of, page_unmap_of, record_size}
-use Rattle.jos_base.specs.SystemCalls.{env_set_trapframe_by, env_set_trapframe_of, env_set_pgfault_upcall_of, passing_by, passing_of, sent_with}
+use Rattle.jos_base.specs.SystemCalls.{handled_at, handled, cputs, cputs_of, cgetc_from, env_destroy_of, made_of}
+use Rattle.jos_base.specs.SystemCalls.{environment_made, exofork_of}
+use Rattle.jos_base.specs.SystemCalls.{exofork, status_named, env_set_status_of, is_page_address, is_page_perm, has_write}
+use Rattle.jos_base.specs.SystemCalls.{shared_entry, entry_at}
+use Rattle.jos_base.specs.SystemCalls.{inserted_at, answered_with, second_of, page_alloc_of, page_map_by, page_map_of}
+use Rattle.jos_base.specs.SystemCalls.{page_unmap_of, record_size}
+use Rattle.jos_base.specs.SystemCalls.{env_set_trapframe_by, env_set_trapframe_of, env_set_pgfault_upcall_of, passing_by}
+use Rattle.jos_base.specs.SystemCalls.{passing_of, sent_with}
 use Rattle.jos_base.specs.SystemCalls.{sent, ipc_try_send_of, ipc_recv, call_of, system_call, user_bytes}
 use Rattle.jos_base.specs.TrapFrames.{frame_bytes, upcall_place, frame_size}
 use Rattle.jos_base.specs.UserMemory.{reach_in, touched}
 use Rattle.jos_base.specs.Words.{page_number}
 use Rattle.lib_os.specs.InOrder.{HasOneUse, IsInOrder}
 use Rattle.lib_os.specs.Need.{EachHasUse}
-use Rattle.lib_os.specs.UserCalls.{Step, accessing, asking, exchange, faulting, load, load_byte, restored, restore_frame, sets_own, store}
-use Rattle.lib_os.specs.UserCalls.{store_byte, system, taken_back, user_byte, user_word, giving, got, with_bytes_put, with_user_byte, with_user_word}
+use Rattle.lib_os.specs.UserCalls.{Step, accessing, asking, exchange, faulting, load, load_byte, restored, restore_frame}
+use Rattle.lib_os.specs.UserCalls.{sets_own, store}
+use Rattle.lib_os.specs.UserCalls.{store_byte, system, taken_back, user_byte, user_word, giving, got, with_bytes_put}
+use Rattle.lib_os.specs.UserCalls.{with_user_byte, with_user_word}
 use Rattle.lib_os.proofs.Slots.{slots_alike}
 use Rattle.lib_os.proofs.UsesFound.{all_touched_found, bytes_found, stored_found, touched_found}
 use Rattle.lib_os.proofs.UsesPlaced.{allocated_found, created_found, inserted_found}
@@ -76,7 +83,8 @@ address_below va test = page_below va (by_tests (va % PGSIZE == 0) (nat_lt va UT
 
 -- ---- who is found
 
-found_lives : (e : Environments) (id caller m : ℕ) (control : Bool) → is_live (e.slots caller) ≡ true → found e id caller control ≡ Some m →
+found_lives : (e : Environments) (id caller m : ℕ) (control : Bool) → is_live (e.slots caller) ≡ true →
+    found e id caller control ≡ Some m →
     is_live (e.slots m) ≡ true
 unfolding found
 found_lives e id caller m control live is = by_zero (id == 0) is
@@ -98,7 +106,8 @@ found_lives e id caller m control live is = by_zero (id == 0) is
 
 -- ---- a page that is given on
 
-shared_from : (o : Option Entry) (perm : ℕ) (e : Entry) → shared_entry o perm ≡ Some e → (x : Entry) × (o ≡ Some x) × (x.frame ≡ e.frame)
+shared_from : (o : Option Entry) (perm : ℕ) (e : Entry) → shared_entry o perm ≡ Some e →
+    (x : Entry) × (o ≡ Some x) × (x.frame ≡ e.frame)
 shared_from None perm e is = absurd cc
 shared_from (Some x) perm e is = by_tests (not (is_page_perm perm)) (has_write perm && not (has_write x.perm)) is
   where
@@ -116,14 +125,16 @@ page_in _ = None
 passing_from : (s : KernelState) (n destination va perm : ℕ) (e : Entry) → passing_of s n destination va perm ≡ a_page e →
     (nat_lt destination UTOP ≡ true) × (shared_entry (entry_at s n va) perm ≡ Some e)
 passing_from s n destination va perm e is =
-    by_tests (not (nat_lt va UTOP)) (not (va % PGSIZE == 0)) (shared_entry (entry_at s n va) perm) (nat_lt destination UTOP) refl (ap page_in is)
+    by_tests (not (nat_lt va UTOP)) (not (va % PGSIZE == 0)) (shared_entry (entry_at s n va) perm)
+    (nat_lt destination UTOP) refl (ap page_in is)
   where
     by_tests : (t u : Bool) (o : Option Entry) (below : Bool) → nat_lt destination UTOP ≡ below →
         page_in (if t then nothing else if u then invalid else passing_by destination o) ≡ Some e → (below ≡ true) × (o ≡ Some e)
     by_tests true u o below test none = absurd cc
     by_tests false true o below test none = absurd cc
     by_tests false false None below test none = absurd cc
-    by_tests false false (Some y) below test some = by_place below (sym (ap (λ (t : Bool). page_in (if t then a_page y else nothing)) test) ∙ some)
+    by_tests false false (Some y) below test some = by_place below
+        (sym (ap (λ (t : Bool). page_in (if t then a_page y else nothing)) test) ∙ some)
       where
         by_place : (t : Bool) → page_in (if t then a_page y else nothing) ≡ Some e → (t ≡ true) × (Some y ≡ Some e)
         by_place true same = (refl, same)
@@ -141,7 +152,8 @@ spaces_or spaces (Some s) = s.spaces
 
 -- ---- ends
 
-pub killed_found : (s : KernelState) (n : ℕ) (line : Line) → HasOneUse s.spaces → EachHasUse s.spaces → EachHasUse (killed s n line).state.spaces
+pub killed_found : (s : KernelState) (n : ℕ) (line : Line) → HasOneUse s.spaces → EachHasUse s.spaces →
+    EachHasUse (killed s n line).state.spaces
 unfolding killed
 killed_found s n line h all = destroyed_found s.spaces (slot_at s n).directory h all
 
@@ -167,18 +179,21 @@ module _ (s : KernelState) (n : ℕ) (h : MayCall s n) where
   destroy_keeps None = plain _ refl
   destroy_keeps (Some target) =
       let gone = destroyed_found s.spaces (slot_at s target).directory h.frames h.each in
-      choose (target == n) (λ is. record { each = destroyed_found s.spaces (slot_at s n).directory h.frames h.each }) (λ is. record { each = gone })
+      choose (target == n) (λ is. record { each = destroyed_found s.spaces (slot_at s n).directory h.frames h.each })
+      (λ is. record { each = gone })
 
   -- a call that asked for frames
   answered_keeps : (o : Option SpacesState) → ((sp : SpacesState) → o ≡ Some sp → EachHasUse sp) → Keeps (answered_with s n o)
   answered_keeps None all = plain _ refl
   answered_keeps (Some sp) all = record { each = all sp refl }
 
-  alloc_keeps : (o : Option ℕ) (va perm : ℕ) → ((m : ℕ) → o ≡ Some m → is_live (slot_at s m) ≡ true) → Keeps (page_alloc_of s n o va perm)
+  alloc_keeps : (o : Option ℕ) (va perm : ℕ) → ((m : ℕ) → o ≡ Some m → is_live (slot_at s m) ≡ true) →
+      Keeps (page_alloc_of s n o va perm)
   alloc_keeps None va perm lives = plain _ refl
   alloc_keeps (Some target) va perm lives =
       choose (not (is_page_address va)) (λ is. plain _ refl)
-      (λ inside. choose (not (is_page_perm perm)) (λ is. plain _ refl) (λ is. by_made (address_below va inside) (allocated s.spaces d (page_number va) perm) refl))
+      (λ inside. choose (not (is_page_perm perm)) (λ is. plain _ refl)
+      (λ is. by_made (address_below va inside) (allocated s.spaces d (page_number va) perm) refl))
     where
       d : ℕ
       d = (slot_at s target).directory
@@ -187,17 +202,23 @@ module _ (s : KernelState) (n : ℕ) (h : MayCall s n) where
           Keeps (answered_with s n (second_of o))
       by_made below None at = plain _ refl
       by_made below (Some made) at =
-          record { each = allocated_found s.spaces d (page_number va) perm made h.frames (h.homes target (lives target refl)) below h.each at }
+          record {
+            each = allocated_found s.spaces d (page_number va) perm made h.frames
+                (h.homes target (lives target refl)) below h.each at;
+          }
 
   -- a page of an environment is inserted
   given : (source target source_va va perm : ℕ) (e : Entry) → is_live (slot_at s target) ≡ true → page_number va < page_limit →
-      shared_entry (entry_at s source source_va) perm ≡ Some e → (sp : SpacesState) → inserted_at s target va e ≡ Some sp → EachHasUse sp
+      shared_entry (entry_at s source source_va) perm ≡ Some e → (sp : SpacesState) → inserted_at s target va e ≡ Some sp →
+      EachHasUse sp
   given source target source_va va perm e lives below shares sp is =
       let x = shared_from (entry_at s source source_va) perm e shares in
-      inserted_found s.spaces sp (slot_at s target).directory (page_number va) e (slot_at s source).directory (page_number source_va) x.0
+      inserted_found s.spaces sp (slot_at s target).directory (page_number va) e (slot_at s source).directory
+      (page_number source_va) x.0
       h.frames (h.homes target lives) below x.1 x.2 h.each is
 
-  map_keeps : (from : Option ℕ) (source_va : ℕ) (to : Option ℕ) (va perm : ℕ) → ((m : ℕ) → to ≡ Some m → is_live (slot_at s m) ≡ true) →
+  map_keeps : (from : Option ℕ) (source_va : ℕ) (to : Option ℕ) (va perm : ℕ) →
+      ((m : ℕ) → to ≡ Some m → is_live (slot_at s m) ≡ true) →
       Keeps (page_map_of s n from source_va to va perm)
   map_keeps None source_va to va perm lives = plain _ refl
   map_keeps (Some source) source_va None va perm lives = plain _ refl
@@ -222,7 +243,8 @@ module _ (s : KernelState) (n : ℕ) (h : MayCall s n) where
   unfolding environment_made
   exofork_keeps = by_made (allotted s.environments (slot_at s n).id) (created s.spaces) refl
     where
-      by_made : (o : Option (ℕ × Environments)) (c : Option (ℕ × SpacesState)) → created s.spaces ≡ c → Keeps (exofork_of s n (made_of s o c))
+      by_made : (o : Option (ℕ × Environments)) (c : Option (ℕ × SpacesState)) → created s.spaces ≡ c →
+          Keeps (exofork_of s n (made_of s o c))
       by_made None c at = plain _ refl
       by_made (Some slot) None at = plain _ refl
       by_made (Some slot) (Some space) at = record { each = created_found s.spaces space h.each at }
@@ -284,12 +306,14 @@ module _ (s : KernelState) (n : ℕ) (h : MayCall s n) where
       (λ m at. lives regs.ebx m true at)) (λ is.
       choose (regs.eax == SYS_PAGE_UNMAP) (λ is. unmap_keeps (found s.environments regs.edx n true) regs.ecx) (λ is.
       choose (regs.eax == SYS_EXOFORK) (λ is. exofork_keeps) (λ is.
-      choose (regs.eax == SYS_ENV_SET_STATUS) (λ is. status_keeps (found s.environments regs.edx n true) (status_named regs.ecx)) (λ is.
+      choose (regs.eax == SYS_ENV_SET_STATUS)
+      (λ is. status_keeps (found s.environments regs.edx n true) (status_named regs.ecx)) (λ is.
       choose (regs.eax == SYS_ENV_SET_TRAPFRAME) (λ is. trapframe_keeps (found s.environments regs.edx n true) regs.ecx) (λ is.
       choose (regs.eax == SYS_ENV_SET_PGFAULT_UPCALL) (λ is. upcall_keeps (found s.environments regs.edx n true) regs.ecx) (λ is.
       choose (regs.eax == SYS_YIELD) (λ is. plain _ refl) (λ is.
       choose (regs.eax == SYS_IPC_TRY_SEND)
-      (λ is. send_keeps (found s.environments regs.edx n false) regs.ecx regs.ebx regs.edi (λ m at. lives regs.edx m false at)) (λ is.
+      (λ is. send_keeps (found s.environments regs.edx n false) regs.ecx regs.ebx regs.edi (λ m at. lives regs.edx m false at))
+      (λ is.
       choose (regs.eax == SYS_IPC_RECV) (λ is. receive_keeps regs.edx regs.ecx) (λ is. plain _ refl))))))))))))))
     where
       lives : (id m : ℕ) (control : Bool) → found s.environments id n control ≡ Some m → is_live (slot_at s m) ≡ true
@@ -297,7 +321,8 @@ module _ (s : KernelState) (n : ℕ) (h : MayCall s n) where
 
 -- ---- an environment is made
 
-pub made_found : (s : KernelState) (parent : ℕ) (made : ℕ × KernelState) → EachHasUse s.spaces → environment_made s parent ≡ Ok made →
+pub made_found : (s : KernelState) (parent : ℕ) (made : ℕ × KernelState) → EachHasUse s.spaces →
+    environment_made s parent ≡ Ok made →
     EachHasUse made.1.spaces
 unfolding environment_made
 made_found s parent made all is = by_made (allotted s.environments parent) (created s.spaces) refl is
@@ -316,7 +341,8 @@ directory_used directory is = refl
 directory_used _ is = absurd cc
 
 -- the caller may have other registers
-registers_may : (s : KernelState) (n : ℕ) (q : Regs) → IsInOrder s → is_live (slot_at s n) ≡ true → EachHasUse s.spaces → MayCall (with_registers s n q) n
+registers_may : (s : KernelState) (n : ℕ) (q : Regs) → IsInOrder s → is_live (slot_at s n) ≡ true → EachHasUse s.spaces →
+    MayCall (with_registers s n q) n
 registers_may s n q h live all = record {
   frames = h.frames;
   each = all;
@@ -339,7 +365,8 @@ taken_spaces k n own regs = by_test (is_live (slot_at k n) && not own)
     by_test true = refl
     by_test false = refl
 
-pub system_found : (s : KernelState) (n number : ℕ) (args : List ℕ) → IsInOrder s → is_live (slot_at s n) ≡ true → EachHasUse s.spaces →
+pub system_found : (s : KernelState) (n number : ℕ) (args : List ℕ) → IsInOrder s → is_live (slot_at s n) ≡ true →
+    EachHasUse s.spaces →
     EachHasUse (system s n number args).state.spaces
 unfolding system
 system_found s n number args h live all =
@@ -351,12 +378,14 @@ system_found s n number args h live all =
 
 -- ---- page faults
 
-pub handled_found : (s : KernelState) (n : ℕ) (fault : PageFault) (after : KernelState) → EachHasUse s.spaces → handled s n fault ≡ Some after →
+pub handled_found : (s : KernelState) (n : ℕ) (fault : PageFault) (after : KernelState) → EachHasUse s.spaces →
+    handled s n fault ≡ Some after →
     EachHasUse after.spaces
 unfolding handled
 handled_found s n fault after all is = by_test ((slot_at s n).upcall == 0) is
   where
-    by_reach : (place : ℕ) (r : Result Location PageFault) → handler_entered s n fault place r ≡ Some after → EachHasUse after.spaces
+    by_reach : (place : ℕ) (r : Result Location PageFault) → handler_entered s n fault place r ≡ Some after →
+        EachHasUse after.spaces
     by_reach place (Err refusal) none = absurd cc
     by_reach place (Ok at) some =
         let slot = slot_at s n in
@@ -388,8 +417,10 @@ faulting_keeps {X = X} s n fault h all = by_handler (handled s n fault) refl
     by_handler (Some after) at = record { each = handled_found s n fault after all at }
     by_handler None at = record { each = killed_found s n (UserFault fault.va (slot_at s n).registers.eip) h all }
 
-accessing_keeps : {X : Type 0} (s : KernelState) (n va : ℕ) (a : Access) (done : KernelState → Step X) → HasOneUse s.spaces → EachHasUse s.spaces →
-    ((k : KernelState) → EachHasUse k.spaces → KeepsStep (done k)) → (r : Result Location PageFault) → KeepsStep (accessing s n va a done r)
+accessing_keeps : {X : Type 0} (s : KernelState) (n va : ℕ) (a : Access) (done : KernelState → Step X) → HasOneUse s.spaces →
+    EachHasUse s.spaces →
+    ((k : KernelState) → EachHasUse k.spaces → KeepsStep (done k)) → (r : Result Location PageFault) →
+    KeepsStep (accessing s n va a done r)
 accessing_keeps s n va a done h all keeps (Ok location) = keeps _ (touched_found s.spaces (slot_at s n).directory va a all)
 accessing_keeps s n va a done h all keeps (Err fault) = faulting_keeps s n fault h all
 
@@ -417,7 +448,8 @@ module _ (s : KernelState) (n : ℕ) (h : HasOneUse s.spaces) (all : EachHasUse 
   unfolding store
   store_found va word =
       let kept = accessing_keeps s n va Write (λ k. giving (with_user_word k n va word) tt) h all
-      (λ k each. record { each = put_found k n va (to_le_bytes w32 word) each }) (reach_in s.spaces (slot_at s n).directory va Write) in
+      (λ k each. record { each = put_found k n va (to_le_bytes w32 word) each })
+      (reach_in s.spaces (slot_at s n).directory va Write) in
       kept.each
 
   pub store_byte_found : (va byte : ℕ) → EachHasUse (store_byte s n va byte).state.spaces
@@ -433,7 +465,8 @@ module _ (s : KernelState) (n : ℕ) (h : HasOneUse s.spaces) (all : EachHasUse 
   exchange_found va word =
       let kept = accessing_keeps s n va Write
       (λ k. record { state = with_user_word k n va word; gives = got (user_word k n va); written = [] }) h all
-      (λ k each. record { each = put_found k n va (to_le_bytes w32 word) each }) (reach_in s.spaces (slot_at s n).directory va Write) in
+      (λ k each. record { each = put_found k n va (to_le_bytes w32 word) each })
+      (reach_in s.spaces (slot_at s n).directory va Write) in
       kept.each
 
   pub restore_frame_found : EachHasUse (restore_frame s n).state.spaces

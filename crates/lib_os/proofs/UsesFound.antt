@@ -1,6 +1,7 @@
 -- Each frame that is handed out goes on having a use where accesses set bits, bytes are put, and frames are freed or handed out:
 -- it is free, or an entry names it, or it is a directory or a table.
-use Rattle.std.proofs.Common.{◌≡◌, ◌≢◌, ◌∙◌, ◌+◌, ◌-◌, ◌/◌, ◌%◌, ◌^◌, ◌==◌, ◌<◌, ◌≤◌, ◌⊎◌, inl, inr, ℕ, zero, suc, Bool, true, false, List, ◌∷◌}
+use Rattle.std.proofs.Common.{◌≡◌, ◌≢◌, ◌∙◌, ◌+◌, ◌-◌, ◌/◌, ◌%◌, ◌^◌, ◌==◌, ◌<◌, ◌≤◌, ◌⊎◌, inl, inr, ℕ, zero, suc, Bool, true}
+use Rattle.std.proofs.Common.{false, List, ◌∷◌}
 use Rattle.std.proofs.Common.{refl, sym, ap, subst, arith}
 use Rattle.std.specs.Prelude.{nat_lt, Option, Some, None, Result, Ok, Err, if◌then◌else◌}
 use Rattle.std.specs.List.{Contains}
@@ -12,7 +13,8 @@ use Rattle.jos_base.specs.declared.numbers.TheConstants.{NPTENTRIES}
 use Rattle.jos_base.specs.Words.{page_number}
 use Rattle.jos_base.specs.Reach.{Entry, Location}
 use Rattle.jos_base.specs.Counting.{total, named, page_count, frame_limit, page_limit}
-use Rattle.jos_base.specs.SpacesState.{SpacesState, Region, directory, freed, released, frame_of, reserved_frames, rising, first_spaces}
+use Rattle.jos_base.specs.SpacesState.{SpacesState, Region, directory, freed, released, frame_of, reserved_frames, rising}
+use Rattle.jos_base.specs.SpacesState.{first_spaces}
 use Rattle.jos_base.specs.SpacesState.{region_limit, with_page_bytes}
 use Rattle.jos_base.specs.Windows.{table_index}
 use Rattle.jos_base.specs.UserMemory.{reach_in, access_bits, region_accessed, entry_marked, with_page_bits, with_region_bit}
@@ -109,7 +111,8 @@ module _ (s : SpacesState) (d : ℕ) where
     frames = refl;
     uses = refl;
     list = refl;
-    entries = put-alike s.entries d number (entry_marked bits (s.entries d number)) frame_of (marked_frame bits (s.entries d number));
+    entries = put-alike s.entries d number (entry_marked bits (s.entries d number)) frame_of
+        (marked_frame bits (s.entries d number));
     regions = λ q r. refl;
   }
 

@@ -9,8 +9,10 @@ use Rattle.jos_base.specs.declared.numbers.TheConstants.{NPTENTRIES}
 use Rattle.jos_base.specs.Words.{upd}
 use Rattle.jos_base.specs.Reach.{Entry}
 use Rattle.jos_base.specs.Counting.{page_limit}
-use Rattle.jos_base.specs.SpacesState.{SpacesState, Region, Use, free, fresh, page, directory, table, frame_of, region_limit, reserved_frames}
-use Rattle.jos_base.specs.SpacesState.{created, created_from, taken, zero_page, fresh_from, fresh_of, with_table, tabled_new, tabled_by, tabled}
+use Rattle.jos_base.specs.SpacesState.{SpacesState, Region, Use, free, fresh, page, directory, table, frame_of, region_limit}
+use Rattle.jos_base.specs.SpacesState.{reserved_frames}
+use Rattle.jos_base.specs.SpacesState.{created, created_from, taken, zero_page, fresh_from, fresh_of, with_table, tabled_new}
+use Rattle.jos_base.specs.SpacesState.{tabled_by, tabled}
 use Rattle.jos_base.specs.SpacesState.{with_entry, mapped, inserted, allocated_in, allocated}
 use Rattle.lib_os.specs.InOrder.{HasOneUse, AreFree}
 use Rattle.lib_os.specs.Need.{HasUse, in_list, in_entry, as_directory, as_table, EachHasUse}
@@ -92,7 +94,8 @@ module _ (s : SpacesState) (d frame index : ℕ) (h : MayInsert s d frame) (lt :
 
     -- directories stay directories, and no other frame becomes one
     still : (q : ℕ) → s.uses q ≡ directory → after.uses q ≡ directory
-    still q was = upd-other s.uses g table q (λ same. free_or_directory (s.uses g) (h.head g rest at) (ap s.uses (sym same) ∙ was)) ∙ was
+    still q was = upd-other s.uses g table q (λ same. free_or_directory (s.uses g) (h.head g rest at)
+        (ap s.uses (sym same) ∙ was)) ∙ was
 
     no_new : (q : ℕ) → s.uses q ≢ directory → after.uses q ≢ directory
     no_new q was_not is = elim (same_or q g) [
@@ -109,7 +112,8 @@ module _ (s : SpacesState) (d frame index : ℕ) (h : MayInsert s d frame) (lt :
     tabled_use f (as_directory was) = as_directory (still f was)
     tabled_use f (as_table q r region was below stands same) = elim (place_cases q r d index) [
       | inl here ↦
-          absurd (let e : ◌≡◌ {A = Option Region} None (Some region) = sym none ∙ (λ i. s.regions (sym here.0 i) (sym here.1 i)) ∙ stands in cc)
+          absurd (let e : ◌≡◌ {A = Option Region} None (Some region) = sym none
+          ∙ (λ i. s.regions (sym here.0 i) (sym here.1 i)) ∙ stands in cc)
       | inr off ↦ as_table q r region (still q was) below (put-other s.regions d index _ q r off ∙ stands) same
     ]
 
@@ -117,7 +121,8 @@ module _ (s : SpacesState) (d frame index : ℕ) (h : MayInsert s d frame) (lt :
   unfolding tabled
   tabled_has t all is = by_region (s.regions d index) refl is
     where
-      as_or : (u : SpacesState) → ((f : ℕ) → HasUse s f → HasUse u f) → (f : ℕ) → HasUse s f ⊎ (f ≡ frame) → HasUse u f ⊎ (f ≡ frame)
+      as_or : (u : SpacesState) → ((f : ℕ) → HasUse s f → HasUse u f) → (f : ℕ) → HasUse s f ⊎ (f ≡ frame) →
+          HasUse u f ⊎ (f ≡ frame)
       as_or u keeps f (inl has) = inl (keeps f has)
       as_or u keeps f (inr same) = inr same
 
@@ -183,14 +188,16 @@ pub inserted_found_or : (s t : SpacesState) (d p : ℕ) (e : Entry) → MayInser
 unfolding inserted
 inserted_found_or s t d p e h lt all is = by_table (tabled s d (p / NPTENTRIES)) refl is
   where
-    by_table : (o : Option SpacesState) → tabled s d (p / NPTENTRIES) ≡ o → option_map (λ u. mapped u d p e) o ≡ Some t → EachHasUse t
+    by_table : (o : Option SpacesState) → tabled s d (p / NPTENTRIES) ≡ o → option_map (λ u. mapped u d p e) o ≡ Some t →
+        EachHasUse t
     by_table None at none = absurd cc
     by_table (Some u) at some =
         subst (λ (z : SpacesState). EachHasUse z) (same_Some (mapped u d p e) t some)
         (mapped_found s u d p e (tabled_has s d e.frame (p / NPTENTRIES) h (region_below p lt) u all at))
 
 -- a page that stands somewhere
-pub inserted_found : (s t : SpacesState) (d p : ℕ) (e : Entry) (q r : ℕ) (x : Entry) → HasOneUse s → s.uses d ≡ directory → p < page_limit →
+pub inserted_found : (s t : SpacesState) (d p : ℕ) (e : Entry) (q r : ℕ) (x : Entry) → HasOneUse s → s.uses d ≡ directory →
+    p < page_limit →
     s.entries q r ≡ Some x → x.frame ≡ e.frame → EachHasUse s → inserted s d p e ≡ Some t → EachHasUse t
 inserted_found s t d p e q r x h owner lt stands same all =
     inserted_found_or s t d p e (record {
@@ -202,7 +209,8 @@ inserted_found s t d p e q r x h owner lt stands same all =
 
 -- ---- a fresh page
 
-module _ (s : SpacesState) (h : HasOneUse s) (d : ℕ) (owner : s.uses d ≡ directory) (g : ℕ) (rest : List ℕ) (at : s.free ≡ g ∷ rest) where
+module _ (s : SpacesState) (h : HasOneUse s) (d : ℕ) (owner : s.uses d ≡ directory) (g : ℕ) (rest : List ℕ)
+    (at : s.free ≡ g ∷ rest) where
   abbrev first : SpacesState
   first = taken s g rest zero_page
 
@@ -241,7 +249,8 @@ module _ (s : SpacesState) (h : HasOneUse s) (d : ℕ) (owner : s.uses d ≡ dir
   first_use f (as_directory was) = inl (as_directory (kept f was))
   first_use f (as_table q r region was lt stands same) = inl (as_table q r region (kept q was) lt stands same)
 
-pub allocated_found : (s : SpacesState) (d p perm : ℕ) (made : ℕ × SpacesState) → HasOneUse s → s.uses d ≡ directory → p < page_limit →
+pub allocated_found : (s : SpacesState) (d p perm : ℕ) (made : ℕ × SpacesState) → HasOneUse s → s.uses d ≡ directory →
+    p < page_limit →
     EachHasUse s → allocated s d p perm ≡ Some made → EachHasUse made.1
 unfolding allocated fresh_of
 allocated_found s d p perm made h owner lt all is = by_list s.free refl is
@@ -251,7 +260,8 @@ allocated_found s d p perm made h owner lt all is = by_list s.free refl is
     by_list (g ∷ rest) at some =
         by_insertion (inserted (first s h d owner g rest at) d p (record { frame = g; perm = perm })) refl some
       where
-        by_insertion : (o : Option SpacesState) → inserted (first s h d owner g rest at) d p (record { frame = g; perm = perm }) ≡ o →
+        by_insertion : (o : Option SpacesState) → inserted (first s h d owner g rest at) d p
+            (record { frame = g; perm = perm }) ≡ o →
             option_map (λ (u : SpacesState). let pair : ℕ × SpacesState = (g, u) in pair) o ≡ Some made → EachHasUse made.1
         by_insertion None ins none = absurd cc
         by_insertion (Some u) ins found =

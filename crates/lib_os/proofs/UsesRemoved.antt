@@ -1,13 +1,16 @@
 -- Each frame that is handed out goes on having a use where a page is removed, and where a whole space is destroyed: its pages, its
 -- tables and its directory are free then, but for the pages that others have.
-use Rattle.std.proofs.Common.{◌≡◌, ◌≢◌, ◌∙◌, ◌==◌, ◌<◌, ◌≤◌, ◌⊎◌, inl, inr, ℕ, zero, suc, Bool, true, false, refl, sym, ap, subst, arith}
+use Rattle.std.proofs.Common.{◌≡◌, ◌≢◌, ◌∙◌, ◌==◌, ◌<◌, ◌≤◌, ◌⊎◌, inl, inr, ℕ, zero, suc, Bool, true, false, refl, sym, ap}
+use Rattle.std.proofs.Common.{subst, arith}
 use Rattle.std.specs.Prelude.{Option, Some, None, if◌then◌else◌}
 use Rattle.std.proofs.lemmas.Bool.Decides.{nat_tests}
 use Rattle.std.proofs.lemmas.Option.{same_Some}
 use Rattle.jos_base.specs.Reach.{Entry}
 use Rattle.jos_base.specs.Counting.{page_count, page_limit}
-use Rattle.jos_base.specs.SpacesState.{SpacesState, Region, Use, page, directory, table, put, freed, released, frame_of, reserved_frames}
-use Rattle.jos_base.specs.SpacesState.{without_entry, unmapped, pages_removed, without_region, tables_freed, region_limit, destroyed}
+use Rattle.jos_base.specs.SpacesState.{SpacesState, Region, Use, page, directory, table, put, freed, released, frame_of}
+use Rattle.jos_base.specs.SpacesState.{reserved_frames}
+use Rattle.jos_base.specs.SpacesState.{without_entry, unmapped, pages_removed, without_region, tables_freed, region_limit}
+use Rattle.jos_base.specs.SpacesState.{destroyed}
 use Rattle.lib_os.specs.InOrder.{HasOneUse}
 use Rattle.lib_os.specs.Need.{HasUse, in_list, in_entry, as_directory, as_table, EachHasUse}
 use Rattle.lib_os.proofs.Counts.{page_count-some}
@@ -44,7 +47,8 @@ table_or_directory u is not = absurd cc
 
 -- ---- a page that no entry names is freed
 
-released_sorted : (s : SpacesState) (o : Option ℕ) → AreSorted s → ((x : ℕ) → o ≡ Some x → s.uses x ≢ table) → AreSorted (released s o)
+released_sorted : (s : SpacesState) (o : Option ℕ) → AreSorted s → ((x : ℕ) → o ≡ Some x → s.uses x ≢ table) →
+    AreSorted (released s o)
 released_sorted s None h no_table = h
 released_sorted s (Some x) h no_table = by_test (page_count s.entries x == 0) refl
   where
@@ -57,10 +61,12 @@ released_sorted s (Some x) h no_table = by_test (page_count s.entries x == 0) re
           pages = λ d p e is.
               let limits = h.within d p e is in
               let counted = page_count-some s.entries d p e limits.0 limits.1 is in
-              upd-other s.uses x _ e.frame (λ same. let count = ap (page_count s.entries) same in absurd (omega (arith, counted, count, none)))
+              upd-other s.uses x _ e.frame (λ same. let count = ap (page_count s.entries) same in
+              absurd (omega (arith, counted, count, none)))
               ∙ h.pages d p e is;
           tables = λ d r y is.
-              upd-other s.uses x _ y.table (λ same. absurd (no_table x refl (ap s.uses (sym same) ∙ h.tables d r y is))) ∙ h.tables d r y is;
+              upd-other s.uses x _ y.table (λ same. absurd (no_table x refl (ap s.uses (sym same) ∙ h.tables d r y is)))
+              ∙ h.tables d r y is;
           apart = h.apart;
         }
 
@@ -150,7 +156,8 @@ module _ (s : SpacesState) (d n : ℕ) (h : AreSorted s) where
       apart = λ q r a b x y is js. h.apart q r a b x y (put-none s.regions d n x q r is) (put-none s.regions d n y a b js);
     };
     frames = refl;
-    uses = λ f has. freed_use without region.table (λ is. absurd (table_or_directory (s.uses region.table) (h.tables d n region at) is)) f (without_use_of f has);
+    uses = λ f has. freed_use without region.table (λ is. absurd
+        (table_or_directory (s.uses region.table) (h.tables d n region at) is)) f (without_use_of f has);
   }
     where
       without : SpacesState
@@ -172,7 +179,8 @@ module _ (s : SpacesState) (d n : ℕ) (h : AreSorted s) where
       without_use_of f (as_directory is) = inl (as_directory is)
       without_use_of f (as_table q r x is lt stands same) = elim (place_cases q r d n) [
         | inl here ↦
-            inr (ap (λ (z : Region). z.table) (same_Some region x (sym at ∙ (λ i. s.regions (sym here.0 i) (sym here.1 i)) ∙ stands)) ∙ same)
+            inr (ap (λ (z : Region). z.table) (same_Some region x
+            (sym at ∙ (λ i. s.regions (sym here.0 i) (sym here.1 i)) ∙ stands)) ∙ same)
         | inr off ↦ inl (as_table q r x is lt (put-other s.regions d n None q r off ∙ stands) same)
       ]
 
@@ -187,7 +195,8 @@ module _ (s : SpacesState) (d n : ℕ) (h : AreSorted s) where
     where
       by_region : (o : Option Region) → put s.regions d n None d r ≡ o → o ≡ None
       by_region None is = refl
-      by_region (Some x) is = absurd (let e : ◌≡◌ {A = Option Region} None (Some x) = sym gone ∙ put-none s.regions d n x d r is in cc)
+      by_region (Some x) is = absurd (let e : ◌≡◌ {A = Option Region} None (Some x) = sym gone
+          ∙ put-none s.regions d n x d r is in cc)
 
 tables_kept : (s : SpacesState) (d n : ℕ) → AreSorted s → Keeps s (tables_freed s d n)
 unfolding tables_freed
@@ -210,7 +219,8 @@ tables_gone s d (suc n) r h lt =
     let before = tables_kept s d n h in
     elim (same_or r n) [
       | inl same ↦
-          ap (λ (k : ℕ). (without_region t d n (t.regions d n)).regions d k) same ∙ region_gone t d n before.sorted (t.regions d n) refl
+          ap (λ (k : ℕ). (without_region t d n (t.regions d n)).regions d k) same
+          ∙ region_gone t d n before.sorted (t.regions d n) refl
       | inr ne ↦ region_gone_still t d n before.sorted (t.regions d n) r (tables_gone s d n r h (omega (arith, lt)))
     ]
 

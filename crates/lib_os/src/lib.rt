@@ -6,7 +6,7 @@
 //! service do (`LibraryCall`, with `MemoryServices`, `AbstractFork`, `AbstractMessages`, `Descriptors`,
 //! `AbstractPipes` and `FileServices`), what the file server does (`FileServer`), and all of these as one step of a
 //! slot, with when a slot may wait (`AbstractRun`). What these mean is said by a few laws, which are proved
-//! (`AbstractLaws`).
+//! (`AbstractLaws`); and how many frames they can want, by a number (`Need`).
 //!
 //! The library stands between this system and the kernel: `UserOs` has its calls of the kernel (`UserCalls`), `Places` where
 //! a service stands between two of them, `StandsFor` when a state of the kernel stands for an abstract one, and
