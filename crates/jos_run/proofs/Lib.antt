@@ -10,6 +10,7 @@ pub mod Words
 pub mod SpacesKept
 pub mod ServicesEntered
 pub mod GuestStands
+pub mod GuestUses
 pub mod Guests
 pub mod ProgramSteps
 pub mod Serves
