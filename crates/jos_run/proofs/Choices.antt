@@ -118,19 +118,9 @@ pub any_live_stands : {names : Names} {s : KernelState} {a : AbstractState} → 
 any_live_stands {s = s} {a = a} h only =
     some_alike (λ n. is_client (a.slots n)) (λ n. not (n == 0) && is_live_slot (slot_at s n)) NENV (λ n below. client_other h only n)
 
--- ids tell it, where each live environment's id is that of its slot
-pub ids_tell : {names : Names} {s : KernelState} {a : AbstractState} → StandsFor names s a →
-    ((n : ℕ) → is_live_slot (slot_at s n) ≡ true → (slot_at s n).id % NENV ≡ n) → OnlyFirstServes s
-ids_tell {names = names} {s = s} {a = a} h ids n other = by_slot (slot_at s n) (a.slots n) (h.slots n) (ids n)
-  where
-    by_slot : (k : KernelSlot) (slot : Slot) → StandsForSlot names s.spaces k slot →
-        (is_live_slot k ≡ true → k.id % NENV ≡ n) → is_user k.env_type ≡ true
-    by_slot k (free id) so own_id = ap (λ (x : KernelSlot). is_user x.env_type) so
-    by_slot k (unborn id parent) so own_id = absurd so
-    by_slot k (born b) so own_id = ap (λ (x : EnvType). is_user x) so.env_type
-    by_slot k (serving id) so own_id =
-        let at : 0 ≡ n = sym (ap (λ (x : ℕ). x % NENV) (so.id_is ∙ so.first)) ∙ own_id (ap (λ (x : Status). not (is_free x)) so.status) in
-        absurd (other (sym at))
+-- no file server stands but in slot 0, whatever the state stands for
+pub only_first_serves : {names : Names} {s : KernelState} {a : AbstractState} → StandsFor names s a → OnlyFirstServes s
+only_first_serves h n other = ap (λ (t : EnvType). is_user t) (h.tabled.servers n other)
 
 -- ---- the end
 
@@ -151,6 +141,14 @@ end_stands {s = s} {a = a} h none only turns spent =
         else None
 
 -- ---- RUNNING
+
+-- in the turn of a slot no other is RUNNING, whatever the state stands for
+pub only_runs : {names : Names} {s : KernelState} {a : AbstractState} → StandsFor names s a → (n : ℕ) → s.last ≡ Some n → OnlyRuns s n
+only_runs {s = s} h n last m ne = by_test (is_running (slot_at s m).status) refl
+  where
+    by_test : (c : Bool) → is_running (slot_at s m).status ≡ c → c ≡ false
+    by_test true is = let same : ◌≡◌ {A = Option ℕ} (Some n) (Some m) = sym last ∙ h.tabled.running m is in absurd (ne (cc))
+    by_test false is = refl
 
 pub begun_only : (s : KernelState) (n : ℕ) → NoneRuns s → OnlyRuns (turn_begun s n) n
 begun_only s n none m ne =

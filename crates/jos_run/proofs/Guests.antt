@@ -1,11 +1,11 @@
 -- The memory of an environment that is served, by what the calls tell that reach for its bytes and put them; and what comes
 -- of a step, by what is done.
-use Rattle.std.proofs.Common.{◌≡◌, ◌∙◌, ◌+◌, ℕ, Bool, true, false, List, length, Option, Some, None, Ok, Err, refl, sym, ap, subst}
+use Rattle.std.proofs.Common.{◌≡◌, ◌∙◌, ◌+◌, ℕ, Bool, true, false, List, [], Option, Some, None, Ok, Err, refl, sym, ap, subst}
 use Rattle.std.proofs.Common.{if◌then◌else◌}
-use Rattle.std.specs.Prelude.{◌&&◌}
+use Rattle.std.specs.Prelude.{◌-◌, ◌^◌, ◌&&◌, min}
 use Rattle.jos_host.specs.declared.host.Failed.{Failed}
-use Rattle.jos_host.specs.Frames.{Around, from_to}
-use Rattle.jos_host.specs.Gains.{Gains, GainsPart}
+use Rattle.jos_host.specs.Frames.{Around}
+use Rattle.jos_host.specs.Gains.{GainsPart}
 use Rattle.jos_base.specs.declared.memory.Access.{Access}
 use Rattle.jos_base.specs.declared.memory.Access.TheVariants.{Read}
 use Rattle.jos_base.specs.declared.numbers.TheConstants.{FEC_U, T_SERVICE}
@@ -30,18 +30,19 @@ use Rattle.jos_sys.specs.System.{Does}
 use Rattle.jos_kernel.specs.declared.trace.TrapLine.{TrapLine}
 use Rattle.jos_kernel.specs.Running.{Running, user_memory, loaded_in, allowed_in, byte_in, fault_in, touched_in, stored_in}
 use Rattle.jos_kernel.specs.Steps.{EnvStep}
-use Rattle.jos_kernel.proofs.Following.{gains_nothing}
 use Rattle.jos_kernel.proofs.UserBytes.{on_reached}
 use Rattle.lib_os.specs.Fence.{in_fence, is_inside}
 use Rattle.lib_os.specs.Places.{words_entered}
+use Rattle.lib_os.specs.UserCalls.{Output, Prints}
 use Rattle.jos_run.specs.FencedMemory.{fenced_memory}
 use Rattle.jos_run.specs.Guest.{Serving, served_memory, serving_of, directory_in, own_memory, Follows}
 use Rattle.jos_run.specs.GuestSteps.{after_event, after_instruction, guest_instruction}
 use Rattle.jos_run.specs.Served.{Parts, kernel_state}
 use Rattle.jos_run.proofs.Accesses.{refused_state}
+use Rattle.jos_run.proofs.Printed.{printed, prints}
 
-abbrev pub serving : KernelState → ℕ → ℕ → Serving
-serving s n calls = record { memory = own_memory s n; slot = n; calls = calls }
+abbrev pub serving : KernelState → ℕ → ℕ → ℕ → Serving
+serving s n calls written = record { memory = own_memory s n; slot = n; calls = calls; written = written }
 
 -- ---- outside the fence
 
@@ -75,12 +76,12 @@ readable m va access on =
 
 -- ---- an environment
 
-module _ (s : KernelState) (n calls : ℕ) where
+module _ (s : KernelState) (n calls written : ℕ) where
   abbrev own_slot : Slot
   own_slot = slot_at s n
 
   -- what may be reached is in the space of one that is live
-  pub live_where : (va : ℕ) (access : Access) → served_memory.allowed (serving s n calls) va access ≡ true →
+  pub live_where : (va : ℕ) (access : Access) → served_memory.allowed (serving s n calls written) va access ≡ true →
       (is_live own_slot ≡ true) × (is_allowed s.spaces own_slot.directory va access ≡ true)
   unfolding served_memory fenced_memory user_memory
   live_where va access on =
@@ -92,7 +93,7 @@ module _ (s : KernelState) (n calls : ℕ) where
       by_life false on = absurd cc
 
   module _ (va : ℕ) (access : Access) (gone : is_live own_slot ≡ false) where
-    pub gone_right : served_memory.allowed (serving s n calls) va access ≡ false
+    pub gone_right : served_memory.allowed (serving s n calls written) va access ≡ false
     unfolding served_memory fenced_memory user_memory
     gone_right = rw gone (by_fence (is_inside va))
       where
@@ -100,7 +101,7 @@ module _ (s : KernelState) (n calls : ℕ) where
         by_fence true = refl
         by_fence false = refl
 
-    pub gone_fault : in_fence va 1 ≡ true → served_memory.fault (serving s n calls) va access ≡ Page (record { va = va; error = FEC_U + write_bit access })
+    pub gone_fault : in_fence va 1 ≡ true → served_memory.fault (serving s n calls written) va access ≡ Page (record { va = va; error = FEC_U + write_bit access })
     unfolding served_memory fenced_memory user_memory
     gone_fault inside = rw (gone, inside) refl
 
@@ -108,42 +109,42 @@ module _ (s : KernelState) (n calls : ℕ) where
     loaded : directory_in own_slot ≡ Some d
     loaded = rw (live, at_d) refl
 
-    pub byte_here : (va : ℕ) → byte_at (records_of s.environments) s.spaces d va ≡ served_memory.byte (serving s n calls) va
+    pub byte_here : (va : ℕ) → byte_at (records_of s.environments) s.spaces d va ≡ served_memory.byte (serving s n calls written) va
     unfolding served_memory fenced_memory user_memory
     byte_here va = ap (λ (o : Option ℕ). byte_in s o va) (sym loaded)
 
-    pub right_here : (va : ℕ) (access : Access) → in_fence va 1 ≡ true → is_allowed s.spaces d va access ≡ served_memory.allowed (serving s n calls) va access
+    pub right_here : (va : ℕ) (access : Access) → in_fence va 1 ≡ true → is_allowed s.spaces d va access ≡ served_memory.allowed (serving s n calls written) va access
     unfolding served_memory fenced_memory user_memory
     right_here va access inside = rw inside (ap (λ (o : Option ℕ). allowed_in s o va access) (sym loaded))
 
-    pub fault_here : (va : ℕ) (access : Access) → in_fence va 1 ≡ true → Page (fault_at s.spaces d va access) ≡ served_memory.fault (serving s n calls) va access
+    pub fault_here : (va : ℕ) (access : Access) → in_fence va 1 ≡ true → Page (fault_at s.spaces d va access) ≡ served_memory.fault (serving s n calls written) va access
     unfolding served_memory fenced_memory user_memory
     fault_here va access inside = rw inside (ap (λ (o : Option ℕ). Page (fault_in s o va access)) (sym loaded))
 
     pub reached_here : (t : KernelState) (va : ℕ) (access : Access) → t ≡ with_spaces s (touched s.spaces d va access) →
-        serving t n calls ≡ served_memory.reached (serving s n calls) va access
+        serving t n calls written ≡ served_memory.reached (serving s n calls written) va access
     unfolding served_memory fenced_memory user_memory
     reached_here t va access is =
-        (λ i. serving (is i) n calls)
-        ∙ (λ i. record { memory = record { state = touched_in s (sym loaded i) va access; directory = directory_in own_slot }; slot = n; calls = calls })
+        (λ i. serving (is i) n calls written)
+        ∙ (λ i. record { memory = record { state = touched_in s (sym loaded i) va access; directory = directory_in own_slot }; slot = n; calls = calls; written = written })
 
     pub left_here : (t : KernelState) (va : ℕ) (access : Access) → is_allowed s.spaces d va access ≡ false →
-        t ≡ with_spaces s (touched s.spaces d va access) → serving t n calls ≡ serving s n calls
-    left_here t va access off is = ap (λ (k : KernelState). serving k n calls) (refused_state s t d va access off is)
+        t ≡ with_spaces s (touched s.spaces d va access) → serving t n calls written ≡ serving s n calls written
+    left_here t va access off is = ap (λ (k : KernelState). serving k n calls written) (refused_state s t d va access off is)
 
     pub stored_here : (t : KernelState) (va byte : ℕ) → t ≡ with_spaces s (stored_byte s.spaces d va byte) →
-        serving t n calls ≡ served_memory.stored (serving s n calls) va byte
+        serving t n calls written ≡ served_memory.stored (serving s n calls written) va byte
     unfolding served_memory fenced_memory user_memory
     stored_here t va byte is =
-        (λ i. serving (is i) n calls)
-        ∙ (λ i. record { memory = record { state = stored_in s (sym loaded i) va byte; directory = directory_in own_slot }; slot = n; calls = calls })
+        (λ i. serving (is i) n calls written)
+        ∙ (λ i. record { memory = record { state = stored_in s (sym loaded i) va byte; directory = directory_in own_slot }; slot = n; calls = calls; written = written })
 
 -- ---- a step of the processor
 
 -- what stands beside a memory has no part in it
-beside : (slot calls : ℕ) → Agrees fenced_memory served_memory (λ (m : Running). record { memory = m; slot = slot; calls = calls }) (λ m. Unit {0})
+beside : (slot calls written : ℕ) → Agrees fenced_memory served_memory (λ (m : Running). record { memory = m; slot = slot; calls = calls; written = written }) (λ m. Unit {0})
 unfolding served_memory
-beside slot calls = record {
+beside slot calls written = record {
   byte = λ m h va. refl;
   allowed = λ m h va access. refl;
   fault = λ m h va access off. refl;
@@ -151,10 +152,10 @@ beside slot calls = record {
   stored = λ m h va byte small. (tt, refl);
 }
 
-pub step_beside : (regs : Regs) (m : Running) (slot calls : ℕ) →
-    step_of served_memory regs (record { memory = m; slot = slot; calls = calls }) Run
-    ≡ through (λ (x : Running). record { memory = x; slot = slot; calls = calls }) (step_of fenced_memory regs m Run)
-step_beside regs m slot calls = (step_through (beside slot calls) regs m Run tt).1
+pub step_beside : (regs : Regs) (m : Running) (slot calls written : ℕ) →
+    step_of served_memory regs (record { memory = m; slot = slot; calls = calls; written = written }) Run
+    ≡ through (λ (x : Running). record { memory = x; slot = slot; calls = calls; written = written }) (step_of fenced_memory regs m Run)
+step_beside regs m slot calls written = (step_through (beside slot calls written) regs m Run tt).1
 
 -- the directory that is loaded stays loaded
 directory_kept : (regs : Regs) (m : Running) → (step_of fenced_memory regs m Run).memory.directory ≡ m.directory
@@ -171,23 +172,24 @@ directory_kept regs m = (step_through keeps regs m Run refl).0
     }
 
 -- What the processor's step has left is left of the same environment, which is live, and what comes of it is the program's step.
-pub record IsStepped (s : KernelState) (n calls : ℕ) (regs new : Regs) (p : Parts) (event : Event) : Type 0 where
+pub record IsStepped (s : KernelState) (n calls written : ℕ) (regs new : Regs) (p : Parts) (event : Event) : Type 0 where
   pub slot : p.slot ≡ n
   pub calls_are : p.calls ≡ calls
+  pub written_is : p.written ≡ written
   pub live : is_live (slot_at (kernel_state p) p.slot) ≡ true
   pub step : guest_instruction s n ≡ after_event (with_registers (kernel_state p) p.slot new) p.slot regs.eip event
 
-module _ (s : KernelState) (n calls : ℕ) (regs new : Regs) (p : Parts) (event : Event) (live : is_live (slot_at s n) ≡ true)
+module _ (s : KernelState) (n calls written : ℕ) (regs new : Regs) (p : Parts) (event : Event) (live : is_live (slot_at s n) ≡ true)
     (regs_are : regs ≡ (slot_at s n).registers)
-    (done : step_of served_memory regs (serving s n calls) Run ≡ record { regs = new; memory = serving_of p; event = event }) where
+    (done : step_of served_memory regs (serving s n calls written) Run ≡ record { regs = new; memory = serving_of p; event = event }) where
   abbrev stepped_here : Stepped Running
   stepped_here = step_of fenced_memory regs (own_memory s n) Run
 
-  both : through (λ (x : Running). record { memory = x; slot = n; calls = calls }) stepped_here
+  both : through (λ (x : Running). record { memory = x; slot = n; calls = calls; written = written }) stepped_here
       ≡ record { regs = new; memory = serving_of p; event = event }
-  both = sym (step_beside regs (own_memory s n) n calls) ∙ done
+  both = sym (step_beside regs (own_memory s n) n calls written) ∙ done
 
-  memory_is : record { memory = stepped_here.memory; slot = n; calls = calls } ≡ serving_of p
+  memory_is : record { memory = stepped_here.memory; slot = n; calls = calls; written = written } ≡ serving_of p
   memory_is = ap (λ (x : Stepped Serving). x.memory) both
 
   loaded_is : directory_in (slot_at s n) ≡ Some (slot_at s n).directory
@@ -202,11 +204,12 @@ module _ (s : KernelState) (n calls : ℕ) (regs new : Regs) (p : Parts) (event 
       by_life true is = refl
       by_life false is = absurd cc
 
-  pub stepped : IsStepped s n calls regs new p event
+  pub stepped : IsStepped s n calls written regs new p event
   unfolding guest_instruction
   stepped = record {
     slot = sym (ap (λ (x : Serving). x.slot) memory_is);
     calls_are = sym (ap (λ (x : Serving). x.calls) memory_is);
+    written_is = sym (ap (λ (x : Serving). x.written) memory_is);
     live = still_live;
     step =
         (λ i. after_instruction n (sym regs_are i).eip (step_of fenced_memory (sym regs_are i) (record { state = s; directory = sym loaded_is i }) Run))
@@ -215,19 +218,22 @@ module _ (s : KernelState) (n calls : ℕ) (regs new : Regs) (p : Parts) (event 
 
 -- ---- what is done, and what a step leaves
 
-module _ (did : Did) (step : EnvStep) (state : KernelState) (console : Around (Option (List ℕ))) (raised : Option TrapLine)
+module _ (did : Did) (step : EnvStep) (state : KernelState) (console : Around (Option (List ℕ))) (counted after : ℕ) (raised : Option TrapLine)
     (state_is : step.state ≡ did.state) (written_is : step.written ≡ did.written) (trap_is : raised ≡ step.trap) where
-  pub done_follows : (answer : Answer) → Does (Ok answer) did state console →
-      Follows (Ok (record { written = answer.written; trap = raised })) step state console
-  done_follows answer h =
-      (h.0 ∙ sym state_is, h.2 ∙ ap length (sym written_is), trap_is, subst (Gains console) (sym written_is) h.3)
+  pub done_follows : (answer : Answer) → Does (Ok answer) did state console → after ≡ min (counted + answer.written) (2 ^ 64 - 1) →
+      Follows (Ok raised) step state (printed console counted after)
+  done_follows answer h more = (
+    h.0 ∙ sym state_is,
+    trap_is,
+    subst (Prints (printed console counted after)) (sym written_is) (prints console counted after answer.written did.written h.2 more h.3),
+  )
 
-  pub failed_follows : (failed : Failed) → Does (Err failed) did state console → Follows (Err failed) step state console
+  pub failed_follows : (failed : Failed) → Does (Err failed) did state console → Follows (Err failed) step state (printed console counted after)
   failed_follows failed h = subst (GainsPart console) (sym written_is) h
 
 -- a service is entered
-pub service_follows : (s after : KernelState) (n ip vector : ℕ) (event : Event) (words : List ℕ) (told : Option (List ℕ)) → event ≡ Soft vector →
-    vector ≡ T_SERVICE → words ≡ words_entered (slot_at s n).registers → after ≡ with_extra s n words →
-    Follows (Ok (record { written = 0; trap = None })) (after_event s n ip event) after (from_to told told)
-service_follows s after n ip vector event words told event_is vector_is words_are after_is =
-    rw (event_is, vector_is) (after_is ∙ ap (with_extra s n) words_are, refl, refl, gains_nothing told)
+pub service_follows : (s after : KernelState) (n ip vector : ℕ) (event : Event) (words : List ℕ) (output : Output) → event ≡ Soft vector →
+    vector ≡ T_SERVICE → words ≡ words_entered (slot_at s n).registers → after ≡ with_extra s n words → Prints output [] →
+    Follows (Ok None) (after_event s n ip event) after output
+service_follows s after n ip vector event words output event_is vector_is words_are after_is quiet =
+    rw (event_is, vector_is) (after_is ∙ ap (with_extra s n) words_are, refl, quiet)

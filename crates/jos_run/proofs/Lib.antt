@@ -2,7 +2,8 @@ pub mod Accesses
 pub mod Answers
 pub mod Choices
 pub mod InOrder
-pub mod OthersKept
+pub mod OthersLive
+pub mod Printed
 pub mod Puts
 pub mod RunsKept
 pub mod TurnsTaken
@@ -11,6 +12,7 @@ pub mod SpacesKept
 pub mod ServicesEntered
 pub mod GuestStands
 pub mod GuestUses
+pub mod GuestLeaves
 pub mod Guests
 pub mod ProgramSteps
 pub mod Serves

@@ -1,21 +1,20 @@
 -- A step of a program is one that the library promises.
-use Rattle.std.proofs.Common.{◌≡◌, ◌≢◌, ◌∙◌, ℕ, Bool, true, false, List, Option, Result, Ok, Err, refl, sym, ap, subst}
+use Rattle.std.proofs.Common.{◌≡◌, ◌≢◌, ◌∙◌, ℕ, true, false, Option, Ok, Err, refl, sym, ap, subst}
 use Rattle.std.proofs.lemmas.Bool.{false≢true}
 use Rattle.jos_host.specs.declared.host.Failed.{Failed}
-use Rattle.jos_host.specs.Frames.{Around}
 use Rattle.jos_base.specs.declared.environment.Status.{Status}
 use Rattle.jos_base.specs.declared.environment.Status.TheVariants.{Free, Dying, NotRunnable, Runnable, Running}
-use Rattle.jos_base.specs.Environments.{Slot as KernelSlot, free_slot, is_runnable}
+use Rattle.jos_base.specs.Environments.{Slot as KernelSlot, is_runnable}
 use Rattle.jos_base.specs.KernelState.{KernelState, slot_at}
+use Rattle.jos_kernel.specs.declared.trace.TrapLine.{TrapLine}
 use Rattle.lib_os.specs.declared.place.Place.TheVariants as place
-use Rattle.lib_os.specs.declared.progress.Progress.{Progress}
 use Rattle.lib_os.specs.declared.progress.Progress.TheVariants as progress
 use Rattle.lib_os.specs.AbstractState.{AbstractState, Born, Slot, free, unborn, born, serving}
 use Rattle.lib_os.specs.InOrder.{IsInOrder}
-use Rattle.lib_os.specs.LibrarySteps.{Stands, GoesOn, Keeps, IsLibraryStep, NothingRefused}
+use Rattle.lib_os.specs.LibrarySteps.{Stands, GoesOn, IsLibraryStep}
 use Rattle.lib_os.specs.Places.{place_of}
 use Rattle.lib_os.specs.StandsFor.{StandsFor, Names, StandsForSlot}
-use Rattle.jos_run.specs.declared.guest.Followed.{Followed}
+use Rattle.lib_os.specs.UserCalls.{Output}
 use Rattle.jos_run.specs.Guest.{Follows}
 use Rattle.jos_run.specs.GuestSteps.{guest_instruction}
 use Rattle.jos_run.specs.Steps.{is_awake}
@@ -40,29 +39,29 @@ awake_born names s a h n awake = by_slot (a.slots n) refl (h.slots n)
     by_slot (born b) is k = (b, is)
     by_slot (serving id) is k = absurd (false≢true (sym (ap is_awake k.status) ∙ awake))
 
-module _ (s after : KernelState) (n : ℕ) (console : Around (Option (List ℕ))) (awake : is_awake (slot_at s n).status ≡ true)
+module _ (s after : KernelState) (n : ℕ) (output : Output) (awake : is_awake (slot_at s n).status ≡ true)
     (is_guest : place_of (slot_at s n) ≡ place.Guest) (order : IsInOrder after) where
-  goes_on : (followed : Followed) → Follows (Ok followed) (guest_instruction s n) after console → (a : AbstractState) → Stands s a →
+  goes_on : (trap : Option TrapLine) → Follows (Ok trap) (guest_instruction s n) after output → (a : AbstractState) → Stands s a →
       GoesOn n after a (guest_instruction s n).written
-  goes_on followed told a h =
+  goes_on trap told a h =
       let b = awake_born h.0 s a h.1 n awake in
       subst (λ (t : KernelState). GoesOn n t a (guest_instruction s n).written) (sym told.0)
       (guest_goes_on h.0 s a n b.0 h.1 b.1 is_guest (subst IsInOrder told.0 order))
 
-  pub program_goes_on : (followed : Followed) → Follows (Ok followed) (guest_instruction s n) after console →
-      IsLibraryStep (Ok progress.Visible) n s after console
-  program_goes_on followed told = ((guest_instruction s n).written, told.3, λ a h quiet. goes_on followed told a h)
+  pub program_goes_on : (trap : Option TrapLine) → Follows (Ok trap) (guest_instruction s n) after output →
+      IsLibraryStep (Ok progress.Visible) n s after output
+  program_goes_on trap told = ((guest_instruction s n).written, told.2, λ a h quiet. goes_on trap told a h)
 
-  pub program_ends : (followed : Followed) → Follows (Ok followed) (guest_instruction s n) after console →
-      IsLibraryStep (Ok progress.Ended) n s after console
-  program_ends followed told = ((guest_instruction s n).written, told.3, λ a h quiet. goes_on followed told a h)
+  pub program_ends : (trap : Option TrapLine) → Follows (Ok trap) (guest_instruction s n) after output →
+      IsLibraryStep (Ok progress.Ended) n s after output
+  program_ends trap told = ((guest_instruction s n).written, told.2, λ a h quiet. goes_on trap told a h)
 
-  pub program_fails : (failed : Failed) → Follows (Err failed) (guest_instruction s n) after console →
-      IsLibraryStep (Err failed) n s after console
+  pub program_fails : (failed : Failed) → Follows (Err failed) (guest_instruction s n) after output →
+      IsLibraryStep (Err failed) n s after output
   program_fails failed told = (
     (guest_instruction s n).written,
     told,
-    λ a h some.
+    λ a h.
         let b = awake_born h.0 s a h.1 n awake in
         let g = guest_stands h.0 s a n b.0 h.1 b.1 is_guest in (g.next, g.step_is, g.console),
   )

@@ -25,14 +25,14 @@ use Rattle.lib_os.specs.declared.service.Service.{Service}
 use Rattle.lib_os.specs.declared.service.Service.TheVariants as service
 use Rattle.lib_os.specs.AbstractState.{AbstractState, Born, Slot, free, unborn, born, serving, Stage, Phase, in_service, can_run}
 use Rattle.lib_os.specs.AbstractRun.{abs_step}
-use Rattle.lib_os.specs.LibrarySteps.{Stands, Stays, GoesOn, Keeps, NothingRefused, is_pausing}
+use Rattle.lib_os.specs.LibrarySteps.{Stands, Stays, GoesOn, Keeps, NothingRefused, is_pausing, is_yield}
 use Rattle.lib_os.specs.Places.{place_of}
 use Rattle.lib_os.specs.StandsFor.{StandsFor, StandsForSlot, StandsAt, StandsAtStep, Names, Row, rows_of, RunsAs, WaitsOrHas, waits, has}
 use Rattle.lib_os.proofs.SlotsStand.{born_at}
 use Rattle.lib_os.proofs.StatesStand.{turn_begun_stands, turn_ended_stands}
 use Rattle.jos_run.specs.AbstractTurns.{turn_begun, steps_taken, abs_run, is_waiting_service, waits_in, stands_waiting}
 use Rattle.jos_run.specs.AbstractTurns.{yields_in, is_yielding, has_yielded, has_yielded_after, may_end, turn_fits, fits}
-use Rattle.jos_run.specs.LibraryRuns.{NoneRuns, OnlyRuns, turn_of, all_fit, IsBetween, IsInTurn, seen_after, is_yield}
+use Rattle.jos_run.specs.LibraryRuns.{NoneRuns, OnlyRuns, turn_of, all_fit, IsBetween, IsInTurn, seen_after}
 use Rattle.jos_run.proofs.Choices.{runs_stand, next_stands, begun_only, ended_none}
 use Rattle.jos_run.proofs.TurnsTaken.{run_with_turn, taken_is, no_steps, one_more_step, all_fit_append, fits_append, all_fit_fits}
 

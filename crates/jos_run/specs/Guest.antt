@@ -1,17 +1,16 @@
 -- What an environment that is served is to the processor: its memory inside the fence. And what a step of its program has
 -- done.
-use Rattle.std.specs.Prelude.{◌≡◌, ℕ, List, [], length, Option, Some, None, Result, Ok, Err, if◌then◌else◌}
+use Rattle.std.specs.Prelude.{◌≡◌, ℕ, [], Option, Some, None, Result, Ok, Err, if◌then◌else◌}
 use Rattle.jos_host.specs.declared.host.Failed.{Failed}
-use Rattle.jos_host.specs.Frames.{Around}
-use Rattle.jos_host.specs.Gains.{Gains, GainsPart}
 use Rattle.jos_base.specs.declared.line.Line.{Line}
 use Rattle.jos_base.specs.Environments.{Slot, is_live}
 use Rattle.jos_base.specs.KernelState.{KernelState, slot_at}
 use Rattle.jos_base.specs.SystemCalls.{Trapped, killed, trapped_by}
 use Rattle.jos_cpu.specs.Memory.{Memory, IsLawful}
+use Rattle.jos_kernel.specs.declared.trace.TrapLine.{TrapLine}
 use Rattle.jos_kernel.specs.Running.{Running}
 use Rattle.jos_kernel.specs.Steps.{EnvStep}
-use Rattle.jos_run.specs.declared.guest.Followed.{Followed}
+use Rattle.lib_os.specs.UserCalls.{Output, Prints, PrintsPart}
 use Rattle.jos_run.specs.FencedMemory.{fenced_memory, fenced_memory_is_lawful}
 use Rattle.jos_run.specs.Served.{Parts, kernel_state}
 
@@ -20,6 +19,7 @@ pub record Serving : Type 0 where
   pub memory : Running
   pub slot : ℕ
   pub calls : ℕ
+  pub written : ℕ
 
 abbrev pub with_memory : Serving → Running → Serving
 with_memory m memory = record m { memory = memory }
@@ -53,16 +53,14 @@ abbrev pub own_memory : KernelState → ℕ → Running
 own_memory s n = record { state = s; directory = directory_in (slot_at s n) }
 
 abbrev pub serving_of : Parts → Serving
-serving_of s = record { memory = own_memory (kernel_state s) s.slot; slot = s.slot; calls = s.calls }
+serving_of s = record { memory = own_memory (kernel_state s) s.slot; slot = s.slot; calls = s.calls; written = s.written }
 
 -- A trap was handed to a handler; or nothing is changed, and the line tells of its environment's end.
 abbrev pub IsHanded : Option Line → Trapped → KernelState → ℕ → KernelState → Type 0
 IsHanded None did before n now = did ≡ record { state = now; written = [] }
 IsHanded (Some line) did before n now = (did ≡ trapped_by (killed before n line)) × (now ≡ before)
 
--- A step is done, with the trap that it raised, and so many bytes are written, all of them; or the host failed in the
--- middle of them.
-abbrev pub Follows : Result Followed Failed → EnvStep → KernelState → Around (Option (List ℕ)) → Type 0
-Follows (Ok followed) step state console =
-    (state ≡ step.state) × (followed.written ≡ length step.written) × (followed.trap ≡ step.trap) × Gains console step.written
-Follows (Err _) step state console = GainsPart console step.written
+-- A step is done, with the trap that it raised, and all of its bytes are printed; or the host failed in the middle of them.
+abbrev pub Follows : Result (Option TrapLine) Failed → EnvStep → KernelState → Output → Type 0
+Follows (Ok trap) step state output = (state ≡ step.state) × (trap ≡ step.trap) × Prints output step.written
+Follows (Err _) step state output = PrintsPart output step.written

@@ -5,18 +5,15 @@ use Rattle.std.specs.Prelude.{Option, Some, None, is_none, if◌then◌else◌}
 use Rattle.jos_base.specs.declared.environment.EnvType.{EnvType}
 use Rattle.jos_base.specs.declared.environment.EnvType.TheVariants.{User, FileServer}
 use Rattle.jos_base.specs.declared.numbers.TheConstants.{NENV, TURN_MAX}
-use Rattle.jos_base.specs.Environments.{Slot as KernelSlot, is_live, is_running}
+use Rattle.jos_base.specs.Environments.{is_live, is_running}
 use Rattle.jos_base.specs.KernelState.{KernelState, slot_at}
 use Rattle.jos_sched.specs.RoundRobin.{next}
 use Rattle.jos_kernel.specs.declared.report.End.{End}
 use Rattle.jos_kernel.specs.declared.report.End.TheVariants.{Done, Stuck, Budget, TurnsFull}
 use Rattle.jos_kernel.specs.declared.report.Turn.{Turn}
 use Rattle.fs_layout.specs.DiskImage.{some_below}
-use Rattle.lib_os.specs.declared.place.Place.{Place}
-use Rattle.lib_os.specs.declared.place.Place.TheVariants as place
 use Rattle.lib_os.specs.declared.progress.Progress.{Progress}
 use Rattle.lib_os.specs.declared.progress.Progress.TheVariants as progress
-use Rattle.lib_os.specs.declared.service.Service.TheVariants as service
 use Rattle.lib_os.specs.AbstractState.{AbstractState}
 use Rattle.lib_os.specs.LibrarySteps.{Stands}
 use Rattle.jos_run.specs.AbstractTurns.{next_slot, turn_begun, steps_taken, turn_taken, abs_run, turn_fits, holds_of}
@@ -38,13 +35,6 @@ is_user FileServer = false
 -- no file server stands but in slot 0
 abbrev pub OnlyFirstServes : KernelState → Type 0
 OnlyFirstServes s = (n : ℕ) → n ≢ 0 → is_user (slot_at s n).env_type ≡ true
-
--- so each slot is one of these, while slot n has its turn
-abbrev pub Calm : ℕ → ℕ → KernelSlot → Type 0
-Calm n m k = (m ≢ n → is_running k.status ≡ false) × (m ≢ 0 → is_user k.env_type ≡ true)
-
-pub record OneRuns (s : KernelState) (n : ℕ) : Type 0 where
-  pub each : (m : ℕ) → Calm n m (slot_at s m)
 
 -- ---- turns
 
@@ -89,10 +79,6 @@ seen_after progress.Waited visible = visible
 seen_after progress.Visible visible = visible + 1
 seen_after progress.Finished visible = visible + 1
 seen_after progress.Ended visible = visible + 1
-
-abbrev pub is_yield : Place → Bool
-is_yield (place.InService service.Yield s) = true
-is_yield _ = false
 
 -- ---- the end
 

@@ -8,9 +8,8 @@ use Rattle.lib_os.specs.declared.progress.Progress.{Progress}
 use Rattle.lib_os.specs.AbstractState.{AbstractState}
 use Rattle.lib_os.specs.LibrarySteps.{Stands, Keeps, NothingRefused}
 use Rattle.lib_os.specs.StandsFor.{StandsFor, Names}
-use Rattle.lib_os.specs.UserCalls.{system}
 use Rattle.jos_run.specs.AbstractTurns.{next_slot, end_of, turn_fits, fits}
-use Rattle.jos_run.specs.LibraryRuns.{NoneRuns, OnlyRuns, OnlyFirstServes, OneRuns, turn_of, IsBetween, IsInTurn, seen_after, end_seen}
+use Rattle.jos_run.specs.LibraryRuns.{NoneRuns, OnlyRuns, OnlyFirstServes, turn_of, IsBetween, IsInTurn, seen_after, end_seen}
 
 -- Between two turns the kernel chooses the slot that the abstract system chooses.
 abbrev pub ChoicesAgree : Type 0
@@ -51,7 +50,3 @@ TurnsEnd = (schedule : List ℕ) (first : AbstractState) (turns : List Turn) (n 
 abbrev pub RunsFit : Type 0
 RunsFit = (schedule : List ℕ) (first : AbstractState) (turns : List Turn) (s : KernelState) (written : List ℕ) →
     IsBetween schedule first turns s written → fits schedule 0 first turns ≡ true
-
--- A system call that the library makes for a slot leaves no other RUNNING.
-abbrev pub CallsLeaveTurns : Type 0
-CallsLeaveTurns = (n : ℕ) (s : KernelState) (number : ℕ) (args : List ℕ) → OneRuns s n → OneRuns (system s n number args).state n

@@ -1,17 +1,16 @@
 -- What an environment that is served means: the kernel's state, and what an access that is refused has done to it.
-use Rattle.std.specs.Prelude.{◌≡◌, ℕ, ◌<◌, List, [], Option, Some, None}
+use Rattle.std.specs.Prelude.{◌≡◌, ℕ, ◌<◌, ◌^◌, [], Some, None}
 use Rattle.jos_base.specs.declared.line.Line.TheVariants.{UserFault}
 use Rattle.jos_base.specs.declared.memory.PageFault.{PageFault}
 use Rattle.jos_base.specs.declared.numbers.TheConstants.{NENV}
 use Rattle.jos_base.specs.KernelState.{KernelState, slot_at}
 use Rattle.jos_base.specs.SystemCalls.{handled, killed}
-use Rattle.jos_host.specs.Frames.{Around}
-use Rattle.jos_host.specs.Gains.{Gains, GainsPart}
 use Rattle.jos_sys.specs.declared.input.Input.{Input}
 use Rattle.jos_sys.specs.declared.system.System.{System}
 use Rattle.jos_sys.specs.System.{state_of, left_of, Keeps}
 use Rattle.lib_os.specs.declared.user_os.Stop.{Stop}
 use Rattle.lib_os.specs.declared.user_os.Stop.TheVariants.{Upcall, Ended, Failed}
+use Rattle.lib_os.specs.UserCalls.{Output, Prints, PrintsPart}
 
 -- what is kept of it
 pub record Parts : Type 0 where
@@ -19,6 +18,7 @@ pub record Parts : Type 0 where
   pub input : Input
   pub slot : ℕ
   pub calls : ℕ
+  pub written : ℕ
 
 abbrev pub kernel_state : Parts → KernelState
 kernel_state s = state_of s.system (left_of s.input)
@@ -26,12 +26,13 @@ kernel_state s = state_of s.system (left_of s.input)
 pub record Lawful (s : Parts) : Type 0 where
   pub system : Keeps s.system
   pub slot : s.slot < NENV
+  pub written : s.written < 2 ^ 64
 
 -- A page fault was handed to its handler; or there is none, and the environment is destroyed with the line of the fault.
-abbrev pub IsRaised : KernelState → ℕ → PageFault → Stop → KernelState → Around (Option (List ℕ)) → Type 0
-IsRaised s n fault Upcall state console = (handled s n fault ≡ Some state) × Gains console []
-IsRaised s n fault Ended state console =
+abbrev pub IsRaised : KernelState → ℕ → PageFault → Stop → KernelState → Output → Type 0
+IsRaised s n fault Upcall state output = (handled s n fault ≡ Some state) × Prints output []
+IsRaised s n fault Ended state output =
     let did = killed s n (UserFault fault.va (slot_at s n).registers.eip) in
-    (handled s n fault ≡ None) × (state ≡ did.state) × Gains console did.written
-IsRaised s n fault Failed state console =
-    (handled s n fault ≡ None) × GainsPart console (killed s n (UserFault fault.va (slot_at s n).registers.eip)).written
+    (handled s n fault ≡ None) × (state ≡ did.state) × Prints output did.written
+IsRaised s n fault Failed state output =
+    (handled s n fault ≡ None) × PrintsPart output (killed s n (UserFault fault.va (slot_at s n).registers.eip)).written

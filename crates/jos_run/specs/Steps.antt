@@ -1,10 +1,9 @@
 -- One step of an environment that the library serves: of its program, or of the service that it is in.
-use Rattle.std.specs.Prelude.{Bool, true, false, ◌||◌, Result, Ok, Err, if◌then◌else◌}
+use Rattle.std.specs.Prelude.{Bool, ◌||◌, Result, Ok, Err}
 use Rattle.jos_host.specs.declared.host.Failed.{Failed}
 use Rattle.jos_base.specs.declared.environment.Status.{Status}
 use Rattle.jos_base.specs.Environments.{is_runnable, is_running}
 use Rattle.lib_os.specs.declared.progress.Progress.{Progress}
-use Rattle.lib_os.specs.declared.progress.Progress.TheVariants as progress
 use Rattle.jos_run.specs.declared.steps.Stepped.{Stepped}
 
 -- who may have steps

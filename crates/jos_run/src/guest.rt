@@ -1,9 +1,9 @@
 //! A step of the program of an environment that the library serves.
 
-ghost use Rattle.std.specs.Prelude.{◌≡◌, ◌+◌, ◌≤◌, true, false, is_ok, IfOk, IfErr, OnOk, OnErr};
+ghost use Rattle.std.specs.Prelude.{◌≡◌, ◌+◌, true, false, is_ok, IfErr, OnOk, OnErr};
 ghost use Rattle.jos_host.specs.Told.{HasCause};
-ghost use Rattle.jos_host.specs.Frames.{Unchanged, around};
-ghost use Rattle.jos_base.specs.declared.numbers.TheConstants.{CPUTS_MAX, FEC_U};
+ghost use Rattle.jos_host.specs.Frames.{Unchanged, from_to};
+ghost use Rattle.jos_base.specs.declared.numbers.TheConstants.{FEC_U};
 ghost use Rattle.jos_base.specs.Environments.{is_live};
 ghost use Rattle.jos_base.specs.KernelState.{slot_at};
 ghost use Rattle.jos_base.specs.Reach.{write_bit};
@@ -11,6 +11,7 @@ ghost use Rattle.jos_cpu.specs.declared.memory.MemFault.TheVariants.{Page};
 ghost use Rattle.jos_kernel.specs.Steps.{trapped, after_trap};
 ghost use Rattle.lib_os.specs.InOrder.{IsInOrder};
 ghost use Rattle.lib_os.specs.Places.{words_entered};
+ghost use Rattle.lib_os.specs.UserCalls.{output};
 ghost use Rattle.jos_run.specs.Guest.{served_memory, serving_of, IsHanded, Follows};
 ghost use Rattle.jos_run.specs.GuestSteps.{after_event, guest_instruction};
 ghost use Rattle.jos_run.specs.Served.{kernel_state};
@@ -25,13 +26,6 @@ use jos_host::{Failed, Host};
 use jos_kernel::TrapLine;
 use jos_sys::Faulted;
 use lib_os::{SERVICES, Step, UserOs, in_fence, is_resident, words_at};
-
-/// What comes of a step: how many bytes were written, and the trap that was raised, if one was.
-#[derive(Clone, Copy)]
-pub(crate) struct Followed {
-    pub(crate) written: u32,
-    pub(crate) trap: Option<TrapLine>,
-}
 
 /// The words with which a program's INT 0x40 leaves it.
 fn words_entered(registers: &Regs) -> Extra
@@ -122,6 +116,7 @@ impl Served {
         ensures live { is_live (slot_at (kernel_state self.new) self.new.slot) ≡ true }
         ensures slot { self.new.slot ≡ self.old.slot }
         ensures calls { self.new.calls ≡ self.old.calls }
+        ensures written { self.new.written ≡ self.old.written }
     {
         if trap != T_PGFLT {
             return Some(Line::Trap { trap, error, ip });
@@ -144,10 +139,9 @@ impl Served {
         error: u32,
         va: u32,
         ip: u32,
-    ) -> Result<Followed, Failed>
+    ) -> Result<Option<TrapLine>, Failed>
         requires { is_live (slot_at (kernel_state self.old) self.old.slot) ≡ true }
-        ensures told { Follows result (after_trap (kernel_state self.old) self.old.slot trap error va ip) (kernel_state self.new) (around H.console host.old host.new) }
-        ensures small { IfOk result (λ followed. followed.written ≤ CPUTS_MAX) }
+        ensures told { Follows result (after_trap (kernel_state self.old) self.old.slot trap error va ip) (kernel_state self.new) (output H.console (λ s. s.written) (from_to host.old host.new) (from_to self.old self.new)) }
         ensures slot { self.new.slot ≡ self.old.slot }
         ensures calls { self.new.calls ≡ self.old.calls }
         ensures rest { Unchanged H.files H.input H.asked H.notes host.old host.new }
@@ -162,15 +156,12 @@ impl Served {
             ip,
         });
         match self.hand_trap(trap, error, va, ip) {
-            None => Ok(Followed {
-                written: 0,
-                trap: raised,
-            }),
+            None => Ok(raised),
             Some(line) => match self.system.kill(host, self.slot, line) {
-                Ok(answer) => Ok(Followed {
-                    written: answer.written,
-                    trap: raised,
-                }),
+                Ok(answer) => {
+                    self.count(answer.written);
+                    Ok(raised)
+                }
                 Err(failed) => Err(failed),
             },
         }
@@ -182,10 +173,9 @@ impl Served {
         host: &mut H,
         ip: u32,
         event: Event,
-    ) -> Result<Followed, Failed>
+    ) -> Result<Option<TrapLine>, Failed>
         requires { is_live (slot_at (kernel_state self.old) self.old.slot) ≡ true }
-        ensures told { Follows result (after_event (kernel_state self.old) self.old.slot ip event) (kernel_state self.new) (around H.console host.old host.new) }
-        ensures small { IfOk result (λ followed. followed.written ≤ CPUTS_MAX) }
+        ensures told { Follows result (after_event (kernel_state self.old) self.old.slot ip event) (kernel_state self.new) (output H.console (λ s. s.written) (from_to host.old host.new) (from_to self.old self.new)) }
         ensures slot { self.new.slot ≡ self.old.slot }
         ensures calls { self.new.calls ≡ self.old.calls }
         ensures rest { Unchanged H.files H.input H.asked H.notes host.old host.new }
@@ -197,30 +187,23 @@ impl Served {
                 if is_resident(registers.esp) {
                     return self.follow_trap(host, T_GPFLT, 0, 0, ip);
                 }
-                Ok(Followed {
-                    written: 0,
-                    trap: None,
-                })
+                Ok(None)
             }
             Event::Soft(vector) => {
                 if vector != T_SERVICE {
                     return self.follow_trap(host, T_BRKPT, 0, 0, registers.eip);
                 }
                 self.system.set_extra(self.slot, words_entered(&registers));
-                Ok(Followed {
-                    written: 0,
-                    trap: None,
-                })
+                Ok(None)
             }
             Event::Raised { trap, error, va } => self.follow_trap(host, trap, error, va, ip),
         }
     }
 
-    /// Makes one step of the program, an instruction with what comes of it.
-    pub(crate) fn step_guest<H: Host>(&mut self, host: &mut H) -> Result<Followed, Failed>
+    /// Makes one step of the program, an instruction with what comes of it: the trap that it raised, if it raised one.
+    pub(crate) fn step_guest<H: Host>(&mut self, host: &mut H) -> Result<Option<TrapLine>, Failed>
         requires { is_live (slot_at (kernel_state self.old) self.old.slot) ≡ true }
-        ensures told { Follows result (guest_instruction (kernel_state self.old) self.old.slot) (kernel_state self.new) (around H.console host.old host.new) }
-        ensures small { IfOk result (λ followed. followed.written ≤ CPUTS_MAX) }
+        ensures told { Follows result (guest_instruction (kernel_state self.old) self.old.slot) (kernel_state self.new) (output H.console (λ s. s.written) (from_to host.old host.new) (from_to self.old self.new)) }
         ensures slot { self.new.slot ≡ self.old.slot }
         ensures calls { self.new.calls ≡ self.old.calls }
         ensures in_order { IsInOrder (kernel_state self.new) }

@@ -1,7 +1,6 @@
 //! What turns of the kernel are to the abstract system. Nothing here is to be run: each clause is a theorem.
 
 ghost use Rattle.jos_run.specs.RunLaws.{ChoicesAgree, EndsAgree, RunsBegin, TurnsBegin, StepsLeadOn, TurnsEnd, RunsFit};
-ghost use Rattle.jos_run.specs.RunLaws.{CallsLeaveTurns};
 
 /// Between two turns the kernel chooses the slot that the abstract system chooses, and ends where that does.
 pub fn turns_are_chosen_alike()
@@ -17,9 +16,4 @@ pub fn runs_go_on_alike()
     ensures step { StepsLeadOn }
     ensures turn_ends { TurnsEnd }
     ensures fit { RunsFit }
-{}
-
-/// A system call that the library makes leaves the turns of others.
-pub fn calls_leave_turns()
-    ensures { CallsLeaveTurns }
 {}

@@ -12,7 +12,8 @@ mod step_tests;
 mod steps;
 #[cfg(test)]
 mod tests;
+mod turns;
 
-pub use laws::{calls_leave_turns, runs_go_on_alike, turns_are_chosen_alike};
+pub use laws::{runs_go_on_alike, turns_are_chosen_alike};
 pub use served::Served;
 pub use steps::Stepped;

@@ -1,7 +1,7 @@
 //! An environment that the library serves.
 
-ghost use Rattle.std.specs.Prelude.{◌≡◌, ◌+◌, ◌-◌, ◌*◌, ◌%◌, ◌^◌, ◌<◌, length, true, false, IfErr, OnOk, OnErr};
-ghost use Rattle.jos_host.specs.Frames.{Unchanged, around};
+ghost use Rattle.std.specs.Prelude.{◌≡◌, ◌+◌, ◌-◌, ◌*◌, ◌%◌, ◌^◌, ◌<◌, min, [], length, true, false, IfErr, OnOk, OnErr};
+ghost use Rattle.jos_host.specs.Frames.{Unchanged, around, from_to};
 ghost use Rattle.jos_base.specs.declared.memory.Access.TheVariants.{Write};
 ghost use Rattle.jos_base.specs.declared.numbers.TheConstants.{NENV, UTRAPFRAME_WORDS};
 ghost use Rattle.jos_base.specs.Environments.{is_live};
@@ -11,12 +11,12 @@ ghost use Rattle.jos_base.specs.UserMemory.{is_allowed, fault_at, touched};
 ghost use Rattle.jos_sys.specs.System.{state_of, left_of, Keeps, in_use};
 ghost use Rattle.lib_os.specs.InOrder.{IsInOrder};
 ghost use Rattle.lib_os.specs.UserCalls.{user_byte, user_word, with_user_byte, with_user_word};
-ghost use Rattle.lib_os.specs.UserCalls.{asking, sets_own, taken_back, HasStopCause};
+ghost use Rattle.lib_os.specs.UserCalls.{asking, sets_own, taken_back, HasStopCause, Prints, output};
 ghost use Rattle.jos_run.specs.Served.{kernel_state, IsRaised};
 
 use byteorder::{ByteOrder, LittleEndian};
 use jos_base::{
-    Access, Called, EnvId, Extra, Line, NENV, PageFault, Regs, SYS_ENV_SET_TRAPFRAME, Status,
+    Access, Called, EnvId, Extra, Line, NENV, PageFault, Regs, SYS_ENV_SET_TRAPFRAME,
     UTRAPFRAME_WORDS,
 };
 use jos_host::{Failed, Host};
@@ -26,13 +26,15 @@ use jos_trap::{FRAME_SIZE, from_frame};
 use lib_os::{Stop, UserOs};
 use std::marker::Model;
 
-/// The system with the console's input, an environment of it that the library serves, and how many calls it has made for it.
+/// The system with the console's input, an environment of it that the library serves, how many calls it has made for it, and
+/// how many bytes were printed in all.
 #[derive(Drop)]
 pub struct Served {
     pub(crate) system: System,
     input: Input,
     pub(crate) slot: usize,
     calls: u32,
+    pub(crate) written: u64,
 }
 
 impl Model for Served {
@@ -40,9 +42,9 @@ impl Model for Served {
 
     ghost Value = { Parts };
 
-    ghost view = { λ s. record { system = s.system; input = s.input; slot = s.slot; calls = s.calls } };
+    ghost view = { λ s. record { system = s.system; input = s.input; slot = s.slot; calls = s.calls; written = s.written } };
 
-    ghost invariant = { λ s. Lawful (record { system = s.system; input = s.input; slot = s.slot; calls = s.calls }) };
+    ghost invariant = { λ s. Lawful (record { system = s.system; input = s.input; slot = s.slot; calls = s.calls; written = s.written }) };
 }
 
 /// The registers with which a system call with this number is made, given these words.
@@ -72,20 +74,33 @@ fn words_of_frame(bytes: &[u8]) -> [u32; UTRAPFRAME_WORDS]
 }
 
 impl Served {
-    /// Begins to serve an environment.
-    pub fn new(system: System, input: Input, slot: usize) -> Served
-        requires keeps { Keeps system }
-        requires slot { slot < NENV }
+    /// Begins to serve the environment of slot 0.
+    pub fn new(system: System, input: Input) -> Served
+        requires { Keeps system }
         ensures state { kernel_state result ≡ state_of system (left_of input) }
-        ensures slot { result.slot ≡ slot }
+        ensures slot { result.slot ≡ 0 }
         ensures calls { result.calls ≡ 0 }
+        ensures written { result.written ≡ 0 }
     {
         Served {
             system,
             input,
-            slot,
+            slot: 0,
             calls: 0,
+            written: 0,
         }
+    }
+
+    /// Begins to serve the environment of another slot. No call is made for it yet.
+    pub(crate) fn serve(&mut self, slot: usize)
+        requires { slot < NENV }
+        ensures state { kernel_state self.new ≡ kernel_state self.old }
+        ensures slot { self.new.slot ≡ slot }
+        ensures calls { self.new.calls ≡ 0 }
+        ensures written { self.new.written ≡ self.old.written }
+    {
+        self.slot = slot;
+        self.calls = 0;
     }
 
     /// Ends the service.
@@ -104,11 +119,21 @@ impl Served {
         self.system.keep_sound();
     }
 
+    /// Counts bytes that were printed. The count stands still at the end of its type.
+    pub(crate) fn count(&mut self, bytes: u32)
+        ensures state { kernel_state self.new ≡ kernel_state self.old }
+        ensures slot { self.new.slot ≡ self.old.slot }
+        ensures calls { self.new.calls ≡ self.old.calls }
+        ensures written { self.new.written ≡ min (self.old.written + bytes) (2 ^ 64 - 1) }
+    {
+        self.written = self.written.saturating_add(bytes as u64);
+    }
+
     /// Hands a page fault of the environment to its handler, or destroys the environment where it has none.
     #[cold]
     fn raise<H: Host>(&mut self, host: &mut H, fault: PageFault) -> Stop
         requires { is_live (slot_at (kernel_state self.old) self.old.slot) ≡ true }
-        ensures raised { IsRaised (kernel_state self.old) self.old.slot fault result (kernel_state self.new) (around H.console host.old host.new) }
+        ensures raised { IsRaised (kernel_state self.old) self.old.slot fault result (kernel_state self.new) (output H.console (λ s. s.written) (from_to host.old host.new) (from_to self.old self.new)) }
         ensures slot { self.new.slot ≡ self.old.slot }
         ensures calls { self.new.calls ≡ self.old.calls }
         ensures rest { Unchanged H.files H.input H.asked H.notes host.old host.new }
@@ -122,7 +147,10 @@ impl Served {
                     .system
                     .kill(host, self.slot, Line::UserFault { va: fault.va, ip })
                 {
-                    Ok(_) => Stop::Ended,
+                    Ok(answer) => {
+                        self.count(answer.written);
+                        Stop::Ended
+                    }
                     Err(_) => Stop::Failed,
                 }
             }
@@ -146,10 +174,10 @@ impl Served {
         ensures reached { OnOk result (kernel_state self.new ≡ with_spaces (kernel_state self.old)
             (touched (kernel_state self.old).spaces (slot_at (kernel_state self.old) self.old.slot).directory va access)) }
         ensures still { OnOk result (is_allowed (kernel_state self.new).spaces (slot_at (kernel_state self.new) self.new.slot).directory va access ≡ true) }
-        ensures quiet { OnOk result (H.console host.new ≡ H.console host.old) }
+        ensures quiet { OnOk result (Prints (output H.console (λ s. s.written) (from_to host.old host.new) (from_to self.old self.new)) []) }
         ensures refused { OnErr result (is_allowed (kernel_state self.old).spaces (slot_at (kernel_state self.old) self.old.slot).directory va access ≡ false) }
         ensures raised { IfErr result (λ why. IsRaised (kernel_state self.old) self.old.slot
-            (fault_at (kernel_state self.old).spaces (slot_at (kernel_state self.old) self.old.slot).directory va access) why (kernel_state self.new) (around H.console host.old host.new)) }
+            (fault_at (kernel_state self.old).spaces (slot_at (kernel_state self.old) self.old.slot).directory va access) why (kernel_state self.new) (output H.console (λ s. s.written) (from_to host.old host.new) (from_to self.old self.new))) }
         ensures slot { self.new.slot ≡ self.old.slot }
         ensures calls { self.new.calls ≡ self.old.calls + 1 }
         ensures in_order { IsInOrder (kernel_state self.new) }
@@ -200,6 +228,7 @@ impl Served {
         ensures state { kernel_state self.new ≡ with_user_byte (kernel_state self.old) self.old.slot va byte }
         ensures slot { self.new.slot ≡ self.old.slot }
         ensures calls { self.new.calls ≡ self.old.calls }
+        ensures written { self.new.written ≡ self.old.written }
         ensures in_order { IsInOrder (kernel_state self.new) }
     {
         let space = self.space();
@@ -215,6 +244,7 @@ impl Served {
         ensures state { kernel_state self.new ≡ with_user_word (kernel_state self.old) self.old.slot va word }
         ensures slot { self.new.slot ≡ self.old.slot }
         ensures calls { self.new.calls ≡ self.old.calls }
+        ensures written { self.new.written ≡ self.old.written }
         ensures in_order { IsInOrder (kernel_state self.new) }
     {
         let [first, second, third, fourth] = word.to_le_bytes();
@@ -228,7 +258,7 @@ impl Served {
     pub(crate) fn is_live(&self) -> bool
         ensures { result ≡ is_live (slot_at (kernel_state self.now) self.now.slot) }
     {
-        !matches!(self.system.environment(self.slot).status, Status::Free)
+        self.is_live_in(self.slot)
     }
 
     /// Whether a system call sets the registers of the environment that makes it.
@@ -250,6 +280,7 @@ impl Served {
         ensures state { kernel_state self.new ≡ taken_back (kernel_state self.old) self.old.slot own registers }
         ensures slot { self.new.slot ≡ self.old.slot }
         ensures calls { self.new.calls ≡ self.old.calls }
+        ensures written { self.new.written ≡ self.old.written }
     {
         if self.is_live() && !own {
             self.system.set_registers(self.slot, registers);
@@ -263,6 +294,8 @@ impl UserOs for Served {
     ghost slot = { λ s. s.slot };
 
     ghost calls = { λ s. s.calls };
+
+    ghost written = { λ s. s.written };
 
     fn load<H: Host>(&mut self, host: &mut H, va: u32) -> Result<u32, Stop> {
         match self.reach(host, va, Access::Read) {
@@ -322,6 +355,7 @@ impl UserOs for Served {
             .set_registers(self.slot, asking(registers, number, args));
         match self.system.call(host, &mut self.input, self.slot) {
             Ok(answer) => {
+                self.count(answer.written);
                 self.take_back(own, registers);
                 self.keep_in_order();
                 Ok(answer.called)

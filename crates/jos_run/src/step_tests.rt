@@ -56,7 +56,8 @@ fn environment_with(
     {
         return Err(Fail::new("no frame"));
     }
-    let mut served = Served::new(system, Input::new(Vec::new(alloc)), 1);
+    let mut served = Served::new(system, Input::new(Vec::new(alloc)));
+    served.serve(1);
     if !served.is_live() {
         return Err(Fail::new("no environment"));
     }

@@ -2,12 +2,13 @@
 
 ghost use Rattle.std.specs.Prelude.{◌≡◌, ◌+◌, ◌-◌, ◌<◌, ◌≤◌, ◌^◌, true};
 ghost use Rattle.jos_host.specs.Told.{HasCause};
-ghost use Rattle.jos_host.specs.Frames.{Unchanged, around};
+ghost use Rattle.jos_host.specs.Frames.{Unchanged, from_to};
 ghost use Rattle.jos_base.specs.Environments.{is_live, is_runnable, is_running};
 ghost use Rattle.jos_base.specs.KernelState.{slot_at};
 ghost use Rattle.lib_os.specs.InOrder.{IsInOrder};
-ghost use Rattle.lib_os.specs.LibrarySteps.{IsLibraryStep, Lowers};
+ghost use Rattle.lib_os.specs.LibrarySteps.{IsLibraryStep, Leaves, Lowers};
 ghost use Rattle.lib_os.specs.Places.{place_of};
+ghost use Rattle.lib_os.specs.UserCalls.{output};
 ghost use Rattle.lib_os.specs.declared.place.Place.TheVariants as place;
 ghost use Rattle.jos_run.specs.Served.{kernel_state};
 ghost use Rattle.jos_run.specs.Steps.{is_awake, progress_of};
@@ -53,7 +54,7 @@ impl Served {
     fn is_running(&self) -> bool
         ensures { result ≡ is_running (slot_at (kernel_state self.now) self.now.slot).status }
     {
-        matches!(self.system.environment(self.slot).status, Status::Running)
+        self.is_running_in(self.slot)
     }
 
     /// Whether the environment may have steps.
@@ -68,7 +69,8 @@ impl Served {
         requires live { is_live (slot_at (kernel_state self.old) self.old.slot) ≡ true }
         requires awake { is_awake (slot_at (kernel_state self.old) self.old.slot).status ≡ true }
         requires at { place_of (slot_at (kernel_state self.old) self.old.slot) ≡ place.Guest }
-        ensures step { IsLibraryStep (progress_of result) self.old.slot (kernel_state self.old) (kernel_state self.new) (around H.console host.old host.new) }
+        ensures step { IsLibraryStep (progress_of result) self.old.slot (kernel_state self.old) (kernel_state self.new) (output H.console (λ s. s.written) (from_to host.old host.new) (from_to self.old self.new)) }
+        ensures leaves { Leaves (progress_of result) self.old.slot (kernel_state self.old) (kernel_state self.new) }
         ensures lowers { Lowers (progress_of result) (place_of (slot_at (kernel_state self.old) self.old.slot)) (place_of (slot_at (kernel_state self.new) self.new.slot)) }
         ensures slot { self.new.slot ≡ self.old.slot }
         ensures calls { self.new.calls ≡ self.old.calls }
@@ -76,16 +78,13 @@ impl Served {
         ensures cause { HasCause (H.faults host.old) (H.faults host.new) result }
     {
         match self.step_guest(host) {
-            Ok(followed) => {
+            Ok(trap) => {
                 let progress = if self.is_live() {
                     Progress::Visible
                 } else {
                     Progress::Ended
                 };
-                Ok(Stepped {
-                    progress,
-                    trap: followed.trap,
-                })
+                Ok(Stepped { progress, trap })
             }
             Err(failed) => Err(failed),
         }
@@ -99,7 +98,8 @@ impl Served {
         requires live { is_live (slot_at (kernel_state self.old) self.old.slot) ≡ true }
         requires awake { is_awake (slot_at (kernel_state self.old) self.old.slot).status ≡ true }
         requires few { self.old.calls < 2 ^ 32 - 1 }
-        ensures step { IsLibraryStep (progress_of result) self.old.slot (kernel_state self.old) (kernel_state self.new) (around H.console host.old host.new) }
+        ensures step { IsLibraryStep (progress_of result) self.old.slot (kernel_state self.old) (kernel_state self.new) (output H.console (λ s. s.written) (from_to host.old host.new) (from_to self.old self.new)) }
+        ensures leaves { Leaves (progress_of result) self.old.slot (kernel_state self.old) (kernel_state self.new) }
         ensures lowers { Lowers (progress_of result) (place_of (slot_at (kernel_state self.old) self.old.slot)) (place_of (slot_at (kernel_state self.new) self.new.slot)) }
         ensures slot { self.new.slot ≡ self.old.slot }
         ensures calls { self.new.calls ≤ self.old.calls + 1 }

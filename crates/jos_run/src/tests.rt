@@ -105,7 +105,7 @@ fn first_served(alloc: Global) -> Result<Served, Fail>
         return Err(Fail::new("no frame"));
     }
     let input = Input::new(Vec::new(alloc));
-    Ok(Served::new(system, input, 0))
+    Ok(Served::new(system, input))
 }
 
 /// Registers of which each is another.
@@ -188,5 +188,6 @@ fn a_load_of_no_page_ends_it(rt: HostRuntime) -> Result<(), Fail> {
         host.console(),
         b"[00001000] user fault va 0deadbe0 ip 00800020\n".as_slice()
     );
+    assert_eq!(rt; served.written(), 46);
     Ok(())
 }

@@ -1,6 +1,6 @@
 -- What a system means in the kernel's state, and what its calls have done there.
-use Rattle.std.specs.Prelude.{◌≡◌, ◌≢◌, ℕ, Bool, List, [], ◌∷◌, length, drop, Option, Some, None, Result, Ok, Err}
-use Rattle.jos_base.specs.declared.numbers.TheConstants.{END_OF_INPUT}
+use Rattle.std.specs.Prelude.{◌≡◌, ◌≢◌, ℕ, ◌==◌, ◌||◌, Bool, List, [], ◌∷◌, length, drop, Option, Some, None, Result, Ok, Err}
+use Rattle.jos_base.specs.declared.numbers.TheConstants.{END_OF_INPUT, SYS_CPUTS, SYS_ENV_SET_TRAPFRAME}
 use Rattle.jos_host.specs.declared.host.Failed.{Failed}
 use Rattle.jos_host.specs.Frames.{Around}
 use Rattle.jos_host.specs.Gains.{Gains, GainsPart}
@@ -63,6 +63,10 @@ abbrev pub Does : Result Answer Failed → Did → KernelState → Around (Optio
 Does (Ok answer) did state console =
     (state ≡ did.state) × (answer.called ≡ did.called) × (answer.written ≡ length did.written) × Gains console did.written
 Does (Err _) did state console = GainsPart console did.written
+
+-- the calls that write to the console, with these numbers in EAX, so that the host may fail in them
+abbrev pub may_write : ℕ → Bool
+may_write number = (number == SYS_CPUTS) || (number == SYS_ENV_SET_TRAPFRAME)
 
 -- The next byte is taken, where there is one; else the answer is another number, and nothing is taken.
 abbrev pub IsTaken : List ℕ → ℕ → List ℕ → Type 0

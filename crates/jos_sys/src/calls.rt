@@ -8,11 +8,12 @@ ghost use Rattle.jos_base.specs.Reach.{bytes_read};
 ghost use Rattle.jos_base.specs.SpacesState.{directories};
 ghost use Rattle.jos_base.specs.UserMemory.{all_touched, read_byte};
 ghost use Rattle.jos_base.specs.Environments.{found};
+ghost use Rattle.jos_base.specs.KernelState.{slot_at};
 ghost use Rattle.jos_base.specs.SystemCalls.{answered, refused, killed, cputs, status_named, env_destroy_of, exofork};
 ghost use Rattle.jos_base.specs.SystemCalls.{env_set_status_of, env_set_trapframe_of, env_set_pgfault_upcall_of, system_call};
 ghost use Rattle.jos_base.specs.SystemCalls.{user_bytes, with_bytes_reached};
 ghost use Rattle.jos_space.specs.Frames.{state, records};
-ghost use Rattle.jos_sys.specs.System.{state_of, environments_of, left_of, Keeps, is_live_in, Does, IsDone};
+ghost use Rattle.jos_sys.specs.System.{state_of, environments_of, left_of, Keeps, is_live_in, Does, IsDone, may_write};
 
 use crate::input::Input;
 use crate::pages::PageOf;
@@ -333,6 +334,7 @@ impl System {
         requires spaces { Keeps self.old }
         ensures told { Does result (system_call (state_of self.old (left_of input.old)) current) (state_of self.new (left_of input.new)) (around H.console host.old host.new) }
         ensures small { IfOk result (λ answer. answer.written ≤ CPUTS_MAX) }
+        ensures fails { OnErr result (may_write (slot_at (state_of self.old (left_of input.old)) current).registers.eax ≡ true) }
         ensures spaces { Keeps self.new }
         ensures rest { Unchanged H.files H.input H.asked H.notes host.old host.new }
         ensures cause { HasCause (H.faults host.old) (H.faults host.new) result }

@@ -1,7 +1,8 @@
 -- getid and yield: the state is as before, or the environment may run on and has given up its turn.
-use Rattle.std.proofs.Common.{◌≡◌, ◌∙◌, ℕ, true, List, [], Option, Some, Result, refl, sym, ap, subst}
+use Rattle.std.proofs.Common.{◌≡◌, ◌∙◌, ℕ, true, List, [], Some, Result, Ok, Err, refl, sym, ap, subst}
 use Rattle.jos_host.specs.declared.host.Failed.{Failed}
-use Rattle.jos_host.specs.Frames.{Around}
+use Rattle.jos_base.specs.declared.called.Called.{Called}
+use Rattle.jos_base.specs.declared.called.Called.TheVariants.{Answered, Ended}
 use Rattle.jos_base.specs.declared.environment.Status.TheVariants.{Runnable}
 use Rattle.jos_base.specs.declared.numbers.TheConstants.{SYS_GETENVID, SYS_YIELD}
 use Rattle.jos_base.specs.declared.registers.Regs.{Regs}
@@ -10,18 +11,21 @@ use Rattle.jos_base.specs.KernelState.{KernelState, slot_at, with_status}
 use Rattle.lib_os.specs.declared.place.Place.TheVariants as place
 use Rattle.lib_os.specs.declared.place.Step.{Step}
 use Rattle.lib_os.specs.declared.progress.Progress.{Progress}
+use Rattle.lib_os.specs.declared.progress.Progress.TheVariants as progress
 use Rattle.lib_os.specs.declared.service.Service.TheVariants as service
 use Rattle.lib_os.specs.AbstractState.{AbstractState, Born, entered}
 use Rattle.lib_os.specs.Answers.{back_with}
 use Rattle.lib_os.specs.LibraryCall.{library_step}
-use Rattle.lib_os.specs.LibrarySteps.{IsLibraryStep, answered}
+use Rattle.lib_os.specs.LibrarySteps.{IsLibraryStep, Leaves, LeavesRest, is_yield, answered}
 use Rattle.lib_os.specs.Places.{place_of}
 use Rattle.lib_os.specs.StandsFor.{StandsFor, Names}
-use Rattle.lib_os.specs.UserCalls.{system}
+use Rattle.lib_os.specs.UserCalls.{got, Step as Call, system, Output}
 use Rattle.lib_os.proofs.Calls.{getenvid_is, yield_is}
+use Rattle.lib_os.proofs.Leaving.{system_left}
 use Rattle.lib_os.proofs.Serving.{printed_nothing}
 use Rattle.lib_os.proofs.Slots.{slot_put}
 use Rattle.lib_os.proofs.StatesStand.{status_stands}
+use Rattle.lib_os.proofs.UsesCalled.{system_found}
 use Rattle.lib_mem.specs.Passing.{MayPass, IsPassed}
 use Rattle.lib_mem.proofs.Passing.{here, Leads, answer_stands, passed_kept}
 
@@ -48,10 +52,10 @@ module _ (s : KernelState) (n : ℕ) (step : Step) (args : List ℕ) (live : is_
         λ in_order quiet. (names, answer_stands h n i.b i.is i.at.silent i.at.awake (slot_at s n).id),
       )
 
-  pub getid_kept : (result : Result Progress Failed) (after : KernelState) (console : Around (Option (List ℕ))) →
-      IsPassed (system s n SYS_GETENVID args) n result after console → IsLibraryStep result n s after console
-  getid_kept result after console passed =
-      passed_kept s after n console s [] (system s n SYS_GETENVID args) (slot_at s n).id result (getenvid_is s n live args) getid_leads passed
+  pub getid_kept : (result : Result Progress Failed) (after : KernelState) (output : Output) →
+      IsPassed (system s n SYS_GETENVID args) n result after output → IsLibraryStep result n s after output
+  getid_kept result after output passed =
+      passed_kept s after n output s [] (system s n SYS_GETENVID args) (slot_at s n).id result (getenvid_is s n live args) getid_leads passed
 
 -- ---- yield
 
@@ -82,7 +86,25 @@ module _ (s : KernelState) (n : ℕ) (step : Step) (args : List ℕ) (live : is_
         ),
       )
 
-  pub yield_kept : (result : Result Progress Failed) (after : KernelState) (console : Around (Option (List ℕ))) →
-      IsPassed (system s n SYS_YIELD args) n result after console → IsLibraryStep result n s after console
-  yield_kept result after console passed =
-      passed_kept s after n console (with_status s n Runnable) [] (system s n SYS_YIELD args) 0 result (yield_is s n live args) yield_leads passed
+  pub yield_kept : (result : Result Progress Failed) (after : KernelState) (output : Output) →
+      IsPassed (system s n SYS_YIELD args) n result after output → IsLibraryStep result n s after output
+  yield_kept result after output passed =
+      passed_kept s after n output (with_status s n Runnable) [] (system s n SYS_YIELD args) 0 result (yield_is s n live args) yield_leads passed
+
+  -- the one service that gives up its turn, and is over with it
+  pub yield_leaves : (result : Result Progress Failed) (after : KernelState) (output : Output) →
+      IsPassed (system s n SYS_YIELD args) n result after output → Leaves result n s after
+  yield_leaves (Ok progress.Finished) after output passed =
+      subst (λ (t : KernelState). Leaves (Ok progress.Finished) n s t) (sym passed.2) (
+        record { last = rest.last; turns = rest.turns; frames = rest.frames; refused = rest.refused },
+        (λ running silent runs. ap is_yield at),
+        (λ in_order is_there each. system_found s n SYS_YIELD args in_order is_there each),
+      )
+    where
+      rest : LeavesRest s (system s n SYS_YIELD args).state
+      rest = (system_left s n SYS_YIELD args refl).rest
+  yield_leaves (Ok progress.Ended) after output passed =
+      let told : got (Answered 0) ≡ got Ended = sym (ap (λ (x : Call Called). x.gives) (yield_is s n live args)) ∙ passed.0 in
+      absurd (let contradiction : got (Answered 0) ≡ got Ended = told in cc)
+  yield_leaves (Ok _) after output passed = absurd passed
+  yield_leaves (Err failed) after output passed = tt

@@ -1,7 +1,6 @@
 -- page_drop: the page is gone from the environment's space.
-use Rattle.std.proofs.Common.{◌≡◌, ◌∙◌, ℕ, true, List, [], ◌∷◌, Option, Some, Result, refl, sym, ap, subst}
+use Rattle.std.proofs.Common.{◌≡◌, ◌∙◌, ℕ, true, List, [], ◌∷◌, Some, Result, refl, sym, ap, subst}
 use Rattle.jos_host.specs.declared.host.Failed.{Failed}
-use Rattle.jos_host.specs.Frames.{Around}
 use Rattle.jos_base.specs.declared.called.Called.{Called}
 use Rattle.jos_base.specs.declared.called.Called.TheVariants.{Answered}
 use Rattle.jos_base.specs.declared.numbers.TheConstants.{SYS_PAGE_UNMAP}
@@ -23,7 +22,7 @@ use Rattle.lib_os.specs.LibraryCall.{library_step}
 use Rattle.lib_os.specs.LibrarySteps.{IsLibraryStep, answered}
 use Rattle.lib_os.specs.Places.{place_of}
 use Rattle.lib_os.specs.StandsFor.{StandsFor, Names}
-use Rattle.lib_os.specs.UserCalls.{system, giving, Step as Call}
+use Rattle.lib_os.specs.UserCalls.{system, giving, Step as Call, Output}
 use Rattle.lib_os.proofs.Calls.{page_unmap_is}
 use Rattle.lib_os.proofs.Fences.{page_inside_address}
 use Rattle.lib_os.proofs.PagesStand.{removed_stands}
@@ -67,6 +66,6 @@ module _ (s : KernelState) (n va : ℕ) (step : Step) (rest : List ℕ) (live : 
         ),
       )
 
-  pub drop_kept : (result : Result Progress Failed) (after : KernelState) (console : Around (Option (List ℕ))) →
-      IsPassed asked n result after console → IsLibraryStep result n s after console
-  drop_kept result after console passed = passed_kept s after n console (with_spaces s spaces) [] asked 0 result asked_is drop_leads passed
+  pub drop_kept : (result : Result Progress Failed) (after : KernelState) (output : Output) →
+      IsPassed asked n result after output → IsLibraryStep result n s after output
+  drop_kept result after output passed = passed_kept s after n output (with_spaces s spaces) [] asked 0 result asked_is drop_leads passed

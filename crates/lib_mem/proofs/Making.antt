@@ -3,7 +3,6 @@ use Rattle.std.proofs.Common.{◌≡◌, ◌∙◌, ℕ, ◌+◌, Bool, true, fa
 use Rattle.std.specs.Prelude.{nat_lt}
 use Rattle.std.proofs.lemmas.Bool.Decides.{nat_tests}
 use Rattle.jos_host.specs.declared.host.Failed.{Failed}
-use Rattle.jos_host.specs.Frames.{Around}
 use Rattle.jos_base.specs.declared.called.Called.{Called}
 use Rattle.jos_base.specs.declared.called.Called.TheVariants.{Answered}
 use Rattle.jos_base.specs.declared.numbers.TheConstants.{SYS_PAGE_ALLOC, E_NO_MEM}
@@ -28,7 +27,7 @@ use Rattle.lib_os.specs.LibrarySteps.{IsLibraryStep, Stands, answered}
 use Rattle.lib_os.specs.MemoryServices.{has_flag, page_made}
 use Rattle.lib_os.specs.Places.{place_of}
 use Rattle.lib_os.specs.StandsFor.{StandsFor, Names, is_shared}
-use Rattle.lib_os.specs.UserCalls.{system, giving, Step as Call}
+use Rattle.lib_os.specs.UserCalls.{system, giving, Step as Call, Output}
 use Rattle.lib_os.proofs.Calls.{page_alloc_some, page_alloc_none, refusal_is_seen}
 use Rattle.lib_os.proofs.Effects.{Made}
 use Rattle.lib_os.proofs.Fences.{page_inside_address}
@@ -159,12 +158,12 @@ module _ (s : KernelState) (n va flags perm : ℕ) (step : Step) (rest : List �
       by_found None is = subst (λ (call : Call Called). MayPass n call) (sym (none_is is)) live
       by_found (Some pair) is = subst (λ (call : Call Called). MayPass n call) (sym (some_is pair.0 pair.1 is)) live
 
-  pub page_new_kept : (result : Result Progress Failed) (after : KernelState) (console : Around (Option (List ℕ))) →
-      IsPassed asked n result after console → IsLibraryStep result n s after console
-  page_new_kept result after console passed = by_found found refl
+  pub page_new_kept : (result : Result Progress Failed) (after : KernelState) (output : Output) →
+      IsPassed asked n result after output → IsLibraryStep result n s after output
+  page_new_kept result after output passed = by_found found refl
     where
-      by_found : (o : Option (ℕ × SpacesState)) → found ≡ o → IsLibraryStep result n s after console
+      by_found : (o : Option (ℕ × SpacesState)) → found ≡ o → IsLibraryStep result n s after output
       by_found None is =
-          passed_kept s after n console (with_refusal s) [] asked (negated E_NO_MEM) result (none_is is) (none_leads is) passed
+          passed_kept s after n output (with_refusal s) [] asked (negated E_NO_MEM) result (none_is is) (none_leads is) passed
       by_found (Some pair) is =
-          passed_kept s after n console (with_spaces s pair.1) [] asked 0 result (some_is pair.0 pair.1 is) (some_leads pair.0 pair.1 is) passed
+          passed_kept s after n output (with_spaces s pair.1) [] asked 0 result (some_is pair.0 pair.1 is) (some_leads pair.0 pair.1 is) passed

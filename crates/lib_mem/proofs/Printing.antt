@@ -1,9 +1,8 @@
 -- cputs: all bytes are printed, or the environment is gone.
-use Rattle.std.proofs.Common.{◌≡◌, ◌∙◌, ◌≤◌, ℕ, true, false, List, ◌∷◌, ◌++◌, Option, Some, Result, Ok, Err, refl, sym, ap, subst, arith}
+use Rattle.std.proofs.Common.{◌≡◌, ◌∙◌, ◌≤◌, ℕ, true, false, List, ◌∷◌, ◌++◌, Some, Result, Ok, Err, refl, sym, ap, subst, arith}
 use Rattle.std.specs.Prelude.{nat_lt}
 use Rattle.std.proofs.lemmas.Bool.Decides.{nat_tests}
 use Rattle.jos_host.specs.declared.host.Failed.{Failed}
-use Rattle.jos_host.specs.Frames.{Around}
 use Rattle.jos_base.specs.declared.called.Called.{Called}
 use Rattle.jos_base.specs.declared.line.Line.TheVariants.{UserMemCheck}
 use Rattle.jos_base.specs.declared.memory.PageFault.{PageFault}
@@ -26,7 +25,7 @@ use Rattle.lib_os.specs.LibrarySteps.{IsLibraryStep, answered}
 use Rattle.lib_os.specs.MemoryServices.{byte_or_fault, printed}
 use Rattle.lib_os.specs.Places.{place_of}
 use Rattle.lib_os.specs.StandsFor.{StandsFor, Names}
-use Rattle.lib_os.specs.UserCalls.{system, Step as Call}
+use Rattle.lib_os.specs.UserCalls.{system, Step as Call, Output}
 use Rattle.lib_os.proofs.BytesRead.{buffer_reads}
 use Rattle.lib_os.proofs.Calls.{cputs_writes, cputs_ends}
 use Rattle.lib_os.proofs.EndsStand.{ended_stands}
@@ -115,14 +114,14 @@ module _ (s : KernelState) (n va len : ℕ) (step : Step) (rest : List ℕ) (liv
       by_read (Ok bytes) is = subst (λ (call : Call Called). MayPass n call) (sym (cputs_writes s n live va len rest few bytes is)) live
       by_read (Err fault) is = subst (λ (call : Call Called). MayPass n call) (sym (cputs_ends s n live va len rest few fault is)) tt
 
-  pub cputs_kept : (result : Result Progress Failed) (after : KernelState) (console : Around (Option (List ℕ))) →
-      IsPassed asked n result after console → IsLibraryStep result n s after console
-  cputs_kept result after console passed = by_read read refl
+  pub cputs_kept : (result : Result Progress Failed) (after : KernelState) (output : Output) →
+      IsPassed asked n result after output → IsLibraryStep result n s after output
+  cputs_kept result after output passed = by_read read refl
     where
-      by_read : (r : Result (List ℕ) PageFault) → read ≡ r → IsLibraryStep result n s after console
+      by_read : (r : Result (List ℕ) PageFault) → read ≡ r → IsLibraryStep result n s after output
       by_read (Ok bytes) is =
-          passed_kept s after n console (with_bytes_reached s n va len) bytes asked 0 result (cputs_writes s n live va len rest few bytes is)
+          passed_kept s after n output (with_bytes_reached s n va len) bytes asked 0 result (cputs_writes s n live va len rest few bytes is)
           (bytes_leads bytes is) passed
       by_read (Err fault) is =
-          ended_kept s after n console (without_environment s n) (line fault is) asked result (cputs_ends s n live va len rest few fault is)
+          ended_kept s after n output (without_environment s n) (line fault is) asked result (cputs_ends s n live va len rest few fault is)
           (fault_leads fault is) passed

@@ -1,8 +1,6 @@
 -- What is refused for what stands in the registers: the state is as before, and the answer is E_INVAL's number, negated.
-use Rattle.std.proofs.Common.{◌≡◌, ◌∙◌, ℕ, Bool, true, false, ◌||◌, not, List, [], Option, Some, Ok, Err, refl, sym, ap, subst, if◌then◌else◌}
+use Rattle.std.proofs.Common.{◌≡◌, ◌∙◌, ℕ, Bool, true, false, ◌||◌, not, List, [], Some, Ok, refl, sym, ap, subst, if◌then◌else◌}
 use Rattle.std.specs.Prelude.{nat_lt}
-use Rattle.jos_host.specs.declared.host.Failed.{Failed}
-use Rattle.jos_host.specs.Frames.{Around}
 use Rattle.jos_base.specs.declared.called.Called.{Called}
 use Rattle.jos_base.specs.declared.called.Called.TheVariants.{Answered}
 use Rattle.jos_base.specs.declared.numbers.TheConstants.{SYS_GETENVID, E_INVAL, CPUTS_MAX}
@@ -23,7 +21,7 @@ use Rattle.lib_os.specs.LibraryCall.{library_step}
 use Rattle.lib_os.specs.LibrarySteps.{IsLibraryStep, answered}
 use Rattle.lib_os.specs.Places.{place_of}
 use Rattle.lib_os.specs.StandsFor.{StandsFor, Names}
-use Rattle.lib_os.specs.UserCalls.{system, giving, IsCallStep, Step as Call}
+use Rattle.lib_os.specs.UserCalls.{system, giving, IsCallStep, Step as Call, Output}
 use Rattle.lib_os.proofs.Calls.{getenvid_is}
 use Rattle.lib_os.proofs.Serving.{printed_nothing}
 use Rattle.lib_mem.specs.Own.{is_own_service, IsRefused}
@@ -85,27 +83,21 @@ module _ (s : KernelState) (n : ℕ) (of : Service) (step : Step) (args : List �
       )
 
   -- the call has left the state as it was, whatever it answered
-  asked_is : (called : Called) (mid : KernelState) (console : Around (Option (List ℕ))) →
-      IsCallStep (system s n SYS_GETENVID args) (Ok called) mid console → IsCallStep (giving s (Answered (slot_at s n).id)) (Ok called) mid console
-  asked_is called mid console came = subst (λ (x : Call Called). IsCallStep x (Ok called) mid console) (getenvid_is s n live args) came
+  asked_is : (called : Called) (mid : KernelState) (output : Output) →
+      IsCallStep (system s n SYS_GETENVID args) (Ok called) mid output → IsCallStep (giving s (Answered (slot_at s n).id)) (Ok called) mid output
+  asked_is called mid output came = subst (λ (x : Call Called). IsCallStep x (Ok called) mid output) (getenvid_is s n live args) came
 
-  pub refused_live : (called : Called) (mid : KernelState) (m : ℕ) (console : Around (Option (List ℕ))) →
-      IsCallStep (system s n SYS_GETENVID args) (Ok called) mid console → m ≡ n → is_live (slot_at mid m) ≡ true
-  refused_live called mid m console came same =
-      let was = asked_is called mid console came in
+  pub refused_live : (called : Called) (mid : KernelState) (m : ℕ) (output : Output) →
+      IsCallStep (system s n SYS_GETENVID args) (Ok called) mid output → m ≡ n → is_live (slot_at mid m) ≡ true
+  refused_live called mid m output came same =
+      let was = asked_is called mid output came in
       subst (λ (q : ℕ). is_live (slot_at mid q) ≡ true) (sym same)
       (subst (λ (x : KernelState). is_live (slot_at x n) ≡ true) (sym was.1) live)
 
-  pub refused_kept : (called : Called) (mid after : KernelState) (m word : ℕ) (console : Around (Option (List ℕ))) → IsInOrder mid →
-      IsCallStep (system s n SYS_GETENVID args) (Ok called) mid console → m ≡ n → after ≡ answered mid m word → word ≡ negated E_INVAL →
-      IsLibraryStep (Ok progress.Finished) n s after console
-  refused_kept called mid after m word console in_order came same is_after word_is =
-      let was = asked_is called mid console came in
-      told_kept s after n console s [] (negated E_INVAL) (Ok progress.Finished) refused_leads
+  pub refused_kept : (called : Called) (mid after : KernelState) (m word : ℕ) (output : Output) → IsInOrder mid →
+      IsCallStep (system s n SYS_GETENVID args) (Ok called) mid output → m ≡ n → after ≡ answered mid m word → word ≡ negated E_INVAL →
+      IsLibraryStep (Ok progress.Finished) n s after output
+  refused_kept called mid after m word output in_order came same is_after word_is =
+      let was = asked_is called mid output came in
+      told_kept s after n output s [] (negated E_INVAL) (Ok progress.Finished) refused_leads
       (negated E_INVAL, refl, is_after ∙ (λ i. answered (was.1 i) (same i) (word_is i)), was.2, subst (λ (x : KernelState). IsInOrder x) was.1 in_order)
-
-  pub refused_failed : (failed : Failed) (after : KernelState) (console : Around (Option (List ℕ))) →
-      IsCallStep (system s n SYS_GETENVID args) (Err failed) after console → IsLibraryStep (Err failed) n s after console
-  refused_failed failed after console came =
-      told_kept s after n console s [] (negated E_INVAL) (Err failed) refused_leads
-      (subst (λ (x : Call Called). IsCallStep x (Err failed) after console) (getenvid_is s n live args) came)

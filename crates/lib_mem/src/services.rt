@@ -2,12 +2,13 @@
 
 ghost use Rattle.std.specs.Prelude.{◌≡◌, ◌+◌, ◌-◌, ◌<◌, ◌^◌, true};
 ghost use Rattle.jos_host.specs.Told.{HasCause};
-ghost use Rattle.jos_host.specs.Frames.{Unchanged, around};
+ghost use Rattle.jos_host.specs.Frames.{Unchanged, around, from_to};
 ghost use Rattle.jos_base.specs.Environments.{is_live};
 ghost use Rattle.jos_base.specs.KernelState.{slot_at};
-ghost use Rattle.lib_os.specs.LibrarySteps.{IsLibraryStep, Lowers, MakesOneCall};
+ghost use Rattle.lib_os.specs.LibrarySteps.{IsLibraryStep, Leaves, Lowers, MakesOneCall};
 ghost use Rattle.lib_os.specs.Places.{place_of};
 ghost use Rattle.lib_os.specs.UserCalls as call;
+ghost use Rattle.lib_os.specs.UserCalls.{output};
 ghost use Rattle.lib_mem.specs.Own.{IsRefused, is_own};
 ghost use Rattle.lib_mem.specs.Own as own;
 ghost use Rattle.lib_mem.specs.Passing.{IsPassed, MayPass};
@@ -35,7 +36,7 @@ fn pass_on<O: UserOs, H: Host>(
     requires live { is_live (slot_at (O.state os.old) (O.slot os.old)) ≡ true }
     requires few { O.calls os.old < 2 ^ 32 - 1 }
     requires answers { MayPass (O.slot os.old) (call.system (O.state os.old) (O.slot os.old) number args) }
-    ensures passed { IsPassed (call.system (O.state os.old) (O.slot os.old) number args) (O.slot os.old) result (O.state os.new) (around H.console host.old host.new) }
+    ensures passed { IsPassed (call.system (O.state os.old) (O.slot os.old) number args) (O.slot os.old) result (O.state os.new) (output H.console O.written (from_to host.old host.new) (from_to os.old os.new)) }
     ensures lowers { Lowers result (place_of (slot_at (O.state os.old) (O.slot os.old))) (place_of (slot_at (O.state os.new) (O.slot os.new))) }
     ensures one { MakesOneCall (around O.slot os.old os.new) (around O.calls os.old os.new) }
     ensures rest { Unchanged H.files H.input H.asked H.notes host.old host.new }
@@ -63,7 +64,8 @@ fn refuse<O: UserOs, H: Host>(
     requires few { O.calls os.old < 2 ^ 32 - 1 }
     requires at { place_of (slot_at (O.state os.old) (O.slot os.old)) ≡ Place.InService service step }
     requires refused { IsRefused service }
-    ensures step { IsLibraryStep result (O.slot os.old) (O.state os.old) (O.state os.new) (around H.console host.old host.new) }
+    ensures step { IsLibraryStep result (O.slot os.old) (O.state os.old) (O.state os.new) (output H.console O.written (from_to host.old host.new) (from_to os.old os.new)) }
+    ensures leaves { Leaves result (O.slot os.old) (O.state os.old) (O.state os.new) }
     ensures lowers { Lowers result (place_of (slot_at (O.state os.old) (O.slot os.old))) (place_of (slot_at (O.state os.new) (O.slot os.new))) }
     ensures one { MakesOneCall (around O.slot os.old os.new) (around O.calls os.old os.new) }
     ensures rest { Unchanged H.files H.input H.asked H.notes host.old host.new }
@@ -83,7 +85,8 @@ fn get_id<O: UserOs, H: Host>(os: &mut O, host: &mut H, step: Step) -> Result<Pr
     requires live { is_live (slot_at (O.state os.old) (O.slot os.old)) ≡ true }
     requires few { O.calls os.old < 2 ^ 32 - 1 }
     requires at { place_of (slot_at (O.state os.old) (O.slot os.old)) ≡ Place.InService (Service.GetId) step }
-    ensures step { IsLibraryStep result (O.slot os.old) (O.state os.old) (O.state os.new) (around H.console host.old host.new) }
+    ensures step { IsLibraryStep result (O.slot os.old) (O.state os.old) (O.state os.new) (output H.console O.written (from_to host.old host.new) (from_to os.old os.new)) }
+    ensures leaves { Leaves result (O.slot os.old) (O.state os.old) (O.state os.new) }
     ensures lowers { Lowers result (place_of (slot_at (O.state os.old) (O.slot os.old))) (place_of (slot_at (O.state os.new) (O.slot os.new))) }
     ensures one { MakesOneCall (around O.slot os.old os.new) (around O.calls os.old os.new) }
     ensures rest { Unchanged H.files H.input H.asked H.notes host.old host.new }
@@ -101,7 +104,8 @@ fn give_up_turn<O: UserOs, H: Host>(
     requires live { is_live (slot_at (O.state os.old) (O.slot os.old)) ≡ true }
     requires few { O.calls os.old < 2 ^ 32 - 1 }
     requires at { place_of (slot_at (O.state os.old) (O.slot os.old)) ≡ Place.InService (Service.Yield) step }
-    ensures step { IsLibraryStep result (O.slot os.old) (O.state os.old) (O.state os.new) (around H.console host.old host.new) }
+    ensures step { IsLibraryStep result (O.slot os.old) (O.state os.old) (O.state os.new) (output H.console O.written (from_to host.old host.new) (from_to os.old os.new)) }
+    ensures leaves { Leaves result (O.slot os.old) (O.state os.old) (O.state os.new) }
     ensures lowers { Lowers result (place_of (slot_at (O.state os.old) (O.slot os.old))) (place_of (slot_at (O.state os.new) (O.slot os.new))) }
     ensures one { MakesOneCall (around O.slot os.old os.new) (around O.calls os.old os.new) }
     ensures rest { Unchanged H.files H.input H.asked H.notes host.old host.new }
@@ -120,7 +124,8 @@ fn page_drop<O: UserOs, H: Host>(
     requires live { is_live (slot_at (O.state os.old) (O.slot os.old)) ≡ true }
     requires few { O.calls os.old < 2 ^ 32 - 1 }
     requires at { place_of (slot_at (O.state os.old) (O.slot os.old)) ≡ Place.InService (Service.PageDrop va) step }
-    ensures step { IsLibraryStep result (O.slot os.old) (O.state os.old) (O.state os.new) (around H.console host.old host.new) }
+    ensures step { IsLibraryStep result (O.slot os.old) (O.state os.old) (O.state os.new) (output H.console O.written (from_to host.old host.new) (from_to os.old os.new)) }
+    ensures leaves { Leaves result (O.slot os.old) (O.state os.old) (O.state os.new) }
     ensures lowers { Lowers result (place_of (slot_at (O.state os.old) (O.slot os.old))) (place_of (slot_at (O.state os.new) (O.slot os.new))) }
     ensures one { MakesOneCall (around O.slot os.old os.new) (around O.calls os.old os.new) }
     ensures rest { Unchanged H.files H.input H.asked H.notes host.old host.new }
@@ -152,7 +157,8 @@ fn page_new<O: UserOs, H: Host>(
     requires live { is_live (slot_at (O.state os.old) (O.slot os.old)) ≡ true }
     requires few { O.calls os.old < 2 ^ 32 - 1 }
     requires at { place_of (slot_at (O.state os.old) (O.slot os.old)) ≡ Place.InService (Service.PageNew va flags) step }
-    ensures step { IsLibraryStep result (O.slot os.old) (O.state os.old) (O.state os.new) (around H.console host.old host.new) }
+    ensures step { IsLibraryStep result (O.slot os.old) (O.state os.old) (O.state os.new) (output H.console O.written (from_to host.old host.new) (from_to os.old os.new)) }
+    ensures leaves { Leaves result (O.slot os.old) (O.state os.old) (O.state os.new) }
     ensures lowers { Lowers result (place_of (slot_at (O.state os.old) (O.slot os.old))) (place_of (slot_at (O.state os.new) (O.slot os.new))) }
     ensures one { MakesOneCall (around O.slot os.old os.new) (around O.calls os.old os.new) }
     ensures rest { Unchanged H.files H.input H.asked H.notes host.old host.new }
@@ -175,7 +181,8 @@ fn cputs<O: UserOs, H: Host>(
     requires live { is_live (slot_at (O.state os.old) (O.slot os.old)) ≡ true }
     requires few { O.calls os.old < 2 ^ 32 - 1 }
     requires at { place_of (slot_at (O.state os.old) (O.slot os.old)) ≡ Place.InService (Service.Cputs va len) step }
-    ensures step { IsLibraryStep result (O.slot os.old) (O.state os.old) (O.state os.new) (around H.console host.old host.new) }
+    ensures step { IsLibraryStep result (O.slot os.old) (O.state os.old) (O.state os.new) (output H.console O.written (from_to host.old host.new) (from_to os.old os.new)) }
+    ensures leaves { Leaves result (O.slot os.old) (O.state os.old) (O.state os.new) }
     ensures lowers { Lowers result (place_of (slot_at (O.state os.old) (O.slot os.old))) (place_of (slot_at (O.state os.new) (O.slot os.new))) }
     ensures one { MakesOneCall (around O.slot os.old os.new) (around O.calls os.old os.new) }
     ensures rest { Unchanged H.files H.input H.asked H.notes host.old host.new }
@@ -195,7 +202,8 @@ pub fn mem_step<O: UserOs, H: Host>(os: &mut O, host: &mut H) -> Result<Progress
     requires live { is_live (slot_at (O.state os.old) (O.slot os.old)) ≡ true }
     requires few { O.calls os.old < 2 ^ 32 - 1 }
     requires at { is_own (place_of (slot_at (O.state os.old) (O.slot os.old))) ≡ true }
-    ensures step { IsLibraryStep result (O.slot os.old) (O.state os.old) (O.state os.new) (around H.console host.old host.new) }
+    ensures step { IsLibraryStep result (O.slot os.old) (O.state os.old) (O.state os.new) (output H.console O.written (from_to host.old host.new) (from_to os.old os.new)) }
+    ensures leaves { Leaves result (O.slot os.old) (O.state os.old) (O.state os.new) }
     ensures lowers { Lowers result (place_of (slot_at (O.state os.old) (O.slot os.old))) (place_of (slot_at (O.state os.new) (O.slot os.new))) }
     ensures one { MakesOneCall (around O.slot os.old os.new) (around O.calls os.old os.new) }
     ensures rest { Unchanged H.files H.input H.asked H.notes host.old host.new }

@@ -1,5 +1,5 @@
 -- receive, up to where it waits: what it refuses, and that the environment waits in both systems.
-use Rattle.std.proofs.Common.{◌≡◌, ◌≢◌, ◌∙◌, ◌==◌, ◌%◌, ◌&&◌, ◌||◌, ℕ, Bool, true, false, not, List, [], ◌∷◌, Option, Some, Ok, Err}
+use Rattle.std.proofs.Common.{◌≡◌, ◌≢◌, ◌∙◌, ◌==◌, ◌%◌, ◌&&◌, ◌||◌, ℕ, Bool, true, false, not, List, [], ◌∷◌, Some, Ok}
 use Rattle.std.proofs.Common.{refl, sym, ap, subst, arith, if◌then◌else◌}
 use Rattle.std.specs.Prelude.{nat_lt}
 use Rattle.std.proofs.lemmas.Bool.Decides.{nat_tests}
@@ -12,9 +12,6 @@ use Rattle.jos_base.specs.Environments.{Slot as KernelSlot, is_live}
 use Rattle.jos_base.specs.KernelState.{KernelState, slot_at, with_slot_at, with_extra, with_status, with_rendezvous}
 use Rattle.jos_base.specs.Messages.{Rendezvous, wanting}
 use Rattle.jos_base.specs.Words.{negated}
-use Rattle.jos_host.specs.declared.host.Failed.{Failed}
-use Rattle.jos_host.specs.Frames.{Around}
-use Rattle.jos_host.specs.Gains.{Gains}
 use Rattle.lib_os.specs.declared.place.Place.{Place}
 use Rattle.lib_os.specs.declared.place.Place.TheVariants as place
 use Rattle.lib_os.specs.declared.place.Step.TheVariants as step
@@ -28,11 +25,11 @@ use Rattle.lib_os.specs.LibraryCall.{library_step}
 use Rattle.lib_os.specs.LibrarySteps.{IsLibraryStep, GoesOn, NothingRefused, answered}
 use Rattle.lib_os.specs.Places.{place_of, words_at}
 use Rattle.lib_os.specs.StandsFor.{StandsFor, Names, rows_of, StandsAt, IsIn, IsAboutToWait, waits, destination_of}
-use Rattle.lib_os.specs.UserCalls.{IsCallStep, answer_of, system}
+use Rattle.lib_os.specs.UserCalls.{IsCallStep, answer_of, system, Output, Prints}
 use Rattle.lib_os.proofs.Answering.{back_stands}
 use Rattle.lib_os.proofs.Calls.{comes_to, ipc_recv_is, receives_at, waits_is}
 use Rattle.lib_os.proofs.Fences.{page_inside_aligned}
-use Rattle.lib_os.proofs.GoingOn.{in_with_words, words_stand, hidden, failed}
+use Rattle.lib_os.proofs.GoingOn.{in_with_words, words_stand, hidden}
 use Rattle.lib_os.proofs.Numbered.{named_at}
 use Rattle.lib_os.proofs.Quieting.{own_id, same_state, no_bytes}
 use Rattle.lib_os.proofs.Serving.{served, step_in, finished, printed_nothing}
@@ -86,21 +83,21 @@ parts false u v e = absurd (let contradiction : false ≡ true = e in cc)
 
 -- ---- the first step
 
-module _ (s mid : KernelState) (n va from own : ℕ) (called : Called) (console : Around (Option (List ℕ)))
+module _ (s mid : KernelState) (n va from own : ℕ) (called : Called) (output : Output)
     (stands : place_of (slot_at s n) ≡ place.InService (service.Receive va from) step.Entered) (live : is_live (slot_at s n) ≡ true)
-    (call : IsCallStep (system s n SYS_GETENVID (0 ∷ 0 ∷ 0 ∷ 0 ∷ 0 ∷ [])) (Ok called) mid console) (told : own ≡ answer_of called) where
+    (call : IsCallStep (system s n SYS_GETENVID (0 ∷ 0 ∷ 0 ∷ 0 ∷ 0 ∷ [])) (Ok called) mid output) (told : own ≡ answer_of called) where
   own_is : own ≡ (slot_at s n).id
-  own_is = told ∙ own_id s n (0 ∷ 0 ∷ 0 ∷ 0 ∷ 0 ∷ []) live mid called console call
+  own_is = told ∙ own_id s n (0 ∷ 0 ∷ 0 ∷ 0 ∷ 0 ∷ []) live mid called output call
 
   mid_is : mid ≡ s
-  mid_is = same_state s n (0 ∷ 0 ∷ 0 ∷ 0 ∷ 0 ∷ []) live mid called console call
+  mid_is = same_state s n (0 ∷ 0 ∷ 0 ∷ 0 ∷ 0 ∷ []) live mid called output call
 
-  quiet_call : Gains console []
-  quiet_call = no_bytes s n (0 ∷ 0 ∷ 0 ∷ 0 ∷ 0 ∷ []) live mid called console call
+  quiet_call : Prints output []
+  quiet_call = no_bytes s n (0 ∷ 0 ∷ 0 ∷ 0 ∷ 0 ∷ []) live mid called output call
 
   pub receive_refused : (after : KernelState) (m word : ℕ) → m ≡ n → after ≡ answered mid m word → word ≡ negated E_INVAL →
-      may_receive va from own ≡ false → IsLibraryStep (Ok progress.Finished) n s after console
-  receive_refused after m word same state word_is off = finished s after n [] console quiet_call goes
+      may_receive va from own ≡ false → IsLibraryStep (Ok progress.Finished) n s after output
+  receive_refused after m word same state word_is off = finished s after n [] output quiet_call goes
     where
       state_is : after ≡ answered s n (negated E_INVAL)
       state_is = state ∙ (λ i. answered (mid_is i) (same i) (word_is i))
@@ -122,8 +119,8 @@ module _ (s mid : KernelState) (n va from own : ℕ) (called : Called) (console 
           )
 
   pub receive_goes_on : (after : KernelState) (m : ℕ) → m ≡ n → after ≡ with_extra mid m (words_at 9 (step.Receiving own)) →
-      may_receive va from own ≡ true → IsLibraryStep (Ok progress.Hidden) n s after console
-  receive_goes_on after m same state on = hidden s after n console quiet_call goes
+      may_receive va from own ≡ true → IsLibraryStep (Ok progress.Hidden) n s after output
+  receive_goes_on after m same state on = hidden s after n output quiet_call goes
     where
       state_is : after ≡ with_extra s n (words_at 9 (step.Receiving own))
       state_is = state ∙ (λ i. with_extra (mid_is i) (same i) (words_at 9 (step.Receiving own)))
@@ -159,9 +156,9 @@ place_fits va page = by_test (va == 0) refl
     by_test true none = refl
     by_test false some = receives_at va (page_inside_aligned va (rw some at page))
 
-module _ (s mid : KernelState) (n va from id : ℕ) (called : Called) (console : Around (Option (List ℕ)))
+module _ (s mid : KernelState) (n va from id : ℕ) (called : Called) (output : Output)
     (stands : place_of (slot_at s n) ≡ place.InService (service.Receive va from) (step.Receiving id)) (live : is_live (slot_at s n) ≡ true)
-    (call : IsCallStep (system s n SYS_IPC_RECV (wait_args va from)) (Ok called) mid console) where
+    (call : IsCallStep (system s n SYS_IPC_RECV (wait_args va from)) (Ok called) mid output) where
   lives_on : LivesOn (system s n SYS_IPC_RECV (wait_args va from)) n (slot_at s n).registers
   lives_on = recv_lives s n (destination_of va) from (0 ∷ 0 ∷ 0 ∷ []) live
 
@@ -169,9 +166,9 @@ module _ (s mid : KernelState) (n va from id : ℕ) (called : Called) (console :
   waiter_lives m same = (λ i. is_live (slot_at (call.1 i) (same i))) ∙ lives_on.live
 
   pub message_awaited : (after : KernelState) (m : ℕ) → m ≡ n → after ≡ with_extra mid m (words_at 9 (step.ReadingValue id)) →
-      IsLibraryStep (Ok progress.Visible) n s after console
+      IsLibraryStep (Ok progress.Visible) n s after output
   message_awaited after m same state =
-      ([], subst (λ (written : List ℕ). Gains console written) lives_on.written call.2, λ a h quiet. goes h.0 a h.1)
+      ([], subst (λ (written : List ℕ). Prints output written) lives_on.written call.2, λ a h quiet. goes h.0 a h.1)
     where
       goes : (names : Names) (a : AbstractState) → StandsFor names s a → GoesOn n after a []
       goes names a h =
@@ -182,7 +179,7 @@ module _ (s mid : KernelState) (n va from id : ℕ) (called : Called) (console :
           let waited : KernelSlot = record (slot_at s n) { rendezvous = r; status = NotRunnable } in
           let k : KernelSlot = record (slot_at s n) { rendezvous = r; status = NotRunnable; extra = words } in
           let came = comes_to (system s n SYS_IPC_RECV (wait_args va from)) Blocked called
-          (with_status (with_rendezvous s n r) n NotRunnable) mid [] console
+          (with_status (with_rendezvous s n r) n NotRunnable) mid [] output
           (ipc_recv_is s n live (destination_of va) from (0 ∷ 0 ∷ 0 ∷ []) (place_fits va at.page)) call in
           let mid_waits : mid ≡ with_slot_at s n waited = came.1 ∙ waits_is s n r NotRunnable in
           let state_is : after ≡ with_slot_at s n k = state ∙ (λ i. with_extra (mid_waits i) (same i) words) ∙ words_put s n waited words in
@@ -222,9 +219,3 @@ module _ (s mid : KernelState) (n va from id : ℕ) (called : Called) (console :
                   })),
             ),
           )
-
-pub waiting_failed : (s mid : KernelState) (n va from : ℕ) (e : Failed) (console : Around (Option (List ℕ))) → is_live (slot_at s n) ≡ true →
-    IsCallStep (system s n SYS_IPC_RECV (wait_args va from)) (Err e) mid console → IsLibraryStep (Err e) n s mid console
-waiting_failed s mid n va from e console live is =
-    failed s mid n (system s n SYS_IPC_RECV (wait_args va from)) e console
-    (recv_lives s n (destination_of va) from (0 ∷ 0 ∷ 0 ∷ []) live).written is

@@ -1,5 +1,5 @@
 -- send reads the entry of its page: whether it is there and may pass.
-use Rattle.std.proofs.Common.{◌≡◌, ◌∙◌, ◌==◌, ◌+◌, ◌*◌, ◌/◌, ◌&&◌, ◌||◌, ℕ, Bool, true, false, not, List, [], Option, Some, Ok, refl, sym, ap, subst, arith}
+use Rattle.std.proofs.Common.{◌≡◌, ◌∙◌, ◌==◌, ◌+◌, ◌*◌, ◌/◌, ◌&&◌, ◌||◌, ℕ, Bool, true, false, not, [], Some, Ok, refl, sym, ap, subst, arith}
 use Rattle.std.specs.Prelude.{bit_and}
 use Rattle.std.proofs.lemmas.Bool.Decides.{nat_tests}
 use Rattle.jos_base.specs.declared.memory.Access.TheVariants.{Read}
@@ -8,7 +8,6 @@ use Rattle.jos_base.specs.KernelState.{KernelState, slot_at, with_extra}
 use Rattle.jos_base.specs.SystemCalls.{has_write}
 use Rattle.jos_base.specs.Windows.{entry_word}
 use Rattle.jos_base.specs.Words.{negated, page_number}
-use Rattle.jos_host.specs.Frames.{Around}
 use Rattle.lib_os.specs.declared.place.Place.TheVariants as place
 use Rattle.lib_os.specs.declared.place.Step.TheVariants as step
 use Rattle.lib_os.specs.declared.progress.Progress.TheVariants as progress
@@ -20,7 +19,7 @@ use Rattle.lib_os.specs.InOrder.{IsInOrder}
 use Rattle.lib_os.specs.LibrarySteps.{IsLibraryStep, GoesOn, NothingRefused, answered}
 use Rattle.lib_os.specs.Places.{place_of, words_at}
 use Rattle.lib_os.specs.StandsFor.{StandsFor, Names, Rows, rows_of, MaySend, IsLooking, is_shared}
-use Rattle.lib_os.specs.UserCalls.{IsStep, load}
+use Rattle.lib_os.specs.UserCalls.{IsStep, load, Output}
 use Rattle.lib_os.proofs.Answering.{back_stands}
 use Rattle.lib_os.proofs.Fences.{page_inside_number}
 use Rattle.lib_os.proofs.GoingOn.{in_with_words, words_stand, hidden}
@@ -49,8 +48,8 @@ module _ (s : KernelState) (n id value va at_word : ℕ)
   gives_entry names a h =
       record { word = entry_word (s.spaces.entries (slot_at s n).directory (va / PGSIZE)); is = entry_there names a h }
 
-  module _ (mid after : KernelState) (word m : ℕ) (console : Around (Option (List ℕ))) (in_order : IsInOrder mid)
-      (call : IsStep (load s n at_word) (Ok word) mid console) (same : m ≡ n) where
+  module _ (mid after : KernelState) (word m : ℕ) (output : Output) (in_order : IsInOrder mid)
+      (call : IsStep (load s n at_word) (Ok word) mid output) (same : m ≡ n) where
     refused_by : {names : Names} {a : AbstractState} (h : StandsFor names s a) (b : Born) (is : a.slots n ≡ born b) →
         (at : IsLooking (slot_at s n) b id value va) → (w : ℕ) → w ≡ entry_word (s.spaces.entries (slot_at s n).directory (va / PGSIZE)) →
         (t u : Bool) → (bit_and w PTE_P == PTE_P) ≡ t → (is_shared (bit_and w PTE_SYSCALL) || not (has_write (bit_and w PTE_SYSCALL))) ≡ u →
@@ -65,18 +64,18 @@ module _ (s : KernelState) (n id value va at_word : ℕ)
     refused_by h b is at w w_is true true first second off = absurd (let contradiction : true ≡ false = off in cc)
 
     pub entry_refused : (answer : ℕ) → after ≡ answered mid m answer → answer ≡ negated E_INVAL → may_pass word ≡ false →
-        IsLibraryStep (Ok progress.Finished) n s after console
-    entry_refused answer state answer_is off = finished s after n [] console (loaded_quiet s mid n at_word word console call) goes
+        IsLibraryStep (Ok progress.Finished) n s after output
+    entry_refused answer state answer_is off = finished s after n [] output (loaded_quiet s mid n at_word word output call) goes
       where
         goes : (names : Names) (a : AbstractState) → StandsFor names s a → NothingRefused s after → GoesOn n after a []
         goes names a h quiet =
             let v = served h n (service.Send id value va) step.ReadingEntry stands in
             let at : IsLooking (slot_at s n) v.b id value va × (v.b.regions (page_number va / NPTENTRIES) ≡ true) = v.at in
             let regs = (slot_at s n).registers in
-            let there = loaded_stands s mid n at_word word console call h in_order in
-            let read = loaded_word s mid n at_word word console call _ (entry_there names a h) in
+            let there = loaded_stands s mid n at_word word output call h in_order in
+            let read = loaded_word s mid n at_word word output call _ (entry_there names a h) in
             let state_is : after ≡ answered (loaded s n at_word) n (negated E_INVAL) =
-            state ∙ (λ i. answered (loaded_state s mid n at_word word console call i) (same i) (answer_is i)) in (
+            state ∙ (λ i. answered (loaded_state s mid n at_word word output call i) (same i) (answer_is i)) in (
               abstract_system.refused a n v.b regs E_INVAL,
               refused_by h v.b v.is (at.0) word read (bit_and word PTE_P == PTE_P)
                   (is_shared (bit_and word PTE_SYSCALL) || not (has_write (bit_and word PTE_SYSCALL))) refl refl off,
@@ -106,22 +105,22 @@ module _ (s : KernelState) (n id value va at_word : ℕ)
         (sym (ap (λ (x : ℕ). is_shared (bit_and x PTE_SYSCALL) || not (has_write (bit_and x PTE_SYSCALL))) w_is) ∙ second)))
 
     pub entry_goes_on : after ≡ with_extra mid m (words_at 8 (step.Trying (bit_and word PTE_SYSCALL))) → may_pass word ≡ true →
-        IsLibraryStep (Ok progress.Hidden) n s after console
-    entry_goes_on state on = hidden s after n console (loaded_quiet s mid n at_word word console call) goes
+        IsLibraryStep (Ok progress.Hidden) n s after output
+    entry_goes_on state on = hidden s after n output (loaded_quiet s mid n at_word word output call) goes
       where
         goes : (names : Names) (a : AbstractState) → StandsFor names s a → NothingRefused s after → StandsFor names after a
         goes names a h quiet =
             let v = served h n (service.Send id value va) step.ReadingEntry stands in
             let at : IsLooking (slot_at s n) v.b id value va × (v.b.regions (page_number va / NPTENTRIES) ≡ true) = v.at in
-            let there = loaded_stands s mid n at_word word console call h in_order in
+            let there = loaded_stands s mid n at_word word output call h in_order in
             let read : word ≡ entry_word (s.spaces.entries (slot_at s n).directory (va / PGSIZE)) =
-            loaded_word s mid n at_word word console call _ (entry_there names a h) in
+            loaded_word s mid n at_word word output call _ (entry_there names a h) in
             let bits = bit_and word PTE_SYSCALL in
             let words = words_at 8 (step.Trying bits) in
             let some : (va == 0) ≡ false = let e = at.0.somewhere in grind (arith, nat_tests) in
             let tests = both (bit_and word PTE_P == PTE_P) (is_shared bits || not (has_write bits)) on in
             let state_is : after ≡ with_extra (loaded s n at_word) n words =
-            state ∙ (λ i. with_extra (loaded_state s mid n at_word word console call i) (same i) words) in
+            state ∙ (λ i. with_extra (loaded_state s mid n at_word word output call i) (same i) words) in
             subst (λ (t : KernelState). StandsFor names t a) (sym state_is)
             (words_stand there n 8 v.b v.is (born_at there n v.b v.is) (service.Send id value va) (step.Trying bits)
             (named_at (slot_at s n) (service.Send id value va) step.ReadingEntry stands)

@@ -1,5 +1,5 @@
 -- send, up to where it tries: what it refuses, and what it has found out of its page.
-use Rattle.std.proofs.Common.{◌≡◌, ◌≢◌, ◌∙◌, ◌==◌, ◌+◌, ◌*◌, ◌/◌, ◌&&◌, ◌||◌, ◌<◌, ℕ, Bool, true, false, not, List, [], ◌∷◌, Option, Some, None, Ok}
+use Rattle.std.proofs.Common.{◌≡◌, ◌≢◌, ◌∙◌, ◌==◌, ◌+◌, ◌*◌, ◌/◌, ◌&&◌, ◌||◌, ◌<◌, ℕ, Bool, true, false, not, [], ◌∷◌, Option, Some, None, Ok}
 use Rattle.std.proofs.Common.{refl, sym, ap, subst, arith, if◌then◌else◌}
 use Rattle.std.specs.Prelude.{is_some, bit_and}
 use Rattle.std.specs.Option.{option_map}
@@ -13,8 +13,6 @@ use Rattle.jos_base.specs.Reach.{Entry}
 use Rattle.jos_base.specs.SpacesState.{region_limit}
 use Rattle.jos_base.specs.Windows.{entry_word, region_entry}
 use Rattle.jos_base.specs.Words.{negated, page_number}
-use Rattle.jos_host.specs.Frames.{Around}
-use Rattle.jos_host.specs.Gains.{Gains}
 use Rattle.lib_os.specs.declared.numbers.TheConstants.{UVPD}
 use Rattle.lib_os.specs.declared.place.Place.TheVariants as place
 use Rattle.lib_os.specs.declared.place.Step.TheVariants as step
@@ -30,7 +28,7 @@ use Rattle.lib_os.specs.LibraryCall.{library_step}
 use Rattle.lib_os.specs.LibrarySteps.{IsLibraryStep, GoesOn, NothingRefused, answered}
 use Rattle.lib_os.specs.Places.{place_of, words_at}
 use Rattle.lib_os.specs.StandsFor.{StandsFor, Names, Row, rows_of, lasting, page_by, page_seen, IsIn, IsLooking, MaySend, MaySendBy}
-use Rattle.lib_os.specs.UserCalls.{IsCallStep, IsStep, answer_of, load, system}
+use Rattle.lib_os.specs.UserCalls.{IsCallStep, IsStep, answer_of, load, system, Output, Prints}
 use Rattle.lib_os.proofs.Answering.{back_stands}
 use Rattle.lib_os.proofs.EntryWords.{region_told}
 use Rattle.lib_os.proofs.Fences.{page_inside_below}
@@ -90,23 +88,23 @@ missing b va some on none = let test : (va == 0) ≡ false = grind (arith, nat_t
 
 -- ---- the first step
 
-module _ (s mid : KernelState) (n id value va own : ℕ) (called : Called) (console : Around (Option (List ℕ)))
+module _ (s mid : KernelState) (n id value va own : ℕ) (called : Called) (output : Output)
     (stands : place_of (slot_at s n) ≡ place.InService (service.Send id value va) step.Entered) (live : is_live (slot_at s n) ≡ true)
-    (call : IsCallStep (system s n SYS_GETENVID (0 ∷ 0 ∷ 0 ∷ 0 ∷ 0 ∷ [])) (Ok called) mid console) (told : own ≡ answer_of called) where
+    (call : IsCallStep (system s n SYS_GETENVID (0 ∷ 0 ∷ 0 ∷ 0 ∷ 0 ∷ [])) (Ok called) mid output) (told : own ≡ answer_of called) where
   own_is : own ≡ (slot_at s n).id
-  own_is = told ∙ own_id s n (0 ∷ 0 ∷ 0 ∷ 0 ∷ 0 ∷ []) live mid called console call
+  own_is = told ∙ own_id s n (0 ∷ 0 ∷ 0 ∷ 0 ∷ 0 ∷ []) live mid called output call
 
   mid_is : mid ≡ s
-  mid_is = same_state s n (0 ∷ 0 ∷ 0 ∷ 0 ∷ 0 ∷ []) live mid called console call
+  mid_is = same_state s n (0 ∷ 0 ∷ 0 ∷ 0 ∷ 0 ∷ []) live mid called output call
 
-  quiet_call : Gains console []
-  quiet_call = no_bytes s n (0 ∷ 0 ∷ 0 ∷ 0 ∷ 0 ∷ []) live mid called console call
+  quiet_call : Prints output []
+  quiet_call = no_bytes s n (0 ∷ 0 ∷ 0 ∷ 0 ∷ 0 ∷ []) live mid called output call
 
   refused_so : (after : KernelState) (m word : ℕ) → m ≡ n → after ≡ answered mid m word → word ≡ negated E_INVAL →
       ((names : Names) (a : AbstractState) → StandsFor names s a → (b : Born) → (slot_at s n).id ≡ b.id →
       library_step a n b (slot_at s n).registers (service.Send id value va) entered ≡ Some (abstract_system.refused a n b (slot_at s n).registers E_INVAL)) →
-      IsLibraryStep (Ok progress.Finished) n s after console
-  refused_so after m word same state word_is why = finished s after n [] console quiet_call goes
+      IsLibraryStep (Ok progress.Finished) n s after output
+  refused_so after m word same state word_is why = finished s after n [] output quiet_call goes
     where
       state_is : after ≡ answered s n (negated E_INVAL)
       state_is = state ∙ (λ i. answered (mid_is i) (same i) (word_is i))
@@ -127,21 +125,21 @@ module _ (s mid : KernelState) (n id value va own : ℕ) (called : Called) (cons
           )
 
   pub nobody_refused : (after : KernelState) (m word : ℕ) → m ≡ n → after ≡ answered mid m word → word ≡ negated E_INVAL →
-      may_name id own ≡ false → IsLibraryStep (Ok progress.Finished) n s after console
+      may_name id own ≡ false → IsLibraryStep (Ok progress.Finished) n s after output
   nobody_refused after m word same state word_is off =
       refused_so after m word same state word_is
       (λ names a h b e. nobody_step a n b (slot_at s n).registers id value va own (own_is ∙ e) (server_is h) off)
 
   pub outside_refused : (after : KernelState) (m word : ℕ) → m ≡ n → after ≡ answered mid m word → word ≡ negated E_INVAL →
-      may_name id own ≡ true → va ≢ 0 → is_page_inside va ≡ false → IsLibraryStep (Ok progress.Finished) n s after console
+      may_name id own ≡ true → va ≢ 0 → is_page_inside va ≡ false → IsLibraryStep (Ok progress.Finished) n s after output
   outside_refused after m word same state word_is on some off =
       let all = named_parts id own on in
       refused_so after m word same state word_is
       (λ names a h b e. no_page_step a n b (slot_at s n).registers id value va (all.0) (λ x. all.1 (x ∙ sym e ∙ sym own_is)) (λ x. all.2 (x ∙ server_is h)) (outside b va some off))
 
   pub word_goes_on : (after : KernelState) (m : ℕ) → m ≡ n → after ≡ with_extra mid m (words_at 8 (step.Trying 0)) →
-      may_name id own ≡ true → va ≡ 0 → IsLibraryStep (Ok progress.Hidden) n s after console
-  word_goes_on after m same state on none = hidden s after n console quiet_call goes
+      may_name id own ≡ true → va ≡ 0 → IsLibraryStep (Ok progress.Hidden) n s after output
+  word_goes_on after m same state on none = hidden s after n output quiet_call goes
     where
       state_is : after ≡ with_extra s n (words_at 8 (step.Trying 0))
       state_is = state ∙ (λ i. with_extra (mid_is i) (same i) (words_at 8 (step.Trying 0)))
@@ -165,8 +163,8 @@ module _ (s mid : KernelState) (n id value va own : ℕ) (called : Called) (cons
           }))
 
   pub page_goes_on : (after : KernelState) (m : ℕ) → m ≡ n → after ≡ with_extra mid m (words_at 8 step.ReadingRegion) →
-      may_name id own ≡ true → va ≢ 0 → is_page_inside va ≡ true → IsLibraryStep (Ok progress.Hidden) n s after console
-  page_goes_on after m same state on some inside = hidden s after n console quiet_call goes
+      may_name id own ≡ true → va ≢ 0 → is_page_inside va ≡ true → IsLibraryStep (Ok progress.Hidden) n s after output
+  page_goes_on after m same state on some inside = hidden s after n output quiet_call goes
     where
       state_is : after ≡ with_extra s n (words_at 8 step.ReadingRegion)
       state_is = state ∙ (λ i. with_extra (mid_is i) (same i) (words_at 8 step.ReadingRegion))
@@ -220,27 +218,27 @@ module _ (s : KernelState) (n id value va at_word : ℕ)
     is = region_there names a h;
   }
 
-  module _ (mid after : KernelState) (word m : ℕ) (console : Around (Option (List ℕ))) (in_order : IsInOrder mid)
-      (call : IsStep (load s n at_word) (Ok word) mid console) (same : m ≡ n) where
+  module _ (mid after : KernelState) (word m : ℕ) (output : Output) (in_order : IsInOrder mid)
+      (call : IsStep (load s n at_word) (Ok word) mid output) (same : m ≡ n) where
     pub region_refused : (answer : ℕ) → after ≡ answered mid m answer → answer ≡ negated E_INVAL → bit_and word PTE_P ≢ PTE_P →
-        IsLibraryStep (Ok progress.Finished) n s after console
-    region_refused answer state answer_is absent = finished s after n [] console (loaded_quiet s mid n at_word word console call) goes
+        IsLibraryStep (Ok progress.Finished) n s after output
+    region_refused answer state answer_is absent = finished s after n [] output (loaded_quiet s mid n at_word word output call) goes
       where
         goes : (names : Names) (a : AbstractState) → StandsFor names s a → NothingRefused s after → GoesOn n after a []
         goes names a h quiet =
             let v = served h n (service.Send id value va) step.ReadingRegion stands in
             let at : IsLooking (slot_at s n) v.b id value va = v.at in
             let regs = (slot_at s n).registers in
-            let there = loaded_stands s mid n at_word word console call h in_order in
+            let there = loaded_stands s mid n at_word word output call h in_order in
             let o = s.spaces.regions (slot_at s n).directory (va / PGSIZE / NPTENTRIES) in
-            let read : word ≡ entry_word (option_map region_entry o) = loaded_word s mid n at_word word console call _ (region_there names a h) in
+            let read : word ≡ entry_word (option_map region_entry o) = loaded_word s mid n at_word word output call _ (region_there names a h) in
             let test : (bit_and word PTE_P == PTE_P) ≡ false = grind (arith, nat_tests) in
             let none : is_some o ≡ false =
             sym (region_told o) ∙ ap (λ (w : ℕ). bit_and w PTE_P == PTE_P) (sym read) ∙ test in
             let no_page : page_at v.b va ≡ None =
             v.own.memory (page_number va) ∙ no_table names s (slot_at s n).directory (page_number va) h.in_order none in
             let state_is : after ≡ answered (loaded s n at_word) n (negated E_INVAL) =
-            state ∙ (λ i. answered (loaded_state s mid n at_word word console call i) (same i) (answer_is i)) in (
+            state ∙ (λ i. answered (loaded_state s mid n at_word word output call i) (same i) (answer_is i)) in (
               abstract_system.refused a n v.b regs E_INVAL,
               step_in a n v.b (slot_at s n) (service.Send id value va) entered v.is at.is_in
                   ∙ no_page_step a n v.b regs id value va at.some (at.other.0) (λ x. at.other.1 (x ∙ server_is h))
@@ -254,22 +252,22 @@ module _ (s : KernelState) (n id value va at_word : ℕ)
             )
 
     pub region_goes_on : after ≡ with_extra mid m (words_at 8 step.ReadingEntry) → bit_and word PTE_P ≡ PTE_P →
-        IsLibraryStep (Ok progress.Hidden) n s after console
-    region_goes_on state present = hidden s after n console (loaded_quiet s mid n at_word word console call) goes
+        IsLibraryStep (Ok progress.Hidden) n s after output
+    region_goes_on state present = hidden s after n output (loaded_quiet s mid n at_word word output call) goes
       where
         goes : (names : Names) (a : AbstractState) → StandsFor names s a → NothingRefused s after → StandsFor names after a
         goes names a h quiet =
             let v = served h n (service.Send id value va) step.ReadingRegion stands in
             let at : IsLooking (slot_at s n) v.b id value va = v.at in
-            let there = loaded_stands s mid n at_word word console call h in_order in
+            let there = loaded_stands s mid n at_word word output call h in_order in
             let words = words_at 8 step.ReadingEntry in
             let o = s.spaces.regions (slot_at s n).directory (va / PGSIZE / NPTENTRIES) in
-            let read : word ≡ entry_word (option_map region_entry o) = loaded_word s mid n at_word word console call _ (region_there names a h) in
+            let read : word ≡ entry_word (option_map region_entry o) = loaded_word s mid n at_word word output call _ (region_there names a h) in
             let test : (bit_and word PTE_P == PTE_P) ≡ true = grind (arith, nat_tests) in
             let known : v.b.regions (va / PGSIZE / NPTENTRIES) ≡ true =
             v.own.regions (va / PGSIZE / NPTENTRIES) ∙ sym (region_told o) ∙ ap (λ (w : ℕ). bit_and w PTE_P == PTE_P) (sym read) ∙ test in
             let state_is : after ≡ with_extra (loaded s n at_word) n words =
-            state ∙ (λ i. with_extra (loaded_state s mid n at_word word console call i) (same i) words) in
+            state ∙ (λ i. with_extra (loaded_state s mid n at_word word output call i) (same i) words) in
             subst (λ (t : KernelState). StandsFor names t a) (sym state_is)
             (words_stand there n 8 v.b v.is (born_at there n v.b v.is) (service.Send id value va) step.ReadingEntry
             (named_at (slot_at s n) (service.Send id value va) step.ReadingRegion stands) (

@@ -1,5 +1,5 @@
 -- receive, when a message has come: its words are read in the record of the own slot, and told to the program.
-use Rattle.std.proofs.Common.{◌≡◌, ◌∙◌, ◌+◌, ◌*◌, ◌%◌, ◌^◌, ◌<◌, ℕ, Bool, true, false, List, [], Option, Some, Ok, get_or}
+use Rattle.std.proofs.Common.{◌≡◌, ◌∙◌, ◌+◌, ◌*◌, ◌%◌, ◌^◌, ◌<◌, ℕ, Bool, true, false, List, [], Some, Ok, get_or}
 use Rattle.std.proofs.Common.{refl, sym, ap, subst, arith}
 use Rattle.jos_base.specs.declared.environment.Status.{Status}
 use Rattle.jos_base.specs.declared.environment.Status.TheVariants.{Runnable, Running, NotRunnable}
@@ -7,7 +7,6 @@ use Rattle.jos_base.specs.declared.numbers.TheConstants.{UENVS, NENV}
 use Rattle.jos_base.specs.declared.registers.Regs.{Regs}
 use Rattle.jos_base.specs.Environments.{Slot as KernelSlot, record_words}
 use Rattle.jos_base.specs.KernelState.{KernelState, slot_at, with_extra}
-use Rattle.jos_host.specs.Frames.{Around}
 use Rattle.lib_os.specs.declared.place.Place.TheVariants as place
 use Rattle.lib_os.specs.declared.place.Step.TheVariants as step
 use Rattle.lib_os.specs.declared.progress.Progress.TheVariants as progress
@@ -19,7 +18,7 @@ use Rattle.lib_os.specs.LibraryCall.{library_step}
 use Rattle.lib_os.specs.LibrarySteps.{IsLibraryStep, GoesOn, NothingRefused, gone_back}
 use Rattle.lib_os.specs.Places.{place_of, words_at}
 use Rattle.lib_os.specs.StandsFor.{StandsFor, Names, RunsAs, HasReceived, WaitsOrHas, waits, has, kind_by}
-use Rattle.lib_os.specs.UserCalls.{IsStep, load}
+use Rattle.lib_os.specs.UserCalls.{IsStep, load, Output}
 use Rattle.lib_os.proofs.Answering.{back_stands}
 use Rattle.lib_os.proofs.GoingOn.{words_stand, hidden}
 use Rattle.lib_os.proofs.Loading.{loaded, loaded_state, loaded_quiet, loaded_stands, loaded_word, GivesWord}
@@ -95,10 +94,10 @@ module _ (s : KernelState) (n va from id at_word : ℕ) where
     pub gives_value : (names : Names) (a : AbstractState) → StandsFor names s a → GivesWord s n at_word
     gives_value names a h = record { word = (slot_at s n).rendezvous.value; is = value_there names a h }
 
-    pub value_read : (mid after : KernelState) (word m : ℕ) (console : Around (Option (List ℕ))) → IsInOrder mid →
-        IsStep (load s n at_word) (Ok word) mid console → m ≡ n → after ≡ with_extra mid m (words_at 9 (step.ReadingSender id word)) →
-        IsLibraryStep (Ok progress.Hidden) n s after console
-    value_read mid after word m console in_order call same state = hidden s after n console (loaded_quiet s mid n at_word word console call) goes
+    pub value_read : (mid after : KernelState) (word m : ℕ) (output : Output) → IsInOrder mid →
+        IsStep (load s n at_word) (Ok word) mid output → m ≡ n → after ≡ with_extra mid m (words_at 9 (step.ReadingSender id word)) →
+        IsLibraryStep (Ok progress.Hidden) n s after output
+    value_read mid after word m output in_order call same state = hidden s after n output (loaded_quiet s mid n at_word word output call) goes
       where
         goes : (names : Names) (a : AbstractState) → StandsFor names s a → NothingRefused s after → StandsFor names after a
         goes names a h quiet =
@@ -106,10 +105,10 @@ module _ (s : KernelState) (n va from id at_word : ℕ) where
             let at : (id ≡ (slot_at s n).id) × WaitsOrHas (slot_at s n) v.b va from = v.at in
             let it = awake_has (slot_at s n) v.b va from v.own.runs awake (at.1) in
             let words = words_at 9 (step.ReadingSender id word) in
-            let there = loaded_stands s mid n at_word word console call h in_order in
-            let read = loaded_word s mid n at_word word console call (slot_at s n).rendezvous.value (value_there names a h) in
+            let there = loaded_stands s mid n at_word word output call h in_order in
+            let read = loaded_word s mid n at_word word output call (slot_at s n).rendezvous.value (value_there names a h) in
             let state_is : after ≡ with_extra (loaded s n at_word) n words =
-            state ∙ (λ i. with_extra (loaded_state s mid n at_word word console call i) (same i) words) in
+            state ∙ (λ i. with_extra (loaded_state s mid n at_word word output call i) (same i) words) in
             subst (λ (t : KernelState). StandsFor names t a) (sym state_is)
             (words_stand there n 9 v.b v.is (born_at there n v.b v.is) (service.Receive va from) (step.ReadingSender id word)
             (named_at (slot_at s n) (service.Receive va from) (step.ReadingValue id) stands)
@@ -128,20 +127,20 @@ module _ (s : KernelState) (n va from id at_word : ℕ) where
     pub gives_sender : (names : Names) (a : AbstractState) → StandsFor names s a → GivesWord s n at_word
     gives_sender names a h = record { word = (slot_at s n).rendezvous.sender; is = sender_there names a h }
 
-    pub sender_read : (mid after : KernelState) (word m : ℕ) (console : Around (Option (List ℕ))) → IsInOrder mid →
-        IsStep (load s n at_word) (Ok word) mid console → m ≡ n → after ≡ with_extra mid m (words_at 9 (step.ReadingPerm id value word)) →
-        IsLibraryStep (Ok progress.Hidden) n s after console
-    sender_read mid after word m console in_order call same state = hidden s after n console (loaded_quiet s mid n at_word word console call) goes
+    pub sender_read : (mid after : KernelState) (word m : ℕ) (output : Output) → IsInOrder mid →
+        IsStep (load s n at_word) (Ok word) mid output → m ≡ n → after ≡ with_extra mid m (words_at 9 (step.ReadingPerm id value word)) →
+        IsLibraryStep (Ok progress.Hidden) n s after output
+    sender_read mid after word m output in_order call same state = hidden s after n output (loaded_quiet s mid n at_word word output call) goes
       where
         goes : (names : Names) (a : AbstractState) → StandsFor names s a → NothingRefused s after → StandsFor names after a
         goes names a h quiet =
             let v = served h n (service.Receive va from) (step.ReadingSender id value) stands in
             let at : (id ≡ (slot_at s n).id) × (value ≡ (slot_at s n).rendezvous.value) × HasReceived (slot_at s n) v.b va from = v.at in
             let words = words_at 9 (step.ReadingPerm id value word) in
-            let there = loaded_stands s mid n at_word word console call h in_order in
-            let read = loaded_word s mid n at_word word console call (slot_at s n).rendezvous.sender (sender_there names a h) in
+            let there = loaded_stands s mid n at_word word output call h in_order in
+            let read = loaded_word s mid n at_word word output call (slot_at s n).rendezvous.sender (sender_there names a h) in
             let state_is : after ≡ with_extra (loaded s n at_word) n words =
-            state ∙ (λ i. with_extra (loaded_state s mid n at_word word console call i) (same i) words) in
+            state ∙ (λ i. with_extra (loaded_state s mid n at_word word output call i) (same i) words) in
             subst (λ (t : KernelState). StandsFor names t a) (sym state_is)
             (words_stand there n 9 v.b v.is (born_at there n v.b v.is) (service.Receive va from) (step.ReadingPerm id value word)
             (named_at (slot_at s n) (service.Receive va from) (step.ReadingSender id value) stands)
@@ -167,12 +166,12 @@ module _ (s : KernelState) (n va from id at_word : ℕ) where
     unfolding library_step
     answer_step a b regs m = refl
 
-    pub perm_read : (mid after : KernelState) (word m : ℕ) (r : Regs) (console : Around (Option (List ℕ))) → IsInOrder mid →
-        IsStep (load s n at_word) (Ok word) mid console → m ≡ n → r ≡ (slot_at mid m).registers →
+    pub perm_read : (mid after : KernelState) (word m : ℕ) (r : Regs) (output : Output) → IsInOrder mid →
+        IsStep (load s n at_word) (Ok word) mid output → m ≡ n → r ≡ (slot_at mid m).registers →
         after ≡ gone_back mid m (record r { eax = 0; edx = sender; ecx = value; ebx = kind_by word }) →
-        IsLibraryStep (Ok progress.Finished) n s after console
-    perm_read mid after word m r console in_order call same registers state =
-        finished s after n [] console (loaded_quiet s mid n at_word word console call) goes
+        IsLibraryStep (Ok progress.Finished) n s after output
+    perm_read mid after word m r output in_order call same registers state =
+        finished s after n [] output (loaded_quiet s mid n at_word word output call) goes
       where
         goes : (names : Names) (a : AbstractState) → StandsFor names s a → NothingRefused s after → GoesOn n after a []
         goes names a h quiet =
@@ -182,9 +181,9 @@ module _ (s : KernelState) (n va from id at_word : ℕ) where
             let it = at.3 in
             let come = it.come in
             let k = slot_at s n in
-            let there = loaded_stands s mid n at_word word console call h in_order in
-            let read : word ≡ k.rendezvous.perm = loaded_word s mid n at_word word console call k.rendezvous.perm (perm_there names a h) in
-            let mid_is : mid ≡ loaded s n at_word = loaded_state s mid n at_word word console call in
+            let there = loaded_stands s mid n at_word word output call h in_order in
+            let read : word ≡ k.rendezvous.perm = loaded_word s mid n at_word word output call k.rendezvous.perm (perm_there names a h) in
+            let mid_is : mid ≡ loaded s n at_word = loaded_state s mid n at_word word output call in
             let regs_are : r ≡ record it.regs { eax = 0 } = registers ∙ (λ i. (slot_at (mid_is i) (same i)).registers) ∙ it.registers in
             let told : Regs = record it.regs { eax = 0; edx = it.message.sender; ecx = it.message.value; ebx = it.message.page } in
             let value_is : value ≡ it.message.value = at.1 ∙ come.value in

@@ -1,12 +1,10 @@
 -- send, when it knows its page: what it tries is answered, or it gives up its turn while the other one does not wait for it.
-use Rattle.std.proofs.Common.{◌≡◌, ◌≢◌, ◌∙◌, ◌^◌, ◌<◌, ℕ, true, List, [], ◌∷◌, Option, Ok, Err, sym, ap, refl, subst}
+use Rattle.std.proofs.Common.{◌≡◌, ◌≢◌, ◌∙◌, ◌^◌, ◌<◌, ℕ, true, List, [], ◌∷◌, Ok, sym, ap, refl, subst}
 use Rattle.jos_base.specs.declared.called.Called.{Called}
 use Rattle.jos_base.specs.declared.called.Called.TheVariants.{Answered}
 use Rattle.jos_base.specs.declared.environment.Status.TheVariants.{Runnable}
 use Rattle.jos_base.specs.declared.numbers.TheConstants.{SYS_YIELD, SYS_IPC_TRY_SEND, E_IPC_NOT_RECV}
 use Rattle.jos_base.specs.Words.{negated}
-use Rattle.jos_host.specs.declared.host.Failed.{Failed}
-use Rattle.jos_host.specs.Gains.{Gains}
 use Rattle.lib_os.specs.declared.numbers.TheConstants.{SHORT_QUANTUM}
 use Rattle.lib_os.specs.InOrder.{IsInOrder}
 use Rattle.lib_os.proofs.Calls.{refusal_is_seen}
@@ -14,7 +12,6 @@ use Rattle.lib_os.proofs.Tried.{HasTried, goes_on, not_yet, no_table, tried}
 use Rattle.lib_os.proofs.Trying.{IsAnswered, try_send_answered}
 use Rattle.jos_base.specs.Environments.{Slot as KernelSlot, is_live}
 use Rattle.jos_base.specs.KernelState.{KernelState, slot_at, with_extra, with_status, with_refusal}
-use Rattle.jos_host.specs.Frames.{Around}
 use Rattle.lib_os.specs.declared.place.Place.TheVariants as place
 use Rattle.lib_os.specs.declared.place.Step.TheVariants as step
 use Rattle.lib_os.specs.declared.progress.Progress.TheVariants as progress
@@ -24,8 +21,8 @@ use Rattle.lib_os.specs.LibrarySteps.{IsLibraryStep, Follows, GoesOn, NothingRef
 use Rattle.lib_os.specs.Places.{place_of, words_at}
 use Rattle.lib_os.specs.Services.{service_of}
 use Rattle.lib_os.specs.StandsFor.{StandsFor, Names, rows_of, IsIn, IsTrying, destination_of}
-use Rattle.lib_os.specs.UserCalls.{Step as Call, got, IsCallStep, answer_of, system}
-use Rattle.lib_os.proofs.GoingOn.{in_with_words, words_stand, hidden, failed}
+use Rattle.lib_os.specs.UserCalls.{Step as Call, got, IsCallStep, answer_of, system, Output, Prints}
+use Rattle.lib_os.proofs.GoingOn.{in_with_words, words_stand, hidden}
 use Rattle.lib_os.proofs.Maps.{upd-at}
 use Rattle.lib_os.proofs.Numbered.{named_at}
 use Rattle.lib_os.proofs.Quieting.{turn_given, yield_quiet}
@@ -33,19 +30,19 @@ use Rattle.lib_os.proofs.Serving.{served, finished, printed_nothing}
 use Rattle.lib_os.proofs.SlotsStand.{born_at}
 use Rattle.lib_os.proofs.StatesStand.{status_stands}
 
-module _ (s mid : KernelState) (n id value va perm : ℕ) (called : Called) (console : Around (Option (List ℕ)))
+module _ (s mid : KernelState) (n id value va perm : ℕ) (called : Called) (output : Output)
     (stands : place_of (slot_at s n) ≡ place.InService (service.Send id value va) (step.Pausing perm)) (live : is_live (slot_at s n) ≡ true)
-    (call : IsCallStep (system s n SYS_YIELD (0 ∷ 0 ∷ 0 ∷ 0 ∷ 0 ∷ [])) (Ok called) mid console) where
+    (call : IsCallStep (system s n SYS_YIELD (0 ∷ 0 ∷ 0 ∷ 0 ∷ 0 ∷ [])) (Ok called) mid output) where
   given : mid ≡ with_status s n Runnable
-  given = turn_given s n (0 ∷ 0 ∷ 0 ∷ 0 ∷ 0 ∷ []) live mid called console call
+  given = turn_given s n (0 ∷ 0 ∷ 0 ∷ 0 ∷ 0 ∷ []) live mid called output call
 
   slot_is : slot_at (with_status s n Runnable) n ≡ record (slot_at s n) { status = Runnable }
   slot_is = upd-at s.environments.slots n (record (slot_at s n) { status = Runnable })
 
   pub send_pauses : (after : KernelState) (m : ℕ) → m ≡ n → after ≡ with_extra mid m (words_at 8 (step.Trying perm)) →
-      IsLibraryStep (Ok progress.Hidden) n s after console
+      IsLibraryStep (Ok progress.Hidden) n s after output
   send_pauses after m same state =
-      hidden s after n console (yield_quiet s n (0 ∷ 0 ∷ 0 ∷ 0 ∷ 0 ∷ []) live mid called console call) goes
+      hidden s after n output (yield_quiet s n (0 ∷ 0 ∷ 0 ∷ 0 ∷ 0 ∷ []) live mid called output call) goes
     where
       state_is : after ≡ with_extra (with_status s n Runnable) n (words_at 8 (step.Trying perm))
       state_is = state ∙ (λ i. with_extra (given i) (same i) (words_at 8 (step.Trying perm)))
@@ -71,14 +68,9 @@ module _ (s mid : KernelState) (n id value va perm : ℕ) (called : Called) (con
 abbrev send_call : KernelState → ℕ → ℕ → ℕ → ℕ → ℕ → Call Called
 send_call s n id value va perm = system s n SYS_IPC_TRY_SEND (id ∷ value ∷ destination_of va ∷ perm ∷ 0 ∷ [])
 
-pub sending_failed : (s mid : KernelState) (n id value va perm : ℕ) (e : Failed) (console : Around (Option (List ℕ))) →
-    is_live (slot_at s n) ≡ true → IsCallStep (send_call s n id value va perm) (Err e) mid console → IsLibraryStep (Err e) n s mid console
-sending_failed s mid n id value va perm e console live is =
-    failed s mid n (send_call s n id value va perm) e console (try_send_answered s n id value (destination_of va) perm (0 ∷ []) live).written is
-
-module _ (s mid : KernelState) (n id value va perm word : ℕ) (called : Called) (console : Around (Option (List ℕ)))
+module _ (s mid : KernelState) (n id value va perm word : ℕ) (called : Called) (output : Output)
     (stands : place_of (slot_at s n) ≡ place.InService (service.Send id value va) (step.Trying perm)) (live : is_live (slot_at s n) ≡ true)
-    (call : IsCallStep (send_call s n id value va perm) (Ok called) mid console) (told : word ≡ answer_of called) where
+    (call : IsCallStep (send_call s n id value va perm) (Ok called) mid output) (told : word ≡ answer_of called) where
   answered_call : IsAnswered (send_call s n id value va perm) n (slot_at s n).registers
   answered_call = try_send_answered s n id value (destination_of va) perm (0 ∷ []) live
 
@@ -88,8 +80,8 @@ module _ (s mid : KernelState) (n id value va perm word : ℕ) (called : Called)
   pub sender_keeps : (slot_at mid n).registers ≡ (slot_at s n).registers
   sender_keeps = (λ i. (slot_at (call.1 i) n).registers) ∙ answered_call.registers
 
-  nothing_written : Gains console []
-  nothing_written = subst (λ (written : List ℕ). Gains console written) answered_call.written call.2
+  nothing_written : Prints output []
+  nothing_written = subst (λ (written : List ℕ). Prints output written) answered_call.written call.2
 
   gives : (send_call s n id value va perm).gives ≡ got (Answered word)
   gives =
@@ -104,8 +96,8 @@ module _ (s mid : KernelState) (n id value va perm word : ℕ) (called : Called)
         tried h n v.b v.is id value va perm (0 ∷ []) v.at small mid word gives call.1 in_order
 
     pub sent_over : (after : KernelState) (m : ℕ) → m ≡ n → after ≡ answered mid m word → word ≢ negated E_IPC_NOT_RECV →
-        IsLibraryStep (Ok progress.Finished) n s after console
-    sent_over after m same state other = finished s after n [] console nothing_written goes
+        IsLibraryStep (Ok progress.Finished) n s after output
+    sent_over after m same state other = finished s after n [] output nothing_written goes
       where
         state_is : after ≡ answered mid n word
         state_is = state ∙ (λ i. answered mid (same i) word)
@@ -123,7 +115,7 @@ module _ (s mid : KernelState) (n id value va perm word : ℕ) (called : Called)
         goes names a h quiet = by_outcome names a quiet (outcome names a h)
 
     pub send_waits : (after : KernelState) (m : ℕ) → m ≡ n → after ≡ with_extra mid m (words_at 8 (step.Pausing perm)) →
-        word ≡ negated E_IPC_NOT_RECV → IsLibraryStep (Ok progress.Waited) n s after console
+        word ≡ negated E_IPC_NOT_RECV → IsLibraryStep (Ok progress.Waited) n s after output
     send_waits after m same state not_received = ([], nothing_written, λ a h quiet. by_outcome h.0 a h.1 (outcome h.0 a h.1))
       where
         by_outcome : (names : Names) (a : AbstractState) → StandsFor names s a → HasTried names s mid a n word → Follows progress.Waited n after a []

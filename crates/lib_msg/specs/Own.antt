@@ -31,10 +31,9 @@ is_sends step.ReadingRegion = true
 is_sends step.ReadingEntry = true
 is_sends _ = false
 
--- the steps that receive has, and the one at which anybody gives up its turn
+-- the steps that receive has
 abbrev pub is_receives : Step → Bool
 is_receives step.Entered = true
-is_receives (step.Pausing perm) = true
 is_receives (step.Receiving id) = true
 is_receives (step.ReadingValue id) = true
 is_receives (step.ReadingSender id value) = true

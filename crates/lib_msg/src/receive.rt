@@ -2,18 +2,17 @@
 
 ghost use Rattle.std.specs.Prelude.{◌≡◌, ◌+◌, ◌-◌, ◌*◌, ◌%◌, ◌<◌, ◌^◌, true, false};
 ghost use Rattle.jos_host.specs.Told.{HasCause};
-ghost use Rattle.jos_host.specs.Frames.{Unchanged, around};
+ghost use Rattle.jos_host.specs.Frames.{Unchanged, around, from_to};
 ghost use Rattle.jos_base.specs.Environments.{is_live};
 ghost use Rattle.jos_base.specs.KernelState.{slot_at};
-ghost use Rattle.lib_os.specs.LibrarySteps.{IsLibraryStep, Lowers, GivesUp, MakesOneCall};
+ghost use Rattle.lib_os.specs.LibrarySteps.{IsLibraryStep, Leaves, Lowers, GivesUp, MakesOneCall};
 ghost use Rattle.lib_os.specs.Places.{place_of};
+ghost use Rattle.lib_os.specs.UserCalls.{output};
 ghost use Rattle.jos_base.specs.declared.numbers.TheConstants.{NENV, UENVS};
 ghost use Rattle.lib_os.specs.StandsFor.{destination_of, kind_by};
 ghost use Rattle.lib_msg.specs.Own.{may_receive, is_receives, is_awake};
 
-use jos_base::{
-    E_INVAL, FIRST_ENV_ID, NENV, PTE_W, Regs, SYS_GETENVID, SYS_IPC_RECV, SYS_YIELD, UENVS, UTOP,
-};
+use jos_base::{E_INVAL, FIRST_ENV_ID, NENV, PTE_W, Regs, SYS_GETENVID, SYS_IPC_RECV, UENVS, UTOP};
 use jos_host::{Failed, Host};
 use lib_os::{
     Place, Progress, Service, Step, UserOs, answer, answer_of, go_back, go_on, is_page_inside,
@@ -69,7 +68,8 @@ pub(crate) fn enter_receive<O: UserOs, H: Host>(
     requires live { is_live (slot_at (O.state os.old) (O.slot os.old)) ≡ true }
     requires few { O.calls os.old < 2 ^ 32 - 1 }
     requires at { place_of (slot_at (O.state os.old) (O.slot os.old)) ≡ Place.InService (Service.Receive va from) Step.Entered }
-    ensures step { IsLibraryStep result (O.slot os.old) (O.state os.old) (O.state os.new) (around H.console host.old host.new) }
+    ensures step { IsLibraryStep result (O.slot os.old) (O.state os.old) (O.state os.new) (output H.console O.written (from_to host.old host.new) (from_to os.old os.new)) }
+    ensures leaves { Leaves result (O.slot os.old) (O.state os.old) (O.state os.new) }
     ensures lowers { Lowers result (place_of (slot_at (O.state os.old) (O.slot os.old))) (place_of (slot_at (O.state os.new) (O.slot os.new))) }
     ensures gives_up { GivesUp result (slot_at (O.state os.old) (O.slot os.old)) (slot_at (O.state os.new) (O.slot os.new)) }
     ensures one { MakesOneCall (around O.slot os.old os.new) (around O.calls os.old os.new) }
@@ -101,7 +101,8 @@ pub(crate) fn wait_message<O: UserOs, H: Host>(
     requires live { is_live (slot_at (O.state os.old) (O.slot os.old)) ≡ true }
     requires few { O.calls os.old < 2 ^ 32 - 1 }
     requires at { place_of (slot_at (O.state os.old) (O.slot os.old)) ≡ Place.InService (Service.Receive va from) (Step.Receiving id) }
-    ensures step { IsLibraryStep result (O.slot os.old) (O.state os.old) (O.state os.new) (around H.console host.old host.new) }
+    ensures step { IsLibraryStep result (O.slot os.old) (O.state os.old) (O.state os.new) (output H.console O.written (from_to host.old host.new) (from_to os.old os.new)) }
+    ensures leaves { Leaves result (O.slot os.old) (O.state os.old) (O.state os.new) }
     ensures lowers { Lowers result (place_of (slot_at (O.state os.old) (O.slot os.old))) (place_of (slot_at (O.state os.new) (O.slot os.new))) }
     ensures gives_up { GivesUp result (slot_at (O.state os.old) (O.slot os.old)) (slot_at (O.state os.new) (O.slot os.new)) }
     ensures one { MakesOneCall (around O.slot os.old os.new) (around O.calls os.old os.new) }
@@ -129,7 +130,8 @@ pub(crate) fn read_value<O: UserOs, H: Host>(
     requires few { O.calls os.old < 2 ^ 32 - 1 }
     requires awake { is_awake (slot_at (O.state os.old) (O.slot os.old)).status ≡ true }
     requires at { place_of (slot_at (O.state os.old) (O.slot os.old)) ≡ Place.InService (Service.Receive va from) (Step.ReadingValue id) }
-    ensures step { IsLibraryStep result (O.slot os.old) (O.state os.old) (O.state os.new) (around H.console host.old host.new) }
+    ensures step { IsLibraryStep result (O.slot os.old) (O.state os.old) (O.state os.new) (output H.console O.written (from_to host.old host.new) (from_to os.old os.new)) }
+    ensures leaves { Leaves result (O.slot os.old) (O.state os.old) (O.state os.new) }
     ensures lowers { Lowers result (place_of (slot_at (O.state os.old) (O.slot os.old))) (place_of (slot_at (O.state os.new) (O.slot os.new))) }
     ensures gives_up { GivesUp result (slot_at (O.state os.old) (O.slot os.old)) (slot_at (O.state os.new) (O.slot os.new)) }
     ensures one { MakesOneCall (around O.slot os.old os.new) (around O.calls os.old os.new) }
@@ -157,7 +159,8 @@ pub(crate) fn read_sender<O: UserOs, H: Host>(
     requires live { is_live (slot_at (O.state os.old) (O.slot os.old)) ≡ true }
     requires few { O.calls os.old < 2 ^ 32 - 1 }
     requires at { place_of (slot_at (O.state os.old) (O.slot os.old)) ≡ Place.InService (Service.Receive va from) (Step.ReadingSender id value) }
-    ensures step { IsLibraryStep result (O.slot os.old) (O.state os.old) (O.state os.new) (around H.console host.old host.new) }
+    ensures step { IsLibraryStep result (O.slot os.old) (O.state os.old) (O.state os.new) (output H.console O.written (from_to host.old host.new) (from_to os.old os.new)) }
+    ensures leaves { Leaves result (O.slot os.old) (O.state os.old) (O.state os.new) }
     ensures lowers { Lowers result (place_of (slot_at (O.state os.old) (O.slot os.old))) (place_of (slot_at (O.state os.new) (O.slot os.new))) }
     ensures gives_up { GivesUp result (slot_at (O.state os.old) (O.slot os.old)) (slot_at (O.state os.new) (O.slot os.new)) }
     ensures one { MakesOneCall (around O.slot os.old os.new) (around O.calls os.old os.new) }
@@ -186,7 +189,8 @@ pub(crate) fn read_perm<O: UserOs, H: Host>(
     requires live { is_live (slot_at (O.state os.old) (O.slot os.old)) ≡ true }
     requires few { O.calls os.old < 2 ^ 32 - 1 }
     requires at { place_of (slot_at (O.state os.old) (O.slot os.old)) ≡ Place.InService (Service.Receive va from) (Step.ReadingPerm id value sender) }
-    ensures step { IsLibraryStep result (O.slot os.old) (O.state os.old) (O.state os.new) (around H.console host.old host.new) }
+    ensures step { IsLibraryStep result (O.slot os.old) (O.state os.old) (O.state os.new) (output H.console O.written (from_to host.old host.new) (from_to os.old os.new)) }
+    ensures leaves { Leaves result (O.slot os.old) (O.state os.old) (O.state os.new) }
     ensures lowers { Lowers result (place_of (slot_at (O.state os.old) (O.slot os.old))) (place_of (slot_at (O.state os.new) (O.slot os.new))) }
     ensures gives_up { GivesUp result (slot_at (O.state os.old) (O.slot os.old)) (slot_at (O.state os.new) (O.slot os.new)) }
     ensures one { MakesOneCall (around O.slot os.old os.new) (around O.calls os.old os.new) }
@@ -210,33 +214,6 @@ pub(crate) fn read_perm<O: UserOs, H: Host>(
     }
 }
 
-/// receive gives up no turn. Where it stood so, this is what it would do.
-pub(crate) fn pause_receive<O: UserOs, H: Host>(
-    os: &mut O,
-    host: &mut H,
-    va: u32,
-    from: u32,
-    perm: u32,
-) -> Result<Progress, Failed>
-    requires live { is_live (slot_at (O.state os.old) (O.slot os.old)) ≡ true }
-    requires few { O.calls os.old < 2 ^ 32 - 1 }
-    requires at { place_of (slot_at (O.state os.old) (O.slot os.old)) ≡ Place.InService (Service.Receive va from) (Step.Pausing perm) }
-    ensures step { IsLibraryStep result (O.slot os.old) (O.state os.old) (O.state os.new) (around H.console host.old host.new) }
-    ensures lowers { Lowers result (place_of (slot_at (O.state os.old) (O.slot os.old))) (place_of (slot_at (O.state os.new) (O.slot os.new))) }
-    ensures gives_up { GivesUp result (slot_at (O.state os.old) (O.slot os.old)) (slot_at (O.state os.new) (O.slot os.new)) }
-    ensures one { MakesOneCall (around O.slot os.old os.new) (around O.calls os.old os.new) }
-    ensures rest { Unchanged H.files H.input H.asked H.notes host.old host.new }
-    ensures cause { HasCause (H.faults host.old) (H.faults host.new) result }
-{
-    match os.system(host, SYS_YIELD, [0; 5]) {
-        Ok(_) => {
-            go_on(os, RECEIVE, Step::Trying { perm });
-            Ok(Progress::Hidden)
-        }
-        Err(failed) => Err(failed),
-    }
-}
-
 /// A step that receive has not.
 pub(crate) fn no_receive<O: UserOs, H: Host>(
     os: &mut O,
@@ -249,7 +226,8 @@ pub(crate) fn no_receive<O: UserOs, H: Host>(
     requires few { O.calls os.old < 2 ^ 32 - 1 }
     requires at { place_of (slot_at (O.state os.old) (O.slot os.old)) ≡ Place.InService (Service.Receive va from) step }
     requires other { is_receives step ≡ false }
-    ensures step { IsLibraryStep result (O.slot os.old) (O.state os.old) (O.state os.new) (around H.console host.old host.new) }
+    ensures step { IsLibraryStep result (O.slot os.old) (O.state os.old) (O.state os.new) (output H.console O.written (from_to host.old host.new) (from_to os.old os.new)) }
+    ensures leaves { Leaves result (O.slot os.old) (O.state os.old) (O.state os.new) }
     ensures lowers { Lowers result (place_of (slot_at (O.state os.old) (O.slot os.old))) (place_of (slot_at (O.state os.new) (O.slot os.new))) }
     ensures gives_up { GivesUp result (slot_at (O.state os.old) (O.slot os.old)) (slot_at (O.state os.new) (O.slot os.new)) }
     ensures one { MakesOneCall (around O.slot os.old os.new) (around O.calls os.old os.new) }

@@ -2,11 +2,12 @@
 
 ghost use Rattle.std.specs.Prelude.{◌≡◌, ◌+◌, ◌-◌, ◌*◌, ◌%◌, ◌<◌, ◌^◌, true, false};
 ghost use Rattle.jos_host.specs.Told.{HasCause};
-ghost use Rattle.jos_host.specs.Frames.{Unchanged, around};
+ghost use Rattle.jos_host.specs.Frames.{Unchanged, around, from_to};
 ghost use Rattle.jos_base.specs.Environments.{is_live};
 ghost use Rattle.jos_base.specs.KernelState.{slot_at};
-ghost use Rattle.lib_os.specs.LibrarySteps.{IsLibraryStep, Lowers, GivesUp, MakesOneCall};
+ghost use Rattle.lib_os.specs.LibrarySteps.{IsLibraryStep, Leaves, Lowers, GivesUp, MakesOneCall};
 ghost use Rattle.lib_os.specs.Places.{place_of};
+ghost use Rattle.lib_os.specs.UserCalls.{output};
 ghost use Rattle.lib_os.specs.StandsFor.{destination_of};
 ghost use Rattle.lib_msg.specs.Own.{may_name, may_pass, is_sends};
 
@@ -56,7 +57,8 @@ pub(crate) fn enter_send<O: UserOs, H: Host>(
     requires live { is_live (slot_at (O.state os.old) (O.slot os.old)) ≡ true }
     requires few { O.calls os.old < 2 ^ 32 - 1 }
     requires at { place_of (slot_at (O.state os.old) (O.slot os.old)) ≡ Place.InService (Service.Send id value va) Step.Entered }
-    ensures step { IsLibraryStep result (O.slot os.old) (O.state os.old) (O.state os.new) (around H.console host.old host.new) }
+    ensures step { IsLibraryStep result (O.slot os.old) (O.state os.old) (O.state os.new) (output H.console O.written (from_to host.old host.new) (from_to os.old os.new)) }
+    ensures leaves { Leaves result (O.slot os.old) (O.state os.old) (O.state os.new) }
     ensures lowers { Lowers result (place_of (slot_at (O.state os.old) (O.slot os.old))) (place_of (slot_at (O.state os.new) (O.slot os.new))) }
     ensures gives_up { GivesUp result (slot_at (O.state os.old) (O.slot os.old)) (slot_at (O.state os.new) (O.slot os.new)) }
     ensures one { MakesOneCall (around O.slot os.old os.new) (around O.calls os.old os.new) }
@@ -96,7 +98,8 @@ pub(crate) fn read_region<O: UserOs, H: Host>(
     requires live { is_live (slot_at (O.state os.old) (O.slot os.old)) ≡ true }
     requires few { O.calls os.old < 2 ^ 32 - 1 }
     requires at { place_of (slot_at (O.state os.old) (O.slot os.old)) ≡ Place.InService (Service.Send id value va) Step.ReadingRegion }
-    ensures step { IsLibraryStep result (O.slot os.old) (O.state os.old) (O.state os.new) (around H.console host.old host.new) }
+    ensures step { IsLibraryStep result (O.slot os.old) (O.state os.old) (O.state os.new) (output H.console O.written (from_to host.old host.new) (from_to os.old os.new)) }
+    ensures leaves { Leaves result (O.slot os.old) (O.state os.old) (O.state os.new) }
     ensures lowers { Lowers result (place_of (slot_at (O.state os.old) (O.slot os.old))) (place_of (slot_at (O.state os.new) (O.slot os.new))) }
     ensures gives_up { GivesUp result (slot_at (O.state os.old) (O.slot os.old)) (slot_at (O.state os.new) (O.slot os.new)) }
     ensures one { MakesOneCall (around O.slot os.old os.new) (around O.calls os.old os.new) }
@@ -127,7 +130,8 @@ pub(crate) fn read_entry<O: UserOs, H: Host>(
     requires live { is_live (slot_at (O.state os.old) (O.slot os.old)) ≡ true }
     requires few { O.calls os.old < 2 ^ 32 - 1 }
     requires at { place_of (slot_at (O.state os.old) (O.slot os.old)) ≡ Place.InService (Service.Send id value va) Step.ReadingEntry }
-    ensures step { IsLibraryStep result (O.slot os.old) (O.state os.old) (O.state os.new) (around H.console host.old host.new) }
+    ensures step { IsLibraryStep result (O.slot os.old) (O.state os.old) (O.state os.new) (output H.console O.written (from_to host.old host.new) (from_to os.old os.new)) }
+    ensures leaves { Leaves result (O.slot os.old) (O.state os.old) (O.state os.new) }
     ensures lowers { Lowers result (place_of (slot_at (O.state os.old) (O.slot os.old))) (place_of (slot_at (O.state os.new) (O.slot os.new))) }
     ensures gives_up { GivesUp result (slot_at (O.state os.old) (O.slot os.old)) (slot_at (O.state os.new) (O.slot os.new)) }
     ensures one { MakesOneCall (around O.slot os.old os.new) (around O.calls os.old os.new) }
@@ -160,7 +164,8 @@ pub(crate) fn try_send<O: UserOs, H: Host>(
     requires live { is_live (slot_at (O.state os.old) (O.slot os.old)) ≡ true }
     requires few { O.calls os.old < 2 ^ 32 - 1 }
     requires at { place_of (slot_at (O.state os.old) (O.slot os.old)) ≡ Place.InService (Service.Send id value va) (Step.Trying perm) }
-    ensures step { IsLibraryStep result (O.slot os.old) (O.state os.old) (O.state os.new) (around H.console host.old host.new) }
+    ensures step { IsLibraryStep result (O.slot os.old) (O.state os.old) (O.state os.new) (output H.console O.written (from_to host.old host.new) (from_to os.old os.new)) }
+    ensures leaves { Leaves result (O.slot os.old) (O.state os.old) (O.state os.new) }
     ensures lowers { Lowers result (place_of (slot_at (O.state os.old) (O.slot os.old))) (place_of (slot_at (O.state os.new) (O.slot os.new))) }
     ensures gives_up { GivesUp result (slot_at (O.state os.old) (O.slot os.old)) (slot_at (O.state os.new) (O.slot os.new)) }
     ensures one { MakesOneCall (around O.slot os.old os.new) (around O.calls os.old os.new) }
@@ -193,7 +198,8 @@ pub(crate) fn pause_send<O: UserOs, H: Host>(
     requires live { is_live (slot_at (O.state os.old) (O.slot os.old)) ≡ true }
     requires few { O.calls os.old < 2 ^ 32 - 1 }
     requires at { place_of (slot_at (O.state os.old) (O.slot os.old)) ≡ Place.InService (Service.Send id value va) (Step.Pausing perm) }
-    ensures step { IsLibraryStep result (O.slot os.old) (O.state os.old) (O.state os.new) (around H.console host.old host.new) }
+    ensures step { IsLibraryStep result (O.slot os.old) (O.state os.old) (O.state os.new) (output H.console O.written (from_to host.old host.new) (from_to os.old os.new)) }
+    ensures leaves { Leaves result (O.slot os.old) (O.state os.old) (O.state os.new) }
     ensures lowers { Lowers result (place_of (slot_at (O.state os.old) (O.slot os.old))) (place_of (slot_at (O.state os.new) (O.slot os.new))) }
     ensures gives_up { GivesUp result (slot_at (O.state os.old) (O.slot os.old)) (slot_at (O.state os.new) (O.slot os.new)) }
     ensures one { MakesOneCall (around O.slot os.old os.new) (around O.calls os.old os.new) }
@@ -222,7 +228,8 @@ pub(crate) fn no_send<O: UserOs, H: Host>(
     requires few { O.calls os.old < 2 ^ 32 - 1 }
     requires at { place_of (slot_at (O.state os.old) (O.slot os.old)) ≡ Place.InService (Service.Send id value va) step }
     requires other { is_sends step ≡ false }
-    ensures step { IsLibraryStep result (O.slot os.old) (O.state os.old) (O.state os.new) (around H.console host.old host.new) }
+    ensures step { IsLibraryStep result (O.slot os.old) (O.state os.old) (O.state os.new) (output H.console O.written (from_to host.old host.new) (from_to os.old os.new)) }
+    ensures leaves { Leaves result (O.slot os.old) (O.state os.old) (O.state os.new) }
     ensures lowers { Lowers result (place_of (slot_at (O.state os.old) (O.slot os.old))) (place_of (slot_at (O.state os.new) (O.slot os.new))) }
     ensures gives_up { GivesUp result (slot_at (O.state os.old) (O.slot os.old)) (slot_at (O.state os.new) (O.slot os.new)) }
     ensures one { MakesOneCall (around O.slot os.old os.new) (around O.calls os.old os.new) }

@@ -2,16 +2,15 @@
 
 ghost use Rattle.std.specs.Prelude.{◌≡◌, ◌+◌, ◌-◌, ◌*◌, ◌%◌, ◌<◌, ◌^◌, true, false};
 ghost use Rattle.jos_host.specs.Told.{HasCause};
-ghost use Rattle.jos_host.specs.Frames.{Unchanged, around};
+ghost use Rattle.jos_host.specs.Frames.{Unchanged, around, from_to};
 ghost use Rattle.jos_base.specs.Environments.{is_live};
 ghost use Rattle.jos_base.specs.KernelState.{slot_at};
-ghost use Rattle.lib_os.specs.LibrarySteps.{IsLibraryStep, Lowers, GivesUp, MakesOneCall};
+ghost use Rattle.lib_os.specs.LibrarySteps.{IsLibraryStep, Leaves, Lowers, GivesUp, MakesOneCall};
 ghost use Rattle.lib_os.specs.Places.{place_of};
+ghost use Rattle.lib_os.specs.UserCalls.{output};
 ghost use Rattle.lib_msg.specs.Own.{is_own, is_awake};
 
-use crate::receive::{
-    enter_receive, no_receive, pause_receive, read_perm, read_sender, read_value, wait_message,
-};
+use crate::receive::{enter_receive, no_receive, read_perm, read_sender, read_value, wait_message};
 use crate::send::{enter_send, no_send, pause_send, read_entry, read_region, try_send};
 use jos_host::{Failed, Host};
 use lib_os::{Place, Progress, Service, Step, UserOs, find_place};
@@ -25,7 +24,8 @@ pub fn msg_step<O: UserOs, H: Host>(os: &mut O, host: &mut H) -> Result<Progress
     requires few { O.calls os.old < 2 ^ 32 - 1 }
     requires awake { is_awake (slot_at (O.state os.old) (O.slot os.old)).status ≡ true }
     requires at { is_own (place_of (slot_at (O.state os.old) (O.slot os.old))) ≡ true }
-    ensures step { IsLibraryStep result (O.slot os.old) (O.state os.old) (O.state os.new) (around H.console host.old host.new) }
+    ensures step { IsLibraryStep result (O.slot os.old) (O.state os.old) (O.state os.new) (output H.console O.written (from_to host.old host.new) (from_to os.old os.new)) }
+    ensures leaves { Leaves result (O.slot os.old) (O.state os.old) (O.state os.new) }
     ensures lowers { Lowers result (place_of (slot_at (O.state os.old) (O.slot os.old))) (place_of (slot_at (O.state os.new) (O.slot os.new))) }
     ensures gives_up { GivesUp result (slot_at (O.state os.old) (O.slot os.old)) (slot_at (O.state os.new) (O.slot os.new)) }
     ensures one { MakesOneCall (around O.slot os.old os.new) (around O.calls os.old os.new) }
@@ -52,7 +52,6 @@ pub fn msg_step<O: UserOs, H: Host>(os: &mut O, host: &mut H) -> Result<Progress
                 Step::ReadingPerm { id, value, sender } => {
                     read_perm(os, host, va, from, id, value, sender)
                 }
-                Step::Pausing { perm } => pause_receive(os, host, va, from, perm),
                 _ => no_receive(os, host, va, from, step),
             },
             _ => unreachable!(),

@@ -4,8 +4,6 @@ use Rattle.std.proofs.Common.{◌≡◌, ◌∙◌, ◌==◌, ◌%◌, ◌&&◌,
 use Rattle.std.proofs.Common.{◌⊎◌, inl, inr, Result, Ok, Err, refl, sym, ap, subst, arith, if◌then◌else◌}
 use Rattle.std.specs.Prelude.{◌+◌, ◌-◌, ◌^◌, min, nat_lt}
 use Rattle.std.proofs.lemmas.Bool.Decides.{nat_tests}
-use Rattle.jos_host.specs.Frames.{Around}
-use Rattle.jos_host.specs.Gains.{Gains}
 use Rattle.jos_base.specs.declared.called.Called.{Called}
 use Rattle.jos_base.specs.declared.called.Called.TheVariants.{Answered, Ended, Blocked}
 use Rattle.jos_base.specs.declared.environment.Status.{Status}
@@ -28,7 +26,7 @@ use Rattle.jos_base.specs.SystemCalls.{user_bytes, with_bytes_reached, cputs_of}
 use Rattle.jos_base.specs.UserMemory.{read_byte, all_touched}
 use Rattle.jos_base.specs.Words.{negated, page_number, upd}
 use Rattle.lib_os.specs.LibrarySteps.{NothingRefused}
-use Rattle.lib_os.specs.UserCalls.{Step, IsCallStep, got, giving, asking, taken_back, called_by, system}
+use Rattle.lib_os.specs.UserCalls.{Step, IsCallStep, got, giving, asking, taken_back, called_by, system, Output, Prints}
 use Rattle.lib_os.proofs.Maps.{upd-at, upd-twice}
 use Rattle.lib_os.proofs.SlotsSet.{set_twice}
 use Rattle.lib_os.proofs.Slots.{slot_put, slots_alike, registers_put, registers_back}
@@ -52,13 +50,13 @@ cputs_step s n va len (Err fault) = gone_step s n (killed s n (UserMemCheck faul
 -- ---- what a call gave
 
 -- what it gave, the state after it and what was written are those that the call comes to
-pub comes_to : (step : Step Called) (what called : Called) (after state : KernelState) (written : List ℕ) (console : Around (Option (List ℕ))) →
-    step ≡ record { state = after; gives = got what; written = written } → IsCallStep step (Ok called) state console →
-    (called ≡ what) × (state ≡ after) × Gains console written
-comes_to step what called after state written console is came =
+pub comes_to : (step : Step Called) (what called : Called) (after state : KernelState) (written : List ℕ) (output : Output) →
+    step ≡ record { state = after; gives = got what; written = written } → IsCallStep step (Ok called) state output →
+    (called ≡ what) × (state ≡ after) × Prints output written
+comes_to step what called after state written output is came =
     let gives : got what ≡ got called = sym (ap (λ (z : Step Called). z.gives) is) ∙ came.0 in
     let same : ◌≡◌ {A = Called} what called = cc in
-    (sym same, came.1 ∙ ap (λ (z : Step Called). z.state) is, subst (λ (z : Step Called). Gains console z.written) is came.2)
+    (sym same, came.1 ∙ ap (λ (z : Step Called). z.state) is, subst (λ (z : Step Called). Prints output z.written) is came.2)
 
 -- a caller that is killed
 pub killed_state : (s : KernelState) (n : ℕ) (line : Line) → (killed s n line).state ≡ without_environment s n

@@ -1,15 +1,12 @@
 -- A service's step that does not answer: the words that tell how far it is are set, and its environment stands at another
--- step of the same service. And what comes of a step that the host failed, or that is none of the service's.
-use Rattle.std.proofs.Common.{◌≡◌, ◌≢◌, ◌∙◌, ◌<◌, ℕ, Bool, true, false, List, [], Option, Some, None, Result, Ok, Err, refl, sym, ap, subst}
+-- step of the same service. And what comes of a step that is none of the service's.
+use Rattle.std.proofs.Common.{◌≡◌, ◌∙◌, ◌<◌, ℕ, true, false, List, [], Result, Ok, Err, refl, sym, ap, subst}
 use Rattle.jos_base.specs.declared.called.Called.{Called}
-use Rattle.jos_base.specs.declared.called.Called.TheVariants.{Answered}
 use Rattle.jos_base.specs.declared.environment.Status.TheVariants.{Runnable}
 use Rattle.jos_base.specs.declared.registers.Regs.{Regs}
-use Rattle.jos_base.specs.Environments.{Slot as KernelSlot, is_live, is_runnable}
-use Rattle.jos_base.specs.KernelState.{KernelState, slot_at, with_slot_at, with_extra, with_status}
+use Rattle.jos_base.specs.Environments.{Slot as KernelSlot, is_runnable}
+use Rattle.jos_base.specs.KernelState.{KernelState, slot_at, with_extra, with_status}
 use Rattle.jos_host.specs.declared.host.Failed.{Failed}
-use Rattle.jos_host.specs.Frames.{Around}
-use Rattle.jos_host.specs.Gains.{Gains, GainsPart}
 use Rattle.lib_os.specs.declared.place.Place.{Place}
 use Rattle.lib_os.specs.declared.place.Place.TheVariants as place
 use Rattle.lib_os.specs.declared.place.Step.{Step}
@@ -17,15 +14,14 @@ use Rattle.lib_os.specs.declared.place.Step.TheVariants as step
 use Rattle.lib_os.specs.declared.progress.Progress.{Progress}
 use Rattle.lib_os.specs.declared.progress.Progress.TheVariants as progress
 use Rattle.lib_os.specs.declared.service.Service.{Service}
-use Rattle.lib_os.specs.AbstractState.{AbstractState, Born, Slot, born, Stage}
-use Rattle.lib_os.specs.LibrarySteps.{Stands, IsLibraryStep, Keeps, Stays, Lowers, GivesUp, NothingRefused, steps_left, is_pausing}
-use Rattle.lib_os.specs.Places.{place_in, place_of, words_at}
+use Rattle.lib_os.specs.AbstractState.{AbstractState, Born, born, Stage}
+use Rattle.lib_os.specs.LibrarySteps.{IsLibraryStep, Lowers, GivesUp, NothingRefused, steps_left, is_pausing}
+use Rattle.lib_os.specs.Places.{place_of, words_at}
 use Rattle.lib_os.specs.Services.{service_of}
 use Rattle.lib_os.specs.StandsFor.{StandsFor, Names, rows_of, StandsForBorn, StandsAt, StandsAtStep, IsIn}
-use Rattle.lib_os.specs.UserCalls.{Step as Call, IsCallStep}
+use Rattle.lib_os.specs.UserCalls.{Step as Call, IsCallStep, Output, Prints}
 use Rattle.lib_os.proofs.Maps.{upd-at}
 use Rattle.lib_os.proofs.Numbered.{number_of, named_at}
-use Rattle.lib_os.proofs.Serving.{IsServed, served}
 use Rattle.lib_os.proofs.StatesStand.{slot_replaced}
 use Rattle.lib_os.proofs.WordsTell.{place_at}
 
@@ -83,22 +79,16 @@ words_stand {s = s} h n number b is own service at names_it so =
 
 -- ---- the clauses of a step
 
-pub hidden : (s after : KernelState) (n : ℕ) (console : Around (Option (List ℕ))) → Gains console [] →
+pub hidden : (s after : KernelState) (n : ℕ) (output : Output) → Prints output [] →
     ((names : Names) (a : AbstractState) → StandsFor names s a → NothingRefused s after → StandsFor names after a) →
-    IsLibraryStep (Ok progress.Hidden) n s after console
-hidden s after n console gains goes = ([], gains, λ a h quiet. (refl, (h.0, goes h.0 a h.1 quiet)))
+    IsLibraryStep (Ok progress.Hidden) n s after output
+hidden s after n output gains goes = ([], gains, λ a h quiet. (refl, (h.0, goes h.0 a h.1 quiet)))
 
 -- no state in which the environment is there stands for an abstract one
-pub never : (s mid after : KernelState) (n : ℕ) (call : Call Called) (called : Called) (console : Around (Option (List ℕ))) (p : Progress) →
-    IsCallStep call (Ok called) mid console → ((names : Names) (a : AbstractState) → StandsFor names s a → ⊥) →
-    IsLibraryStep (Ok p) n s after console
-never s mid after n call called console p is none = (call.written, is.2, λ a h quiet. absurd (none h.0 a h.1))
-
--- the host failed in a call that writes nothing
-pub failed : (s mid : KernelState) (n : ℕ) (call : Call Called) (e : Failed) (console : Around (Option (List ℕ))) →
-    call.written ≡ [] → IsCallStep call (Err e) mid console → IsLibraryStep (Err e) n s mid console
-failed s mid n call e console nothing is =
-    ([], subst (λ (written : List ℕ). GainsPart console written) nothing is, λ a h some. absurd (some refl))
+pub never : (s mid after : KernelState) (n : ℕ) (call : Call Called) (called : Called) (output : Output) (p : Progress) →
+    IsCallStep call (Ok called) mid output → ((names : Names) (a : AbstractState) → StandsFor names s a → ⊥) →
+    IsLibraryStep (Ok p) n s after output
+never s mid after n call called output p is none = (call.written, is.2, λ a h quiet. absurd (none h.0 a h.1))
 
 pub lowered : (before after : Place) (service : Service) (from to : Step) → before ≡ place.InService service from →
     after ≡ place.InService service to →

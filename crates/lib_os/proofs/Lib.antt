@@ -25,6 +25,9 @@ pub mod EndsStand
 pub mod Numbered
 pub mod GoingOn
 pub mod Quieting
+pub mod FramesKept
+pub mod Leaving
+pub mod StepsLeave
 pub mod Trying
 pub mod Apart
 pub mod GuestMemory

@@ -1,16 +1,14 @@
 -- What a load leaves: nothing that is seen of the environment changes. And what a step comes to that loaded in vain.
-use Rattle.std.proofs.Common.{◌≡◌, ◌∙◌, ℕ, Bool, true, false, List, [], Option, Some, None, Result, Ok, Err, arith, refl, sym, ap, subst}
+use Rattle.std.proofs.Common.{◌≡◌, ◌∙◌, ℕ, true, List, [], Option, Some, None, Result, Ok, Err, arith, refl, sym, ap, subst}
 use Rattle.jos_base.specs.declared.memory.Access.TheVariants.{Read}
 use Rattle.jos_base.specs.declared.memory.PageFault.{PageFault}
-use Rattle.jos_base.specs.Environments.{Slot as KernelSlot, is_live}
+use Rattle.jos_base.specs.Environments.{is_live}
 use Rattle.jos_base.specs.KernelState.{KernelState, slot_at, with_spaces}
 use Rattle.jos_base.specs.Reach.{Location}
-use Rattle.jos_base.specs.SpacesState.{SpacesState}
 use Rattle.jos_base.specs.SystemCalls.{handled}
 use Rattle.jos_base.specs.UserMemory.{reach_in, touched}
 use Rattle.jos_host.specs.declared.host.Failed.{Failed}
 use Rattle.jos_host.specs.Frames.{Around}
-use Rattle.jos_host.specs.Gains.{Gains, GainsPart}
 use Rattle.jos_host.specs.Told.{HasCause}
 use Rattle.lib_os.specs.declared.place.Place.{Place}
 use Rattle.lib_os.specs.declared.progress.Progress.{Progress}
@@ -18,11 +16,9 @@ use Rattle.lib_os.specs.declared.user_os.Stop.{Stop}
 use Rattle.lib_os.specs.declared.user_os.Stop.TheVariants as stop
 use Rattle.lib_os.specs.AbstractState.{AbstractState}
 use Rattle.lib_os.specs.InOrder.{IsInOrder}
-use Rattle.lib_os.specs.LibrarySteps.{IsLibraryStep, IsStopped, Lowers, GivesUp, is_pausing}
-use Rattle.lib_os.specs.Places.{place_of}
+use Rattle.lib_os.specs.LibrarySteps.{IsLibraryStep, IsStopped, Lowers}
 use Rattle.lib_os.specs.StandsFor.{StandsFor, Names}
-use Rattle.lib_os.specs.UserCalls.{Step, Got, got, to_handler, gone, giving, accessing, faulting, user_word, load, IsStep, HasStopCause}
-use Rattle.lib_os.proofs.GoingOn.{gives_nothing_up}
+use Rattle.lib_os.specs.UserCalls.{Step, Got, got, to_handler, gone, giving, accessing, faulting, user_word, load, IsStep, HasStopCause, Output, Prints}
 use Rattle.lib_os.proofs.StatesStand.{quiet_stands}
 use Rattle.lib_os.proofs.Touching.{touched_quiet}
 use Rattle.lib_os.proofs.WindowWords.{read_at}
@@ -47,12 +43,12 @@ load_got s n va word is = by_reach (reach_in s.spaces (slot_at s n).directory va
     by_reach (Ok location) e = (refl, refl)
     by_reach (Err fault) e = by_handler fault (handled s n fault) e
 
-module _ (s mid : KernelState) (n va word : ℕ) (console : Around (Option (List ℕ))) (call : IsStep (load s n va) (Ok word) mid console) where
+module _ (s mid : KernelState) (n va word : ℕ) (output : Output) (call : IsStep (load s n va) (Ok word) mid output) where
   pub loaded_state : mid ≡ loaded s n va
   loaded_state = call.1 ∙ (load_got s n va word call.0).0
 
-  pub loaded_quiet : Gains console []
-  loaded_quiet = subst (λ (written : List ℕ). Gains console written) (load_got s n va word call.0).1 call.2
+  pub loaded_quiet : Prints output []
+  loaded_quiet = subst (λ (written : List ℕ). Prints output written) (load_got s n va word call.0).1 call.2
 
   pub loader_lives : is_live (slot_at s n) ≡ true → (m : ℕ) → m ≡ n → is_live (slot_at mid m) ≡ true
   loader_lives live m same = (λ i. is_live (slot_at (loaded_state i) (same i))) ∙ live
@@ -82,26 +78,30 @@ not_got w g is = (
   λ other. absurd (let contradiction : gone ≡ got w = sym other ∙ is in cc),
 )
 
-pub stopped_step : (s mid : KernelState) (n va : ℕ) (e : Stop) (result : Result Progress Failed) (console : Around (Option (List ℕ))) →
+pub stopped_step : (s mid : KernelState) (n va : ℕ) (e : Stop) (result : Result Progress Failed) (output : Output) →
     ((names : Names) (a : AbstractState) → StandsFor names s a → GivesWord s n va) →
-    IsStep (load s n va) (Err e) mid console → IsStopped e result → IsLibraryStep result n s mid console
-stopped_step s mid n va stop.Failed (Err failed) console gives call is =
-    ((load s n va).written, call, λ a h some. absurd (some (ap (λ (z : Step ℕ). z.written) (gives h.0 a h.1).is)))
-stopped_step s mid n va stop.Failed (Ok p) console gives call is = absurd is
-stopped_step s mid n va stop.Upcall (Ok p) console gives call is = (
+    IsStep (load s n va) (Err e) mid output → IsStopped e result → IsLibraryStep result n s mid output
+stopped_step s mid n va stop.Failed (Err failed) output gives call is = (
+  (load s n va).written,
+  call.1,
+  λ a h. let w = gives h.0 a h.1 in
+      absurd ((not_got w.word (load s n va).gives (ap (λ (z : Step ℕ). z.gives) w.is)).1 call.0),
+)
+stopped_step s mid n va stop.Failed (Ok p) output gives call is = absurd is
+stopped_step s mid n va stop.Upcall (Ok p) output gives call is = (
   (load s n va).written,
   call.2,
   λ a h quiet. let w = gives h.0 a h.1 in
       absurd ((not_got w.word (load s n va).gives (ap (λ (z : Step ℕ). z.gives) w.is)).0 call.0),
 )
-stopped_step s mid n va stop.Upcall (Err failed) console gives call is = absurd is
-stopped_step s mid n va stop.Ended (Ok p) console gives call is = (
+stopped_step s mid n va stop.Upcall (Err failed) output gives call is = absurd is
+stopped_step s mid n va stop.Ended (Ok p) output gives call is = (
   (load s n va).written,
   call.2,
   λ a h quiet. let w = gives h.0 a h.1 in
       absurd ((not_got w.word (load s n va).gives (ap (λ (z : Step ℕ). z.gives) w.is)).1 call.0),
 )
-stopped_step s mid n va stop.Ended (Err failed) console gives call is = absurd is
+stopped_step s mid n va stop.Ended (Err failed) output gives call is = absurd is
 
 pub stopped_lowers : (e : Stop) (result : Result Progress Failed) (before after : Place) → IsStopped e result → Lowers result before after
 stopped_lowers e (Err failed) before after is = tt

@@ -1,6 +1,6 @@
 -- A service's step: what stands at its beginning, what its step is in the abstract system, and that its answer leads back
 -- to the program.
-use Rattle.std.proofs.Common.{◌≡◌, ◌∙◌, ℕ, Bool, false, List, [], Option, Ok, refl, sym, ap, subst}
+use Rattle.std.proofs.Common.{◌≡◌, ◌∙◌, ℕ, Bool, false, List, [], Ok, refl, sym, ap, subst}
 use Rattle.std.specs.Prelude.{◌++◌}
 use Rattle.std.proofs.lemmas.Bool.{false≢true}
 use Rattle.std.proofs.lemmas.List.{append-nil}
@@ -8,8 +8,6 @@ use Rattle.jos_base.specs.declared.registers.Regs.{Regs}
 use Rattle.jos_base.specs.Environments.{Slot as KernelSlot, free_slot, no_extra}
 use Rattle.jos_base.specs.KernelState.{KernelState, slot_at}
 use Rattle.jos_base.specs.SpacesState.{SpacesState}
-use Rattle.jos_host.specs.Frames.{Around}
-use Rattle.jos_host.specs.Gains.{Gains}
 use Rattle.lib_os.specs.declared.place.Place.{Place}
 use Rattle.lib_os.specs.declared.place.Place.TheVariants as place
 use Rattle.lib_os.specs.declared.place.Step.{Step}
@@ -22,6 +20,7 @@ use Rattle.lib_os.specs.LibraryCall.{library_step}
 use Rattle.lib_os.specs.LibrarySteps.{GoesOn, NothingRefused, IsLibraryStep}
 use Rattle.lib_os.specs.Places.{place_in, place_of, is_at_guest}
 use Rattle.lib_os.specs.StandsFor.{StandsFor, Names, rows_of, StandsForSlot, StandsForBorn, StandsAt, StandsAtStep, RunsAs, IsIn}
+use Rattle.lib_os.specs.UserCalls.{Output, Prints}
 
 -- who keeps no words is at its program
 pub words_of_none : (regs : Regs) (words : List ℕ) → words ≡ no_extra → place_in regs words ≡ place.Guest
@@ -103,15 +102,15 @@ back_at_guest {s = s} {k = k} {b = b} regs own silent awake stack =
     }
 
 -- what an answer or an end is to the library
-pub finished : (s after : KernelState) (n : ℕ) (written : List ℕ) (console : Around (Option (List ℕ))) → Gains console written →
+pub finished : (s after : KernelState) (n : ℕ) (written : List ℕ) (output : Output) → Prints output written →
     ((names : Names) (a : AbstractState) → StandsFor names s a → NothingRefused s after → GoesOn n after a written) →
-    IsLibraryStep (Ok progress.Finished) n s after console
-finished s after n written console gains goes = (written, gains, λ a h quiet. goes h.0 a h.1 quiet)
+    IsLibraryStep (Ok progress.Finished) n s after output
+finished s after n written output gains goes = (written, gains, λ a h quiet. goes h.0 a h.1 quiet)
 
-pub over : (s after : KernelState) (n : ℕ) (written : List ℕ) (console : Around (Option (List ℕ))) → Gains console written →
+pub over : (s after : KernelState) (n : ℕ) (written : List ℕ) (output : Output) → Prints output written →
     ((names : Names) (a : AbstractState) → StandsFor names s a → NothingRefused s after → GoesOn n after a written) →
-    IsLibraryStep (Ok progress.Ended) n s after console
-over s after n written console gains goes = (written, gains, λ a h quiet. goes h.0 a h.1 quiet)
+    IsLibraryStep (Ok progress.Ended) n s after output
+over s after n written output gains goes = (written, gains, λ a h quiet. goes h.0 a h.1 quiet)
 
 -- the console of an abstract state in which nothing was printed
 pub printed_nothing : (a : AbstractState) → a.console ≡ a.console ++ []

@@ -1,5 +1,5 @@
 -- A message that is tried is answered, whoever is named, and its sender lives on.
-use Rattle.std.proofs.Common.{◌≡◌, ◌≢◌, ◌∙◌, ◌==◌, ◌%◌, ◌&&◌, ℕ, Bool, true, false, not, List, [], ◌∷◌, Option, Some, None, refl, sym, ap, subst, if◌then◌else◌}
+use Rattle.std.proofs.Common.{◌≡◌, ◌∙◌, ◌==◌, ◌%◌, ◌&&◌, ℕ, Bool, true, false, not, List, [], ◌∷◌, Option, Some, None, refl, sym, ap, subst, if◌then◌else◌}
 use Rattle.std.specs.Prelude.{nat_lt}
 use Rattle.jos_base.specs.declared.called.Called.{Called}
 use Rattle.jos_base.specs.declared.called.Called.TheVariants.{Answered}
@@ -10,13 +10,13 @@ use Rattle.jos_base.specs.Environments.{Slot, is_live, found, with_answer}
 use Rattle.jos_base.specs.KernelState.{KernelState, slot_at, with_slot_at, with_registers, with_rendezvous, with_spaces, with_status, with_refusal}
 use Rattle.jos_base.specs.Messages.{Rendezvous, accepts, wanting}
 use Rattle.jos_base.specs.SpacesState.{SpacesState}
-use Rattle.jos_base.specs.SystemCalls.{Did, Passing, nothing, a_page, invalid, call_of, answered, message_taken, sent, sent_with, passing_of, inserted_at, ipc_try_send_of}
+use Rattle.jos_base.specs.SystemCalls.{Passing, nothing, a_page, invalid, call_of, answered, message_taken, sent, sent_with, passing_of, inserted_at, ipc_try_send_of}
 use Rattle.jos_base.specs.Words.{negated}
-use Rattle.lib_os.specs.UserCalls.{Step, got, asking, taken_back, called_by, system}
+use Rattle.lib_os.specs.UserCalls.{Step, got, asking, called_by, system}
 use Rattle.lib_os.specs.AbstractState.{AbstractState}
 use Rattle.lib_os.specs.MemoryServices.{lives}
 use Rattle.lib_os.specs.StandsFor.{StandsFor, Names}
-use Rattle.lib_os.proofs.Maps.{upd-at, upd-all}
+use Rattle.lib_os.proofs.Maps.{upd-all}
 use Rattle.lib_os.proofs.Slots.{slot_put}
 use Rattle.lib_os.proofs.Calls.{system_is, live_still, waits_is, ipc_recv_is}
 use Rattle.lib_os.proofs.Sends.{message_taken_is, received_in}

@@ -1,12 +1,11 @@
 -- What a step of the library promises. Wherever the kernel's state stands for one of the abstract system, the state after
 -- the step stands for the same one, where the step is hidden, or for the one after the slot's step there. Nothing is said
 -- of a step that was refused a frame or a slot.
-use Rattle.std.specs.Prelude.{◌≡◌, ◌≢◌, ◌<◌, ℕ, ◌+◌, ◌-◌, ◌^◌, ◌++◌, Bool, true, false, List, [], Option, Some, Result, Ok, Err}
+use Rattle.std.specs.Prelude.{◌≡◌, ◌<◌, ◌≤◌, ℕ, ◌+◌, ◌-◌, ◌^◌, ◌++◌, Bool, true, false, List, [], length, Some, Result, Ok, Err}
 use Rattle.jos_host.specs.declared.host.Failed.{Failed}
 use Rattle.jos_host.specs.Frames.{Around}
-use Rattle.jos_host.specs.Gains.{Gains, GainsPart}
 use Rattle.jos_base.specs.declared.registers.Regs.{Regs}
-use Rattle.jos_base.specs.Environments.{Slot as KernelSlot, is_runnable, no_extra}
+use Rattle.jos_base.specs.Environments.{Slot as KernelSlot, is_live, is_runnable, is_running, no_extra}
 use Rattle.jos_base.specs.KernelState.{KernelState, slot_at, with_slot_at}
 use Rattle.lib_os.specs.declared.user_os.Stop.{Stop}
 use Rattle.lib_os.specs.declared.user_os.Stop.TheVariants as stop
@@ -19,8 +18,11 @@ use Rattle.lib_os.specs.declared.place.Step.TheVariants as step
 use Rattle.lib_os.specs.declared.service.Service.TheVariants as service
 use Rattle.lib_os.specs.AbstractState.{AbstractState}
 use Rattle.lib_os.specs.AbstractRun.{abs_step, may_wait}
+use Rattle.lib_os.specs.InOrder.{IsInOrder}
+use Rattle.lib_os.specs.Need.{EachHasUse}
 use Rattle.lib_os.specs.Places.{place_of}
 use Rattle.lib_os.specs.StandsFor.{StandsFor, Names}
+use Rattle.lib_os.specs.UserCalls.{Output, Prints, PrintsPart}
 
 -- the state stands for an abstract one, by some names of the shared pages
 abbrev pub Stands : KernelState → AbstractState → Type 0
@@ -52,14 +54,57 @@ abbrev pub Keeps : Progress → ℕ → KernelState → KernelState → List ℕ
 Keeps progress n before after written =
     (a : AbstractState) → Stands before a → NothingRefused before after → Follows progress n after a written
 
--- The same with what came to the console. Where the host failed, nothing is said of the state, and what came is a part of what
--- the slot's step prints, or nothing.
-abbrev pub IsLibraryStep : Result Progress Failed → ℕ → KernelState → KernelState → Around (Option (List ℕ)) → Type 0
-IsLibraryStep (Ok progress) n before after console =
-    (written : List ℕ) × Gains console written × Keeps progress n before after written
-IsLibraryStep (Err _) n before after console =
-    (written : List ℕ) × GainsPart console written
-    × ((a : AbstractState) → Stands before a → written ≢ [] → (b : AbstractState) × (abs_step a n ≡ Some b) × (b.console ≡ a.console ++ written))
+-- The same with what was printed. Where the host failed, nothing is said of the state, and what came is a part of what the
+-- slot's step prints.
+abbrev pub IsLibraryStep : Result Progress Failed → ℕ → KernelState → KernelState → Output → Type 0
+IsLibraryStep (Ok progress) n before after output =
+    (written : List ℕ) × Prints output written × Keeps progress n before after written
+IsLibraryStep (Err _) n before after output =
+    (written : List ℕ) × PrintsPart output written
+    × ((a : AbstractState) → Stands before a → (b : AbstractState) × (abs_step a n ≡ Some b) × (b.console ≡ a.console ++ written))
+
+-- ---- what every step leaves
+
+-- the services that try again and again
+abbrev pub is_pausing : Place → Bool
+is_pausing (place.InService (service.Wait id) (step.Pausing perm)) = true
+is_pausing (place.InService (service.Send id value va) (step.Pausing perm)) = true
+is_pausing _ = false
+
+-- What a step leaves, whatever it stands for: the last turn and the number of turns, and how many frames there are; and where
+-- two frames are free, nothing is refused.
+pub record LeavesRest (before after : KernelState) : Type 0 where
+  pub last : after.last ≡ before.last
+  pub turns : after.turns ≡ before.turns
+  pub frames : after.spaces.frames ≡ before.spaces.frames
+  pub refused : 2 ≤ length before.spaces.free → after.refusals ≡ before.refusals
+
+abbrev pub is_yield : Place → Bool
+is_yield (place.InService service.Yield s) = true
+is_yield _ = false
+
+-- only a step that yields, or one that pauses, gives up its turn
+abbrev pub MayGiveUp : Progress → Place → Type 0
+MayGiveUp progress.Hidden at = is_pausing at ≡ true
+MayGiveUp progress.Finished at = is_yield at ≡ true
+MayGiveUp _ at = ⊥
+
+-- An environment in its turn, which waits for nothing, is RUNNABLE after its step only where it may give up its turn.
+abbrev pub KeepsTurn : Progress → KernelSlot → KernelSlot → Type 0
+KeepsTurn done before after =
+    is_running before.status ≡ true → before.rendezvous.receiving ≡ false → is_runnable after.status ≡ true →
+    MayGiveUp done (place_of before)
+
+-- Each frame that is handed out keeps a use.
+abbrev pub KeepsUses : ℕ → KernelState → KernelState → Type 0
+KeepsUses n before after =
+    IsInOrder before → is_live (slot_at before n) ≡ true → EachHasUse before.spaces → EachHasUse after.spaces
+
+-- Where the host failed nothing is said.
+abbrev pub Leaves : Result Progress Failed → ℕ → KernelState → KernelState → Type 0
+Leaves (Ok done) n before after =
+    LeavesRest before after × KeepsTurn done (slot_at before n) (slot_at after n) × KeepsUses n before after
+Leaves (Err _) n before after = Unit {0}
 
 -- ---- the number that falls
 
@@ -76,12 +121,6 @@ steps_left (place.InService s (step.ReadingValue id)) = 4
 steps_left (place.InService s (step.ReadingSender id value)) = 3
 steps_left (place.InService s (step.ReadingPerm id value sender)) = 2
 
--- the services that try again and again
-abbrev pub is_pausing : Place → Bool
-is_pausing (place.InService (service.Wait id) (step.Pausing perm)) = true
-is_pausing (place.InService (service.Send id value va) (step.Pausing perm)) = true
-is_pausing _ = false
-
 -- A hidden step lowers the number. One that waits is followed by one that gives up the turn.
 abbrev pub Lowers : Result Progress Failed → Place → Place → Type 0
 Lowers (Ok progress.Hidden) before after = steps_left after < steps_left before
@@ -96,7 +135,7 @@ GivesUp (Err _) before after = Unit {0}
 
 -- ---- calls
 
--- What a step comes to when a load gave it nothing. A load at a window never faults, so that it is the host that has failed.
+-- What a step comes to when a load gave it nothing. A load at a window never does.
 abbrev pub IsStopped : Stop → Result Progress Failed → Type 0
 IsStopped stop.Failed (Err failed) = Unit {0}
 IsStopped stop.Failed (Ok done) = ⊥

@@ -2,8 +2,8 @@
 -- moved as a user moves it, a system call, registers taken back from the frame of a page fault. Each call is one step, and
 -- another environment may have its turn between any two.
 -- (MIT 6.828, lib/syscall.c, and the loads and stores of lib/*.c.)
-use Rattle.std.specs.Prelude.{◌≡◌, ◌≤◌, ℕ, ◌+◌, ◌==◌, ◌&&◌, Bool, true, false, not, List, [], ◌∷◌, get_or, Option, Some, None, Result, Ok, Err}
-use Rattle.std.specs.Prelude.{if◌then◌else◌}
+use Rattle.std.specs.Prelude.{◌≡◌, ◌≤◌, ℕ, ◌+◌, ◌-◌, ◌^◌, min, ◌==◌, ◌&&◌, ◌||◌, Bool, true, false, not, List, [], ◌∷◌, get_or, length}
+use Rattle.std.specs.Prelude.{Option, Some, None, Result, Ok, Err, if◌then◌else◌}
 use Rattle.std.specs.Int.{w32, to_le_bytes, from_le_bytes}
 use Rattle.jos_base.specs.declared.called.Called.{Called}
 use Rattle.jos_base.specs.declared.called.Called.TheVariants.{Answered}
@@ -11,7 +11,7 @@ use Rattle.jos_base.specs.declared.line.Line.TheVariants.{UserFault}
 use Rattle.jos_base.specs.declared.memory.Access.{Access}
 use Rattle.jos_base.specs.declared.memory.Access.TheVariants.{Read, Write}
 use Rattle.jos_base.specs.declared.memory.PageFault.{PageFault}
-use Rattle.jos_base.specs.declared.numbers.TheConstants.{SYS_ENV_SET_TRAPFRAME}
+use Rattle.jos_base.specs.declared.numbers.TheConstants.{SYS_CPUTS, SYS_ENV_SET_TRAPFRAME}
 use Rattle.jos_base.specs.declared.registers.Regs.{Regs}
 use Rattle.jos_base.specs.Environments.{records_of, found, is_live}
 use Rattle.jos_base.specs.KernelState.{KernelState, slot_at, with_registers, with_spaces}
@@ -21,7 +21,7 @@ use Rattle.jos_base.specs.TrapFrames.{words_of_bytes, frame_size, from_frame}
 use Rattle.jos_base.specs.UserMemory.{reach_in, touched, byte_at, stored_byte}
 use Rattle.jos_host.specs.declared.host.Failed.{Failed}
 use Rattle.jos_host.specs.Told.{Rose}
-use Rattle.jos_host.specs.Frames.{Around}
+use Rattle.jos_host.specs.Frames.{Around, around}
 use Rattle.jos_host.specs.Gains.{Gains, GainsPart}
 use Rattle.lib_os.specs.declared.user_os.Stop.{Stop}
 use Rattle.lib_os.specs.declared.user_os.Stop.TheVariants as stop
@@ -144,19 +144,46 @@ restored s n (Err fault) = faulting s n fault (handled s n fault)
 unfoldable pub restore_frame : KernelState → ℕ → Step (Unit {0})
 restore_frame s n = restored s n (user_bytes s n (slot_at s n).registers.esp frame_size)
 
+-- ---- what is printed
+
+-- What came to the console, where the host tells it, and how many bytes were counted.
+pub record Output : Type 0 where
+  pub console : Around (Option (List ℕ))
+  pub count : Around ℕ
+
+abbrev pub output : {H S : Type 0} → (H → Option (List ℕ)) → (S → ℕ) → Around H → Around S → Output
+output console count host self = record {
+  console = around console host.before host.after;
+  count = around count self.before self.after;
+}
+
+-- The console has gained these bytes, and they are counted. The count stands still at the end of its type.
+pub record Prints (output : Output) (bytes : List ℕ) : Type 0 where
+  pub gains : Gains output.console bytes
+  pub counted : output.count.after ≡ min (output.count.before + length bytes) (2 ^ 64 - 1)
+
+-- a part of them came
+abbrev pub PrintsPart : Output → List ℕ → Type 0
+PrintsPart output bytes = GainsPart output.console bytes
+
 -- ---- results
 
--- What a call answers, with the state after it and what came to the console. Where the host failed, a part of the bytes came.
-abbrev pub IsStep : {X : Type 0} → Step X → Result X Stop → KernelState → Around (Option (List ℕ)) → Type 0
-IsStep step (Ok x) state console = (step.gives ≡ got x) × (state ≡ step.state) × Gains console step.written
-IsStep step (Err stop.Upcall) state console = (step.gives ≡ to_handler) × (state ≡ step.state) × Gains console step.written
-IsStep step (Err stop.Ended) state console = (step.gives ≡ gone) × (state ≡ step.state) × Gains console step.written
-IsStep step (Err stop.Failed) state console = GainsPart console step.written
+-- What a call answers, with the state after it and what was printed. Where the host failed, it was in the line of the
+-- environment's end, a part of which came.
+abbrev pub IsStep : {X : Type 0} → Step X → Result X Stop → KernelState → Output → Type 0
+IsStep step (Ok x) state output = (step.gives ≡ got x) × (state ≡ step.state) × Prints output step.written
+IsStep step (Err stop.Upcall) state output = (step.gives ≡ to_handler) × (state ≡ step.state) × Prints output step.written
+IsStep step (Err stop.Ended) state output = (step.gives ≡ gone) × (state ≡ step.state) × Prints output step.written
+IsStep step (Err stop.Failed) state output = (step.gives ≡ gone) × PrintsPart output step.written
 
--- the same of a call that faults nowhere
-abbrev pub IsCallStep : Step Called → Result Called Failed → KernelState → Around (Option (List ℕ)) → Type 0
-IsCallStep step (Ok called) state console = (step.gives ≡ got called) × (state ≡ step.state) × Gains console step.written
-IsCallStep step (Err _) state console = GainsPart console step.written
+-- the same of a system call, which faults nowhere
+abbrev pub IsCallStep : Step Called → Result Called Failed → KernelState → Output → Type 0
+IsCallStep step (Ok called) state output = (step.gives ≡ got called) × (state ≡ step.state) × Prints output step.written
+IsCallStep step (Err _) state output = PrintsPart output step.written
+
+-- the calls that print, so that the host may fail in them
+abbrev pub may_print : ℕ → Bool
+may_print number = (number == SYS_CPUTS) || (number == SYS_ENV_SET_TRAPFRAME)
 
 -- the word that a system call has answered; 0 where it has answered nothing
 abbrev pub answer_of : Called → ℕ

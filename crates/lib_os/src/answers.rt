@@ -20,6 +20,7 @@ pub fn go_back<O: UserOs>(os: &mut O, registers: Regs)
     ensures state { O.state os.new ≡ gone_back (O.state os.old) (O.slot os.old) registers }
     ensures slot { O.slot os.new ≡ O.slot os.old }
     ensures calls { O.calls os.new ≡ O.calls os.old }
+    ensures written { O.written os.new ≡ O.written os.old }
 {
     os.set_registers(registers);
     os.set_extra(Extra([0; EXTRA_WORDS]));
@@ -31,6 +32,7 @@ pub fn answer<O: UserOs>(os: &mut O, word: u32)
     ensures state { O.state os.new ≡ answered (O.state os.old) (O.slot os.old) word }
     ensures slot { O.slot os.new ≡ O.slot os.old }
     ensures calls { O.calls os.new ≡ O.calls os.old }
+    ensures written { O.written os.new ≡ O.written os.old }
 {
     let registers = os.registers();
     go_back(
@@ -72,6 +74,7 @@ pub fn go_on<O: UserOs>(os: &mut O, number: u32, step: Step)
     ensures state { O.state os.new ≡ with_extra (O.state os.old) (O.slot os.old) (words_at number step) }
     ensures slot { O.slot os.new ≡ O.slot os.old }
     ensures calls { O.calls os.new ≡ O.calls os.old }
+    ensures written { O.written os.new ≡ O.written os.old }
 {
     os.set_extra(words_at(number, step));
 }

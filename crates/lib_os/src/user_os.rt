@@ -1,13 +1,13 @@
 //! What the library asks of the kernel for an environment.
 
-ghost use Rattle.std.specs.Prelude.{◌≡◌, ℕ, ◌+◌, ◌-◌, ◌%◌, ◌<◌, ◌^◌, true};
+ghost use Rattle.std.specs.Prelude.{◌≡◌, ℕ, ◌+◌, ◌-◌, ◌%◌, ◌<◌, ◌^◌, true, OnErr};
 ghost use Rattle.jos_host.specs.Told.{HasCause};
-ghost use Rattle.jos_host.specs.Frames.{Unchanged, around};
+ghost use Rattle.jos_host.specs.Frames.{Unchanged, around, from_to};
 ghost use Rattle.jos_base.specs.Environments.{is_live};
 ghost use Rattle.jos_base.specs.KernelState.{KernelState, slot_at, with_registers, with_extra};
 ghost use Rattle.lib_os.specs.InOrder.{IsInOrder};
 ghost use Rattle.lib_os.specs.UserCalls as call;
-ghost use Rattle.lib_os.specs.UserCalls.{IsStep, IsCallStep, HasStopCause};
+ghost use Rattle.lib_os.specs.UserCalls.{IsStep, IsCallStep, HasStopCause, output, may_print};
 
 use jos_base::{Called, Extra, Regs};
 use jos_host::{Failed, Host};
@@ -32,13 +32,15 @@ pub trait UserOs {
     ghost slot: { Self → ℕ };
     /// How many calls were made.
     ghost calls: { Self → ℕ };
+    /// How many bytes they have printed.
+    ghost written: { Self → ℕ };
 
     /// The word at an address that is a multiple of four.
     fn load<H: Host>(&mut self, host: &mut H, va: u32) -> Result<u32, Stop>
         requires live { is_live (slot_at (state self.old) (slot self.old)) ≡ true }
         requires aligned { va % 4 ≡ 0 }
         requires few { calls self.old < 2 ^ 32 - 1 }
-        ensures step { IsStep (call.load (state self.old) (slot self.old) va) result (state self.new) (around H.console host.old host.new) }
+        ensures step { IsStep (call.load (state self.old) (slot self.old) va) result (state self.new) (output H.console written (from_to host.old host.new) (from_to self.old self.new)) }
         ensures in_order { IsInOrder (state self.new) }
         ensures slot { slot self.new ≡ slot self.old }
         ensures calls { calls self.new ≡ calls self.old + 1 }
@@ -49,7 +51,7 @@ pub trait UserOs {
     fn load_byte<H: Host>(&mut self, host: &mut H, va: u32) -> Result<u8, Stop>
         requires live { is_live (slot_at (state self.old) (slot self.old)) ≡ true }
         requires few { calls self.old < 2 ^ 32 - 1 }
-        ensures step { IsStep (call.load_byte (state self.old) (slot self.old) va) result (state self.new) (around H.console host.old host.new) }
+        ensures step { IsStep (call.load_byte (state self.old) (slot self.old) va) result (state self.new) (output H.console written (from_to host.old host.new) (from_to self.old self.new)) }
         ensures in_order { IsInOrder (state self.new) }
         ensures slot { slot self.new ≡ slot self.old }
         ensures calls { calls self.new ≡ calls self.old + 1 }
@@ -61,7 +63,7 @@ pub trait UserOs {
         requires live { is_live (slot_at (state self.old) (slot self.old)) ≡ true }
         requires aligned { va % 4 ≡ 0 }
         requires few { calls self.old < 2 ^ 32 - 1 }
-        ensures step { IsStep (call.store (state self.old) (slot self.old) va word) result (state self.new) (around H.console host.old host.new) }
+        ensures step { IsStep (call.store (state self.old) (slot self.old) va word) result (state self.new) (output H.console written (from_to host.old host.new) (from_to self.old self.new)) }
         ensures in_order { IsInOrder (state self.new) }
         ensures slot { slot self.new ≡ slot self.old }
         ensures calls { calls self.new ≡ calls self.old + 1 }
@@ -72,7 +74,7 @@ pub trait UserOs {
     fn store_byte<H: Host>(&mut self, host: &mut H, va: u32, byte: u8) -> Result<(), Stop>
         requires live { is_live (slot_at (state self.old) (slot self.old)) ≡ true }
         requires few { calls self.old < 2 ^ 32 - 1 }
-        ensures step { IsStep (call.store_byte (state self.old) (slot self.old) va byte) result (state self.new) (around H.console host.old host.new) }
+        ensures step { IsStep (call.store_byte (state self.old) (slot self.old) va byte) result (state self.new) (output H.console written (from_to host.old host.new) (from_to self.old self.new)) }
         ensures in_order { IsInOrder (state self.new) }
         ensures slot { slot self.new ≡ slot self.old }
         ensures calls { calls self.new ≡ calls self.old + 1 }
@@ -84,7 +86,7 @@ pub trait UserOs {
         requires live { is_live (slot_at (state self.old) (slot self.old)) ≡ true }
         requires aligned { va % 4 ≡ 0 }
         requires few { calls self.old < 2 ^ 32 - 1 }
-        ensures step { IsStep (call.exchange (state self.old) (slot self.old) va word) result (state self.new) (around H.console host.old host.new) }
+        ensures step { IsStep (call.exchange (state self.old) (slot self.old) va word) result (state self.new) (output H.console written (from_to host.old host.new) (from_to self.old self.new)) }
         ensures in_order { IsInOrder (state self.new) }
         ensures slot { slot self.new ≡ slot self.old }
         ensures calls { calls self.new ≡ calls self.old + 1 }
@@ -101,7 +103,8 @@ pub trait UserOs {
     ) -> Result<Called, Failed>
         requires live { is_live (slot_at (state self.old) (slot self.old)) ≡ true }
         requires few { calls self.old < 2 ^ 32 - 1 }
-        ensures step { IsCallStep (call.system (state self.old) (slot self.old) number args) result (state self.new) (around H.console host.old host.new) }
+        ensures step { IsCallStep (call.system (state self.old) (slot self.old) number args) result (state self.new) (output H.console written (from_to host.old host.new) (from_to self.old self.new)) }
+        ensures fails { OnErr result (may_print number ≡ true) }
         ensures in_order { IsInOrder (state self.new) }
         ensures slot { slot self.new ≡ slot self.old }
         ensures calls { calls self.new ≡ calls self.old + 1 }
@@ -112,7 +115,7 @@ pub trait UserOs {
     fn restore_frame<H: Host>(&mut self, host: &mut H) -> Result<(), Stop>
         requires live { is_live (slot_at (state self.old) (slot self.old)) ≡ true }
         requires few { calls self.old < 2 ^ 32 - 1 }
-        ensures step { IsStep (call.restore_frame (state self.old) (slot self.old)) result (state self.new) (around H.console host.old host.new) }
+        ensures step { IsStep (call.restore_frame (state self.old) (slot self.old)) result (state self.new) (output H.console written (from_to host.old host.new) (from_to self.old self.new)) }
         ensures in_order { IsInOrder (state self.new) }
         ensures slot { slot self.new ≡ slot self.old }
         ensures calls { calls self.new ≡ calls self.old + 1 }
@@ -130,7 +133,8 @@ pub trait UserOs {
         ensures state { state self.new ≡ with_registers (state self.old) (slot self.old) registers }
         ensures in_order { IsInOrder (state self.new) }
         ensures slot { slot self.new ≡ slot self.old }
-        ensures calls { calls self.new ≡ calls self.old };
+        ensures calls { calls self.new ≡ calls self.old }
+        ensures written { written self.new ≡ written self.old };
 
     /// The words that the environment keeps for the library.
     fn extra(&self) -> Extra
@@ -143,5 +147,6 @@ pub trait UserOs {
         ensures state { state self.new ≡ with_extra (state self.old) (slot self.old) extra.0 }
         ensures in_order { IsInOrder (state self.new) }
         ensures slot { slot self.new ≡ slot self.old }
-        ensures calls { calls self.new ≡ calls self.old };
+        ensures calls { calls self.new ≡ calls self.old }
+        ensures written { written self.new ≡ written self.old };
 }

@@ -1,5 +1,5 @@
 -- exit: no descriptor is open, so that the environment ends at once, in both systems.
-use Rattle.std.proofs.Common.{◌≡◌, ◌∙◌, ℕ, ◌+◌, zero, suc, true, false, List, [], ◌∷◌, Option, Some, None, Ok, Err, refl, sym, ap, subst}
+use Rattle.std.proofs.Common.{◌≡◌, ◌∙◌, ℕ, ◌+◌, zero, suc, true, false, [], ◌∷◌, Option, Some, None, Ok, refl, sym, ap, subst}
 use Rattle.std.specs.Prelude.{is_some}
 use Rattle.jos_base.specs.declared.called.Called.{Called}
 use Rattle.jos_base.specs.declared.called.Called.TheVariants.{Ended}
@@ -8,8 +8,6 @@ use Rattle.jos_base.specs.Environments.{Slot as KernelSlot, is_live}
 use Rattle.jos_base.specs.KernelState.{KernelState, slot_at}
 use Rattle.jos_base.specs.SpacesState.{Use, directory, is_directory}
 use Rattle.jos_base.specs.SystemCalls.{without_environment}
-use Rattle.jos_host.specs.declared.host.Failed.{Failed}
-use Rattle.jos_host.specs.Frames.{Around}
 use Rattle.lib_os.specs.declared.numbers.TheConstants.{DESCRIPTORS}
 use Rattle.lib_os.specs.declared.place.Place.TheVariants as place
 use Rattle.lib_os.specs.declared.place.Step.{Step}
@@ -24,10 +22,9 @@ use Rattle.lib_os.specs.LibraryCall.{library_step}
 use Rattle.lib_os.specs.LibrarySteps.{IsLibraryStep, GoesOn, NothingRefused}
 use Rattle.lib_os.specs.Places.{place_of}
 use Rattle.lib_os.specs.StandsFor.{StandsFor, Names, Row, rows_of, StandsAtStep, IsIn}
-use Rattle.lib_os.specs.UserCalls.{Step as Call, IsCallStep, system}
+use Rattle.lib_os.specs.UserCalls.{IsCallStep, system, Output}
 use Rattle.lib_os.proofs.Calls.{comes_to, env_destroy_is}
 use Rattle.lib_os.proofs.EndsStand.{ended_stands}
-use Rattle.lib_os.proofs.GoingOn.{never, failed}
 use Rattle.lib_os.proofs.Removing.{destroyed_gone}
 use Rattle.lib_os.proofs.Serving.{served, step_in, over, printed_nothing}
 
@@ -50,14 +47,14 @@ abstract_exit : (a : AbstractState) (n : ℕ) (b : Born) (k : KernelSlot) → ((
 unfolding library_step
 abstract_exit a n b k none = ap (λ (lowest : Option ℕ). Some (exit_by a n b lowest)) (none_from b.descriptors none 0 DESCRIPTORS)
 
-pub exits : (s mid : KernelState) (n : ℕ) (at : Step) (called : Called) (console : Around (Option (List ℕ))) →
+pub exits : (s mid : KernelState) (n : ℕ) (at : Step) (called : Called) (output : Output) →
     place_of (slot_at s n) ≡ place.InService service.Exit at → is_live (slot_at s n) ≡ true → IsInOrder mid →
-    IsCallStep (system s n SYS_ENV_DESTROY (0 ∷ 0 ∷ 0 ∷ 0 ∷ 0 ∷ [])) (Ok called) mid console →
-    IsLibraryStep (Ok progress.Ended) n s mid console
-exits s mid n at called console stands live in_order call =
-    let came = comes_to (system s n SYS_ENV_DESTROY (0 ∷ 0 ∷ 0 ∷ 0 ∷ 0 ∷ [])) Ended called (without_environment s n) mid [] console
+    IsCallStep (system s n SYS_ENV_DESTROY (0 ∷ 0 ∷ 0 ∷ 0 ∷ 0 ∷ [])) (Ok called) mid output →
+    IsLibraryStep (Ok progress.Ended) n s mid output
+exits s mid n at called output stands live in_order call =
+    let came = comes_to (system s n SYS_ENV_DESTROY (0 ∷ 0 ∷ 0 ∷ 0 ∷ 0 ∷ [])) Ended called (without_environment s n) mid [] output
     (env_destroy_is s n live (0 ∷ 0 ∷ 0 ∷ 0 ∷ [])) call in
-    over s mid n [] console (came.2) (goes (came.1))
+    over s mid n [] output (came.2) (goes (came.1))
   where
     goes : mid ≡ without_environment s n → (names : Names) (a : AbstractState) → StandsFor names s a → NothingRefused s mid → GoesOn n mid a []
     goes is names a h quiet =
@@ -71,17 +68,3 @@ exits s mid n at called console stands live in_order call =
           printed_nothing a,
           (names, subst (λ (t : KernelState). StandsFor names t (ended a n v.b)) (sym is) done),
         )
-
-pub exit_failed : (s mid : KernelState) (n : ℕ) (e : Failed) (console : Around (Option (List ℕ))) → is_live (slot_at s n) ≡ true →
-    IsCallStep (system s n SYS_ENV_DESTROY (0 ∷ 0 ∷ 0 ∷ 0 ∷ 0 ∷ [])) (Err e) mid console → IsLibraryStep (Err e) n s mid console
-exit_failed s mid n e console live is =
-    failed s mid n (system s n SYS_ENV_DESTROY (0 ∷ 0 ∷ 0 ∷ 0 ∷ 0 ∷ [])) e console
-    (ap (λ (z : Call Called). z.written) (env_destroy_is s n live (0 ∷ 0 ∷ 0 ∷ 0 ∷ []))) is
-
--- it gives up no turn
-pub no_pause : (s mid after : KernelState) (n perm : ℕ) (called : Called) (number : ℕ) (args : List ℕ) (console : Around (Option (List ℕ))) →
-    place_of (slot_at s n) ≡ place.InService service.Exit (step.Pausing perm) →
-    IsCallStep (system s n number args) (Ok called) mid console → IsLibraryStep (Ok progress.Hidden) n s after console
-no_pause s mid after n perm called number args console stands call =
-    never s mid after n (system s n number args) called console progress.Hidden call
-    (λ names a h. let v = served h n service.Exit (step.Pausing perm) stands in v.at)

@@ -1,5 +1,5 @@
 -- wait: what it tries tells whether the other lives, in both systems; while it does, the environment waits.
-use Rattle.std.proofs.Common.{◌≡◌, ◌≢◌, ◌∙◌, ◌==◌, ◌%◌, ◌||◌, ◌⊎◌, inl, inr, ℕ, Bool, true, false, List, [], ◌∷◌, Option, Some, None, Ok, Err}
+use Rattle.std.proofs.Common.{◌≡◌, ◌≢◌, ◌∙◌, ◌==◌, ◌%◌, ◌||◌, ◌⊎◌, inl, inr, ℕ, Bool, true, false, List, [], ◌∷◌, Option, Some, None, Ok}
 use Rattle.std.proofs.Common.{refl, sym, ap, subst, arith, if◌then◌else◌}
 use Rattle.std.proofs.lemmas.Bool.Decides.{nat_tests}
 use Rattle.jos_base.specs.declared.called.Called.{Called}
@@ -11,9 +11,6 @@ use Rattle.jos_base.specs.Environments.{Slot as KernelSlot, is_live, found}
 use Rattle.jos_base.specs.KernelState.{KernelState, slot_at, with_extra, with_status}
 use Rattle.jos_base.specs.Messages.{accepts}
 use Rattle.jos_base.specs.Words.{negated}
-use Rattle.jos_host.specs.declared.host.Failed.{Failed}
-use Rattle.jos_host.specs.Frames.{Around}
-use Rattle.jos_host.specs.Gains.{Gains}
 use Rattle.lib_os.specs.declared.numbers.TheConstants.{SHORT_QUANTUM}
 use Rattle.lib_os.specs.declared.place.Place.TheVariants as place
 use Rattle.lib_os.specs.declared.place.Step.{Step}
@@ -29,10 +26,10 @@ use Rattle.lib_os.specs.MemoryServices.{lives}
 use Rattle.lib_os.specs.Places.{place_of, words_at}
 use Rattle.lib_os.specs.Services.{service_of}
 use Rattle.lib_os.specs.StandsFor.{StandsFor, Names, Row, rows_of, StandsAtStep, IsIn, IsWaiting}
-use Rattle.lib_os.specs.UserCalls.{Step as Call, IsCallStep, answer_of, system}
+use Rattle.lib_os.specs.UserCalls.{Step as Call, IsCallStep, answer_of, system, Output, Prints}
 use Rattle.lib_os.proofs.Answering.{back_stands}
 use Rattle.lib_os.proofs.Calls.{comes_to}
-use Rattle.lib_os.proofs.GoingOn.{in_with_words, words_stand, hidden, failed, never}
+use Rattle.lib_os.proofs.GoingOn.{in_with_words, words_stand, hidden, never}
 use Rattle.lib_os.proofs.Maps.{upd-at}
 use Rattle.lib_os.proofs.Numbered.{named_at}
 use Rattle.lib_os.proofs.Quieting.{own_id, same_state, no_bytes, turn_given, yield_quiet}
@@ -71,21 +68,21 @@ waits_step a n b k id quantum is at there = rw (is, at.phase) there
 
 -- ---- the first step
 
-module _ (s mid : KernelState) (n id own : ℕ) (called : Called) (console : Around (Option (List ℕ)))
+module _ (s mid : KernelState) (n id own : ℕ) (called : Called) (output : Output)
     (stands : place_of (slot_at s n) ≡ place.InService (service.Wait id) step.Entered) (live : is_live (slot_at s n) ≡ true)
-    (call : IsCallStep (system s n SYS_GETENVID (0 ∷ 0 ∷ 0 ∷ 0 ∷ 0 ∷ [])) (Ok called) mid console) (told : own ≡ answer_of called) where
+    (call : IsCallStep (system s n SYS_GETENVID (0 ∷ 0 ∷ 0 ∷ 0 ∷ 0 ∷ [])) (Ok called) mid output) (told : own ≡ answer_of called) where
   own_is : own ≡ (slot_at s n).id
-  own_is = told ∙ own_id s n (0 ∷ 0 ∷ 0 ∷ 0 ∷ 0 ∷ []) live mid called console call
+  own_is = told ∙ own_id s n (0 ∷ 0 ∷ 0 ∷ 0 ∷ 0 ∷ []) live mid called output call
 
   mid_is : mid ≡ s
-  mid_is = same_state s n (0 ∷ 0 ∷ 0 ∷ 0 ∷ 0 ∷ []) live mid called console call
+  mid_is = same_state s n (0 ∷ 0 ∷ 0 ∷ 0 ∷ 0 ∷ []) live mid called output call
 
-  quiet_call : Gains console []
-  quiet_call = no_bytes s n (0 ∷ 0 ∷ 0 ∷ 0 ∷ 0 ∷ []) live mid called console call
+  quiet_call : Prints output []
+  quiet_call = no_bytes s n (0 ∷ 0 ∷ 0 ∷ 0 ∷ 0 ∷ []) live mid called output call
 
   pub wait_refused : (after : KernelState) (m word : ℕ) → m ≡ n → after ≡ answered mid m word → word ≡ negated E_INVAL →
-      (id ≡ 0) ⊎ (id ≡ own) → IsLibraryStep (Ok progress.Finished) n s after console
-  wait_refused after m word same state word_is why = finished s after n [] console quiet_call goes
+      (id ≡ 0) ⊎ (id ≡ own) → IsLibraryStep (Ok progress.Finished) n s after output
+  wait_refused after m word same state word_is why = finished s after n [] output quiet_call goes
     where
       state_is : after ≡ answered s n (negated E_INVAL)
       state_is = state ∙ (λ i. answered (mid_is i) (same i) (word_is i))
@@ -110,8 +107,8 @@ module _ (s mid : KernelState) (n id own : ℕ) (called : Called) (console : Aro
           )
 
   pub wait_goes_on : (after : KernelState) (m : ℕ) → m ≡ n → after ≡ with_extra mid m (words_at 5 (step.Trying 0)) → id ≢ 0 → id ≢ own →
-      IsLibraryStep (Ok progress.Hidden) n s after console
-  wait_goes_on after m same state some other = hidden s after n console quiet_call goes
+      IsLibraryStep (Ok progress.Hidden) n s after output
+  wait_goes_on after m same state some other = hidden s after n output quiet_call goes
     where
       state_is : after ≡ with_extra s n (words_at 5 (step.Trying 0))
       state_is = state ∙ (λ i. with_extra (mid_is i) (same i) (words_at 5 (step.Trying 0)))
@@ -142,34 +139,34 @@ other_answer : (t : Bool) (word : ℕ) → word ≡ (if t then negated E_INVAL e
 other_answer true word is bad = omega arith
 other_answer false word is bad = omega arith
 
-module _ (s mid : KernelState) (n id perm word : ℕ) (called : Called) (console : Around (Option (List ℕ)))
+module _ (s mid : KernelState) (n id perm word : ℕ) (called : Called) (output : Output)
     (stands : place_of (slot_at s n) ≡ place.InService (service.Wait id) (step.Trying perm)) (live : is_live (slot_at s n) ≡ true)
-    (call : IsCallStep (wait_call s n id) (Ok called) mid console) (told : word ≡ answer_of called) where
+    (call : IsCallStep (wait_call s n id) (Ok called) mid output) (told : word ≡ answer_of called) where
   tried : {names : Names} {a : AbstractState} → StandsFor names s a → (b : Born) → IsWaiting (slot_at s n) b id → Tried s mid n id word a
   tried {a = a} h b at = by_found (found s.environments id n false) refl
     where
       by_found : (f : Option ℕ) → found s.environments id n false ≡ f → Tried s mid n id word a
       by_found None none =
-          let came = comes_to (wait_call s n id) (Answered (negated E_BAD_ENV)) called s mid [] console
+          let came = comes_to (wait_call s n id) (Answered (negated E_BAD_ENV)) called s mid [] output
           (nobody_named s n id 0 1 0 (0 ∷ []) live at.is_in.silent none) call in
           let bad : word ≡ negated E_BAD_ENV = told ∙ ap answer_of (came.0) in
           over bad (came.1) (sym (there_stands h id) ∙ found_none s.environments id n at.some none)
       by_found (Some target) named =
           let answer = if accepts (slot_at s target).rendezvous (slot_at s n).id then negated E_INVAL else negated E_IPC_NOT_RECV in
-          let came = comes_to (wait_call s n id) (Answered answer) called s mid [] console
+          let came = comes_to (wait_call s n id) (Answered answer) called s mid [] output
           (never_taken s n id 0 1 0 (0 ∷ []) live at.is_in.silent target named refl refl) call in
           let there = found_some s.environments id n at.some target named in
           let test : ((slot_at s (id % NENV)).id == id) ≡ true = let e = there.2 in grind (arith, nat_tests) in
           lives_on (other_answer (accepts (slot_at s target).rendezvous (slot_at s n).id) word (told ∙ ap answer_of (came.0))) (came.1)
           (sym (there_stands h id) ∙ rw (there.1, test) refl)
 
-  nothing_written : Gains console []
+  nothing_written : Prints output []
   nothing_written =
-      subst (λ (written : List ℕ). Gains console written) (try_send_answered s n id 0 1 0 (0 ∷ []) live).written (call.2)
+      subst (λ (written : List ℕ). Prints output written) (try_send_answered s n id 0 1 0 (0 ∷ []) live).written (call.2)
 
   pub wait_is_over : (after : KernelState) (m : ℕ) → m ≡ n → after ≡ answered mid m 0 → word ≡ negated E_BAD_ENV →
-      IsLibraryStep (Ok progress.Finished) n s after console
-  wait_is_over after m same state bad = finished s after n [] console nothing_written goes
+      IsLibraryStep (Ok progress.Finished) n s after output
+  wait_is_over after m same state bad = finished s after n [] output nothing_written goes
     where
       by_tried : (names : Names) (a : AbstractState) → StandsFor names s a → (b : Born) → a.slots n ≡ born b →
           IsWaiting (slot_at s n) b id → Tried s mid n id word a → GoesOn n after a []
@@ -193,7 +190,7 @@ module _ (s mid : KernelState) (n id perm word : ℕ) (called : Called) (console
           by_tried names a h v.b v.is v.at (tried h v.b v.at)
 
   pub wait_waits : (after : KernelState) (m : ℕ) → m ≡ n → after ≡ with_extra mid m (words_at 5 (step.Pausing perm)) →
-      word ≢ negated E_BAD_ENV → IsLibraryStep (Ok progress.Waited) n s after console
+      word ≢ negated E_BAD_ENV → IsLibraryStep (Ok progress.Waited) n s after output
   wait_waits after m same state not_bad = ([], nothing_written, λ a h quiet. goes h.0 a h.1)
     where
       by_tried : (names : Names) (a : AbstractState) → StandsFor names s a → IsServed names s a n (service.Wait id) (step.Trying perm) →
@@ -228,25 +225,20 @@ module _ (s mid : KernelState) (n id perm word : ℕ) (called : Called) (console
   pub trier_keeps : (slot_at mid n).registers ≡ (slot_at s n).registers
   trier_keeps = (λ i. (slot_at (call.1 i) n).registers) ∙ tried_is.registers
 
-pub trying_failed : (s mid : KernelState) (n id : ℕ) (e : Failed) (console : Around (Option (List ℕ))) → is_live (slot_at s n) ≡ true →
-    IsCallStep (wait_call s n id) (Err e) mid console → IsLibraryStep (Err e) n s mid console
-trying_failed s mid n id e console live is =
-    failed s mid n (wait_call s n id) e console (try_send_answered s n id 0 1 0 (0 ∷ []) live).written is
-
 -- ---- it gives up its turn
 
-module _ (s mid : KernelState) (n id perm : ℕ) (called : Called) (console : Around (Option (List ℕ)))
+module _ (s mid : KernelState) (n id perm : ℕ) (called : Called) (output : Output)
     (stands : place_of (slot_at s n) ≡ place.InService (service.Wait id) (step.Pausing perm)) (live : is_live (slot_at s n) ≡ true)
-    (call : IsCallStep (system s n SYS_YIELD (0 ∷ 0 ∷ 0 ∷ 0 ∷ 0 ∷ [])) (Ok called) mid console) where
+    (call : IsCallStep (system s n SYS_YIELD (0 ∷ 0 ∷ 0 ∷ 0 ∷ 0 ∷ [])) (Ok called) mid output) where
   given : mid ≡ with_status s n Runnable
-  given = turn_given s n (0 ∷ 0 ∷ 0 ∷ 0 ∷ 0 ∷ []) live mid called console call
+  given = turn_given s n (0 ∷ 0 ∷ 0 ∷ 0 ∷ 0 ∷ []) live mid called output call
 
   slot_is : slot_at (with_status s n Runnable) n ≡ record (slot_at s n) { status = Runnable }
   slot_is = upd-at s.environments.slots n (record (slot_at s n) { status = Runnable })
 
   pub wait_pauses : (after : KernelState) (m : ℕ) → m ≡ n → after ≡ with_extra mid m (words_at 5 (step.Trying perm)) →
-      IsLibraryStep (Ok progress.Hidden) n s after console
-  wait_pauses after m same state = hidden s after n console (yield_quiet s n (0 ∷ 0 ∷ 0 ∷ 0 ∷ 0 ∷ []) live mid called console call) goes
+      IsLibraryStep (Ok progress.Hidden) n s after output
+  wait_pauses after m same state = hidden s after n output (yield_quiet s n (0 ∷ 0 ∷ 0 ∷ 0 ∷ 0 ∷ []) live mid called output call) goes
     where
       state_is : after ≡ with_extra (with_status s n Runnable) n (words_at 5 (step.Trying perm))
       state_is = state ∙ (λ i. with_extra (given i) (same i) (words_at 5 (step.Trying perm)))
@@ -275,9 +267,9 @@ no_such_step row k b id (step.Trying perm) not h = let contradiction : true ≡ 
 no_such_step row k b id (step.Pausing perm) not h = let contradiction : true ≡ false = not in cc
 no_such_step row k b id _ not h = h
 
-pub no_wait : (s mid after : KernelState) (n id : ℕ) (at : Step) (called : Called) (number : ℕ) (args : List ℕ) (console : Around (Option (List ℕ))) →
+pub no_wait : (s mid after : KernelState) (n id : ℕ) (at : Step) (called : Called) (number : ℕ) (args : List ℕ) (output : Output) →
     place_of (slot_at s n) ≡ place.InService (service.Wait id) at → is_waits at ≡ false →
-    IsCallStep (system s n number args) (Ok called) mid console → IsLibraryStep (Ok progress.Finished) n s after console
-no_wait s mid after n id at called number args console stands not call =
-    never s mid after n (system s n number args) called console progress.Finished call
+    IsCallStep (system s n number args) (Ok called) mid output → IsLibraryStep (Ok progress.Finished) n s after output
+no_wait s mid after n id at called number args output stands not call =
+    never s mid after n (system s n number args) called output progress.Finished call
     (λ names a h. let v = served h n (service.Wait id) at stands in no_such_step (rows_of s.spaces (slot_at s n).directory) (slot_at s n) v.b id at not v.at)

@@ -2,11 +2,12 @@
 
 ghost use Rattle.std.specs.Prelude.{◌≡◌, ◌+◌, ◌-◌, ◌<◌, ◌^◌, true, false};
 ghost use Rattle.jos_host.specs.Told.{HasCause};
-ghost use Rattle.jos_host.specs.Frames.{Unchanged, around};
+ghost use Rattle.jos_host.specs.Frames.{Unchanged, around, from_to};
 ghost use Rattle.jos_base.specs.Environments.{is_live};
 ghost use Rattle.jos_base.specs.KernelState.{slot_at};
-ghost use Rattle.lib_os.specs.LibrarySteps.{IsLibraryStep, Lowers, GivesUp, MakesOneCall};
+ghost use Rattle.lib_os.specs.LibrarySteps.{IsLibraryStep, Leaves, Lowers, GivesUp, MakesOneCall};
 ghost use Rattle.lib_os.specs.Places.{place_of};
+ghost use Rattle.lib_os.specs.UserCalls.{output};
 ghost use Rattle.lib_spawn.specs.Own.{is_own, is_waits};
 
 use jos_base::{E_BAD_ENV, E_INVAL, SYS_ENV_DESTROY, SYS_GETENVID, SYS_IPC_TRY_SEND, SYS_YIELD};
@@ -24,7 +25,8 @@ fn exit<O: UserOs, H: Host>(os: &mut O, host: &mut H, step: Step) -> Result<Prog
     requires live { is_live (slot_at (O.state os.old) (O.slot os.old)) ≡ true }
     requires few { O.calls os.old < 2 ^ 32 - 1 }
     requires at { place_of (slot_at (O.state os.old) (O.slot os.old)) ≡ Place.InService Service.Exit step }
-    ensures step { IsLibraryStep result (O.slot os.old) (O.state os.old) (O.state os.new) (around H.console host.old host.new) }
+    ensures step { IsLibraryStep result (O.slot os.old) (O.state os.old) (O.state os.new) (output H.console O.written (from_to host.old host.new) (from_to os.old os.new)) }
+    ensures leaves { Leaves result (O.slot os.old) (O.state os.old) (O.state os.new) }
     ensures lowers { Lowers result (place_of (slot_at (O.state os.old) (O.slot os.old))) (place_of (slot_at (O.state os.new) (O.slot os.new))) }
     ensures gives_up { GivesUp result (slot_at (O.state os.old) (O.slot os.old)) (slot_at (O.state os.new) (O.slot os.new)) }
     ensures one { MakesOneCall (around O.slot os.old os.new) (around O.calls os.old os.new) }
@@ -42,7 +44,8 @@ fn enter_wait<O: UserOs, H: Host>(os: &mut O, host: &mut H, id: u32) -> Result<P
     requires live { is_live (slot_at (O.state os.old) (O.slot os.old)) ≡ true }
     requires few { O.calls os.old < 2 ^ 32 - 1 }
     requires at { place_of (slot_at (O.state os.old) (O.slot os.old)) ≡ Place.InService (Service.Wait id) Step.Entered }
-    ensures step { IsLibraryStep result (O.slot os.old) (O.state os.old) (O.state os.new) (around H.console host.old host.new) }
+    ensures step { IsLibraryStep result (O.slot os.old) (O.state os.old) (O.state os.new) (output H.console O.written (from_to host.old host.new) (from_to os.old os.new)) }
+    ensures leaves { Leaves result (O.slot os.old) (O.state os.old) (O.state os.new) }
     ensures lowers { Lowers result (place_of (slot_at (O.state os.old) (O.slot os.old))) (place_of (slot_at (O.state os.new) (O.slot os.new))) }
     ensures gives_up { GivesUp result (slot_at (O.state os.old) (O.slot os.old)) (slot_at (O.state os.new) (O.slot os.new)) }
     ensures one { MakesOneCall (around O.slot os.old os.new) (around O.calls os.old os.new) }
@@ -73,7 +76,8 @@ fn try_wait<O: UserOs, H: Host>(
     requires live { is_live (slot_at (O.state os.old) (O.slot os.old)) ≡ true }
     requires few { O.calls os.old < 2 ^ 32 - 1 }
     requires at { place_of (slot_at (O.state os.old) (O.slot os.old)) ≡ Place.InService (Service.Wait id) (Step.Trying perm) }
-    ensures step { IsLibraryStep result (O.slot os.old) (O.state os.old) (O.state os.new) (around H.console host.old host.new) }
+    ensures step { IsLibraryStep result (O.slot os.old) (O.state os.old) (O.state os.new) (output H.console O.written (from_to host.old host.new) (from_to os.old os.new)) }
+    ensures leaves { Leaves result (O.slot os.old) (O.state os.old) (O.state os.new) }
     ensures lowers { Lowers result (place_of (slot_at (O.state os.old) (O.slot os.old))) (place_of (slot_at (O.state os.new) (O.slot os.new))) }
     ensures gives_up { GivesUp result (slot_at (O.state os.old) (O.slot os.old)) (slot_at (O.state os.new) (O.slot os.new)) }
     ensures one { MakesOneCall (around O.slot os.old os.new) (around O.calls os.old os.new) }
@@ -104,7 +108,8 @@ fn pause_wait<O: UserOs, H: Host>(
     requires live { is_live (slot_at (O.state os.old) (O.slot os.old)) ≡ true }
     requires few { O.calls os.old < 2 ^ 32 - 1 }
     requires at { place_of (slot_at (O.state os.old) (O.slot os.old)) ≡ Place.InService (Service.Wait id) (Step.Pausing perm) }
-    ensures step { IsLibraryStep result (O.slot os.old) (O.state os.old) (O.state os.new) (around H.console host.old host.new) }
+    ensures step { IsLibraryStep result (O.slot os.old) (O.state os.old) (O.state os.new) (output H.console O.written (from_to host.old host.new) (from_to os.old os.new)) }
+    ensures leaves { Leaves result (O.slot os.old) (O.state os.old) (O.state os.new) }
     ensures lowers { Lowers result (place_of (slot_at (O.state os.old) (O.slot os.old))) (place_of (slot_at (O.state os.new) (O.slot os.new))) }
     ensures gives_up { GivesUp result (slot_at (O.state os.old) (O.slot os.old)) (slot_at (O.state os.new) (O.slot os.new)) }
     ensures one { MakesOneCall (around O.slot os.old os.new) (around O.calls os.old os.new) }
@@ -131,7 +136,8 @@ fn no_wait<O: UserOs, H: Host>(
     requires few { O.calls os.old < 2 ^ 32 - 1 }
     requires at { place_of (slot_at (O.state os.old) (O.slot os.old)) ≡ Place.InService (Service.Wait id) step }
     requires other { is_waits step ≡ false }
-    ensures step { IsLibraryStep result (O.slot os.old) (O.state os.old) (O.state os.new) (around H.console host.old host.new) }
+    ensures step { IsLibraryStep result (O.slot os.old) (O.state os.old) (O.state os.new) (output H.console O.written (from_to host.old host.new) (from_to os.old os.new)) }
+    ensures leaves { Leaves result (O.slot os.old) (O.state os.old) (O.state os.new) }
     ensures lowers { Lowers result (place_of (slot_at (O.state os.old) (O.slot os.old))) (place_of (slot_at (O.state os.new) (O.slot os.new))) }
     ensures gives_up { GivesUp result (slot_at (O.state os.old) (O.slot os.old)) (slot_at (O.state os.new) (O.slot os.new)) }
     ensures one { MakesOneCall (around O.slot os.old os.new) (around O.calls os.old os.new) }
@@ -152,7 +158,8 @@ pub fn spawn_step<O: UserOs, H: Host>(os: &mut O, host: &mut H) -> Result<Progre
     requires live { is_live (slot_at (O.state os.old) (O.slot os.old)) ≡ true }
     requires few { O.calls os.old < 2 ^ 32 - 1 }
     requires at { is_own (place_of (slot_at (O.state os.old) (O.slot os.old))) ≡ true }
-    ensures step { IsLibraryStep result (O.slot os.old) (O.state os.old) (O.state os.new) (around H.console host.old host.new) }
+    ensures step { IsLibraryStep result (O.slot os.old) (O.state os.old) (O.state os.new) (output H.console O.written (from_to host.old host.new) (from_to os.old os.new)) }
+    ensures leaves { Leaves result (O.slot os.old) (O.state os.old) (O.state os.new) }
     ensures lowers { Lowers result (place_of (slot_at (O.state os.old) (O.slot os.old))) (place_of (slot_at (O.state os.new) (O.slot os.new))) }
     ensures gives_up { GivesUp result (slot_at (O.state os.old) (O.slot os.old)) (slot_at (O.state os.new) (O.slot os.new)) }
     ensures one { MakesOneCall (around O.slot os.old os.new) (around O.calls os.old os.new) }

@@ -1,8 +1,10 @@
-use Rattle.std.proofs.Common.{[], ◌∷◌, arith}
+use Rattle.std.proofs.Common.{[], ◌∷◌, arith, ap, refl}
 use Rattle.lib_os.specs.declared.place.Step.TheVariants as step
 use Rattle.lib_os.specs.declared.service.Service.TheVariants as service
 use Rattle.lib_os.proofs.GoingOn.{went_to, lowered, gave_up}
-use Rattle.lib_os.proofs.Quieting.{yielder_lives, yielder_keeps, turn_given, yielding_failed}
+use Rattle.lib_os.proofs.Quieting.{yielder_lives, yielder_keeps, turn_given}
+use Rattle.lib_os.specs.LibrarySteps.{is_pausing}
+use Rattle.lib_os.proofs.StepsLeave.{pauses_on}
 use Rattle.lib_msg.proofs.Sending.{send_pauses}
 use Rattle.lib_msg.proofs.send.pause_send.Goals as goal
 
@@ -12,7 +14,8 @@ go_on-requires-clause-live g c =
 
 pub returns-in-Ok-clause-step : goal.returns-in-Ok-clause-step
 returns-in-Ok-clause-step g c =
-    send_pauses (g.O.UserOs.state c.args.os.now) (g.O.UserOs.state c.system.new.self) (g.O.UserOs.slot c.args.os.now) c.args.id c.args.value c.args.va c.args.perm c.in-Ok.field-0 _ c.requires.at c.requires.live c.in-Ok.ensures.step _ _ c.system.ensures.slot c.go_on.ensures.state
+    rw c.go_on.ensures.written
+    (send_pauses (g.O.UserOs.state c.args.os.now) (g.O.UserOs.state c.system.new.self) (g.O.UserOs.slot c.args.os.now) c.args.id c.args.value c.args.va c.args.perm c.in-Ok.field-0 _ c.requires.at c.requires.live c.in-Ok.ensures.step _ _ c.system.ensures.slot c.go_on.ensures.state)
 
 pub returns-in-Ok-clause-lowers : goal.returns-in-Ok-clause-lowers
 returns-in-Ok-clause-lowers g c =
@@ -28,6 +31,7 @@ returns-in-Ok-clause-gives_up g c =
     (turn_given (g.O.UserOs.state c.args.os.now) (g.O.UserOs.slot c.args.os.now) (0 ∷ 0 ∷ 0 ∷ 0 ∷ 0 ∷ []) c.requires.live (g.O.UserOs.state c.system.new.self) c.in-Ok.field-0 _ c.in-Ok.ensures.step)
     c.system.ensures.slot c.go_on.ensures.slot c.go_on.ensures.state
 
-pub returns-in-Err-clause-step : goal.returns-in-Err-clause-step
-returns-in-Err-clause-step g c =
-    yielding_failed (g.O.UserOs.state c.args.os.now) (g.O.UserOs.slot c.args.os.now) (0 ∷ 0 ∷ 0 ∷ 0 ∷ 0 ∷ []) c.requires.live (g.O.UserOs.state c.system.new.self) c.in-Err.failed _ c.in-Err.ensures.step
+pub returns-in-Ok-clause-leaves : goal.returns-in-Ok-clause-leaves
+returns-in-Ok-clause-leaves g c =
+    pauses_on (g.O.UserOs.state c.args.os.now) (g.O.UserOs.state c.system.new.self) (g.O.UserOs.state c.go_on.new.os) (g.O.UserOs.slot c.args.os.now) _ _ _ _ c.in-Ok.field-0 _ refl (ap is_pausing c.requires.at) c.in-Ok.ensures.step
+    c.go_on.ensures.state

@@ -4,6 +4,8 @@ use Rattle.lib_os.specs.declared.service.Service.TheVariants as service
 use Rattle.lib_os.specs.LibrarySteps.{is_pausing}
 use Rattle.lib_os.proofs.GoingOn.{went_to, lowered, gives_nothing_up}
 use Rattle.lib_os.proofs.Loading.{loader_lives, loader_keeps, stopped_step, stopped_lowers, stopped_cause}
+use Rattle.lib_os.specs.declared.progress.Progress.TheVariants as progress
+use Rattle.lib_os.proofs.StepsLeave.{behind_load, answers, goes_on, stopped_leaves}
 use Rattle.lib_msg.proofs.Looking.{gives_region, region_refused, region_goes_on}
 use Rattle.lib_msg.proofs.send.read_region.Goals as goal
 
@@ -33,11 +35,13 @@ returns-in-Err-clause-cause g c =
 
 pub returns-then-word-ne-PTE_P-clause-step : goal.returns-then-word-ne-PTE_P-clause-step
 returns-then-word-ne-PTE_P-clause-step g c =
-    region_refused (g.O.UserOs.state c.args.os.now) (g.O.UserOs.slot c.args.os.now) c.args.id c.args.value c.args.va _ c.requires.at refl (g.O.UserOs.state c.load.new.self) _ c.in-Ok.word _ _ c.load.ensures.in_order c.in-Ok.ensures.step c.load.ensures.slot _ c.answer.ensures.state (omega arith) c.if-word-ne-PTE_P.true
+    rw c.answer.ensures.written
+    (region_refused (g.O.UserOs.state c.args.os.now) (g.O.UserOs.slot c.args.os.now) c.args.id c.args.value c.args.va _ c.requires.at refl (g.O.UserOs.state c.load.new.self) _ c.in-Ok.word _ _ c.load.ensures.in_order c.in-Ok.ensures.step c.load.ensures.slot _ c.answer.ensures.state (omega arith) c.if-word-ne-PTE_P.true)
 
 pub returns-else-word-ne-PTE_P-clause-step : goal.returns-else-word-ne-PTE_P-clause-step
 returns-else-word-ne-PTE_P-clause-step g c =
-    region_goes_on (g.O.UserOs.state c.args.os.now) (g.O.UserOs.slot c.args.os.now) c.args.id c.args.value c.args.va _ c.requires.at refl (g.O.UserOs.state c.load.new.self) _ c.in-Ok.word _ _ c.load.ensures.in_order c.in-Ok.ensures.step c.load.ensures.slot c.go_on.ensures.state c.if-word-ne-PTE_P.false
+    rw c.go_on.ensures.written
+    (region_goes_on (g.O.UserOs.state c.args.os.now) (g.O.UserOs.slot c.args.os.now) c.args.id c.args.value c.args.va _ c.requires.at refl (g.O.UserOs.state c.load.new.self) _ c.in-Ok.word _ _ c.load.ensures.in_order c.in-Ok.ensures.step c.load.ensures.slot c.go_on.ensures.state c.if-word-ne-PTE_P.false)
 
 pub returns-else-word-ne-PTE_P-clause-lowers : goal.returns-else-word-ne-PTE_P-clause-lowers
 returns-else-word-ne-PTE_P-clause-lowers g c =
@@ -46,3 +50,17 @@ returns-else-word-ne-PTE_P-clause-lowers g c =
     (service.Send c.args.id c.args.value c.args.va) step.ReadingRegion step.ReadingEntry c.requires.at
     (loader_keeps (g.O.UserOs.state c.args.os.now) (g.O.UserOs.state c.load.new.self) (g.O.UserOs.slot c.args.os.now) _ c.in-Ok.word _ c.in-Ok.ensures.step)
     c.load.ensures.slot c.go_on.ensures.slot c.go_on.ensures.state) (omega arith)
+
+pub returns-then-word-ne-PTE_P-clause-leaves : goal.returns-then-word-ne-PTE_P-clause-leaves
+returns-then-word-ne-PTE_P-clause-leaves g c =
+    answers (g.O.UserOs.state c.args.os.now) (g.O.UserOs.state c.load.new.self) (g.O.UserOs.state c.answer.new.os) (g.O.UserOs.slot c.args.os.now) _ _ progress.Finished
+    (behind_load (g.O.UserOs.state c.args.os.now) (g.O.UserOs.state c.load.new.self) (g.O.UserOs.slot c.args.os.now) _ c.in-Ok.word _ c.in-Ok.ensures.step) c.answer.ensures.state
+
+pub returns-else-word-ne-PTE_P-clause-leaves : goal.returns-else-word-ne-PTE_P-clause-leaves
+returns-else-word-ne-PTE_P-clause-leaves g c =
+    goes_on (g.O.UserOs.state c.args.os.now) (g.O.UserOs.state c.load.new.self) (g.O.UserOs.state c.go_on.new.os) (g.O.UserOs.slot c.args.os.now) _ _ progress.Hidden
+    (behind_load (g.O.UserOs.state c.args.os.now) (g.O.UserOs.state c.load.new.self) (g.O.UserOs.slot c.args.os.now) _ c.in-Ok.word _ c.in-Ok.ensures.step) c.go_on.ensures.state
+
+pub returns-in-Err-clause-leaves : goal.returns-in-Err-clause-leaves
+returns-in-Err-clause-leaves g c =
+    stopped_leaves (g.O.UserOs.state c.args.os.now) (g.O.UserOs.state c.load.new.self) (g.O.UserOs.slot c.args.os.now) _ c.in-Err.stop c.stopped.result _ c.in-Err.ensures.step c.stopped.ensures

@@ -4,7 +4,9 @@ use Rattle.lib_os.specs.declared.place.Step.TheVariants as step
 use Rattle.lib_os.specs.declared.service.Service.TheVariants as service
 use Rattle.lib_os.specs.Places.{place_of}
 use Rattle.lib_os.proofs.GoingOn.{went_to, pauses}
-use Rattle.lib_msg.proofs.Sending.{sender_lives, sender_keeps, sent_over, send_waits, sending_failed}
+use Rattle.lib_os.specs.declared.progress.Progress.TheVariants as progress
+use Rattle.lib_os.proofs.StepsLeave.{behind_call, answers, goes_on}
+use Rattle.lib_msg.proofs.Sending.{sender_lives, sender_keeps, sent_over, send_waits}
 use Rattle.lib_msg.proofs.send.try_send.Goals as goal
 
 pub go_on-requires-clause-live : goal.go_on-requires-clause-live
@@ -17,7 +19,8 @@ answer-requires g c =
 
 pub returns-then-word-wrapping_neg-clause-step : goal.returns-then-word-wrapping_neg-clause-step
 returns-then-word-wrapping_neg-clause-step g c =
-    send_waits (g.O.UserOs.state c.args.os.now) (g.O.UserOs.state c.system.new.self) (g.O.UserOs.slot c.args.os.now) c.args.id c.args.value c.args.va c.args.perm c.answer_of-word.result c.in-Ok.called _ c.requires.at c.requires.live (rw c.source_of.ensures at c.in-Ok.ensures.step) c.answer_of-word.ensures (omega arith) c.system.ensures.in_order _ _ c.system.ensures.slot c.go_on.ensures.state (omega arith)
+    rw c.go_on.ensures.written
+    (send_waits (g.O.UserOs.state c.args.os.now) (g.O.UserOs.state c.system.new.self) (g.O.UserOs.slot c.args.os.now) c.args.id c.args.value c.args.va c.args.perm c.answer_of-word.result c.in-Ok.called _ c.requires.at c.requires.live (rw c.source_of.ensures at c.in-Ok.ensures.step) c.answer_of-word.ensures (omega arith) c.system.ensures.in_order _ _ c.system.ensures.slot c.go_on.ensures.state (omega arith))
 
 pub returns-then-word-wrapping_neg-clause-lowers : goal.returns-then-word-wrapping_neg-clause-lowers
 returns-then-word-wrapping_neg-clause-lowers g c =
@@ -29,8 +32,15 @@ returns-then-word-wrapping_neg-clause-lowers g c =
 
 pub returns-else-word-wrapping_neg-clause-step : goal.returns-else-word-wrapping_neg-clause-step
 returns-else-word-wrapping_neg-clause-step g c =
-    sent_over (g.O.UserOs.state c.args.os.now) (g.O.UserOs.state c.system.new.self) (g.O.UserOs.slot c.args.os.now) c.args.id c.args.value c.args.va c.args.perm c.answer_of-word.result c.in-Ok.called _ c.requires.at c.requires.live (rw c.source_of.ensures at c.in-Ok.ensures.step) c.answer_of-word.ensures (omega arith) c.system.ensures.in_order _ _ c.system.ensures.slot c.answer.ensures.state (λ bad. omega arith)
+    rw c.answer.ensures.written
+    (sent_over (g.O.UserOs.state c.args.os.now) (g.O.UserOs.state c.system.new.self) (g.O.UserOs.slot c.args.os.now) c.args.id c.args.value c.args.va c.args.perm c.answer_of-word.result c.in-Ok.called _ c.requires.at c.requires.live (rw c.source_of.ensures at c.in-Ok.ensures.step) c.answer_of-word.ensures (omega arith) c.system.ensures.in_order _ _ c.system.ensures.slot c.answer.ensures.state (λ bad. omega arith))
 
-pub returns-in-Err-clause-step : goal.returns-in-Err-clause-step
-returns-in-Err-clause-step g c =
-    sending_failed (g.O.UserOs.state c.args.os.now) (g.O.UserOs.state c.system.new.self) (g.O.UserOs.slot c.args.os.now) c.args.id c.args.value c.args.va c.args.perm c.in-Err.failed _ c.requires.live (rw c.source_of.ensures at c.in-Err.ensures.step)
+pub returns-then-word-wrapping_neg-clause-leaves : goal.returns-then-word-wrapping_neg-clause-leaves
+returns-then-word-wrapping_neg-clause-leaves g c =
+    goes_on (g.O.UserOs.state c.args.os.now) (g.O.UserOs.state c.system.new.self) (g.O.UserOs.state c.go_on.new.os) (g.O.UserOs.slot c.args.os.now) _ _ progress.Waited
+    (behind_call (g.O.UserOs.state c.args.os.now) (g.O.UserOs.state c.system.new.self) (g.O.UserOs.slot c.args.os.now) _ _ c.in-Ok.called _ refl refl c.in-Ok.ensures.step) c.go_on.ensures.state
+
+pub returns-else-word-wrapping_neg-clause-leaves : goal.returns-else-word-wrapping_neg-clause-leaves
+returns-else-word-wrapping_neg-clause-leaves g c =
+    answers (g.O.UserOs.state c.args.os.now) (g.O.UserOs.state c.system.new.self) (g.O.UserOs.state c.answer.new.os) (g.O.UserOs.slot c.args.os.now) _ _ progress.Finished
+    (behind_call (g.O.UserOs.state c.args.os.now) (g.O.UserOs.state c.system.new.self) (g.O.UserOs.slot c.args.os.now) _ _ c.in-Ok.called _ refl refl c.in-Ok.ensures.step) c.answer.ensures.state

@@ -7,6 +7,7 @@ use Rattle.jos_base.specs.UserMemory.{is_allowed, touched, fault_at}
 use Rattle.jos_sys.specs.System.{state_of, left_of}
 use Rattle.jos_run.specs.Served.{Parts, kernel_state, IsRaised}
 use Rattle.jos_run.proofs.Accesses.{still_allowed, refused_state}
+use Rattle.jos_run.proofs.Printed.{printed}
 use Rattle.jos_run.proofs.served.Served.reach.Goals as goal
 
 pub raise-stop-requires : goal.raise-stop-requires
@@ -37,9 +38,10 @@ returns-in-Err-clause-raised g c =
     let d = c.space-space.result.directory.0 in
     let after = kernel_state c.raise-stop.new.self in
     let console = around g.H.Host.console c.args.host.now c.raise-stop.new.host in
+    let output = printed console c.self.inside.written c.raise-stop.new.self.written in
     let state_is = refused_state before (state_of c.reach.new.self input) d c.args.va c.args.access (sym c.in-Err.ensures.allowed) (c.reach.ensures.state input) in
     let here = subst (λ (m : Parts). c.space-space.result.directory.0 ≡ (slot_at (kernel_state m) m.slot).directory) (sym c.self.view_is) c.space-space.ensures.directory in
     let fault_is = subst (λ (space : ℕ). c.in-Err.fault ≡ fault_at before.spaces space c.args.va c.args.access) here c.in-Err.ensures.fault in
     rw (← c.self.view_is)
-    (subst (λ (fault : PageFault). IsRaised before n fault c.raise-stop.result after console) fault_is
-    (subst (λ (k : KernelState). IsRaised k n c.in-Err.fault c.raise-stop.result after console) state_is c.raise-stop.ensures.raised))
+    (subst (λ (fault : PageFault). IsRaised before n fault c.raise-stop.result after output) fault_is
+    (subst (λ (k : KernelState). IsRaised k n c.in-Err.fault c.raise-stop.result after output) state_is c.raise-stop.ensures.raised))

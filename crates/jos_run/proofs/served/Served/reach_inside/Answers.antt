@@ -21,13 +21,13 @@ returns-then-not-in_fence-clause-fault c =
 pub returns-then-not-is_live-clause-allowed : goal.returns-then-not-is_live-clause-allowed
 returns-then-not-is_live-clause-allowed c =
     let p = c.args.self.now in
-    sym (gone_right (kernel_state p) p.slot p.calls c.args.va c.args.access (sym c.is_live.ensures ∙ c.if-not-is_live.true))
+    sym (gone_right (kernel_state p) p.slot p.calls p.written c.args.va c.args.access (sym c.is_live.ensures ∙ c.if-not-is_live.true))
 
 pub returns-then-not-is_live-clause-fault : goal.returns-then-not-is_live-clause-fault
 returns-then-not-is_live-clause-fault c =
     let p = c.args.self.now in
     c.missing.ensures
-    ∙ sym (gone_fault (kernel_state p) p.slot p.calls c.args.va c.args.access (sym c.is_live.ensures ∙ c.if-not-is_live.true)
+    ∙ sym (gone_fault (kernel_state p) p.slot p.calls p.written c.args.va c.args.access (sym c.is_live.ensures ∙ c.if-not-is_live.true)
     (sym c.in_fence.ensures ∙ c.if-not-in_fence.false))
 
 pub returns-clause-allowed : goal.returns-clause-allowed
@@ -35,7 +35,7 @@ returns-clause-allowed c =
     let s = state_of c.self.inside.system (left_of c.self.inside.input) in
     let live = subst (λ (m : Parts). is_live (slot_at (kernel_state m) m.slot) ≡ true) (sym c.self.view_is) (sym c.is_live.ensures ∙ c.if-not-is_live.false) in
     let here = subst (λ (m : Parts). c.space-space.result.directory.0 ≡ (slot_at (kernel_state m) m.slot).directory) (sym c.self.view_is) c.space-space.ensures.directory in
-    let right = right_here s c.self.inside.slot c.self.inside.calls _ here live c.args.va c.args.access (sym c.in_fence.ensures ∙ c.if-not-in_fence.false) in
+    let right = right_here s c.self.inside.slot c.self.inside.calls c.self.inside.written _ here live c.args.va c.args.access (sym c.in_fence.ensures ∙ c.if-not-in_fence.false) in
     rw (← c.self.view_is)
     (elim c.match-reach.branch [
       | in-Ok w ↦ rw w.result-is (w.in-Ok.ensures.allowed ∙ right)
@@ -48,7 +48,7 @@ returns-clause-reached c =
     let s = state_of c.self.inside.system input in
     let live = subst (λ (m : Parts). is_live (slot_at (kernel_state m) m.slot) ≡ true) (sym c.self.view_is) (sym c.is_live.ensures ∙ c.if-not-is_live.false) in
     let here = subst (λ (m : Parts). c.space-space.result.directory.0 ≡ (slot_at (kernel_state m) m.slot).directory) (sym c.self.view_is) c.space-space.ensures.directory in
-    let now = reached_here s c.self.inside.slot c.self.inside.calls _ here live (state_of c.reach.new.self input) c.args.va c.args.access (c.reach.ensures.state input) in
+    let now = reached_here s c.self.inside.slot c.self.inside.calls c.self.inside.written _ here live (state_of c.reach.new.self input) c.args.va c.args.access (c.reach.ensures.state input) in
     rw (← c.self.view_is)
     (elim c.match-reach.branch [
       | in-Ok w ↦ rw w.result-is now
@@ -60,7 +60,7 @@ returns-clause-fault c =
     let s = state_of c.self.inside.system (left_of c.self.inside.input) in
     let live = subst (λ (m : Parts). is_live (slot_at (kernel_state m) m.slot) ≡ true) (sym c.self.view_is) (sym c.is_live.ensures ∙ c.if-not-is_live.false) in
     let here = subst (λ (m : Parts). c.space-space.result.directory.0 ≡ (slot_at (kernel_state m) m.slot).directory) (sym c.self.view_is) c.space-space.ensures.directory in
-    let is = fault_here s c.self.inside.slot c.self.inside.calls _ here live c.args.va c.args.access (sym c.in_fence.ensures ∙ c.if-not-in_fence.false) in
+    let is = fault_here s c.self.inside.slot c.self.inside.calls c.self.inside.written _ here live c.args.va c.args.access (sym c.in_fence.ensures ∙ c.if-not-in_fence.false) in
     rw (← c.self.view_is)
     (elim c.match-reach.branch [
       | in-Ok w ↦ rw w.result-is tt
@@ -77,5 +77,5 @@ returns-clause-left c =
     (elim c.match-reach.branch [
       | in-Ok w ↦ rw w.result-is tt
       | in-Err w ↦ rw w.result-is
-          (left_here s c.self.inside.slot c.self.inside.calls _ here live (state_of c.reach.new.self input) c.args.va c.args.access (sym w.in-Err.ensures.allowed) (c.reach.ensures.state input))
+          (left_here s c.self.inside.slot c.self.inside.calls c.self.inside.written _ here live (state_of c.reach.new.self input) c.args.va c.args.access (sym w.in-Err.ensures.allowed) (c.reach.ensures.state input))
     ])

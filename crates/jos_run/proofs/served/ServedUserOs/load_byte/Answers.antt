@@ -7,7 +7,7 @@ use Rattle.jos_run.proofs.served.ServedUserOs.load_byte.Goals as goal
 pub returns-in-Ok-clause-step : goal.returns-in-Ok-clause-step
 unfolding load_byte
 returns-in-Ok-clause-step g c =
-    read_step _ _ _ _ _ Read _ _ c.in-Ok.ensures.allowed c.in-Ok.ensures.reached c.reach.ensures.slot c.in-Ok.ensures.quiet (λ k n. user_byte k n c.args.va) _ c.byte.ensures
+    read_step _ _ _ _ _ Read _ c.in-Ok.ensures.allowed c.in-Ok.ensures.reached c.reach.ensures.slot c.in-Ok.ensures.quiet (λ k n. user_byte k n c.args.va) _ c.byte.ensures
 
 pub returns-in-Err-clause-step : goal.returns-in-Err-clause-step
 unfolding load_byte

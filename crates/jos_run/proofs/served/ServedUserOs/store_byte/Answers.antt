@@ -1,12 +1,14 @@
+use Rattle.std.proofs.Common.{[]}
 use Rattle.jos_base.specs.declared.memory.Access.TheVariants.{Write}
 use Rattle.lib_os.specs.UserCalls.{store_byte, giving, with_user_byte}
 use Rattle.jos_run.proofs.Accesses.{put_step, refused_step}
+use Rattle.jos_run.proofs.Printed.{prints_on}
 use Rattle.jos_run.proofs.served.ServedUserOs.store_byte.Goals as goal
 
 pub returns-in-Ok-clause-step : goal.returns-in-Ok-clause-step
 unfolding store_byte
 returns-in-Ok-clause-step g c =
-    put_step _ _ _ _ _ Write _ _ c.in-Ok.ensures.allowed c.in-Ok.ensures.reached c.reach.ensures.slot c.in-Ok.ensures.quiet (λ k n. with_user_byte k n c.args.va c.args.byte) _ c.put_byte.ensures.state
+    put_step _ _ _ _ _ Write _ c.in-Ok.ensures.allowed c.in-Ok.ensures.reached c.reach.ensures.slot (prints_on _ _ _ _ [] c.put_byte.ensures.written c.in-Ok.ensures.quiet) (λ k n. with_user_byte k n c.args.va c.args.byte) _ c.put_byte.ensures.state
 
 pub returns-in-Err-clause-step : goal.returns-in-Err-clause-step
 unfolding store_byte

@@ -2,7 +2,7 @@ use Rattle.std.proofs.Common.{ap, sym, ◌∙◌}
 use Rattle.jos_base.specs.Environments.{Slot, is_running}
 use Rattle.jos_sys.specs.System.{left_of}
 use Rattle.jos_kernel.proofs.Machines.{not_running}
-use Rattle.jos_run.proofs.served.Served.is_running.Goals as goal
+use Rattle.jos_run.proofs.served.Served.is_running_in.Goals as goal
 
 pub returns-in-Running : goal.returns-in-Running
 returns-in-Running c =

@@ -3,8 +3,8 @@ use Rattle.jos_base.specs.Environments.{is_free, is_live}
 use Rattle.jos_base.specs.declared.environment.Status.{Status}
 use Rattle.jos_sys.specs.System.{left_of}
 use Rattle.jos_sys.proofs.Keeping.{lives}
-use Rattle.jos_run.proofs.served.Served.is_live.Goals as goal
-use Rattle.jos_run.proofs.served.Served.is_live.Goals.{in-Free, in_default}
+use Rattle.jos_run.proofs.served.Served.is_live_in.Goals as goal
+use Rattle.jos_run.proofs.served.Served.is_live_in.Goals.{in-Free, in_default}
 
 pub returns : goal.returns
 returns c =
