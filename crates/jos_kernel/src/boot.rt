@@ -58,7 +58,7 @@ fn earlier(first: Option<u32>, second: Option<u32>) -> Option<u32>
 }
 
 /// The first page from a page on that a segment touches.
-fn next_touched(from: u32, segments: &[Segment]) -> Option<u32>
+pub fn next_touched(from: u32, segments: &[Segment]) -> Option<u32>
     ensures { IsFirst (λ number. any_touches number segments.now) from result }
 {
     let mut next = None;
@@ -146,7 +146,7 @@ fn load_page(
 }
 
 /// Loads all pages that segments touch, in rising order. False where a frame is wanted and none is free.
-fn load_pages(system: &mut System, slot: usize, segments: &[Segment], file: &[u8]) -> bool
+pub fn load_pages(system: &mut System, slot: usize, segments: &[Segment], file: &[u8]) -> bool
     requires live { is_live_in system.old slot ≡ true }
     requires spaces { Keeps system.old }
     requires lie { All (Lies (length file.now)) segments.now }
@@ -186,7 +186,7 @@ fn load_image(system: &mut System, slot: usize, segments: &[Segment], file: &[u8
 // ---- the environments
 
 /// The registers of an environment that begins at this address. All that is not named here is 0.
-fn first_registers(entry: u32) -> Regs
+pub fn first_registers(entry: u32) -> Regs
     ensures { result ≡ first_registers entry }
 {
     Regs {

@@ -14,6 +14,7 @@ mod report;
 mod tests;
 mod trace;
 
+pub use boot::{first_registers, load_pages, next_touched};
 pub use kernel::{BootFault, ExoEnd, Kernel, exo_run};
 pub use report::{End, Refusal, Report, Stopped, Turn};
 pub use trace::{Trace, TrapLine};

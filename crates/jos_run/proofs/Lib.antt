@@ -16,3 +16,12 @@ pub mod GuestLeaves
 pub mod Guests
 pub mod ProgramSteps
 pub mod Serves
+pub mod StackLoaded
+pub mod Touched
+pub mod Booted
+pub mod FramesTaken
+pub mod PagesFilled
+pub mod FirstSpaces
+pub mod PagesBegin
+pub mod StartStands
+pub mod EnoughFrames

@@ -6,3 +6,6 @@ pub mod GuestSteps
 pub mod Guest
 pub mod Steps
 pub mod RunLaws
+pub mod Boot
+pub mod Start
+pub mod Begun

@@ -2,8 +2,10 @@
 //!
 //! `Served` is the kernel as the library has it while it serves one environment: each call of `UserOs` (`lib_os`) is the step
 //! of the kernel's state that `UserCalls.antt` says, and `step_guest` makes the step of its program that `GuestSteps.antt` says.
+//! `boot_program` makes the state in which a run begins, as `Boot.antt` says it.
 #![tactic(auto)]
 
+mod boot;
 mod guest;
 mod laws;
 mod served;
@@ -14,6 +16,7 @@ mod steps;
 mod tests;
 mod turns;
 
+pub use boot::{FRAMES_BESIDE, boot_frames, boot_program, programs_begin};
 pub use laws::{runs_go_on_alike, turns_are_chosen_alike};
 pub use served::Served;
 pub use steps::Stepped;

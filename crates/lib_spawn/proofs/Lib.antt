@@ -1,2 +1,3 @@
 pub mod Exits
+pub mod StackPages
 pub mod Waits

@@ -4,8 +4,14 @@
 //! `MemoryServices.antt` of `lib_os`). exit is one call of the kernel. wait asks for the environment's id, and then tries
 //! to send to the other one, by an address that is none of a page, so that nothing is ever sent: as long as the other one
 //! lives, it gives up its turn and tries again.
+//!
+//! The words that a program is given stand on the first page of its stack (`StackPage.antt`).
 #![tactic(auto)]
 
 mod services;
+mod stack;
 
 pub use services::spawn_step;
+pub use stack::{
+    ARGS_MAX, STACK_ROOM, StackBytes, fits_stack, stack_contents, stack_pointer, stack_size,
+};

@@ -1,0 +1,204 @@
+-- In the frames that it wants, a program is booted: a page takes a frame, and one more where its region has no page yet.
+use Rattle.std.proofs.Common.{◌≡◌, ◌∙◌, ◌+◌, ◌-◌, ◌*◌, ◌/◌, ◌<◌, ◌≤◌, ◌&&◌, ℕ, zero, suc, not, Bool, true, false, List, [], ◌∷◌}
+use Rattle.std.proofs.Common.{Option, Some, None}
+use Rattle.std.proofs.Common.{length, refl, sym, ap, arith, if◌then◌else◌}
+use Rattle.std.specs.Prelude.{is_some}
+use Rattle.std.specs.Option.{option_map}
+use Rattle.jos_base.specs.Counting.{frame_limit}
+use Rattle.jos_base.specs.Environments.{bit_of, no_extra}
+use Rattle.jos_base.specs.KernelState.{KernelState, slot_at, with_spaces}
+use Rattle.jos_base.specs.SpacesState.{SpacesState, allocated, reserved_frames, rising, with_page_bytes}
+use Rattle.jos_base.specs.Words.{upd}
+use Rattle.jos_elf.specs.declared.image.Segment.{Segment}
+use Rattle.jos_elf.specs.Parsed.{Layout}
+use Rattle.jos_kernel.specs.Boot.{and_then, any_touches, any_writes, filled, page_bytes, page_loaded, pages_loaded, perm_of, stack_page}
+use Rattle.lib_os.specs.AbstractMemory.{has_page_in}
+use Rattle.lib_os.specs.AbstractState.{Page, own}
+use Rattle.lib_os.proofs.Maps.{upd-at, upd-other}
+use Rattle.lib_os.proofs.SlotsStand.{born_at}
+use Rattle.lib_spawn.specs.StackPage.{stack_contents, stack_size}
+use Rattle.lib_spawn.proofs.StackPages.{fits}
+use Rattle.jos_run.specs.Begun.{ProgramsBoot}
+use Rattle.jos_run.specs.Boot.{boot_frames, program_loaded, stack_segment, touches_region}
+use Rattle.jos_run.specs.Start.{program_with}
+use Rattle.jos_run.proofs.Booted.{booted-enough}
+use Rattle.jos_run.proofs.FirstSpaces.{has_frames, spaces_two}
+use Rattle.jos_run.proofs.FramesTaken.{allocated_some, allocated_spends}
+use Rattle.jos_run.proofs.PagesBegin.{Stage, the_names, no_entry, memory_below, below-at, below-none, touched_next, untouched_next}
+use Rattle.jos_run.proofs.PagesBegin.{pages_stage, limit_small}
+use Rattle.jos_run.proofs.PagesFilled.{has_page-put}
+use Rattle.jos_run.proofs.StackLoaded.{fits-some, stack-touched}
+use Rattle.jos_run.proofs.StartStands.{base, base_stage, booted_is, space_small}
+use Rattle.jos_run.proofs.Touched.{counted, counted-next, counted-none, counted-grows, counted-same, counted-drop, some-at, some-none}
+
+module _ (image : Layout) (words : List (List ℕ)) (input : List ℕ) (frames : ℕ) (kernel : KernelState)
+    (at_guest : (slot_at kernel 1).extra ≡ no_extra) (small : (slot_at kernel 1).directory < frame_limit) (file : List ℕ) where
+  abbrev d : ℕ
+  d = (slot_at kernel 1).directory
+
+  abbrev At : (ℕ → Option Page) → SpacesState → Type 0
+  At = Stage image words input frames kernel at_guest small
+
+  abbrev segments : List Segment
+  segments = image.segments
+
+  abbrev below : ℕ → ℕ → Option Page
+  below = memory_below image words input frames kernel at_guest small file
+
+  abbrev touched : ℕ → Bool
+  touched k = any_touches k segments
+
+  -- the regions that still want a table, where the pages below a number are there
+  abbrev wants_by : (ℕ → Option Page) → ℕ → Bool
+  wants_by memory r = touches_region segments r && not (has_page_in memory r)
+
+  abbrev wanted : ℕ → ℕ
+  wanted n = counted (wants_by (below n)) 832
+
+  -- as many frames are left as the pages from a number on and those regions want, and two
+  record Suffices (n : ℕ) (t : SpacesState) : Type 0 where
+    enough : counted touched 851968 + wanted n + 2 ≤ length t.free + counted touched n
+
+  bits : (n : ℕ) → touches_region segments n ≡ true → (b : Bool) → bit_of (touches_region segments n && not b) ≡ bit_of (not b)
+  bits n is b = ap (λ (c : Bool). bit_of (c && not b)) is
+
+  -- the region of a page that is touched is touched
+  region_is : (n : ℕ) → touched n ≡ true → touches_region segments (n / 1024) ≡ true
+  region_is n is =
+      let place : n / 1024 * 1024 + (n - n / 1024 * 1024) ≡ n = omega arith in
+      some-at (λ k. any_touches (n / 1024 * 1024 + k) segments) 1024 (n - n / 1024 * 1024) (omega arith)
+      (ap (λ (q : ℕ). any_touches q segments) place ∙ is)
+
+  -- one page more
+  wanted_next : (n : ℕ) → n < 851968 → touched n ≡ true →
+      wanted (suc n) + bit_of (not (has_page_in (below n) (n / 1024))) ≡ wanted n
+  wanted_next n lt is =
+      let page : Page = own (page_bytes segments file n) (any_writes n segments) in
+      let memory : ℕ → Option Page = upd (below n) n (Some page) in
+      let after : wanted (suc n) ≡ counted (wants_by memory) 832 =
+      ap (λ (m : ℕ → Option Page). counted (wants_by m) 832) (touched_next image words input frames kernel at_guest small file n is) in
+      let here : has_page_in memory (n / 1024) ≡ true =
+      has_page-put (below n) n page (n / 1024) ∙ upd-at (has_page_in (below n)) (n / 1024) true in
+      let none : bit_of (wants_by memory (n / 1024)) ≡ 0 = bits (n / 1024) (region_is n is) (has_page_in memory (n / 1024))
+      ∙ ap (λ (b : Bool). bit_of (not b)) here in
+      let was = bits (n / 1024) (region_is n is) (has_page_in (below n) (n / 1024)) in
+      let drop = counted-drop (wants_by memory) (wants_by (below n)) 832 (n / 1024) (omega arith)
+      (λ q ne. ap (λ (b : Bool). touches_region segments q && not b)
+      (has_page-put (below n) n page q ∙ upd-other (has_page_in (below n)) (n / 1024) true q ne)) in
+      omega (arith, after, none, was, drop)
+
+  abbrev Loaded : SpacesState → ℕ → Type 0
+  Loaded first n = (t : SpacesState) × (pages_loaded segments file d first n ≡ Some t) × Suffices n t
+
+  -- a page is loaded, and what is left suffices for the others
+  page_suffices : (n : ℕ) (t : SpacesState) → n < 851968 → At (below n) t → Suffices n t →
+      (u : SpacesState) × (page_loaded segments file d n t ≡ Some u) × Suffices (suc n) u
+  page_suffices n t lt h s = by_touch (touched n) refl
+    where
+      by_touch : (b : Bool) → touched n ≡ b → (u : SpacesState) × (page_loaded segments file d n t ≡ Some u) × Suffices (suc n) u
+      by_touch false is = (
+        t,
+        ap (λ (b : Bool). if b then filled (page_bytes segments file n) (allocated t d n (perm_of (any_writes n segments))) else
+            Some t) is,
+        record {
+          enough =
+              let next = counted-next touched n in
+              let suc_is : counted touched (suc n) ≡ counted touched (n + 1) = ap (counted touched) (omega arith) in
+              let same : wanted (suc n) ≡ wanted n =
+              ap (λ (m : ℕ → Option Page). counted (wants_by m) 832) (untouched_next image words input frames kernel at_guest small
+              file n is) in
+              let none : bit_of (touched n) ≡ 0 = ap bit_of is in
+              let before = s.enough in
+              omega (arith, next, suc_is, same, none, before);
+        },
+      )
+      by_touch true is =
+          let next = counted-next touched n in
+          let suc_is : counted touched (suc n) ≡ counted touched (n + 1) = ap (counted touched) (omega arith) in
+          let one : bit_of (touched n) ≡ 1 = ap bit_of is in
+          let grows = counted-grows touched (suc n) 851968 (omega arith) in
+          let before = s.enough in
+          let some = allocated_some t d n (perm_of (any_writes n segments)) (omega (arith, next, suc_is, one, grows, before)) in
+          let own_memory = born_at h.stands 1 (program_with image words (below n)) refl in
+          let none = no_entry the_names t d n (sym (own_memory.memory n) ∙ below-at image words input frames kernel at_guest small
+          file n) in
+          let spent = allocated_spends t some.0.1 d n (perm_of (any_writes n segments)) some.0.0 none some.1 in
+          let same : bit_of (not (has_page_in (below n) (n / 1024))) ≡ bit_of (not (is_some (t.regions d (n / 1024)))) =
+          ap (λ (b : Bool). bit_of (not b)) (own_memory.regions (n / 1024)) in
+          let less = wanted_next n lt is in (
+            with_page_bytes some.0.1 some.0.0 (page_bytes segments file n),
+            ap (λ (b : Bool). if b then filled (page_bytes segments file n) (allocated t d n (perm_of (any_writes n segments)))
+                else Some t) is
+                ∙ ap (filled (page_bytes segments file n)) some.1,
+            record { enough = omega (arith, next, suc_is, one, before, spent, same, less) },
+          )
+
+  pages_suffice : (first : SpacesState) → At (λ p. None) first → Suffices 0 first → (n : ℕ) → n ≤ 851968 → Loaded first n
+  unfolding pages_loaded
+  pages_suffice first h s zero le = (first, refl, s)
+  pages_suffice first h s (suc n) le =
+      let before = pages_suffice first h s n (omega arith) in
+      let stage = pages_stage image words input frames kernel at_guest small file first h n (let lim = limit_small in
+      omega (arith, lim)) before.0 before.1 in
+      let next = page_suffices n before.0 (omega arith) stage before.2 in
+      (next.0, ap (λ (o : Option SpacesState). and_then o (page_loaded segments file d n)) before.1 ∙ next.1, next.2)
+
+  -- all pages, and that of the stack
+  program_suffices : 0 < stack_size words → stack_size words ≤ 4096 → (first : SpacesState) → At (λ p. None) first → Suffices 0 first →
+      (u : SpacesState) × (program_loaded segments file words d first ≡ Some u)
+  unfolding program_loaded
+  program_suffices some most first h s =
+      let loaded = pages_suffice first h s 851968 (omega arith) in
+      let t = loaded.0 in
+      let last = allocated_some t d stack_page (perm_of (any_writes stack_page (stack_segment words ∷ [])))
+      (let enough = loaded.2.enough in omega (arith, enough)) in
+      let bytes : List ℕ = page_bytes (stack_segment words ∷ []) (stack_contents words) stack_page in (
+        with_page_bytes last.0.1 last.0.0 bytes,
+        ap (λ (o : Option SpacesState). and_then o (page_loaded (stack_segment words ∷ []) (stack_contents words) d stack_page)) loaded.1
+            ∙ ap (λ (b : Bool). if b then filled bytes
+            (allocated t d stack_page (perm_of (any_writes stack_page (stack_segment words ∷ [])))) else Some t)
+            (stack-touched words some most)
+            ∙ ap (filled bytes) last.1,
+      )
+
+  -- at the beginning every region that is touched wants a table
+  wanted_first : wanted 0 ≡ counted (touches_region segments) 832
+  wanted_first = counted-same (wants_by (below 0)) (touches_region segments) 832
+      (λ r lt. ap (λ (b : Bool). touches_region segments r && not b)
+      (some-none (λ p. is_some (below 0 (r * 1024 + p))) 1024
+      (λ p low. ap is_some (below-none image words input frames kernel at_guest small file (r * 1024 + p))))
+      ∙ and_true (touches_region segments r))
+    where
+      and_true : (b : Bool) → (b && true) ≡ b
+      and_true true = refl
+      and_true false = refl
+
+  suffices_first : (first : SpacesState) → counted touched 851968 + counted (touches_region segments) 832 + 2 ≤ length first.free →
+      Suffices 0 first
+  suffices_first first le = record {
+    enough = let none = counted-none touched in let regions = wanted_first in omega (arith, le, none, regions);
+  }
+
+length-rising : (first n : ℕ) → length (rising first n) ≡ n
+unfolding rising
+length-rising first zero = refl
+length-rising first (suc n) = ap suc (length-rising (first + 1) n)
+
+pub programs_boot : ProgramsBoot
+unfolding boot_frames
+programs_boot image file words frames input read fit least most =
+    let h = fits words fit in
+    let has = has_frames frames (omega arith) most in
+    let first = reserved_frames frames in
+    let n = frames - reserved_frames frames - 2 in
+    let left = length-rising (first + 1 + 1) n in
+    let kernel = base image words input frames first n has h.size in
+    let small = space_small image words input frames first n has h.size in
+    let loaded = program_suffices image words input frames kernel refl small file (fits-some words h) h.size
+    (spaces_two frames first n has)
+    (base_stage image words input frames first n has h.size)
+    (suffices_first image words input frames kernel refl small file (spaces_two frames first n has) (omega (arith, left))) in (
+      with_spaces kernel loaded.0,
+      booted-enough image file words frames input least ∙ booted_is image words input frames first n has h.size file
+          ∙ ap (option_map (with_spaces kernel)) loaded.1,
+    )

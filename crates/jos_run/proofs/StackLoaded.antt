@@ -1,0 +1,119 @@
+-- The page of a program's stack is loaded, and then the program begins.
+use Rattle.std.proofs.Common.{◌≡◌, ◌∙◌, ℕ, ◌+◌, ◌-◌, ◌/◌, ◌<◌, ◌≤◌, ◌&&◌, ◌||◌, Bool, true, false, List, [], ◌∷◌, Option, Some}
+use Rattle.std.proofs.Common.{None, Ok, Err}
+use Rattle.std.proofs.Common.{take, refl, sym, ap, arith}
+use Rattle.std.specs.Prelude.{nat_lt}
+use Rattle.std.specs.Option.{option_map}
+use Rattle.std.proofs.lemmas.Bool.{lt-ltb}
+use Rattle.std.proofs.lemmas.List.{take_all}
+use Rattle.jos_base.specs.declared.environment.EnvType.TheVariants.{FileServer}
+use Rattle.jos_base.specs.declared.environment.Status.TheVariants.{Runnable}
+use Rattle.jos_base.specs.declared.errno.Errno.{Errno}
+use Rattle.jos_base.specs.declared.numbers.TheConstants.{FDTABLE, PGSIZE}
+use Rattle.jos_base.specs.declared.registers.Regs.{Regs}
+use Rattle.jos_base.specs.KernelState.{KernelState, slot_at, with_env_type, with_registers, with_spaces, with_status}
+use Rattle.jos_base.specs.SpacesState.{SpacesState, overlaid}
+use Rattle.jos_base.specs.SystemCalls.{environment_made}
+use Rattle.jos_elf.specs.declared.image.Segment.{Segment}
+use Rattle.jos_elf.specs.Parsed.{Layout}
+use Rattle.jos_kernel.specs.Boot.{and_then, any_touches, any_writes, laid_all, page_loaded, pages_loaded, stack_page, touches}
+use Rattle.jos_kernel.specs.Loading.{Loads}
+use Rattle.jos_kernel.proofs.Laying.{laid-part}
+use Rattle.lib_spawn.specs.StackPage.{stack_contents, stack_pointer, stack_size}
+use Rattle.lib_spawn.proofs.StackPages.{Fits, stack-has_size}
+use Rattle.jos_run.specs.Boot.{stack_segment, program_loaded, program_registers, program_started, program_in, server_in}
+
+-- ---- the page of the stack
+
+-- what stands there lies in the page
+module _ (words : List (List ℕ)) (some : 0 < stack_size words) (most : stack_size words ≤ 4096) where
+  abbrev segment : Segment
+  segment = stack_segment words
+
+  stack-touches : touches stack_page segment ≡ true
+  stack-touches =
+      let low : nat_lt (stack_pointer words) 4005552128 ≡ true = lt-ltb (stack_pointer words) 4005552128 (omega arith) in
+      let high : nat_lt 4005548032 (stack_pointer words + stack_size words) ≡ true = lt-ltb 4005548032
+      (stack_pointer words + stack_size words) (omega arith) in
+      ap (λ (b : Bool). b && nat_lt 4005548032 (stack_pointer words + stack_size words)) low ∙ high
+
+  pub stack-touched : any_touches stack_page (segment ∷ []) ≡ true
+  stack-touched = ap (λ (b : Bool). b || false) stack-touches
+
+  pub stack-writes : any_writes stack_page (segment ∷ []) ≡ true
+  stack-writes = ap (λ (b : Bool). (b && true) || false) stack-touches
+
+  pub stack-laid : (bytes : List ℕ) (offset : ℕ) → offset ≡ 4096 - stack_size words →
+      laid_all (segment ∷ []) (stack_contents words) stack_page bytes ≡ overlaid bytes offset (stack_contents words)
+  unfolding laid_all
+  stack-laid bytes offset is =
+      let from = stack_pointer words in
+      let place : from - 4005548032 ≡ offset = omega arith in
+      let long : 0 + stack_size words - 0 ≡ stack_size words = omega arith in
+      let size = stack-has_size words in
+      laid-part segment (stack_contents words) bytes stack_page from 4005552128 0 (stack_size words) (omega arith) (omega arith)
+      (omega arith) (omega arith) (omega arith)
+      ∙ (λ i. overlaid bytes (place i) (take (long i) (stack_contents words)))
+      ∙ ap (overlaid bytes offset) (take_all (stack_size words) (stack_contents words) (omega (arith, size)))
+
+-- words that fit have something to stand there
+pub fits-some : (words : List (List ℕ)) → Fits words → 0 < stack_size words
+unfolding stack_size
+fits-some words fits = omega arith
+
+-- ---- the pages of the program
+
+module _ (segments : List Segment) (file : List ℕ) (words : List (List ℕ)) (slot : ℕ) (s t : KernelState) where
+  pub program-none : Loads (pages_loaded segments file (slot_at s slot).directory s.spaces (FDTABLE / PGSIZE)) false s t
+      → Loads (program_loaded segments file words (slot_at s slot).directory s.spaces) false s t
+  unfolding program_loaded
+  program-none pages = (rw pages.0 refl, pages.1)
+
+  module _ (pages : Loads (pages_loaded segments file (slot_at s slot).directory s.spaces (FDTABLE / PGSIZE)) true s t) where
+    program-last : program_loaded segments file words (slot_at s slot).directory s.spaces
+        ≡ page_loaded (stack_segment words ∷ []) (stack_contents words) (slot_at t slot).directory stack_page t.spaces
+    unfolding program_loaded
+    program-last =
+        ap (λ (loaded : Option SpacesState). and_then loaded (page_loaded (stack_segment words ∷ []) (stack_contents words)
+        (slot_at s slot).directory stack_page)) pages.0
+        ∙ ap (λ (k : KernelState). page_loaded (stack_segment words ∷ []) (stack_contents words) (slot_at k slot).directory
+        stack_page t.spaces) (sym pages.1)
+
+    pub program-loads : (some : Bool) (u : KernelState) →
+        Loads (page_loaded (stack_segment words ∷ []) (stack_contents words) (slot_at t slot).directory stack_page t.spaces) some t u →
+        Loads (program_loaded segments file words (slot_at s slot).directory s.spaces) some s u
+    program-loads true u h = (program-last ∙ h.0, h.1 ∙ ap (λ (k : KernelState). with_spaces k u.spaces) pages.1)
+    program-loads false u h = (program-last ∙ h.0, h.1 ∙ ap (λ (k : KernelState). with_spaces k u.spaces) pages.1)
+
+-- ---- the environments
+
+module _ (image : Layout) (file : List ℕ) (words : List (List ℕ)) (s : KernelState) where
+  pub program-no_slot : (error : Errno) → environment_made s 0 ≡ Err error → program_in image file words (environment_made s 0) ≡ None
+  program-no_slot error is = ap (program_in image file words) is
+
+  module _ (t u : KernelState) (n : ℕ) (segments : List Segment) (made : environment_made s 0 ≡ Ok (n, t))
+      (whole : segments ≡ image.segments) where
+    loaded_at : {loaded : Option SpacesState} → program_loaded segments file words (slot_at t n).directory t.spaces ≡ loaded
+        → program_loaded image.segments file words (slot_at t n).directory t.spaces ≡ loaded
+    loaded_at is = ap (λ (list : List Segment). program_loaded list file words (slot_at t n).directory t.spaces) (sym whole) ∙ is
+
+    pub started-none : Loads (program_loaded segments file words (slot_at t n).directory t.spaces) false t u →
+        program_in image file words (environment_made s 0) ≡ None
+    started-none loads = ap (program_in image file words) made ∙ ap (option_map (program_started t n image.entry words))
+        (loaded_at loads.0)
+
+    pub started-some : (v w : KernelState) (registers : Regs) →
+        Loads (program_loaded segments file words (slot_at t n).directory t.spaces) true t u
+        → registers ≡ program_registers image.entry words → v ≡ with_registers u n registers → w ≡ with_status v n Runnable
+        → program_in image file words (environment_made s 0) ≡ Some w
+    started-some v w registers loads is_registers v_is w_is =
+        let state : w ≡ program_started t n image.entry words u.spaces =
+        w_is ∙ ap (λ (k : KernelState). with_status k n Runnable)
+        (v_is ∙ ap (with_registers u n) is_registers
+        ∙ ap (λ (k : KernelState). with_registers k n (program_registers image.entry words)) loads.1) in
+        ap (program_in image file words) made ∙ ap (option_map (program_started t n image.entry words)) (loaded_at loads.0)
+        ∙ ap Some (sym state)
+
+pub server-made : (s t u : KernelState) (n : ℕ) → environment_made s 0 ≡ Ok (n, t) → u ≡ with_env_type t n FileServer →
+    server_in (environment_made s 0) ≡ Some u
+server-made s t u n made is = ap server_in made ∙ ap Some (sym is)

@@ -1,0 +1,9 @@
+use Rattle.jos_sys.specs.System.{state_of}
+use Rattle.jos_run.proofs.StackLoaded.{server-made}
+use Rattle.jos_run.proofs.boot.make_server.Goals as goal
+
+pub returns-in-Ok-clause-made : goal.returns-in-Ok-clause-made
+returns-in-Ok-clause-made c = λ done input.
+    server-made (state_of c.args.system.now input) (state_of c.make_environment.new.self input)
+    (state_of c.set_env_type.new.self input) c.in-Ok.slot
+    (c.in-Ok.ensures.ok input) (c.set_env_type.ensures.state input)

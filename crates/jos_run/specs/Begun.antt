@@ -1,0 +1,32 @@
+-- What holds where a run begins: the kernel's state stands for the first abstract one, and nothing has happened.
+use Rattle.std.specs.Prelude.{◌≡◌, ◌≤◌, ℕ, true, List, None, Some, Ok}
+use Rattle.jos_base.specs.declared.numbers.TheConstants.{FRAMES_MIN, FRAMES_MAX}
+use Rattle.jos_base.specs.KernelState.{KernelState}
+use Rattle.jos_elf.specs.Parsed.{Layout, parsed}
+use Rattle.lib_os.specs.LibrarySteps.{Stands}
+use Rattle.lib_os.specs.Need.{EachHasUse}
+use Rattle.lib_spawn.specs.StackPage.{fits_stack}
+use Rattle.jos_run.specs.Boot.{boot_frames, booted_within, program_booted}
+use Rattle.jos_run.specs.LibraryRuns.{NoneRuns}
+use Rattle.jos_run.specs.Start.{start}
+
+-- nothing has happened, and each frame that is handed out has a use
+pub record IsNew (s : KernelState) (frames : ℕ) : Type 0 where
+  pub none_runs : NoneRuns s
+  pub refusals : s.refusals ≡ 0
+  pub turns : s.turns ≡ 0
+  pub last : s.last ≡ None
+  pub frames_are : s.spaces.frames ≡ frames
+  pub used : EachHasUse s.spaces
+
+-- A program that is booted stands for the abstract state in which its run begins.
+abbrev pub ProgramsBegin : Type 0
+ProgramsBegin = (image : Layout) (file : List ℕ) (words : List (List ℕ)) (frames : ℕ) (input : List ℕ) (s : KernelState) →
+    parsed file ≡ Ok image → fits_stack words ≡ true → FRAMES_MIN ≤ frames → frames ≤ FRAMES_MAX →
+    program_booted image file words frames input ≡ Some s → Stands s (start image file words input) × IsNew s frames
+
+-- And in the frames that it wants, every program is booted.
+abbrev pub ProgramsBoot : Type 0
+ProgramsBoot = (image : Layout) (file : List ℕ) (words : List (List ℕ)) (frames : ℕ) (input : List ℕ) →
+    parsed file ≡ Ok image → fits_stack words ≡ true → boot_frames image ≤ frames → frames ≤ FRAMES_MAX →
+    (s : KernelState) × (booted_within image file words frames input ≡ Some s)

@@ -1,0 +1,89 @@
+-- How a run begins: the file server's environment in slot 0, which has no pages and never runs, and a program in slot 1,
+-- with the pages of its image and a page of stack on which its words stand.
+-- (MIT 6.828, env_create and load_icode of kern/env.c, and init_stack of lib/spawn.c.)
+use Rattle.std.specs.Prelude.{ℕ, ◌+◌, ◌*◌, ◌/◌, nat_lt, Bool, true, List, [], ◌∷◌, Option, None, Some, Result, Ok, Err, if◌then◌else◌}
+use Rattle.std.specs.Option.{option_map}
+use Rattle.jos_base.specs.declared.environment.EnvType.TheVariants.{FileServer}
+use Rattle.jos_base.specs.declared.environment.Status.TheVariants.{Runnable}
+use Rattle.jos_base.specs.declared.errno.Errno.{Errno}
+use Rattle.jos_base.specs.declared.numbers.TheConstants.{FDTABLE, NPTENTRIES, PGSIZE}
+use Rattle.jos_base.specs.declared.registers.Regs.{Regs}
+use Rattle.jos_base.specs.Counting.{total}
+use Rattle.jos_base.specs.Environments.{bit_of}
+use Rattle.jos_base.specs.KernelState.{KernelState, first_state, slot_at, with_env_type, with_registers, with_spaces, with_status}
+use Rattle.jos_base.specs.SpacesState.{SpacesState}
+use Rattle.jos_base.specs.SystemCalls.{environment_made}
+use Rattle.jos_elf.specs.declared.image.Segment.{Segment}
+use Rattle.jos_elf.specs.Parsed.{Layout}
+use Rattle.jos_kernel.specs.Boot.{and_then, any_touches, first_registers, page_loaded, pages_loaded, stack_page}
+use Rattle.lib_spawn.specs.StackPage.{stack_contents, stack_pointer, stack_size}
+use Rattle.fs_layout.specs.DiskImage.{some_below}
+use Rattle.jos_run.specs.declared.boot.TheConstants.{FRAMES_BESIDE}
+
+-- ---- the program
+
+-- what stands from ESP on, as a segment of a file of these bytes
+abbrev pub stack_segment : List (List ℕ) → Segment
+stack_segment words = record {
+  va = stack_pointer words;
+  mem_len = stack_size words;
+  file_at = 0;
+  file_len = stack_size words;
+  writable = true;
+}
+
+-- the pages of the image, and then that of the stack
+unfoldable pub program_loaded : List Segment → List ℕ → List (List ℕ) → ℕ → SpacesState → Option SpacesState
+program_loaded segments file words space s =
+    and_then (pages_loaded segments file space s (FDTABLE / PGSIZE))
+    (page_loaded (stack_segment words ∷ []) (stack_contents words) space stack_page)
+
+-- it stands at the image's entry, and ESP at its words
+abbrev pub program_registers : ℕ → List (List ℕ) → Regs
+program_registers entry words = record (first_registers entry) { esp = stack_pointer words }
+
+abbrev pub program_started : KernelState → ℕ → ℕ → List (List ℕ) → SpacesState → KernelState
+program_started s n entry words spaces =
+    with_status (with_registers (with_spaces s spaces) n (program_registers entry words)) n Runnable
+
+abbrev pub program_in : Layout → List ℕ → List (List ℕ) → Result (ℕ × KernelState) Errno → Option KernelState
+program_in image file words (Err error) = None
+program_in image file words (Ok made) =
+    option_map (program_started made.1 made.0 image.entry words)
+    (program_loaded image.segments file words (slot_at made.1 made.0).directory made.1.spaces)
+
+-- ---- the server
+
+abbrev pub server_in : Result (ℕ × KernelState) Errno → Option KernelState
+server_in (Err error) = None
+server_in (Ok made) = Some (with_env_type made.1 made.0 FileServer)
+
+-- ---- both
+
+-- None where a frame is wanted and none is free
+unfoldable pub program_booted : Layout → List ℕ → List (List ℕ) → ℕ → List ℕ → Option KernelState
+program_booted image file words frames input =
+    and_then (server_in (environment_made (first_state frames input) 0))
+    (λ s. program_in image file words (environment_made s 0))
+
+-- ---- how many frames a run wants
+
+-- a region of 4 MB in which a segment touches a page
+abbrev pub touches_region : List Segment → ℕ → Bool
+touches_region segments region = some_below NPTENTRIES (λ k. any_touches (region * NPTENTRIES + k) segments)
+
+-- how many pages the segments touch, and how many regions
+abbrev pub pages_touched : List Segment → ℕ
+pages_touched segments = total (FDTABLE / PGSIZE) (λ number. bit_of (any_touches number segments))
+
+abbrev pub regions_touched : List Segment → ℕ
+regions_touched segments = total (FDTABLE / PGSIZE / NPTENTRIES) (λ region. bit_of (touches_region segments region))
+
+-- a frame for each page and one for the table of each region, and those beside
+unfoldable pub boot_frames : Layout → ℕ
+boot_frames image = FRAMES_BESIDE + pages_touched image.segments + regions_touched image.segments
+
+-- a program whose image wants more is not booted at all
+unfoldable pub booted_within : Layout → List ℕ → List (List ℕ) → ℕ → List ℕ → Option KernelState
+booted_within image file words frames input =
+    if nat_lt frames (boot_frames image) then None else program_booted image file words frames input

@@ -1,0 +1,66 @@
+-- The abstract state in which a run begins: the server, which is idle and has an empty disk, and one program.
+use Rattle.std.specs.Prelude.{ℕ, ◌+◌, ◌-◌, ◌==◌, true, false, List, [], ◌∷◌, Option, Some, None, if◌then◌else◌}
+use Rattle.jos_base.specs.declared.numbers.TheConstants.{FIRST_ENV_ID, NENV}
+use Rattle.jos_base.specs.SpacesState.{rising}
+use Rattle.jos_elf.specs.declared.image.Segment.{Segment}
+use Rattle.jos_elf.specs.Parsed.{Layout}
+use Rattle.jos_kernel.specs.Boot.{any_touches, any_writes, page_bytes, stack_page}
+use Rattle.fs_layout.specs.FileTree.{a_directory, no_more}
+use Rattle.lib_os.specs.AbstractMemory.{has_page_in}
+use Rattle.lib_os.specs.AbstractState.{AbstractState, Born, Page, own, Place, Slot, free, born, serving, guest, at_guest, idle, terminal}
+use Rattle.lib_spawn.specs.StackPage.{stack_contents}
+use Rattle.jos_run.specs.Boot.{program_registers, stack_segment}
+
+-- the page of this number, if a segment touches it
+abbrev pub page_of : List Segment → List ℕ → ℕ → Option Page
+page_of segments file number =
+    if any_touches number segments then Some (own (page_bytes segments file number) (any_writes number segments)) else None
+
+abbrev pub stack_of : List (List ℕ) → Page
+stack_of words = own (page_bytes (stack_segment words ∷ []) (stack_contents words) stack_page) true
+
+-- the pages of the image, and that of the stack
+abbrev pub first_memory : Layout → List ℕ → List (List ℕ) → ℕ → Option Page
+first_memory image file words number =
+    if number == stack_page then Some (stack_of words) else page_of image.segments file number
+
+-- a program with this memory, at its first instruction
+abbrev pub program_with : Layout → List (List ℕ) → (ℕ → Option Page) → Born
+program_with image words memory = record {
+  id = FIRST_ENV_ID + 1;
+  parent = 0;
+  program = guest (program_registers image.entry words);
+  memory = memory;
+  regions = has_page_in memory;
+  descriptors = λ fd. None;
+  phase = at_guest;
+  blocked = false;
+}
+
+abbrev pub first_slot : Born → ℕ → Slot
+first_slot b n = if n == 0 then serving FIRST_ENV_ID else if n == 1 then born b else free 0
+
+abbrev pub no_place : Place
+no_place = record { held_by = None; used = false }
+
+-- the server and this program alone
+abbrev pub start_with : Born → List ℕ → AbstractState
+start_with b input = record {
+  slots = first_slot b;
+  free_slots = rising 2 (NENV - 2);
+  shared = λ name. [];
+  objects = λ name. terminal;
+  pipes = λ name. [];
+  next_name = 0;
+  files = record { root = a_directory no_more false; blocks = 0; unnamed = 0 };
+  opened = λ k. no_place;
+  server = idle;
+  console = [];
+  input = input;
+  last = None;
+  turns = 0;
+}
+
+-- the program of an image that was read from a file, with its words and the console's input
+abbrev pub start : Layout → List ℕ → List (List ℕ) → List ℕ → AbstractState
+start image file words input = start_with (program_with image words (first_memory image file words)) input

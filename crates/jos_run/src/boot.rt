@@ -1,0 +1,226 @@
+//! How a run begins: the file server's environment in slot 0, and a program with its words in slot 1.
+
+ghost use Rattle.std.specs.Prelude.{◌≡◌, ℕ, ◌/◌, ◌<◌, ◌≤◌, List, [], ◌∷◌, Some, None, Ok, All, IfOk, IfErr, length, true, false};
+ghost use Rattle.jos_base.specs.declared.numbers.TheConstants.{FDTABLE, NPTENTRIES, PGSIZE};
+ghost use Rattle.jos_base.specs.SystemCalls.{environment_made};
+ghost use Rattle.jos_elf.specs.Parsed.{Lies, parsed};
+ghost use Rattle.jos_sys.specs.System.{state_of, spaces_of, Keeps, is_live_in};
+ghost use Rattle.jos_kernel.specs.Boot.{page_loaded, stack_page};
+ghost use Rattle.jos_kernel.specs.Loading.{directory_of, Loads};
+ghost use Rattle.lib_spawn.specs.StackPage.{texts, fits_stack, stack_contents};
+ghost use Rattle.lib_os.specs.LibrarySteps.{Stands};
+ghost use Rattle.jos_run.specs.Start.{start};
+ghost use Rattle.jos_run.specs.Begun.{IsNew, ProgramsBegin, ProgramsBoot};
+ghost use Rattle.jos_run.specs.Boot.{pages_touched, touches_region, regions_touched, boot_frames, stack_segment, program_loaded};
+ghost use Rattle.jos_run.specs.Boot.{program_registers, program_in, server_in, booted_within};
+
+use jos_base::{
+    EnvId, EnvType, FDTABLE, NPTENTRIES, PGSIZE, PTE_P, PTE_U, PTE_W, Perm, Regs, Status, USTACKTOP,
+};
+use jos_elf::{Image, Segment};
+use jos_kernel::{BootFault, first_registers, load_pages, next_touched};
+use jos_sys::System;
+use lib_spawn::{stack_contents, stack_pointer};
+use std::alloc::Global;
+
+// ---- how many frames a run wants
+
+/// Frames for what is not the program's image.
+pub const FRAMES_BESIDE: u32 = 256;
+
+/// How many pages the segments touch.
+fn pages_touched(segments: &[Segment]) -> u32
+    ensures count { result ≡ pages_touched segments.now }
+    ensures most { result ≤ FDTABLE / PGSIZE }
+{
+    let mut count = 0;
+    let mut from = 0;
+    while let Some(number) = next_touched(from, segments) {
+        if number >= FDTABLE / PGSIZE {
+            return count;
+        }
+        count += 1;
+        from = number + 1;
+    }
+    count
+}
+
+/// Whether they touch a page of this region.
+fn touches_region(segments: &[Segment], region: u32) -> bool
+    requires { region < FDTABLE / PGSIZE / NPTENTRIES }
+    ensures { result ≡ touches_region segments.now region }
+{
+    match next_touched(region * NPTENTRIES, segments) {
+        Some(number) => number / NPTENTRIES == region,
+        None => false,
+    }
+}
+
+/// How many regions they touch.
+fn regions_touched(segments: &[Segment]) -> u32
+    ensures count { result ≡ regions_touched segments.now }
+    ensures most { result ≤ FDTABLE / PGSIZE / NPTENTRIES }
+{
+    let mut count = 0;
+    for region in 0..FDTABLE / PGSIZE / NPTENTRIES {
+        if touches_region(segments, region) {
+            count += 1;
+        }
+    }
+    count
+}
+
+/// How many frames a run of this program wants at least.
+#[tactic(auto, unfolding(crate::specs::Boot::boot_frames))]
+pub fn boot_frames(image: &Image) -> u32
+    ensures { result ≡ boot_frames image.now }
+{
+    let segments = image.segments();
+    FRAMES_BESIDE + pages_touched(segments) + regions_touched(segments)
+}
+
+// ---- the program
+
+/// A page at the top of the stack, with the program's words. False where a frame is wanted and none is free.
+fn load_stack(system: &mut System, slot: usize, words: &[&str]) -> bool
+    requires live { is_live_in system.old slot ≡ true }
+    requires spaces { Keeps system.old }
+    requires fits { fits_stack (texts words.now) ≡ true }
+    ensures loads { (input : List ℕ) →
+        Loads (page_loaded (stack_segment (texts words.now) ∷ []) (stack_contents (texts words.now)) (directory_of system.old slot)
+        stack_page (spaces_of system.old)) result (state_of system.old input) (state_of system.new input) }
+    ensures spaces { Keeps system.new }
+{
+    match system.allocate(slot, USTACKTOP - PGSIZE, Perm(PTE_P + PTE_W + PTE_U)) {
+        None => false,
+        Some(frame) => {
+            let bytes = stack_contents(words);
+            system.fill(frame, PGSIZE - bytes.len() as u32, bytes.as_slice());
+            true
+        }
+    }
+}
+
+/// The pages of the program, and that of its stack. False where a frame is wanted and none is free.
+fn load_program(
+    system: &mut System,
+    slot: usize,
+    segments: &[Segment],
+    file: &[u8],
+    words: &[&str],
+) -> bool
+    requires live { is_live_in system.old slot ≡ true }
+    requires spaces { Keeps system.old }
+    requires lie { All (Lies (length file.now)) segments.now }
+    requires fits { fits_stack (texts words.now) ≡ true }
+    ensures loads { (input : List ℕ) →
+        Loads (program_loaded segments.now file.now (texts words.now) (directory_of system.old slot) (spaces_of system.old))
+        result (state_of system.old input) (state_of system.new input) }
+    ensures spaces { Keeps system.new }
+{
+    if !load_pages(system, slot, segments, file) {
+        return false;
+    }
+    load_stack(system, slot, words)
+}
+
+/// The registers of a program that begins at this address, with these words.
+fn program_registers(entry: u32, words: &[&str]) -> Regs
+    requires { fits_stack (texts words.now) ≡ true }
+    ensures { result ≡ program_registers entry (texts words.now) }
+{
+    Regs {
+        esp: stack_pointer(words),
+        ..first_registers(entry)
+    }
+}
+
+/// The environment of the program, which may run. False where a frame or a slot is wanted and none is free.
+fn start_program(system: &mut System, image: &Image, file: &[u8], words: &[&str]) -> bool
+    requires spaces { Keeps system.old }
+    requires lie { All (Lies (length file.now)) image.now.segments }
+    requires fits { fits_stack (texts words.now) ≡ true }
+    ensures booted { result ≡ true → (input : List ℕ) →
+        program_in image.now file.now (texts words.now) (environment_made (state_of system.old input) 0)
+        ≡ Some (state_of system.new input) }
+    ensures full { result ≡ false → (input : List ℕ) →
+        program_in image.now file.now (texts words.now) (environment_made (state_of system.old input) 0) ≡ None }
+    ensures spaces { Keeps system.new }
+{
+    let slot = match system.make_environment(EnvId(0)) {
+        Ok(slot) => slot,
+        Err(_) => return false,
+    };
+    if !load_program(system, slot, image.segments(), file, words) {
+        return false;
+    }
+    system.set_registers(slot, program_registers(image.entry(), words));
+    system.set_status(slot, Status::Runnable);
+    true
+}
+
+// ---- both
+
+/// The environment of the file server, which never runs. False where a frame or a slot is wanted and none is free.
+fn make_server(system: &mut System) -> bool
+    requires { Keeps system.old }
+    ensures made { result ≡ true → (input : List ℕ) →
+        server_in (environment_made (state_of system.old input) 0) ≡ Some (state_of system.new input) }
+    ensures full { result ≡ false → (input : List ℕ) → server_in (environment_made (state_of system.old input) 0) ≡ None }
+    ensures spaces { Keeps system.new }
+{
+    match system.make_environment(EnvId(0)) {
+        Ok(slot) => {
+            system.set_env_type(slot, EnvType::FileServer);
+            true
+        }
+        Err(_) => false,
+    }
+}
+
+/// The kernel with the server and a program, which was read from this file, in so many frames.
+///
+/// # Errors
+/// The run wants more frames, or the host's memory ran out.
+pub fn boot_program(
+    alloc: Global,
+    image: &Image,
+    file: &[u8],
+    words: &[&str],
+    frames: u32,
+) -> Result<System, BootFault>
+    requires read { parsed file.now ≡ Ok image.now }
+    requires fits { fits_stack (texts words.now) ≡ true }
+    requires least { 64 ≤ frames }
+    requires most { frames ≤ 65536 }
+    ensures booted { IfOk result (λ system. (input : List ℕ) →
+        booted_within image.now file.now (texts words.now) frames input ≡ Some (state_of system input)) }
+    ensures pool { IfErr result (λ fault. fault ≡ BootFault.Pool → (input : List ℕ) →
+        booted_within image.now file.now (texts words.now) frames input ≡ None) }
+    ensures stands { IfOk result (λ system. (input : List ℕ) →
+        Stands (state_of system input) (start image.now file.now (texts words.now) input)) }
+    ensures new { IfOk result (λ system. (input : List ℕ) → IsNew (state_of system input) frames) }
+    ensures keeps { IfOk result Keeps }
+{
+    if frames < boot_frames(image) {
+        return Err(BootFault::Pool);
+    }
+    let mut system = System::new(alloc, frames)?;
+    if !make_server(&mut system) {
+        return Err(BootFault::Pool);
+    }
+    if !start_program(&mut system, image, file, words) {
+        return Err(BootFault::Pool);
+    }
+    Ok(system)
+}
+
+/// A program that is booted stands for the abstract state in which its run begins, and in the frames that it wants every
+/// program is booted. Nothing here is to be run: each clause is a theorem.
+pub fn programs_begin()
+    ensures alike { ProgramsBegin }
+    ensures always { ProgramsBoot }
+{}
+
+#[cfg(test)]
+mod tests;
