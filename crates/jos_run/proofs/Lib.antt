@@ -25,3 +25,8 @@ pub mod FirstSpaces
 pub mod PagesBegin
 pub mod StartStands
 pub mod EnoughFrames
+pub mod Refusals
+pub mod Advancing
+pub mod StepsMade
+pub mod RunEnds
+pub mod TurnsCounted

@@ -30,7 +30,7 @@ use Rattle.lib_os.specs.Places.{place_of}
 use Rattle.lib_os.specs.StandsFor.{StandsFor, StandsForSlot, StandsAt, StandsAtStep, Names, Row, rows_of, RunsAs, WaitsOrHas, waits, has}
 use Rattle.lib_os.proofs.SlotsStand.{born_at}
 use Rattle.lib_os.proofs.StatesStand.{turn_begun_stands, turn_ended_stands}
-use Rattle.jos_run.specs.AbstractTurns.{turn_begun, steps_taken, abs_run, is_waiting_service, waits_in, stands_waiting}
+use Rattle.jos_run.specs.AbstractTurns.{turn_begun, steps_taken, abs_run, waits_in, stands_waiting}
 use Rattle.jos_run.specs.AbstractTurns.{yields_in, is_yielding, has_yielded, has_yielded_after, may_end, turn_fits, fits}
 use Rattle.jos_run.specs.LibraryRuns.{NoneRuns, OnlyRuns, turn_of, all_fit, IsBetween, IsInTurn, seen_after}
 use Rattle.jos_run.proofs.Choices.{runs_stand, next_stands, begun_only, ended_none}
@@ -248,28 +248,13 @@ step_phase row k b (service.Receive va from) (step.ReadingSender id value) h = (
 step_phase row k b (service.Receive va from) (step.ReadingPerm id value sender) h = (_, h.3.phase)
 step_phase row k b _ _ h = absurd h
 
--- An environment that stands in a service is in that service in the abstract system.
-pub place_tells : {names : Names} {s : KernelState} {a : AbstractState} → StandsFor names s a → (n : ℕ) (b : Born) → a.slots n ≡ born b →
-    (service : Service) (stands : Step) → place_of (slot_at s n) ≡ place.InService service stands →
-    (stage : Stage) × (b.phase ≡ in_service service stage)
-place_tells {names = names} {s = s} h n b at service stands is =
-    step_phase (rows_of s.spaces (slot_at s n).directory) (slot_at s n) b service stands
-    (subst (λ (p : Place). StandsAt p (rows_of s.spaces (slot_at s n).directory) (slot_at s n) b) is (born_at h n b at).at)
-
--- one that stands in a service that may wait, waits
-pub waiting_place : {names : Names} {s : KernelState} {a : AbstractState} → StandsFor names s a → (n : ℕ) (b : Born) → a.slots n ≡ born b →
-    (service : Service) (stands : Step) → place_of (slot_at s n) ≡ place.InService service stands → is_waiting_service service ≡ true →
-    stands_waiting (a.slots n) ≡ true
-waiting_place h n b at service stands is may_wait =
-    ap (λ (slot : Slot). stands_waiting slot) at ∙ ap (λ (p : Phase). waits_in p) (place_tells h n b at service stands is).1 ∙ may_wait
-
 pausing_phase : (row : Row) (k : KernelSlot) (b : Born) (p : Place) → StandsAt p row k b → is_pausing p ≡ true → waits_in b.phase ≡ true
 pausing_phase row k b (place.InService (service.Wait id) (step.Pausing perm)) h pauses = ap (λ (x : Phase). waits_in x) h.is_in.phase
 pausing_phase row k b (place.InService (service.Send id value va) (step.Pausing perm)) h pauses = ap (λ (x : Phase). waits_in x) h.is_in.phase
 pausing_phase row k b (place.InService _ (step.Pausing perm)) h pauses = absurd h
 pausing_phase row k b _ h pauses = absurd (let contradiction : false ≡ true = pauses in cc)
 
--- and so does one that is about to give up its turn
+-- One that is about to give up its turn waits in a service.
 pub pausing_waits : {names : Names} {s : KernelState} {a : AbstractState} → StandsFor names s a → (n : ℕ) → is_running (slot_at s n).status ≡ true →
     is_pausing (place_of (slot_at s n)) ≡ true → stands_waiting (a.slots n) ≡ true
 pausing_waits {s = s} h n runs pauses =
@@ -305,51 +290,12 @@ pub turn_ends_early : {schedule : List ℕ} {first : AbstractState} {turns : Lis
 turn_ends_early {schedule = schedule} {turns = turns} {n = n} {visible = visible} h hidden some within may =
     turn_ends h hidden (short_turn_fits schedule (length turns) h.before h.now (turn_of n visible hidden) some within may)
 
--- as where its environment waits to be woken, or is gone
-pub turn_ends_stopped : {schedule : List ℕ} {first : AbstractState} {turns : List Turn} {n visible : ℕ} {s : KernelState} {written : List ℕ} →
-    IsInTurn schedule first turns n visible s written → (hidden : ℕ) → 0 < visible + hidden →
-    visible + hidden ≤ quantum schedule (length turns) → is_running (slot_at s n).status ≡ false → is_runnable (slot_at s n).status ≡ false →
-    IsBetween schedule first (turns ++ turn_of n visible hidden ∷ []) (kernel.turn_ended s n) written
-turn_ends_stopped {n = n} {visible = visible} h hidden some within not_running not_runnable =
-    turn_ends_early h hidden some within
-    (stopped_may_end h.before h.now (turn_of n visible hidden) (stopped_cannot h.stands.1 n not_running not_runnable))
-
--- or stands in a service that may wait
-pub turn_ends_waiting : {schedule : List ℕ} {first : AbstractState} {turns : List Turn} {n visible : ℕ} {s : KernelState} {written : List ℕ} →
-    (h : IsInTurn schedule first turns n visible s written) → (hidden : ℕ) → 0 < visible + hidden →
-    visible + hidden ≤ quantum schedule (length turns) → stands_waiting (h.now.slots n) ≡ true →
-    IsBetween schedule first (turns ++ turn_of n visible hidden ∷ []) (kernel.turn_ended s n) written
-turn_ends_waiting {n = n} {visible = visible} h hidden some within in_wait =
-    turn_ends_early h hidden some within (waiting_may_end h.before h.now (turn_of n visible hidden) in_wait)
-
--- The step by which one that waits gives up its turn: then the turn may end.
-pub step_gives_up : {schedule : List ℕ} {first : AbstractState} {turns : List Turn} {n visible : ℕ} {s after : KernelState}
-    {written : List ℕ} (bytes : List ℕ) → (h : IsInTurn schedule first turns n visible s written) → Stays after h.now bytes → OnlyRuns after n →
-    is_running (slot_at s n).status ≡ true → is_pausing (place_of (slot_at s n)) ≡ true → (hidden : ℕ) →
-    (t : IsInTurn schedule first turns n visible after (written ++ bytes)) × (may_end t.before (turn_of n visible hidden) t.now ≡ true)
-unfolding step_hidden
-step_gives_up {n = n} {visible = visible} bytes h stays only runs pauses hidden = (
-  step_hidden bytes h stays only,
-  waiting_may_end h.before h.now (turn_of n visible hidden) (pausing_waits h.stands.1 n runs pauses),
-)
-
-yielded_further : (n : ℕ) (begun b : AbstractState) (visible : ℕ) → steps_taken begun n visible ≡ Some b → is_yielding (b.slots n) ≡ true →
+-- after one more step, which was that of yield
+pub yielded_further : (n : ℕ) (begun b : AbstractState) (visible : ℕ) → steps_taken begun n visible ≡ Some b → is_yielding (b.slots n) ≡ true →
     has_yielded begun n (visible + 1) ≡ true
 yielded_further n begun b visible taken yields =
     subst (λ (k : ℕ). has_yielded begun n k ≡ true) (sym (add-one visible))
     (ap (λ (o : Option AbstractState). has_yielded_after n o) taken ∙ yields)
-
--- The step by which one gives up its turn by a service.
-pub step_yields : {schedule : List ℕ} {first : AbstractState} {turns : List Turn} {n visible : ℕ} {s after : KernelState}
-    {written : List ℕ} (bytes : List ℕ) → (h : IsInTurn schedule first turns n visible s written) → GoesOn n after h.now bytes → OnlyRuns after n →
-    is_running (slot_at s n).status ≡ true → is_yield (place_of (slot_at s n)) ≡ true → (hidden : ℕ) →
-    (t : IsInTurn schedule first turns n (visible + 1) after (written ++ bytes)) × (may_end t.before (turn_of n (visible + 1) hidden) t.now ≡ true)
-unfolding step_visible
-step_yields {n = n} {visible = visible} bytes h goes_on only runs yields hidden = (
-  step_visible bytes h goes_on only,
-  yielded_may_end h.before goes_on.0 (turn_of n (visible + 1) hidden)
-      (yielded_further n (turn_begun h.before n) h.now visible h.taken (yield_tells h.stands.1 n runs yields)),
-)
 
 -- ---- what is told
 
@@ -386,3 +332,17 @@ step_failed {first = first} {turns = turns} {n = n} {visible = visible} {written
           (one_more_step (turn_begun h.before n) h.now b.0 n visible h.taken b.1),
       b.2 ∙ ap (λ (l : List ℕ). l ++ bytes) h.console ∙ append_assoc first.console written bytes,
     )
+
+-- and its turns fit
+pub failed_fits : {schedule : List ℕ} {first : AbstractState} {turns : List Turn} {n visible : ℕ} {s : KernelState}
+    {written bytes : List ℕ} → (h : IsInTurn schedule first turns n visible s written) → (hidden : ℕ) →
+    ((a : AbstractState) → Stands s a → (b : AbstractState) × (abs_step a n ≡ Some b) × (b.console ≡ a.console ++ bytes)) →
+    0 < visible + 1 + hidden → visible + 1 + hidden ≤ quantum schedule (length turns) →
+    fits schedule 0 first (turns ++ turn_of n (visible + 1) hidden ∷ []) ≡ true
+failed_fits {schedule = schedule} {first = first} {turns = turns} {n = n} {visible = visible} h hidden would some within =
+    let b = would h.now h.stands in
+    let same : length turns ≡ 0 + length turns = omega arith in
+    fits_append schedule 0 first h.before b.0 turns (turn_of n (visible + 1) hidden) h.fit h.ran
+    (taken_is h.before n (visible + 1) hidden h.chosen ∙ one_more_step (turn_begun h.before n) h.now b.0 n visible h.taken b.1)
+    (subst (λ (k : ℕ). turn_fits schedule k true h.before (turn_of n (visible + 1) hidden) b.0 ≡ true) same
+    (last_turn_fits schedule (length turns) h.before b.0 (turn_of n (visible + 1) hidden) some within))

@@ -77,28 +77,6 @@ pub one_more_step : (a b c : AbstractState) (n visible : ℕ) → steps_taken a 
 one_more_step a b c n visible taken step =
     subst (λ (k : ℕ). steps_taken a n k ≡ Some c) (sym (add-one visible)) (step_further a b c n visible taken step)
 
-if_then : {X Y : Type 0} (c : Bool) (o : Option X) (f : X → Option Y) →
-    (if c then and_then o f else None) ≡ and_then (if c then o else None) f
-if_then true o f = refl
-if_then false o f = refl
-
--- a turn with one more visible step, and with any others
-pub turn_longer : (a : AbstractState) (n visible hidden others : ℕ) →
-    turn_taken a (turn_of n (suc visible) hidden) ≡ and_then (turn_taken a (turn_of n visible others)) (λ b. abs_step b n)
-unfolding turn_taken steps_taken
-turn_longer a n visible hidden others =
-    if_then (is_chosen n (next_slot a)) (steps_taken (turn_begun a n) n visible) (λ b. abs_step b n)
-
-pub run_longer : (a : AbstractState) (turns : List Turn) (n visible hidden others : ℕ) →
-    abs_run a (turns ++ turn_of n (suc visible) hidden ∷ [])
-    ≡ and_then (abs_run a (turns ++ turn_of n visible others ∷ [])) (λ b. abs_step b n)
-run_longer a turns n visible hidden others =
-    run_append a turns (turn_of n (suc visible) hidden)
-    ∙ then_alike (abs_run a turns) (λ b. turn_taken b (turn_of n (suc visible) hidden))
-    (λ b. and_then (turn_taken b (turn_of n visible others)) (λ c. abs_step c n)) (λ b. turn_longer b n visible hidden others)
-    ∙ then_then (abs_run a turns) (λ b. turn_taken b (turn_of n visible others)) (λ c. abs_step c n)
-    ∙ ap (λ (o : Option AbstractState). and_then o (λ c. abs_step c n)) (sym (run_append a turns (turn_of n visible others)))
-
 -- ---- which turns fit
 
 split_and : (c d : Bool) → (c && d) ≡ true → (c ≡ true) × (d ≡ true)

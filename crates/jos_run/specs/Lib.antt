@@ -9,3 +9,5 @@ pub mod RunLaws
 pub mod Boot
 pub mod Start
 pub mod Begun
+pub mod RunReports
+pub mod Running

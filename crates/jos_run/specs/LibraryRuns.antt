@@ -80,6 +80,14 @@ seen_after progress.Visible visible = visible + 1
 seen_after progress.Finished visible = visible + 1
 seen_after progress.Ended visible = visible + 1
 
+-- and the others
+abbrev pub hidden_after : Progress → ℕ → ℕ
+hidden_after progress.Hidden hidden = hidden + 1
+hidden_after progress.Waited hidden = hidden + 1
+hidden_after progress.Visible hidden = hidden
+hidden_after progress.Finished hidden = hidden
+hidden_after progress.Ended hidden = hidden
+
 -- ---- the end
 
 -- a slot but the file server's is live

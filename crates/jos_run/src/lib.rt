@@ -8,6 +8,7 @@
 mod boot;
 mod guest;
 mod laws;
+mod run;
 mod served;
 #[cfg(test)]
 mod step_tests;

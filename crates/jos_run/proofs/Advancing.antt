@@ -1,0 +1,173 @@
+-- One step of a run: the turn in which it is made, and where that turn may end.
+use Rattle.std.proofs.Common.{◌≡◌, ◌∙◌, ℕ, ◌+◌, ◌<◌, ◌≤◌, ◌&&◌, Bool, true, false, List, [], ◌∷◌, ◌++◌, length}
+use Rattle.std.proofs.Common.{Option, Some, refl, sym, ap, arith}
+use Rattle.std.specs.Prelude.{nat_lt, unwrap_or}
+use Rattle.std.proofs.lemmas.Bool.Decides.{nat_tests}
+use Rattle.jos_base.specs.declared.environment.Status.{Status}
+use Rattle.jos_base.specs.declared.environment.Status.TheVariants.{Runnable, Running, NotRunnable}
+use Rattle.jos_base.specs.Environments.{Slot as KernelSlot, is_running, is_runnable}
+use Rattle.jos_base.specs.KernelState.{KernelState, slot_at}
+use Rattle.jos_base.specs.KernelState as kernel
+use Rattle.jos_sched.specs.Quantum.{quantum}
+use Rattle.jos_kernel.specs.declared.report.Turn.{Turn}
+use Rattle.lib_os.specs.declared.place.Place.{Place}
+use Rattle.lib_os.specs.declared.place.Place.TheVariants as place
+use Rattle.lib_os.specs.declared.place.Step.{Step}
+use Rattle.lib_os.specs.declared.place.Step.TheVariants as step
+use Rattle.lib_os.specs.declared.progress.Progress.{Progress}
+use Rattle.lib_os.specs.declared.progress.Progress.TheVariants as progress
+use Rattle.lib_os.specs.declared.service.Service.{Service}
+use Rattle.lib_os.specs.declared.service.Service.TheVariants as service
+use Rattle.lib_os.specs.AbstractState.{AbstractState, Born}
+use Rattle.lib_os.specs.LibrarySteps.{Keeps, NothingRefused, KeepsTurn, MayGiveUp}
+use Rattle.lib_os.specs.Places.{place_of}
+use Rattle.lib_os.specs.StandsFor.{StandsFor, StandsAt, StandsAtStep, Names, Row, rows_of, RunsAs, WaitsOrHas, waits, has}
+use Rattle.lib_os.proofs.SlotsStand.{born_at}
+use Rattle.jos_run.specs.AbstractTurns.{turn_begun, may_end}
+use Rattle.jos_run.specs.LibraryRuns.{OnlyRuns, turn_of, IsBetween, IsInTurn, seen_after}
+use Rattle.jos_run.proofs.RunsKept.{step_hidden, step_visible, stopped_cannot, stopped_may_end, running_born}
+use Rattle.jos_run.proofs.RunsKept.{turn_ends_whole, turn_ends_early, waiting_may_end, pausing_waits, yielded_may_end}
+use Rattle.jos_run.proofs.RunsKept.{yielded_further, yield_tells}
+
+-- ---- who is RUNNING
+
+same_number : (x y : ℕ) → ◌≡◌ {A = Option ℕ} (Some x) (Some y) → x ≡ y
+same_number x y is = ap (λ (o : Option ℕ). unwrap_or o x) is
+
+-- none but the slot that had the last turn
+pub only_runs : {names : Names} {s : KernelState} {a : AbstractState} → StandsFor names s a → (n : ℕ) → s.last ≡ Some n → OnlyRuns s n
+only_runs {s = s} h n last m ne = by_test (is_running (slot_at s m).status) refl
+  where
+    by_test : (c : Bool) → is_running (slot_at s m).status ≡ c → c ≡ false
+    by_test true is = absurd (ne (same_number m n (sym (h.tabled.running m is) ∙ last)))
+    by_test false is = refl
+
+pub awake_running : (status : Status) (blocked : Bool) → RunsAs status blocked → is_running status ≡ true → blocked ≡ false
+awake_running Running false h runs = refl
+awake_running Runnable false h runs = refl
+awake_running NotRunnable true h runs = absurd (let contradiction : false ≡ true = runs in cc)
+awake_running _ _ h runs = absurd h
+
+silent_step : (row : Row) (k : KernelSlot) (b : Born) (s : Service) (stands : Step) → StandsAtStep row k b s stands → b.blocked ≡ false →
+    k.rendezvous.receiving ≡ false
+silent_step row k b s step.Entered h awake = h.silent
+silent_step row k b (service.Wait id) (step.Trying perm) h awake = h.is_in.silent
+silent_step row k b (service.Wait id) (step.Pausing perm) h awake = h.is_in.silent
+silent_step row k b (service.Send id value va) (step.Trying perm) h awake = h.is_in.silent
+silent_step row k b (service.Send id value va) (step.Pausing perm) h awake = h.is_in.silent
+silent_step row k b (service.Send id value va) step.ReadingRegion h awake = h.is_in.silent
+silent_step row k b (service.Send id value va) step.ReadingEntry h awake = h.0.is_in.silent
+silent_step row k b (service.Receive va from) (step.Receiving id) h awake = h.is_in.silent
+silent_step row k b (service.Receive va from) (step.ReadingValue id) h awake = by_come h.1
+  where
+    by_come : WaitsOrHas k b va from → k.rendezvous.receiving ≡ false
+    by_come (waits so) = absurd (let contradiction : true ≡ false = sym so.blocked ∙ awake in cc)
+    by_come (has so) = so.silent
+silent_step row k b (service.Receive va from) (step.ReadingSender id value) h awake = h.2.silent
+silent_step row k b (service.Receive va from) (step.ReadingPerm id value sender) h awake = h.3.silent
+silent_step row k b _ _ h awake = absurd h
+
+silent_at : (row : Row) (k : KernelSlot) (b : Born) (p : Place) → StandsAt p row k b → b.blocked ≡ false → k.rendezvous.receiving ≡ false
+silent_at row k b place.Guest h awake = h.silent
+silent_at row k b (place.InService s stands) h awake = silent_step row k b s stands h awake
+
+-- it waits for no message
+pub running_silent : {names : Names} {s : KernelState} {a : AbstractState} → StandsFor names s a → (n : ℕ) →
+    is_running (slot_at s n).status ≡ true → (slot_at s n).rendezvous.receiving ≡ false
+running_silent {s = s} h n runs =
+    let who = running_born h n runs in
+    let own = born_at h n who.0 who.1 in
+    silent_at (rows_of s.spaces (slot_at s n).directory) (slot_at s n) who.0 (place_of (slot_at s n)) own.at
+    (awake_running (slot_at s n).status who.0.blocked own.runs runs)
+
+-- ---- a step
+
+-- In the turn under way the abstract system has come so far, and where its environment is not RUNNING any more the turn may end.
+pub record Comes (schedule : List ℕ) (first : AbstractState) (turns : List Turn) (n visible hidden : ℕ) (s : KernelState)
+    (written : List ℕ) : Type 0 where
+  pub in_turn : IsInTurn schedule first turns n visible s written
+  pub early : is_running (slot_at s n).status ≡ false → may_end in_turn.before (turn_of n visible hidden) in_turn.now ≡ true
+
+-- it can't run on
+stopped : {schedule : List ℕ} {first : AbstractState} {turns : List Turn} {n visible : ℕ} {s : KernelState} {written : List ℕ} →
+    (h : IsInTurn schedule first turns n visible s written) → (hidden : ℕ) → is_running (slot_at s n).status ≡ false →
+    is_runnable (slot_at s n).status ≡ false → may_end h.before (turn_of n visible hidden) h.now ≡ true
+stopped {n = n} {visible = visible} h hidden idle_now asleep =
+    stopped_may_end h.before h.now (turn_of n visible hidden) (stopped_cannot h.stands.1 n idle_now asleep)
+
+-- where it is not even RUNNABLE, or may give up its turn
+comes_by : {schedule : List ℕ} {first : AbstractState} {turns : List Turn} {n visible hidden : ℕ} {s : KernelState} {written : List ℕ} →
+    (h : IsInTurn schedule first turns n visible s written) →
+    (is_runnable (slot_at s n).status ≡ true → may_end h.before (turn_of n visible hidden) h.now ≡ true) →
+    Comes schedule first turns n visible hidden s written
+comes_by {n = n} {visible = visible} {hidden = hidden} {s = s} h may = record {
+  in_turn = h;
+  early = λ idle_now. by_test (is_runnable (slot_at s n).status) refl idle_now;
+}
+  where
+    by_test : (c : Bool) → is_runnable (slot_at s n).status ≡ c → is_running (slot_at s n).status ≡ false →
+        may_end h.before (turn_of n visible hidden) h.now ≡ true
+    by_test true is idle_now = may is
+    by_test false is idle_now = stopped h hidden idle_now is
+
+comes : {schedule : List ℕ} {first : AbstractState} {turns : List Turn} {n visible : ℕ} {s after : KernelState} {written : List ℕ}
+    (bytes : List ℕ) →
+    (h : IsInTurn schedule first turns n visible s written) → (done : Progress) → Keeps done n s after bytes → NothingRefused s after →
+    after.last ≡ Some n → is_running (slot_at s n).status ≡ true →
+    (is_runnable (slot_at after n).status ≡ true → MayGiveUp done (place_of (slot_at s n))) → (hidden : ℕ) →
+    Comes schedule first turns n (seen_after done visible) hidden after (written ++ bytes)
+unfolding step_hidden step_visible
+comes {n = n} {visible = visible} bytes h progress.Hidden keeps none_refused last runs gives hidden =
+    let stays = keeps h.now h.stands none_refused in
+    let only = only_runs stays.1.1 n last in
+    comes_by (step_hidden bytes h stays only)
+    (λ ready. waiting_may_end h.before h.now (turn_of n visible hidden) (pausing_waits h.stands.1 n runs (gives ready)))
+comes {n = n} bytes h progress.Waited keeps none_refused last runs gives hidden =
+    let stays = (keeps h.now h.stands none_refused).0 in
+    comes_by (step_hidden bytes h stays (only_runs stays.1.1 n last)) (λ ready. absurd (gives ready))
+comes {n = n} bytes h progress.Visible keeps none_refused last runs gives hidden =
+    let goes_on = keeps h.now h.stands none_refused in
+    comes_by (step_visible bytes h goes_on (only_runs goes_on.3.1 n last)) (λ ready. absurd (gives ready))
+comes {n = n} {visible = visible} bytes h progress.Finished keeps none_refused last runs gives hidden =
+    let goes_on = keeps h.now h.stands none_refused in
+    let only = only_runs goes_on.3.1 n last in
+    comes_by (step_visible bytes h goes_on only)
+    (λ ready. yielded_may_end h.before goes_on.0 (turn_of n (visible + 1) hidden)
+    (yielded_further n (turn_begun h.before n) h.now visible h.taken (yield_tells h.stands.1 n runs (gives ready))))
+comes {n = n} bytes h progress.Ended keeps none_refused last runs gives hidden =
+    let goes_on = keeps h.now h.stands none_refused in
+    comes_by (step_visible bytes h goes_on (only_runs goes_on.3.1 n last)) (λ ready. absurd (gives ready))
+
+-- A step of the slot that has its turn, where nothing was refused.
+pub stepped : {schedule : List ℕ} {first : AbstractState} {turns : List Turn} {n visible : ℕ} {s after : KernelState}
+    {written : List ℕ} (bytes : List ℕ) →
+    IsInTurn schedule first turns n visible s written → (done : Progress) → Keeps done n s after bytes → NothingRefused s after →
+    after.last ≡ Some n → is_running (slot_at s n).status ≡ true → KeepsTurn done (slot_at s n) (slot_at after n) → (hidden : ℕ) →
+    Comes schedule first turns n (seen_after done visible) hidden after (written ++ bytes)
+stepped {n = n} bytes h done keeps none_refused last runs turn hidden =
+    comes bytes h done keeps none_refused last runs (turn runs (running_silent h.stands.1 n runs)) hidden
+
+-- ---- the turn behind the step
+
+-- It goes on where its environment is RUNNING and has steps left; else it is over.
+pub turn_over : {schedule : List ℕ} {first : AbstractState} {turns : List Turn} {n visible hidden : ℕ} {s : KernelState}
+    {written : List ℕ} →
+    Comes schedule first turns n visible hidden s written → 0 < visible + hidden → visible + hidden ≤ quantum schedule (length turns) →
+    (is_running (slot_at s n).status && nat_lt (visible + hidden) (quantum schedule (length turns))) ≡ false →
+    IsBetween schedule first (turns ++ turn_of n visible hidden ∷ []) (kernel.turn_ended s n) written
+turn_over {schedule = schedule} {first = first} {turns = turns} {n = n} {visible = visible} {hidden = hidden} {s = s}
+    {written = written} h some within over =
+    by_whole (nat_lt (visible + hidden) (quantum schedule (length turns))) refl
+  where
+    over_and : (c d : Bool) → (c && d) ≡ false → d ≡ true → c ≡ false
+    over_and true d e is = absurd (let contradiction : true ≡ false = sym is ∙ e in cc)
+    over_and false d e is = refl
+
+    by_whole : (c : Bool) → nat_lt (visible + hidden) (quantum schedule (length turns)) ≡ c →
+        IsBetween schedule first (turns ++ turn_of n visible hidden ∷ []) (kernel.turn_ended s n) written
+    by_whole true is =
+        turn_ends_early h.in_turn hidden some within
+        (h.early (over_and (is_running (slot_at s n).status) (nat_lt (visible + hidden) (quantum schedule (length turns))) over is))
+    by_whole false is =
+        let whole : visible + hidden ≡ quantum schedule (length turns) = grind (arith, nat_tests) in
+        turn_ends_whole h.in_turn hidden some whole

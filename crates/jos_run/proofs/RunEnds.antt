@@ -1,0 +1,347 @@
+-- Runs step after step, how they end, and what is told of them.
+use Rattle.std.proofs.Common.{◌≡◌, ◌≢◌, ◌∙◌, ℕ, zero, suc, ◌+◌, ◌-◌, ◌<◌, ◌≤◌, ◌==◌, ◌&&◌, ◌||◌, ◌⊎◌, inl, inr, Bool, true, false}
+use Rattle.std.proofs.Common.{List, [], ◌∷◌, ◌++◌, length}
+use Rattle.std.proofs.Common.{Option, Some, None, Ok, refl, sym, ap, subst, arith, append_assoc, if◌then◌else◌, vec_len}
+use Rattle.std.specs.Prelude.{nat_le, not, is_none}
+use Rattle.std.specs.Option.{ForSome}
+use Rattle.std.proofs.lemmas.Bool.Decides.{nat_tests}
+use Rattle.std.proofs.lemmas.List.{append-nil}
+use Rattle.jos_host.specs.Frames.{from_to}
+use Rattle.jos_host.specs.Gains.{Gains}
+use Rattle.jos_base.specs.declared.environment.EnvType.{EnvType}
+use Rattle.jos_base.specs.declared.environment.Status.{Status}
+use Rattle.jos_base.specs.declared.environment.Status.TheVariants.{Runnable}
+use Rattle.jos_base.specs.declared.numbers.TheConstants.{NENV, TURN_MAX}
+use Rattle.jos_base.specs.Environments.{Slot as KernelSlot, is_live, is_running, is_runnable}
+use Rattle.jos_base.specs.KernelState.{KernelState, slot_at, turn_ended}
+use Rattle.jos_envs.specs.Table.{may_run}
+use Rattle.jos_sched.specs.Quantum.{quantum}
+use Rattle.jos_sched.specs.RoundRobin.{start, next}
+use Rattle.jos_sched.proofs.RoundRobin.{next_runs, none_runs}
+use Rattle.jos_kernel.specs.declared.report.End.{End}
+use Rattle.jos_kernel.specs.declared.report.End.TheVariants.{Done, Stuck, Budget, TurnsFull}
+use Rattle.jos_kernel.specs.declared.report.Refusal.{Refusal}
+use Rattle.jos_kernel.specs.declared.report.Turn.{Turn}
+use Rattle.jos_kernel.proofs.ToldBytes.{gains_none, gains_more}
+use Rattle.fs_layout.specs.DiskImage.{some_below}
+use Rattle.lib_os.specs.AbstractState.{AbstractState, Slot, can_run}
+use Rattle.lib_os.specs.LibrarySteps.{Stands}
+use Rattle.lib_os.specs.StandsFor.{StandsFor, Names}
+use Rattle.lib_os.proofs.SlotsStand.{born_at}
+use Rattle.lib_os.proofs.StatesStand.{turn_ended_stands}
+use Rattle.jos_run.specs.Begun.{IsNew}
+use Rattle.jos_run.specs.declared.run.LibraryRun.{LibraryRun}
+use Rattle.jos_run.specs.AbstractTurns.{next_slot, is_client, any_live, end_of}
+use Rattle.jos_run.specs.LibraryRuns.{OnlyFirstServes, is_user, others_live, end_seen, turn_of, IsBetween, IsInTurn}
+use Rattle.jos_run.specs.RunReports.{HasTaken, CutOffBy, ToldBy, IsTold, IsToldCutOff}
+use Rattle.jos_run.specs.Running.{state_of, made, turns_so_far, Holds, StandsBy, RunsBy, Runs, IsChosen, Went, HasFailed}
+use Rattle.jos_run.specs.Running.{EndsBy, HasRun, report_of, cut_off_of}
+use Rattle.jos_run.proofs.Advancing.{awake_running}
+use Rattle.jos_run.proofs.Choices.{end_stands, ended_none, next_stands, runs_stand}
+use Rattle.jos_run.proofs.RunsKept.{run_begins, between_fits, in_turn_ran, in_turn_fits, running_born}
+use Rattle.jos_run.proofs.StepsMade.{none_made, some_made}
+
+-- ---- who is there
+
+below_cases : (i n : ℕ) → i < suc n → (i < n) ⊎ (i ≡ n)
+below_cases i n h = by_test (i == n) refl
+  where
+    by_test : (c : Bool) → (i == n) ≡ c → (i < n) ⊎ (i ≡ n)
+    by_test true is = inr (grind (arith, nat_tests))
+    by_test false is = inl (let other : i ≢ n = grind (arith, nat_tests) in omega (arith, h, other))
+
+or_true : (c : Bool) → (c || true) ≡ true
+or_true true = refl
+or_true false = refl
+
+some_passes : (passes : ℕ → Bool) (i n : ℕ) → i < n → passes i ≡ true → some_below n passes ≡ true
+unfolding some_below
+some_passes passes i zero h is = absurd (omega arith)
+some_passes passes i (suc n) h is = elim (below_cases i n h) [
+  | inl below ↦ ap (λ (c : Bool). c || passes n) (some_passes passes i n below is)
+  | inr same ↦ ap (λ (c : Bool). some_below n passes || c) (ap passes (sym same) ∙ is) ∙ or_true (some_below n passes)
+]
+
+-- who is RUNNABLE is there
+pub runnable_live : (k : KernelSlot) → is_runnable k.status ≡ true → is_live k ≡ true
+runnable_live k runs = by_status k.status runs
+  where
+    by_status : (status : Status) → is_runnable status ≡ true → is_live (record k { status = status }) ≡ true
+    by_status Runnable runs = refl
+    by_status _ runs = absurd (let contradiction : false ≡ true = runs in cc)
+
+-- The slot that gets the next turn has an environment.
+pub next_live : (s : KernelState) (n : ℕ) → next s.environments s.last ≡ Some n → (n < NENV) × (is_live (slot_at s n) ≡ true)
+next_live s n is = let runs = next_runs s.environments s.last n is in (runs.0, runnable_live (slot_at s n) runs.1)
+
+-- outside of slot 0 it is one but the file server
+pub next_other : (s : KernelState) (n : ℕ) → next s.environments s.last ≡ Some n → n ≢ 0 → others_live s ≡ true
+next_other s n is other =
+    let there = next_live s n is in
+    let test : (n == 0) ≡ false = grind (arith, nat_tests) in
+    some_passes (λ m. not (m == 0) && is_live (slot_at s m)) n NENV there.0
+    (ap (λ (c : Bool). not c && is_live (slot_at s n)) test ∙ there.1)
+
+users_first : {names : Names} {s : KernelState} {a : AbstractState} → StandsFor names s a → OnlyFirstServes s
+users_first h n other = ap (λ (x : EnvType). is_user x) (h.tabled.servers n other)
+
+-- ---- steps after steps
+
+-- none was made yet
+pub none_yet : (r : LibraryRun) (console : Option (List ℕ)) → Went 0 (from_to r r) (from_to console console)
+none_yet r console = record {
+  printed = [];
+  gains = gains_none console;
+  steps_are = omega arith;
+  schedule = refl;
+  runs = λ first frames before h. subst (λ (l : List ℕ). Runs first frames r l) (sym (append-nil before)) h;
+}
+
+pub went_further : {steps more : ℕ} {r s t : LibraryRun} {a b c : Option (List ℕ)} → Went steps (from_to r s) (from_to a b) →
+    Went more (from_to s t) (from_to b c) → Went (steps + more) (from_to r t) (from_to a c)
+went_further {steps = steps} {more = more} {r = r} {s = s} {t = t} {a = a} {b = b} {c = c} v w = record {
+  printed = v.printed ++ w.printed;
+  gains = gains_more a b c v.printed w.printed v.gains w.gains;
+  steps_are = omega (arith, v.steps_are, w.steps_are);
+  schedule = w.schedule ∙ v.schedule;
+  runs = λ first frames before h. subst (λ (l : List ℕ). Runs first frames t l) (append_assoc before v.printed w.printed)
+      (w.runs first frames (before ++ v.printed) (v.runs first frames before h));
+}
+
+-- the host failed after steps that were made
+pub fails_further : {steps : ℕ} {r s t : LibraryRun} {a b c : Option (List ℕ)} → Went steps (from_to r s) (from_to a b) →
+    HasFailed (from_to s t) (from_to b c) → HasFailed (from_to r t) (from_to a c)
+fails_further {r = r} {s = s} {t = t} {a = a} {b = b} {c = c} v f = record {
+  printed = v.printed ++ f.printed;
+  gains = gains_more a b c v.printed f.printed v.gains f.gains;
+  cut_off = λ first frames before h.
+      subst (λ (schedule : List ℕ). CutOffBy t.first_refused schedule first frames (turns_so_far t)
+      (before ++ (v.printed ++ f.printed))) v.schedule
+      (subst (λ (l : List ℕ). CutOffBy t.first_refused s.schedule first frames (turns_so_far t) l)
+      (append_assoc before v.printed f.printed)
+      (f.cut_off first frames (before ++ v.printed) (v.runs first frames before h)));
+}
+
+-- ---- the end
+
+-- Between two turns the end tests tell it.
+between_end : (r : LibraryRun) (spent : Bool) (end : End) → made r ≡ 0 → end_seen (state_of r) (vec_len r.turns) spent ≡ Some end →
+    (first : AbstractState) (frames : ℕ) (printed : List ℕ) → Runs first frames r printed →
+    EndsBy r.first_refused first spent r printed end
+between_end r spent end none seen first frames printed = by_first r.first_refused
+  where
+    test : true ≡ (made r == 0)
+    test = grind (arith, nat_tests)
+
+    told : IsBetween r.schedule first r.turns.items (state_of r) printed →
+        (now : AbstractState) × HasTaken r.schedule first r.turns.items printed now × (end_of now (length r.turns.items) spent ≡ Some end)
+    told h = (
+      h.now,
+      record { ran = h.ran; fit = between_fits h; console = h.console },
+      ap (λ (k : ℕ). end_of h.now k spent) (sym r.turns.ok.0)
+          ∙ end_stands h.stands.1 h.none (users_first h.stands.1) (vec_len r.turns) spent ∙ seen,
+    )
+
+    by_made : (c : Bool) → true ≡ c → StandsBy c r.schedule first r printed →
+        (now : AbstractState)
+        × HasTaken r.schedule first (if c then r.turns.items else r.turns.items ++ turn_of r.served.slot r.visible r.hidden ∷ [])
+        printed now
+        × (end_of now (length (if c then r.turns.items else r.turns.items ++ turn_of r.served.slot r.visible r.hidden ∷ []))
+        spent ≡ Some end)
+    by_made true is h = told h
+    by_made false is h = absurd (let contradiction : true ≡ false = is in cc)
+
+    by_first : (o : Option Refusal) → RunsBy o first frames r printed → EndsBy o first spent r printed end
+    by_first None h = by_made (made r == 0) test h.stands
+    by_first (Some refusal) h = tt
+
+-- An environment that is RUNNING may have a turn after this one.
+goes_on_next : {names : Names} {s : KernelState} {a : AbstractState} → StandsFor names s a → (n : ℕ) → n < NENV →
+    ForSome s.last (λ m. m < NENV) →
+    ((m : ℕ) → m ≢ n → is_running (slot_at s m).status ≡ false) → is_running (slot_at s n).status ≡ true → is_none (next_slot a) ≡ false
+goes_on_next {names = names} {s = s} {a = a} h n within last only runs = by_next (next_slot a) refl
+  where
+    over : StandsFor names (turn_ended s n) a
+    over = turn_ended_stands h n
+
+    ready : can_run a n ≡ true
+    ready =
+        let who = running_born h n runs in
+        ap (λ (slot : Slot). can_run (record a { slots = λ m. slot }) n) who.1
+        ∙ ap (λ (c : Bool). not c) (awake_running (slot_at s n).status who.0.blocked (born_at h n who.0 who.1).runs runs)
+
+    last_small : (o : Option ℕ) → ForSome o (λ m. m < NENV) → start o ≤ NENV
+    last_small None h = omega arith
+    last_small (Some m) h = let below : m < NENV = h m refl in omega arith
+
+    by_next : (o : Option ℕ) → next_slot a ≡ o → is_none o ≡ false
+    by_next (Some m) is = refl
+    by_next None is =
+        let none = ended_none s n only in
+        let nobody : next (turn_ended s n).environments (turn_ended s n).last ≡ None = next_stands over none ∙ is in
+        let most : start (turn_ended s n).last ≤ NENV =
+        subst (λ (o : Option ℕ). start o ≤ NENV) (h.last ∙ sym over.last) (last_small s.last last) in
+        let idle_now : may_run (turn_ended s n).environments n ≡ false = none_runs (turn_ended s n).environments
+        (turn_ended s n).last most nobody n within in
+        absurd (let contradiction : true ≡ false = sym ready ∙ sym (runs_stand over n (none n)) ∙ idle_now in cc)
+
+running_client : {names : Names} {s : KernelState} {a : AbstractState} → StandsFor names s a → (n : ℕ) → n < NENV →
+    is_running (slot_at s n).status ≡ true → any_live a ≡ true
+running_client {a = a} h n within runs =
+    let who = running_born h n runs in
+    some_passes (λ m. is_client (a.slots m)) n NENV within (ap (λ (slot : Slot). is_client slot) who.1)
+
+-- the steps are used up while an environment runs
+spent_end : (a : AbstractState) (turns : ℕ) → any_live a ≡ true → is_none (next_slot a) ≡ false → end_of a turns true ≡ Some Budget
+unfolding end_of
+spent_end a turns live ready =
+    ap (λ (c : Bool). if not c then Some Done else if is_none (next_slot a) then Some Stuck else Some Budget) live
+    ∙ ap (λ (c : Bool). if c then Some Stuck else Some Budget) ready
+
+-- Where the steps are used up in a turn, it is the budget that ends the run.
+in_turn_end : (r : LibraryRun) → Holds r → 0 < made r →
+    (first : AbstractState) (frames : ℕ) (printed : List ℕ) → Runs first frames r printed →
+    EndsBy r.first_refused first true r printed Budget
+in_turn_end r holds some first frames printed = by_first r.first_refused
+  where
+    test : false ≡ (made r == 0)
+    test = grind (arith, nat_tests)
+
+    told : IsInTurn r.schedule first r.turns.items r.served.slot r.visible (state_of r) printed →
+        (now : AbstractState)
+        × HasTaken r.schedule first (r.turns.items ++ turn_of r.served.slot r.visible r.hidden ∷ []) printed now
+        × (end_of now (length (r.turns.items ++ turn_of r.served.slot r.visible r.hidden ∷ [])) true ≡ Some Budget)
+    told h =
+        let left : made r < quantum r.schedule (length r.turns.items) = holds.left some in
+        let within : r.served.slot < NENV = holds.last r.served.slot (holds.current some) in
+        let runs = holds.running some in (
+          h.now,
+          record { ran = in_turn_ran h r.hidden; fit = in_turn_fits h r.hidden some (omega arith); console = h.console },
+          spent_end h.now (length (r.turns.items ++ turn_of r.served.slot r.visible r.hidden ∷ []))
+              (running_client h.stands.1 r.served.slot within runs)
+              (goes_on_next h.stands.1 r.served.slot within holds.last h.only runs),
+        )
+
+    by_made : (c : Bool) → false ≡ c → StandsBy c r.schedule first r printed →
+        (now : AbstractState)
+        × HasTaken r.schedule first (if c then r.turns.items else r.turns.items ++ turn_of r.served.slot r.visible r.hidden ∷ [])
+        printed now
+        × (end_of now (length (if c then r.turns.items else r.turns.items ++ turn_of r.served.slot r.visible r.hidden ∷ []))
+        true ≡ Some Budget)
+    by_made true is h = absurd (let contradiction : false ≡ true = is in cc)
+    by_made false is h = told h
+
+    by_first : (o : Option Refusal) → RunsBy o first frames r printed → EndsBy o first true r printed Budget
+    by_first None h = by_made (made r == 0) test h.stands
+    by_first (Some refusal) h = tt
+
+-- An end test holds while steps are left.
+pub on_end : {budget left : ℕ} {r t : LibraryRun} {a b : Option (List ℕ)} → Went (budget - left) (from_to r t) (from_to a b) →
+    0 < left → left ≤ budget →
+    (end : End) → made t ≡ 0 → end_seen (state_of t) (vec_len t.turns) false ≡ Some end →
+    HasRun budget (Ok end) (from_to r t) (from_to a b)
+on_end {budget = budget} {left = left} {t = t} went some within end none seen =
+    let test : false ≡ (budget - left == budget) = grind (arith, nat_tests) in (
+      budget - left,
+      omega arith,
+      went,
+      λ first frames before h. subst (λ (spent : Bool). EndsBy t.first_refused first spent t (before ++ went.printed) end) test
+          (between_end t false end none seen first frames (before ++ went.printed) (went.runs first frames before h)),
+    )
+
+-- The steps are used up.
+pub on_budget : {budget left : ℕ} {r t : LibraryRun} {a b : Option (List ℕ)} → Went (budget - left) (from_to r t) (from_to a b) →
+    left ≡ 0 →
+    Holds t → (end : End) → (made t ≡ 0 → end_seen (state_of t) (vec_len t.turns) true ≡ Some end) → (0 < made t → end ≡ Budget) →
+    HasRun budget (Ok end) (from_to r t) (from_to a b)
+on_budget {budget = budget} {left = left} {t = t} went none holds end between in_turn =
+    let test : true ≡ (budget - left == budget) = grind (arith, nat_tests) in (
+      budget - left,
+      omega arith,
+      went,
+      λ first frames before h. subst (λ (spent : Bool). EndsBy t.first_refused first spent t (before ++ went.printed) end) test
+          (by_made (made t == 0) refl first frames (before ++ went.printed) (went.runs first frames before h)),
+    )
+  where
+    by_made : (c : Bool) → (made t == 0) ≡ c → (first : AbstractState) (frames : ℕ) (printed : List ℕ) → Runs first frames t printed →
+        EndsBy t.first_refused first true t printed end
+    by_made true is first frames printed h =
+        between_end t true end (none_made t is) (between (none_made t is)) first frames printed h
+    by_made false is first frames printed h =
+        subst (λ (e : End). EndsBy t.first_refused first true t printed e) (sym (in_turn (some_made t is)))
+        (in_turn_end t holds (some_made t is) first frames printed h)
+
+-- ---- what is told
+
+-- A run has not begun to make steps.
+pub begins : (r : LibraryRun) → r.turns.items ≡ [] → made r ≡ 0 → r.first_refused ≡ None → r.served.written ≡ 0 →
+    (first : AbstractState) (frames : ℕ) → Stands (state_of r) first → IsNew (state_of r) frames → Runs first frames r []
+begins r empty none quiet written first frames stands h =
+    let test : true ≡ (made r == 0) = grind (arith, nat_tests) in
+    subst (λ (o : Option Refusal). RunsBy o first frames r []) (sym quiet) (record {
+      stands = subst (λ (c : Bool). StandsBy c r.schedule first r []) test
+          (subst (λ (turns : List Turn). IsBetween r.schedule first turns (state_of r) []) (sym empty)
+          (run_begins r.schedule first (state_of r) stands h.none_runs));
+      quiet = h.refusals;
+      frames_are = h.frames_are;
+      used = h.used;
+      counted_so = written;
+    })
+
+-- The report of a run that has ended by itself.
+pub told_whole : {budget : ℕ} {r t : LibraryRun} {a b : Option (List ℕ)} (end : End) →
+    HasRun budget (Ok end) (from_to r t) (from_to a b) → r.steps ≡ 0 → Holds t →
+    (first : AbstractState) (frames : ℕ) → Runs first frames r [] →
+    (printed : List ℕ) × Gains (from_to a b) printed × IsTold r.schedule first frames budget (report_of t end) printed
+told_whole {budget = budget} {r = r} {t = t} end ran none holds first frames h =
+    let went = ran.2 in
+    let within : ran.0 ≤ budget = ran.1 in
+    let steps : t.steps ≡ ran.0 = (let all : t.steps ≡ r.steps + ran.0 = went.steps_are in omega arith) in (
+      went.printed,
+      went.gains,
+      record {
+        steps = holds.steps;
+        within = omega arith;
+        closing = refl;
+        by_refusal = subst (λ (schedule : List ℕ). ToldBy t.first_refused schedule first frames budget (report_of t end)
+            went.printed) went.schedule
+            (by_first steps t.first_refused (went.runs first frames [] h) (ran.3 first frames [] h));
+      },
+    )
+  where
+    by_first : t.steps ≡ ran.0 → (o : Option Refusal) → RunsBy o first frames t ran.2.printed →
+        EndsBy o first (ran.0 == budget) t ran.2.printed end →
+        ToldBy o t.schedule first frames budget (report_of t end) ran.2.printed
+    by_first steps None runs ends =
+        (runs.quiet, (ends.0, ends.1, ap (λ (n : ℕ). end_of ends.0 (length (turns_so_far t)) (n == budget)) steps ∙ ends.2))
+    by_first steps (Some refusal) runs ends = runs
+
+-- What is told of one that was cut off.
+pub told_cut_off : {r t : LibraryRun} {a b : Option (List ℕ)} → HasFailed (from_to r t) (from_to a b) →
+    (first : AbstractState) (frames : ℕ) → Runs first frames r [] → IsToldCutOff r.schedule first frames (cut_off_of t) (from_to a b)
+told_cut_off failed first frames h = (failed.printed, failed.gains, failed.cut_off first frames [] h)
+
+-- ---- the next step
+
+-- between two turns, where no end test holds
+pub chosen_next : (r : LibraryRun) (n : ℕ) → made r ≡ 0 → next (state_of r).environments (state_of r).last ≡ Some n →
+    others_live (state_of r) ≡ true → vec_len r.turns < TURN_MAX → IsChosen r n
+chosen_next r n none is live room =
+    let there = next_live (state_of r) n is in
+    let full : nat_le TURN_MAX (vec_len r.turns) ≡ false = grind (arith, nat_tests) in
+    record {
+      turn = λ some. absurd (omega (arith, none, some));
+      next_is = λ empty. is;
+      goes_on = λ empty. end_none live is full;
+      room = room;
+      live = there.1;
+      within = there.0;
+    }
+  where
+    end_none : others_live (state_of r) ≡ true → next (state_of r).environments (state_of r).last ≡ Some n →
+        nat_le TURN_MAX (vec_len r.turns) ≡ false → end_seen (state_of r) (vec_len r.turns) false ≡ None
+    end_none live is full =
+        ap (λ (c : Bool). if not c then Some Done else if is_none (next (state_of r).environments (state_of r).last) then Some Stuck
+        else if nat_le TURN_MAX (vec_len r.turns) then Some TurnsFull else None) live
+        ∙ ap (λ (o : Option ℕ). if is_none o then Some Stuck else if nat_le TURN_MAX (vec_len r.turns) then Some TurnsFull else None) is
+        ∙ ap (λ (c : Bool). if c then Some TurnsFull else None) full

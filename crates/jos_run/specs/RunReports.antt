@@ -1,0 +1,111 @@
+-- What is told of a run of the library's programs: the turns that it took, and how it ended. The abstract system takes
+-- these turns and prints these bytes, up to the first time that a page was refused for want of a frame.
+use Rattle.std.specs.Prelude.{◌≡◌, ◌≤◌, ℕ, ◌+◌, ◌-◌, ◌==◌, true, List, [], ◌∷◌, ◌++◌, length, Option, Some, None}
+use Rattle.jos_host.specs.Frames.{Around}
+use Rattle.jos_host.specs.Gains.{Gains}
+use Rattle.jos_base.specs.SpacesState.{reserved_frames}
+use Rattle.jos_kernel.specs.declared.report.Refusal.{Refusal}
+use Rattle.jos_kernel.specs.declared.report.Turn.{Turn}
+use Rattle.jos_kernel.specs.ExoRun.{counted}
+use Rattle.jos_kernel.specs.Reports.{Reported, CutOff}
+use Rattle.lib_os.specs.AbstractState.{AbstractState}
+use Rattle.lib_os.specs.Need.{need}
+use Rattle.jos_run.specs.AbstractTurns.{next_slot, turn_begun, steps_taken, abs_run, end_of, fits}
+use Rattle.jos_run.specs.LibraryRuns.{turn_of}
+
+-- ---- without a refusal
+
+-- The abstract system has taken these turns, which obey the schedule, and has come to this; these bytes were printed.
+pub record HasTaken (schedule : List ℕ) (first : AbstractState) (turns : List Turn) (printed : List ℕ)
+    (now : AbstractState) : Type 0 where
+  pub ran : abs_run first turns ≡ Some now
+  pub fit : fits schedule 0 first turns ≡ true
+  pub console : now.console ≡ first.console ++ printed
+
+-- ---- up to a refusal
+
+-- In the turn that is told a page was refused, when these of the bytes had been printed. The abstract system has taken
+-- the turns before and some visible steps of that turn, with these bytes; and where it has come to then, it needs as many
+-- frames as there are.
+pub record IsRefused (schedule : List ℕ) (first : AbstractState) (frames : ℕ) (turns : List Turn) (refusal : Refusal)
+    (printed : List ℕ) : Type 0 where
+  -- the turn, with those before it and behind it
+  pub before : List Turn
+  pub turn : Turn
+  pub later : List Turn
+  pub turns_are : turns ≡ before ++ turn ∷ later
+  pub place : refusal.turn ≡ length before
+  -- where the turn began
+  pub begun : AbstractState
+  pub ran : abs_run first before ≡ Some begun
+  pub fit : fits schedule 0 first before ≡ true
+  pub chosen : next_slot begun ≡ Some turn.slot
+  -- where the step began that was refused a page
+  pub visible : ℕ
+  pub within : visible ≤ turn.visible
+  pub now : AbstractState
+  pub taken : steps_taken (turn_begun begun turn.slot) turn.slot visible ≡ Some now
+  -- what was printed by then
+  pub told : List ℕ
+  pub rest : List ℕ
+  pub printed_is : printed ≡ told ++ rest
+  pub console : now.console ≡ first.console ++ told
+  pub console_len : refusal.console_len ≡ counted told
+  -- the frames that are handed out, all but those that the kernel keeps for itself
+  pub needed : frames - reserved_frames frames ≤ need now
+
+-- ---- a run that has ended by itself
+
+-- all steps of turns
+unfoldable pub steps_of : List Turn → ℕ
+steps_of [] = 0
+steps_of (turn ∷ rest) = turn.visible + turn.hidden + steps_of rest
+
+-- how the run ended, by the end tests on what the abstract system has come to
+abbrev pub HasEnded : List ℕ → AbstractState → ℕ → Reported → List ℕ → Type 0
+HasEnded schedule first budget report printed =
+    (now : AbstractState) × HasTaken schedule first report.turns printed now
+    × (end_of now (length report.turns) (report.steps == budget) ≡ Some report.end)
+
+abbrev pub ToldBy : Option Refusal → List ℕ → AbstractState → ℕ → ℕ → Reported → List ℕ → Type 0
+ToldBy None schedule first frames budget report printed = (report.refused ≡ 0) × HasEnded schedule first budget report printed
+ToldBy (Some refusal) schedule first frames budget report printed = IsRefused schedule first frames report.turns refusal printed
+
+-- What a report tells of a run from this abstract state on, with so many frames and steps, which has printed these bytes.
+pub record IsTold (schedule : List ℕ) (first : AbstractState) (frames budget : ℕ) (report : Reported) (printed : List ℕ) : Type 0 where
+  pub steps : report.steps ≡ steps_of report.turns
+  pub within : report.steps ≤ budget
+  pub closing : report.closing ≡ 0
+  pub by_refusal : ToldBy report.first_refused schedule first frames budget report printed
+
+-- ---- a run that a failed call of the host cut off
+
+-- The call was made in the last step of the last turn. Of what the step prints a part came.
+pub record IsCutOff (schedule : List ℕ) (first : AbstractState) (turns : List Turn) (printed : List ℕ) : Type 0 where
+  pub before : List Turn
+  pub slot : ℕ
+  pub visible : ℕ
+  pub hidden : ℕ
+  pub turns_are : turns ≡ before ++ turn_of slot (visible + 1) hidden ∷ []
+  -- where the step began, and what was printed by then
+  pub begun : AbstractState
+  pub told : List ℕ
+  pub ran : abs_run first (before ++ turn_of slot visible hidden ∷ []) ≡ Some begun
+  pub console : begun.console ≡ first.console ++ told
+  -- where it would have ended, and what it would have printed
+  pub now : AbstractState
+  pub whole : List ℕ
+  pub would : HasTaken schedule first turns (told ++ whole) now
+  pub part : List ℕ
+  pub rest : List ℕ
+  pub whole_is : whole ≡ part ++ rest
+  pub printed_is : printed ≡ told ++ part
+
+abbrev pub CutOffBy : Option Refusal → List ℕ → AbstractState → ℕ → List Turn → List ℕ → Type 0
+CutOffBy None schedule first frames turns printed = IsCutOff schedule first turns printed
+CutOffBy (Some refusal) schedule first frames turns printed = IsRefused schedule first frames turns refusal printed
+
+-- what is told of a run that was cut off: some bytes came to the console
+abbrev pub IsToldCutOff : List ℕ → AbstractState → ℕ → CutOff → Around (Option (List ℕ)) → Type 0
+IsToldCutOff schedule first frames cut console =
+    (printed : List ℕ) × Gains console printed × CutOffBy cut.first_refused schedule first frames cut.turns printed
