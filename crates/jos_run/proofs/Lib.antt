@@ -30,3 +30,4 @@ pub mod Advancing
 pub mod StepsMade
 pub mod RunEnds
 pub mod TurnsCounted
+pub mod ProgramsRun

@@ -30,7 +30,7 @@ use Rattle.lib_os.specs.StandsFor.{StandsFor, Names}
 use Rattle.lib_os.proofs.SlotsStand.{born_at}
 use Rattle.lib_os.proofs.StatesStand.{turn_ended_stands}
 use Rattle.jos_run.specs.Begun.{IsNew}
-use Rattle.jos_run.specs.declared.run.LibraryRun.{LibraryRun}
+use Rattle.jos_run.specs.declared.library_run.LibraryRun.{LibraryRun}
 use Rattle.jos_run.specs.AbstractTurns.{next_slot, is_client, any_live, end_of}
 use Rattle.jos_run.specs.LibraryRuns.{OnlyFirstServes, is_user, others_live, end_seen, turn_of, IsBetween, IsInTurn}
 use Rattle.jos_run.specs.RunReports.{HasTaken, CutOffBy, ToldBy, IsTold, IsToldCutOff}

@@ -21,7 +21,7 @@ use Rattle.lib_os.specs.AbstractState.{AbstractState}
 use Rattle.lib_os.specs.AbstractRun.{abs_step}
 use Rattle.lib_os.specs.LibrarySteps.{Stands, Keeps, NothingRefused, KeepsTurn, KeepsUses, LeavesRest}
 use Rattle.lib_os.specs.Need.{EachHasUse, NeedIsReached, need}
-use Rattle.jos_run.specs.declared.run.LibraryRun.{LibraryRun}
+use Rattle.jos_run.specs.declared.library_run.LibraryRun.{LibraryRun}
 use Rattle.jos_run.specs.AbstractTurns.{steps_taken}
 use Rattle.jos_run.specs.AbstractTurns.{turn_begun as begun_at}
 use Rattle.jos_run.specs.LibraryRuns.{turn_of, IsBetween, IsInTurn, seen_after, hidden_after}

@@ -12,7 +12,7 @@ use Rattle.jos_base.specs.KernelState.{KernelState, slot_at, with_status, turn_e
 use Rattle.jos_sched.specs.Quantum.{quantum}
 use Rattle.jos_kernel.specs.declared.report.Turn.{Turn}
 use Rattle.lib_os.specs.declared.progress.Progress.{Progress}
-use Rattle.jos_run.specs.declared.run.LibraryRun.{LibraryRun}
+use Rattle.jos_run.specs.declared.library_run.LibraryRun.{LibraryRun}
 use Rattle.jos_run.specs.LibraryRuns.{turn_of}
 use Rattle.jos_run.specs.RunReports.{steps_of}
 use Rattle.jos_run.specs.Running.{state_of, made, turns_so_far, Holds, made_after, goes_on_after, turn_after, CountedBy, Counted}

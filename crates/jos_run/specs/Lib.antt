@@ -11,3 +11,4 @@ pub mod Start
 pub mod Begun
 pub mod RunReports
 pub mod Running
+pub mod RunEnds

@@ -8,7 +8,8 @@
 mod boot;
 mod guest;
 mod laws;
-mod run;
+mod library_run;
+mod programs;
 mod served;
 #[cfg(test)]
 mod step_tests;
@@ -19,5 +20,6 @@ mod turns;
 
 pub use boot::{FRAMES_BESIDE, boot_frames, boot_program, programs_begin};
 pub use laws::{runs_go_on_alike, turns_are_chosen_alike};
+pub use programs::{RunEnd, Setup, run};
 pub use served::Served;
 pub use steps::Stepped;

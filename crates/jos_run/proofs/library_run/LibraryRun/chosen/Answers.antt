@@ -1,7 +1,7 @@
 use Rattle.std.proofs.Common.{◌≡◌, ◌∙◌, sym, arith}
 use Rattle.jos_run.specs.Running.{made}
 use Rattle.jos_run.proofs.RunEnds.{chosen_next}
-use Rattle.jos_run.proofs.run.LibraryRun.chosen.Goals as goal
+use Rattle.jos_run.proofs.library_run.LibraryRun.chosen.Goals as goal
 
 pub returns-else-len-ge-TURN_MAX-clause-slot : goal.returns-else-len-ge-TURN_MAX-clause-slot
 returns-else-len-ge-TURN_MAX-clause-slot c =

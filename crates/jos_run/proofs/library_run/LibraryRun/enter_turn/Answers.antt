@@ -3,7 +3,7 @@ use Rattle.jos_base.specs.Environments.{is_running}
 use Rattle.jos_base.specs.KernelState.{slot_at}
 use Rattle.jos_kernel.proofs.Advancing.{begun_running}
 use Rattle.jos_run.specs.Served.{kernel_state}
-use Rattle.jos_run.proofs.run.LibraryRun.enter_turn.Goals as goal
+use Rattle.jos_run.proofs.library_run.LibraryRun.enter_turn.Goals as goal
 
 pub returns-then-self-eq0-clause-running : goal.returns-then-self-eq0-clause-running
 returns-then-self-eq0-clause-running c =

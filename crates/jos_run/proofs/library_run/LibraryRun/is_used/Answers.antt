@@ -3,7 +3,7 @@ use Rattle.std.specs.Prelude.{not}
 use Rattle.std.proofs.lemmas.Bool.Decides.{nat_tests}
 use Rattle.jos_run.specs.Running.{state_of}
 use Rattle.jos_run.proofs.RunEnds.{next_other}
-use Rattle.jos_run.proofs.run.LibraryRun.is_used.Goals as goal
+use Rattle.jos_run.proofs.library_run.LibraryRun.is_used.Goals as goal
 
 pub returns-then-slot-ne0 : goal.returns-then-slot-ne0
 returns-then-slot-ne0 c =

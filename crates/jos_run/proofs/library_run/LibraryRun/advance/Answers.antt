@@ -6,14 +6,14 @@ use Rattle.jos_sched.specs.Quantum.{quantum}
 use Rattle.lib_os.specs.AbstractState.{AbstractState}
 use Rattle.lib_os.specs.AbstractRun.{abs_step}
 use Rattle.lib_os.specs.LibrarySteps.{Stands, Keeps, KeepsTurn, KeepsUses, LeavesRest}
-use Rattle.jos_run.specs.declared.run.LibraryRun.{LibraryRun}
+use Rattle.jos_run.specs.declared.library_run.LibraryRun.{LibraryRun}
 use Rattle.jos_run.specs.Running.{state_of, entered, noted}
 use Rattle.jos_run.specs.Served.{kernel_state}
 use Rattle.lib_os.proofs.NeedReached.{need_is_reached}
 use Rattle.jos_run.proofs.StepsMade.{Makes, moved, went_one, failed_one}
 use Rattle.jos_run.proofs.TurnsCounted.{step_holds}
-use Rattle.jos_run.proofs.run.LibraryRun.advance.Given as given
-use Rattle.jos_run.proofs.run.LibraryRun.advance.Goals as goal
+use Rattle.jos_run.proofs.library_run.LibraryRun.advance.Given as given
+use Rattle.jos_run.proofs.library_run.LibraryRun.advance.Goals as goal
 
 -- the steps that the turn may have
 limit_is : (r : LibraryRun) (limit turns : ℕ) → limit ≡ quantum r.schedule turns → turns ≡ vec_len r.turns →

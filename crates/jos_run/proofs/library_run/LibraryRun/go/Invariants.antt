@@ -1,7 +1,7 @@
 use Rattle.std.proofs.Common.{◌≡◌, ◌≤◌, ◌-◌}
 use Rattle.jos_host.specs.Frames.{Unchanged, from_to}
 use Rattle.jos_run.specs.Running.{Holds, Went}
-use Rattle.jos_run.proofs.run.LibraryRun.go.Given as goal
+use Rattle.jos_run.proofs.library_run.LibraryRun.go.Given as goal
 
 abbrev pub invariant-loop-left : goal.invariant-loop-left
 invariant-loop-left g l = record {

@@ -1,0 +1,143 @@
+//! A program is run under the library.
+
+ghost use Rattle.std.specs.Prelude.{◌≡◌, ◌<◌, ◌≤◌, ◌^◌, [], Ok, true, length, vec_capacity, IfOk};
+ghost use Rattle.jos_host.specs.Frames.{Unchanged, around};
+ghost use Rattle.jos_base.specs.declared.numbers.TheConstants.{FRAMES_MIN, FRAMES_MAX, TURN_MAX};
+ghost use Rattle.jos_elf.specs.Parsed.{parsed};
+ghost use Rattle.jos_sys.specs.System.{state_of, Keeps};
+ghost use Rattle.lib_os.specs.AbstractState.{AbstractState};
+ghost use Rattle.lib_os.specs.LibrarySteps.{Stands};
+ghost use Rattle.lib_spawn.specs.StackPage.{fits_stack, texts};
+ghost use Rattle.jos_run.specs.Begun.{IsNew};
+ghost use Rattle.jos_run.specs.RunEnds.{AnswersBy, HasEndCause, RunsFrom, program_of};
+
+use crate::boot::boot_program;
+use crate::library_run::LibraryRun;
+use crate::served::Served;
+use circular_buffer::HeapCircularBuffer;
+use jos_base::TURN_MAX;
+use jos_elf::{ElfFault, Image, parse};
+use jos_host::Host;
+use jos_kernel::{BootFault, Report, Stopped, Trace, Turn};
+use jos_sched::Schedule;
+use jos_sys::{Input, System};
+use std::alloc::{AllocError, Global};
+
+/// What a run is given.
+#[derive(Drop)]
+pub struct Setup {
+    /// How many frames the machine has.
+    pub frames: u32,
+    pub schedule: Schedule,
+    /// The console's input.
+    pub input: Vec<u8>,
+    /// The most steps.
+    pub budget: u64,
+    /// How many of the last traps are told.
+    pub trace: u32,
+}
+
+/// How a run ends.
+#[derive(Drop)]
+pub enum RunEnd {
+    /// By itself. The last of its traps are told.
+    Ended(Report, Trace),
+    /// The bytes are no image, with the fault that they have.
+    BadImage(ElfFault),
+    /// There are too few frames to begin.
+    Pool,
+    /// A call of the host failed.
+    HostFault(Stopped),
+    /// There was no memory to begin with.
+    NoMemory,
+}
+
+/// Room for each turn of a run, and for the last of its traps.
+fn take_room(alloc: Global, trace: u32) -> Result<(Vec<Turn>, Trace), AllocError>
+    ensures room { IfOk result (λ taken. TURN_MAX ≤ vec_capacity taken.0) }
+    ensures empty { IfOk result (λ taken. taken.0.items ≡ []) }
+{
+    let turns = Vec::with_capacity(alloc, TURN_MAX)?;
+    let trace = HeapCircularBuffer::with_capacity(alloc, trace as usize)?;
+    Ok((turns, trace))
+}
+
+/// Runs a program that was booted. Nothing more is asked of an allocator, so the run ends by itself, unless a call of the
+/// host fails.
+fn run_booted<H: Host>(
+    system: System,
+    turns: Vec<Turn>,
+    trace: Trace,
+    host: &mut H,
+    setup: Setup,
+) -> RunEnd
+    requires keeps { Keeps system }
+    requires new { IsNew (state_of system setup.input.items) setup.frames }
+    requires room { TURN_MAX ≤ vec_capacity turns }
+    requires empty { turns.items ≡ [] }
+    ensures runs { (first : AbstractState) → Stands (state_of system setup.input.items) first →
+        RunsFrom first setup result (around H.console host.old host.new) }
+    ensures rest { Unchanged H.files H.input H.asked H.notes host.old host.new }
+    ensures cause { HasEndCause (around H.faults host.old host.new) result }
+{
+    let served = Served::new(system, Input::new(setup.input));
+    let mut run = LibraryRun::begin(served, setup.schedule, turns, trace);
+    match run.go(host, setup.budget) {
+        Ok(end) => {
+            let (report, trace) = run.finish(end);
+            RunEnd::Ended(report, trace)
+        }
+        Err(_) => RunEnd::HostFault(run.cut_off()),
+    }
+}
+
+/// Runs a program that was read as an image.
+fn run_image<H: Host>(
+    alloc: Global,
+    image: &Image,
+    file: &[u8],
+    words: &[&str],
+    host: &mut H,
+    setup: Setup,
+) -> RunEnd
+    requires read { parsed file.now ≡ Ok image.now }
+    requires least { FRAMES_MIN ≤ setup.frames }
+    requires most { setup.frames ≤ FRAMES_MAX }
+    requires words { fits_stack (texts words.now) ≡ true }
+    ensures told { AnswersBy (parsed file.now) (program_of file.now (texts words.now) setup) result (around H.console host.old host.new) }
+    ensures rest { Unchanged H.files H.input H.asked H.notes host.old host.new }
+    ensures cause { HasEndCause (around H.faults host.old host.new) result }
+{
+    let (turns, trace) = match take_room(alloc, setup.trace) {
+        Ok(taken) => taken,
+        Err(_) => return RunEnd::NoMemory,
+    };
+    match boot_program(alloc, image, file, words, setup.frames) {
+        Ok(system) => run_booted(system, turns, trace, host, setup),
+        Err(BootFault::Pool) => RunEnd::Pool,
+        Err(BootFault::NoMemory) => RunEnd::NoMemory,
+    }
+}
+
+/// Runs the program of an image, with these words as its arguments, the first of which is its name: as long as an
+/// environment but the file server can run, in turns of the schedule. All memory is taken before the first turn.
+pub fn run<H: Host>(
+    alloc: Global,
+    image: &[u8],
+    words: &[&str],
+    host: &mut H,
+    setup: Setup,
+) -> RunEnd
+    requires least { FRAMES_MIN ≤ setup.frames }
+    requires most { setup.frames ≤ FRAMES_MAX }
+    requires words { fits_stack (texts words.now) ≡ true }
+    requires small { length image.now < 2 ^ 32 }
+    ensures told { AnswersBy (parsed image.now) (program_of image.now (texts words.now) setup) result (around H.console host.old host.new) }
+    ensures rest { Unchanged H.files H.input H.asked H.notes host.old host.new }
+    ensures cause { HasEndCause (around H.faults host.old host.new) result }
+{
+    match parse(image) {
+        Ok(layout) => run_image(alloc, &layout, image, words, host, setup),
+        Err(fault) => RunEnd::BadImage(fault),
+    }
+}
