@@ -6,7 +6,7 @@ use Rattle.jos_host.specs.Told.{Rose}
 use Rattle.jos_host.specs.Frames.{Around}
 use Rattle.jos_base.specs.KernelState.{KernelState}
 use Rattle.jos_words.specs.Arguments.{Word}
-use Rattle.jos_words.specs.Commands.{Command, Exo, Mkfs, Ls, Cat, exo, mkfs, ls, cat}
+use Rattle.jos_words.specs.Commands.{Command, Exo, Run, Mkfs, Ls, Cat, exo, run, mkfs, ls, cat}
 use Rattle.jos_host.specs.MemHost.{Named}
 use Rattle.fs_image.specs.DiskHeld.{Held, held_of}
 use Rattle.fs_layout.specs.DiskImage.{ImageFault}
@@ -19,16 +19,21 @@ use Rattle.jos_kernel.specs.Boot.{Loadable, booted}
 use Rattle.jos_kernel.specs.ExoRun.{Ran, exo_run, run_of}
 use Rattle.jos_cli.specs.declared.outcome.Outcome.{Outcome}
 use Rattle.jos_cli.specs.declared.outcome.Outcome.TheVariants as outcome
-use Rattle.jos_cli.specs.Limits.{frames_of, steps_of, trace_of}
+use Rattle.jos_cli.specs.Limits.{numbers_of_exo, limit_of_run, frames_of, steps_of, trace_of}
 use Rattle.jos_cli.specs.Found.{FileAt, file_at, Found, found_in}
-use Rattle.jos_cli.specs.Answer.{Judged, within, schedule_of, images_of, input_of, Expected, expected_if, expected_of_run, expected_of_exo}
+use Rattle.jos_cli.specs.Answer.{Judged, within, schedule_of, image_of, images_of, input_of, Expected, expected_if, expected_of_run, expected_of_exo}
 use Rattle.jos_cli.specs.Answer.{and_then, made, refused}
 use Rattle.jos_cli.specs.Making.{named_files, made_unless, disk_made, expected_of_disk, expected_of_named, expected_of_mkfs}
 use Rattle.jos_cli.specs.Disks.{held_at, checked, checked_by, disk_of, tree_of, if_there, path_of, listing, printed}
 use Rattle.jos_cli.specs.Disks.{expected_of_listing, expected_of_bytes, expected_of_ls, expected_of_cat}
-use Rattle.jos_cli.specs.Outcomes.{Answers, AnswersCommand, HasOutcomeCause, CanRun, IsRunCase, CanMake, CanList, CanPrint, IsMadeCase}
+use Rattle.jos_cli.specs.Kinds.{Kind, kind_of, Answers}
+use Rattle.jos_run.specs.RunEnds.{Program, CanBegin}
+use Rattle.jos_cli.specs.declared.outcome.Which.TheVariants as which
+use Rattle.jos_cli.specs.RunAnswers.{RunFound, run_found_in, program_of, RunsAs, AnswersInput, AnswersImage, AnswersFiles, AnswersRun}
+use Rattle.jos_cli.specs.Outcomes.{AnswersCommand, HasOutcomeCause, HasRunCauseOf, HasCommandCause, CanRun, CanRunProgram, IsRunCase, CanMake, CanList, CanPrint, IsMadeCase}
 use Rattle.jos_cli.specs.Stages.{AreFilesAt}
 use Rattle.jos_cli.proofs.InputRead.{within_limit}
+use Rattle.jos_cli.proofs.RunAnswered.{then_of}
 use Rattle.jos_cli.proofs.NamedRead.{named_are}
 
 is_ok : {X E : Type 0} (r : Result X E) → IsOk r → (x : X) × (r ≡ Ok x)
@@ -41,21 +46,21 @@ run_of-some : (schedule : List ℕ) (steps : ℕ) (state : Option KernelState) �
 run_of-some schedule steps (Some state) h = (_, refl)
 run_of-some schedule steps None h = absurd (let e = h in cc)
 
-runs : (e : Exo) (found : Found) (input : List ℕ) → CanRun e found input → (r : Ran) × (expected_of_exo e found input ≡ expected_of_run (trace_of e) (Some r))
+runs : (e : Exo) (found : Found) (input : List ℕ) → CanRun e found input → (r : Ran) × (expected_of_exo e found input ≡ expected_of_run (trace_of (numbers_of_exo e)) (Some r))
 unfolding expected_of_exo exo_run
 runs e found input can =
     let numbers = is_ok (schedule_of found.schedule) can.schedule in
-    let run = run_of-some numbers.0 (steps_of e) (booted can.images (frames_of e) input) can.frames in (
+    let run = run_of-some numbers.0 (steps_of (numbers_of_exo e)) (booted can.images (frames_of (numbers_of_exo e)) input) can.frames in (
       run.0,
       ap (λ (l : Judged (Unit {0})). expected_if l (λ _. expected_if (schedule_of found.schedule) (λ n. expected_if (images_of found.images) (λ images.
-          expected_if (input_of input) (λ bytes. expected_of_run (trace_of e) (exo_run images bytes n (frames_of e) (steps_of e))))))) (ap within can.words)
+          expected_if (input_of input) (λ bytes. expected_of_run (trace_of (numbers_of_exo e)) (exo_run images bytes n (frames_of (numbers_of_exo e)) (steps_of (numbers_of_exo e)))))))) (ap within can.words)
           ∙ ap (λ (n : Judged (List ℕ)). expected_if n (λ n. expected_if (images_of found.images) (λ images.
-          expected_if (input_of input) (λ bytes. expected_of_run (trace_of e) (exo_run images bytes n (frames_of e) (steps_of e)))))) numbers.1
+          expected_if (input_of input) (λ bytes. expected_of_run (trace_of (numbers_of_exo e)) (exo_run images bytes n (frames_of (numbers_of_exo e)) (steps_of (numbers_of_exo e))))))) numbers.1
           ∙ ap (λ (i : Judged (List Loadable)). expected_if i (λ images.
-          expected_if (input_of input) (λ bytes. expected_of_run (trace_of e) (exo_run images bytes numbers.0 (frames_of e) (steps_of e))))) can.read
-          ∙ ap (λ (b : Judged (List ℕ)). expected_if b (λ bytes. expected_of_run (trace_of e) (exo_run can.images bytes numbers.0 (frames_of e) (steps_of e))))
+          expected_if (input_of input) (λ bytes. expected_of_run (trace_of (numbers_of_exo e)) (exo_run images bytes numbers.0 (frames_of (numbers_of_exo e)) (steps_of (numbers_of_exo e)))))) can.read
+          ∙ ap (λ (b : Judged (List ℕ)). expected_if b (λ bytes. expected_of_run (trace_of (numbers_of_exo e)) (exo_run can.images bytes numbers.0 (frames_of (numbers_of_exo e)) (steps_of (numbers_of_exo e)))))
           (within_limit input can.short)
-          ∙ ap (expected_of_run (trace_of e)) run.1,
+          ∙ ap (expected_of_run (trace_of (numbers_of_exo e))) run.1,
     )
 
 run_case : (trace : ℕ) (r : Ran) (faults : Around ℕ) (own : Outcome) (console : Around (Option (List ℕ))) → Answers (expected_of_run trace (Some r)) own console →
@@ -75,15 +80,73 @@ run_case trace r faults (outcome.BadMake fault) console h cause calm = absurd (l
 
 -- images are run where they can be
 pub is_run : (told : Option Files) (told_input : Option (List ℕ)) (command : Option Command) (faults : Around ℕ) (own : Outcome) (console : Around (Option (List ℕ))) →
-    AnswersCommand told told_input command own console → HasOutcomeCause faults own → (files : Files) (input : List ℕ) (e : Exo) → told ≡ Some files →
+    AnswersCommand told told_input command own console → HasCommandCause command faults own → (files : Files) (input : List ℕ) (e : Exo) → told ≡ Some files →
     told_input ≡ Some input → command ≡ Some (exo e) → CanRun e (found_in files e) input → (Rose faults.before faults.after → ⊥) → IsRunCase own
 is_run told told_input command faults own console h cause files input e f i c can calm =
     let answers = subst (λ (o : Option Command). AnswersCommand (Some files) (Some input) o own console) c
     (subst (λ (o : Option (List ℕ)). AnswersCommand (Some files) o command own console) i
     (subst (λ (o : Option Files). AnswersCommand o told_input command own console) f h)) in
     let run = runs e (found_in files e) input can in
-    run_case (trace_of e) run.0 faults own console
-    (subst (λ (x : Expected). Answers x own console) ((λ k. expected_of_exo e (answers.2 k) (answers.3 k)) ∙ run.1) answers.4) cause calm
+    run_case (trace_of (numbers_of_exo e)) run.0 faults own console
+    (subst (λ (x : Expected). Answers x own console) ((λ k. expected_of_exo e (answers.2 k) (answers.3 k)) ∙ run.1) answers.4)
+    (subst (λ (o : Option Command). HasCommandCause o faults own) c cause) calm
+
+-- ---- a run under the library
+
+none_booted : {X : Type 0} (state : Option X) → state ≡ None → IsSome state → ⊥
+none_booted None e h = let some = h in cc
+none_booted (Some x) e h = cc
+
+program_case : (p : Program) (faults : Around ℕ) (own : Outcome) (console : Around (Option (List ℕ))) → RunsAs p (kind_of own) console → CanBegin p →
+    HasRunCauseOf faults (kind_of own) → (Rose faults.before faults.after → ⊥) → IsRunCase own
+program_case p faults (outcome.Ran report last) console h can cause calm = tt
+program_case p faults outcome.NoMemory console h can cause calm = tt
+program_case p faults (outcome.HostFault stopped) console h can cause calm = absurd (calm cause)
+program_case p faults (outcome.Limit which.Boot) console h can cause calm = absurd (none_booted _ h.0 can)
+program_case p faults (outcome.Limit which.Frames) console h can cause calm = absurd h
+program_case p faults (outcome.Limit which.Steps) console h can cause calm = absurd h
+program_case p faults (outcome.Limit which.Trace) console h can cause calm = absurd h
+program_case p faults (outcome.Limit which.Images) console h can cause calm = absurd h
+program_case p faults (outcome.Limit which.Schedule) console h can cause calm = absurd h
+program_case p faults (outcome.Limit which.Image) console h can cause calm = absurd h
+program_case p faults (outcome.Limit which.Input) console h can cause calm = absurd h
+program_case p faults (outcome.Limit which.Blocks) console h can cause calm = absurd h
+program_case p faults (outcome.Limit which.File) console h can cause calm = absurd h
+program_case p faults (outcome.Limit which.Args) console h can cause calm = absurd h
+program_case p faults outcome.Usage console h can cause calm = absurd h
+program_case p faults (outcome.Absent word) console h can cause calm = absurd h
+program_case p faults (outcome.BadSchedule fault) console h can cause calm = absurd h
+program_case p faults (outcome.BadImage word fault) console h can cause calm = absurd h
+program_case p faults (outcome.Made bytes) console h can cause calm = absurd h
+program_case p faults (outcome.BadDisk fault) console h can cause calm = absurd h
+program_case p faults (outcome.NotThere errno) console h can cause calm = absurd h
+program_case p faults (outcome.BadMake fault) console h can cause calm = absurd h
+
+-- what is answered where a program can be run
+runs_program : (r : Run) (found : RunFound) (input : List ℕ) (kind : Kind) (console : Around (Option (List ℕ))) (can : CanRunProgram r found input) →
+    AnswersRun r found input kind console → (p : Program) × CanBegin p × RunsAs p kind console
+runs_program r found input kind console can h =
+    let schedule = is_ok (schedule_of found.schedule) can.schedule in
+    let files = then_of (within (limit_of_run r)) (λ _. AnswersFiles r found input) tt kind console (ap within can.words) h in
+    let image = then_of (schedule_of found.schedule) (λ s. AnswersImage r s found.image input) schedule.0 kind console schedule.1 files in
+    let read = then_of (image_of found.image) (λ loadable. AnswersInput r schedule.0 loadable input) can.image kind console can.read image in (
+      program_of r schedule.0 can.image input,
+      can.frames,
+      then_of (input_of input) (λ bytes. RunsAs (program_of r schedule.0 can.image bytes)) input kind console (within_limit input can.short) read,
+    )
+
+-- a program is run where it can be
+pub is_run_program : (told : Option Files) (told_input : Option (List ℕ)) (command : Option Command) (faults : Around ℕ) (own : Outcome) (console : Around (Option (List ℕ))) →
+    AnswersCommand told told_input command own console → HasCommandCause command faults own → (files : Files) (input : List ℕ) (r : Run) → told ≡ Some files →
+    told_input ≡ Some input → command ≡ Some (run r) → CanRunProgram r (run_found_in files r) input → (Rose faults.before faults.after → ⊥) → IsRunCase own
+is_run_program told told_input command faults own console h cause files input r f i c can calm =
+    let answers = subst (λ (o : Option Command). AnswersCommand (Some files) (Some input) o own console) c
+    (subst (λ (o : Option (List ℕ)). AnswersCommand (Some files) o command own console) i
+    (subst (λ (o : Option Files). AnswersCommand o told_input command own console) f h)) in
+    let same = subst (λ (x : List ℕ). AnswersRun r (run_found_in files r) x (kind_of own) console) answers.3
+    (subst (λ (x : RunFound). AnswersRun r x answers.1 (kind_of own) console) answers.2 answers.4) in
+    let runs = runs_program r (run_found_in files r) input (kind_of own) console can same in
+    program_case runs.0 faults own console runs.2 runs.1 (subst (λ (o : Option Command). HasCommandCause o faults own) c cause) calm
 
 -- ---- something made
 
@@ -155,7 +218,7 @@ prints c files can =
     )
 
 module _ (told : Option Files) (told_input : Option (List ℕ)) (command : Option Command) (faults : Around ℕ) (own : Outcome) (console : Around (Option (List ℕ)))
-    (h : AnswersCommand told told_input command own console) (cause : HasOutcomeCause faults own) (calm : Rose faults.before faults.after → ⊥) (files : Files)
+    (h : AnswersCommand told told_input command own console) (cause : HasCommandCause command faults own) (calm : Rose faults.before faults.after → ⊥) (files : Files)
     (f : told ≡ Some files) where
   -- the same of the files and the command that there are
   of_command : (one : Command) → command ≡ Some one → AnswersCommand (Some files) told_input (Some one) own console
@@ -163,17 +226,20 @@ module _ (told : Option Files) (told_input : Option (List ℕ)) (command : Optio
       subst (λ (o : Option Command). AnswersCommand (Some files) told_input o own console) is
       (subst (λ (o : Option Files). AnswersCommand o told_input command own console) f h)
 
+  cause_of_command : (one : Command) → command ≡ Some one → HasCommandCause (Some one) faults own
+  cause_of_command one is = subst (λ (o : Option Command). HasCommandCause o faults own) is cause
+
   pub is_made : (m : Mkfs) → command ≡ Some (mkfs m) → CanMake m files → IsMadeCase own
   is_made m is can =
       let answers = of_command (mkfs m) is in let n = makes m files can in
-      made_case (expected_of_mkfs m answers.0) n.0 faults own console (ap (λ (found : List FileAt). (expected_of_mkfs m found).answer) answers.1 ∙ n.1) answers.2 cause calm
+      made_case (expected_of_mkfs m answers.0) n.0 faults own console (ap (λ (found : List FileAt). (expected_of_mkfs m found).answer) answers.1 ∙ n.1) answers.2 (cause_of_command (mkfs m) is) calm
 
   pub is_listed : (l : Ls) → command ≡ Some (ls l) → CanList l files → IsMadeCase own
   is_listed l is can =
       let answers = of_command (ls l) is in let n = lists l files can in
-      made_case (expected_of_ls l answers.0) n.0 faults own console (ap (λ (file : FileAt). (expected_of_ls l file).answer) answers.1 ∙ n.1) answers.2 cause calm
+      made_case (expected_of_ls l answers.0) n.0 faults own console (ap (λ (file : FileAt). (expected_of_ls l file).answer) answers.1 ∙ n.1) answers.2 (cause_of_command (ls l) is) calm
 
   pub is_printed : (c : Cat) → command ≡ Some (cat c) → CanPrint c files → IsMadeCase own
   is_printed c is can =
       let answers = of_command (cat c) is in let n = prints c files can in
-      made_case (expected_of_cat c answers.0) n.0 faults own console (ap (λ (file : FileAt). (expected_of_cat c file).answer) answers.1 ∙ n.1) answers.2 cause calm
+      made_case (expected_of_cat c answers.0) n.0 faults own console (ap (λ (file : FileAt). (expected_of_cat c file).answer) answers.1 ∙ n.1) answers.2 (cause_of_command (cat c) is) calm

@@ -15,7 +15,7 @@ use Rattle.jos_cli.specs.Found.{FileAt, file_at, IsFileAt}
 use Rattle.jos_cli.specs.Answer.{Judged, and_then, absent}
 use Rattle.jos_cli.specs.Disks.{held_at, checked, disk_of, path_of, record_line, listing}
 use Rattle.jos_cli.specs.Disks.{expected_of_listing, expected_of_bytes, expected_of_ls, expected_of_cat}
-use Rattle.jos_cli.specs.Outcomes.{Kind, AnswersBy}
+use Rattle.jos_cli.specs.Kinds.{Kind, AnswersBy}
 use Rattle.jos_cli.specs.Stages.{RefusesBy}
 use Rattle.jos_cli.proofs.Judging.{refuses, goes_on}
 

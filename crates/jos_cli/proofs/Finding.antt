@@ -3,8 +3,10 @@ use Rattle.std.proofs.Common.{◌≡◌, ℕ, List, [], ◌∷◌, map, Option, 
 use Rattle.std.specs.Option.{option_map}
 use Rattle.jos_host.specs.Files.{Files}
 use Rattle.jos_words.specs.Arguments.{Word}
-use Rattle.jos_words.specs.Commands.{Exo}
+use Rattle.jos_words.specs.Commands.{Exo, Run}
 use Rattle.jos_cli.specs.Found.{FileAt, file_at, IsFileAt, AreFound, Found, IsFound, IsInput}
+use Rattle.jos_cli.specs.Commands.{image_word}
+use Rattle.jos_cli.specs.RunAnswers.{RunFound, IsRunFound}
 use Rattle.jos_cli.specs.Stages.{IsScheduleAt, AreFilesAt}
 
 pub some_file : (told : Option Files) (word : Word) → (file : FileAt) × IsFileAt told word file
@@ -68,3 +70,15 @@ pub some_found : (told : Option Files) (e : Exo) → (found : Found) × IsFound 
 some_found told e =
     let s = some_schedule told e.schedule in let i = some_files told e.images in
     (record { schedule = s.0; images = i.0 }, all_found told e s.0 i.0 s.1 i.1)
+
+-- ---- the files of `run`
+
+pub run_found : (told : Option Files) (r : Run) (schedule : Option FileAt) (image : FileAt) → IsScheduleAt told r.schedule schedule → IsFileAt told (image_word r.words) image →
+    IsRunFound told r (record { schedule = schedule; image = image })
+run_found (Some files) r schedule image s i = λ k. record { schedule = schedule_is files r.schedule schedule s k; image = i k }
+run_found None r schedule image s i = record { schedule = schedule_stands r.schedule schedule s; image = i }
+
+pub some_run_found : (told : Option Files) (r : Run) → (found : RunFound) × IsRunFound told r found
+some_run_found told r =
+    let s = some_schedule told r.schedule in let i = some_file told (image_word r.words) in
+    (record { schedule = s.0; image = i.0 }, run_found told r s.0 i.0 s.1 i.1)

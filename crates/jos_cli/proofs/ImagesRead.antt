@@ -1,5 +1,5 @@
 -- Images that are read one after another.
-use Rattle.std.proofs.Common.{◌≡◌, ℕ, List, [], ◌∷◌, ◌++◌, length, Option, Ok, Err, refl, sym, ap, subst, ◌∙◌, arith}
+use Rattle.std.proofs.Common.{◌≡◌, ℕ, List, [], ◌∷◌, ◌++◌, length, Option, Ok, refl, sym, ap, subst, ◌∙◌, arith}
 use Rattle.std.proofs.lemmas.List.{length-append}
 use Rattle.std.proofs.lemmas.List.Elements.{All-push}
 use Rattle.std.specs.Prelude.{All, Vec}
@@ -11,7 +11,7 @@ use Rattle.jos_kernel.specs.Boot.{Loadable, loadables}
 use Rattle.jos_kernel.specs.Loading.{IsRead}
 use Rattle.jos_cli.specs.Found.{FileAt, IsFileAt}
 use Rattle.jos_cli.specs.Answer.{Judged, and_then, image_of, images_of}
-use Rattle.jos_cli.specs.Outcomes.{Kind}
+use Rattle.jos_cli.specs.Kinds.{Kind}
 use Rattle.jos_cli.specs.Stages.{AreFilesAt, RefusesBy}
 use Rattle.jos_cli.proofs.Finding.{some_files}
 use Rattle.jos_cli.proofs.Reading.{refused_then, joined, joined_none, joined_more}

@@ -1,15 +1,30 @@
 -- From what is judged to what is expected.
-use Rattle.std.proofs.Common.{◌≡◌, ℕ, List, Option, Some, None, Ok, refl, sym, ap, subst, ◌∙◌, arith}
+use Rattle.std.proofs.Common.{◌≡◌, ℕ, List, length, Option, Some, None, Ok, refl, sym, ap, subst, ◌∙◌, arith}
+use Rattle.std.proofs.Math.Seq.{take-length}
 use Rattle.jos_host.specs.Frames.{Around}
+use Rattle.jos_host.specs.Gains.{Gains, GainsPart}
 use Rattle.jos_words.specs.Commands.{Exo}
 use Rattle.jos_cli.specs.declared.outcome.Which.{Which}
 use Rattle.jos_cli.specs.declared.limits.Settings.{Settings}
-use Rattle.jos_cli.specs.Limits.{limit_of_words}
+use Rattle.jos_cli.specs.Limits.{numbers_of_exo, limit_of_words}
 use Rattle.jos_cli.specs.Found.{Found}
 use Rattle.jos_cli.specs.Answer.{limit, within, Judged, Expected, expected_if, expected_of_exo}
-use Rattle.jos_cli.specs.Outcomes.{Kind, answered, cut_off, no_memory, AnswersBy}
+use Rattle.jos_cli.specs.Kinds.{Kind, answered, cut_off, no_memory, AnswersBy}
 use Rattle.jos_cli.specs.Stages.{RefusesBy, settings_of, expected_of_files}
 use Rattle.jos_kernel.proofs.ToldBytes.{gains_none}
+
+-- ---- a part of what is expected
+
+all_of : (stream : Around (Option (List ℕ))) (bytes : List ℕ) → Gains stream bytes → GainsPart stream bytes
+all_of stream bytes h =
+    (length bytes, omega arith, subst (λ (b : List ℕ). Gains stream b) (sym (take-length bytes)) h)
+
+pub part_of : (e : Expected) (kind : Kind) (console : Around (Option (List ℕ))) → AnswersBy e kind console → GainsPart console e.console
+part_of e (answered answer) console h = all_of console e.console h.1
+part_of e (cut_off stopped) console h = h
+part_of e no_memory console h = (0, omega arith, h ∙ gains_none console.before)
+
+-- ---- one after the other
 
 -- it is refused, and nothing was written
 pub refuses : {X : Type 0} (judged : Judged X) (next : X → Expected) (kind : Kind) (console : Around (Option (List ℕ))) →
@@ -31,11 +46,11 @@ pub words_refused : (e : Exo) (found : Found) (input : List ℕ) (which : Which)
     console.after ≡ console.before → AnswersBy (expected_of_exo e found input) (answered (limit which)) console
 unfolding expected_of_exo
 words_refused e found input which console h same =
-    refuses (within (limit_of_words e)) (λ _. expected_of_files (settings_of e) input found) (answered (limit which)) console (ap within h) same
+    refuses (within (limit_of_words e)) (λ _. expected_of_files (settings_of (numbers_of_exo e)) input found) (answered (limit which)) console (ap within h) same
 
 pub words_within : (e : Exo) (found : Found) (input : List ℕ) (kind : Kind) (console : Around (Option (List ℕ))) (settings : Settings) → limit_of_words e ≡ None →
-    settings ≡ settings_of e → AnswersBy (expected_of_files settings input found) kind console → AnswersBy (expected_of_exo e found input) kind console
+    settings ≡ settings_of (numbers_of_exo e) → AnswersBy (expected_of_files settings input found) kind console → AnswersBy (expected_of_exo e found input) kind console
 unfolding expected_of_exo
 words_within e found input kind console settings h same answer =
-    goes_on (within (limit_of_words e)) (λ _. expected_of_files (settings_of e) input found) tt kind console (ap within h)
+    goes_on (within (limit_of_words e)) (λ _. expected_of_files (settings_of (numbers_of_exo e)) input found) tt kind console (ap within h)
     (subst (λ (n : Settings). AnswersBy (expected_of_files n input found) kind console) same answer)

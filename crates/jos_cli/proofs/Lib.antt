@@ -4,6 +4,7 @@ pub mod Asking
 pub mod Finding
 pub mod Judging
 pub mod Reading
+pub mod RunAnswered
 pub mod WordsRead
 pub mod ImagesRead
 pub mod FileNames

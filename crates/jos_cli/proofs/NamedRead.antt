@@ -1,5 +1,5 @@
 -- Files that are read one after another, of which a disk is made.
-use Rattle.std.proofs.Common.{◌≡◌, ◌≢◌, ℕ, ◌+◌, ◌<◌, nat_lt, Bool, true, false, cond, List, [], ◌∷◌, ◌++◌, length, map, Option, Some, None, Ok, Err}
+use Rattle.std.proofs.Common.{◌≡◌, ◌≢◌, ℕ, nat_lt, Bool, true, false, cond, List, [], ◌∷◌, ◌++◌, length, map, Option, Some, None, Ok, Err}
 use Rattle.std.proofs.Common.{refl, sym, ap, subst, ◌∙◌, arith}
 use Rattle.std.proofs.lemmas.List.{length-append}
 use Rattle.std.specs.Prelude.{unwrap_or}
@@ -18,9 +18,9 @@ use Rattle.jos_cli.specs.Limits.{limit_of_blocks}
 use Rattle.jos_cli.specs.Found.{FileAt, file_at, IsFileAt}
 use Rattle.jos_cli.specs.Answer.{limit, within, bytes_of, Judged, and_then}
 use Rattle.jos_cli.specs.Making.{named_with, named_file, named_files, named_in, disk_in, expected_of_named, expected_of_mkfs}
-use Rattle.jos_cli.specs.Outcomes.{Kind, answered, AnswersBy}
+use Rattle.jos_cli.specs.Kinds.{Kind, answered, AnswersBy}
 use Rattle.jos_cli.specs.Stages.{AreFilesAt, RefusesBy, IsUnread, IsUnmade, IfMade}
-use Rattle.jos_cli.specs.FilesLeft.{told_with, told_with_disk, LeavesBy, LeavesDisk, IsDiskWith, HasDisk, HoldsDisk}
+use Rattle.jos_cli.specs.FilesLeft.{told_with, told_with_disk, LeavesBy, LeavesDisk, IsDiskWith, HoldsDisk}
 use Rattle.jos_cli.proofs.Finding.{some_files}
 use Rattle.jos_cli.proofs.FilesWritten.{keeps_all, itself}
 use Rattle.jos_cli.proofs.Judging.{refuses, goes_on}

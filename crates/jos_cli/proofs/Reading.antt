@@ -21,7 +21,7 @@ use Rattle.jos_cli.specs.Answer.{absent, limit, Judged, and_then, bytes_of, text
 use Rattle.jos_kernel.specs.Reports.{CutOff}
 use Rattle.jos_cli.specs.declared.outcome.Outcome.{Outcome}
 use Rattle.jos_cli.specs.declared.outcome.Outcome.TheVariants.{HostFault}
-use Rattle.jos_cli.specs.Outcomes.{Kind, answered, cut_off, no_memory, kind_of}
+use Rattle.jos_cli.specs.Kinds.{Kind, answered, cut_off, no_memory, kind_of}
 use Rattle.jos_cli.specs.Stages.{RefusesBy, refusal_of}
 
 -- ---- a file

@@ -13,7 +13,7 @@ use Rattle.circular_buffer.specs.Buffer.{keep_last}
 use Rattle.jos_kernel.specs.declared.trace.TrapLine.{TrapLine}
 use Rattle.jos_kernel.specs.Kernel.{Told, progress_of, nothing, and_told, Counts, IsRun}
 use Rattle.jos_cli.specs.Answer.{ran, expected_of_run}
-use Rattle.jos_cli.specs.Outcomes.{answered, cut_off, AnswersBy}
+use Rattle.jos_cli.specs.Kinds.{answered, cut_off, AnswersBy}
 use Rattle.jos_kernel.proofs.ToldBytes.{part_of_first}
 
 module _ (old new : Kernel) (steps kept : ℕ) (counts : Counts old (record nothing { kept = kept })) (fresh : old.steps ≡ 0) where

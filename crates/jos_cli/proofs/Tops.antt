@@ -1,10 +1,9 @@
 -- What the console has where the note of an outcome could not be written.
-use Rattle.std.proofs.Common.{◌≡◌, ℕ, List, length, Option, Some, None, sym, subst, ◌∙◌, arith}
+use Rattle.std.proofs.Common.{◌≡◌, ℕ, ◌<◌, ◌≤◌, List, Option, Some, None, refl, sym, subst, arith}
 use mathlib.Core.Logic.{inl, inr}
-use Rattle.std.proofs.Math.Seq.{take-length}
+use Rattle.std.specs.Prelude.{◌^◌}
 use Rattle.jos_host.specs.Files.{Files}
 use Rattle.jos_host.specs.Told.{Rose}
-use Rattle.jos_kernel.specs.declared.report.Stopped.{Stopped}
 use Rattle.jos_cli.specs.declared.outcome.Outcome.{Outcome}
 use Rattle.jos_cli.specs.declared.outcome.Outcome.TheVariants as outcome
 use Rattle.jos_host.specs.Frames.{Around, from_to}
@@ -14,41 +13,101 @@ use Rattle.jos_cli.specs.Commands.{command_of}
 use Rattle.jos_cli.specs.Answer.{Expected, refused, usage, expected_of_exo, expected_of_demo}
 use Rattle.jos_cli.specs.Making.{expected_of_mkfs}
 use Rattle.jos_cli.specs.Disks.{expected_of_ls, expected_of_cat}
-use Rattle.jos_cli.specs.Outcomes.{Kind, answered, cut_off, no_memory, kind_of, AnswersBy, AnswersCommand}
-use Rattle.jos_cli.specs.Outcomes.{HasOutcomeCause}
+use Rattle.jos_cli.specs.Kinds.{Kind, answered, cut_off, no_memory, kind_of, AnswersBy}
+use Rattle.jos_cli.specs.RunAnswers.{AnswersRun}
+use Rattle.jos_cli.specs.Outcomes.{AnswersCommand, HasCauseOf, HasOutcomeCause, HasRunCauseOf, HasCommandCause}
+use Rattle.jos_cli.specs.Stages.{nothing_done, cut_of, cut_behind}
 use Rattle.jos_cli.specs.Notes.{note_of, IsNoted}
 use Rattle.jos_cli.specs.FaultNotes.{IfHostFault, IfNoFault, FaultIsNoted}
-use Rattle.jos_kernel.proofs.ToldBytes.{gains_none}
-use Rattle.jos_cli.proofs.Finding.{some_found, some_input, some_file, some_are_found}
-
-all_of : (stream : Around (Option (List ℕ))) (bytes : List ℕ) → Gains stream bytes → GainsPart stream bytes
-all_of stream bytes h =
-    (length bytes, omega arith, subst (λ (b : List ℕ). Gains stream b) (sym (take-length bytes)) h)
-
-part_of : (e : Expected) (kind : Kind) (console : Around (Option (List ℕ))) → AnswersBy e kind console → GainsPart console e.console
-part_of e (answered answer) console h = all_of console e.console h.1
-part_of e (cut_off stopped) console h = h
-part_of e no_memory console h = (0, omega arith, h ∙ gains_none console.before)
+use Rattle.jos_cli.proofs.Judging.{part_of}
+use Rattle.jos_cli.proofs.RunAnswered.{words_stage}
+use Rattle.jos_cli.proofs.Finding.{some_found, some_run_found, some_input, some_file, some_are_found}
 
 part : (e : Expected) (kind : Kind) (console : Around (Option (List ℕ))) (later : Option (List ℕ)) → AnswersBy e kind console → later ≡ console.after →
     GainsPart (from_to console.before later) e.console
 part e kind console later h same =
     subst (λ (c : Option (List ℕ)). GainsPart (from_to console.before c) e.console) (sym same) (part_of e kind console h)
 
-pub answers_part : (told : Option Files) (input : Option (List ℕ)) (command : Option Command) (result : Outcome) (stopped : Stopped) (console : Around (Option (List ℕ)))
-    (later : Option (List ℕ)) → AnswersCommand told input command result console → later ≡ console.after →
-    AnswersCommand told input command (outcome.HostFault stopped) (from_to console.before later)
-answers_part told input None result stopped console later h same = part (refused usage) (kind_of result) console later h same
-answers_part told input (Some (demo d)) result stopped console later h same = part (expected_of_demo d.name.text) (kind_of result) console later h same
-answers_part told input (Some (exo e)) result stopped console later h same =
-    (h.0, h.1, h.2, h.3, part (expected_of_exo e h.0 h.1) (kind_of result) console later h.4 same)
-answers_part told input (Some (run r)) result stopped console later h same = part (refused usage) (kind_of result) console later h same
-answers_part told input (Some (mkfs m)) result stopped console later h same =
-    (h.0, h.1, part (expected_of_mkfs m h.0) (kind_of result) console later h.2 same)
-answers_part told input (Some (ls l)) result stopped console later h same =
-    (h.0, h.1, part (expected_of_ls l h.0) (kind_of result) console later h.2 same)
-answers_part told input (Some (cat c)) result stopped console later h same =
-    (h.0, h.1, part (expected_of_cat c h.0) (kind_of result) console later h.2 same)
+pub answers_behind : (told : Option Files) (input : Option (List ℕ)) (command : Option Command) (own : Outcome) (console : Around (Option (List ℕ)))
+    (later : Option (List ℕ)) → AnswersCommand told input command own console → later ≡ console.after →
+    AnswersCommand told input command (outcome.HostFault (cut_behind command own)) (from_to console.before later)
+answers_behind told input None own console later h same = part (refused usage) (kind_of own) console later h same
+answers_behind told input (Some (demo d)) own console later h same = part (expected_of_demo d.name.text) (kind_of own) console later h same
+answers_behind told input (Some (exo e)) own console later h same =
+    (h.0, h.1, h.2, h.3, part (expected_of_exo e h.0 h.1) (kind_of own) console later h.4 same)
+answers_behind told input (Some (run r)) own console later h same = (
+  h.0,
+  h.1,
+  h.2,
+  h.3,
+  subst (λ (c : Option (List ℕ)). AnswersRun r h.0 h.1 (cut_off (cut_of (kind_of own))) (from_to console.before c)) (sym same)
+      ((words_stage r h.0 h.1).behind (kind_of own) console h.4),
+)
+answers_behind told input (Some (mkfs m)) own console later h same =
+    (h.0, h.1, part (expected_of_mkfs m h.0) (kind_of own) console later h.2 same)
+answers_behind told input (Some (ls l)) own console later h same =
+    (h.0, h.1, part (expected_of_ls l h.0) (kind_of own) console later h.2 same)
+answers_behind told input (Some (cat c)) own console later h same =
+    (h.0, h.1, part (expected_of_cat c h.0) (kind_of own) console later h.2 same)
+
+-- no turns are told where there was no memory
+pub behind_memory : (command : Option Command) → cut_behind command outcome.NoMemory ≡ nothing_done
+behind_memory None = refl
+behind_memory (Some (demo d)) = refl
+behind_memory (Some (exo e)) = refl
+behind_memory (Some (run r)) = refl
+behind_memory (Some (mkfs m)) = refl
+behind_memory (Some (ls l)) = refl
+behind_memory (Some (cat c)) = refl
+
+-- ---- the causes
+
+-- without turns the cause is that of any command
+pub run_cause : (faults : Around ℕ) (kind : Kind) → HasCauseOf faults kind → HasRunCauseOf faults kind
+run_cause faults (answered answer) h = h
+run_cause faults (cut_off stopped) h = h.0
+run_cause faults no_memory h = h
+
+pub command_cause : (command : Option Command) (faults : Around ℕ) (own : Outcome) → HasOutcomeCause faults own → HasCommandCause command faults own
+command_cause None faults own h = h
+command_cause (Some (demo d)) faults own h = h
+command_cause (Some (exo e)) faults own h = h
+command_cause (Some (run r)) faults own h = run_cause faults (kind_of own) h
+command_cause (Some (mkfs m)) faults own h = h
+command_cause (Some (ls l)) faults own h = h
+command_cause (Some (cat c)) faults own h = h
+
+-- and with them the count is the same
+pub cause_of : (command : Option Command) (faults : Around ℕ) (own : Outcome) → HasCommandCause command faults own → HasRunCauseOf faults (kind_of own)
+cause_of None faults own h = run_cause faults (kind_of own) h
+cause_of (Some (demo d)) faults own h = run_cause faults (kind_of own) h
+cause_of (Some (exo e)) faults own h = run_cause faults (kind_of own) h
+cause_of (Some (run r)) faults own h = h
+cause_of (Some (mkfs m)) faults own h = run_cause faults (kind_of own) h
+cause_of (Some (ls l)) faults own h = run_cause faults (kind_of own) h
+cause_of (Some (cat c)) faults own h = run_cause faults (kind_of own) h
+
+-- a failed call of the host, which a note was to be written by
+fault_cause : (command : Option Command) (faults : Around ℕ) (own : Outcome) → Rose faults.before faults.after →
+    HasCommandCause command faults (outcome.HostFault (cut_behind command own))
+fault_cause None faults own rose = (rose, refl, refl)
+fault_cause (Some (demo d)) faults own rose = (rose, refl, refl)
+fault_cause (Some (exo e)) faults own rose = (rose, refl, refl)
+fault_cause (Some (run r)) faults own rose = rose
+fault_cause (Some (mkfs m)) faults own rose = (rose, refl, refl)
+fault_cause (Some (ls l)) faults own rose = (rose, refl, refl)
+fault_cause (Some (cat c)) faults own rose = (rose, refl, refl)
+
+rose_behind : (kind : Kind) (a b c : ℕ) → HasRunCauseOf (from_to a b) kind → Rose b c → b ≤ c → c < 2 ^ 64 → Rose a c
+rose_behind (answered answer) a b c h rose later fits = subst (λ (n : ℕ). Rose n c) h rose
+rose_behind no_memory a b c h rose later fits = subst (λ (n : ℕ). Rose n c) h rose
+rose_behind (cut_off stopped) a b c (inl h) rose later fits = inl (omega (arith, h, later))
+rose_behind (cut_off stopped) a b c (inr h) rose later fits = inr (omega (arith, h, later, fits))
+
+pub cause_behind : (command : Option Command) (own : Outcome) (a b c : ℕ) → HasCommandCause command (from_to a b) own → Rose b c → b ≤ c → c < 2 ^ 64 →
+    HasCommandCause command (from_to a c) (outcome.HostFault (cut_behind command own))
+cause_behind command own a b c h rose later fits =
+    fault_cause command (from_to a c) own (rose_behind (kind_of own) a b c (cause_of command (from_to a b) own h) rose later fits)
 
 -- ---- the note where a call of the host failed
 
@@ -95,10 +154,10 @@ module _ (files : Option Files) (input : Option (List ℕ)) (words : List (List 
   moved own answer =
       subst (λ (c : Option (List ℕ)). AnswersCommand files input (command_of words) own (from_to console.before c)) (sym same) answer
 
-  pub not_noted : (own : Outcome) → HasOutcomeCause faults own → AnswersCommand files input (command_of words) own console → GainsPart notes (note_of words own) →
+  pub not_noted : (own : Outcome) → HasCommandCause (command_of words) faults own → AnswersCommand files input (command_of words) own console → GainsPart notes (note_of words own) →
       FaultIsNoted files input words (from_to faults.before now) (from_to console.before later) notes
   unfolding FaultIsNoted
-  not_noted (outcome.HostFault stopped) cause answer part = inr (inl ((faults.after, cause.0, rose), part))
+  not_noted (outcome.HostFault stopped) cause answer part = inr (inl ((faults.after, cause_of (command_of words) faults (outcome.HostFault stopped) cause, rose), part))
   not_noted (outcome.Ran report trace) cause answer part = others (outcome.Ran report trace) (moved (outcome.Ran report trace) answer) part
   not_noted outcome.Usage cause answer part = others outcome.Usage (moved outcome.Usage answer) part
   not_noted (outcome.Absent word) cause answer part = others (outcome.Absent word) (moved (outcome.Absent word) answer) part
@@ -118,7 +177,20 @@ at_no_memory files input None console same = same
 at_no_memory files input (Some (demo d)) console same = same
 at_no_memory files input (Some (exo e)) console same =
     let found = some_found files e in let given = some_input input in (found.0, given.0, found.1, given.1, same)
-at_no_memory files input (Some (run r)) console same = same
+at_no_memory files input (Some (run r)) console same =
+    let found = some_run_found files r in let given = some_input input in
+    (found.0, given.0, found.1, given.1, (words_stage r found.0 given.0).memory console same)
 at_no_memory files input (Some (mkfs m)) console same = let found = some_are_found files m.files in (found.0, found.1, same)
 at_no_memory files input (Some (ls l)) console same = let file = some_file files l.disk in (file.0, file.1, same)
 at_no_memory files input (Some (cat c)) console same = let file = some_file files c.disk in (file.0, file.1, same)
+
+-- and then nothing was written
+pub unwritten : (files : Option Files) (input : Option (List ℕ)) (command : Option Command) (console : Around (Option (List ℕ))) →
+    AnswersCommand files input command outcome.NoMemory console → console.after ≡ console.before
+unwritten files input None console h = h
+unwritten files input (Some (demo d)) console h = h
+unwritten files input (Some (exo e)) console h = h.4
+unwritten files input (Some (run r)) console h = (words_stage r h.0 h.1).unwritten console h.4
+unwritten files input (Some (mkfs m)) console h = h.2
+unwritten files input (Some (ls l)) console h = h.2
+unwritten files input (Some (cat c)) console h = h.2

@@ -19,7 +19,7 @@ use Rattle.jos_kernel.specs.ExoRun.{Ran, exo_run, report_of}
 use Rattle.jos_cli.specs.declared.outcome.Which.{Which}
 use Rattle.jos_cli.specs.declared.outcome.Which.TheVariants.{Schedule, Image, Input, Boot}
 use Rattle.jos_cli.specs.Commands.{program_file}
-use Rattle.jos_cli.specs.Limits.{limit_of_words, frames_of, steps_of, trace_of}
+use Rattle.jos_cli.specs.Limits.{numbers_of_exo, limit_of_words, frames_of, steps_of, trace_of}
 use Rattle.jos_cli.specs.Found.{FileAt, Found}
 
 pub data Answer : Type 0 where
@@ -116,7 +116,8 @@ expected_of_exo e found input =
     expected_if (schedule_of found.schedule) (λ numbers.
     expected_if (images_of found.images) (λ images.
     expected_if (input_of input) (λ bytes.
-    expected_of_run (trace_of e) (exo_run images bytes numbers (frames_of e) (steps_of e))))))
+    expected_of_run (trace_of (numbers_of_exo e))
+    (exo_run images bytes numbers (frames_of (numbers_of_exo e)) (steps_of (numbers_of_exo e)))))))
 
 -- of `demo`, for the name of a program
 abbrev pub expected_of_demo : List ℕ → Expected

@@ -1,14 +1,15 @@
 -- What the words of the command line ask. (This system's own.)
-use Rattle.std.specs.Prelude.{ℕ, List, [], Option, Some, None, is_some, unwrap_or, if◌then◌else◌}
+use Rattle.std.specs.Prelude.{ℕ, List, [], ◌∷◌, map, Option, Some, None, is_some, unwrap_or, if◌then◌else◌}
 use Rattle.jos_demo.specs.Programs.{file_of}
-use Rattle.jos_words.specs.Commands.{Command, exo, run, demo, mkfs, ls, cat}
+use Rattle.jos_words.specs.Arguments.{Word}
+use Rattle.jos_words.specs.Commands.{Command, Run, exo, run, demo, mkfs, ls, cat}
 use Rattle.jos_words.specs.Commands as words
 
--- a command, but for `demo` with a name that no example program has, and for `run`, which is not built yet
+-- a command, but for `demo` with a name that no example program has
 abbrev pub known : Option Command → Option Command
 known None = None
 known (Some (exo e)) = Some (exo e)
-known (Some (run r)) = None
+known (Some (run r)) = Some (run r)
 known (Some (demo d)) = if is_some (file_of d.name.text) then Some (demo d) else None
 known (Some (mkfs m)) = Some (mkfs m)
 known (Some (ls l)) = Some (ls l)
@@ -20,3 +21,12 @@ command_of texts = known (words.command_of texts)
 -- the file of an example program
 abbrev pub program_file : List ℕ → List ℕ
 program_file program = unwrap_or (file_of program) []
+
+-- the first word of a program names its image
+abbrev pub image_word : List Word → Word
+image_word [] = record { place = 0; text = [] }
+image_word (word ∷ rest) = word
+
+-- the words of a program, as it is given them
+abbrev pub texts_of : Run → List (List ℕ)
+texts_of r = map (λ word. word.text) r.words

@@ -5,7 +5,8 @@ use Rattle.jos_host.specs.Asked.{Asked, and_asked}
 use Rattle.jos_host.specs.Frames.{Around, from_to}
 use Rattle.fs_image.specs.DiskHeld.{IsReadInPieces}
 use Rattle.jos_words.specs.Arguments.{Word}
-use Rattle.jos_words.specs.Commands.{Command, Exo, Mkfs, exo, run, demo, mkfs, ls, cat}
+use Rattle.jos_cli.specs.Commands.{image_word}
+use Rattle.jos_words.specs.Commands.{Command, Exo, Run, Mkfs, exo, run, demo, mkfs, ls, cat}
 
 -- a file is asked for its size, and read whole by one call
 abbrev pub read_calls : List ℕ → List Asked
@@ -26,6 +27,9 @@ write_calls file = record { call = Create; name = file } ∷ record { call = Wri
 abbrev pub exo_calls : Exo → List Asked
 exo_calls e = schedule_calls e.schedule ++ files_calls e.images
 
+abbrev pub run_calls : Run → List Asked
+run_calls r = schedule_calls r.schedule ++ read_calls (image_word r.words).text
+
 abbrev pub mkfs_calls : Mkfs → List Asked
 mkfs_calls m = files_calls m.files ++ write_calls m.disk.text
 
@@ -43,7 +47,7 @@ AsksAll (c ∷ rest) log = AsksAll rest (from_to (and_asked log.before c.call c.
 abbrev pub AsksOnly : Option Command → Around (Option (List Asked)) → Type 0
 AsksOnly None log = AsksFor [] log
 AsksOnly (Some (exo e)) log = AsksFor (exo_calls e) log
-AsksOnly (Some (run r)) log = AsksFor [] log
+AsksOnly (Some (run r)) log = AsksFor (run_calls r) log
 AsksOnly (Some (demo d)) log = AsksFor (write_calls d.file.text) log
 AsksOnly (Some (mkfs m)) log = AsksFor (mkfs_calls m) log
 AsksOnly (Some (ls l)) log = IsReadInPieces l.disk.text log

@@ -5,6 +5,8 @@ pub mod InputTaken
 pub mod Answer
 pub mod Making
 pub mod Disks
+pub mod Kinds
+pub mod RunAnswers
 pub mod Outcomes
 pub mod Given
 pub mod FilesRead

@@ -4,62 +4,33 @@ use Rattle.std.specs.Prelude.{Ok}
 use Rattle.jos_host.specs.Files.{Files}
 use Rattle.jos_host.specs.Told.{Rose}
 use Rattle.jos_host.specs.Frames.{Around}
-use Rattle.jos_host.specs.Gains.{Gains, GainsPart}
 use Rattle.jos_base.specs.declared.numbers.TheConstants.{INPUT_MAX}
-use Rattle.jos_words.specs.Commands.{Command, Exo, Mkfs, Ls, Cat, exo, run, demo, mkfs, ls, cat}
+use Rattle.jos_words.specs.Commands.{Command, Exo, Run, Mkfs, Ls, Cat, exo, run, demo, mkfs, ls, cat}
 use Rattle.jos_kernel.specs.declared.report.End.{End}
 use Rattle.jos_kernel.specs.declared.report.End.TheVariants.{Done, Stuck, Budget, TurnsFull}
-use Rattle.jos_kernel.specs.Reports.{CutOff}
-use Rattle.fs_image.specs.Answers.{fault_of}
 use Rattle.fs_image.specs.DiskHeld.{held_of, fault_in}
 use Rattle.fs_contents.specs.Contents.{listed_at, read_at}
 use Rattle.fs_make.specs.MakeFaults.{make_fault}
 use Rattle.jos_kernel.specs.Boot.{Loadable, booted}
+use Rattle.jos_run.specs.Boot.{booted_within}
 use Rattle.jos_cli.specs.declared.outcome.Which.TheVariants.{Input, Boot}
 use Rattle.jos_cli.specs.declared.outcome.Outcome.{Outcome}
 use Rattle.jos_cli.specs.declared.outcome.Outcome.TheVariants.{Ran, Usage, Absent, Limit, BadSchedule, BadImage}
 use Rattle.jos_cli.specs.declared.outcome.Outcome.TheVariants.{HostFault, NoMemory, Made, BadDisk, NotThere, BadMake}
-use Rattle.jos_cli.specs.Limits.{limit_of_words, frames_of, limit_of_blocks}
+use Rattle.jos_cli.specs.Commands.{texts_of}
+use Rattle.jos_cli.specs.Limits.{numbers_of_exo, numbers_of_run, limit_of_words, limit_of_run, frames_of, limit_of_blocks}
 use Rattle.jos_cli.specs.Found.{Found, IsFound, IsInput, FileAt, file_at, IsFileAt, AreFound}
 use Rattle.jos_cli.specs.InputTaken.{HasLost}
-use Rattle.jos_cli.specs.Answer.{Answer, usage, absent, limit, bad_schedule, bad_image, ran, made, Expected, refused}
-use Rattle.jos_cli.specs.Answer.{schedule_of, images_of, expected_of_exo, expected_of_demo, bad_disk, not_there, bad_make}
+use Rattle.jos_cli.specs.Answer.{Answer, usage, limit, ran, refused}
+use Rattle.jos_cli.specs.Answer.{schedule_of, image_of, images_of, expected_of_exo, expected_of_demo}
 use Rattle.jos_cli.specs.Making.{named_files, named_in, expected_of_mkfs}
 use Rattle.jos_cli.specs.Disks.{tree_of, path_of, expected_of_ls, expected_of_cat}
-
--- an outcome: an answer, or a call of the host failed, or there was no memory
-pub data Kind : Type 0 where
-  answered : Answer → Kind
-  cut_off : CutOff → Kind
-  no_memory : Kind
-
-abbrev pub kind_of : Outcome → Kind
-kind_of (Ran report trace) = answered (ran report trace.items)
-kind_of Usage = answered usage
-kind_of (Absent word) = answered (absent word)
-kind_of (Limit which) = answered (limit which)
-kind_of (BadSchedule fault) = answered (bad_schedule fault)
-kind_of (BadImage word fault) = answered (bad_image word fault)
-kind_of (Made bytes) = answered (made bytes)
-kind_of (BadDisk fault) = answered (bad_disk (fault_of fault))
-kind_of (NotThere errno) = answered (not_there errno)
-kind_of (BadMake fault) = answered (bad_make fault)
-kind_of (HostFault stopped) = cut_off stopped
-kind_of NoMemory = no_memory
+use Rattle.jos_cli.specs.Kinds.{Kind, answered, cut_off, no_memory, kind_of, Answers}
+use Rattle.jos_cli.specs.RunAnswers.{RunFound, IsRunFound, AnswersRun}
 
 -- ---- the answer
 
--- The outcome is what is expected, and the console has gained what is expected; a failed call of the host leaves
--- a part of that, and want of memory comes before anything is written.
-abbrev pub AnswersBy : Expected → Kind → Around (Option (List ℕ)) → Type 0
-AnswersBy e (answered answer) console = (answer ≡ e.answer) × Gains console e.console
-AnswersBy e (cut_off stopped) console = GainsPart console e.console
-AnswersBy e no_memory console = console.after ≡ console.before
-
-abbrev pub Answers : Expected → Outcome → Around (Option (List ℕ)) → Type 0
-Answers e outcome console = AnswersBy e (kind_of outcome) console
-
--- The same for a command, of the files and the input that the host tells. Of those that it does not tell there are
+-- What a command answers, of the files and the input that the host tells. Of those that it does not tell there are
 -- some for which it holds.
 abbrev pub AnswersCommand : Option Files → Option (List ℕ) → Option Command → Outcome → Around (Option (List ℕ)) → Type 0
 AnswersCommand told told_input None outcome console = Answers (refused usage) outcome console
@@ -67,7 +38,9 @@ AnswersCommand told told_input (Some (demo d)) outcome console = Answers (expect
 AnswersCommand told told_input (Some (exo e)) outcome console =
     (found : Found) × (input : List ℕ) × IsFound told e found × IsInput told_input input
     × Answers (expected_of_exo e found input) outcome console
-AnswersCommand told told_input (Some (run r)) outcome console = Answers (refused usage) outcome console
+AnswersCommand told told_input (Some (run r)) outcome console =
+    (found : RunFound) × (input : List ℕ) × IsRunFound told r found × IsInput told_input input
+    × AnswersRun r found input (kind_of outcome) console
 AnswersCommand told told_input (Some (mkfs m)) outcome console =
     (found : List FileAt) × AreFound told m.files found × Answers (expected_of_mkfs m found) outcome console
 AnswersCommand told told_input (Some (ls l)) outcome console =
@@ -96,6 +69,22 @@ HasCauseOf faults no_memory = faults.after ≡ faults.before
 abbrev pub HasOutcomeCause : Around ℕ → Outcome → Type 0
 HasOutcomeCause faults outcome = HasCauseOf faults (kind_of outcome)
 
+-- the same where turns may have been taken, and are handed out
+abbrev pub HasRunCauseOf : Around ℕ → Kind → Type 0
+HasRunCauseOf faults (answered answer) = faults.after ≡ faults.before
+HasRunCauseOf faults (cut_off stopped) = Rose faults.before faults.after
+HasRunCauseOf faults no_memory = faults.after ≡ faults.before
+
+-- Only `run` hands out turns.
+abbrev pub HasCommandCause : Option Command → Around ℕ → Outcome → Type 0
+HasCommandCause None faults outcome = HasOutcomeCause faults outcome
+HasCommandCause (Some (exo e)) faults outcome = HasOutcomeCause faults outcome
+HasCommandCause (Some (run r)) faults outcome = HasRunCauseOf faults (kind_of outcome)
+HasCommandCause (Some (demo d)) faults outcome = HasOutcomeCause faults outcome
+HasCommandCause (Some (mkfs m)) faults outcome = HasOutcomeCause faults outcome
+HasCommandCause (Some (ls l)) faults outcome = HasOutcomeCause faults outcome
+HasCommandCause (Some (cat c)) faults outcome = HasOutcomeCause faults outcome
+
 -- the words, the files and the input of a run, with frames enough to boot it
 pub record CanRun (e : Exo) (found : Found) (input : List ℕ) : Type 0 where
   pub words : limit_of_words e ≡ None
@@ -103,7 +92,16 @@ pub record CanRun (e : Exo) (found : Found) (input : List ℕ) : Type 0 where
   pub images : List Loadable
   pub read : images_of found.images ≡ Ok images
   pub short : length input ≤ INPUT_MAX
-  pub frames : IsSome (booted images (frames_of e) input)
+  pub frames : IsSome (booted images (frames_of (numbers_of_exo e)) input)
+
+-- the same of a run under the library
+pub record CanRunProgram (r : Run) (found : RunFound) (input : List ℕ) : Type 0 where
+  pub words : limit_of_run r ≡ None
+  pub schedule : IsOk (schedule_of found.schedule)
+  pub image : Loadable
+  pub read : image_of found.image ≡ Ok image
+  pub short : length input ≤ INPUT_MAX
+  pub frames : IsSome (booted_within image.image image.file (texts_of r) (frames_of (numbers_of_run r)) input)
 
 -- the number, the files and the room of a disk that can be made
 pub record CanMake (m : Mkfs) (files : Files) : Type 0 where
@@ -157,15 +155,15 @@ LeavesInputBy (answered answer) input = input.after ≡ option_map (left_by answ
 LeavesInputBy (cut_off stopped) input = HasLost input.before input.after
 LeavesInputBy no_memory input = HasLost input.before input.after
 
--- Only `exo` reads input.
+-- Only `exo` and `run` read input.
 abbrev pub LeavesInput : Option Command → Outcome → Around (Option (List ℕ)) → Type 0
 LeavesInput None outcome input = input.after ≡ input.before
-LeavesInput (Some (run r)) outcome input = input.after ≡ input.before
 LeavesInput (Some (demo d)) outcome input = input.after ≡ input.before
 LeavesInput (Some (mkfs m)) outcome input = input.after ≡ input.before
 LeavesInput (Some (ls l)) outcome input = input.after ≡ input.before
 LeavesInput (Some (cat c)) outcome input = input.after ≡ input.before
 LeavesInput (Some (exo e)) outcome input = LeavesInputBy (kind_of outcome) input
+LeavesInput (Some (run r)) outcome input = LeavesInputBy (kind_of outcome) input
 
 -- ---- the exit status
 

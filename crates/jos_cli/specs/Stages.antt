@@ -1,20 +1,24 @@
 -- What is found, judged and expected in the parts of the commands, one after another.
-use Rattle.std.specs.Prelude.{◌≡◌, ℕ, List, [], ◌∷◌, Option, Some, None, Result, Ok, Err}
+use Rattle.std.specs.Prelude.{◌≡◌, ℕ, Bool, true, false, List, [], ◌∷◌, Option, Some, None, Result, Ok, Err}
 use Rattle.jos_host.specs.Files.{Files}
 use Rattle.jos_words.specs.Arguments.{Word}
-use Rattle.jos_words.specs.Commands.{Exo}
+use Rattle.jos_words.specs.Commands.{Command, Run, exo, run, demo, mkfs, ls, cat}
 use Rattle.jos_sched.specs.declared.fault.ScheduleFault.{ScheduleFault}
 use Rattle.jos_sched.specs.declared.fault.ScheduleFault.TheVariants as schedule
 use Rattle.jos_kernel.specs.Boot.{Loadable}
 use Rattle.jos_kernel.specs.ExoRun.{exo_run}
+use Rattle.jos_kernel.specs.Reports.{CutOff}
+use Rattle.lib_spawn.specs.StackPage.{fits_stack}
 use Rattle.jos_cli.specs.declared.outcome.Outcome.{Outcome}
 use Rattle.jos_cli.specs.declared.outcome.Outcome.TheVariants.{Ran, Usage, Absent, Limit, BadSchedule, BadImage, HostFault, NoMemory, Made}
 use Rattle.jos_cli.specs.declared.outcome.Which.TheVariants.{Schedule, Image, Boot, File}
+use Rattle.jos_cli.specs.declared.limits.Numbers.{Numbers}
 use Rattle.jos_cli.specs.declared.limits.Settings.{Settings}
-use Rattle.jos_cli.specs.Limits.{frames_of, steps_of, trace_of}
+use Rattle.jos_cli.specs.Commands.{texts_of}
+use Rattle.jos_cli.specs.Limits.{frames_of, steps_of, trace_of, numbers_of_run, AreWithin}
 use Rattle.jos_cli.specs.Found.{FileAt, IsFileAt, Found}
-use Rattle.jos_cli.specs.Answer.{Judged, schedule_of, images_of, input_of, Expected, expected_if, expected_of_run}
-use Rattle.jos_cli.specs.Outcomes.{Kind, answered, cut_off, no_memory, kind_of}
+use Rattle.jos_cli.specs.Answer.{Judged, ran, schedule_of, images_of, input_of, Expected, expected_if, expected_of_run}
+use Rattle.jos_cli.specs.Kinds.{Kind, answered, cut_off, no_memory, kind_of}
 
 -- ---- what is found
 
@@ -48,8 +52,8 @@ refusal_of fault = BadSchedule fault
 -- ---- what is expected from then on
 
 -- the numbers that the words give or leave
-abbrev pub settings_of : Exo → Settings
-settings_of e = record { frames = frames_of e; steps = steps_of e; trace = trace_of e }
+abbrev pub settings_of : Numbers → Settings
+settings_of numbers = record { frames = frames_of numbers; steps = steps_of numbers; trace = trace_of numbers }
 
 abbrev pub expected_of_input : List Loadable → List ℕ → Settings → List ℕ → Expected
 expected_of_input images schedule settings input =
@@ -99,3 +103,37 @@ IsBooted (Limit Boot) = Unit {0}
 IsBooted (HostFault stopped) = Unit {0}
 IsBooted NoMemory = Unit {0}
 IsBooted _ = ⊥
+
+-- ---- a run under the library
+
+-- the words of a program that may be run
+pub record MayRun (r : Run) (words : List (List ℕ)) : Type 0 where
+  pub are : words ≡ texts_of r
+  pub fit : fits_stack words ≡ true
+  pub within : AreWithin (numbers_of_run r)
+
+-- ---- what is told where the note of an answer could not be written
+
+abbrev pub nothing_done : CutOff
+nothing_done = record { turns = []; first_refused = None }
+
+-- the turns that were taken
+abbrev pub cut_of : Kind → CutOff
+cut_of (answered (ran report traps)) = record { turns = report.turns; first_refused = report.first_refused }
+cut_of (answered answer) = nothing_done
+cut_of (cut_off stopped) = stopped
+cut_of no_memory = nothing_done
+
+-- as the answer is that of `run`, or not
+abbrev pub cut_if : Bool → Outcome → CutOff
+cut_if true own = cut_of (kind_of own)
+cut_if false own = nothing_done
+
+abbrev pub cut_behind : Option Command → Outcome → CutOff
+cut_behind None own = nothing_done
+cut_behind (Some (exo e)) own = nothing_done
+cut_behind (Some (run r)) own = cut_of (kind_of own)
+cut_behind (Some (demo d)) own = nothing_done
+cut_behind (Some (mkfs m)) own = nothing_done
+cut_behind (Some (ls l)) own = nothing_done
+cut_behind (Some (cat c)) own = nothing_done

@@ -6,7 +6,7 @@ ghost use Rattle.jos_host.specs.Told.{Rose};
 ghost use Rattle.jos_host.specs.Frames.{Unchanged, around};
 ghost use Rattle.jos_base.specs.declared.numbers.TheConstants.{FRAMES_MIN, FRAMES_MAX, STEPS_MAX};
 ghost use Rattle.jos_words.specs.Arguments.{word_in_bytes};
-ghost use Rattle.jos_words.specs.Commands.{Exo, Demo, Mkfs, Ls, Cat, exo, demo, mkfs, ls, cat, exo_in_bytes, demo_in_bytes};
+ghost use Rattle.jos_words.specs.Commands.{Exo, Run, Demo, Mkfs, Ls, Cat, exo, run, demo, mkfs, ls, cat, exo_in_bytes, demo_in_bytes};
 ghost use Rattle.jos_demo.specs.Programs.{file_of};
 ghost use Rattle.jos_kernel.specs.Boot.{loadables};
 ghost use Rattle.jos_kernel.specs.Loading.{IsRead};
@@ -15,10 +15,13 @@ ghost use Rattle.jos_kernel.specs.Kernel.{progress_of, nothing, Counts, Holds};
 ghost use Rattle.jos_cli.specs.Commands.{known, command_of};
 ghost use Rattle.jos_cli.specs.Found.{FileAt, Found, found_in, IsFound, IsInput};
 ghost use Rattle.jos_cli.specs.Answer.{expected_of_run, expected_of_exo, expected_of_demo};
-ghost use Rattle.jos_cli.specs.Outcomes.{kind_of, Answers, AnswersCommand, HasOutcomeCause, IsUsageCase, CanRun, CanMake, CanList, CanPrint};
+ghost use Rattle.jos_cli.specs.Kinds.{kind_of, Answers};
+ghost use Rattle.jos_cli.specs.Outcomes.{AnswersCommand, HasOutcomeCause, HasCommandCause, IsUsageCase};
+ghost use Rattle.jos_cli.specs.Outcomes.{CanRun, CanRunProgram, CanMake, CanList, CanPrint};
 ghost use Rattle.jos_cli.specs.Outcomes.{IsRunCase, IsMadeCase, IsMemoryCase, LeavesInputBy, LeavesInput};
+ghost use Rattle.jos_cli.specs.RunAnswers.{run_found_in};
 ghost use Rattle.jos_cli.specs.Stages.{AreFilesAt, IsEnd, IsBooted, expected_of_input, expected_of_images};
-ghost use Rattle.jos_cli.specs.Stages.{expected_of_files};
+ghost use Rattle.jos_cli.specs.Stages.{expected_of_files, cut_if, cut_behind};
 ghost use Rattle.jos_cli.specs.FilesAsked.{AsksFor, files_calls, write_calls, exo_calls, AsksOnly};
 ghost use Rattle.jos_cli.specs.FilesLeft.{LeavesProgram, Leaves, LeavesGoodDisk};
 ghost use Rattle.jos_cli.specs.Notes.{IsNoted};
@@ -27,11 +30,12 @@ ghost use Rattle.jos_cli.specs.FaultNotes.{IfHostFault, FaultIsNoted};
 use crate::disks::{answer_cat, answer_ls};
 use crate::files::{host_fault, write_made};
 use crate::input::read_input;
-use crate::limits::{Settings, limit_of_words, settings_of};
+use crate::limits::{Settings, limit_of_words, numbers_of_exo, settings_of};
 use crate::loading::{Images, read_images, read_schedule};
 use crate::making::answer_mkfs;
 use crate::notes::write_note;
-use crate::outcome::{Outcome, Which};
+use crate::outcome::{Outcome, Report, Stopped, Which};
+use crate::running::answer_run;
 use jos_demo::{is_program, program};
 use jos_host::Host;
 use jos_kernel::{BootFault, ExoEnd, Kernel, exo_run};
@@ -39,7 +43,8 @@ use jos_sched::Schedule;
 use jos_words::{Command, DemoWords, ExoWords, WordAt, WordsFault, read_words};
 use std::alloc::Global;
 
-/// Does what the words ask: `exo [--frames N] [--steps N] [--schedule FILE] [--trace N] IMAGE..` runs the images, and
+/// Does what the words ask: `exo [--frames N] [--steps N] [--schedule FILE] [--trace N] IMAGE..` runs the images,
+/// `run [--frames N] [--steps N] [--schedule FILE] [--trace N] IMAGE [WORD..]` runs a program under the library, and
 /// `demo NAME FILE` writes an example program. `mkfs DISK BLOCKS [FILE..]` makes a disk of the files, `ls DISK [PATH]`
 /// prints the records of a directory of a disk, and `cat DISK PATH` the bytes of a file of it. The words are those behind
 /// the program's name. Each answer has its note, one line, and before it stand the last traps of a run, as many as the
@@ -48,7 +53,8 @@ use std::alloc::Global;
 /// (The lines and limits are in `docs/commands.md`.)
 pub fn top<'a, H: Host>(alloc: Global, words: &'a [&'a str], host: &mut H) -> Outcome
     // The answer and the console are what the words decide with the files that they name and, of a run, the input: those
-    // that the host tells, and else some; where a call of the host failed, the console has a part of that.
+    // that the host tells, and else some; where a call of the host failed, the console has a part of that. What `run`
+    // answers and prints is told by the turns of its report.
     ensures answer { AnswersCommand (H.files host.old) (H.input host.old) (command_of (map (λ w. w.now) words.now)) result
         (around H.console host.old host.new) }
     // The notes are the lines of the traps that are told, and the line of the answer.
@@ -60,13 +66,17 @@ pub fn top<'a, H: Host>(alloc: Global, words: &'a [&'a str], host: &mut H) -> Ou
 
     // Each answer has its cause.
     ensures usage { IsUsageCase (command_of (map (λ w. w.now) words.now)) result }
-    ensures cause { HasOutcomeCause (around H.faults host.old host.new) result }
+    ensures cause { HasCommandCause (command_of (map (λ w. w.now) words.now)) (around H.faults host.old host.new) result }
     // Want of memory comes before anything is written to the console or to a file.
     ensures memory { result ≡ Outcome.NoMemory → (H.console host.new ≡ H.console host.old) × (H.files host.new ≡ H.files host.old) }
     // Images are run where the words, the files, the input and the frames allow it, unless a call of the host fails.
     ensures complete { (files : Files) (input : List ℕ) (e : Exo) →
         H.files host.old ≡ Some files → H.input host.old ≡ Some input → command_of (map (λ w. w.now) words.now) ≡ Some (exo e) →
         CanRun e (found_in files e) input → (Rose (H.faults host.old) (H.faults host.new) → ⊥) → IsRunCase result }
+    // A program is run under the library where the same allows it.
+    ensures ran { (files : Files) (input : List ℕ) (r : Run) →
+        H.files host.old ≡ Some files → H.input host.old ≡ Some input → command_of (map (λ w. w.now) words.now) ≡ Some (run r) →
+        CanRunProgram r (run_found_in files r) input → (Rose (H.faults host.old) (H.faults host.new) → ⊥) → IsRunCase result }
     // An example program is written, unless a call of the host fails.
     ensures made { (d : Demo) → command_of (map (λ w. w.now) words.now) ≡ Some (demo d) →
         (Rose (H.faults host.old) (H.faults host.new) → ⊥) → IsMadeCase result }
@@ -87,15 +97,39 @@ pub fn top<'a, H: Host>(alloc: Global, words: &'a [&'a str], host: &mut H) -> Ou
     ensures files { Leaves (command_of (map (λ w. w.now) words.now)) result (around H.files host.old host.new) }
     // What `mkfs` writes is a disk without a fault, and it has the files that the words name.
     ensures disk { LeavesGoodDisk (command_of (map (λ w. w.now) words.now)) result (around H.files host.old host.new) }
-    // Only `exo` reads input, once it has read all files: all of it, up to one byte past the limit.
+    // Only `exo` and `run` read input, once they have read all files: all of it, up to one byte past the limit.
     ensures input { LeavesInput (command_of (map (λ w. w.now) words.now)) result (around H.input host.old host.new) }
     // Only files that the words name are asked for, in their order, each call once.
     ensures asked { AsksOnly (command_of (map (λ w. w.now) words.now)) (around H.asked host.old host.new) }
 {
-    let outcome = answer_words(alloc, words, host);
+    let (outcome, is_run) = answer_words(alloc, words, host);
     match write_note(&outcome, words, host) {
         Ok(()) => outcome,
-        Err(_) => host_fault(alloc),
+        Err(_) => note_fault(alloc, outcome, is_run),
+    }
+}
+
+/// The answer where the note of another could not be written. For `run` it tells the turns that were taken.
+fn note_fault(alloc: Global, own: Outcome, is_run: bool) -> Outcome
+    ensures { result ≡ Outcome.HostFault (cut_if is_run own) }
+{
+    if !is_run {
+        return host_fault(alloc);
+    }
+    match own {
+        Outcome::Ran(report, _) => {
+            let Report {
+                turns,
+                first_refused,
+                ..
+            } = report;
+            Outcome::HostFault(Stopped {
+                turns,
+                first_refused,
+            })
+        }
+        Outcome::HostFault(stopped) => Outcome::HostFault(stopped),
+        _ => host_fault(alloc),
     }
 }
 
@@ -261,7 +295,7 @@ fn answer_exo<H: Host>(alloc: Global, words: &ExoWords, host: &mut H) -> Outcome
 {
     match limit_of_words(words) {
         Some(which) => Outcome::Limit(which),
-        None => run_within(alloc, words, settings_of(words), host),
+        None => run_within(alloc, words, settings_of(numbers_of_exo(words)), host),
     }
 }
 
@@ -301,27 +335,27 @@ fn answer_demo<'a, H: Host>(alloc: Global, words: DemoWords<'a>, host: &mut H) -
     }
 }
 
-/// Does what the words ask, but for the note.
-fn answer_words<'a, H: Host>(alloc: Global, words: &'a [&'a str], host: &mut H) -> Outcome
-    ensures told { AnswersCommand (H.files host.old) (H.input host.old) (command_of (map (λ w. w.now) words.now)) result
+/// Does what the words ask, but for the note, and says whether that was to run a program under the library.
+fn answer_words<'a, H: Host>(alloc: Global, words: &'a [&'a str], host: &mut H) -> (Outcome, bool)
+    ensures told { AnswersCommand (H.files host.old) (H.input host.old) (command_of (map (λ w. w.now) words.now)) result.0
         (around H.console host.old host.new) }
-    ensures usage { IsUsageCase (command_of (map (λ w. w.now) words.now)) result }
-    ensures files { Leaves (command_of (map (λ w. w.now) words.now)) result (around H.files host.old host.new) }
-    ensures input { LeavesInput (command_of (map (λ w. w.now) words.now)) result (around H.input host.old host.new) }
+    ensures usage { IsUsageCase (command_of (map (λ w. w.now) words.now)) result.0 }
+    ensures files { Leaves (command_of (map (λ w. w.now) words.now)) result.0 (around H.files host.old host.new) }
+    ensures input { LeavesInput (command_of (map (λ w. w.now) words.now)) result.0 (around H.input host.old host.new) }
     ensures asked { AsksOnly (command_of (map (λ w. w.now) words.now)) (around H.asked host.old host.new) }
-    ensures disk { LeavesGoodDisk (command_of (map (λ w. w.now) words.now)) result (around H.files host.old host.new) }
+    ensures disk { LeavesGoodDisk (command_of (map (λ w. w.now) words.now)) result.0 (around H.files host.old host.new) }
     ensures notes { H.notes host.new ≡ H.notes host.old }
-    ensures cause { HasOutcomeCause (around H.faults host.old host.new) result }
+    ensures cause { HasCommandCause (command_of (map (λ w. w.now) words.now)) (around H.faults host.old host.new) result.0 }
+    ensures cut { cut_if result.1 result.0 ≡ cut_behind (command_of (map (λ w. w.now) words.now)) result.0 }
 {
     match read_words(alloc, words) {
-        Ok(Command::Exo(words)) => answer_exo(alloc, &words, host),
-        // `run` is not built yet.
-        Ok(Command::Run(_words)) => Outcome::Usage,
-        Ok(Command::Demo(words)) => answer_demo(alloc, words, host),
-        Ok(Command::Mkfs(words)) => answer_mkfs(alloc, &words, host),
-        Ok(Command::Ls(words)) => answer_ls(alloc, words, host),
-        Ok(Command::Cat(words)) => answer_cat(alloc, words, host),
-        Err(WordsFault::Usage) => Outcome::Usage,
-        Err(WordsFault::NoMemory) => Outcome::NoMemory,
+        Ok(Command::Exo(words)) => (answer_exo(alloc, &words, host), false),
+        Ok(Command::Run(words)) => (answer_run(alloc, &words, host), true),
+        Ok(Command::Demo(words)) => (answer_demo(alloc, words, host), false),
+        Ok(Command::Mkfs(words)) => (answer_mkfs(alloc, &words, host), false),
+        Ok(Command::Ls(words)) => (answer_ls(alloc, words, host), false),
+        Ok(Command::Cat(words)) => (answer_cat(alloc, words, host), false),
+        Err(WordsFault::Usage) => (Outcome::Usage, false),
+        Err(WordsFault::NoMemory) => (Outcome::NoMemory, false),
     }
 }

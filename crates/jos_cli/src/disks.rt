@@ -10,7 +10,8 @@ ghost use Rattle.jos_words.specs.Arguments.{word_in_bytes};
 ghost use Rattle.jos_words.specs.Commands.{ls, cat, ls_in_bytes, cat_in_bytes};
 ghost use Rattle.jos_cli.specs.Found.{FileAt, IsFileAt};
 ghost use Rattle.jos_cli.specs.Disks.{checked, disk_of, size_text, listing, path_of, printed, expected_of_listing, expected_of_bytes};
-ghost use Rattle.jos_cli.specs.Outcomes.{Answers, AnswersCommand, HasOutcomeCause};
+ghost use Rattle.jos_cli.specs.Kinds.{Answers};
+ghost use Rattle.jos_cli.specs.Outcomes.{AnswersCommand, HasOutcomeCause};
 ghost use Rattle.jos_cli.specs.Stages.{Judges};
 
 use crate::files::host_fault;

@@ -6,7 +6,8 @@ ghost use Rattle.jos_host.specs.Frames.{Unchanged, around};
 ghost use Rattle.jos_cli.specs.InputTaken.{HasTaken, HasEnded, HasLost};
 ghost use Rattle.jos_cli.specs.Found.{IsInput};
 ghost use Rattle.jos_cli.specs.Answer.{input_of};
-ghost use Rattle.jos_cli.specs.Outcomes.{HasOutcomeCause, LeavesInputBy, kind_of};
+ghost use Rattle.jos_cli.specs.Kinds.{kind_of};
+ghost use Rattle.jos_cli.specs.Outcomes.{HasOutcomeCause, LeavesInputBy};
 ghost use Rattle.jos_cli.specs.Stages.{Judges};
 
 use crate::files::host_fault;

@@ -1,16 +1,47 @@
-//! The numbers that the words of `exo` and `mkfs` give, and the limits of these words.
+//! The numbers that the words of commands give, and the limits of these words.
 
-ghost use Rattle.std.specs.Prelude.{◌≡◌, ◌≤◌, None};
+ghost use Rattle.std.specs.Prelude.{◌≡◌, ◌≤◌, None, map};
 ghost use Rattle.jos_base.specs.declared.numbers.TheConstants.{FRAMES_MIN, FRAMES_MAX};
 ghost use Rattle.fs_layout.specs.declared.numbers.TheConstants.{MAXBLOCKS};
-ghost use Rattle.jos_words.specs.Commands.{exo_in_bytes};
-ghost use Rattle.jos_cli.specs.Limits.{place_out, out_of, earlier, limit_of_words, limit_of_blocks, AreWithin};
-ghost use Rattle.jos_cli.specs.Stages.{settings_of};
+ghost use Rattle.jos_words.specs.Commands.{exo_in_bytes, run_in_bytes};
+ghost use Rattle.jos_cli.specs.Commands.{texts_of};
+ghost use Rattle.jos_cli.specs.Limits.{place_out, out_of, earlier, numbers_of_exo, numbers_of_run, numbers_out, AreWithin};
+ghost use Rattle.jos_cli.specs.Limits.{limit_of_words, limit_of_run, limit_of_blocks};
+ghost use Rattle.jos_cli.specs.Stages.{settings_of, MayRun};
 
 use crate::outcome::Which;
 use fs_layout::{MAXBLOCKS, MINBLOCKS};
 use jos_base::{FRAMES, FRAMES_MAX, FRAMES_MIN, IMAGES_MAX, STEPS, STEPS_MAX, TRACE_MAX};
-use jos_words::{ExoWords, NumberAt};
+use lib_spawn::fits_stack;
+use jos_words::{ExoWords, NumberAt, RunWords};
+
+/// The numbers that words give of a run.
+#[derive(Clone, Copy)]
+pub(crate) struct Numbers {
+    frames: Option<NumberAt>,
+    steps: Option<NumberAt>,
+    trace: Option<NumberAt>,
+}
+
+pub(crate) fn numbers_of_exo(words: &ExoWords) -> Numbers
+    ensures { result ≡ numbers_of_exo (exo_in_bytes words.now) }
+{
+    Numbers {
+        frames: words.frames,
+        steps: words.steps,
+        trace: words.trace,
+    }
+}
+
+pub(crate) fn numbers_of_run(words: &RunWords) -> Numbers
+    ensures { result ≡ numbers_of_run (run_in_bytes words.now) }
+{
+    Numbers {
+        frames: words.frames,
+        steps: words.steps,
+        trace: words.trace,
+    }
+}
 
 /// The place of a number that is out of its range.
 fn place_out(least: u64, most: u64, number: Option<NumberAt>) -> Option<usize>
@@ -49,27 +80,54 @@ fn earlier(a: Option<(usize, Which)>, b: Option<(usize, Which)>) -> Option<(usiz
     }
 }
 
-/// The first limit that the words pass.
-#[tactic(auto, unfolding(crate::specs::Limits::limit_of_words))]
-pub(crate) fn limit_of_words(words: &ExoWords) -> Option<Which>
-    ensures limit { result ≡ limit_of_words (exo_in_bytes words.now) }
-    ensures within { result ≡ None → AreWithin (exo_in_bytes words.now) }
+/// The first number that is out of its range, by its place.
+fn numbers_out(numbers: Numbers) -> Option<(usize, Which)>
+    ensures out { result ≡ numbers_out numbers }
+    ensures within { result ≡ None → AreWithin numbers }
 {
     let frames = out_of(
         Which::Frames,
         FRAMES_MIN as u64,
         FRAMES_MAX as u64,
-        words.frames,
+        numbers.frames,
     );
-    let steps = out_of(Which::Steps, 1, STEPS_MAX, words.steps);
-    let trace = out_of(Which::Trace, 0, TRACE_MAX as u64, words.trace);
-    match earlier(earlier(frames, steps), trace) {
+    let steps = out_of(Which::Steps, 1, STEPS_MAX, numbers.steps);
+    let trace = out_of(Which::Trace, 0, TRACE_MAX as u64, numbers.trace);
+    earlier(earlier(frames, steps), trace)
+}
+
+/// The first limit that the words of `exo` pass.
+#[tactic(auto, unfolding(crate::specs::Limits::limit_of_words))]
+pub(crate) fn limit_of_words(words: &ExoWords) -> Option<Which>
+    ensures limit { result ≡ limit_of_words (exo_in_bytes words.now) }
+    ensures within { result ≡ None → AreWithin (numbers_of_exo (exo_in_bytes words.now)) }
+{
+    match numbers_out(numbers_of_exo(words)) {
         Some((_, which)) => Some(which),
         None => {
             if words.images.len() > IMAGES_MAX {
                 Some(Which::Images)
             } else {
                 None
+            }
+        }
+    }
+}
+
+/// The first limit that the words of `run` pass, of which these are the texts.
+#[tactic(auto, unfolding(crate::specs::Limits::limit_of_run))]
+pub(crate) fn limit_of_run(words: &RunWords, texts: &[&str]) -> Option<Which>
+    requires texts { map (λ w. w.now) texts.now ≡ texts_of (run_in_bytes words.now) }
+    ensures limit { result ≡ limit_of_run (run_in_bytes words.now) }
+    ensures within { result ≡ None → MayRun (run_in_bytes words.now) (map (λ w. w.now) texts.now) }
+{
+    match numbers_out(numbers_of_run(words)) {
+        Some((_, which)) => Some(which),
+        None => {
+            if fits_stack(texts) {
+                None
+            } else {
+                Some(Which::Args)
             }
         }
     }
@@ -97,23 +155,23 @@ pub(crate) struct Settings {
     pub(crate) trace: u32,
 }
 
-/// The numbers that the words of `exo` give or leave.
-pub(crate) fn settings_of(words: &ExoWords) -> Settings
-    requires { AreWithin (exo_in_bytes words.now) }
-    ensures settings { result ≡ settings_of (exo_in_bytes words.now) }
+/// The numbers that words give or leave.
+pub(crate) fn settings_of(numbers: Numbers) -> Settings
+    requires { AreWithin numbers }
+    ensures settings { result ≡ settings_of numbers }
     ensures least { FRAMES_MIN ≤ result.frames }
     ensures most { result.frames ≤ FRAMES_MAX }
 {
     Settings {
-        frames: match words.frames {
+        frames: match numbers.frames {
             None => FRAMES,
             Some(number) => number.value as u32,
         },
-        steps: match words.steps {
+        steps: match numbers.steps {
             None => STEPS,
             Some(number) => number.value as u64,
         },
-        trace: match words.trace {
+        trace: match numbers.trace {
             None => 0,
             Some(number) => number.value as u32,
         },

@@ -5,7 +5,7 @@ ghost use Rattle.std.specs.Prelude.{MatchResult, length, map, option_map};
 ghost use Rattle.jos_host.specs.Frames.{Unchanged, around, from_to};
 ghost use Rattle.jos_words.specs.Arguments.{word_in_bytes};
 ghost use Rattle.jos_elf.specs.Parsed.{parsed};
-ghost use Rattle.jos_base.specs.declared.numbers.TheConstants.{SCHEDULE_TEXT_MAX};
+ghost use Rattle.jos_base.specs.declared.numbers.TheConstants.{IMAGE_MAX, SCHEDULE_TEXT_MAX};
 ghost use Rattle.jos_kernel.specs.Boot.{loadables};
 ghost use Rattle.jos_kernel.specs.Loading.{IsRead};
 ghost use Rattle.jos_cli.specs.Found.{FileAt, IsFileAt};
@@ -83,7 +83,7 @@ pub(crate) fn read_schedule<'a, H: Host>(
 }
 
 /// The image that a word names, and the bytes of its file.
-fn read_image<'a, H: Host>(
+pub(crate) fn read_image<'a, H: Host>(
     alloc: Global,
     word: WordAt<'a>,
     host: &mut H,
@@ -91,6 +91,7 @@ fn read_image<'a, H: Host>(
     ensures told { (file : FileAt) × IsFileAt (H.files host.old) (word_in_bytes word.entry) file
         × Judges (image_of file) (λ read. record { image = read.0; file = read.1.items }) result }
     ensures read { IfOk result (λ read. parsed read.1.items ≡ Ok read.0) }
+    ensures small { IfOk result (λ read. length read.1.items ≤ IMAGE_MAX) }
     ensures kind { IfErr result IsUnread }
     ensures cause { MatchResult result (λ _. H.faults host.new ≡ H.faults host.old) (HasOutcomeCause (around H.faults host.old host.new)) }
     ensures rest { Unchanged H.files H.input H.console H.notes host.old host.new }

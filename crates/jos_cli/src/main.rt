@@ -10,7 +10,7 @@ ghost use Rattle.std.specs.Prelude.{◌≡◌};
 ghost use Rattle.std.specs.Process.{exit_status};
 ghost use Rattle.jos_host.specs.Frames.{around};
 ghost use Rattle.jos_cli.specs.declared.outcome.Outcome.{Outcome};
-ghost use Rattle.jos_cli.specs.Outcomes.{AnswersCommand, HasOutcomeCause, HasStatusCause, IsUsageCase, LeavesInput, status_of};
+ghost use Rattle.jos_cli.specs.Outcomes.{AnswersCommand, HasCommandCause, HasStatusCause, IsUsageCase, LeavesInput, status_of};
 ghost use Rattle.jos_cli.specs.FaultNotes.{IfHostFault, FaultIsNoted};
 ghost use Rattle.jos_cli.specs.Commands.{command_of};
 ghost use Rattle.jos_cli.specs.FilesAsked.{AsksOnly};
@@ -27,6 +27,7 @@ mod loading;
 mod making;
 mod notes;
 mod outcome;
+mod running;
 mod texts;
 
 use crate::outcome::Outcome;
@@ -50,7 +51,7 @@ fn answer_arguments<H: Host>(alloc: Global, read: io::Result<Args>, host: &mut H
     ensures answered { (outcome : Outcome) × (exit_status result ≡ status_of outcome)
         × AnswersCommand (H.files host.old) (H.input host.old) (command_of (given_words read)) outcome (around H.console host.old host.new)
         × IsNoted (given_words read) outcome (around H.notes host.old host.new)
-        × HasOutcomeCause (around H.faults host.old host.new) outcome
+        × HasCommandCause (command_of (given_words read)) (around H.faults host.old host.new) outcome
         × IsUsageCase (command_of (given_words read)) outcome
         × IfHostFault outcome (FaultIsNoted (H.files host.old) (H.input host.old) (given_words read) (around H.faults host.old host.new)
         (around H.console host.old host.new) (around H.notes host.old host.new))

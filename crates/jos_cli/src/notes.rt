@@ -72,6 +72,7 @@ fn limit_text(which: Which) -> &'static [u8]
         Which::Boot => b"limit: boot\n",
         Which::Blocks => b"limit: blocks\n",
         Which::File => b"limit: file\n",
+        Which::Args => b"limit: args\n",
     }
 }
 

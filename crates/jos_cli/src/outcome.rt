@@ -32,6 +32,8 @@ pub enum Which {
     Blocks,
     /// The length of a file that is put on a disk (`FILE_MAX`).
     File,
+    /// The words of a program, which are over 16 or do not fit on a page of its stack.
+    Args,
 }
 
 /// What the program answers.

@@ -10,6 +10,7 @@ use std::test::Fail;
 
 mod calls;
 mod disk_commands;
+mod run_words;
 
 // The headers of a file whose one segment is the 32-bit words behind them at 0x00800020, where it starts.
 #[rattlefmt::skip]
@@ -453,11 +454,10 @@ fn fails_where_the_host_writes_no_program(rt: HostRuntime) -> Result<(), Fail> {
 
 // Words, their status and their note. There are the image `h`, and the schedules `s`, `z` and `x`.
 #[rattlefmt::skip]
-static WORDS: [(&[&str], u8, &str); 48] = [
+static WORDS: [(&[&str], u8, &str); 47] = [
     (&[], 1, USAGE),
     (&[""], 1, USAGE),
     (&["exo"], 1, USAGE),
-    (&["run", "h"], 1, USAGE),
     (&["Exo", "h"], 1, USAGE),
     (&["exo", "-h"], 1, USAGE),
     (&["exo", "--"], 1, USAGE),

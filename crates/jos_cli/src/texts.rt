@@ -4,12 +4,14 @@ ghost use Rattle.std.specs.Prelude.{◌≡◌, ℕ, List, Some, IfOk, map, drop,
 ghost use Rattle.jos_host.specs.Files.{Files};
 ghost use Rattle.jos_host.specs.Told.{Rose};
 ghost use Rattle.jos_host.specs.Frames.{around};
-ghost use Rattle.jos_words.specs.Commands.{Exo, Demo, Mkfs, Ls, Cat, exo, demo, mkfs, ls, cat};
+ghost use Rattle.jos_words.specs.Commands.{Exo, Run, Demo, Mkfs, Ls, Cat, exo, run, demo, mkfs, ls, cat};
 ghost use Rattle.jos_cli.specs.Commands.{command_of};
 ghost use Rattle.jos_cli.specs.Found.{found_in};
 ghost use Rattle.jos_cli.specs.Given.{words_left, given_words};
-ghost use Rattle.jos_cli.specs.Outcomes.{AnswersCommand, HasOutcomeCause, IsUsageCase, CanRun, CanMake, CanList, CanPrint};
+ghost use Rattle.jos_cli.specs.Outcomes.{AnswersCommand, HasCommandCause, IsUsageCase};
+ghost use Rattle.jos_cli.specs.Outcomes.{CanRun, CanRunProgram, CanMake, CanList, CanPrint};
 ghost use Rattle.jos_cli.specs.Outcomes.{IsRunCase, IsMadeCase, LeavesInput};
+ghost use Rattle.jos_cli.specs.RunAnswers.{run_found_in};
 ghost use Rattle.jos_cli.specs.FilesAsked.{AsksOnly};
 ghost use Rattle.jos_cli.specs.FilesLeft.{Leaves, LeavesGoodDisk};
 ghost use Rattle.jos_cli.specs.Notes.{IsNoted};
@@ -56,11 +58,14 @@ pub fn answer_texts<H: Host>(alloc: Global, read: io::Result<Args>, host: &mut H
     ensures fault { IfHostFault result (FaultIsNoted (H.files host.old) (H.input host.old) (given_words read)
         (around H.faults host.old host.new) (around H.console host.old host.new) (around H.notes host.old host.new)) }
     ensures usage { IsUsageCase (command_of (given_words read)) result }
-    ensures cause { HasOutcomeCause (around H.faults host.old host.new) result }
+    ensures cause { HasCommandCause (command_of (given_words read)) (around H.faults host.old host.new) result }
     ensures memory { result ≡ Outcome.NoMemory → (H.console host.new ≡ H.console host.old) × (H.files host.new ≡ H.files host.old) }
     ensures complete { (files : Files) (input : List ℕ) (e : Exo) →
         H.files host.old ≡ Some files → H.input host.old ≡ Some input → command_of (given_words read) ≡ Some (exo e) →
         CanRun e (found_in files e) input → (Rose (H.faults host.old) (H.faults host.new) → ⊥) → IsRunCase result }
+    ensures ran { (files : Files) (input : List ℕ) (r : Run) →
+        H.files host.old ≡ Some files → H.input host.old ≡ Some input → command_of (given_words read) ≡ Some (run r) →
+        CanRunProgram r (run_found_in files r) input → (Rose (H.faults host.old) (H.faults host.new) → ⊥) → IsRunCase result }
     ensures made { (d : Demo) → command_of (given_words read) ≡ Some (demo d) →
         (Rose (H.faults host.old) (H.faults host.new) → ⊥) → IsMadeCase result }
     ensures disk_made { (files : Files) (m : Mkfs) → H.files host.old ≡ Some files → command_of (given_words read) ≡ Some (mkfs m) →

@@ -1,7 +1,8 @@
-use Rattle.std.proofs.Common.{sym, refl}
+use Rattle.std.proofs.Common.{sym, refl, ap, ◌∙◌}
 use Rattle.jos_host.specs.Frames.{around}
 use Rattle.jos_words.specs.Commands.{exo_in_bytes}
-use Rattle.jos_cli.specs.Outcomes.{kind_of}
+use Rattle.jos_cli.specs.Kinds.{kind_of}
+use Rattle.jos_cli.specs.Stages.{settings_of}
 use Rattle.jos_cli.specs.FilesAsked.{schedule_calls, files_calls}
 use Rattle.std.specs.Prelude.{◌++◌}
 use Rattle.jos_cli.proofs.Asking.{asks_none}
@@ -33,7 +34,7 @@ returns-in-None-clause-told g c =
       told.2,
       told.3,
       words_within (exo_in_bytes c.args.words.now) told.0 told.1 (kind_of c.run_within.result) (around g.H.Host.console c.args.host.now c.run_within.new.host)
-          c.settings_of.result (sym c.in-None.ensures.limit) c.settings_of.ensures.settings told.4,
+          c.settings_of.result (sym c.in-None.ensures.limit) (c.settings_of.ensures.settings ∙ ap settings_of c.numbers_of_exo.ensures) told.4,
     )
 
 pub returns-in-Some-clause-input : goal.returns-in-Some-clause-input

@@ -1,6 +1,6 @@
 use Rattle.jos_host.specs.Frames.{around}
 use Rattle.jos_cli.specs.Answer.{input_of}
-use Rattle.jos_cli.specs.Outcomes.{kind_of}
+use Rattle.jos_cli.specs.Kinds.{kind_of}
 use Rattle.jos_cli.proofs.Judging.{refuses, goes_on}
 use Rattle.jos_cli.proofs.Leaving.{left_booted}
 use Rattle.jos_cli.proofs.answer.run_images.Goals as goal

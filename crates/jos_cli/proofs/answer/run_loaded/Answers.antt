@@ -5,7 +5,7 @@ use Rattle.jos_kernel.proofs.ToldBytes.{gains_none}
 use Rattle.std.specs.Prelude.{Option}
 use Rattle.jos_kernel.specs.ExoRun.{Ran}
 use Rattle.jos_cli.specs.Answer.{expected_of_run}
-use Rattle.jos_cli.specs.Outcomes.{Answers}
+use Rattle.jos_cli.specs.Kinds.{Answers}
 use Rattle.jos_host.specs.Frames.{around}
 use Rattle.jos_cli.proofs.Runs.{run_booted, not_booted}
 use Rattle.jos_cli.proofs.answer.run_loaded.Goals as goal

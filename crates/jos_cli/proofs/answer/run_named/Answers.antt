@@ -1,6 +1,6 @@
 use Rattle.jos_host.specs.Frames.{around}
 use Rattle.jos_cli.specs.Answer.{images_of}
-use Rattle.jos_cli.specs.Outcomes.{kind_of}
+use Rattle.jos_cli.specs.Kinds.{kind_of}
 use Rattle.jos_cli.proofs.Asking.{asks_all}
 use Rattle.jos_cli.proofs.Finding.{some_input}
 use Rattle.jos_cli.proofs.Judging.{refuses, goes_on}

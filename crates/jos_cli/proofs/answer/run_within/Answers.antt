@@ -1,7 +1,7 @@
 use Rattle.jos_host.specs.Frames.{around}
 use Rattle.jos_words.specs.Commands.{exo_in_bytes}
 use Rattle.jos_cli.specs.Answer.{schedule_of}
-use Rattle.jos_cli.specs.Outcomes.{kind_of}
+use Rattle.jos_cli.specs.Kinds.{kind_of}
 use Rattle.jos_cli.specs.FilesAsked.{schedule_calls, files_calls}
 use Rattle.jos_cli.proofs.Asking.{asks_then, asks_first}
 use Rattle.jos_cli.proofs.Finding.{all_found, some_files, some_input}

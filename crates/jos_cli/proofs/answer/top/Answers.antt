@@ -1,66 +1,87 @@
-use Rattle.std.proofs.Common.{ℕ, sym, subst}
+use Rattle.std.proofs.Common.{ℕ, sym, subst, ◌∙◌}
 use Rattle.jos_host.specs.Told.{Rose}
 use Rattle.jos_host.specs.Frames.{around}
-use Rattle.jos_cli.proofs.Tops.{answers_part, is_noted, noted, not_noted}
-use Rattle.jos_cli.proofs.Cases.{is_run, is_made, is_listed, is_printed}
-use Rattle.jos_cli.proofs.FilesWritten.{leaves_fault, no_good_disk}
+use Rattle.jos_cli.proofs.Tops.{answers_behind, cause_behind, is_noted, noted, not_noted, unwritten}
+use Rattle.jos_cli.proofs.Cases.{is_run, is_run_program, is_made, is_listed, is_printed}
+use Rattle.jos_cli.proofs.FilesWritten.{leaves_fault, leaves_no_memory, no_good_disk}
 use Rattle.jos_cli.proofs.Leaving.{left_fault}
 use Rattle.jos_cli.proofs.answer.top.Goals as goal
 
 pub returns-in-Ok-clause-notes : goal.returns-in-Ok-clause-notes
 returns-in-Ok-clause-notes g c =
-    is_noted _ c.answer_words-outcome.result _ (rw c.answer_words-outcome.ensures.notes at c.in-Ok.ensures.told)
+    is_noted _ c.answer_words-outcome.result.0 _ (rw c.answer_words-outcome.ensures.notes at c.in-Ok.ensures.told)
 
 pub returns-in-Ok-clause-fault : goal.returns-in-Ok-clause-fault
 returns-in-Ok-clause-fault g c =
-    noted _ _ _ c.answer_words-outcome.result _ _ _ (rw c.answer_words-outcome.ensures.notes at c.in-Ok.ensures.told)
+    noted _ _ _ c.answer_words-outcome.result.0 _ _ _ (rw c.answer_words-outcome.ensures.notes at c.in-Ok.ensures.told)
 
 pub returns-in-Ok-clause-complete : goal.returns-in-Ok-clause-complete
 returns-in-Ok-clause-complete g c files input e f i is can calm =
     let faults = g.H.Host.faults c.args.host.now in
-    is_run _ _ _ (around g.H.Host.faults c.args.host.now c.answer_words-outcome.new.host) c.answer_words-outcome.result
+    is_run _ _ _ (around g.H.Host.faults c.args.host.now c.answer_words-outcome.new.host) c.answer_words-outcome.result.0
     (around g.H.Host.console c.args.host.now c.answer_words-outcome.new.host) c.answer_words-outcome.ensures.told c.answer_words-outcome.ensures.cause
     files input e f i is can (λ rose. calm (subst (λ (n : ℕ). Rose faults n) (sym c.in-Ok.ensures.cause.stayed) rose))
 
 pub returns-in-Err-clause-answer : goal.returns-in-Err-clause-answer
 returns-in-Err-clause-answer g c =
-    rw c.host_fault.ensures (answers_part _ _ _ c.answer_words-outcome.result _ _ _ c.answer_words-outcome.ensures.told c.in-Err.ensures.rest.fourth)
+    rw (c.note_fault.ensures, c.answer_words-outcome.ensures.cut) (answers_behind _ _ _ c.answer_words-outcome.result.0
+    (around g.H.Host.console c.args.host.now c.answer_words-outcome.new.host) _ c.answer_words-outcome.ensures.told c.in-Err.ensures.rest.fourth)
 
 pub returns-in-Err-clause-fault : goal.returns-in-Err-clause-fault
 returns-in-Err-clause-fault g c =
-    rw c.host_fault.ensures (not_noted _ _ _ (around g.H.Host.faults c.args.host.now c.answer_words-outcome.new.host) _
+    rw c.note_fault.ensures (not_noted _ _ _ (around g.H.Host.faults c.args.host.now c.answer_words-outcome.new.host) _
     (around g.H.Host.console c.args.host.now c.answer_words-outcome.new.host) _ _ c.in-Err.ensures.cause.rose c.in-Err.ensures.rest.fourth
-    c.answer_words-outcome.result c.answer_words-outcome.ensures.cause c.answer_words-outcome.ensures.told
+    c.answer_words-outcome.result.0 c.answer_words-outcome.ensures.cause c.answer_words-outcome.ensures.told
     (rw c.answer_words-outcome.ensures.notes at c.in-Err.ensures.told))
 
 pub returns-in-Err-clause-files : goal.returns-in-Err-clause-files
 returns-in-Err-clause-files g c =
-    rw c.host_fault.ensures (leaves_fault _ _ _ _ c.answer_words-outcome.result _ c.answer_words-outcome.ensures.files c.in-Err.ensures.rest.first)
+    rw c.note_fault.ensures (leaves_fault _ _ _ _ c.answer_words-outcome.result.0 _ c.answer_words-outcome.ensures.files c.in-Err.ensures.rest.first)
 
 pub returns-in-Err-clause-input : goal.returns-in-Err-clause-input
 returns-in-Err-clause-input g c =
-    rw c.host_fault.ensures (left_fault _ c.answer_words-outcome.result _ _ _ _ c.answer_words-outcome.ensures.input c.in-Err.ensures.rest.second)
+    rw c.note_fault.ensures (left_fault _ c.answer_words-outcome.result.0 _ _ _ _ c.answer_words-outcome.ensures.input c.in-Err.ensures.rest.second)
 
 pub returns-in-Ok-clause-disk_made : goal.returns-in-Ok-clause-disk_made
 returns-in-Ok-clause-disk_made g c files one f is can calm =
     let faults = g.H.Host.faults c.args.host.now in
-    is_made _ _ _ (around g.H.Host.faults c.args.host.now c.answer_words-outcome.new.host) c.answer_words-outcome.result
+    is_made _ _ _ (around g.H.Host.faults c.args.host.now c.answer_words-outcome.new.host) c.answer_words-outcome.result.0
     (around g.H.Host.console c.args.host.now c.answer_words-outcome.new.host) c.answer_words-outcome.ensures.told c.answer_words-outcome.ensures.cause
     (λ rose. calm (subst (λ (n : ℕ). Rose faults n) (sym c.in-Ok.ensures.cause.stayed) rose)) files f one is can
 
 pub returns-in-Ok-clause-listed : goal.returns-in-Ok-clause-listed
 returns-in-Ok-clause-listed g c files one f is can calm =
     let faults = g.H.Host.faults c.args.host.now in
-    is_listed _ _ _ (around g.H.Host.faults c.args.host.now c.answer_words-outcome.new.host) c.answer_words-outcome.result
+    is_listed _ _ _ (around g.H.Host.faults c.args.host.now c.answer_words-outcome.new.host) c.answer_words-outcome.result.0
     (around g.H.Host.console c.args.host.now c.answer_words-outcome.new.host) c.answer_words-outcome.ensures.told c.answer_words-outcome.ensures.cause
     (λ rose. calm (subst (λ (n : ℕ). Rose faults n) (sym c.in-Ok.ensures.cause.stayed) rose)) files f one is can
 
 pub returns-in-Ok-clause-printed : goal.returns-in-Ok-clause-printed
 returns-in-Ok-clause-printed g c files one f is can calm =
     let faults = g.H.Host.faults c.args.host.now in
-    is_printed _ _ _ (around g.H.Host.faults c.args.host.now c.answer_words-outcome.new.host) c.answer_words-outcome.result
+    is_printed _ _ _ (around g.H.Host.faults c.args.host.now c.answer_words-outcome.new.host) c.answer_words-outcome.result.0
     (around g.H.Host.console c.args.host.now c.answer_words-outcome.new.host) c.answer_words-outcome.ensures.told c.answer_words-outcome.ensures.cause
     (λ rose. calm (subst (λ (n : ℕ). Rose faults n) (sym c.in-Ok.ensures.cause.stayed) rose)) files f one is can
 
 pub returns-in-Err-clause-disk : goal.returns-in-Err-clause-disk
-returns-in-Err-clause-disk g c = rw c.host_fault.ensures (no_good_disk _ _ _)
+returns-in-Err-clause-disk g c = rw c.note_fault.ensures (no_good_disk _ _ _)
+
+pub returns-in-Ok-clause-ran : goal.returns-in-Ok-clause-ran
+returns-in-Ok-clause-ran g c files input r f i is can calm =
+    let faults = g.H.Host.faults c.args.host.now in
+    is_run_program _ _ _ (around g.H.Host.faults c.args.host.now c.answer_words-outcome.new.host) c.answer_words-outcome.result.0
+    (around g.H.Host.console c.args.host.now c.answer_words-outcome.new.host) c.answer_words-outcome.ensures.told c.answer_words-outcome.ensures.cause
+    files input r f i is can (λ rose. calm (subst (λ (n : ℕ). Rose faults n) (sym c.in-Ok.ensures.cause.stayed) rose))
+
+pub returns-in-Ok-clause-memory : goal.returns-in-Ok-clause-memory
+returns-in-Ok-clause-memory g c is = (
+  c.in-Ok.ensures.rest.fourth ∙ unwritten _ _ _ (around g.H.Host.console c.args.host.now c.answer_words-outcome.new.host)
+      (rw is at c.answer_words-outcome.ensures.told),
+  c.in-Ok.ensures.rest.first ∙ leaves_no_memory _ _ _ (rw is at c.answer_words-outcome.ensures.files),
+)
+
+pub returns-in-Err-clause-cause : goal.returns-in-Err-clause-cause
+returns-in-Err-clause-cause g c =
+    rw (c.note_fault.ensures, c.answer_words-outcome.ensures.cut) (cause_behind _ c.answer_words-outcome.result.0 (g.H.Host.faults c.args.host.now)
+    (g.H.Host.faults c.answer_words-outcome.new.host) (g.H.Host.faults c.write_note.new.host) c.answer_words-outcome.ensures.cause c.in-Err.ensures.cause.rose
+    c.in-Err.ensures.cause.later (g.met.H.Host.faults_fit c.write_note.new.host))

@@ -1,6 +1,6 @@
 use Rattle.jos_host.specs.Frames.{around}
 use Rattle.jos_words.specs.Commands.{cat_in_bytes}
-use Rattle.jos_cli.specs.Outcomes.{kind_of}
+use Rattle.jos_cli.specs.Kinds.{kind_of}
 use Rattle.jos_cli.proofs.DisksRead.{cat_goes_on, cat_refused}
 use Rattle.jos_cli.proofs.disks.answer_cat.Goals as goal
 

@@ -1,6 +1,6 @@
 use Rattle.jos_host.specs.Frames.{around}
 use Rattle.jos_words.specs.Commands.{ls_in_bytes}
-use Rattle.jos_cli.specs.Outcomes.{kind_of}
+use Rattle.jos_cli.specs.Kinds.{kind_of}
 use Rattle.jos_cli.proofs.DisksRead.{ls_goes_on, ls_refused}
 use Rattle.jos_cli.proofs.disks.answer_ls.Goals as goal
 

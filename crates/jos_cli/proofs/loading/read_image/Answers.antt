@@ -2,7 +2,7 @@ use Rattle.std.proofs.Common.{Ok, Err, ap, ◌∙◌}
 use Rattle.jos_words.specs.Arguments.{word_in_bytes}
 use Rattle.jos_elf.specs.Parsed.{parsed}
 use Rattle.jos_cli.specs.Answer.{bad_image}
-use Rattle.jos_cli.specs.Outcomes.{kind_of}
+use Rattle.jos_cli.specs.Kinds.{kind_of}
 use Rattle.jos_cli.proofs.Reading.{image_parsed, image_refused, place_is}
 use Rattle.jos_cli.proofs.loading.read_image.Goals as goal
 

@@ -2,7 +2,7 @@ use Rattle.std.proofs.Common.{List, [], ◌∷◌, ◌++◌, map, refl, sym, sub
 use Rattle.jos_host.specs.Frames.{from_to}
 use Rattle.jos_words.specs.Arguments.{Word, word_in_bytes}
 use Rattle.jos_cli.specs.Found.{FileAt}
-use Rattle.jos_cli.specs.Outcomes.{kind_of}
+use Rattle.jos_cli.specs.Kinds.{kind_of}
 use Rattle.jos_cli.specs.Answer.{images_of}
 use Rattle.jos_cli.specs.Stages.{AreFilesAt, RefusesBy}
 use Rattle.jos_cli.specs.FilesAsked.{AsksFor, AsksAll, files_calls}

@@ -3,7 +3,7 @@ use Rattle.jos_sched.specs.Schedule.{parsed}
 use Rattle.jos_cli.specs.declared.outcome.Outcome.{Outcome}
 use Rattle.jos_cli.specs.Answer.{schedule_of}
 use Rattle.jos_cli.specs.Stages.{RefusesBy}
-use Rattle.jos_cli.specs.Outcomes.{kind_of}
+use Rattle.jos_cli.specs.Kinds.{kind_of}
 use Rattle.jos_cli.proofs.Reading.{schedule_parsed, schedule_refused, schedule_fault}
 use Rattle.jos_cli.proofs.loading.read_schedule.Goals as goal
 

@@ -1,7 +1,7 @@
 use Rattle.std.proofs.Common.{sym, refl}
 use Rattle.jos_host.specs.Frames.{around}
 use Rattle.jos_words.specs.Commands.{mkfs_in_bytes}
-use Rattle.jos_cli.specs.Outcomes.{kind_of}
+use Rattle.jos_cli.specs.Kinds.{kind_of}
 use Rattle.jos_cli.specs.FilesAsked.{mkfs_calls}
 use Rattle.jos_cli.proofs.Asking.{asks_none}
 use Rattle.jos_cli.proofs.Finding.{some_are_found, are_found}

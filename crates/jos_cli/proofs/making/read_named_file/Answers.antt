@@ -1,6 +1,6 @@
 use Rattle.std.proofs.Common.{Ok, sym, ap, ◌∙◌}
 use Rattle.jos_words.specs.Arguments.{word_in_bytes}
-use Rattle.jos_cli.specs.Outcomes.{kind_of}
+use Rattle.jos_cli.specs.Kinds.{kind_of}
 use Rattle.jos_cli.proofs.NamedRead.{named_read, named_refused}
 use Rattle.jos_cli.proofs.making.read_named_file.Goals as goal
 

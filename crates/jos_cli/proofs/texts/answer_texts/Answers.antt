@@ -1,8 +1,10 @@
 use Rattle.std.proofs.Common.{map, drop, ap, ◌∙◌}
 use Rattle.std.specs.Prelude.{string_bytes}
+use Rattle.jos_host.specs.Frames.{around}
 use Rattle.jos_cli.specs.Commands.{command_of}
 use Rattle.jos_cli.proofs.Asking.{asks_no_more}
 use Rattle.jos_cli.proofs.Leaving.{left_no_memory}
+use Rattle.jos_cli.proofs.Tops.{command_cause}
 use Rattle.jos_cli.proofs.texts.answer_texts.Goals as goal
 
 pub returns-in_default-clause-asked : goal.returns-in_default-clause-asked
@@ -43,3 +45,18 @@ returns-clause-printed g c files one f is can calm =
     c.top.ensures.printed files one f
     (ap command_of (ap (map (λ w. w.now)) c.deref-2.ensures.value ∙ c.in-Ok-words_of.ensures ∙ ap (λ l. drop 1 (map (λ t. string_bytes t) l)) c.deref.ensures.value ∙ c.in-Ok.ensures) ∙ is)
     can calm
+
+pub returns-clause-ran : goal.returns-clause-ran
+returns-clause-ran g c files input r f i is can calm =
+    c.top.ensures.ran files input r f i
+    (ap command_of (ap (map (λ w. w.now)) c.deref-2.ensures.value ∙ c.in-Ok-words_of.ensures ∙ ap (λ l. drop 1 (map (λ t. string_bytes t) l)) c.deref.ensures.value ∙ c.in-Ok.ensures) ∙ is)
+    can calm
+
+pub returns-in_default-clause-cause : goal.returns-in_default-clause-cause
+returns-in_default-clause-cause g c =
+    command_cause (command_of _) (around g.H.Host.faults c.args.host.now c.refuse_words.new.host) c.refuse_words.result c.refuse_words.ensures.cause
+
+pub returns-in_default-words_of-clause-cause : goal.returns-in_default-words_of-clause-cause
+returns-in_default-words_of-clause-cause g c =
+    command_cause (command_of _) (around g.H.Host.faults c.args.host.now c.refuse_words-in_default-words_of.new.host) c.refuse_words-in_default-words_of.result
+    c.refuse_words-in_default-words_of.ensures.cause
