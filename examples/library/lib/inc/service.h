@@ -1,0 +1,72 @@
+/* The services of the library, which a program asks for by INT 0x40. docs/library.md says what each does and refuses.
+
+   The number goes in EAX, what the service is given in EDX, ECX and EBX, and the answer comes in EAX: 0 or more, or an
+   error as its number, negated. All other registers stay as they are, but at receive. */
+#ifndef INC_SERVICE_H
+#define INC_SERVICE_H
+
+#include "error.h"
+#include "types.h"
+#include "x86.h"
+
+#define T_SERVICE 0x40
+
+/* those that are built; any other number is answered -E_INVAL */
+enum {
+    SERVICE_exit = 0,
+    SERVICE_cputs = 1,
+    SERVICE_getid = 2,
+    SERVICE_yield = 3,
+    SERVICE_wait = 5,
+    SERVICE_page_new = 6,
+    SERVICE_page_drop = 7,
+    SERVICE_send = 8,
+    SERVICE_receive = 9,
+};
+
+/* the most bytes of one cputs */
+#define CPUTS_MAX 4096
+
+/* flags of page_new: it may be written, it is shared */
+#define PAGE_WRITE 1
+#define PAGE_SHARED 2
+
+/* ---- the program's own: where it begins. When it comes back, the environment ends. */
+void umain(int argc, char **argv);
+
+/* Any number. What a service is not given it does not look at. */
+ALWAYS_INLINE int service(uint32_t number, uint32_t edx, uint32_t ecx, uint32_t ebx)
+{
+    int answer;
+
+    /* "memory": the library reads and writes what the compiler does not see */
+    __asm__ volatile("int %1"
+                     : "=a"(answer)
+                     : "i"(T_SERVICE), "a"(number), "d"(edx), "c"(ecx), "b"(ebx)
+                     : "memory", "cc");
+    return answer;
+}
+
+/* ---- service.c: the services by their names. An address is a number here, since most of what is asked for is about
+   places where nothing is yet. */
+
+void exit(void) __attribute__((noreturn));
+int cputs(uint32_t va, uint32_t len);
+uint32_t getid(void);
+void yield(void);
+int wait(uint32_t id);
+int page_new(uint32_t va, uint32_t flags);
+int page_drop(uint32_t va);
+int send(uint32_t id, uint32_t value, uint32_t va);
+
+/* what a receiver is told: who sent, the word, and of a page 0 (none came), 1 (it may be read) or 2 (written) */
+struct message {
+    uint32_t sender;
+    uint32_t value;
+    uint32_t page;
+};
+
+/* Waits for a message from an environment, or from any (0). A page comes to stand at va, where that is not 0. */
+int receive(uint32_t va, uint32_t from, struct message *message);
+
+#endif
