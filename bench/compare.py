@@ -1,25 +1,27 @@
-"""Compares the simulator with the model in model.py, over random programs.
+"""Compares the simulator with the models in model.py and library_model.py, over random programs.
 
     python3 bench/compare.py [COUNT [SEED]]
+    python3 bench/compare.py run [COUNT [SEED]]
 
 Each of COUNT runs (1,000 without a word) has 1 to 4 images of random calls, reads and writes, which tell at their end
-what their answers were and what the windows show, under a random schedule. Console and notes have to be the same. What
-differs is told with its seed, and left in a folder; the status is then 1. A run that comes to code which the model does
-not have, since it jumped to what it had written itself, is left out. It wants out/jos, which ./jos builds.
+what their answers were and what the windows show, under a random schedule; with `run` it has one program under the
+library, of random services, reads and writes. Console and notes have to be the same. What differs is told with its seed,
+and left in a folder; the status is then 1. A run that comes to code which the model does not have, since it jumped to what
+it had written itself, is left out. It wants out/jos, which ./jos builds.
 """
 import collections
 import pathlib
 import random
-import struct
 import subprocess
 import sys
 import tempfile
 
+from images import BASE, CODE, image, word
+from library_model import Run
+from library_programs import LibraryProgram, random_words
 from model import EXCEPTION_STACK, Kernel, UENVS, UPAGES, Unmodelled, UTOP, UVPT
 
 PROGRAM = pathlib.Path(__file__).resolve().parent.parent / "out" / "jos"
-BASE = 0x800000
-CODE = BASE + 84  # behind the headers
 LOG = 0x801000  # where a program keeps its answers
 REGISTERS = ["eax", "ecx", "edx", "ebx", "esp", "ebp", "esi", "edi"]
 
@@ -41,10 +43,6 @@ PARENT = {3: 2, 4: 2, 5: 2, 7: 2, 8: 3, 9: 2, 10: 1, 11: 2}
 HUNGRY = {4: 6, 5: 1, 6: 1, 7: 1}
 SENDER = {4: 2, 5: 1, 11: 3, 12: 6}
 TAKER = {4: 1, 5: 1, 11: 1, 13: 4}
-
-
-def word(number):
-    return struct.pack("<I", number & 0xFFFFFFFF)
 
 
 class Program:
@@ -142,12 +140,18 @@ class Program:
         return image(self.code, chance.choice([0x1800, 0x2000, 0x3000]))
 
 
-def image(code, in_memory):
-    length = 84 + len(code)
-    header = b"\x7fELF\1\1\1".ljust(16, b"\0")
-    header += struct.pack("<HHIIIIIHHHHHH", 2, 3, 1, CODE, 52, 0, 0, 52, 32, 1, 0, 0, 0)
-    header += struct.pack("<8I", 1, 0, BASE, BASE, length, in_memory, 7, 0x1000)
-    return header + code
+def random_schedule(chance):
+    return [chance.randint(1, 30) for _ in range(chance.randint(1, 200))] + [chance.choice([1, 2, 5, 1000])]
+
+
+def compared(seed, folder, model, notes, words, console_input):
+    """What the run of these words ends with, or None where the simulator tells another than the model."""
+    run = subprocess.run([PROGRAM, *map(str, words)], input=console_input, capture_output=True, timeout=60)
+    if (run.stdout, run.stderr.decode()) == (bytes(model.output), notes):
+        return notes.splitlines()[-1].split(" steps")[0]
+    print(f"seed {seed} differs, in {folder}: {' '.join(map(str, words))}")
+    print(f"the model: {notes}the simulator: {run.stderr.decode()}", end="")
+    return None
 
 
 def compare(seed, folder):
@@ -160,7 +164,7 @@ def compare(seed, folder):
     images = [Program(chance, count, style).build() for style in styles]
     frames, steps = chance.choice([64, 64, 70, 80, 100, 200]), chance.choice([777, 3000, 5000])
     traps = chance.choice([0, 1, 5, 1024])
-    schedule = [chance.randint(1, 30) for _ in range(chance.randint(1, 200))] + [chance.choice([1, 2, 5, 1000])]
+    schedule = random_schedule(chance)
     console_input = chance.randbytes(chance.randint(0, 5))
     names = [folder / f"image{k}" for k in range(count)]
     for name, content in zip(names, images):
@@ -172,25 +176,43 @@ def compare(seed, folder):
     except Unmodelled:
         return "left out"
     options = ["--frames", frames, "--steps", steps, "--trace", traps, "--schedule", folder / "schedule"]
-    words = [PROGRAM, "exo", *map(str, options), *names]
-    run = subprocess.run(words, input=console_input, capture_output=True, timeout=60)
-    if (run.stdout, run.stderr.decode()) == (bytes(model.output), notes):
-        return notes.splitlines()[-1].split(" steps")[0]
-    print(f"seed {seed} differs, in {folder}: {' '.join(map(str, options))}")
-    print(f"the model: {notes}the simulator: {run.stderr.decode()}", end="")
-    return None
+    return compared(seed, folder, model, notes, ["exo", *options, *names], console_input)
+
+
+def compare_library(seed, folder):
+    """The same of a program under the library."""
+    chance = random.Random(seed)
+    content = LibraryProgram(chance).build()
+    frames = Run.wanted_frames(content) + chance.choice([0, 1, 20, 60, 500])
+    steps, traps = chance.choice([777, 3000, 20000]), chance.choice([0, 1, 1024])
+    schedule, given = random_schedule(chance), random_words(chance)
+    words = [folder / "image", *given]
+    words[0].write_bytes(content)
+    (folder / "schedule").write_text(" ".join(map(str, schedule)))
+    model = Run(content, [str(each).encode() for each in words], frames, schedule, steps, traps)
+    try:
+        notes = model.notes(model.run())
+    except Unmodelled:
+        return "left out"
+    options = ["--frames", frames, "--steps", steps, "--trace", traps, "--schedule", folder / "schedule"]
+    return compared(seed, folder, model, notes, ["run", *options, "--", *words], b"")
 
 
 def main():
-    count = int(sys.argv[1]) if len(sys.argv) > 1 else 1000
-    first = int(sys.argv[2]) if len(sys.argv) > 2 else 0
+    numbers = sys.argv[1:]
+    compare_one = compare
+    if numbers[:1] == ["run"]:
+        compare_one = compare_library
+        del numbers[0]
+    count = int(numbers[0]) if numbers else 1000
+    first = int(numbers[1]) if len(numbers) > 1 else 0
     ends = collections.Counter()
     with tempfile.TemporaryDirectory() as folder:
         for seed in range(first, first + count):
-            end = compare(seed, pathlib.Path(folder))
+            end = compare_one(seed, pathlib.Path(folder))
             if end is None:
                 kept = pathlib.Path(tempfile.mkdtemp(prefix=f"compare-{seed}-"))
-                compare(seed, kept)
+                compare_one(seed, kept)
             ends[end or "differs"] += 1
     print(", ".join(f"{end} {number}" for end, number in sorted(ends.items())))
     return 1 if ends["differs"] else 0
