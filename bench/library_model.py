@@ -50,6 +50,7 @@ class Memory:
 
     def __init__(self, frames, directory):
         self.frames, self.directory = frames, directory
+        self.ip = 0  # of the instruction that reaches
 
     def entry(self, va):
         return self.frames.entries[self.directory].get(va >> 12)
@@ -66,9 +67,9 @@ class Memory:
         entry[1] |= ACCESSED | (DIRTY if write else 0)
         return entry[0]
 
-    def read(self, va, length):
+    def read(self, va, length, changes=False):
         places = [(va + k) & MASK for k in range(length)]
-        return bytes([self.frames.bytes[self.reach(place, False, self.ip)][place % PAGE_SIZE] for place in places])
+        return bytes([self.frames.bytes[self.reach(place, changes, self.ip)][place % PAGE_SIZE] for place in places])
 
     # the bytes of an instruction are reached for one by one too
     fetch = read
@@ -171,7 +172,6 @@ class Run:
         for k in range(length):
             if self.memory.entry(va + k) is None:
                 return self.end("user_mem_check assertion failure for va %08x" % (va + k))
-        self.memory.ip = 0
         self.output += self.memory.read(va, length)
         return self.answer(0)
 

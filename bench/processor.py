@@ -8,8 +8,10 @@ import struct
 from model import EAX, ECX, EDI, EDX, ESI, ESP, MASK, Trap, Unmodelled
 
 CF, PF, AF, ZF, SF, DF, OF = 0x001, 0x004, 0x010, 0x040, 0x080, 0x400, 0x800
-POPPED = CF | PF | AF | ZF | SF | DF | OF
 GENERAL, BREAKPOINT, ILLEGAL, DIVIDE = 13, 3, 6, 0
+
+# the opcodes of one byte that have a ModRM byte, but for the eight operations
+WITH_MODRM = {0x80, 0x81, *range(0x83, 0x8C), 0x8D, 0xC1, 0xC6, 0xC7, 0xD1, 0xD3, 0xF6, 0xF7, 0xFE, 0xFF}
 
 
 def signed(number, bits=32):
@@ -17,11 +19,12 @@ def signed(number, bits=32):
 
 
 class Processor:
-    """Registers, and one step over a memory that has `fetch`, `read` and `write`."""
+    """Registers, and one step over a memory that has `fetch`, `read` (for a write, or not) and `write`."""
 
     def __init__(self, eip, esp):
         self.registers, self.eip, self.flags = [0] * 8, eip, 0x202
         self.registers[ESP] = esp
+        self.at = eip  # how far the instruction under way is read; behind it, the next one
 
     # ---- operands
 
@@ -73,11 +76,12 @@ class Processor:
             old = self.registers[number & 3]
             self.registers[number & 3] = old & ~(255 << shift) | (value & 255) << shift
 
-    def get(self, memory, operand, size):
+    def get(self, memory, operand, size, changes=False):
+        """The number in an operand; one that is changed then is reached for once, for a write."""
         kind, where = operand
         if kind == "register":
             return self.register(where, size)
-        return int.from_bytes(memory.read(where, size), "little")
+        return int.from_bytes(memory.read(where, size, changes), "little")
 
     def put(self, memory, operand, size, value):
         kind, where = operand
@@ -121,7 +125,7 @@ class Processor:
 
     def count(self, memory, operand, size, k):
         """INC (k is 0) and DEC (5): the flags but CF."""
-        result, (_, flags) = self.operate(k, size, self.get(memory, operand, size), 1)
+        result, (_, flags) = self.operate(k, size, self.get(memory, operand, size, True), 1)
         self.put(memory, operand, size, result)
         self.set_flags(PF | AF | ZF | SF | OF, flags & ~CF)
 
@@ -133,7 +137,7 @@ class Processor:
 
     def arithmetic(self, memory, k, size, to, value):
         """An operation on an operand, which CMP leaves as it was."""
-        result, (mask, flags) = self.operate(k, size, self.get(memory, to, size), value)
+        result, (mask, flags) = self.operate(k, size, self.get(memory, to, size, k != 7), value)
         if k != 7:
             self.put(memory, to, size, result)
         self.set_flags(mask, flags)
@@ -143,7 +147,7 @@ class Processor:
         count &= 31
         if k not in (4, 5, 7):
             raise Unmodelled(f"shift {k}")
-        old = self.get(memory, operand, 4)
+        old = self.get(memory, operand, 4, True)
         if count == 0:
             return
         if k == 4:
@@ -191,7 +195,7 @@ class Processor:
         code = self.take(memory, 1)
         if code < 0x40 and code & 7 < 6:
             self.two_operands(memory, code)
-        elif code < 0x60 and code >= 0x40:
+        elif 0x40 <= code < 0x60:
             self.one_register(memory, code)
         elif code == 0x60:
             esp = self.registers[ESP]
@@ -202,8 +206,8 @@ class Processor:
             self.push(memory, self.take(memory, 4) if code == 0x68 else self.take_signed(memory, 1))
         elif 0x70 <= code < 0x80 or code in (0xE8, 0xE9, 0xEB, 0xC3):
             self.go(memory, code)
-        elif 0x80 <= code < 0x90 or 0xC0 <= code < 0xC8 or 0xD0 <= code < 0xD4 or code >= 0xF6:
-            return self.with_modrm(memory, code)
+        elif code in WITH_MODRM:
+            self.with_modrm(memory, code)
         elif code == 0x90:
             pass
         elif code == 0x9C:
@@ -223,8 +227,12 @@ class Processor:
             return self.interrupt(memory)
         elif code == 0xF3:
             self.repeated(memory)
-        elif code == 0xF4:
+        elif code in (0xF4, 0xFA, 0xFB):
             raise Trap(GENERAL, 0, self.eip)
+        elif code in (0xF8, 0xF9):
+            self.set_flags(CF, CF if code == 0xF9 else 0)
+        elif code in (0xFC, 0xFD):
+            self.set_flags(DF, DF if code == 0xFD else 0)
         elif code == 0x0F:
             self.two_bytes(memory)
         else:
@@ -282,14 +290,6 @@ class Processor:
         self.set_flags(mask, flags)
 
     def with_modrm(self, memory, code):
-        if code in (0xFC, 0xFD):
-            self.set_flags(DF, DF if code == 0xFD else 0)
-            return
-        if code in (0xF8, 0xF9):
-            self.set_flags(CF, CF if code == 0xF9 else 0)
-            return
-        if code == 0xC3:
-            raise Unmodelled("RET")
         digit, operand = self.modrm(memory)
         size = 4 if code & 1 else 1
         if code in (0x80, 0x81, 0x83):
@@ -298,7 +298,7 @@ class Processor:
         elif code in (0x84, 0x85):
             self.test(memory, operand, size, self.register(digit, size))
         elif code in (0x86, 0x87):
-            old = self.get(memory, operand, size)
+            old = self.get(memory, operand, size, True)
             self.put(memory, operand, size, self.register(digit, size))
             self.set_register(digit, size, old)
         elif code in (0x88, 0x89):
@@ -323,7 +323,7 @@ class Processor:
             raise Unmodelled(hex(code))
 
     def group_of_f7(self, memory, digit, operand, size):
-        old = self.get(memory, operand, size) if digit else 0
+        old = self.get(memory, operand, size, digit in (2, 3)) if digit else 0
         if digit == 0:
             self.test(memory, operand, size, self.take(memory, size))
         elif digit == 2:
