@@ -1,5 +1,5 @@
 -- What `run` answers, stage by stage.
-use Rattle.std.proofs.Common.{◌≡◌, ℕ, List, [], ◌∷◌, ◌++◌, length, Option, Some, None, Result, Ok, Err, refl, sym, ap, subst, ◌∙◌, arith}
+use Rattle.std.proofs.Common.{◌≡◌, ℕ, nat_lt, Bool, true, false, cond, List, [], ◌∷◌, ◌++◌, length, Option, Some, None, Result, Ok, Err, refl, sym, ap, subst, ◌∙◌, arith}
 use mathlib.Core.Logic.{inl, inr}
 use Rattle.std.specs.Prelude.{unwrap_or, ◌⊎◌, ◌+◌}
 use Rattle.std.specs.Option.{option_map}
@@ -26,12 +26,15 @@ use Rattle.jos_cli.specs.declared.outcome.Which.TheVariants as which
 use Rattle.jos_cli.specs.Limits.{numbers_of_run, limit_of_run}
 use Rattle.jos_cli.specs.Found.{FileAt}
 use Rattle.jos_cli.specs.Answer.{Judged, Answer, usage, absent, limit, bad_schedule, bad_image, ran, made, bad_disk, not_there, bad_make}
-use Rattle.jos_cli.specs.Answer.{refused, within, schedule_of, image_of, input_of}
-use Rattle.jos_cli.specs.Kinds.{Kind, answered, cut_off, no_memory, AnswersBy}
-use Rattle.jos_cli.specs.RunAnswers.{RunFound, program_of, IsCutBehind, IsCutBy, AnswersAs, RunsAs, Then, AnswersInput, AnswersImage, AnswersFiles, AnswersRun}
+use Rattle.jos_cli.specs.Answer.{and_then, within, bytes_of, numbers_of, text_of, schedule_of, loadable_of, image_of, input_of}
+use Rattle.jos_base.specs.declared.numbers.TheConstants.{SCHEDULE_TEXT_MAX, IMAGE_MAX, INPUT_MAX}
+use Rattle.jos_sched.specs.declared.fault.ScheduleFault.{ScheduleFault}
+use Rattle.jos_sched.specs.Schedule as schedule
+use Rattle.jos_cli.specs.declared.outcome.Which.{Which}
+use Rattle.jos_cli.specs.Kinds.{Kind, answered, cut_off, no_memory}
+use Rattle.jos_cli.specs.RunAnswers.{RunFound, program_of, IsCutBehind, IsCutBy, IsRefusal, AnswersAs, RunsAs, Then, AnswersInput, AnswersImage, AnswersFiles, AnswersRun}
 use Rattle.jos_cli.specs.Outcomes.{HasCauseOf}
-use Rattle.jos_cli.specs.Stages.{RefusesBy, settings_of, cut_of}
-use Rattle.jos_cli.proofs.Judging.{part_of}
+use Rattle.jos_cli.specs.Stages.{RefusesBy, settings_of, nothing_done, cut_of}
 
 -- ---- a run that took no turn has written nothing
 
@@ -51,6 +54,11 @@ told_nothing None schedule first frames budget report printed h none =
     nothing_more first.console printed (ap (λ (a : Option AbstractState). (unwrap_or a first).console) at_first ∙ taken.console)
 told_nothing (Some refusal) schedule first frames budget report printed h none = absurd (no_turn h.before h.later report.turns h.turn h.turns_are none)
 
+no_refusal : (refusal : Option Refusal) (schedule : List ℕ) (first : AbstractState) (frames budget : ℕ) (report : Reported) (printed : List ℕ) →
+    ToldBy refusal schedule first frames budget report printed → report.turns ≡ [] → refusal ≡ None
+no_refusal None schedule first frames budget report printed h none = refl
+no_refusal (Some refusal) schedule first frames budget report printed h none = absurd (no_turn h.before h.later report.turns h.turn h.turns_are none)
+
 ran_nothing : (p : Program) (report : Reported) (console : Around (Option (List ℕ))) → HasRun p report console → report.turns ≡ [] → console.after ≡ console.before
 ran_nothing p report console h none =
     h.1.1
@@ -67,7 +75,9 @@ cut_turn (Some refusal) schedule first frames turns printed h none = no_turn h.b
 cut_is : (turns : List Turn) (p : Program) (cut : CutOff) (console : Around (Option (List ℕ))) → cut.turns ≡ turns →
     IsCut p cut console ⊎ IsCutBehind p cut console → IsCutBy turns p cut console
 cut_is [] p cut console are (inl h) = absurd (cut_turn cut.first_refused _ _ _ cut.turns h.1.0 h.1.2 are)
-cut_is [] p cut console are (inr h) = ran_nothing p h.report console h.run (sym h.turns ∙ are)
+cut_is [] p cut console are (inr h) =
+    let none = sym h.turns ∙ are in
+    (h.first_refused ∙ no_refusal h.report.first_refused _ _ _ _ h.report h.run.1.0 h.run.1.2.by_refusal none, ran_nothing p h.report console h.run none)
 cut_is (turn ∷ turns) p cut console are h = h
 
 -- in a turn
@@ -79,7 +89,7 @@ answer_behind : (p : Program) (answer : Answer) (console : Around (Option (List 
 answer_behind p (ran report traps) console h =
     cut_is report.turns p (record { turns = report.turns; first_refused = report.first_refused }) console refl
     (inr (record { report = report; run = h; turns = refl; first_refused = refl }))
-answer_behind p (limit which.Boot) console h = h.1
+answer_behind p (limit which.Boot) console h = (refl, h.1)
 answer_behind p (limit which.Frames) console h = absurd h
 answer_behind p (limit which.Steps) console h = absurd h
 answer_behind p (limit which.Trace) console h = absurd h
@@ -102,61 +112,131 @@ answer_behind p (bad_make fault) console h = absurd h
 run_behind : (p : Program) (kind : Kind) (console : Around (Option (List ℕ))) → RunsAs p kind console → RunsAs p (cut_off (cut_of kind)) console
 run_behind p (answered answer) console h = answer_behind p answer console h
 run_behind p (cut_off cut) console h = h
-run_behind p no_memory console h = h
+run_behind p no_memory console h = (refl, h)
+
+-- ---- no turn is told of what is refused
+
+TellsNoTurn : {X : Type 0} → Judged X → Type 0
+TellsNoTurn (Ok x) = Unit {0}
+TellsNoTurn (Err refusal) = cut_of (answered refusal) ≡ nothing_done
+
+both_tell_none : {X Y : Type 0} (judged : Judged X) (next : X → Judged Y) → TellsNoTurn judged → ((x : X) → TellsNoTurn (next x)) → TellsNoTurn (and_then judged next)
+unfolding TellsNoTurn
+both_tell_none (Ok x) next h more = more x
+both_tell_none (Err refusal) next h more = h
+
+limit_tells_none : (over : Bool) (which : Which) (bytes : List ℕ) → TellsNoTurn (cond over (Err (limit which)) (Ok bytes))
+unfolding TellsNoTurn
+limit_tells_none true passed bytes = refl
+limit_tells_none false passed bytes = tt
+
+bytes_tell_none : (most : ℕ) (which : Which) (place : ℕ) (stands : Option (List ℕ)) → TellsNoTurn (bytes_of most which place stands)
+unfolding TellsNoTurn
+bytes_tell_none most passed place None = refl
+bytes_tell_none most passed place (Some bytes) = limit_tells_none (nat_lt most (length bytes)) passed bytes
+
+within_tells_none : (which : Option Which) → TellsNoTurn (within which)
+unfolding TellsNoTurn
+within_tells_none None = tt
+within_tells_none (Some passed) = refl
+
+numbers_tell_none : (numbers : Result (List ℕ) ScheduleFault) → TellsNoTurn (numbers_of numbers)
+unfolding TellsNoTurn
+numbers_tell_none (Ok numbers) = tt
+numbers_tell_none (Err fault) = refl
+
+text_tells_none : (file : Option FileAt) → TellsNoTurn (text_of file)
+unfolding TellsNoTurn
+text_tells_none None = tt
+text_tells_none (Some file) = bytes_tell_none SCHEDULE_TEXT_MAX which.Schedule file.place file.bytes
+
+schedule_tells_none : (file : Option FileAt) → TellsNoTurn (schedule_of file)
+unfolding schedule_of
+schedule_tells_none file = both_tell_none (text_of file) (λ text. numbers_of (schedule.parsed text)) (text_tells_none file) (λ text. numbers_tell_none (schedule.parsed text))
+
+layout_tells_none : (place : ℕ) (bytes : List ℕ) (layout : Result Layout ElfFault) → TellsNoTurn (loadable_of place bytes layout)
+unfolding TellsNoTurn
+layout_tells_none place bytes (Ok layout) = tt
+layout_tells_none place bytes (Err fault) = refl
+
+image_tells_none : (file : FileAt) → TellsNoTurn (image_of file)
+unfolding image_of
+image_tells_none file =
+    both_tell_none (bytes_of IMAGE_MAX which.Image file.place file.bytes) (λ bytes. loadable_of file.place bytes (parsed bytes))
+    (bytes_tell_none IMAGE_MAX which.Image file.place file.bytes) (λ bytes. layout_tells_none file.place bytes (parsed bytes))
+
+input_tells_none : (input : List ℕ) → TellsNoTurn (input_of input)
+input_tells_none input = limit_tells_none (nat_lt INPUT_MAX (length input)) which.Input input
 
 -- ---- what holds of each stage
 
 pub record IsStage (answers : Kind → Around (Option (List ℕ)) → Type 0) : Type 0 where
   -- it may be cut off before anything is written
-  pub cut : (c : CutOff) (console : Around (Option (List ℕ))) → c.turns ≡ [] → console.after ≡ console.before → answers (cut_off c) console
+  pub cut : (c : CutOff) (console : Around (Option (List ℕ))) → c.turns ≡ [] → c.first_refused ≡ None → console.after ≡ console.before → answers (cut_off c) console
   -- there may be no memory, and then nothing is written
   pub memory : (console : Around (Option (List ℕ))) → console.after ≡ console.before → answers no_memory console
   pub unwritten : (console : Around (Option (List ℕ))) → answers no_memory console → console.after ≡ console.before
   -- the note of each of its answers may fail
   pub behind : (kind : Kind) (console : Around (Option (List ℕ))) → answers kind console → answers (cut_off (cut_of kind)) console
 
-refusal_stage : (answer : Answer) → IsStage (AnswersBy (refused answer))
-refusal_stage answer = record {
-  cut = λ c console none same. (0, omega arith, same ∙ gains_none console.before);
+refusal_behind : (refusal : Answer) (kind : Kind) (console : Around (Option (List ℕ))) → cut_of (answered refusal) ≡ nothing_done → IsRefusal refusal kind console →
+    IsRefusal refusal (cut_off (cut_of kind)) console
+refusal_behind refusal (answered answer) console none h =
+    let is : cut_of (answered answer) ≡ nothing_done = ap (λ (a : Answer). cut_of (answered a)) h.0 ∙ none in
+    (ap (λ (c : CutOff). c.turns) is, ap (λ (c : CutOff). c.first_refused) is, h.1)
+refusal_behind refusal (cut_off c) console none h = h
+refusal_behind refusal no_memory console none h = (refl, refl, h)
+
+refusal_stage : (refusal : Answer) → cut_of (answered refusal) ≡ nothing_done → IsStage (IsRefusal refusal)
+refusal_stage refusal none = record {
+  cut = λ c console turns page same. (turns, page, same);
   memory = λ console same. same;
   unwritten = λ console h. h;
-  behind = λ kind console h. part_of (refused answer) kind console h;
+  behind = λ kind console h. refusal_behind refusal kind console none h;
 }
 
-pub run_stage : (p : Program) → IsStage (RunsAs p)
+run_stage : (p : Program) → IsStage (RunsAs p)
 run_stage p = record {
-  cut = λ c console none same. subst (λ (turns : List Turn). IsCutBy turns p c console) (sym none) same;
+  cut = λ c console turns page same. subst (λ (t : List Turn). IsCutBy t p c console) (sym turns) (page, same);
   memory = λ console same. same;
   unwritten = λ console h. h;
   behind = λ kind console h. run_behind p kind console h;
 }
 
-then_stage : {X : Type 0} (judged : Judged X) (next : X → Kind → Around (Option (List ℕ)) → Type 0) → ((x : X) → IsStage (next x)) → IsStage (Then judged next)
-then_stage (Ok x) next stage = let s = stage x in record { cut = s.cut; memory = s.memory; unwritten = s.unwritten; behind = s.behind }
-then_stage (Err answer) next stage = let s = refusal_stage answer in record { cut = s.cut; memory = s.memory; unwritten = s.unwritten; behind = s.behind }
+then_stage : {X : Type 0} (judged : Judged X) (next : X → Kind → Around (Option (List ℕ)) → Type 0) → TellsNoTurn judged → ((x : X) → IsStage (next x)) →
+    IsStage (Then judged next)
+unfolding TellsNoTurn
+then_stage (Ok x) next none stage = let s = stage x in record { cut = s.cut; memory = s.memory; unwritten = s.unwritten; behind = s.behind }
+then_stage (Err refusal) next none stage =
+    let s = refusal_stage refusal none in record { cut = s.cut; memory = s.memory; unwritten = s.unwritten; behind = s.behind }
 
 pub input_stage : (r : Run) (schedule : List ℕ) (loadable : Loadable) (input : List ℕ) → IsStage (AnswersInput r schedule loadable input)
-input_stage r schedule loadable input = then_stage (input_of input) (λ bytes. RunsAs (program_of r schedule loadable bytes)) (λ bytes. run_stage (program_of r schedule loadable bytes))
+input_stage r schedule loadable input =
+    then_stage (input_of input) (λ bytes. RunsAs (program_of r schedule loadable bytes)) (input_tells_none input) (λ bytes. run_stage (program_of r schedule loadable bytes))
 
 pub image_stage : (r : Run) (schedule : List ℕ) (image : FileAt) (input : List ℕ) → IsStage (AnswersImage r schedule image input)
-image_stage r schedule image input = then_stage (image_of image) (λ loadable. AnswersInput r schedule loadable input) (λ loadable. input_stage r schedule loadable input)
+image_stage r schedule image input =
+    then_stage (image_of image) (λ loadable. AnswersInput r schedule loadable input) (image_tells_none image) (λ loadable. input_stage r schedule loadable input)
 
 pub files_stage : (r : Run) (found : RunFound) (input : List ℕ) → IsStage (AnswersFiles r found input)
-files_stage r found input = then_stage (schedule_of found.schedule) (λ schedule. AnswersImage r schedule found.image input) (λ schedule. image_stage r schedule found.image input)
+files_stage r found input =
+    then_stage (schedule_of found.schedule) (λ schedule. AnswersImage r schedule found.image input) (schedule_tells_none found.schedule)
+    (λ schedule. image_stage r schedule found.image input)
 
 pub words_stage : (r : Run) (found : RunFound) (input : List ℕ) → IsStage (AnswersRun r found input)
-words_stage r found input = then_stage (within (limit_of_run r)) (λ _. AnswersFiles r found input) (λ _. files_stage r found input)
+words_stage r found input =
+    then_stage (within (limit_of_run r)) (λ _. AnswersFiles r found input) (within_tells_none (limit_of_run r)) (λ _. files_stage r found input)
 
 -- ---- from one stage to the next
 
 module _ {X : Type 0} (judged : Judged X) (next : X → Kind → Around (Option (List ℕ)) → Type 0) where
   -- it is refused, and nothing was written
-  pub then_refused : ((x : X) → IsStage (next x)) → (faults : Around ℕ) (kind : Kind) (console : Around (Option (List ℕ))) → RefusesBy judged kind →
+  pub then_refused : IsStage (Then judged next) → (faults : Around ℕ) (kind : Kind) (console : Around (Option (List ℕ))) → RefusesBy judged kind →
       HasCauseOf faults kind → console.after ≡ console.before → Then judged next kind console
   then_refused stage faults (answered answer) console h cause same =
-      subst (λ (j : Judged X). Then j next (answered answer) console) (sym h) (refl, same ∙ gains_none console.before)
-  then_refused stage faults (cut_off c) console h cause same = (then_stage judged next stage).cut c console cause.1 same
-  then_refused stage faults no_memory console h cause same = (then_stage judged next stage).memory console same
+      subst (λ (j : Judged X). Then j next (answered answer) console) (sym h) (refl, same)
+  then_refused stage faults (cut_off c) console h cause same = stage.cut c console cause.1 cause.2 same
+  then_refused stage faults no_memory console h cause same = stage.memory console same
 
   -- it is there, and the rest is answered
   pub then_on : (x : X) (kind : Kind) (console : Around (Option (List ℕ))) → judged ≡ Ok x → next x kind console → Then judged next kind console

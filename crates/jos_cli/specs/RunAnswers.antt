@@ -13,8 +13,8 @@ use Rattle.jos_cli.specs.declared.outcome.Which.TheVariants.{Boot}
 use Rattle.jos_cli.specs.Commands.{image_word, texts_of}
 use Rattle.jos_cli.specs.Limits.{numbers_of_run, limit_of_run, frames_of, steps_of}
 use Rattle.jos_cli.specs.Found.{FileAt, file_at}
-use Rattle.jos_cli.specs.Answer.{Judged, Answer, ran, limit, refused, within, schedule_of, image_of, input_of}
-use Rattle.jos_cli.specs.Kinds.{Kind, answered, cut_off, no_memory, AnswersBy}
+use Rattle.jos_cli.specs.Answer.{Judged, Answer, ran, limit, within, schedule_of, image_of, input_of}
+use Rattle.jos_cli.specs.Kinds.{Kind, answered, cut_off, no_memory}
 
 -- ---- the files
 
@@ -57,14 +57,15 @@ pub record IsCutBehind (p : Program) (cut : CutOff) (console : Around (Option (L
   pub turns : cut.turns ≡ report.turns
   pub first_refused : cut.first_refused ≡ report.first_refused
 
--- Before the first turn nothing was written.
+-- Before the first turn no page was refused, and nothing was written.
 abbrev pub IsCutBy : {T : Type 0} → List T → Program → CutOff → Around (Option (List ℕ)) → Type 0
-IsCutBy [] p cut console = console.after ≡ console.before
+IsCutBy [] p cut console = (cut.first_refused ≡ None) × (console.after ≡ console.before)
 IsCutBy (turn ∷ turns) p cut console = IsCut p cut console ⊎ IsCutBehind p cut console
 
 abbrev pub AnswersAs : Program → Answer → Around (Option (List ℕ)) → Type 0
 AnswersAs p (ran report traps) console = HasRun p report console
-AnswersAs p (limit Boot) console = (booted_within p.image p.file p.words p.frames p.input ≡ None) × (console.after ≡ console.before)
+AnswersAs p (limit Boot) console =
+    (booted_within p.image p.file p.words p.frames p.input ≡ None) × (console.after ≡ console.before)
 AnswersAs p _ console = ⊥
 
 abbrev pub RunsAs : Program → Kind → Around (Option (List ℕ)) → Type 0
@@ -74,10 +75,18 @@ RunsAs p no_memory console = console.after ≡ console.before
 
 -- ---- all of it
 
+-- It is refused: nothing is written, and no turn is told.
+abbrev pub IsRefusal : Answer → Kind → Around (Option (List ℕ)) → Type 0
+IsRefusal refusal (answered answer) console = (answer ≡ refusal) × (console.after ≡ console.before)
+IsRefusal refusal (cut_off cut) console =
+    (cut.turns ≡ []) × (cut.first_refused ≡ None) × (console.after ≡ console.before)
+IsRefusal refusal no_memory console = console.after ≡ console.before
+
 -- what is judged, and what is answered then
-abbrev pub Then : {X : Type 0} → Judged X → (X → Kind → Around (Option (List ℕ)) → Type 0) → Kind → Around (Option (List ℕ)) → Type 0
+abbrev pub Then : {X : Type 0} → Judged X → (X → Kind → Around (Option (List ℕ)) → Type 0) →
+    Kind → Around (Option (List ℕ)) → Type 0
 Then (Ok x) next kind console = next x kind console
-Then (Err answer) next kind console = AnswersBy (refused answer) kind console
+Then (Err refusal) next kind console = IsRefusal refusal kind console
 
 -- once the image is read
 abbrev pub AnswersInput : Run → List ℕ → Loadable → List ℕ → Kind → Around (Option (List ℕ)) → Type 0

@@ -12,8 +12,8 @@ ghost use Rattle.jos_cli.specs.Stages.{settings_of, MayRun};
 use crate::outcome::Which;
 use fs_layout::{MAXBLOCKS, MINBLOCKS};
 use jos_base::{FRAMES, FRAMES_MAX, FRAMES_MIN, IMAGES_MAX, STEPS, STEPS_MAX, TRACE_MAX};
-use lib_spawn::fits_stack;
 use jos_words::{ExoWords, NumberAt, RunWords};
+use lib_spawn::fits_stack;
 
 /// The numbers that words give of a run.
 #[derive(Clone, Copy)]

@@ -3,7 +3,8 @@
 //! `top` (in `answer`) does what the words of the command line ask, over any host, and `answer_texts` (in `texts`)
 //! does so for the words as std hands them out. `main` only makes the host over the system's files and streams,
 //! and exits with what `answer_arguments` gives. What `top` answers is proved: it is what `specs/Answer.antt`
-//! says of the words, the files and the input, by the run that `jos_kernel` defines.
+//! says of the words, the files and the input, by the run that `jos_kernel` defines; and for `run` it is what
+//! `specs/RunAnswers.antt` says, by the abstract system that `lib_os` defines.
 #![tactic(auto)]
 
 ghost use Rattle.std.specs.Prelude.{◌≡◌};

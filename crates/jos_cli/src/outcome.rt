@@ -26,7 +26,7 @@ pub enum Which {
     Image,
     /// The length of the console's input (`INPUT_MAX`).
     Input,
-    /// The frames, which are too few to boot the images.
+    /// The frames, which are too few to boot the images or the program.
     Boot,
     /// The number of a disk's blocks that the words give (`MINBLOCKS`, `MAXBLOCKS`).
     Blocks,
@@ -51,7 +51,7 @@ pub enum Outcome {
     BadSchedule(ScheduleFault),
     /// The file that this word names is no image, with the fault that it has.
     BadImage(usize, ElfFault),
-    /// A call of the host failed.
+    /// A call of the host failed. Under `run`, what was done before it is told.
     HostFault(Stopped),
     /// There was no memory to begin with.
     NoMemory,

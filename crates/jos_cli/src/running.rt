@@ -9,7 +9,8 @@ ghost use Rattle.jos_elf.specs.Parsed.{parsed};
 ghost use Rattle.jos_cli.specs.Commands.{image_word};
 ghost use Rattle.jos_cli.specs.Found.{FileAt, IsFileAt, IsInput};
 ghost use Rattle.jos_cli.specs.Kinds.{kind_of};
-ghost use Rattle.jos_cli.specs.RunAnswers.{RunFound, IsRunFound, program_of, RunsAs, AnswersInput, AnswersImage, AnswersFiles, AnswersRun};
+ghost use Rattle.jos_cli.specs.RunAnswers.{RunFound, IsRunFound, program_of, RunsAs};
+ghost use Rattle.jos_cli.specs.RunAnswers.{AnswersInput, AnswersImage, AnswersFiles, AnswersRun};
 ghost use Rattle.jos_cli.specs.Outcomes.{HasRunCauseOf, LeavesInputBy};
 ghost use Rattle.jos_cli.specs.Stages.{IsBooted, MayRun};
 ghost use Rattle.jos_cli.specs.FilesAsked.{AsksFor, read_calls, run_calls};
@@ -43,7 +44,7 @@ fn image_word<'a>(words: &RunWords<'a>) -> WordAt<'a>
     }
 }
 
-/// Runs the program of an image, with the console's input.
+/// Runs the program of an image, with its words as texts and the console's input.
 fn run_loaded<H: Host>(
     alloc: Global,
     words: &RunWords,
@@ -56,8 +57,8 @@ fn run_loaded<H: Host>(
     requires may { MayRun (run_in_bytes words.now) (map (λ w. w.now) texts.now) }
     requires read { parsed read.now.1.items ≡ Ok read.now.0 }
     requires small { length read.now.1.items ≤ IMAGE_MAX }
-    ensures told { RunsAs (program_of (run_in_bytes words.now) schedule (record { image = read.now.0; file = read.now.1.items }) input.items)
-        (kind_of result) (around H.console host.old host.new) }
+    ensures told { RunsAs (program_of (run_in_bytes words.now) schedule
+        (record { image = read.now.0; file = read.now.1.items }) input.items) (kind_of result) (around H.console host.old host.new) }
     ensures rest { Unchanged H.files H.input H.asked H.notes host.old host.new }
     ensures cause { HasRunCauseOf (around H.faults host.old host.new) (kind_of result) }
     ensures kind { IsBooted result }
@@ -79,7 +80,7 @@ fn run_loaded<H: Host>(
     }
 }
 
-/// Runs the program of an image that was read.
+/// Runs the program of an image that was read with the bytes of its file.
 fn run_image<H: Host>(
     alloc: Global,
     words: &RunWords,
@@ -116,8 +117,8 @@ fn run_named<H: Host>(
     host: &mut H,
 ) -> Outcome
     requires may { MayRun (run_in_bytes words.now) (map (λ w. w.now) texts.now) }
-    ensures told { (image : FileAt) × (input : List ℕ) × IsFileAt (H.files host.old) (image_word (run_in_bytes words.now).words) image
-        × IsInput (H.input host.old) input
+    ensures told { (image : FileAt) × (input : List ℕ)
+        × IsFileAt (H.files host.old) (image_word (run_in_bytes words.now).words) image × IsInput (H.input host.old) input
         × AnswersImage (run_in_bytes words.now) schedule image input (kind_of result) (around H.console host.old host.new) }
     ensures files { H.files host.new ≡ H.files host.old }
     ensures notes { H.notes host.new ≡ H.notes host.old }

@@ -10,6 +10,7 @@ use std::test::Fail;
 
 mod calls;
 mod disk_commands;
+mod run_programs;
 mod run_words;
 
 // The headers of a file whose one segment is the 32-bit words behind them at 0x00800020, where it starts.

@@ -9,7 +9,7 @@ use Rattle.jos_cli.specs.FilesAsked.{run_calls}
 use Rattle.jos_cli.proofs.Asking.{asks_none}
 use Rattle.jos_cli.proofs.Finding.{some_run_found, some_input}
 use Rattle.jos_cli.proofs.Leaving.{left_run_words, none_left}
-use Rattle.jos_cli.proofs.RunAnswered.{files_stage, words_stage, then_refused, then_on}
+use Rattle.jos_cli.proofs.RunAnswered.{words_stage, then_refused, then_on}
 use Rattle.jos_cli.proofs.running.answer_run.Goals as goal
 
 pub returns-in_default-clause-told : goal.returns-in_default-clause-told
@@ -32,7 +32,7 @@ returns-in-Some-clause-told g c =
       input.0,
       found.1,
       input.1,
-      then_refused (within (limit_of_run r)) (λ _. AnswersFiles r found.0 input.0) (λ _. files_stage r found.0 input.0)
+      then_refused (within (limit_of_run r)) (λ _. AnswersFiles r found.0 input.0) (words_stage r found.0 input.0)
           (around g.H.Host.faults c.args.host.now c.args.host.now) (answered (limit c.in-Some.which)) (around g.H.Host.console c.args.host.now c.args.host.now)
           (ap within (sym c.in-Some.ensures.limit)) refl refl,
     )

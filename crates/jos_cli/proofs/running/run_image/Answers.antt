@@ -4,7 +4,7 @@ use Rattle.jos_cli.specs.Answer.{input_of}
 use Rattle.jos_cli.specs.Kinds.{kind_of}
 use Rattle.jos_cli.specs.RunAnswers.{program_of, RunsAs}
 use Rattle.jos_cli.proofs.Leaving.{left_booted}
-use Rattle.jos_cli.proofs.RunAnswered.{run_stage, then_refused, then_on}
+use Rattle.jos_cli.proofs.RunAnswered.{input_stage, then_refused, then_on}
 use Rattle.jos_cli.proofs.Tops.{run_cause}
 use Rattle.jos_cli.proofs.running.run_image.Goals as goal
 
@@ -28,7 +28,7 @@ returns-in-Err-clause-told g c =
       told.0,
       told.1,
       then_refused (input_of told.0) (λ bytes. RunsAs (program_of r c.args.schedule (record { image = read.0; file = read.1.items }) bytes))
-          (λ bytes. run_stage (program_of r c.args.schedule (record { image = read.0; file = read.1.items }) bytes))
+          (input_stage r c.args.schedule (record { image = read.0; file = read.1.items }) told.0)
           (around g.H.Host.faults c.args.host.now c.read_input.new.host) (kind_of c.in-Err.outcome)
           (around g.H.Host.console c.args.host.now c.read_input.new.host) told.2 c.in-Err.ensures.cause c.in-Err.ensures.rest.third,
     )

@@ -10,7 +10,7 @@ use Rattle.jos_cli.specs.RunAnswers.{AnswersInput}
 use Rattle.jos_cli.proofs.Asking.{asks_all}
 use Rattle.jos_cli.proofs.Finding.{some_input}
 use Rattle.jos_cli.proofs.Leaving.{left_unread, unread_no_usage}
-use Rattle.jos_cli.proofs.RunAnswered.{input_stage, then_refused, then_on}
+use Rattle.jos_cli.proofs.RunAnswered.{image_stage, then_refused, then_on}
 use Rattle.jos_cli.proofs.Tops.{run_cause}
 use Rattle.jos_cli.proofs.running.run_named.Goals as goal
 
@@ -33,7 +33,7 @@ returns-in-Err-clause-told g c =
       read.1,
       input.1,
       then_refused (image_of read.0) (λ loadable. AnswersInput (run_in_bytes c.args.words.now) c.args.schedule loadable input.0)
-          (λ loadable. input_stage (run_in_bytes c.args.words.now) c.args.schedule loadable input.0)
+          (image_stage (run_in_bytes c.args.words.now) c.args.schedule read.0 input.0)
           (around g.H.Host.faults c.args.host.now c.read_image.new.host) (kind_of c.in-Err.outcome)
           (around g.H.Host.console c.args.host.now c.read_image.new.host) read.2 c.in-Err.ensures.cause c.in-Err.ensures.rest.third,
     )

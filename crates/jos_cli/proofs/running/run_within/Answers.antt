@@ -8,7 +8,7 @@ use Rattle.jos_cli.specs.FilesAsked.{schedule_calls, read_calls}
 use Rattle.jos_cli.proofs.Asking.{asks_then, asks_first}
 use Rattle.jos_cli.proofs.Finding.{run_found, some_file, some_input}
 use Rattle.jos_cli.proofs.Leaving.{left_unread, unread_no_usage}
-use Rattle.jos_cli.proofs.RunAnswered.{image_stage, then_refused, then_on}
+use Rattle.jos_cli.proofs.RunAnswered.{files_stage, then_refused, then_on}
 use Rattle.jos_cli.proofs.Tops.{run_cause}
 use Rattle.jos_cli.proofs.running.run_within.Goals as goal
 
@@ -35,7 +35,7 @@ returns-in-Err-clause-told g c =
       input.0,
       run_found (g.H.Host.files c.args.host.now) r read.0 image.0 read.1 image.1,
       input.1,
-      then_refused (schedule_of read.0) (λ schedule. AnswersImage r schedule image.0 input.0) (λ schedule. image_stage r schedule image.0 input.0)
+      then_refused (schedule_of read.0) (λ schedule. AnswersImage r schedule image.0 input.0) (files_stage r (record { schedule = read.0; image = image.0 }) input.0)
           (around g.H.Host.faults c.args.host.now c.read_schedule.new.host) (kind_of c.in-Err.outcome)
           (around g.H.Host.console c.args.host.now c.read_schedule.new.host) read.2 c.in-Err.ensures.cause c.in-Err.ensures.rest.third,
     )
