@@ -1,6 +1,6 @@
 //! Programs under the library.
 
-use super::{Ending, ask, ending_of, holds, host_of, image, same_ending, same_status};
+use super::{Ending, ask, ending_of, holds, host_of, image, same_bytes, same_ending, same_status};
 use crate::outcome::{Outcome, Refusal};
 use jos_host::MemHost;
 use std::alloc::{AllocError, Global};
@@ -68,7 +68,7 @@ fn check_status(
     let mut host = host_with(alloc, code, schedule, &[])?;
     let outcome = ask(alloc, &["run", "--schedule", "s", "h"], &mut host);
     same_status(rt, outcome.status(), wanted.status, wanted.notes);
-    super::same_bytes(rt, host.console(), wanted.console, wanted.notes);
+    same_bytes(rt, host.console(), wanted.console, wanted.notes);
     Ok(())
 }
 
@@ -146,6 +146,26 @@ fn check_failure(
 fn a_call_that_fails_in_a_run_leaves_its_turns(rt: HostRuntime) -> Result<(), Fail> {
     for (call, turns) in [(0, 0), (1, 0), (2, 0), (3, 1), (4, 1)] {
         check_failure(&rt, rt.alloc(), call, turns)?;
+    }
+    Ok(())
+}
+
+/// Writes the example program, and runs it under a schedule.
+fn check_example(rt: &impl Abort, alloc: Global, schedule: &[u8]) -> Result<(), AllocError> {
+    let schedule = Vec::from_slice(alloc, schedule)?;
+    let mut host = host_of(alloc, &[("s", &schedule)], b"", &[])?;
+    let made = ask(alloc, &["demo", "hello", "h"], &mut host);
+    same_status(rt, made.status(), 0, "demo");
+    let outcome = ask(alloc, &["run", "--schedule", "s", "h"], &mut host);
+    same_status(rt, outcome.status(), 0, "run");
+    same_bytes(rt, host.console(), b"hello\n", "run");
+    Ok(())
+}
+
+#[test]
+fn the_example_program_prints_its_line(rt: HostRuntime) -> Result<(), Fail> {
+    for schedule in &SCHEDULES {
+        check_example(&rt, rt.alloc(), schedule)?;
     }
     Ok(())
 }
