@@ -70,7 +70,8 @@ fn a_program_begins_with_its_words(rt: HostRuntime) -> Result<(), Fail> {
     assert_eq!(rt; program.registers.eip, UTEXT + 4);
     assert_eq!(rt; program.registers.esp, ESP);
     assert_eq!(rt; program.registers.eflags, 0x202);
-    let served = Served::new(system, Input::new(Vec::new(rt.alloc())), 1);
+    let mut served = Served::new(system, Input::new(Vec::new(rt.alloc())));
+    served.serve(1);
     if !served.is_live() {
         return Err(Fail::new("no program"));
     }
