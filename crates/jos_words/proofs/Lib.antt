@@ -10,3 +10,4 @@ pub mod DemoForm
 pub mod MkfsForm
 pub mod LsForm
 pub mod CatForm
+pub mod Refused

@@ -1,7 +1,8 @@
 -- The commands as clap is told of them. (The kit's clap, 4.)
-use Rattle.std.specs.Prelude.{ℕ, Bool, List, [], ◌∷◌, ◌++◌, Some, true, codes, map}
+use Rattle.std.specs.Prelude.{◌≡◌, ◌⊎◌, ℕ, Bool, List, [], ◌∷◌, ◌++◌, Some, None, true, false, codes, map, drop}
 use Rattle.clap.specs.Words.{App, Rule, new_app, new_rule, takes}
 use Rattle.clap.specs.declared.builder.action.ArgAction.TheVariants.{Append}
+use Rattle.jos_words.specs.Arguments.{arguments_of}
 use Rattle.jos_words.specs.Commands.{running_options}
 
 -- an option `--name`, which takes one value
@@ -49,3 +50,7 @@ cat_app = app_with (codes "cat") (required_rule (codes "disk") ∷ required_rule
 -- clap takes these words, the first of which is the command's name
 unfoldable pub clap_takes : App → List (List ℕ) → Bool
 clap_takes app words = takes app words
+
+-- Clap refuses the words, or those behind the name are no arguments with these options.
+abbrev pub AreRefused : App → List (List ℕ) → List (List ℕ) → Type 0
+AreRefused app names words = (clap_takes app words ≡ false) ⊎ (arguments_of names (drop 1 words) ≡ None)

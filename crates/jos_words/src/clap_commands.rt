@@ -1,12 +1,13 @@
 //! The commands as clap is told of them.
 
-ghost use Rattle.std.specs.Prelude.{◌≡◌, IfOk, IfErr, map, true, false};
+ghost use Rattle.std.specs.Prelude.{◌≡◌, ◌<◌, IfOk, IfErr, Some, drop, length, map, true, false};
 ghost use Rattle.clap.specs.Words.{app_of, rule_of};
 ghost use Rattle.jos_words.specs.declared.words.WordsFault.TheVariants.{Usage};
-ghost use Rattle.jos_words.specs.Arguments.{texts};
+ghost use Rattle.jos_words.specs.Arguments.{arguments_in_bytes, arguments_of, texts};
 ghost use Rattle.jos_words.specs.ClapCommands.{option_rule, required_rule, optional_rule, repeated_rule, optional_repeated_rule};
-ghost use Rattle.jos_words.specs.ClapCommands.{app_with, running_app, demo_app, mkfs_app, ls_app, cat_app, clap_takes};
+ghost use Rattle.jos_words.specs.ClapCommands.{app_with, running_app, demo_app, mkfs_app, ls_app, cat_app, clap_takes, AreRefused};
 
+use crate::arguments::{Arguments, read_arguments};
 use crate::commands::RUNNING_OPTIONS;
 use crate::words::WordsFault;
 use clap::error::ErrorKind;
@@ -117,7 +118,7 @@ pub(crate) fn cat_command<'a>(alloc: Global) -> Result<Command<'a>, AllocError>
 }
 
 /// Has clap take the words, the first of which is the command's name.
-pub(crate) fn ask_clap<'a>(command: Command<'a>, words: &'a [&'a str]) -> Result<(), WordsFault>
+fn ask_clap<'a>(command: Command<'a>, words: &'a [&'a str]) -> Result<(), WordsFault>
     ensures usage { IfErr result (λ fault. fault ≡ Usage → clap_takes (app_of command.entry) (texts words.now) ≡ false) }
 {
     match command.try_get_matches_from(words) {
@@ -127,4 +128,19 @@ pub(crate) fn ask_clap<'a>(command: Command<'a>, words: &'a [&'a str]) -> Result
             _ => Err(WordsFault::Usage),
         },
     }
+}
+
+/// The arguments of a command, whose options have these names, where clap takes its words.
+pub(crate) fn take_arguments<'a>(
+    alloc: Global,
+    command: Command<'a>,
+    names: &[&str],
+    words: &'a [&'a str],
+) -> Result<Arguments<'a>, WordsFault>
+    requires { 0 < length words.now }
+    ensures ok { IfOk result (λ read. arguments_of (texts names.now) (drop 1 (texts words.now)) ≡ Some (arguments_in_bytes read)) }
+    ensures usage { IfErr result (λ fault. fault ≡ Usage → AreRefused (app_of command.entry) (texts names.now) (texts words.now)) }
+{
+    ask_clap(command, words)?;
+    read_arguments(alloc, names, words)
 }

@@ -7,9 +7,9 @@ ghost use Rattle.jos_words.specs.Commands.{number_in, number_at, exo_of, exo_wor
 ghost use Rattle.jos_words.specs.Commands.{mkfs_of, mkfs_words, ls_of, ls_words, cat_of, cat_words, command_of};
 ghost use Rattle.jos_words.specs.Commands.{exo_in_bytes, run_in_bytes, demo_in_bytes, mkfs_in_bytes, ls_in_bytes, cat_in_bytes, in_bytes};
 
-use crate::arguments::{Arguments, read_arguments, value_of};
+use crate::arguments::{Arguments, value_of};
 use crate::clap_commands::{
-    ask_clap, cat_command, demo_command, ls_command, mkfs_command, running_command,
+    cat_command, demo_command, ls_command, mkfs_command, running_command, take_arguments,
 };
 use crate::values::{NumberAt, number_of};
 use crate::words::{WordAt, WordsFault};
@@ -224,12 +224,8 @@ fn read_exo<'a>(alloc: Global, words: &'a [&'a str]) -> Result<ExoWords<'a>, Wor
     ensures usage { IfErr result (λ fault. fault ≡ Usage → exo_words (drop 1 (texts words.now)) ≡ None) }
 {
     let command = running_command(alloc, "exo")?;
-    ask_clap(command, words)?;
-    let arguments = read_arguments(alloc, &RUNNING_OPTIONS, words)?;
-    match exo_of(arguments) {
-        Some(read) => Ok(read),
-        None => Err(WordsFault::Usage),
-    }
+    let arguments = take_arguments(alloc, command, &RUNNING_OPTIONS, words)?;
+    exo_of(arguments).ok_or(WordsFault::Usage)
 }
 
 /// Reads the words of `run`, the first of which is its name.
@@ -239,12 +235,8 @@ fn read_run<'a>(alloc: Global, words: &'a [&'a str]) -> Result<RunWords<'a>, Wor
     ensures usage { IfErr result (λ fault. fault ≡ Usage → run_words (drop 1 (texts words.now)) ≡ None) }
 {
     let command = running_command(alloc, "run")?;
-    ask_clap(command, words)?;
-    let arguments = read_arguments(alloc, &RUNNING_OPTIONS, words)?;
-    match run_of(arguments) {
-        Some(read) => Ok(read),
-        None => Err(WordsFault::Usage),
-    }
+    let arguments = take_arguments(alloc, command, &RUNNING_OPTIONS, words)?;
+    run_of(arguments).ok_or(WordsFault::Usage)
 }
 
 /// Reads the words of `demo`, the first of which is its name.
@@ -254,12 +246,8 @@ fn read_demo<'a>(alloc: Global, words: &'a [&'a str]) -> Result<DemoWords<'a>, W
     ensures usage { IfErr result (λ fault. fault ≡ Usage → demo_words (drop 1 (texts words.now)) ≡ None) }
 {
     let command = demo_command(alloc)?;
-    ask_clap(command, words)?;
-    let arguments = read_arguments(alloc, &[], words)?;
-    match demo_of(arguments) {
-        Some(read) => Ok(read),
-        None => Err(WordsFault::Usage),
-    }
+    let arguments = take_arguments(alloc, command, &[], words)?;
+    demo_of(arguments).ok_or(WordsFault::Usage)
 }
 
 /// Reads the words of `mkfs`, the first of which is its name.
@@ -269,12 +257,8 @@ fn read_mkfs<'a>(alloc: Global, words: &'a [&'a str]) -> Result<MkfsWords<'a>, W
     ensures usage { IfErr result (λ fault. fault ≡ Usage → mkfs_words (drop 1 (texts words.now)) ≡ None) }
 {
     let command = mkfs_command(alloc)?;
-    ask_clap(command, words)?;
-    let arguments = read_arguments(alloc, &[], words)?;
-    match mkfs_of(arguments) {
-        Some(read) => Ok(read),
-        None => Err(WordsFault::Usage),
-    }
+    let arguments = take_arguments(alloc, command, &[], words)?;
+    mkfs_of(arguments).ok_or(WordsFault::Usage)
 }
 
 /// Reads the words of `ls`, the first of which is its name.
@@ -284,12 +268,8 @@ fn read_ls<'a>(alloc: Global, words: &'a [&'a str]) -> Result<LsWords<'a>, Words
     ensures usage { IfErr result (λ fault. fault ≡ Usage → ls_words (drop 1 (texts words.now)) ≡ None) }
 {
     let command = ls_command(alloc)?;
-    ask_clap(command, words)?;
-    let arguments = read_arguments(alloc, &[], words)?;
-    match ls_of(arguments) {
-        Some(read) => Ok(read),
-        None => Err(WordsFault::Usage),
-    }
+    let arguments = take_arguments(alloc, command, &[], words)?;
+    ls_of(arguments).ok_or(WordsFault::Usage)
 }
 
 /// Reads the words of `cat`, the first of which is its name.
@@ -299,12 +279,8 @@ fn read_cat<'a>(alloc: Global, words: &'a [&'a str]) -> Result<CatWords<'a>, Wor
     ensures usage { IfErr result (λ fault. fault ≡ Usage → cat_words (drop 1 (texts words.now)) ≡ None) }
 {
     let command = cat_command(alloc)?;
-    ask_clap(command, words)?;
-    let arguments = read_arguments(alloc, &[], words)?;
-    match cat_of(arguments) {
-        Some(read) => Ok(read),
-        None => Err(WordsFault::Usage),
-    }
+    let arguments = take_arguments(alloc, command, &[], words)?;
+    cat_of(arguments).ok_or(WordsFault::Usage)
 }
 
 /// The command that the words are: `Usage` exactly where they are none, unless there is no memory to read them.
