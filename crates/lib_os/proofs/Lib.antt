@@ -5,6 +5,7 @@ pub mod WordsTell
 pub mod BuiltServices
 pub mod Serving
 pub mod Answering
+pub mod TwoSlots
 pub mod SomeState
 pub mod Puts
 pub mod Counts

@@ -1,26 +1,22 @@
 -- A state of the kernel with a server and one environment, which has one page of its own, and the abstract state that it
 -- stands for.
-use Rattle.std.proofs.Common.{◌≡◌, ◌∙◌, ℕ, ◌≢◌, ◌%◌, ◌==◌, ◌&&◌, ◌⊎◌, inl, inr, Bool, true, false, [], Option, Some, None, refl, sym, ap, subst, arith, if◌then◌else◌}
+use Rattle.std.proofs.Common.{◌≡◌, ◌∙◌, ℕ, ◌==◌, ◌&&◌, Bool, true, false, [], Option, Some, None, refl, sym, ap, arith, if◌then◌else◌}
 use Rattle.std.specs.Prelude.{is_some}
 use Rattle.std.specs.Option.{option_map}
 use Rattle.std.proofs.lemmas.Bool.{false≢true}
 use Rattle.std.proofs.lemmas.Bool.Decides.{nat_tests}
-use Rattle.jos_base.specs.declared.environment.EnvType.TheVariants.{User, FileServer}
-use Rattle.jos_base.specs.declared.environment.Status.TheVariants.{Runnable, NotRunnable}
-use Rattle.jos_base.specs.declared.numbers.TheConstants.{NENV}
 use Rattle.jos_base.specs.declared.registers.Regs.{Regs}
 use Rattle.jos_base.specs.Counting.{frame_limit, page_limit}
-use Rattle.jos_base.specs.Environments.{Slot as KernelSlot, Environments, free_slot, zero_registers, no_extra, is_live, is_running}
-use Rattle.jos_base.specs.KernelState.{KernelState, HasSpaces}
+use Rattle.jos_base.specs.Environments.{zero_registers}
+use Rattle.jos_base.specs.KernelState.{KernelState}
 use Rattle.jos_base.specs.Reach.{Entry}
 use Rattle.jos_base.specs.SpacesState.{SpacesState, Use, reserved, directory, table, page, Region, zero_page, directories, is_directory}
 use Rattle.fs_layout.specs.FileTree.{a_directory, no_more}
-use Rattle.lib_os.specs.AbstractState.{AbstractState, Born, Slot, free, born, serving, Page, own, guest, at_guest, idle, terminal}
+use Rattle.lib_os.specs.AbstractState.{AbstractState, Born, Page, own, guest, at_guest, idle, terminal}
 use Rattle.lib_os.specs.InOrder.{HasOneUse}
-use Rattle.lib_os.specs.declared.place.Place.{Place}
 use Rattle.lib_os.specs.StandingLaws.{SomeStateStands}
-use Rattle.lib_os.specs.StandsFor.{StandsFor, Names, rows_of, StandsForSlot, StandsForServer, StandsForBorn, StandsAt, lasting, page_seen, page_by, is_shared, IsTabled}
-use Rattle.lib_os.proofs.Serving.{words_of_none}
+use Rattle.lib_os.specs.StandsFor.{StandsFor, Names, rows_of, StandsForBorn, lasting, page_seen, page_by, is_shared}
+use Rattle.lib_os.proofs.TwoSlots.{slot_of, the_program, slots, at_start, server_stands, slot_stands, are_tabled, have_spaces}
 
 -- ---- the spaces
 
@@ -105,27 +101,15 @@ one_use = record {
   free_list = tt;
 }
 
--- ---- the kernel's slots
-
-abbrev the_server : KernelSlot
-the_server = record (free_slot 0x1000) { env_type = FileServer; status = NotRunnable; directory = 20 }
+-- ---- the kernel's state
 
 abbrev the_registers : Regs
 the_registers = record zero_registers { esp = 0xeebfe000; eip = 0x00800020; eflags = 0x202 }
 
-abbrev the_environment : KernelSlot
-the_environment = record (free_slot 0x1001) { status = Runnable; registers = the_registers; directory = 21 }
-
-abbrev slot_by : ℕ → KernelSlot
-slot_by n = if n == 0 then the_server else if n == 1 then the_environment else free_slot 0
-
-abbrev environments : Environments
-environments = record { slots = slot_by; free_slots = [] }
-
 abbrev the_state : KernelState
 the_state = record {
   spaces = spaces;
-  environments = environments;
+  environments = record { slots = slots 20 21 the_registers; free_slots = [] };
   input = [];
   last = None;
   turns = 0;
@@ -147,12 +131,9 @@ the_born = record {
   blocked = false;
 }
 
-abbrev abstract_slot : ℕ → Slot
-abstract_slot n = if n == 0 then serving 0x1000 else if n == 1 then born the_born else free 0
-
 abbrev the_abstract : AbstractState
 the_abstract = record {
-  slots = abstract_slot;
+  slots = slot_of the_born;
   free_slots = [];
   shared = λ name. [];
   objects = λ name. terminal;
@@ -170,29 +151,7 @@ the_abstract = record {
 abbrev the_names : Names
 the_names = record { name = λ f. f; frame = λ name. name }
 
--- ---- each stands for the other
-
--- every slot is one of three
-data WhichSlot (n : ℕ) : Type 0 where
-  first : n ≡ 0 → WhichSlot n
-  second : n ≡ 1 → WhichSlot n
-  unused : (n == 0) ≡ false → (n == 1) ≡ false → WhichSlot n
-
-which_slot : (n : ℕ) → WhichSlot n
-which_slot n = by_tests (n == 0) (n == 1) refl refl
-  where
-    by_tests : (t u : Bool) → (n == 0) ≡ t → (n == 1) ≡ u → WhichSlot n
-    by_tests true u is_first is_second = first (grind (arith, nat_tests))
-    by_tests false true is_first is_second = second (grind (arith, nat_tests))
-    by_tests false false is_first is_second = unused is_first is_second
-
-live_slots : (n : ℕ) → is_live (slot_by n) ≡ true → ((n ≡ 0) × ((slot_by n).directory ≡ 20)) ⊎ ((n ≡ 1) × ((slot_by n).directory ≡ 21))
-live_slots n live = by_slot (which_slot n)
-  where
-    by_slot : WhichSlot n → ((n ≡ 0) × ((slot_by n).directory ≡ 20)) ⊎ ((n ≡ 1) × ((slot_by n).directory ≡ 21))
-    by_slot (first is) = inl (is, rw is refl)
-    by_slot (second is) = inr (is, rw is refl)
-    by_slot (unused a b) = absurd (false≢true (sym (ap (λ (k : KernelSlot). is_live k) (let e : slot_by n ≡ free_slot 0 = rw (a, b) refl in e)) ∙ live))
+-- ---- one stands for the other
 
 abbrev seen_by : Bool → Option Page
 seen_by t = option_map (page_by the_names spaces.pages) (option_map lasting (entries_by t))
@@ -216,7 +175,7 @@ no_page : (p : ℕ) → rows_of spaces 20 p ≡ None
 unfolding rows_of
 no_page p = refl
 
-born_stands : StandsForBorn the_names spaces the_environment the_born
+born_stands : StandsForBorn the_names spaces (the_program 20 21 the_registers) the_born
 born_stands = record {
   id = refl;
   id_small = omega arith;
@@ -228,35 +187,8 @@ born_stands = record {
   memory = page_stands;
   regions = region_stands;
   stack = refl;
-  at = subst (λ (p : Place). StandsAt p (rows_of spaces 21) the_environment the_born) (sym (words_of_none the_registers no_extra refl))
-      (record {
-        program = refl;
-        phase = refl;
-        words = refl;
-        silent = refl;
-        awake = refl;
-      });
+  at = at_start 20 21 the_registers (rows_of spaces 21) the_born refl refl refl;
 }
-
-server_stands : StandsForServer spaces the_server 0x1000
-server_stands = record {
-  first = refl;
-  id_is = refl;
-  env_type = refl;
-  status = refl;
-  silent = refl;
-  words = refl;
-  empty = no_page;
-  tables = λ r. refl;
-}
-
-slot_stands : (n : ℕ) → StandsForSlot the_names spaces (slot_by n) (abstract_slot n)
-slot_stands n = by_slot (which_slot n)
-  where
-    by_slot : WhichSlot n → StandsForSlot the_names spaces (slot_by n) (abstract_slot n)
-    by_slot (first is) = subst (λ (m : ℕ). StandsForSlot the_names spaces (slot_by m) (abstract_slot m)) (sym is) server_stands
-    by_slot (second is) = subst (λ (m : ℕ). StandsForSlot the_names spaces (slot_by m) (abstract_slot m)) (sym is) born_stands
-    by_slot (unused a b) = rw (a, b) refl
 
 row_is : (d p : ℕ) (x : Entry) → rows_of spaces d p ≡ Some x → IsTheEntry d p x
 unfolding rows_of
@@ -278,54 +210,10 @@ no_directory d a b = rw (a, b) (by_tests (d == 22) (d == 23))
     by_tests false true = refl
     by_tests false false = refl
 
-have_spaces : HasSpaces spaces environments
-have_spaces = record {
-  in_use = λ n live. by_live n (live_slots n live);
-  apart = λ n m live lives same. together (live_slots n live) (live_slots m lives) same;
-  owned = λ d is. owner d is;
-}
-  where
-    by_live : (n : ℕ) → ((n ≡ 0) × ((slot_by n).directory ≡ 20)) ⊎ ((n ≡ 1) × ((slot_by n).directory ≡ 21)) →
-        directories spaces (slot_by n).directory ≡ true
-    by_live n (inl is) = rw is.1 refl
-    by_live n (inr is) = rw is.1 refl
-
-    together : {n m : ℕ} → ((n ≡ 0) × ((slot_by n).directory ≡ 20)) ⊎ ((n ≡ 1) × ((slot_by n).directory ≡ 21)) →
-        ((m ≡ 0) × ((slot_by m).directory ≡ 20)) ⊎ ((m ≡ 1) × ((slot_by m).directory ≡ 21)) →
-        (slot_by n).directory ≡ (slot_by m).directory → n ≡ m
-    together (inl a) (inl b) same = a.0 ∙ sym b.0
-    together (inr a) (inr b) same = a.0 ∙ sym b.0
-    together (inl a) (inr b) same = absurd (let e : 20 ≡ 21 = sym a.1 ∙ same ∙ b.1 in omega (arith, e))
-    together (inr a) (inl b) same = absurd (let e : 21 ≡ 20 = sym a.1 ∙ same ∙ b.1 in omega (arith, e))
-
-    owner : (d : ℕ) → directories spaces d ≡ true → (n : ℕ) × (is_live (slot_by n) ≡ true) × ((slot_by n).directory ≡ d)
-    owner d is = by_tests (d == 20) (d == 21) refl refl
-      where
-        by_tests : (t u : Bool) → (d == 20) ≡ t → (d == 21) ≡ u → (n : ℕ) × (is_live (slot_by n) ≡ true) × ((slot_by n).directory ≡ d)
-        by_tests true u a b = (0, refl, grind (arith, nat_tests))
-        by_tests false true a b = (1, refl, grind (arith, nat_tests))
-        by_tests false false a b = absurd (false≢true (sym (no_directory d a b) ∙ is))
-
-are_tabled : IsTabled slot_by None
-are_tabled = record {
-  ids = λ n live. (at_slot n).0 live;
-  servers = λ n other. (at_slot n).1 other;
-  running = λ n runs. (at_slot n).2 runs;
-}
-  where
-    at_slot : (n : ℕ) → (is_live (slot_by n) ≡ true → (slot_by n).id % NENV ≡ n) × (n ≢ 0 → (slot_by n).env_type ≡ User)
-        × (is_running (slot_by n).status ≡ true → None ≡ Some n)
-    at_slot n = by_slot (which_slot n)
-      where
-        by_slot : WhichSlot n → (is_live (slot_by n) ≡ true → (slot_by n).id % NENV ≡ n) × (n ≢ 0 → (slot_by n).env_type ≡ User)
-            × (is_running (slot_by n).status ≡ true → None ≡ Some n)
-        by_slot (first is) = rw is ((λ live. refl), (λ other. absurd (other refl)), (λ runs. absurd (false≢true runs)))
-        by_slot (second is) = rw is ((λ live. refl), (λ other. refl), (λ runs. absurd (false≢true runs)))
-        by_slot (unused a b) = rw (a, b) ((λ live. absurd (false≢true live)), (λ other. refl), (λ runs. absurd (false≢true runs)))
-
 some_stands : StandsFor the_names the_state the_abstract
 some_stands = record {
-  slots = slot_stands;
+  slots = slot_stands 20 21 the_registers the_names spaces the_born
+      (server_stands 20 21 the_registers spaces no_page (λ r. refl)) born_stands;
   apart = λ d p e q x y ne is js same. let a = row_is d p x is in let b = row_is e q y js in
       absurd (ne (a.d_is ∙ sym b.d_is) (a.p_is ∙ sym b.p_is));
   named = λ d p x is shared. let a = row_is d p x is in
@@ -337,8 +225,11 @@ some_stands = record {
   input = refl;
   last = refl;
   turns = refl;
-  tabled = are_tabled;
-  in_order = record { frames = one_use; spaces = have_spaces };
+  tabled = are_tabled 20 21 the_registers None;
+  in_order = record {
+    frames = one_use;
+    spaces = have_spaces 20 21 the_registers spaces refl refl (λ same. omega (arith, same)) no_directory [];
+  };
 }
 
 pub some_state_stands : SomeStateStands

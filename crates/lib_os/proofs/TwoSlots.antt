@@ -1,0 +1,130 @@
+-- A kernel in which the server stands in slot 0 and a program at its first instruction in slot 1, and no other environment.
+use Rattle.std.proofs.Common.{◌≡◌, ◌≢◌, ◌∙◌, ◌⊎◌, inl, inr, ◌%◌, ◌==◌, ℕ, Bool, true, false, List, Option, None}
+use Rattle.std.proofs.Common.{refl, sym, ap, subst, arith, if◌then◌else◌}
+use Rattle.std.proofs.lemmas.Bool.{false≢true}
+use Rattle.std.proofs.lemmas.Bool.Decides.{nat_tests}
+use Rattle.jos_base.specs.declared.environment.EnvType.TheVariants.{User, FileServer}
+use Rattle.jos_base.specs.declared.environment.Status.TheVariants.{Runnable, NotRunnable}
+use Rattle.jos_base.specs.declared.numbers.TheConstants.{NENV}
+use Rattle.jos_base.specs.declared.registers.Regs.{Regs}
+use Rattle.jos_base.specs.Environments.{Slot as KernelSlot, free_slot, no_extra, is_live, is_running}
+use Rattle.jos_base.specs.KernelState.{HasSpaces}
+use Rattle.jos_base.specs.SpacesState.{SpacesState, directories}
+use Rattle.lib_os.specs.AbstractState.{Born, Slot, free, born, serving, guest, at_guest}
+use Rattle.lib_os.specs.declared.place.Place.{Place}
+use Rattle.lib_os.specs.Places.{place_of}
+use Rattle.lib_os.specs.StandsFor.{Names, Row, rows_of, StandsForSlot, StandsForServer, StandsForBorn, StandsAt, IsTabled}
+use Rattle.lib_os.proofs.Serving.{words_of_none}
+
+-- every slot is one of three
+data WhichSlot (n : ℕ) : Type 0 where
+  server : n ≡ 0 → WhichSlot n
+  program : n ≡ 1 → WhichSlot n
+  unused : (n == 0) ≡ false → (n == 1) ≡ false → WhichSlot n
+
+which_slot : (n : ℕ) → WhichSlot n
+which_slot n = by_tests (n == 0) (n == 1) refl refl
+  where
+    by_tests : (t u : Bool) → (n == 0) ≡ t → (n == 1) ≡ u → WhichSlot n
+    by_tests true u is_first is_second = server (grind (arith, nat_tests))
+    by_tests false true is_first is_second = program (grind (arith, nat_tests))
+    by_tests false false is_first is_second = unused is_first is_second
+
+-- the abstract system's slots
+abbrev pub slot_of : Born → ℕ → Slot
+slot_of b n = if n == 0 then serving 0x1000 else if n == 1 then born b else free 0
+
+module _ (first second : ℕ) (registers : Regs) where
+  abbrev pub the_server : KernelSlot
+  the_server = record (free_slot 0x1000) { env_type = FileServer; status = NotRunnable; directory = first }
+
+  abbrev pub the_program : KernelSlot
+  the_program = record (free_slot 0x1001) { status = Runnable; registers = registers; directory = second }
+
+  abbrev pub slots : ℕ → KernelSlot
+  slots n = if n == 0 then the_server else if n == 1 then the_program else free_slot 0
+
+  -- what holds of the three holds of each slot
+  pub each_slot : (P : ℕ → KernelSlot → Type 0) → P 0 the_server → P 1 the_program →
+      ((n : ℕ) → (n == 0) ≡ false → (n == 1) ≡ false → P n (free_slot 0)) → (n : ℕ) → P n (slots n)
+  each_slot P one two rest n = by_slot (which_slot n)
+    where
+      by_slot : WhichSlot n → P n (slots n)
+      by_slot (server is) = subst (λ (m : ℕ). P m (slots m)) (sym is) one
+      by_slot (program is) = subst (λ (m : ℕ). P m (slots m)) (sym is) two
+      by_slot (unused a b) = subst (P n) (sym (let e : slots n ≡ free_slot 0 = rw (a, b) refl in e)) (rest n a b)
+
+  pub none_runs : (n : ℕ) → is_running (slots n).status ≡ false
+  none_runs = each_slot (λ n k. is_running k.status ≡ false) refl refl (λ n a b. refl)
+
+  pub are_tabled : (last : Option ℕ) → IsTabled slots last
+  are_tabled last = record {
+    ids = each_slot (λ n k. is_live k ≡ true → k.id % NENV ≡ n) (λ live. refl) (λ live. refl)
+        (λ n a b live. absurd (false≢true live));
+    servers = each_slot (λ n k. n ≢ 0 → k.env_type ≡ User) (λ other. absurd (other refl)) (λ other. refl) (λ n a b other. refl);
+    running = λ n runs. absurd (false≢true (sym (none_runs n) ∙ runs));
+  }
+
+  -- ---- the spaces
+
+  module _ (spaces : SpacesState) (one : directories spaces first ≡ true) (two : directories spaces second ≡ true) (other : first ≢ second)
+      (others : (d : ℕ) → (d == first) ≡ false → (d == second) ≡ false → directories spaces d ≡ false) where
+    abbrev WhichLive : ℕ → KernelSlot → Type 0
+    WhichLive n k = ((n ≡ 0) × (k.directory ≡ first)) ⊎ ((n ≡ 1) × (k.directory ≡ second))
+
+    live_slots : (n : ℕ) → is_live (slots n) ≡ true → WhichLive n (slots n)
+    live_slots = each_slot (λ n k. is_live k ≡ true → WhichLive n k) (λ live. inl (refl, refl)) (λ live. inr (refl, refl))
+        (λ n a b live. absurd (false≢true live))
+
+    pub have_spaces : (free_slots : List ℕ) → HasSpaces spaces (record { slots = slots; free_slots = free_slots })
+    have_spaces free_slots = record {
+      in_use = λ n live. by_live n (live_slots n live);
+      apart = λ n m live lives same. together (live_slots n live) (live_slots m lives) same;
+      owned = λ d is. owner d is;
+    }
+      where
+        by_live : (n : ℕ) → WhichLive n (slots n) → directories spaces (slots n).directory ≡ true
+        by_live n (inl is) = ap (directories spaces) is.1 ∙ one
+        by_live n (inr is) = ap (directories spaces) is.1 ∙ two
+
+        together : {n m : ℕ} → WhichLive n (slots n) → WhichLive m (slots m) → (slots n).directory ≡ (slots m).directory → n ≡ m
+        together (inl a) (inl b) same = a.0 ∙ sym b.0
+        together (inr a) (inr b) same = a.0 ∙ sym b.0
+        together (inl a) (inr b) same = absurd (other (sym a.1 ∙ same ∙ b.1))
+        together (inr a) (inl b) same = absurd (other (sym b.1 ∙ sym same ∙ a.1))
+
+        owner : (d : ℕ) → directories spaces d ≡ true → (n : ℕ) × (is_live (slots n) ≡ true) × ((slots n).directory ≡ d)
+        owner d is = by_tests (d == first) (d == second) refl refl
+          where
+            by_tests : (t u : Bool) → (d == first) ≡ t → (d == second) ≡ u →
+                (n : ℕ) × (is_live (slots n) ≡ true) × ((slots n).directory ≡ d)
+            by_tests true u a b = (0, refl, grind (arith, nat_tests))
+            by_tests false true a b = (1, refl, grind (arith, nat_tests))
+            by_tests false false a b = absurd (false≢true (sym (others d a b) ∙ is))
+
+  -- ---- what each slot stands for
+
+  -- the program is at its first instruction
+  pub at_start : (row : Row) (b : Born) → b.program ≡ guest registers → b.phase ≡ at_guest → b.blocked ≡ false →
+      StandsAt (place_of the_program) row the_program b
+  at_start row b program_is phase awake =
+      subst (λ (p : Place). StandsAt p row the_program b) (sym (words_of_none registers no_extra refl))
+      (record { program = program_is; phase = phase; words = refl; silent = refl; awake = awake })
+
+  pub server_stands : (spaces : SpacesState) → ((p : ℕ) → rows_of spaces first p ≡ None) → ((r : ℕ) → spaces.regions first r ≡ None) →
+      StandsForServer spaces the_server 0x1000
+  server_stands spaces empty tables = record {
+    first = refl;
+    id_is = refl;
+    env_type = refl;
+    status = refl;
+    silent = refl;
+    words = refl;
+    empty = empty;
+    tables = tables;
+  }
+
+  pub slot_stands : (names : Names) (spaces : SpacesState) (b : Born) → StandsForServer spaces the_server 0x1000 →
+      StandsForBorn names spaces the_program b → (n : ℕ) → StandsForSlot names spaces (slots n) (slot_of b n)
+  slot_stands names spaces b serves stands =
+      each_slot (λ n k. StandsForSlot names spaces k (slot_of b n)) serves stands (λ n a b. rw (a, b) refl)
