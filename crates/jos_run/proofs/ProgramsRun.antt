@@ -18,7 +18,7 @@ use Rattle.jos_run.specs.Boot.{booted_within}
 use Rattle.jos_run.specs.RunEnds.{AnswersBy, RunsFrom, program_of}
 use Rattle.jos_run.specs.Start.{start}
 use Rattle.jos_run.specs.RunReports.{IsTold, IsToldCutOff}
-use Rattle.jos_run.specs.Running.{Holds, Runs, HasRun, HasFailed, report_of, cut_off_of}
+use Rattle.jos_run.specs.Running.{Holds, Runs, HasRun, report_of, cut_off_of}
 use Rattle.jos_run.proofs.RunEnds.{told_whole, told_cut_off}
 
 pub ended_told : {budget : ℕ} {r t : LibraryRun} {a b : Option (List ℕ)} (end : End) (report : Reported) (schedule : List ℕ) →

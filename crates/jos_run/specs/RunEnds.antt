@@ -5,7 +5,7 @@ use Rattle.jos_host.specs.Gains.{Gains}
 use Rattle.jos_host.specs.Told.{Rose}
 use Rattle.jos_base.specs.KernelState.{KernelState}
 use Rattle.jos_elf.specs.declared.fault.ElfFault.{ElfFault}
-use Rattle.jos_elf.specs.Parsed.{Layout, parsed}
+use Rattle.jos_elf.specs.Parsed.{Layout}
 use Rattle.jos_kernel.specs.Reports.{Reported, CutOff}
 use Rattle.lib_os.specs.AbstractState.{AbstractState}
 use Rattle.jos_run.specs.declared.programs.RunEnd.{RunEnd}
