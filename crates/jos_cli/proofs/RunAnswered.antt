@@ -52,12 +52,14 @@ told_nothing None schedule first frames budget report printed h none =
     let taken = h.1.1 in
     let at_first : ◌≡◌ {A = Option AbstractState} (Some first) (Some h.1.0) = ap (abs_run first) (sym none) ∙ taken.ran in
     nothing_more first.console printed (ap (λ (a : Option AbstractState). (unwrap_or a first).console) at_first ∙ taken.console)
-told_nothing (Some refusal) schedule first frames budget report printed h none = absurd (no_turn h.before h.later report.turns h.turn h.turns_are none)
+told_nothing (Some refusal) schedule first frames budget report printed h none =
+    absurd (no_turn h.1.before h.1.later report.turns h.1.turn h.1.turns_are none)
 
 no_refusal : (refusal : Option Refusal) (schedule : List ℕ) (first : AbstractState) (frames budget : ℕ) (report : Reported) (printed : List ℕ) →
     ToldBy refusal schedule first frames budget report printed → report.turns ≡ [] → refusal ≡ None
 no_refusal None schedule first frames budget report printed h none = refl
-no_refusal (Some refusal) schedule first frames budget report printed h none = absurd (no_turn h.before h.later report.turns h.turn h.turns_are none)
+no_refusal (Some refusal) schedule first frames budget report printed h none =
+    absurd (no_turn h.1.before h.1.later report.turns h.1.turn h.1.turns_are none)
 
 ran_nothing : (p : Program) (report : Reported) (console : Around (Option (List ℕ))) → HasRun p report console → report.turns ≡ [] → console.after ≡ console.before
 ran_nothing p report console h none =

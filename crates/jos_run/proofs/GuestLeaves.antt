@@ -1,6 +1,6 @@
 -- What a step of a program leaves: the last turn and the number of turns, the frames and the refusals; and an environment that
 -- is not RUNNABLE is not so afterwards.
-use Rattle.std.proofs.Common.{◌≡◌, ◌∙◌, ◌==◌, ℕ, Bool, true, false, Option, Some, None, Result, Ok, Err, IfSome, refl, sym, ap, subst}
+use Rattle.std.proofs.Common.{◌≡◌, ◌∙◌, ◌==◌, ◌<◌, ℕ, Bool, true, false, Option, Some, None, Result, Ok, Err, IfSome, refl, sym, ap, subst}
 use Rattle.std.proofs.Common.{if◌then◌else◌}
 use Rattle.jos_base.specs.declared.environment.Status.{Status}
 use Rattle.jos_base.specs.declared.line.Line.{Line}
@@ -175,7 +175,7 @@ module _ (s : KernelState) (n : ℕ) where
 pub guest_leaves : (s after : KernelState) (n : ℕ) (done : Progress) → after ≡ (guest_instruction s n).state → Leaves (Ok done) n s after
 guest_leaves s after n done is =
     let h = subst (λ (t : KernelState). GuestLeaves s n t) (sym is) (instruction_left s n) in (
-      record { last = h.last; turns = h.turns; frames = h.frames; refused = λ two. h.refusals },
+      record { last = h.last; turns = h.turns; frames = h.frames; refused = λ two. h.refusals; told = λ some. subst (λ (k : ℕ). 0 < k) (sym h.refusals) some },
       (λ running silent runs. absurd (
           let contradiction : true ≡ false = sym runs ∙ h.calm (running_calm (slot_at s n).status running) in cc
           )),

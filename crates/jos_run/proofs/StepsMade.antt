@@ -342,15 +342,17 @@ runs_further reached r m after n done bytes k counts first frames printed = by_f
     refusal_by rose o = noted o rose (vec_len r.turns) r.served.written
 
     -- where what is told of the refusal is known, with the turns as they are told
-    refused_so : (refusal : Refusal) → after.first_refused ≡ Some refusal →
+    refused_so : (refusal : Refusal) → after.first_refused ≡ Some refusal → 0 < (state_of m).refusals →
         IsRefused r.schedule first frames (m.turns.items ++ turn_after m done ∷ []) refusal (printed ++ bytes) →
         Runs first frames after (printed ++ bytes)
-    refused_so refusal is h =
-        subst (λ (o : Option Refusal). RunsBy o first frames after (printed ++ bytes)) (sym is)
-        (subst (λ (x : List ℕ). IsRefused x first frames (turns_so_far after) refusal (printed ++ bytes))
-        (sym (counts.schedule ∙ k.schedule))
-        (subst (λ (x : List Turn). IsRefused r.schedule first frames x refusal (printed ++ bytes))
-        (sym (told_turns (goes_on_after m done) m after done counts)) h))
+    refused_so refusal is some h =
+        subst (λ (o : Option Refusal). RunsBy o first frames after (printed ++ bytes)) (sym is) (
+          subst (λ (x : ℕ). 0 < x) (sym (counted_rest (goes_on_after m done) m after done counts).1) some,
+          subst (λ (x : List ℕ). IsRefused x first frames (turns_so_far after) refusal (printed ++ bytes))
+              (sym (counts.schedule ∙ k.schedule))
+              (subst (λ (x : List Turn). IsRefused r.schedule first frames x refusal (printed ++ bytes))
+              (sym (told_turns (goes_on_after m done) m after done counts)) h),
+        )
 
     by_rose : (c : Bool) → ((state_of m).refusals == (entered r n).refusals) ≡ c → r.first_refused ≡ None →
         StandsSo first frames r printed →
@@ -366,7 +368,9 @@ runs_further reached r m after n done bytes k counts first frames printed = by_f
         let told : after.first_refused ≡ Some (record { turn = vec_len r.turns; console_len = r.served.written }) =
         counts.first_refused ∙ k.noted_is ∙ ap (λ (b : Bool). refusal_by (not b) r.first_refused) test
         ∙ ap (λ (o : Option Refusal). refusal_by true o) is in
-        refused_so (record { turn = vec_len r.turns; console_len = r.served.written }) told
+        let stood : (entered r n).refusals ≡ 0 = (entered_rest r n).1 ∙ h.quiet in
+        let some : 0 < (state_of m).refusals = grind (arith, nat_tests) in
+        refused_so (record { turn = vec_len r.turns; console_len = r.served.written }) told some
         (refused_first reached first frames r m n done bytes printed k test h)
 
     by_first : (o : Option Refusal) → r.first_refused ≡ o → RunsBy o first frames r printed → Runs first frames after (printed ++ bytes)
@@ -376,11 +380,11 @@ runs_further reached r m after n done bytes k counts first frames printed = by_f
         counts.first_refused ∙ k.noted_is
         ∙ ap (λ (o : Option Refusal). refusal_by (not ((state_of m).refusals == (entered r n).refusals)) o) is in
         let grown : r.visible ≤ seen_after done r.visible = seen_more done r.visible in
-        refused_so refusal told
+        refused_so refusal told (k.rest.told (subst (λ (x : ℕ). 0 < x) (sym (entered_rest r n).1) h.0))
         (subst (λ (x : List Turn). IsRefused r.schedule first frames (x ++ turn_after m done ∷ []) refusal (printed ++ bytes))
         (λ i. (sym k.turns i).items)
         (still_refused first frames refusal r (turn_after m done) bytes printed (λ some. k.slot ∙ k.chosen.turn some)
-        (subst (λ (x : ℕ). r.visible ≤ seen_after done x) (sym k.visible) grown) h))
+        (subst (λ (x : ℕ). r.visible ≤ seen_after done x) (sym k.visible) grown) h.1))
 
 -- one step more was made
 pub went_one : NeedIsReached → (r m after : LibraryRun) (n : ℕ) (done : Progress) (bytes : List ℕ) (console : Around (Option (List ℕ))) →
@@ -466,4 +470,4 @@ failed_one r m n bytes console k gains = record {
         (subst (λ (x : List Turn). IsRefused r.schedule first frames x refusal (printed ++ take gains.0 bytes))
         (sym (failed_turns r m n bytes k))
         (still_refused first frames refusal r (turn_of n (r.visible + 1) r.hidden) (take gains.0 bytes) printed k.chosen.turn
-        (omega arith) h))
+        (omega arith) h.1))

@@ -1,6 +1,6 @@
 -- What is told of a run of the library's programs: the turns that it took, and how it ended. The abstract system takes
 -- these turns and prints these bytes, up to the first time that a page was refused for want of a frame.
-use Rattle.std.specs.Prelude.{◌≡◌, ◌≤◌, ℕ, ◌+◌, ◌-◌, ◌==◌, true, List, [], ◌∷◌, ◌++◌, length, Option, Some, None}
+use Rattle.std.specs.Prelude.{◌≡◌, ◌<◌, ◌≤◌, ℕ, ◌+◌, ◌-◌, ◌==◌, true, List, [], ◌∷◌, ◌++◌, length, Option, Some, None}
 use Rattle.jos_host.specs.Frames.{Around}
 use Rattle.jos_host.specs.Gains.{Gains}
 use Rattle.jos_base.specs.SpacesState.{reserved_frames}
@@ -69,7 +69,8 @@ HasEnded schedule first budget report printed =
 
 abbrev pub ToldBy : Option Refusal → List ℕ → AbstractState → ℕ → ℕ → Reported → List ℕ → Type 0
 ToldBy None schedule first frames budget report printed = (report.refused ≡ 0) × HasEnded schedule first budget report printed
-ToldBy (Some refusal) schedule first frames budget report printed = IsRefused schedule first frames report.turns refusal printed
+ToldBy (Some refusal) schedule first frames budget report printed =
+    (0 < report.refused) × IsRefused schedule first frames report.turns refusal printed
 
 -- What a report tells of a run from this abstract state on, with so many frames and steps, which has printed these bytes.
 pub record IsTold (schedule : List ℕ) (first : AbstractState) (frames budget : ℕ) (report : Reported) (printed : List ℕ) : Type 0 where

@@ -69,7 +69,8 @@ pub record StandsSo (first : AbstractState) (frames : ℕ) (r : LibraryRun) (pri
 
 abbrev pub RunsBy : Option Refusal → AbstractState → ℕ → LibraryRun → List ℕ → Type 0
 RunsBy None first frames r printed = StandsSo first frames r printed
-RunsBy (Some refusal) first frames r printed = IsRefused r.schedule first frames (turns_so_far r) refusal printed
+RunsBy (Some refusal) first frames r printed =
+    (0 < (state_of r).refusals) × IsRefused r.schedule first frames (turns_so_far r) refusal printed
 
 -- The run has come so far from this abstract state on, with so many frames, and has printed these bytes.
 abbrev pub Runs : AbstractState → ℕ → LibraryRun → List ℕ → Type 0

@@ -1,6 +1,6 @@
 //! A run of the library's programs: steps and turns.
 
-ghost use Rattle.std.specs.Prelude.{◌≡◌, ◌<◌, ◌≤◌, ◌+◌, ◌-◌, ◌^◌, ◌==◌, ℕ, List, [], Some, None, IfOk, IfErr, OnOk, OnErr};
+ghost use Rattle.std.specs.Prelude.{◌≡◌, ◌<◌, ◌≤◌, ◌+◌, ◌-◌, ◌^◌, ◌==◌, ◌++◌, ◌∷◌, ℕ, List, [], Some, None, IfOk, IfErr, OnOk, OnErr};
 ghost use Rattle.std.specs.Prelude.{true, false, not, length, vec_len, vec_capacity};
 ghost use Rattle.jos_host.specs.Told.{HasCause};
 ghost use Rattle.jos_host.specs.Frames.{Unchanged, around, from_to};
@@ -14,7 +14,7 @@ ghost use Rattle.jos_kernel.specs.declared.report.End.TheVariants.{Budget};
 ghost use Rattle.lib_os.specs.AbstractState.{AbstractState};
 ghost use Rattle.lib_os.specs.LibrarySteps.{Stands};
 ghost use Rattle.jos_run.specs.Begun.{IsNew};
-ghost use Rattle.jos_run.specs.LibraryRuns.{others_live, end_seen, seen_after, hidden_after};
+ghost use Rattle.jos_run.specs.LibraryRuns.{turn_of, others_live, end_seen, seen_after, hidden_after};
 ghost use Rattle.jos_run.specs.Served.{kernel_state};
 ghost use Rattle.jos_run.specs.RunReports.{steps_of};
 ghost use Rattle.jos_run.specs.Running.{state_of, made, HasRoom, Holds, Runs, IsChosen, entered, noted, Counted};
@@ -177,6 +177,23 @@ impl LibraryRun {
         }
     }
 
+    /// Tells a turn of the environment that is served, with so many steps, as the last of those that are over.
+    fn tell_turn(&mut self, visible: u32, hidden: u32)
+        requires room { TURN_MAX ≤ vec_capacity self.old.turns }
+        requires place { vec_len self.old.turns < TURN_MAX }
+        ensures turns { self.new.turns.items ≡ self.old.turns.items ++ turn_of self.old.served.slot visible hidden ∷ [] }
+        ensures room { TURN_MAX ≤ vec_capacity self.new.turns }
+        ensures rest { self.new ≡ record self.old { turns = self.new.turns } }
+    {
+        self.turns
+            .push(Turn {
+                slot: self.served.slot() as u16,
+                visible,
+                hidden,
+            })
+            .unwrap();
+    }
+
     /// Counts a step, which has come to this, in a turn of so many steps, and ends the turn where it is over.
     fn count_step(&mut self, progress: Progress, limit: u32)
         requires room { TURN_MAX ≤ vec_capacity self.old.turns }
@@ -197,13 +214,7 @@ impl LibraryRun {
             self.hidden = hidden;
             return;
         }
-        self.turns
-            .push(Turn {
-                slot: slot as u16,
-                visible,
-                hidden,
-            })
-            .unwrap();
+        self.tell_turn(visible, hidden);
         self.visible = 0;
         self.hidden = 0;
         self.served.end_turn(slot);
@@ -292,14 +303,7 @@ impl LibraryRun {
         ensures rest { self.new ≡ record self.old { turns = self.new.turns } }
     {
         if self.visible + self.hidden > 0 {
-            let slot = self.served.slot();
-            self.turns
-                .push(Turn {
-                    slot: slot as u16,
-                    visible: self.visible,
-                    hidden: self.hidden,
-                })
-                .unwrap();
+            self.tell_turn(self.visible, self.hidden);
         }
     }
 

@@ -96,7 +96,7 @@ module _ (s : KernelState) (n : ℕ) (step : Step) (args : List ℕ) (live : is_
       IsPassed (system s n SYS_YIELD args) n result after output → Leaves result n s after
   yield_leaves (Ok progress.Finished) after output passed =
       subst (λ (t : KernelState). Leaves (Ok progress.Finished) n s t) (sym passed.2) (
-        record { last = rest.last; turns = rest.turns; frames = rest.frames; refused = rest.refused },
+        record { last = rest.last; turns = rest.turns; frames = rest.frames; refused = rest.refused; told = rest.told },
         (λ running silent runs. ap is_yield at),
         (λ in_order is_there each. system_found s n SYS_YIELD args in_order is_there each),
       )

@@ -70,17 +70,17 @@ module _ (P : Type 0) (s : KernelState) (n : ℕ) where
   -- ---- changes of the state
 
   same_left : Left P s n s
-  same_left = record { rest = record { last = refl; turns = refl; frames = refl; refused = λ two. refl }; calm = λ p calm. calm }
+  same_left = record { rest = record { last = refl; turns = refl; frames = refl; refused = λ two. refl; told = λ some. some }; calm = λ p calm. calm }
 
   spaces_left : (spaces : SpacesState) → spaces.frames ≡ s.spaces.frames → Left P s n (with_spaces s spaces)
   spaces_left spaces same = record {
-    rest = record { last = refl; turns = refl; frames = same; refused = λ two. refl };
+    rest = record { last = refl; turns = refl; frames = same; refused = λ two. refl; told = λ some. some };
     calm = λ p calm. calm;
   }
 
   refusal_left : (2 ≤ length s.spaces.free → ⊥) → Left P s n (with_refusal s)
   refusal_left few = record {
-    rest = record { last = refl; turns = refl; frames = refl; refused = λ two. absurd (few two) };
+    rest = record { last = refl; turns = refl; frames = refl; refused = λ two. absurd (few two); told = λ some. omega (arith, some) };
     calm = λ p calm. calm;
   }
 
@@ -91,6 +91,7 @@ module _ (P : Type 0) (s : KernelState) (n : ℕ) where
       turns = refl;
       frames = destroyed_frames s.spaces (slot_at s target).directory;
       refused = λ two. refl;
+      told = λ some. some;
     };
     calm = λ p calm. calm_upd s.environments.slots n target (free_slot (slot_at s target).id) refl calm;
   }
@@ -99,7 +100,7 @@ module _ (P : Type 0) (s : KernelState) (n : ℕ) where
   pub put_left : (t : KernelState) → Left P s n t → (m : ℕ) (slot : Slot) → slot.status ≡ (slot_at t m).status →
       Left P s n (with_slot_at t m slot)
   put_left t h m slot same = record {
-    rest = record { last = h.rest.last; turns = h.rest.turns; frames = h.rest.frames; refused = h.rest.refused };
+    rest = record { last = h.rest.last; turns = h.rest.turns; frames = h.rest.frames; refused = h.rest.refused; told = h.rest.told };
     calm = λ p calm.
         ap (λ (status : Status). is_runnable status) (slots_alike t m (λ (x : Slot). x.status) slot same n) ∙ h.calm p calm;
   }
@@ -130,7 +131,7 @@ module _ (P : Type 0) (s : KernelState) (n : ℕ) where
   cgetc_left (byte ∷ rest) =
       let t : KernelState = record s { input = rest } in
       told_left t (record {
-        rest = record { last = refl; turns = refl; frames = refl; refused = λ two. refl };
+        rest = record { last = refl; turns = refl; frames = refl; refused = λ two. refl; told = λ some. some };
         calm = λ p calm. calm;
       }) byte
 
@@ -145,7 +146,7 @@ module _ (P : Type 0) (s : KernelState) (n : ℕ) where
   status_left never (Some target) (Some status) =
       told_left (with_status s target status)
       (record {
-        rest = record { last = refl; turns = refl; frames = refl; refused = λ two. refl };
+        rest = record { last = refl; turns = refl; frames = refl; refused = λ two. refl; told = λ some. some };
         calm = λ p calm. absurd (never p);
       }) 0
 
@@ -213,7 +214,7 @@ module _ (P : Type 0) (s : KernelState) (n : ℕ) where
   yield_left never =
       told_left (with_status s n Runnable)
       (record {
-        rest = record { last = refl; turns = refl; frames = refl; refused = λ two. refl };
+        rest = record { last = refl; turns = refl; frames = refl; refused = λ two. refl; told = λ some. some };
         calm = λ p calm. absurd (never p);
       }) 0
 
@@ -222,7 +223,7 @@ module _ (P : Type 0) (s : KernelState) (n : ℕ) where
       let t : KernelState = with_rendezvous s n (wanting (slot_at s n).rendezvous va sender) in
       by_case (nat_lt va UTOP && not (va % PGSIZE == 0)) _ _ (λ e. refused_left Invalid)
       (λ e. record {
-        rest = record { last = refl; turns = refl; frames = refl; refused = λ two. refl };
+        rest = record { last = refl; turns = refl; frames = refl; refused = λ two. refl; told = λ some. some };
         calm = λ p calm. ap (λ (x : Slot). is_runnable x.status) (slot_put t n (record (slot_at t n) { status = NotRunnable }));
       })
 
@@ -234,7 +235,7 @@ module _ (P : Type 0) (s : KernelState) (n : ℕ) where
       let woken : KernelState = with_rendezvous t target r in
       let so : Left P s n woken = put_left t h target (record (slot_at t target) { rendezvous = r }) refl in
       record {
-        rest = record { last = so.rest.last; turns = so.rest.turns; frames = so.rest.frames; refused = so.rest.refused };
+        rest = record { last = so.rest.last; turns = so.rest.turns; frames = so.rest.frames; refused = so.rest.refused; told = so.rest.told };
         calm = λ p calm.
             ap (λ (x : Slot). is_runnable x.status)
             (slot_kept woken target (with_answer (record (slot_at woken target) { status = Runnable }) 0) n (other p))
@@ -315,7 +316,7 @@ module _ (P : Type 0) (s : KernelState) (n : ℕ) where
       let h = put_left t (spaces_left t.spaces (touched_frames s.spaces k.directory place Write)) n
       (record k { registers = record k.registers { esp = place; eip = k.upcall } }) refl in
       record {
-        rest = record { last = h.rest.last; turns = h.rest.turns; frames = h.rest.frames; refused = h.rest.refused };
+        rest = record { last = h.rest.last; turns = h.rest.turns; frames = h.rest.frames; refused = h.rest.refused; told = h.rest.told };
         calm = h.calm;
       }
 
@@ -379,7 +380,7 @@ module _ (s : KernelState) (n number : ℕ) (args : List ℕ) (no_fork : (number
       let done : KernelState = (call_of k n (slot_at k n).registers).state in
       by_test done (is_live (slot_at done n) && not (sets_own s n number args))
       (record {
-        rest = record { last = h.rest.last; turns = h.rest.turns; frames = h.rest.frames; refused = h.rest.refused };
+        rest = record { last = h.rest.last; turns = h.rest.turns; frames = h.rest.frames; refused = h.rest.refused; told = h.rest.told };
         calm = λ p calm. h.calm p (ap (λ (x : Slot). is_runnable x.status) k_is ∙ calm);
       })
     where

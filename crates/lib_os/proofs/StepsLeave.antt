@@ -80,7 +80,7 @@ pub pauses_on : (s mid after : KernelState) (n m number : ℕ) (args words : Lis
     IsCallStep (system s n number args) (Ok called) mid output → after ≡ with_extra mid m words → Leaves (Ok progress.Hidden) n s after
 pauses_on s mid after n m number args words called output no_fork pausing call is =
     subst (λ (t : KernelState). Leaves (Ok progress.Hidden) n s t) (sym is) (
-      record { last = rest.last; turns = rest.turns; frames = rest.frames; refused = rest.refused },
+      record { last = rest.last; turns = rest.turns; frames = rest.frames; refused = rest.refused; told = rest.told },
       (λ running silent runs. pausing),
       used,
     )

@@ -71,13 +71,14 @@ is_pausing (place.InService (service.Wait id) (step.Pausing perm)) = true
 is_pausing (place.InService (service.Send id value va) (step.Pausing perm)) = true
 is_pausing _ = false
 
--- What a step leaves, whatever it stands for: the last turn and the number of turns, and how many frames there are; and where
--- two frames are free, nothing is refused.
+-- What a step leaves, whatever it stands for: the last turn and the number of turns, and how many frames there are; where
+-- two frames are free, nothing is refused; and that something was refused once stays told.
 pub record LeavesRest (before after : KernelState) : Type 0 where
   pub last : after.last ≡ before.last
   pub turns : after.turns ≡ before.turns
   pub frames : after.spaces.frames ≡ before.spaces.frames
   pub refused : 2 ≤ length before.spaces.free → after.refusals ≡ before.refusals
+  pub told : 0 < before.refusals → 0 < after.refusals
 
 abbrev pub is_yield : Place → Bool
 is_yield (place.InService service.Yield s) = true
