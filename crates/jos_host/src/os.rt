@@ -7,7 +7,8 @@ ghost use Rattle.jos_host.specs.Count.{counted};
 use crate::faults::settle;
 use crate::streams::{read_from, read_some, unless_absent, write_from, write_full};
 use crate::{Failed, Host};
-use std::fs::OpenOptions;
+use std::fs::{Metadata, OpenOptions};
+use std::io::ErrorKind;
 use std::marker::Model;
 use std::rt::Files;
 use std::{fs, io};
@@ -77,8 +78,7 @@ impl<R: Files + Input + Print, N: Print> Host for OsHost<R, N> {
     }
 
     fn create(&mut self, name: &str) -> Result<(), Failed> {
-        settle(fs::create(&self.runtime, name), &mut self.faults)?;
-        Ok(())
+        settle(create_file(&self.runtime, name), &mut self.faults)
     }
 
     fn write_at(&mut self, name: &str, at: u64, bytes: &[u8]) -> Result<(), Failed> {
@@ -104,10 +104,37 @@ impl<R: Files + Input + Print, N: Print> Host for OsHost<R, N> {
     }
 }
 
+/// What the system tells of the regular file of this name, or `None` where nothing has the name.
+///
+/// # Errors
+/// What has the name is a folder, a pipe or a device, which is not opened; or the system failed.
+fn regular_file(files: &impl Files, name: &str) -> io::Result<Option<Metadata>> {
+    match unless_absent(fs::metadata(files, name))? {
+        Some(metadata) if !metadata.is_file() => Err(io::Error::from(ErrorKind::InvalidInput)),
+        found => Ok(found),
+    }
+}
+
 /// The length of the file in bytes, or `None` where there is none of this name.
+///
+/// # Errors
+/// There are bytes behind the length that the system tells, as in files of `/proc`.
 fn file_size(files: &impl Files, name: &str) -> io::Result<Option<u64>> {
-    let found = unless_absent(fs::metadata(files, name))?;
-    Ok(found.map(|metadata| metadata.len()))
+    let Some(metadata) = regular_file(files, name)? else {
+        return Ok(None);
+    };
+    let len = metadata.len();
+    if read_file(files, name, len, &mut [0; 1])? > 0 {
+        return Err(io::Error::from(ErrorKind::InvalidData));
+    }
+    Ok(Some(len))
+}
+
+/// Makes the name an empty file.
+fn create_file(files: &impl Files, name: &str) -> io::Result<()> {
+    regular_file(files, name)?;
+    fs::create(files, name)?;
+    Ok(())
 }
 
 /// Fills the buffer from byte `at` on. A file that is absent has no bytes.
