@@ -1,13 +1,15 @@
 #!/usr/bin/env python3
 """Runs the command lines of documents as they stand there, and compares what they print.
 
-    bench/documents.py [--write] [FILE..]     without a FILE: README.md and those of docs/
+    bench/documents.py [--write] [FILE..]     without a FILE: README.md and those of docs/, examples/ and release/
 
 A line that is indented by four spaces and begins with `$ ` is a command, which goes on in the next lines as long as bash
 would ask for more; the indented lines behind it are what it prints, on both streams. A line `..` stands for any lines. The
 commands of one document are run one after another by one bash, in a copy of the checkout without its .git, so that they
-may make files. With --write what is printed is written into the document, where it is another and there is no `..`. The
-last line is 'N passed, N failed'.
+may make files. With --write what is printed is written into the document, where it is another and there is no `..`.
+
+An indented line that makes a run, with `$ ` or not, has to give it an input, and so has such a command within a text: whoever
+copies it to a terminal would wait for one. The last line is 'N passed, N failed'.
 """
 import argparse
 import os
@@ -30,6 +32,19 @@ class Command:
     text: str
     start: int
     end: int
+
+
+def waits(command):
+    """Whether a command makes a run that is given no input."""
+    makes_run = re.search(r"(\./jos +(exo|run)|examples/turns)\s+\S", command)
+    return makes_run is not None and not re.search("[<|]", command)
+
+
+def waiting_in(lines):
+    """The commands of a document that would wait for an input."""
+    indented = [line.split(" #")[0].strip() for line in lines if line.startswith(INDENT)]
+    within = re.findall("`([^`]+)`", "\n".join(line for line in lines if not line.startswith(INDENT)))
+    return [command for command in indented + within if waits(command)]
 
 
 def is_whole(command):
@@ -93,6 +108,9 @@ def check(name, write):
     found = commands(lines)
     printed = run(found) if found else []
     failed = len(found) - len(printed)
+    waiting = waiting_in(lines)
+    for command in waiting:
+        print(f"{name}: FAILED: waits for an input: {command}")
     for command, got in reversed(list(zip(found, printed))):
         wanted = [line[len(INDENT) :] for line in lines[command.start : command.end]]
         if not matches(got, wanted):
@@ -103,7 +121,7 @@ def check(name, write):
     if write:
         with open(path, "w", encoding="utf-8") as file:
             file.write("\n".join(lines) + "\n")
-    return len(found), failed
+    return len(found) + len(waiting), failed + len(waiting)
 
 
 def main():
@@ -113,7 +131,8 @@ def main():
     given = parser.parse_args()
     names = [os.path.relpath(name, TOP) for name in given.files]
     if not names:
-        names = ["README.md"] + sorted(f"docs/{name}" for name in os.listdir(f"{TOP}/docs") if name.endswith(".md"))
+        found = [f"{folder}/{name}" for folder in ("docs", "examples", "release") for name in os.listdir(f"{TOP}/{folder}")]
+        names = ["README.md"] + sorted(name for name in found if name.endswith(".md"))
     counts = [check(name, given.write) for name in names]
     failed = sum(more for _, more in counts)
     print(f"{sum(count for count, _ in counts) - failed} passed, {failed} failed")

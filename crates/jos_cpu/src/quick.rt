@@ -2,8 +2,8 @@
 //!
 //! A function here answers true only where it did what `execute` does and the program goes on, and else it changed
 //! nothing: then `execute` is to do it. Memory is at hand where reaching it changes no accessed and no dirty bit,
-//! so that one load or store is the probe as well. Rows stand in the manual's families; those that are not here cost
-//! no more by `execute` than their place would be worth.
+//! so that one load or store is the probe as well. Rows stand in the manual's families; those that are not here
+//! are made by `execute`. (`bench/rows.sh` tells what each row costs.)
 //! (Intel 80386 Programmer's Reference Manual, 1986, chapter 3.)
 #![tactic(auto, using(crate::proofs::Moved::register_moved, crate::proofs::Moved::address_moved), unfolding(crate::specs::Steps::executed, crate::specs::Steps::accesses, crate::specs::Steps::done_by, crate::specs::Forms::form_of, crate::specs::Accesses::accesses_of, crate::specs::Probes::probes_of, crate::specs::Probes::probed_all, crate::specs::Transfers::inputs_of, crate::specs::Transfers::writes_of, crate::specs::Transfers::stored_all, crate::specs::Effects::form_effect, crate::specs::Effects::value_at, crate::specs::Effects::with_value_at, crate::specs::Effects::computed, crate::specs::Effects::repetition_effect, jos_alu::specs::Registers::register_at, jos_alu::specs::Registers::with_register_at))]
 

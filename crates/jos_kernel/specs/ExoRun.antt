@@ -60,7 +60,7 @@ turn_goes_on schedule s turn made = is_running (slot_at s (current s)).status &&
 
 -- ---- the end
 
--- The end tests, in their order; `spent` says whether the budget is used up. While a turn is under way its environment
+-- The end tests, in their order; `spent` says whether the budget is used up. The environment whose turn is under way
 -- is RUNNING, so that another can be chosen only where none is.
 unfoldable pub end_of : Progress → Bool → Option End
 end_of p spent =

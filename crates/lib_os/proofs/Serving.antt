@@ -1,6 +1,6 @@
 -- A service's step: what stands at its beginning, what its step is in the abstract system, and that its answer leads back
 -- to the program.
-use Rattle.std.proofs.Common.{◌≡◌, ◌∙◌, ℕ, Bool, false, List, [], Ok, refl, sym, ap, subst}
+use Rattle.std.proofs.Common.{◌≡◌, ◌∙◌, ℕ, Bool, true, false, List, [], Ok, refl, sym, ap, subst}
 use Rattle.std.specs.Prelude.{◌++◌}
 use Rattle.std.proofs.lemmas.Bool.{false≢true}
 use Rattle.std.proofs.lemmas.List.{append-nil}
@@ -18,7 +18,7 @@ use Rattle.lib_os.specs.AbstractRun.{abs_step}
 use Rattle.lib_os.specs.Fence.{is_resident}
 use Rattle.lib_os.specs.LibraryCall.{library_step}
 use Rattle.lib_os.specs.LibrarySteps.{GoesOn, NothingRefused, IsLibraryStep}
-use Rattle.lib_os.specs.Places.{place_in, place_of, is_at_guest}
+use Rattle.lib_os.specs.Places.{place_in, place_of}
 use Rattle.lib_os.specs.StandsFor.{StandsFor, Names, rows_of, StandsForSlot, StandsForBorn, StandsAt, StandsAtStep, RunsAs, IsIn}
 use Rattle.lib_os.specs.UserCalls.{Output, Prints}
 
@@ -26,6 +26,10 @@ use Rattle.lib_os.specs.UserCalls.{Output, Prints}
 pub words_of_none : (regs : Regs) (words : List ℕ) → words ≡ no_extra → place_in regs words ≡ place.Guest
 unfolding place_in
 words_of_none regs words none = rw none refl
+
+abbrev is_at_guest : Place → Bool
+is_at_guest place.Guest = true
+is_at_guest _ = false
 
 in_no_service : (p : Place) (s : Service) (t : Step) → p ≡ place.Guest → p ≡ place.InService s t → ⊥
 in_no_service p s t at is = false≢true (sym (ap is_at_guest is) ∙ ap is_at_guest at)

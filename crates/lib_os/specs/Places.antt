@@ -2,15 +2,14 @@
 -- for the library. Of these the first is 0 where no service runs, and else the service's number and 1; the second tells how
 -- far the service is, and the next three what it has found out. What the program gave stands in its registers, which
 -- nobody changes until the service answers, but for EAX. (The form is this system's own.)
-use Rattle.std.specs.Prelude.{ℕ, ◌+◌, ◌-◌, ◌==◌, ◌&&◌, min, nat_le, nat_lt, not, Bool, true, false, List, [], ◌∷◌, get_or, if◌then◌else◌}
+use Rattle.std.specs.Prelude.{ℕ, ◌+◌, ◌-◌, ◌==◌, min, List, [], ◌∷◌, get_or, if◌then◌else◌}
 use Rattle.jos_base.specs.declared.registers.Regs.{Regs}
-use Rattle.jos_base.specs.declared.numbers.TheConstants.{USTACKTOP, PGSIZE, UTOP}
 use Rattle.jos_base.specs.Environments.{Slot}
 use Rattle.lib_os.specs.declared.place.Step.{Step}
 use Rattle.lib_os.specs.declared.place.Step.TheVariants as step
 use Rattle.lib_os.specs.declared.place.Place.{Place}
 use Rattle.lib_os.specs.declared.place.Place.TheVariants as place
-use Rattle.lib_os.specs.declared.numbers.TheConstants.{RESIDENT, SERVICES}
+use Rattle.lib_os.specs.declared.numbers.TheConstants.{SERVICES}
 use Rattle.lib_os.specs.Services.{service_of}
 
 -- ---- places
@@ -57,35 +56,3 @@ words_at number (step.ReadingPerm id value sender) = words_from number 8 id valu
 -- the words with which a program's INT 0x40 leaves it; all numbers that name no service are kept as one
 abbrev pub words_entered : Regs → List ℕ
 words_entered regs = words_at (min regs.eax SERVICES) step.Entered
-
--- ---- who runs
-
--- what an environment's next step is one of
-pub data Runner : Type 0 where
-  the_server : Runner
-  the_handler : Runner
-  the_service : Runner
-  the_shell : Runner
-  the_guest : Runner
-
--- the stack of the handler of page faults, which is the page below UTOP
-abbrev pub is_handlers : ℕ → Bool
-is_handlers esp = nat_le (UTOP - PGSIZE) esp && nat_lt esp UTOP
-
--- the stack of the resident shell, in the page above USTACKTOP
-abbrev pub is_shells : ℕ → Bool
-is_shells esp = nat_le RESIDENT esp && nat_lt esp (USTACKTOP + PGSIZE)
-
-abbrev pub is_at_guest : Place → Bool
-is_at_guest place.Guest = true
-is_at_guest _ = false
-
--- Slot 0 runs the server. Any other runs its handler where its stack pointer says so, else its service where it keeps words
--- of one, else the shell where its stack pointer says so, and else its program.
-abbrev pub who_runs : ℕ → Slot → Runner
-who_runs n slot =
-    if n == 0 then the_server
-    else if is_handlers slot.registers.esp then the_handler
-    else if not (is_at_guest (place_of slot)) then the_service
-    else if is_shells slot.registers.esp then the_shell
-    else the_guest

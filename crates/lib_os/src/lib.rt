@@ -1,5 +1,5 @@
-//! The library's abstract system: what the programs of `run` see, in which fork copies memory at once, shared pages are
-//! shared and files are lists of bytes.
+//! What a program under `run` can see: an abstract system with no kernel in it, whose programs have pages of their own, which
+//! a fork copies whole, pages with a name that several have, and files, each a list of bytes.
 //!
 //! `specs/` says what it is: its state (`AbstractState`) with memory (`AbstractMemory`), what a program may touch
 //! (`Fence`), a step of a program (`GuestStep`), which service is asked for (`Services`), what the steps of each
