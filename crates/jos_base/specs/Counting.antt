@@ -1,6 +1,7 @@
 -- How often a frame is named. It is counted, and never computed.
 -- (MIT 6.828, kern/pmap.c: the pp_ref of struct PageInfo.)
 use Rattle.std.specs.Prelude.{ℕ, ◌+◌, ◌==◌, zero, suc, Option, Some, None, if◌then◌else◌}
+use Rattle.jos_base.specs.declared.numbers.TheConstants.{FRAMES_MAX}
 use Rattle.jos_base.specs.Reach.{Entry}
 
 -- from a directory's frame and a page's number
@@ -18,7 +19,7 @@ named frame (Some entry) = if entry.frame == frame then 1 else 0
 
 -- directories stand in frames below this number
 unfoldable pub frame_limit : ℕ
-frame_limit = 65536
+frame_limit = FRAMES_MAX
 
 -- pages below UTOP have numbers below this one
 unfoldable pub page_limit : ℕ

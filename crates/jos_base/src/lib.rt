@@ -5,7 +5,8 @@
 //! often a frame is named (`Counting`), what an entry lets an access reach (`Reach`), what a user reads at UTOP and above
 //! (`Windows`) and what a user's memory is by that (`UserMemory`), what an environment waits for (`Messages`), how registers
 //! stand in memory (`TrapFrames`), what each system call and each fault does (`SystemCalls`) and the lines that the kernel
-//! writes (`Lines`). The code here is types, and the lines in a fixed room; it refuses nothing and takes no memory.
+//! writes (`Lines`). `proofs/` has the lemmas on these words that several crates cite. The code here is types, and the lines
+//! in a fixed room; it refuses nothing and takes no memory.
 #![tactic(auto)]
 
 mod called;
@@ -53,9 +54,13 @@ pub use numbers::END_OF_INPUT;
 pub use numbers::ENV_DYING;
 pub use numbers::ENV_FREE;
 pub use numbers::ENV_GENERATION;
+pub use numbers::ENV_IPC_FROM;
+pub use numbers::ENV_IPC_PERM;
+pub use numbers::ENV_IPC_VALUE;
 pub use numbers::ENV_NOT_RUNNABLE;
 pub use numbers::ENV_RUNNABLE;
 pub use numbers::ENV_RUNNING;
+pub use numbers::ENV_SIZE;
 pub use numbers::ENV_TYPE_FS;
 pub use numbers::ENV_TYPE_USER;
 pub use numbers::ENV_WORDS;

@@ -242,6 +242,18 @@ pub const EXTRA_WORDS: usize = 12;
 /// The words of a record that a user reads of a slot. (This system's own.)
 pub const ENV_WORDS: usize = 16;
 
+/// The bytes of such a record.
+pub const ENV_SIZE: u32 = 64;
+
+/// The place in a record of the word that came. (MIT 6.828, inc/env.h: `env_ipc_value`)
+pub const ENV_IPC_VALUE: u32 = 10;
+
+/// The place in a record of who sent that word. (MIT 6.828, inc/env.h: `env_ipc_from`)
+pub const ENV_IPC_FROM: u32 = 11;
+
+/// The place in a record of the bits of the page that came with it. (MIT 6.828, inc/env.h: `env_ipc_perm`)
+pub const ENV_IPC_PERM: u32 = 12;
+
 // ---- page faults that a user handles (MIT 6.828, inc/trap.h)
 
 /// The words of what a page fault's handler finds on its stack: `struct UTrapframe`.

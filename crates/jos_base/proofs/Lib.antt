@@ -1,0 +1,9 @@
+pub mod Maps
+pub mod Puts
+pub mod Lists
+pub mod Options
+pub mod Sums
+pub mod Counts
+pub mod Uses
+pub mod Walks
+pub mod WordBytes
