@@ -181,6 +181,8 @@ impl Kernel {
         requires last { ForSome (state_of self.old).last (λ n. n < NENV) }
         requires turns { (state_of self.old).turns ≤ vec_len self.old.turns + 1 }
         ensures counted { Counted self.old self.new slot steps written refused }
+        ensures one { length self.new.turns.items ≤ length self.old.turns.items + 1 }
+        ensures under_way { 0 < self.new.made → self.new.turns.items ≡ self.old.turns.items }
         ensures current { current (state_of self.new) ≡ slot }
         ensures holds { Holds self.new }
     {
@@ -261,6 +263,8 @@ impl Kernel {
         requires within { slot < NENV }
         requires place { vec_len self.old.turns < TURN_MAX }
         ensures told { Advances result left (from_to self.old self.new) (around H.console host.old host.new) }
+        ensures one { OnOk result (length self.new.turns.items ≤ length self.old.turns.items + 1) }
+        ensures under_way { OnOk result (0 < self.new.made → self.new.turns.items ≡ self.old.turns.items) }
         ensures holds { OnOk result (Holds self.new) }
         ensures current { OnOk result (current (state_of self.new) ≡ slot) }
         ensures rest { Unchanged H.files H.input H.asked H.notes host.old host.new }
@@ -301,6 +305,8 @@ impl Kernel {
         requires place { vec_len self.old.turns < TURN_MAX }
         ensures told { Advances result left (from_to self.old self.new) (around H.console host.old host.new) }
         ensures whole { IfOk result (λ n. n < left → self.new.made ≡ 0) }
+        ensures one { OnOk result (length self.new.turns.items ≤ length self.old.turns.items + 1) }
+        ensures under_way { OnOk result (0 < self.new.made → self.new.turns.items ≡ self.old.turns.items) }
         ensures holds { OnOk result (Holds self.new) }
         ensures rest { Unchanged H.files H.input H.asked H.notes host.old host.new }
         ensures cause { HasCause (H.faults host.old) (H.faults host.new) result }
@@ -347,6 +353,10 @@ impl Kernel {
         ensures told { Advances result left (from_to self.old self.new) (around H.console host.old host.new) }
         // The turn is over, unless no step is left.
         ensures whole { IfOk result (λ n. n < left → self.new.made ≡ 0) }
+        // No more than one turn ends,
+        ensures one { OnOk result (length self.new.turns.items ≤ length self.old.turns.items + 1) }
+        // and where one is under way then, none has ended.
+        ensures under_way { OnOk result (0 < self.new.made → self.new.turns.items ≡ self.old.turns.items) }
         ensures holds { OnOk result (Holds self.new) }
         ensures rest { Unchanged H.files H.input H.asked H.notes host.old host.new }
         ensures cause { HasCause (H.faults host.old) (H.faults host.new) result }

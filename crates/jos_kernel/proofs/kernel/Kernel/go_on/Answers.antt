@@ -1,4 +1,4 @@
-use Rattle.std.proofs.Common.{sym, ◌∙◌, arith}
+use Rattle.std.proofs.Common.{ℕ, ◌≤◌, ◌+◌, length, ap, subst, sym, ◌∙◌, arith}
 use Rattle.jos_base.specs.Environments.{is_running}
 use Rattle.jos_base.specs.KernelState.{slot_at}
 use Rattle.jos_kernel.specs.Kernel.{state_of, progress_of, nothing}
@@ -18,6 +18,8 @@ loop-self-preserved g c = record {
   went = went_further c.loop-self.invariant.went c.in-Ok-advance.ensures.told.2;
   some = omega (arith, c.loop-self.invariant.some);
   within = omega (arith, c.in-Ok-advance.ensures.told.1, c.loop-self.invariant.within);
+  one = subst (λ (n : ℕ). length c.advance-in-loop-self.new.self.turns.items ≤ n + 1) (ap length (c.loop-self.invariant.under_way c.loop-self-test.true)) c.in-Ok-advance.ensures.one;
+  under_way = λ made. c.in-Ok-advance.ensures.under_way made ∙ c.loop-self.invariant.under_way c.loop-self-test.true;
   holds = c.in-Ok-advance.ensures.holds;
   at = c.in-Ok-advance.ensures.current;
   rest = still c.loop-self.invariant.rest c.in-Ok-advance.ensures.rest;
