@@ -7,8 +7,6 @@
 mod fault;
 mod files;
 mod reading;
-#[cfg(test)]
-mod tests;
 mod walking;
 
 pub use fault::ReadFault;

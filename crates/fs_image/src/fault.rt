@@ -137,37 +137,3 @@ impl fmt::Display for ImageFault {
 }
 
 impl Error for ImageFault {}
-
-#[cfg(test)]
-mod tests {
-    use super::*;
-    use std::test::Fail;
-
-    #[test]
-    fn tells_each_fault(rt: HostRuntime) -> Result<(), Fail> {
-        for (fault, text) in [
-            (ImageFault::TooShort, "too short"),
-            (ImageFault::Magic, "magic"),
-            (ImageFault::BlockCount, "block count"),
-            (ImageFault::RootKind, "root kind"),
-            (ImageFault::Kind(12_288), "kind 12288"),
-            (ImageFault::BadName(12_288), "bad name 12288"),
-            (ImageFault::DirSize(4104), "dir size 4104"),
-            (ImageFault::TooLong(12_544), "too long 12544"),
-            (ImageFault::Hole(0), "hole 0"),
-            (ImageFault::Range(u32::MAX), "range 4294967295"),
-            (ImageFault::NamedTwice(3), "named twice 3"),
-            (ImageFault::MarkedFree(2), "marked free 2"),
-            (ImageFault::Stray(12_288), "stray 12288"),
-            (
-                ImageFault::SameName(u64::MAX),
-                "same name 18446744073709551615",
-            ),
-        ] {
-            assert_eq!(rt; fault.text().as_str(), text);
-            let told = format!(in rt.alloc(); "{fault}")?;
-            assert_eq!(rt; told.as_str(), text);
-        }
-        Ok(())
-    }
-}

@@ -12,8 +12,6 @@ mod fault;
 mod names;
 mod records;
 mod slots;
-#[cfg(test)]
-mod tests;
 mod tree;
 mod walk;
 

@@ -17,8 +17,6 @@ mod laws;
 mod numbers;
 mod paths;
 mod records;
-#[cfg(test)]
-mod tests;
 mod writer;
 
 pub use laws::{

@@ -83,27 +83,3 @@ impl fmt::Display for MakeFault {
 }
 
 impl Error for MakeFault {}
-
-#[cfg(test)]
-mod tests {
-    use super::*;
-    use std::test::Fail;
-
-    #[test]
-    fn tells_each_fault(rt: HostRuntime) -> Result<(), Fail> {
-        for (fault, text) in [
-            (MakeFault::TooManyBlocks, "too many blocks"),
-            (MakeFault::BadName(0), "bad name 0"),
-            (MakeFault::TwiceNamed(7), "twice named 7"),
-            (MakeFault::TooLong(12), "too long 12"),
-            (MakeFault::NoRoom, "no room"),
-            (MakeFault::NoMemory, "out of memory"),
-            (MakeFault::TwiceNamed(u32::MAX), "twice named 4294967295"),
-        ] {
-            assert_eq!(rt; fault.text().as_str(), text);
-            let told = format!(in rt.alloc(); "{fault}")?;
-            assert_eq!(rt; told.as_str(), text);
-        }
-        Ok(())
-    }
-}

@@ -12,8 +12,6 @@ mod make_faults;
 mod making;
 mod names;
 mod nodes;
-#[cfg(test)]
-mod tests;
 
 pub use fault::{MakeFault, MakeFaultText};
 pub use laws::{made_images_are_disks, made_images_have_the_files};
