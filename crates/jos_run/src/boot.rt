@@ -221,6 +221,3 @@ pub fn programs_begin()
     ensures alike { ProgramsBegin }
     ensures always { ProgramsBoot }
 {}
-
-#[cfg(test)]
-mod tests;

@@ -11,11 +11,7 @@ mod laws;
 mod library_run;
 mod programs;
 mod served;
-#[cfg(test)]
-mod step_tests;
 mod steps;
-#[cfg(test)]
-mod tests;
 mod turns;
 
 pub use boot::{FRAMES_BESIDE, boot_frames, boot_program, programs_begin};

@@ -92,7 +92,7 @@ impl Served {
     }
 
     /// Begins to serve the environment of another slot. No call is made for it yet.
-    pub(crate) fn serve(&mut self, slot: usize)
+    pub fn serve(&mut self, slot: usize)
         requires { slot < NENV }
         ensures state { kernel_state self.new ≡ kernel_state self.old }
         ensures slot { self.new.slot ≡ slot }
@@ -255,7 +255,7 @@ impl Served {
     }
 
     /// Whether the environment is there still.
-    pub(crate) fn is_live(&self) -> bool
+    pub fn is_live(&self) -> bool
         ensures { result ≡ is_live (slot_at (kernel_state self.now) self.now.slot) }
     {
         self.is_live_in(self.slot)

@@ -73,7 +73,7 @@ impl Served {
     }
 
     /// How many bytes were printed in all.
-    pub(crate) fn written(&self) -> u64
+    pub fn written(&self) -> u64
         ensures { result ≡ self.now.written }
     {
         self.written

@@ -24,8 +24,6 @@ mod numbers;
 mod place;
 mod progress;
 mod service;
-#[cfg(test)]
-mod tests;
 mod user_os;
 
 pub use answers::{answer, answer_of, go_back, go_on, stopped};

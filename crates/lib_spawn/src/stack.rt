@@ -120,6 +120,3 @@ pub fn stack_contents(words: &[&str]) -> StackBytes
     push_strings(&mut page, words);
     page
 }
-
-#[cfg(test)]
-mod tests;

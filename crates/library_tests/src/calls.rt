@@ -1,0 +1,204 @@
+//! An environment that is asked call by call: `load`, `load_byte`, `store`, `store_byte`, `exchange`, `system`, `restore_frame`,
+//! `registers`, `set_registers`, `extra` and `set_extra`, as `UserOs` has them, and `bytes VA LEN` for so many of `load_byte`.
+
+ghost use Rattle.std.specs.Prelude.{◌%◌, ◌≡◌, ◌<◌};
+ghost use Rattle.jos_base.specs.declared.numbers.TheConstants.{NENV};
+
+use crate::telling::{numbers, quoted, registers_in, tell_numbers};
+use jos_base::{Called, Extra, Regs};
+use jos_host::MemHost;
+use jos_run::Served;
+use lib_os::{Stop, UserOs};
+use std::alloc::{AllocError, Global};
+
+/// An environment in a slot, over a host without files and input at which no call fails.
+#[derive(Drop)]
+pub(crate) struct Bench {
+    served: Served,
+    host: MemHost,
+    slot: usize,
+    ghost in_table: { slot < NENV },
+}
+
+/// The multiple of four at an address or before it.
+fn aligned(va: u32) -> u32
+    ensures { result % 4 ≡ 0 }
+{
+    va - va % 4
+}
+
+/// A word that a call gave.
+fn tell_word(alloc: Global, given: Result<u32, Stop>) -> Result<String, AllocError> {
+    match given {
+        Ok(word) => format!(in alloc; "{word:x}"),
+        Err(stop) => format!(in alloc; "{stop:?}"),
+    }
+}
+
+/// That a call was made.
+fn tell_done(alloc: Global, done: Result<(), Stop>) -> Result<String, AllocError> {
+    match done {
+        Ok(()) => String::from_str(alloc, "done"),
+        Err(stop) => format!(in alloc; "{stop:?}"),
+    }
+}
+
+impl Bench {
+    /// The environment that stands in a slot.
+    pub(crate) fn new(alloc: Global, served: Served, slot: usize) -> Bench
+        requires { slot < NENV }
+    {
+        let host = MemHost::new(alloc, Vec::new(alloc), Vec::new(alloc), Vec::new(alloc));
+        Bench { served, host, slot }
+    }
+
+    /// So many bytes from an address on.
+    fn bytes(&mut self, alloc: Global, va: u32, len: u32) -> Result<String, AllocError> {
+        let mut text = String::new(alloc);
+        for k in 0..len {
+            self.served.serve(self.slot);
+            if !self.served.is_live() {
+                return String::from_str(alloc, "gone");
+            }
+            if !text.is_empty() {
+                text.push_str(" ")?;
+            }
+            match self.served.load_byte(&mut self.host, va.wrapping_add(k)) {
+                Ok(byte) => write!(text, "{byte:02x}")?,
+                Err(stop) => write!(text, "{stop:?}")?,
+            }
+        }
+        Ok(text)
+    }
+
+    /// Makes a call that reaches memory, if this is one. Each is the first for which the environment is served.
+    fn memory_call(
+        &mut self,
+        alloc: Global,
+        call: &str,
+        given: &str,
+    ) -> Result<Option<String>, AllocError> {
+        self.served.serve(self.slot);
+        if !self.served.is_live() {
+            return Ok(Some(String::from_str(alloc, "gone")?));
+        }
+        let [va, word, ..] = numbers(given);
+        let (served, host) = (&mut self.served, &mut self.host);
+        let told = match call {
+            "load" => tell_word(alloc, served.load(host, aligned(va))),
+            "load_byte" => tell_word(alloc, served.load_byte(host, va).map(u32::from)),
+            "store" => tell_done(alloc, served.store(host, aligned(va), word)),
+            "store_byte" => tell_done(alloc, served.store_byte(host, va, (word % 256) as u8)),
+            "exchange" => tell_word(alloc, served.exchange(host, aligned(va), word)),
+            "restore_frame" => tell_done(alloc, served.restore_frame(host)),
+            _ => return Ok(None),
+        };
+        Ok(Some(told?))
+    }
+
+    /// Makes a system call.
+    fn system_call(&mut self, alloc: Global, given: &str) -> Result<String, AllocError> {
+        self.served.serve(self.slot);
+        if !self.served.is_live() {
+            return String::from_str(alloc, "gone");
+        }
+        let [number, first, second, third, fourth, fifth, ..] = numbers(given);
+        let args = [first, second, third, fourth, fifth];
+        match self.served.system(&mut self.host, number, args) {
+            Ok(Called::Answered(word)) => format!(in alloc; "{word:x}"),
+            Ok(called) => format!(in alloc; "{called:?}"),
+            Err(_) => String::from_str(alloc, "the host failed"),
+        }
+    }
+
+    /// What is told for a line.
+    pub(crate) fn asked(
+        &mut self,
+        alloc: Global,
+        call: &str,
+        given: &str,
+    ) -> Result<String, AllocError> {
+        if let Some(told) = self.memory_call(alloc, call, given)? {
+            return Ok(told);
+        }
+        match call {
+            "bytes" => {
+                let [va, len, ..] = numbers(given);
+                self.bytes(alloc, va, len)
+            }
+            "system" => self.system_call(alloc, given),
+            _ => self.own_call(alloc, call, given),
+        }
+    }
+
+    /// Tells or sets what the environment has of its own.
+    fn own_call(&mut self, alloc: Global, call: &str, given: &str) -> Result<String, AllocError> {
+        self.served.serve(self.slot);
+        if !self.served.is_live() {
+            return String::from_str(alloc, "gone");
+        }
+        match call {
+            "registers" => {
+                let Regs {
+                    eax,
+                    ecx,
+                    edx,
+                    ebx,
+                    esp,
+                    ebp,
+                    esi,
+                    edi,
+                    eip,
+                    eflags,
+                } = self.served.registers();
+                let words = [eax, ecx, edx, ebx, esp, ebp, esi, edi, eip, eflags];
+                tell_numbers(alloc, &words)
+            }
+            "set_registers" => {
+                self.served.set_registers(registers_in(given));
+                String::from_str(alloc, "done")
+            }
+            "extra" => {
+                let Extra(words) = self.served.extra();
+                tell_numbers(alloc, &words)
+            }
+            "set_extra" => {
+                self.served.set_extra(Extra(numbers(given)));
+                String::from_str(alloc, "done")
+            }
+            _ => String::from_str(alloc, "no call"),
+        }
+    }
+
+    /// Makes so many steps of the environment, and tells what comes of them.
+    pub(crate) fn go(&mut self, alloc: Global, steps: u32) -> Result<String, AllocError> {
+        for _ in 0..steps {
+            self.served.serve(self.slot);
+            if !self.served.is_live() || !self.served.is_awake() {
+                break;
+            }
+            if self.served.step(&mut self.host).is_err() {
+                return String::from_str(alloc, "the host failed");
+            }
+        }
+        let printed = quoted(alloc, self.host.console())?;
+        if !self.served.is_live() {
+            format!(in alloc; "ends {printed}")
+        } else if !self.served.is_awake() {
+            format!(in alloc; "waits {printed}")
+        } else {
+            let eax = self.served.registers().eax;
+            format!(in alloc; "{eax:x} {printed}")
+        }
+    }
+
+    /// How the environment stands at last, how many bytes were printed, and which.
+    pub(crate) fn end(self, alloc: Global) -> Result<String, AllocError> {
+        let Bench { served, host, slot } = self;
+        let written = served.written();
+        let (system, _input) = served.into_parts();
+        let status = system.environment(slot).status;
+        let printed = quoted(alloc, host.console())?;
+        format!(in alloc; "{status:?}, {written} bytes {printed}")
+    }
+}
