@@ -1,7 +1,7 @@
 #!/bin/sh
 # Writes the image of pages.c to a file:
 #
-#     sh crates/jos_cli/data/make-pages.sh FILE
+#     sh crates/jos/data/make-pages.sh FILE
 #
 # It takes a gcc that compiles for the 80386.
 set -e

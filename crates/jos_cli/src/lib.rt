@@ -1,10 +1,10 @@
-//! `jos`: MIT 6.828's teaching kernel JOS and the modelled 80386 that it runs on, as a program over files.
+//! The command line of `jos`: MIT 6.828's teaching kernel JOS and the modelled 80386 that it runs on, over files.
 //!
 //! `top` (in `answer`) does what the words of the command line ask, over any host, and `answer_texts` (in `texts`)
-//! does so for the words as std hands them out. `main` only makes the host over the system's files and streams,
-//! and exits with what `answer_arguments` gives. What `top` answers is proved: it is what `specs/Answer.antt`
-//! says of the words, the files and the input, by the run that `jos_kernel` defines; and for `run` it is what
-//! `specs/RunAnswers.antt` says, by the abstract system that `lib_os` defines.
+//! does so for the words as std hands them out. `answer_arguments` gives what the program exits with. What `top`
+//! answers is proved: it is what `specs/Answer.antt` says of the words, the files and the input, by the run that
+//! `jos_kernel` defines; and for `run` it is what `specs/RunAnswers.antt` says, by the abstract system that `lib_os`
+//! defines.
 #![tactic(auto)]
 
 ghost use Rattle.std.specs.Prelude.{◌≡◌};
@@ -31,13 +31,14 @@ mod outcome;
 mod running;
 mod texts;
 
-use crate::outcome::Outcome;
+pub use crate::answer::top;
+pub use crate::outcome::{End, Outcome, Refusal, Report, Stopped, Trace, TrapLine, Turn, Which};
 use crate::texts::answer_texts;
-use jos_host::{Host, OsHost};
+use jos_host::Host;
 use std::alloc::Global;
 use std::env::Args;
+use std::io;
 use std::process::ExitCode;
-use std::{env, io};
 
 /// What the program exits with.
 fn exit_code(outcome: &Outcome) -> ExitCode
@@ -47,7 +48,7 @@ fn exit_code(outcome: &Outcome) -> ExitCode
 }
 
 /// Does what the words ask that std hands out, and gives what the program exits with.
-fn answer_arguments<H: Host>(alloc: Global, read: io::Result<Args>, host: &mut H) -> ExitCode
+pub fn answer_arguments<H: Host>(alloc: Global, read: io::Result<Args>, host: &mut H) -> ExitCode
     // It is the exit status of the outcome that these words have.
     ensures answered { (outcome : Outcome) × (exit_status result ≡ status_of outcome)
         × AnswersCommand (H.files host.old) (H.input host.old) (command_of (given_words read)) outcome (around H.console host.old host.new)
@@ -65,12 +66,7 @@ fn answer_arguments<H: Host>(alloc: Global, read: io::Result<Args>, host: &mut H
     exit_code(&answer_texts(alloc, read, host))
 }
 
-fn main(rt: HostRuntime) -> ExitCode {
-    let mut host = OsHost::new(&rt, rt.stderr());
-    answer_arguments(rt.alloc(), env::args(&rt), &mut host)
-}
-
 #[cfg(test)]
-mod main_tests;
+mod argument_tests;
 #[cfg(test)]
 mod tests;
