@@ -1,11 +1,11 @@
-# What the checks of this folder and of library/ have in common: they make the runs of their table, and build their images
-# again. One who sources this has set
+# What the checks of this folder, of library/ and of commands/ have in common: they make the runs of their table. Those of this
+# folder and of library/ build their images again, too. One who sources this has set
 #
 #     examples   this folder
-#     here       the folder of the check, with table, consoles, programs, bin and Makefile
+#     here       the folder of the check, with table, and where it has images consoles, programs, bin and Makefile
 #     folder     its name, as messages have it
 #
-# and has defined
+# and for check_table and check_images has defined
 #
 #     names      of first columns of the table on standard input: the names of the programs in them, one a line
 #     run        of the columns of a line: makes its runs
@@ -37,8 +37,21 @@ begin() {
         finish
     fi
     "$jos" </dev/null 2>&1 >/dev/null | grep -v '^usage: '
+    make_scratch
+}
+
+make_scratch() {
     scratch=$(mktemp -d) || exit 1
     trap 'rm -rf "$scratch"' EXIT
+}
+
+# make_run INPUT CONSOLE WORD..: makes a run by these words of $jos, with its console in a file; its notes are left in
+# $scratch/notes, and its exit status in $got
+make_run() {
+    input=$1 output=$2
+    shift 2
+    "$jos" "$@" <"$input" >"$output" 2>"$scratch/notes"
+    got=$?
 }
 
 # has_image NAME TITLE
@@ -48,22 +61,26 @@ has_image() {
     return 1
 }
 
-# compare TITLE CONSOLE NOTE STATUS INPUT WORD..: makes a run by these words of ./jos, and compares its console with that
-# of consoles/, its last note with the one wanted, an expression of grep -E, and its exit status
+# is_only_note NOTE: whether the notes are one line, and it is the one wanted, an expression of grep -E
+is_only_note() {
+    [ $(($(wc -l <"$scratch/notes"))) = 1 ] && [ "$(grep -c '' "$scratch/notes")" = 1 ] && grep -qxE -e "$1" "$scratch/notes"
+}
+
+# compare TITLE CONSOLE NOTE STATUS INPUT WORD..: makes a run by these words of $jos, and compares its console with that
+# of consoles/, its notes with the only one wanted, an expression of grep -E, and its exit status
 compare() {
-    title=$1 console=$here/consoles/$2 note=$3 status=$4 input=$5
+    title=$1 wanted=$here/consoles/$2 note=$3 status=$4 input=$5
     shift 5
-    if ! [ -f "$console" ]; then
-        fail "$title: there is no file $folder/consoles/${console##*/}"
+    if ! [ -f "$wanted" ]; then
+        fail "$title: there is no file $folder/consoles/${wanted##*/}"
         return
     fi
-    "$jos" "$@" <"$input" >"$scratch/console" 2>"$scratch/note"
-    got=$?
-    if ! cmp -s "$scratch/console" "$console"; then
-        fail "$title: the console is not $folder/consoles/${console##*/}:"
-        diff -a "$console" "$scratch/console" | head -n 20
-    elif ! tail -n 1 "$scratch/note" | grep -qxE -e "$note" || [ "$got" != "$status" ]; then
-        fail "$title: it should end '$note' with status $status, and has status $got and the note: $(cat "$scratch/note")"
+    make_run "$input" "$scratch/console" "$@"
+    if ! cmp -s "$scratch/console" "$wanted"; then
+        fail "$title: the console is not $folder/consoles/${wanted##*/}:"
+        diff -a "$wanted" "$scratch/console" | head -n 20
+    elif ! is_only_note "$note" || [ "$got" != "$status" ]; then
+        fail "$title: it should end '$note' with status $status, and has status $got and the notes: $(cat "$scratch/notes")"
     else
         passed=$((passed + 1))
     fi
