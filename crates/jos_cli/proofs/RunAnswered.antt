@@ -49,8 +49,8 @@ told_nothing : (refusal : Option Refusal) (schedule : List ℕ) (first : Abstrac
     ToldBy refusal schedule first frames budget report printed → report.turns ≡ [] → printed ≡ []
 unfolding abs_run
 told_nothing None schedule first frames budget report printed h none =
-    let taken = h.1.1 in
-    let at_first : ◌≡◌ {A = Option AbstractState} (Some first) (Some h.1.0) = ap (abs_run first) (sym none) ∙ taken.ran in
+    let taken = h.1.taken in
+    let at_first : ◌≡◌ {A = Option AbstractState} (Some first) (Some h.1.now) = ap (abs_run first) (sym none) ∙ taken.ran in
     nothing_more first.console printed (ap (λ (a : Option AbstractState). (unwrap_or a first).console) at_first ∙ taken.console)
 told_nothing (Some refusal) schedule first frames budget report printed h none =
     absurd (no_turn h.1.before h.1.later report.turns h.1.turn h.1.turns_are none)

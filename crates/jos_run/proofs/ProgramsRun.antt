@@ -18,7 +18,7 @@ use Rattle.jos_run.specs.Boot.{booted_within}
 use Rattle.jos_run.specs.RunEnds.{AnswersBy, RunsFrom, program_of}
 use Rattle.jos_run.specs.Start.{start}
 use Rattle.jos_run.specs.RunReports.{IsTold, IsToldCutOff}
-use Rattle.jos_run.specs.Running.{Holds, Runs, HasRun, report_of, cut_off_of}
+use Rattle.jos_run.specs.Running.{HasRoom, Holds, Runs, HasRun, report_of, cut_off_of}
 use Rattle.jos_run.proofs.RunEnds.{told_whole, told_cut_off}
 
 pub ended_told : {budget : ℕ} {r t : LibraryRun} {a b : Option (List ℕ)} (end : End) (report : Reported) (schedule : List ℕ) →
@@ -34,11 +34,11 @@ ended_told {budget = budget} {r = r} {t = t} end report schedule ran none holds 
     )
 
 pub failed_told : {r t : LibraryRun} {a b : Option (List ℕ)} (budget : ℕ) (failed : Failed) (cut : CutOff) (schedule : List ℕ) →
-    HasRun budget (Err failed) (from_to r t) (from_to a b) → r.schedule ≡ schedule → cut ≡ cut_off_of t →
+    HasRun budget (Err failed) (from_to r t) (from_to a b) → HasRoom t → r.schedule ≡ schedule → cut ≡ cut_off_of t →
     (first : AbstractState) (frames : ℕ) → Runs first frames r [] → IsToldCutOff schedule first frames cut (from_to a b)
-failed_told {r = r} {a = a} {b = b} budget failed cut schedule ran scheduled cut_is first frames h =
+failed_told {r = r} {a = a} {b = b} budget failed cut schedule ran room scheduled cut_is first frames h =
     subst (λ (numbers : List ℕ). IsToldCutOff numbers first frames cut (from_to a b)) scheduled
-    (subst (λ (x : CutOff). IsToldCutOff r.schedule first frames x (from_to a b)) (sym cut_is) (told_cut_off ran first frames h))
+    (subst (λ (x : CutOff). IsToldCutOff r.schedule first frames x (from_to a b)) (sym cut_is) (told_cut_off ran room first frames h))
 
 -- so `run` answers what it has to
 pub booted_answers : (setup : Setup) (file : List ℕ) (words : List (List ℕ)) (image : Layout) (result : RunEnd) (console : Around (Option (List ℕ))) →

@@ -5,7 +5,7 @@ use Rattle.std.proofs.Common.{Option, Some, None, Ok, refl, sym, ap, subst, arit
 use Rattle.std.specs.Prelude.{nat_le, not, is_none}
 use Rattle.std.specs.Option.{ForSome}
 use Rattle.std.proofs.lemmas.Bool.Decides.{nat_tests}
-use Rattle.std.proofs.lemmas.List.{append-nil}
+use Rattle.std.proofs.lemmas.List.{append-nil, length-append}
 use Rattle.jos_host.specs.Frames.{from_to}
 use Rattle.jos_host.specs.Gains.{Gains}
 use Rattle.jos_base.specs.declared.environment.EnvType.{EnvType}
@@ -33,8 +33,8 @@ use Rattle.jos_run.specs.Begun.{IsNew}
 use Rattle.jos_run.specs.declared.library_run.LibraryRun.{LibraryRun}
 use Rattle.jos_run.specs.AbstractTurns.{next_slot, is_client, any_live, end_of}
 use Rattle.jos_run.specs.LibraryRuns.{OnlyFirstServes, is_user, others_live, end_seen, turn_of, IsBetween, IsInTurn}
-use Rattle.jos_run.specs.RunReports.{HasTaken, CutOffBy, ToldBy, IsTold, IsToldCutOff}
-use Rattle.jos_run.specs.Running.{state_of, made, turns_so_far, Holds, StandsBy, RunsBy, Runs, IsChosen, Went, HasFailed}
+use Rattle.jos_run.specs.RunReports.{HasEnded, CutOffBy, ToldBy, IsTold, IsToldCutOff}
+use Rattle.jos_run.specs.Running.{state_of, made, turns_so_far, HasRoom, Holds, StandsBy, RunsBy, Runs, IsChosen, Went, HasFailed}
 use Rattle.jos_run.specs.Running.{EndsBy, HasRun, report_of, cut_off_of}
 use Rattle.jos_run.proofs.Advancing.{awake_running}
 use Rattle.jos_run.proofs.Choices.{end_stands, ended_none, next_stands, runs_stand}
@@ -134,20 +134,18 @@ between_end r spent end none seen first frames printed = by_first r.first_refuse
     test = grind (arith, nat_tests)
 
     told : IsBetween r.schedule first r.turns.items (state_of r) printed →
-        (now : AbstractState) × HasTaken r.schedule first r.turns.items printed now × (end_of now (length r.turns.items) spent ≡ Some end)
-    told h = (
-      h.now,
-      record { ran = h.ran; fit = between_fits h; console = h.console },
-      ap (λ (k : ℕ). end_of h.now k spent) (sym r.turns.ok.0)
-          ∙ end_stands h.stands.1 h.none (users_first h.stands.1) (vec_len r.turns) spent ∙ seen,
-    )
+        HasEnded r.schedule first r.turns.items printed spent end
+    told h = record {
+      now = h.now;
+      taken = record { ran = h.ran; fit = between_fits h; console = h.console };
+      whole = λ other. h.fit;
+      over = ap (λ (k : ℕ). end_of h.now k spent) (sym r.turns.ok.0)
+          ∙ end_stands h.stands.1 h.none (users_first h.stands.1) (vec_len r.turns) spent ∙ seen;
+    }
 
     by_made : (c : Bool) → true ≡ c → StandsBy c r.schedule first r printed →
-        (now : AbstractState)
-        × HasTaken r.schedule first (if c then r.turns.items else r.turns.items ++ turn_of r.served.slot r.visible r.hidden ∷ [])
-        printed now
-        × (end_of now (length (if c then r.turns.items else r.turns.items ++ turn_of r.served.slot r.visible r.hidden ∷ []))
-        spent ≡ Some end)
+        HasEnded r.schedule first (if c then r.turns.items else r.turns.items ++ turn_of r.served.slot r.visible r.hidden ∷ [])
+        printed spent end
     by_made true is h = told h
     by_made false is h = absurd (let contradiction : true ≡ false = is in cc)
 
@@ -208,26 +206,23 @@ in_turn_end r holds some first frames printed = by_first r.first_refused
     test = grind (arith, nat_tests)
 
     told : IsInTurn r.schedule first r.turns.items r.served.slot r.visible (state_of r) printed →
-        (now : AbstractState)
-        × HasTaken r.schedule first (r.turns.items ++ turn_of r.served.slot r.visible r.hidden ∷ []) printed now
-        × (end_of now (length (r.turns.items ++ turn_of r.served.slot r.visible r.hidden ∷ [])) true ≡ Some Budget)
+        HasEnded r.schedule first (r.turns.items ++ turn_of r.served.slot r.visible r.hidden ∷ []) printed true Budget
     told h =
         let left : made r < quantum r.schedule (length r.turns.items) = holds.left some in
         let within : r.served.slot < NENV = holds.last r.served.slot (holds.current some) in
-        let runs = holds.running some in (
-          h.now,
-          record { ran = in_turn_ran h r.hidden; fit = in_turn_fits h r.hidden some (omega arith); console = h.console },
-          spent_end h.now (length (r.turns.items ++ turn_of r.served.slot r.visible r.hidden ∷ []))
+        let runs = holds.running some in
+        record {
+          now = h.now;
+          taken = record { ran = in_turn_ran h r.hidden; fit = in_turn_fits h r.hidden some (omega arith); console = h.console };
+          whole = λ other. absurd (other refl);
+          over = spent_end h.now (length (r.turns.items ++ turn_of r.served.slot r.visible r.hidden ∷ []))
               (running_client h.stands.1 r.served.slot within runs)
-              (goes_on_next h.stands.1 r.served.slot within holds.last h.only runs),
-        )
+              (goes_on_next h.stands.1 r.served.slot within holds.last h.only runs);
+        }
 
     by_made : (c : Bool) → false ≡ c → StandsBy c r.schedule first r printed →
-        (now : AbstractState)
-        × HasTaken r.schedule first (if c then r.turns.items else r.turns.items ++ turn_of r.served.slot r.visible r.hidden ∷ [])
-        printed now
-        × (end_of now (length (if c then r.turns.items else r.turns.items ++ turn_of r.served.slot r.visible r.hidden ∷ []))
-        true ≡ Some Budget)
+        HasEnded r.schedule first (if c then r.turns.items else r.turns.items ++ turn_of r.served.slot r.visible r.hidden ∷ [])
+        printed true Budget
     by_made true is h = absurd (let contradiction : false ≡ true = is in cc)
     by_made false is h = told h
 
@@ -288,6 +283,19 @@ begins r empty none quiet written first frames stands h =
       counted_so = written;
     })
 
+-- No more turns are told than a run may have.
+turns_within : (r : LibraryRun) → HasRoom r → length (turns_so_far r) ≤ TURN_MAX
+turns_within r h = by_test (made r == 0) refl
+  where
+    by_test : (c : Bool) → (made r == 0) ≡ c →
+        length (if c then r.turns.items else r.turns.items ++ turn_of r.served.slot r.visible r.hidden ∷ []) ≤ TURN_MAX
+    by_test true is = omega (arith, h.most, r.turns.ok.0)
+    by_test false is =
+        let below : vec_len r.turns < TURN_MAX = h.place (some_made r is) in
+        let longer : length (r.turns.items ++ turn_of r.served.slot r.visible r.hidden ∷ []) ≡ length r.turns.items + 1 =
+        length-append r.turns.items (turn_of r.served.slot r.visible r.hidden ∷ []) in
+        omega (arith, below, longer, r.turns.ok.0)
+
 -- The report of a run that has ended by itself.
 pub told_whole : {budget : ℕ} {r t : LibraryRun} {a b : Option (List ℕ)} (end : End) →
     HasRun budget (Ok end) (from_to r t) (from_to a b) → r.steps ≡ 0 → Holds t →
@@ -302,6 +310,7 @@ told_whole {budget = budget} {r = r} {t = t} end ran none holds first frames h =
       record {
         steps = holds.steps;
         within = omega arith;
+        most = turns_within t holds.has_room;
         closing = refl;
         by_refusal = subst (λ (schedule : List ℕ). ToldBy t.first_refused schedule first frames budget (report_of t end)
             went.printed) went.schedule
@@ -313,13 +322,14 @@ told_whole {budget = budget} {r = r} {t = t} end ran none holds first frames h =
         EndsBy o first (ran.0 == budget) t ran.2.printed end →
         ToldBy o t.schedule first frames budget (report_of t end) ran.2.printed
     by_first steps None runs ends =
-        (runs.quiet, (ends.0, ends.1, ap (λ (n : ℕ). end_of ends.0 (length (turns_so_far t)) (n == budget)) steps ∙ ends.2))
+        (runs.quiet, subst (λ (n : ℕ). HasEnded t.schedule first (turns_so_far t) ran.2.printed (n == budget) end) (sym steps) ends)
     by_first steps (Some refusal) runs ends = runs
 
 -- What is told of one that was cut off.
-pub told_cut_off : {r t : LibraryRun} {a b : Option (List ℕ)} → HasFailed (from_to r t) (from_to a b) →
+pub told_cut_off : {r t : LibraryRun} {a b : Option (List ℕ)} → HasFailed (from_to r t) (from_to a b) → HasRoom t →
     (first : AbstractState) (frames : ℕ) → Runs first frames r [] → IsToldCutOff r.schedule first frames (cut_off_of t) (from_to a b)
-told_cut_off failed first frames h = (failed.printed, failed.gains, failed.cut_off first frames [] h)
+told_cut_off {t = t} failed room first frames h =
+    (failed.printed, failed.gains, failed.cut_off first frames [] h, turns_within t room)
 
 -- ---- the next step
 

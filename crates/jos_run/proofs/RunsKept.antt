@@ -31,8 +31,8 @@ use Rattle.lib_os.specs.StandsFor.{StandsFor, StandsForSlot, StandsAt, StandsAtS
 use Rattle.lib_os.proofs.SlotsStand.{born_at}
 use Rattle.lib_os.proofs.StatesStand.{turn_begun_stands, turn_ended_stands}
 use Rattle.jos_run.specs.AbstractTurns.{turn_begun, steps_taken, abs_run, waits_in, stands_waiting}
-use Rattle.jos_run.specs.AbstractTurns.{yields_in, is_yielding, has_yielded, has_yielded_after, may_end, turn_fits, fits}
-use Rattle.jos_run.specs.LibraryRuns.{NoneRuns, OnlyRuns, turn_of, all_fit, IsBetween, IsInTurn, seen_after}
+use Rattle.jos_run.specs.AbstractTurns.{yields_in, is_yielding, has_yielded, has_yielded_after, may_end, turn_fits, fits, all_fit}
+use Rattle.jos_run.specs.LibraryRuns.{NoneRuns, OnlyRuns, turn_of, IsBetween, IsInTurn, seen_after}
 use Rattle.jos_run.proofs.Choices.{runs_stand, next_stands, begun_only, ended_none}
 use Rattle.jos_run.proofs.TurnsTaken.{run_with_turn, taken_is, no_steps, one_more_step, all_fit_append, fits_append, all_fit_fits}
 

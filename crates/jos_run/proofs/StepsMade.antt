@@ -31,7 +31,6 @@ use Rattle.jos_run.specs.Running.{made_after, goes_on_after, turn_after, Counted
 use Rattle.jos_run.proofs.Advancing.{Comes, stepped, turn_over}
 use Rattle.jos_run.proofs.Refusals.{refused_further, refused_longer}
 use Rattle.jos_run.proofs.RunsKept.{turn_begins, in_turn_ran, step_failed, failed_fits}
-use Rattle.jos_run.proofs.TurnsTaken.{all_fit_fits}
 
 -- ---- the turn under way, or the next
 
@@ -291,7 +290,7 @@ refused_first reached first frames r m n done bytes printed k rose h =
       place = r.turns.ok.0;
       begun = t.before;
       ran = t.ran;
-      fit = all_fit_fits r.schedule 0 first r.turns.items t.fit;
+      fit = t.fit;
       chosen = t.chosen ∙ ap (λ (x : ℕ). Some x) (sym k.slot);
       visible = r.visible;
       within = subst (λ (x : ℕ). r.visible ≤ seen_after done x) (sym k.visible) grown;
@@ -433,6 +432,7 @@ cut_off_in first frames r m n part bytes printed k h =
       visible = r.visible;
       hidden = r.hidden;
       turns_are = refl;
+      fit = t.fit;
       begun = t.now;
       told = printed;
       ran = in_turn_ran t r.hidden;

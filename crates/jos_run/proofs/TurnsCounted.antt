@@ -36,7 +36,7 @@ begun_holds r room empty none turns last steps =
     let told : turns_so_far r ≡ r.turns.items =
     ap (λ (c : Bool). if c then r.turns.items else r.turns.items ++ turn_of r.served.slot r.visible r.hidden ∷ []) (sym test) in
     record {
-      has_room = record { room = room; place = λ some. absurd (omega (arith, none, some)); small = omega (arith, none) };
+      has_room = record { room = room; most = omega (arith, long); place = λ some. absurd (omega (arith, none, some)); small = omega (arith, none) };
       turns = subst (λ (c : Bool). (state_of r).turns ≡ (if c then vec_len r.turns else vec_len r.turns + 1)) test (turns ∙ sym long);
       left = λ some. absurd (omega (arith, none, some));
       running = λ some. absurd (omega (arith, none, some));
@@ -89,7 +89,7 @@ counted_holds true old new done k goes_on t room =
     let all : new.steps ≡ old.steps + 1 = k.steps_are in
     let before : old.steps ≡ steps_of old.turns.items + made old = t.steps in
     record {
-      has_room = record { room = room; place = λ some. omega (arith, long, t.place); small = omega (arith, now_made, below, t.small) };
+      has_room = record { room = room; most = omega (arith, long, t.place); place = λ some. omega (arith, long, t.place); small = omega (arith, now_made, below, t.small) };
       turns = subst (λ (b : Bool). (state_of new).turns ≡ (if b then vec_len new.turns else vec_len new.turns + 1)) test
           ((λ i. (k.state i).turns) ∙ t.turns ∙ ap (λ (n : ℕ). n + 1) (sym long));
       left = λ some. omega (arith, now_made, below, limit);
@@ -111,7 +111,7 @@ counted_holds false old new done k goes_on t room =
     let all : new.steps ≡ old.steps + 1 = k.steps_are in
     let before : old.steps ≡ steps_of old.turns.items + made old = t.steps in
     record {
-      has_room = record { room = room; place = λ some. absurd (omega (arith, none, some)); small = omega (arith, none) };
+      has_room = record { room = room; most = omega (arith, long, t.place); place = λ some. absurd (omega (arith, none, some)); small = omega (arith, none) };
       turns = subst (λ (b : Bool). (state_of new).turns ≡ (if b then vec_len new.turns else vec_len new.turns + 1)) test
           ((λ i. (k.state i).turns) ∙ ended.0 ∙ t.turns ∙ sym long);
       left = λ some. absurd (omega (arith, none, some));

@@ -9,8 +9,8 @@ use Rattle.jos_kernel.specs.declared.report.Turn.{Turn}
 use Rattle.lib_os.specs.AbstractState.{AbstractState}
 use Rattle.lib_os.specs.AbstractRun.{abs_step}
 use Rattle.jos_run.specs.AbstractTurns.{next_slot, turn_begun, and_then, steps_taken, is_chosen, turn_taken, abs_run}
-use Rattle.jos_run.specs.AbstractTurns.{may_end, turn_fits, is_empty, holds_of, fits}
-use Rattle.jos_run.specs.LibraryRuns.{turn_of, all_fit}
+use Rattle.jos_run.specs.AbstractTurns.{may_end, turn_fits, is_empty, holds_of, fits, all_fit}
+use Rattle.jos_run.specs.LibraryRuns.{turn_of}
 
 -- ---- one behind the other
 

@@ -140,3 +140,9 @@ unfoldable pub fits : List ℕ → ℕ → AbstractState → List Turn → Bool
 fits schedule k a [] = true
 fits schedule k a (turn ∷ rest) =
     holds_of (turn_taken a turn) (λ b. turn_fits schedule k (is_empty rest) a turn b && fits schedule (k + 1) b rest)
+
+-- the same of turns of which none is cut short: each fits as one that is not the last
+unfoldable pub all_fit : List ℕ → ℕ → AbstractState → List Turn → Bool
+all_fit schedule k a [] = true
+all_fit schedule k a (turn ∷ rest) =
+    holds_of (turn_taken a turn) (λ b. turn_fits schedule k false a turn b && all_fit schedule (k + 1) b rest)

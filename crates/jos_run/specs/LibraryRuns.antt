@@ -16,7 +16,7 @@ use Rattle.lib_os.specs.declared.progress.Progress.{Progress}
 use Rattle.lib_os.specs.declared.progress.Progress.TheVariants as progress
 use Rattle.lib_os.specs.AbstractState.{AbstractState}
 use Rattle.lib_os.specs.LibrarySteps.{Stands}
-use Rattle.jos_run.specs.AbstractTurns.{next_slot, turn_begun, steps_taken, turn_taken, abs_run, turn_fits, holds_of}
+use Rattle.jos_run.specs.AbstractTurns.{next_slot, turn_begun, steps_taken, abs_run, all_fit}
 
 -- ---- the kernel's slots
 
@@ -40,12 +40,6 @@ OnlyFirstServes s = (n : ℕ) → n ≢ 0 → is_user (slot_at s n).env_type ≡
 
 abbrev pub turn_of : ℕ → ℕ → ℕ → Turn
 turn_of n visible hidden = record { slot = n; visible = visible; hidden = hidden }
-
--- Each turn fits as one that is not the last, from turn k on.
-unfoldable pub all_fit : List ℕ → ℕ → AbstractState → List Turn → Bool
-all_fit schedule k a [] = true
-all_fit schedule k a (turn ∷ rest) =
-    holds_of (turn_taken a turn) (λ b. turn_fits schedule k false a turn b && all_fit schedule (k + 1) b rest)
 
 -- ---- where a run stands
 

@@ -1,16 +1,19 @@
 -- What is told of a run of the library's programs: the turns that it took, and how it ended. The abstract system takes
 -- these turns and prints these bytes, up to the first time that a page was refused for want of a frame.
-use Rattle.std.specs.Prelude.{◌≡◌, ◌<◌, ◌≤◌, ℕ, ◌+◌, ◌-◌, ◌==◌, true, List, [], ◌∷◌, ◌++◌, length, Option, Some, None}
+use Rattle.std.specs.Prelude.{◌≡◌, ◌≢◌, ◌<◌, ◌≤◌, ℕ, ◌+◌, ◌-◌, ◌==◌, Bool, true, List, [], ◌∷◌, ◌++◌, length, Option, Some, None}
 use Rattle.jos_host.specs.Frames.{Around}
 use Rattle.jos_host.specs.Gains.{Gains}
+use Rattle.jos_base.specs.declared.numbers.TheConstants.{TURN_MAX}
 use Rattle.jos_base.specs.SpacesState.{reserved_frames}
+use Rattle.jos_kernel.specs.declared.report.End.{End}
+use Rattle.jos_kernel.specs.declared.report.End.TheVariants.{Budget}
 use Rattle.jos_kernel.specs.declared.report.Refusal.{Refusal}
 use Rattle.jos_kernel.specs.declared.report.Turn.{Turn}
 use Rattle.jos_kernel.specs.ExoRun.{counted}
 use Rattle.jos_kernel.specs.Reports.{Reported, CutOff}
 use Rattle.lib_os.specs.AbstractState.{AbstractState}
 use Rattle.lib_os.specs.Need.{need}
-use Rattle.jos_run.specs.AbstractTurns.{next_slot, turn_begun, steps_taken, abs_run, end_of, fits}
+use Rattle.jos_run.specs.AbstractTurns.{next_slot, turn_begun, steps_taken, abs_run, end_of, fits, all_fit}
 use Rattle.jos_run.specs.LibraryRuns.{turn_of}
 
 -- ---- without a refusal
@@ -38,7 +41,7 @@ pub record IsRefused (schedule : List ℕ) (first : AbstractState) (frames : ℕ
   -- where the turn began
   pub begun : AbstractState
   pub ran : abs_run first before ≡ Some begun
-  pub fit : fits schedule 0 first before ≡ true
+  pub fit : all_fit schedule 0 first before ≡ true
   pub chosen : next_slot begun ≡ Some turn.slot
   -- where the step began that was refused a page
   pub visible : ℕ
@@ -61,14 +64,18 @@ unfoldable pub steps_of : List Turn → ℕ
 steps_of [] = 0
 steps_of (turn ∷ rest) = turn.visible + turn.hidden + steps_of rest
 
--- how the run ended, by the end tests on what the abstract system has come to
-abbrev pub HasEnded : List ℕ → AbstractState → ℕ → Reported → List ℕ → Type 0
-HasEnded schedule first budget report printed =
-    (now : AbstractState) × HasTaken schedule first report.turns printed now
-    × (end_of now (length report.turns) (report.steps == budget) ≡ Some report.end)
+-- The end tests on what the abstract system has come to with these turns tell this end; `spent` says whether the steps are
+-- used up. Nothing else cuts a turn short.
+pub record HasEnded (schedule : List ℕ) (first : AbstractState) (turns : List Turn) (printed : List ℕ) (spent : Bool)
+    (end : End) : Type 0 where
+  pub now : AbstractState
+  pub taken : HasTaken schedule first turns printed now
+  pub whole : end ≢ Budget → all_fit schedule 0 first turns ≡ true
+  pub over : end_of now (length turns) spent ≡ Some end
 
 abbrev pub ToldBy : Option Refusal → List ℕ → AbstractState → ℕ → ℕ → Reported → List ℕ → Type 0
-ToldBy None schedule first frames budget report printed = (report.refused ≡ 0) × HasEnded schedule first budget report printed
+ToldBy None schedule first frames budget report printed =
+    (report.refused ≡ 0) × HasEnded schedule first report.turns printed (report.steps == budget) report.end
 ToldBy (Some refusal) schedule first frames budget report printed =
     (0 < report.refused) × IsRefused schedule first frames report.turns refusal printed
 
@@ -76,6 +83,7 @@ ToldBy (Some refusal) schedule first frames budget report printed =
 pub record IsTold (schedule : List ℕ) (first : AbstractState) (frames budget : ℕ) (report : Reported) (printed : List ℕ) : Type 0 where
   pub steps : report.steps ≡ steps_of report.turns
   pub within : report.steps ≤ budget
+  pub most : length report.turns ≤ TURN_MAX
   pub closing : report.closing ≡ 0
   pub by_refusal : ToldBy report.first_refused schedule first frames budget report printed
 
@@ -88,6 +96,7 @@ pub record IsCutOff (schedule : List ℕ) (first : AbstractState) (turns : List 
   pub visible : ℕ
   pub hidden : ℕ
   pub turns_are : turns ≡ before ++ turn_of slot (visible + 1) hidden ∷ []
+  pub fit : all_fit schedule 0 first before ≡ true
   -- where the step began, and what was printed by then
   pub begun : AbstractState
   pub told : List ℕ
@@ -110,3 +119,4 @@ CutOffBy (Some refusal) schedule first frames turns printed = IsRefused schedule
 abbrev pub IsToldCutOff : List ℕ → AbstractState → ℕ → CutOff → Around (Option (List ℕ)) → Type 0
 IsToldCutOff schedule first frames cut console =
     (printed : List ℕ) × Gains console printed × CutOffBy cut.first_refused schedule first frames cut.turns printed
+    × (length cut.turns ≤ TURN_MAX)

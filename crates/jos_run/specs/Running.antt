@@ -21,8 +21,7 @@ use Rattle.lib_os.specs.Need.{EachHasUse}
 use Rattle.jos_run.specs.declared.library_run.LibraryRun.{LibraryRun}
 use Rattle.jos_run.specs.Served.{kernel_state}
 use Rattle.jos_run.specs.LibraryRuns.{turn_of, IsBetween, IsInTurn, seen_after, hidden_after, end_seen}
-use Rattle.jos_run.specs.AbstractTurns.{end_of}
-use Rattle.jos_run.specs.RunReports.{IsRefused, HasTaken, steps_of, CutOffBy}
+use Rattle.jos_run.specs.RunReports.{IsRefused, HasEnded, steps_of, CutOffBy}
 
 abbrev pub state_of : LibraryRun → KernelState
 state_of r = kernel_state r.served
@@ -40,6 +39,7 @@ turns_so_far r = if made r == 0 then r.turns.items else r.turns.items ++ turn_of
 -- There is room for each turn of a run.
 pub record HasRoom (r : LibraryRun) : Type 0 where
   pub room : TURN_MAX ≤ vec_capacity r.turns
+  pub most : vec_len r.turns ≤ TURN_MAX
   pub place : 0 < made r → vec_len r.turns < TURN_MAX
   pub small : made r < 2 ^ 31
 
@@ -151,9 +151,7 @@ Advances steps (Err _) run console = HasFailed run console
 -- The end tests on what the abstract system has come to tell this end, where no page was refused. `spent` says whether the
 -- steps are used up.
 abbrev pub EndsBy : Option Refusal → AbstractState → Bool → LibraryRun → List ℕ → End → Type 0
-EndsBy None first spent r printed end =
-    (now : AbstractState) × HasTaken r.schedule first (turns_so_far r) printed now
-    × (end_of now (length (turns_so_far r)) spent ≡ Some end)
+EndsBy None first spent r printed end = HasEnded r.schedule first (turns_so_far r) printed spent end
 EndsBy (Some refusal) first spent r printed end = Unit {0}
 
 -- The run has gone on to its end, with so many steps at most; or the host failed.

@@ -18,6 +18,6 @@ pub returns-in-Err-clause-runs : goal.returns-in-Err-clause-runs
 returns-in-Err-clause-runs g c first stands =
     let same = sym (c.new-served.ensures.state ∙ ap (state_of c.args.system) c.new.ensures) in
     failed_told c.args.setup.budget c.in-Err.field-0 c.cut_off.result c.args.setup.schedule c.in-Err.ensures.told
-    c.begin-run.ensures.schedule c.cut_off.ensures first c.args.setup.frames
+    c.in-Err.ensures.room c.begin-run.ensures.schedule c.cut_off.ensures first c.args.setup.frames
     (c.begin-run.ensures.runs first c.args.setup.frames (subst (λ (k : KernelState). Stands k first) same stands)
     (subst (λ (k : KernelState). IsNew k c.args.setup.frames) same c.requires.new))
