@@ -61,8 +61,8 @@ no_refusal None schedule first frames budget report printed h none = refl
 no_refusal (Some refusal) schedule first frames budget report printed h none =
     absurd (no_turn h.1.before h.1.later report.turns h.1.turn h.1.turns_are none)
 
-ran_nothing : (p : Program) (report : Reported) (console : Around (Option (List ℕ))) → HasRun p report console → report.turns ≡ [] → console.after ≡ console.before
-ran_nothing p report console h none =
+ran_nothing : (p : Program) (report : Reported) (traps : List TrapLine) (console : Around (Option (List ℕ))) → HasRun p report traps console → report.turns ≡ [] → console.after ≡ console.before
+ran_nothing p report traps console h none =
     h.1.1
     ∙ ap (λ (l : List ℕ). option_map (λ (told : List ℕ). told ++ l) console.before) (told_nothing report.first_refused _ _ _ _ report h.1.0 h.1.2.by_refusal none)
     ∙ sym (gains_none console.before)
@@ -79,7 +79,7 @@ cut_is : (turns : List Turn) (p : Program) (cut : CutOff) (console : Around (Opt
 cut_is [] p cut console are (inl h) = absurd (cut_turn cut.first_refused _ _ _ cut.turns h.1.0 h.1.2 are)
 cut_is [] p cut console are (inr h) =
     let none = sym h.turns ∙ are in
-    (h.first_refused ∙ no_refusal h.report.first_refused _ _ _ _ h.report h.run.1.0 h.run.1.2.by_refusal none, ran_nothing p h.report console h.run none)
+    (h.first_refused ∙ no_refusal h.report.first_refused _ _ _ _ h.report h.run.1.0 h.run.1.2.by_refusal none, ran_nothing p h.report h.traps console h.run none)
 cut_is (turn ∷ turns) p cut console are h = h
 
 -- in a turn
@@ -90,7 +90,7 @@ in_turn p cut console h = cut_is cut.turns p cut console refl (inl h)
 answer_behind : (p : Program) (answer : Answer) (console : Around (Option (List ℕ))) → AnswersAs p answer console → RunsAs p (cut_off (cut_of (answered answer))) console
 answer_behind p (ran report traps) console h =
     cut_is report.turns p (record { turns = report.turns; first_refused = report.first_refused }) console refl
-    (inr (record { report = report; run = h; turns = refl; first_refused = refl }))
+    (inr (record { report = report; traps = traps; run = h; turns = refl; first_refused = refl }))
 answer_behind p (limit which.Boot) console h = (refl, h.1)
 answer_behind p (limit which.Frames) console h = absurd h
 answer_behind p (limit which.Steps) console h = absurd h
@@ -258,20 +258,20 @@ module _ (r : Run) (schedule input : List ℕ) (image : Layout) (file bytes : Li
     (are : words ≡ texts_of r) (is : settings ≡ settings_of (numbers_of_run r)) (read : parsed file ≡ Ok image) where
   -- the program as the run is given it
   abbrev given : Layout → Program
-  given layout = record { image = layout; file = bytes; words = words; frames = settings.frames; schedule = schedule; input = input; steps = settings.steps }
+  given layout = record { image = layout; file = bytes; words = words; frames = settings.frames; schedule = schedule; input = input; steps = settings.steps; trace = settings.trace }
 
   abbrev whole : Program
   whole = program_of r schedule (record { image = image; file = file }) input
 
   given_is : given image ≡ whole
-  given_is = λ i. record { image = image; file = same i; words = are i; frames = (is i).frames; schedule = schedule; input = input; steps = (is i).steps }
+  given_is = λ i. record { image = image; file = same i; words = are i; frames = (is i).frames; schedule = schedule; input = input; steps = (is i).steps; trace = (is i).trace }
 
   layout_is : (layout : Layout) → parsed bytes ≡ Ok layout → layout ≡ image
   layout_is layout e = ap (ok_or layout) (sym e ∙ ap parsed same ∙ read)
 
   pub on_ended : (report : Reported) (traps : List TrapLine) (console : Around (Option (List ℕ))) →
-      (layout : Layout) × (parsed bytes ≡ Ok layout) × HasRun (given layout) report console → RunsAs whole (answered (ran report traps)) console
-  on_ended report traps console h = subst (λ (p : Program). HasRun p report console) (ap given (layout_is h.0 h.1) ∙ given_is) h.2
+      (layout : Layout) × (parsed bytes ≡ Ok layout) × HasRun (given layout) report traps console → RunsAs whole (answered (ran report traps)) console
+  on_ended report traps console h = subst (λ (p : Program). HasRun p report traps console) (ap given (layout_is h.0 h.1) ∙ given_is) h.2
 
   pub on_cut : (cut : CutOff) (console : Around (Option (List ℕ))) →
       (layout : Layout) × (parsed bytes ≡ Ok layout) × IsCut (given layout) cut console → RunsAs whole (cut_off cut) console

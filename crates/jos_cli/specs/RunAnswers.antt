@@ -6,12 +6,13 @@ use Rattle.jos_host.specs.Files.{Files}
 use Rattle.jos_host.specs.Frames.{Around}
 use Rattle.jos_words.specs.Commands.{Run}
 use Rattle.jos_kernel.specs.Boot.{Loadable}
+use Rattle.jos_kernel.specs.declared.trace.TrapLine.{TrapLine}
 use Rattle.jos_kernel.specs.Reports.{Reported, CutOff}
 use Rattle.jos_run.specs.Boot.{booted_within}
 use Rattle.jos_run.specs.RunEnds.{Program, HasRun, IsCut}
 use Rattle.jos_cli.specs.declared.outcome.Which.TheVariants.{Boot}
 use Rattle.jos_cli.specs.Commands.{image_word, texts_of}
-use Rattle.jos_cli.specs.Limits.{numbers_of_run, limit_of_run, frames_of, steps_of}
+use Rattle.jos_cli.specs.Limits.{numbers_of_run, limit_of_run, frames_of, steps_of, trace_of}
 use Rattle.jos_cli.specs.Found.{FileAt, file_at}
 use Rattle.jos_cli.specs.Answer.{Judged, Answer, ran, limit, within, schedule_of, image_of, input_of}
 use Rattle.jos_cli.specs.Kinds.{Kind, answered, cut_off, no_memory}
@@ -48,12 +49,14 @@ program_of r schedule loadable input = record {
   schedule = schedule;
   input = input;
   steps = steps_of (numbers_of_run r);
+  trace = trace_of (numbers_of_run r);
 }
 
 -- the run was over, and what failed was the call that writes its note
 pub record IsCutBehind (p : Program) (cut : CutOff) (console : Around (Option (List ℕ))) : Type 0 where
   pub report : Reported
-  pub run : HasRun p report console
+  pub traps : List TrapLine
+  pub run : HasRun p report traps console
   pub turns : cut.turns ≡ report.turns
   pub first_refused : cut.first_refused ≡ report.first_refused
 
@@ -63,7 +66,7 @@ IsCutBy [] p cut console = (cut.first_refused ≡ None) × (console.after ≡ co
 IsCutBy (turn ∷ turns) p cut console = IsCut p cut console ⊎ IsCutBehind p cut console
 
 abbrev pub AnswersAs : Program → Answer → Around (Option (List ℕ)) → Type 0
-AnswersAs p (ran report traps) console = HasRun p report console
+AnswersAs p (ran report traps) console = HasRun p report traps console
 AnswersAs p (limit Boot) console =
     (booted_within p.image p.file p.words p.frames p.input ≡ None) × (console.after ≡ console.before)
 AnswersAs p _ console = ⊥

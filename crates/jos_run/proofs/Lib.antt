@@ -27,6 +27,7 @@ pub mod StartStands
 pub mod EnoughFrames
 pub mod Refusals
 pub mod Advancing
+pub mod RunSteps
 pub mod StepsMade
 pub mod RunEnds
 pub mod TurnsCounted

@@ -7,6 +7,7 @@ use Rattle.jos_base.specs.declared.environment.Status.TheVariants.{Free, Dying, 
 use Rattle.jos_base.specs.Environments.{Slot as KernelSlot, is_runnable}
 use Rattle.jos_base.specs.KernelState.{KernelState, slot_at}
 use Rattle.jos_kernel.specs.declared.trace.TrapLine.{TrapLine}
+use Rattle.lib_os.specs.declared.place.Place.{Place}
 use Rattle.lib_os.specs.declared.place.Place.TheVariants as place
 use Rattle.lib_os.specs.declared.progress.Progress.TheVariants as progress
 use Rattle.lib_os.specs.AbstractState.{AbstractState, Born, Slot, free, unborn, born, serving}
@@ -17,7 +18,7 @@ use Rattle.lib_os.specs.StandsFor.{StandsFor, Names, StandsForSlot}
 use Rattle.lib_os.specs.UserCalls.{Output}
 use Rattle.jos_run.specs.Guest.{Follows}
 use Rattle.jos_run.specs.GuestSteps.{guest_instruction}
-use Rattle.jos_run.specs.Steps.{is_awake}
+use Rattle.jos_run.specs.Steps.{is_awake, Raises}
 use Rattle.jos_run.proofs.GuestStands.{guest_goes_on, guest_stands}
 
 -- a status that is another than RUNNABLE
@@ -65,3 +66,11 @@ module _ (s after : KernelState) (n : ℕ) (output : Output) (awake : is_awake (
         let b = awake_born h.0 s a h.1 n awake in
         let g = guest_stands h.0 s a n b.0 h.1 b.1 is_guest in (g.next, g.step_is, g.console),
   )
+
+-- ---- traps
+
+-- A program raises the trap of its instruction.
+pub guest_raises : (s after : KernelState) (n : ℕ) (trap : Option TrapLine) → place_of (slot_at s n) ≡ place.Guest →
+    after ≡ (guest_instruction s n).state → trap ≡ (guest_instruction s n).trap → Raises (place_of (slot_at s n)) n s trap after
+guest_raises s after n trap is_guest state_is trap_is =
+    subst (λ (p : Place). Raises p n s trap after) (sym is_guest) (state_is, trap_is)

@@ -1,36 +1,44 @@
 -- A program that is booted runs, and what is told of its run is so.
 use Rattle.std.proofs.Common.{◌≡◌, ℕ, List, [], Option, Some, Result, Ok, Err, refl, sym, subst}
 use Rattle.std.specs.Prelude.{IsSome}
+use Rattle.circular_buffer.specs.Buffer.{buffer}
 use Rattle.jos_host.specs.declared.host.Failed.{Failed}
 use Rattle.jos_host.specs.Frames.{Around, from_to}
 use Rattle.jos_host.specs.Gains.{Gains}
+use Rattle.jos_host.specs.Told.{HasCause}
 use Rattle.jos_base.specs.KernelState.{KernelState}
 use Rattle.jos_elf.specs.declared.fault.ElfFault.{ElfFault}
 use Rattle.jos_elf.specs.Parsed.{Layout}
 use Rattle.jos_kernel.specs.declared.report.End.{End}
+use Rattle.jos_kernel.specs.declared.trace.TrapLine.{TrapLine}
 use Rattle.jos_kernel.specs.Reports.{Reported, CutOff}
 use Rattle.lib_os.specs.AbstractState.{AbstractState}
 use Rattle.jos_run.specs.declared.library_run.LibraryRun.{LibraryRun}
-use Rattle.jos_run.specs.declared.programs.RunEnd.{RunEnd}
-use Rattle.jos_run.specs.declared.programs.RunEnd.TheVariants.{Ended, HostFault}
 use Rattle.jos_run.specs.declared.programs.Setup.{Setup}
 use Rattle.jos_run.specs.Boot.{booted_within}
-use Rattle.jos_run.specs.RunEnds.{AnswersBy, RunsFrom, program_of}
+use Rattle.jos_run.specs.RunEnds.{AnswersBy, HasEndCause, Ran, RunsFrom, end_of_run, program_of}
 use Rattle.jos_run.specs.Start.{start}
 use Rattle.jos_run.specs.RunReports.{IsTold, IsToldCutOff}
-use Rattle.jos_run.specs.Running.{HasRoom, Holds, Runs, HasRun, report_of, cut_off_of}
+use Rattle.jos_run.specs.RunSteps.{HasGone}
+use Rattle.jos_run.specs.Running.{state_of, HasRoom, Holds, Runs, HasRun, report_of, cut_off_of}
 use Rattle.jos_run.proofs.RunEnds.{told_whole, told_cut_off}
 
-pub ended_told : {budget : ℕ} {r t : LibraryRun} {a b : Option (List ℕ)} (end : End) (report : Reported) (schedule : List ℕ) →
-    HasRun budget (Ok end) (from_to r t) (from_to a b) → r.steps ≡ 0 → Holds t → r.schedule ≡ schedule → report ≡ report_of t end →
+pub ended_told : {budget : ℕ} {r t : LibraryRun} {a b : Option (List ℕ)} (end : End) (report : Reported) (schedule : List ℕ) (most : ℕ)
+    (s : KernelState) (traps : List TrapLine) →
+    HasRun budget (Ok end) (from_to r t) (from_to a b) → r.steps ≡ 0 → r.trace ≡ buffer [] most → Holds t → r.schedule ≡ schedule →
+    report ≡ report_of t end → traps ≡ t.trace.items → state_of r ≡ s →
     (first : AbstractState) (frames : ℕ) → Runs first frames r [] →
     (printed : List ℕ) × Gains (from_to a b) printed × IsTold schedule first frames budget report printed
-ended_told {budget = budget} {r = r} {t = t} end report schedule ran none holds scheduled reported first frames h =
-    let told = told_whole end ran none holds first frames h in (
+    × HasGone s budget most report traps printed
+ended_told {budget = budget} {r = r} {t = t} end report schedule most s traps ran none empty holds scheduled reported kept begun first frames h =
+    let told = told_whole end most ran none empty holds first frames h in (
       told.0,
       told.1,
       subst (λ (numbers : List ℕ). IsTold numbers first frames budget report told.0) scheduled
           (subst (λ (x : Reported). IsTold r.schedule first frames budget x told.0) (sym reported) told.2),
+      subst (λ (k : KernelState). HasGone k budget most report traps told.0) begun
+          (subst (λ (l : List TrapLine). HasGone (state_of r) budget most report l told.0) (sym kept)
+          (subst (λ (x : Reported). HasGone (state_of r) budget most x t.trace.items told.0) (sym reported) told.3)),
     )
 
 pub failed_told : {r t : LibraryRun} {a b : Option (List ℕ)} (budget : ℕ) (failed : Failed) (cut : CutOff) (schedule : List ℕ) →
@@ -41,12 +49,15 @@ failed_told {r = r} {a = a} {b = b} budget failed cut schedule ran room schedule
     (subst (λ (x : CutOff). IsToldCutOff r.schedule first frames x (from_to a b)) (sym cut_is) (told_cut_off ran room first frames h))
 
 -- so `run` answers what it has to
-pub booted_answers : (setup : Setup) (file : List ℕ) (words : List (List ℕ)) (image : Layout) (result : RunEnd) (console : Around (Option (List ℕ))) →
+pub booted_answers : (setup : Setup) (file : List ℕ) (words : List (List ℕ)) (image : Layout) (ran : Ran) (console : Around (Option (List ℕ))) →
     (s : KernelState) → booted_within image file words setup.frames setup.input.items ≡ Some s →
-    RunsFrom (start image file words setup.input.items) setup result console → (read : Result Layout ElfFault) → read ≡ Ok image →
-    AnswersBy read (program_of file words setup) result console
-booted_answers setup file words image (Ended report trace) console s booted runs read is =
+    RunsFrom s (start image file words setup.input.items) setup ran console → (read : Result Layout ElfFault) → read ≡ Ok image →
+    AnswersBy read (program_of file words setup) (end_of_run ran) console
+booted_answers setup file words image (Ok over) console s booted runs read is =
+    (image, is, (subst (λ (o : Option KernelState). IsSome o) (sym booted) refl, (runs.0, runs.1, runs.2, (s, booted, runs.3))))
+booted_answers setup file words image (Err cut) console s booted runs read is =
     (image, is, (subst (λ (o : Option KernelState). IsSome o) (sym booted) refl, runs))
-booted_answers setup file words image (HostFault cut) console s booted runs read is =
-    (image, is, (subst (λ (o : Option KernelState). IsSome o) (sym booted) refl, runs))
-booted_answers setup file words image _ console s booted runs read is = absurd runs
+
+pub booted_cause : (ran : Ran) (before after : ℕ) → HasCause before after ran → HasEndCause (from_to before after) (end_of_run ran)
+booted_cause (Ok over) before after cause = cause.stayed
+booted_cause (Err cut) before after cause = cause.rose

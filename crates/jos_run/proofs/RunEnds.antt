@@ -6,6 +6,7 @@ use Rattle.std.specs.Prelude.{nat_le, not, is_none}
 use Rattle.std.specs.Option.{ForSome}
 use Rattle.std.proofs.lemmas.Bool.Decides.{nat_tests}
 use Rattle.std.proofs.lemmas.List.{append-nil, length-append}
+use Rattle.circular_buffer.specs.Buffer.{Buffer, buffer, keep_last}
 use Rattle.jos_host.specs.Frames.{from_to}
 use Rattle.jos_host.specs.Gains.{Gains}
 use Rattle.jos_base.specs.declared.environment.EnvType.{EnvType}
@@ -22,6 +23,7 @@ use Rattle.jos_kernel.specs.declared.report.End.{End}
 use Rattle.jos_kernel.specs.declared.report.End.TheVariants.{Done, Stuck, Budget, TurnsFull}
 use Rattle.jos_kernel.specs.declared.report.Refusal.{Refusal}
 use Rattle.jos_kernel.specs.declared.report.Turn.{Turn}
+use Rattle.jos_kernel.specs.declared.trace.TrapLine.{TrapLine}
 use Rattle.jos_kernel.proofs.ToldBytes.{gains_none, gains_more}
 use Rattle.fs_layout.specs.DiskImage.{some_below}
 use Rattle.lib_os.specs.AbstractState.{AbstractState, Slot, can_run}
@@ -34,11 +36,13 @@ use Rattle.jos_run.specs.declared.library_run.LibraryRun.{LibraryRun}
 use Rattle.jos_run.specs.AbstractTurns.{next_slot, is_client, any_live, end_of}
 use Rattle.jos_run.specs.LibraryRuns.{OnlyFirstServes, is_user, others_live, end_seen, turn_of, IsBetween, IsInTurn}
 use Rattle.jos_run.specs.RunReports.{HasEnded, CutOffBy, ToldBy, IsTold, IsToldCutOff}
+use Rattle.jos_run.specs.RunSteps.{traps_of, end_at, HasGone}
 use Rattle.jos_run.specs.Running.{state_of, made, turns_so_far, HasRoom, Holds, StandsBy, RunsBy, Runs, IsChosen, Went, HasFailed}
 use Rattle.jos_run.specs.Running.{EndsBy, HasRun, report_of, cut_off_of}
 use Rattle.jos_run.proofs.Advancing.{awake_running}
 use Rattle.jos_run.proofs.Choices.{end_stands, ended_none, next_stands, runs_stand}
 use Rattle.jos_run.proofs.RunsKept.{run_begins, between_fits, in_turn_ran, in_turn_fits, running_born}
+use Rattle.jos_run.proofs.RunSteps.{no_step, lead_further, no_trap, traps_further, none_kept, none_written, written_further, end_between, end_in_turn, budget_spent}
 use Rattle.jos_run.proofs.StepsMade.{none_made, some_made}
 
 -- ---- who is there
@@ -94,6 +98,13 @@ none_yet r console = record {
   gains = gains_none console;
   steps_are = omega arith;
   schedule = refl;
+  steps_made = [];
+  long = refl;
+  lead = no_step (state_of r);
+  printed_are = sym none_written;
+  kept = λ most traps is.
+      is ∙ ap (λ (l : List TrapLine). buffer (keep_last most l) most)
+      (sym (append-nil traps) ∙ ap (λ (l : List TrapLine). traps ++ l) (sym no_trap));
   runs = λ first frames before h. subst (λ (l : List ℕ). Runs first frames r l) (sym (append-nil before)) h;
 }
 
@@ -104,6 +115,16 @@ went_further {steps = steps} {more = more} {r = r} {s = s} {t = t} {a = a} {b = 
   gains = gains_more a b c v.printed w.printed v.gains w.gains;
   steps_are = omega (arith, v.steps_are, w.steps_are);
   schedule = w.schedule ∙ v.schedule;
+  steps_made = v.steps_made ++ w.steps_made;
+  long = length-append v.steps_made w.steps_made ∙ (λ i. v.long i + w.long i);
+  lead = lead_further v.steps_made w.steps_made (state_of r) (state_of s) (state_of t) v.lead w.lead;
+  printed_are =
+      (λ i. v.printed_are i ++ w.printed_are i) ∙ sym (written_further v.steps_made w.steps_made);
+  kept = λ most traps is.
+      w.kept most (traps ++ traps_of v.steps_made) (v.kept most traps is)
+      ∙ ap (λ (l : List TrapLine). buffer (keep_last most l) most)
+      (append_assoc traps (traps_of v.steps_made) (traps_of w.steps_made)
+      ∙ ap (λ (l : List TrapLine). traps ++ l) (sym (traps_further v.steps_made w.steps_made)));
   runs = λ first frames before h. subst (λ (l : List ℕ). Runs first frames t l) (append_assoc before v.printed w.printed)
       (w.runs first frames (before ++ v.printed) (v.runs first frames before h));
 }
@@ -230,18 +251,39 @@ in_turn_end r holds some first frames printed = by_first r.first_refused
     by_first None h = by_made (made r == 0) test h.stands
     by_first (Some refusal) h = tt
 
+-- how many turns are told
+turns_are : (r : LibraryRun) → length (turns_so_far r) ≡ (if made r == 0 then vec_len r.turns else vec_len r.turns + 1)
+turns_are r = by_test (made r == 0)
+  where
+    by_test : (c : Bool) → length (if c then r.turns.items else r.turns.items ++ turn_of r.served.slot r.visible r.hidden ∷ [])
+        ≡ (if c then vec_len r.turns else vec_len r.turns + 1)
+    by_test true = sym r.turns.ok.0
+    by_test false =
+        length-append r.turns.items (turn_of r.served.slot r.visible r.hidden ∷ []) ∙ ap (λ (n : ℕ). n + 1) (sym r.turns.ok.0)
+
+stops_between : (r : LibraryRun) → Holds r → (spent : Bool) (end : End) → made r ≡ 0 →
+    end_seen (state_of r) (vec_len r.turns) spent ≡ Some end → end_at (state_of r) (length (turns_so_far r)) spent ≡ Some end
+stops_between r holds spent end none seen =
+    let test : (made r == 0) ≡ true = grind (arith, nat_tests) in
+    let told : length (turns_so_far r) ≡ vec_len r.turns =
+    turns_are r ∙ ap (λ (c : Bool). if c then vec_len r.turns else vec_len r.turns + 1) test in
+    end_between (state_of r) (length (turns_so_far r)) spent (holds.between none)
+    ∙ ap (λ (k : ℕ). end_seen (state_of r) k spent) told ∙ seen
+
 -- An end test holds while steps are left.
 pub on_end : {budget left : ℕ} {r t : LibraryRun} {a b : Option (List ℕ)} → Went (budget - left) (from_to r t) (from_to a b) →
-    0 < left → left ≤ budget →
+    0 < left → left ≤ budget → Holds t →
     (end : End) → made t ≡ 0 → end_seen (state_of t) (vec_len t.turns) false ≡ Some end →
     HasRun budget (Ok end) (from_to r t) (from_to a b)
-on_end {budget = budget} {left = left} {t = t} went some within end none seen =
+on_end {budget = budget} {left = left} {t = t} went some within holds end none seen =
     let test : false ≡ (budget - left == budget) = grind (arith, nat_tests) in (
       budget - left,
       omega arith,
       went,
       λ first frames before h. subst (λ (spent : Bool). EndsBy t.first_refused first spent t (before ++ went.printed) end) test
           (between_end t false end none seen first frames (before ++ went.printed) (went.runs first frames before h)),
+      subst (λ (spent : Bool). end_at (state_of t) (length (turns_so_far t)) spent ≡ Some end) test
+          (stops_between t holds false end none seen),
     )
 
 -- The steps are used up.
@@ -256,8 +298,15 @@ on_budget {budget = budget} {left = left} {t = t} went none holds end between in
       went,
       λ first frames before h. subst (λ (spent : Bool). EndsBy t.first_refused first spent t (before ++ went.printed) end) test
           (by_made (made t == 0) refl first frames (before ++ went.printed) (went.runs first frames before h)),
+      subst (λ (spent : Bool). end_at (state_of t) (length (turns_so_far t)) spent ≡ Some end) test (stops (made t == 0) refl),
     )
   where
+    stops : (c : Bool) → (made t == 0) ≡ c → end_at (state_of t) (length (turns_so_far t)) true ≡ Some end
+    stops true is = stops_between t holds true end (none_made t is) (between (none_made t is))
+    stops false is =
+        end_in_turn (state_of t) (length (turns_so_far t)) t.served.slot (holds.current (some_made t is)) (holds.running (some_made t is))
+        ∙ ap (λ (e : End). Some e) (sym (in_turn (some_made t is)))
+
     by_made : (c : Bool) → (made t == 0) ≡ c → (first : AbstractState) (frames : ℕ) (printed : List ℕ) → Runs first frames t printed →
         EndsBy t.first_refused first true t printed end
     by_made true is first frames printed h =
@@ -285,23 +334,40 @@ begins r empty none quiet written first frames stands h =
 
 -- No more turns are told than a run may have.
 turns_within : (r : LibraryRun) → HasRoom r → length (turns_so_far r) ≤ TURN_MAX
-turns_within r h = by_test (made r == 0) refl
+turns_within r h = subst (λ (n : ℕ). n ≤ TURN_MAX) (sym (turns_are r)) (by_test (made r == 0) refl)
   where
-    by_test : (c : Bool) → (made r == 0) ≡ c →
-        length (if c then r.turns.items else r.turns.items ++ turn_of r.served.slot r.visible r.hidden ∷ []) ≤ TURN_MAX
-    by_test true is = omega (arith, h.most, r.turns.ok.0)
-    by_test false is =
-        let below : vec_len r.turns < TURN_MAX = h.place (some_made r is) in
-        let longer : length (r.turns.items ++ turn_of r.served.slot r.visible r.hidden ∷ []) ≡ length r.turns.items + 1 =
-        length-append r.turns.items (turn_of r.served.slot r.visible r.hidden ∷ []) in
-        omega (arith, below, longer, r.turns.ok.0)
+    by_test : (c : Bool) → (made r == 0) ≡ c → (if c then vec_len r.turns else vec_len r.turns + 1) ≤ TURN_MAX
+    by_test true is = h.most
+    by_test false is = let below : vec_len r.turns < TURN_MAX = h.place (some_made r is) in omega (arith, below)
+
+-- What the kernel has gone through.
+gone_whole : {budget : ℕ} {r t : LibraryRun} {a b : Option (List ℕ)} (end : End) (most : ℕ) →
+    (ran : HasRun budget (Ok end) (from_to r t) (from_to a b)) → r.steps ≡ 0 → r.trace ≡ buffer [] most → Holds t →
+    HasGone (state_of r) budget most (report_of t end) t.trace.items ran.2.printed
+gone_whole {budget = budget} {r = r} {t = t} end most ran none empty holds =
+    let went = ran.2 in
+    let steps : t.steps ≡ ran.0 = (let all : t.steps ≡ r.steps + ran.0 = went.steps_are in omega arith) in
+    record {
+      steps = went.steps_made;
+      now = state_of t;
+      lead = went.lead;
+      steps_are = steps ∙ sym went.long;
+      turns = turns_are t ∙ sym holds.turns;
+      refused = refl;
+      upcalls = refl;
+      end = subst (λ (n : ℕ). end_at (state_of t) (length (turns_so_far t)) (n == budget) ≡ Some end) (sym steps) ran.4;
+      printed_are = went.printed_are;
+      last_traps = ap (λ (x : Buffer TrapLine). x.items)
+          (went.kept most [] (empty ∙ ap (λ (l : List TrapLine). buffer l most) (sym (none_kept most))));
+    }
 
 -- The report of a run that has ended by itself.
-pub told_whole : {budget : ℕ} {r t : LibraryRun} {a b : Option (List ℕ)} (end : End) →
-    HasRun budget (Ok end) (from_to r t) (from_to a b) → r.steps ≡ 0 → Holds t →
+pub told_whole : {budget : ℕ} {r t : LibraryRun} {a b : Option (List ℕ)} (end : End) (most : ℕ) →
+    HasRun budget (Ok end) (from_to r t) (from_to a b) → r.steps ≡ 0 → r.trace ≡ buffer [] most → Holds t →
     (first : AbstractState) (frames : ℕ) → Runs first frames r [] →
     (printed : List ℕ) × Gains (from_to a b) printed × IsTold r.schedule first frames budget (report_of t end) printed
-told_whole {budget = budget} {r = r} {t = t} end ran none holds first frames h =
+    × HasGone (state_of r) budget most (report_of t end) t.trace.items printed
+told_whole {budget = budget} {r = r} {t = t} end most ran none empty holds first frames h =
     let went = ran.2 in
     let within : ran.0 ≤ budget = ran.1 in
     let steps : t.steps ≡ ran.0 = (let all : t.steps ≡ r.steps + ran.0 = went.steps_are in omega arith) in (
@@ -310,14 +376,20 @@ told_whole {budget = budget} {r = r} {t = t} end ran none holds first frames h =
       record {
         steps = holds.steps;
         within = omega arith;
+        spent = λ is. spent_all steps (budget_spent (state_of t) (length (turns_so_far t)) (ran.0 == budget)
+            (ran.4 ∙ ap (λ (e : End). Some e) is));
         most = turns_within t holds.has_room;
         closing = refl;
         by_refusal = subst (λ (schedule : List ℕ). ToldBy t.first_refused schedule first frames budget (report_of t end)
             went.printed) went.schedule
             (by_first steps t.first_refused (went.runs first frames [] h) (ran.3 first frames [] h));
       },
+      gone_whole end most ran none empty holds,
     )
   where
+    spent_all : t.steps ≡ ran.0 → (ran.0 == budget) ≡ true → t.steps ≡ budget
+    spent_all steps spent = grind (arith, nat_tests)
+
     by_first : t.steps ≡ ran.0 → (o : Option Refusal) → RunsBy o first frames t ran.2.printed →
         EndsBy o first (ran.0 == budget) t ran.2.printed end →
         ToldBy o t.schedule first frames budget (report_of t end) ran.2.printed

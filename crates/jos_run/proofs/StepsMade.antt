@@ -4,6 +4,7 @@ use Rattle.std.proofs.Common.{Option, Some, None, refl, sym, ap, subst, arith, i
 use Rattle.std.specs.Prelude.{nat_lt, nat_le, not}
 use Rattle.std.proofs.lemmas.Bool.Decides.{nat_tests}
 use Rattle.std.proofs.lemmas.List.{length-append, take-append-drop}
+use Rattle.circular_buffer.specs.Buffer.{Buffer, buffer, keep_last}
 use Rattle.jos_host.specs.Frames.{Around, from_to}
 use Rattle.jos_host.specs.Gains.{Gains, GainsPart}
 use Rattle.jos_base.specs.declared.environment.Status.TheVariants.{Runnable}
@@ -13,7 +14,9 @@ use Rattle.jos_base.specs.SpacesState.{SpacesState, reserved_frames}
 use Rattle.jos_sched.specs.Quantum.{quantum}
 use Rattle.jos_kernel.specs.declared.report.Refusal.{Refusal}
 use Rattle.jos_kernel.specs.declared.report.Turn.{Turn}
+use Rattle.jos_kernel.specs.declared.trace.TrapLine.{TrapLine}
 use Rattle.jos_kernel.specs.ExoRun.{counted}
+use Rattle.jos_kernel.specs.Kernel.{traced}
 use Rattle.jos_kernel.proofs.Turns.{running_live}
 use Rattle.lib_os.specs.declared.progress.Progress.{Progress}
 use Rattle.lib_os.specs.declared.progress.Progress.TheVariants as progress
@@ -21,14 +24,18 @@ use Rattle.lib_os.specs.AbstractState.{AbstractState}
 use Rattle.lib_os.specs.AbstractRun.{abs_step}
 use Rattle.lib_os.specs.LibrarySteps.{Stands, Keeps, NothingRefused, KeepsTurn, KeepsUses, LeavesRest}
 use Rattle.lib_os.specs.Need.{EachHasUse, NeedIsReached, need}
+use Rattle.lib_os.specs.Places.{place_of}
 use Rattle.jos_run.specs.declared.library_run.LibraryRun.{LibraryRun}
 use Rattle.jos_run.specs.AbstractTurns.{steps_taken}
 use Rattle.jos_run.specs.AbstractTurns.{turn_begun as begun_at}
 use Rattle.jos_run.specs.LibraryRuns.{turn_of, IsBetween, IsInTurn, seen_after, hidden_after}
 use Rattle.jos_run.specs.RunReports.{IsRefused, IsCutOff, CutOffBy}
+use Rattle.jos_run.specs.RunSteps.{StepMade, LeadTo, traps_of, written_in}
+use Rattle.jos_run.specs.Steps.{Raises}
 use Rattle.jos_run.specs.Running.{state_of, made, turns_so_far, Holds, StandsBy, StandsSo, RunsBy, Runs, IsChosen, entered, noted}
 use Rattle.jos_run.specs.Running.{made_after, goes_on_after, turn_after, CountedBy, Counted, Went, HasFailed}
 use Rattle.jos_run.proofs.Advancing.{Comes, stepped, turn_over}
+use Rattle.jos_run.proofs.RunSteps.{lead_one, kept_one, written_one}
 use Rattle.jos_run.proofs.Refusals.{refused_further, refused_longer}
 use Rattle.jos_run.proofs.RunsKept.{turn_begins, in_turn_ran, step_failed, failed_fits}
 
@@ -117,6 +124,9 @@ pub record Makes (r m : LibraryRun) (n : ℕ) (done : Progress) (bytes : List �
   pub keeps : Keeps done n (entered r n) (state_of m) bytes
   pub rest : LeavesRest (entered r n) (state_of m)
   pub turn : KeepsTurn done (slot_at (entered r n) n) (slot_at (state_of m) n)
+  pub trap : Option TrapLine
+  pub raises : Raises (place_of (slot_at (entered r n) n)) n (entered r n) trap (state_of m)
+  pub traced_is : m.trace ≡ traced r.trace trap
   pub uses : KeepsUses n (entered r n) (state_of m)
   pub slot : m.served.slot ≡ n
   pub turns : m.turns ≡ r.turns
@@ -385,6 +395,42 @@ runs_further reached r m after n done bytes k counts first frames printed = by_f
         (still_refused first frames refusal r (turn_after m done) bytes printed (λ some. k.slot ∙ k.chosen.turn some)
         (subst (λ (x : ℕ). r.visible ≤ seen_after done x) (sym k.visible) grown) h.1))
 
+-- the step itself
+step_of : (r m : LibraryRun) (n : ℕ) (done : Progress) (bytes : List ℕ) → Makes r m n done bytes → StepMade
+step_of r m n done bytes k = record {
+  slot = n;
+  begins = made r == 0;
+  goes_on = goes_on_after m done;
+  progress = done;
+  written = bytes;
+  trap = k.trap;
+  left = state_of m;
+}
+
+leads_on : (r m after : LibraryRun) (n : ℕ) (done : Progress) (bytes : List ℕ) (k : Makes r m n done bytes) → Counted m after done →
+    LeadTo (step_of r m n done bytes k ∷ []) (state_of r) (state_of after)
+unfolding step_of
+leads_on r m after n done bytes k counts =
+    lead_one (step_of r m n done bytes k) (record {
+      chosen = λ is. k.chosen.next_is (none_made r is);
+      running = k.running;
+      raises = k.raises;
+      keeps = k.keeps;
+      leaves = (k.rest, k.turn, k.uses);
+    }) ((λ i. if goes_on_after m done then state_of m else turn_ended (state_of m) (sym k.slot i)) ∙ sym counts.state)
+
+keeps_traps : (r m after : LibraryRun) (n : ℕ) (done : Progress) (bytes : List ℕ) (k : Makes r m n done bytes) → Counted m after done →
+    (most : ℕ) (traps : List TrapLine) → r.trace ≡ buffer (keep_last most traps) most →
+    after.trace ≡ buffer (keep_last most (traps ++ traps_of (step_of r m n done bytes k ∷ []))) most
+unfolding step_of
+keeps_traps r m after n done bytes k counts most traps is =
+    counts.trace ∙ k.traced_is ∙ ap (λ (b : Buffer TrapLine). traced b k.trap) is ∙ kept_one most traps (step_of r m n done bytes k)
+
+writes : (r m : LibraryRun) (n : ℕ) (done : Progress) (bytes : List ℕ) (k : Makes r m n done bytes) →
+    bytes ≡ written_in (step_of r m n done bytes k ∷ [])
+unfolding step_of
+writes r m n done bytes k = sym (written_one (step_of r m n done bytes k))
+
 -- one step more was made
 pub went_one : NeedIsReached → (r m after : LibraryRun) (n : ℕ) (done : Progress) (bytes : List ℕ) (console : Around (Option (List ℕ))) →
     Makes r m n done bytes → Counted m after done → Gains console bytes → Went 1 (from_to r after) console
@@ -393,6 +439,11 @@ went_one reached r m after n done bytes console k counts gains = record {
   gains = gains;
   steps_are = counts.steps_are ∙ ap (λ (x : ℕ). x + 1) k.steps;
   schedule = counts.schedule ∙ k.schedule;
+  steps_made = step_of r m n done bytes k ∷ [];
+  long = refl;
+  lead = leads_on r m after n done bytes k counts;
+  printed_are = writes r m n done bytes k;
+  kept = keeps_traps r m after n done bytes k counts;
   runs = runs_further reached r m after n done bytes k counts;
 }
 

@@ -15,8 +15,10 @@ use Rattle.lib_os.specs.declared.progress.Progress.{Progress}
 use Rattle.jos_run.specs.declared.library_run.LibraryRun.{LibraryRun}
 use Rattle.jos_run.specs.LibraryRuns.{turn_of}
 use Rattle.jos_run.specs.RunReports.{steps_of}
+use Rattle.jos_run.specs.RunSteps.{is_in_turn}
 use Rattle.jos_run.specs.Running.{state_of, made, turns_so_far, Holds, made_after, goes_on_after, turn_after, CountedBy, Counted}
 use Rattle.jos_run.proofs.Refusals.{steps_append, no_steps_yet}
+use Rattle.jos_run.proofs.RunSteps.{ended_idle}
 use Rattle.jos_run.proofs.StepsMade.{none_made, more_made, told_turns, entered_last, entered_turns, Makes}
 
 -- ---- the beginning
@@ -42,6 +44,7 @@ begun_holds r room empty none turns last steps =
       running = λ some. absurd (omega (arith, none, some));
       current = λ some. absurd (omega (arith, none, some));
       last = no_last (state_of r).last last;
+      between = λ so. ap (λ (o : Option ℕ). is_in_turn (state_of r) o) last;
       steps = steps ∙ sym (ap (λ (l : List Turn). steps_of l) (told ∙ empty) ∙ no_steps_yet);
     }
 
@@ -96,6 +99,7 @@ counted_holds true old new done k goes_on t room =
       running = λ some. (λ i. is_running (slot_at (k.state i) (k.slot i)).status) ∙ parts.0;
       current = λ some. (λ i. (k.state i).last) ∙ t.last ∙ ap (λ (n : ℕ). Some n) (sym k.slot);
       last = some_last old.served.slot (state_of new).last ((λ i. (k.state i).last) ∙ t.last) t.within;
+      between = λ so. absurd (omega (arith, now_made, grown, so));
       steps = omega (arith, told, all, before, grown);
     }
 counted_holds false old new done k goes_on t room =
@@ -118,6 +122,7 @@ counted_holds false old new done k goes_on t room =
       running = λ some. absurd (omega (arith, none, some));
       current = λ some. absurd (omega (arith, none, some));
       last = some_last old.served.slot (state_of new).last ((λ i. (k.state i).last) ∙ ended.1 ∙ t.last) t.within;
+      between = λ so. (λ i. is_in_turn (k.state i) (k.state i).last) ∙ ended_idle (state_of old) old.served.slot t.last;
       steps = omega (arith, told, all, before, grown);
     }
 

@@ -9,6 +9,7 @@ pub mod RunLaws
 pub mod Boot
 pub mod Start
 pub mod Begun
+pub mod RunSteps
 pub mod RunReports
 pub mod Running
 pub mod RunEnds

@@ -83,6 +83,7 @@ ToldBy (Some refusal) schedule first frames budget report printed =
 pub record IsTold (schedule : List ℕ) (first : AbstractState) (frames budget : ℕ) (report : Reported) (printed : List ℕ) : Type 0 where
   pub steps : report.steps ≡ steps_of report.turns
   pub within : report.steps ≤ budget
+  pub spent : report.end ≡ Budget → report.steps ≡ budget
   pub most : length report.turns ≤ TURN_MAX
   pub closing : report.closing ≡ 0
   pub by_refusal : ToldBy report.first_refused schedule first frames budget report printed

@@ -2,6 +2,7 @@
 use Rattle.std.specs.Prelude.{◌≡◌, ℕ, ◌+◌, ◌^◌, ◌==◌, ◌<◌, ◌≤◌, ◌&&◌, Bool, true, false, List, [], ◌∷◌, ◌++◌, length}
 use Rattle.std.specs.Prelude.{Option, Some, None, Result, Ok, Err, vec_len, vec_capacity, nat_lt, if◌then◌else◌}
 use Rattle.std.specs.Option.{ForSome}
+use Rattle.circular_buffer.specs.Buffer.{buffer, keep_last}
 use Rattle.jos_host.specs.declared.host.Failed.{Failed}
 use Rattle.jos_host.specs.Frames.{Around}
 use Rattle.jos_host.specs.Gains.{Gains}
@@ -13,6 +14,7 @@ use Rattle.jos_sched.specs.RoundRobin.{next}
 use Rattle.jos_kernel.specs.declared.report.End.{End}
 use Rattle.jos_kernel.specs.declared.report.Refusal.{Refusal}
 use Rattle.jos_kernel.specs.declared.report.Turn.{Turn}
+use Rattle.jos_kernel.specs.declared.trace.TrapLine.{TrapLine}
 use Rattle.jos_kernel.specs.ExoRun.{counted}
 use Rattle.jos_kernel.specs.Reports.{Reported, CutOff}
 use Rattle.lib_os.specs.declared.progress.Progress.{Progress}
@@ -21,6 +23,7 @@ use Rattle.lib_os.specs.Need.{EachHasUse}
 use Rattle.jos_run.specs.declared.library_run.LibraryRun.{LibraryRun}
 use Rattle.jos_run.specs.Served.{kernel_state}
 use Rattle.jos_run.specs.LibraryRuns.{turn_of, IsBetween, IsInTurn, seen_after, hidden_after, end_seen}
+use Rattle.jos_run.specs.RunSteps.{StepMade, LeadTo, traps_of, written_in, is_in_turn, end_at}
 use Rattle.jos_run.specs.RunReports.{IsRefused, HasEnded, steps_of, CutOffBy}
 
 abbrev pub state_of : LibraryRun → KernelState
@@ -51,6 +54,7 @@ pub record Holds (r : LibraryRun) : Type 0 where
   pub running : 0 < made r → is_running (slot_at (state_of r) r.served.slot).status ≡ true
   pub current : 0 < made r → (state_of r).last ≡ Some r.served.slot
   pub last : ForSome (state_of r).last (λ n. n < NENV)
+  pub between : made r ≡ 0 → is_in_turn (state_of r) (state_of r).last ≡ false
   pub steps : r.steps ≡ steps_of (turns_so_far r)
 
 -- ---- where it stands beside the abstract system
@@ -125,12 +129,18 @@ Counted old new progress = CountedBy (goes_on_after old progress) old new progre
 
 -- ---- steps that were made
 
--- So many steps were made, which have printed these bytes.
+-- So many steps were made, which have printed these bytes; and of the traps that were raised the last are kept.
 pub record Went (steps : ℕ) (run : Around LibraryRun) (console : Around (Option (List ℕ))) : Type 0 where
   pub printed : List ℕ
   pub gains : Gains console printed
   pub steps_are : run.after.steps ≡ run.before.steps + steps
   pub schedule : run.after.schedule ≡ run.before.schedule
+  pub steps_made : List StepMade
+  pub long : length steps_made ≡ steps
+  pub lead : LeadTo steps_made (state_of run.before) (state_of run.after)
+  pub printed_are : printed ≡ written_in steps_made
+  pub kept : (most : ℕ) (traps : List TrapLine) → run.before.trace ≡ buffer (keep_last most traps) most →
+      run.after.trace ≡ buffer (keep_last most (traps ++ traps_of steps_made)) most
   pub runs : (first : AbstractState) (frames : ℕ) (before : List ℕ) → Runs first frames run.before before →
       Runs first frames run.after (before ++ printed)
 
@@ -154,12 +164,13 @@ abbrev pub EndsBy : Option Refusal → AbstractState → Bool → LibraryRun →
 EndsBy None first spent r printed end = HasEnded r.schedule first (turns_so_far r) printed spent end
 EndsBy (Some refusal) first spent r printed end = Unit {0}
 
--- The run has gone on to its end, with so many steps at most; or the host failed.
+-- The run has gone on to the end that the kernel's state tells, with so many steps at most; or the host failed.
 abbrev pub HasRun : ℕ → Result End Failed → Around LibraryRun → Around (Option (List ℕ)) → Type 0
 HasRun budget (Ok end) run console =
     (steps : ℕ) × (steps ≤ budget) × (went : Went steps run console)
     × ((first : AbstractState) (frames : ℕ) (before : List ℕ) → Runs first frames run.before before →
     EndsBy run.after.first_refused first (steps == budget) run.after (before ++ went.printed) end)
+    × (end_at (state_of run.after) (length (turns_so_far run.after)) (steps == budget) ≡ Some end)
 HasRun budget (Err _) run console = HasFailed run console
 
 -- ---- what is told

@@ -1,10 +1,15 @@
 -- One step of an environment that the library serves: of its program, or of the service that it is in.
-use Rattle.std.specs.Prelude.{Bool, ◌||◌, Result, Ok, Err}
+use Rattle.std.specs.Prelude.{◌≡◌, ℕ, Bool, ◌||◌, Option, None, Result, Ok, Err}
 use Rattle.jos_host.specs.declared.host.Failed.{Failed}
 use Rattle.jos_base.specs.declared.environment.Status.{Status}
 use Rattle.jos_base.specs.Environments.{is_runnable, is_running}
+use Rattle.jos_base.specs.KernelState.{KernelState}
+use Rattle.jos_kernel.specs.declared.trace.TrapLine.{TrapLine}
+use Rattle.lib_os.specs.declared.place.Place.{Place}
+use Rattle.lib_os.specs.declared.place.Place.TheVariants as place
 use Rattle.lib_os.specs.declared.progress.Progress.{Progress}
 use Rattle.jos_run.specs.declared.steps.Stepped.{Stepped}
+use Rattle.jos_run.specs.GuestSteps.{guest_instruction}
 
 -- who may have steps
 abbrev pub is_awake : Status → Bool
@@ -14,3 +19,8 @@ is_awake status = is_runnable status || is_running status
 abbrev pub progress_of : Result Stepped Failed → Result Progress Failed
 progress_of (Ok stepped) = Ok stepped.progress
 progress_of (Err failed) = Err failed
+
+-- A step of a program is its instruction, with the trap that this raises, if it raises one. A service raises none.
+abbrev pub Raises : Place → ℕ → KernelState → Option TrapLine → KernelState → Type 0
+Raises place.Guest n before trap after = (after ≡ (guest_instruction before n).state) × (trap ≡ (guest_instruction before n).trap)
+Raises (place.InService service step) n before trap after = trap ≡ None

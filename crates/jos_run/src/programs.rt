@@ -1,7 +1,9 @@
 //! A program is run under the library.
 
 ghost use Rattle.std.specs.Prelude.{◌≡◌, ◌<◌, ◌≤◌, ◌^◌, [], Ok, true, length, vec_capacity, IfOk};
+ghost use Rattle.circular_buffer.specs.Buffer.{buffer};
 ghost use Rattle.jos_host.specs.Frames.{Unchanged, around};
+ghost use Rattle.jos_host.specs.Told.{HasCause};
 ghost use Rattle.jos_base.specs.declared.numbers.TheConstants.{FRAMES_MIN, FRAMES_MAX, TURN_MAX};
 ghost use Rattle.jos_elf.specs.Parsed.{parsed};
 ghost use Rattle.jos_sys.specs.System.{state_of, Keeps};
@@ -9,7 +11,7 @@ ghost use Rattle.lib_os.specs.AbstractState.{AbstractState};
 ghost use Rattle.lib_os.specs.LibrarySteps.{Stands};
 ghost use Rattle.lib_spawn.specs.StackPage.{fits_stack, texts};
 ghost use Rattle.jos_run.specs.Begun.{IsNew};
-ghost use Rattle.jos_run.specs.RunEnds.{AnswersBy, HasEndCause, RunsFrom, program_of};
+ghost use Rattle.jos_run.specs.RunEnds.{AnswersBy, HasEndCause, RunsFrom, end_of_run, program_of};
 
 use crate::boot::boot_program;
 use crate::library_run::LibraryRun;
@@ -56,6 +58,7 @@ pub enum RunEnd {
 fn take_room(alloc: Global, trace: u32) -> Result<(Vec<Turn>, Trace), AllocError>
     ensures room { IfOk result (λ taken. TURN_MAX ≤ vec_capacity taken.0) }
     ensures empty { IfOk result (λ taken. taken.0.items ≡ []) }
+    ensures trace { IfOk result (λ taken. taken.1 ≡ buffer [] trace) }
 {
     let turns = Vec::with_capacity(alloc, TURN_MAX)?;
     let trace = HeapCircularBuffer::with_capacity(alloc, trace as usize)?;
@@ -63,31 +66,39 @@ fn take_room(alloc: Global, trace: u32) -> Result<(Vec<Turn>, Trace), AllocError
 }
 
 /// Runs a program that was booted. Nothing more is asked of an allocator, so the run ends by itself, unless a call of the
-/// host fails.
+/// host fails: its type has no other way out, so want of memory can't come behind a run.
 fn run_booted<H: Host>(
     system: System,
     turns: Vec<Turn>,
     trace: Trace,
     host: &mut H,
     setup: Setup,
-) -> RunEnd
+) -> Result<(Report, Trace), Stopped>
     requires keeps { Keeps system }
     requires new { IsNew (state_of system setup.input.items) setup.frames }
     requires room { TURN_MAX ≤ vec_capacity turns }
     requires empty { turns.items ≡ [] }
+    requires trace { trace ≡ buffer [] setup.trace }
     ensures runs { (first : AbstractState) → Stands (state_of system setup.input.items) first →
-        RunsFrom first setup result (around H.console host.old host.new) }
+        RunsFrom (state_of system setup.input.items) first setup result (around H.console host.old host.new) }
     ensures rest { Unchanged H.files H.input H.asked H.notes host.old host.new }
-    ensures cause { HasEndCause (around H.faults host.old host.new) result }
+    ensures cause { HasCause (H.faults host.old) (H.faults host.new) result }
 {
     let served = Served::new(system, Input::new(setup.input));
     let mut run = LibraryRun::begin(served, setup.schedule, turns, trace);
     match run.go(host, setup.budget) {
-        Ok(end) => {
-            let (report, trace) = run.finish(end);
-            RunEnd::Ended(report, trace)
-        }
-        Err(_) => RunEnd::HostFault(run.cut_off()),
+        Ok(end) => Ok(run.finish(end)),
+        Err(_) => Err(run.cut_off()),
+    }
+}
+
+/// What is answered for a run that has begun. That there was no memory is none of it.
+fn end_of_run(ran: Result<(Report, Trace), Stopped>) -> RunEnd
+    ensures { result ≡ end_of_run ran }
+{
+    match ran {
+        Ok((report, trace)) => RunEnd::Ended(report, trace),
+        Err(stopped) => RunEnd::HostFault(stopped),
     }
 }
 
@@ -113,7 +124,7 @@ fn run_image<H: Host>(
         Err(_) => return RunEnd::NoMemory,
     };
     match boot_program(alloc, image, file, words, setup.frames) {
-        Ok(system) => run_booted(system, turns, trace, host, setup),
+        Ok(system) => end_of_run(run_booted(system, turns, trace, host, setup)),
         Err(BootFault::Pool) => RunEnd::Pool,
         Err(BootFault::NoMemory) => RunEnd::NoMemory,
     }

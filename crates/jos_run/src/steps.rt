@@ -1,6 +1,6 @@
 //! One step of an environment that the library serves.
 
-ghost use Rattle.std.specs.Prelude.{◌≡◌, ◌+◌, ◌-◌, ◌<◌, ◌≤◌, ◌^◌, true};
+ghost use Rattle.std.specs.Prelude.{◌≡◌, ◌+◌, ◌-◌, ◌<◌, ◌≤◌, ◌^◌, true, None, IfOk};
 ghost use Rattle.jos_host.specs.Told.{HasCause};
 ghost use Rattle.jos_host.specs.Frames.{Unchanged, from_to};
 ghost use Rattle.jos_base.specs.Environments.{is_live, is_runnable, is_running};
@@ -11,7 +11,7 @@ ghost use Rattle.lib_os.specs.Places.{place_of};
 ghost use Rattle.lib_os.specs.UserCalls.{output};
 ghost use Rattle.lib_os.specs.declared.place.Place.TheVariants as place;
 ghost use Rattle.jos_run.specs.Served.{kernel_state};
-ghost use Rattle.jos_run.specs.Steps.{is_awake, progress_of};
+ghost use Rattle.jos_run.specs.Steps.{is_awake, progress_of, Raises};
 
 use crate::served::Served;
 use jos_base::Status;
@@ -31,7 +31,8 @@ pub struct Stepped {
 
 /// A step of a service raises no trap.
 fn served_quietly(answer: Result<Progress, Failed>) -> Result<Stepped, Failed>
-    ensures { progress_of result ≡ answer }
+    ensures answer { progress_of result ≡ answer }
+    ensures quiet { IfOk result (λ stepped. stepped.trap ≡ None) }
 {
     match answer {
         Ok(progress) => Ok(Stepped {
@@ -72,6 +73,7 @@ impl Served {
         ensures step { IsLibraryStep (progress_of result) self.old.slot (kernel_state self.old) (kernel_state self.new) (output H.console (λ s. s.written) (from_to host.old host.new) (from_to self.old self.new)) }
         ensures leaves { Leaves (progress_of result) self.old.slot (kernel_state self.old) (kernel_state self.new) }
         ensures lowers { Lowers (progress_of result) (place_of (slot_at (kernel_state self.old) self.old.slot)) (place_of (slot_at (kernel_state self.new) self.new.slot)) }
+        ensures raises { IfOk result (λ stepped. Raises (place_of (slot_at (kernel_state self.old) self.old.slot)) self.old.slot (kernel_state self.old) stepped.trap (kernel_state self.new)) }
         ensures slot { self.new.slot ≡ self.old.slot }
         ensures calls { self.new.calls ≡ self.old.calls }
         ensures rest { Unchanged H.files H.input H.asked H.notes host.old host.new }
@@ -101,6 +103,7 @@ impl Served {
         ensures step { IsLibraryStep (progress_of result) self.old.slot (kernel_state self.old) (kernel_state self.new) (output H.console (λ s. s.written) (from_to host.old host.new) (from_to self.old self.new)) }
         ensures leaves { Leaves (progress_of result) self.old.slot (kernel_state self.old) (kernel_state self.new) }
         ensures lowers { Lowers (progress_of result) (place_of (slot_at (kernel_state self.old) self.old.slot)) (place_of (slot_at (kernel_state self.new) self.new.slot)) }
+        ensures raises { IfOk result (λ stepped. Raises (place_of (slot_at (kernel_state self.old) self.old.slot)) self.old.slot (kernel_state self.old) stepped.trap (kernel_state self.new)) }
         ensures slot { self.new.slot ≡ self.old.slot }
         ensures calls { self.new.calls ≤ self.old.calls + 1 }
         ensures rest { Unchanged H.files H.input H.asked H.notes host.old host.new }

@@ -3,12 +3,15 @@ use Rattle.std.specs.Prelude.{not}
 use Rattle.jos_base.specs.Environments.{is_running}
 use Rattle.jos_base.specs.KernelState.{slot_at}
 use Rattle.jos_sched.specs.Quantum.{quantum}
+use Rattle.jos_kernel.specs.Kernel.{traced}
 use Rattle.lib_os.specs.AbstractState.{AbstractState}
 use Rattle.lib_os.specs.AbstractRun.{abs_step}
 use Rattle.lib_os.specs.LibrarySteps.{Stands, Keeps, KeepsTurn, KeepsUses, LeavesRest}
+use Rattle.lib_os.specs.Places.{place_of}
 use Rattle.jos_run.specs.declared.library_run.LibraryRun.{LibraryRun}
 use Rattle.jos_run.specs.Running.{state_of, entered, noted}
 use Rattle.jos_run.specs.Served.{kernel_state}
+use Rattle.jos_run.specs.Steps.{Raises}
 use Rattle.lib_os.proofs.NeedReached.{need_is_reached}
 use Rattle.jos_run.proofs.StepsMade.{Makes, moved, went_one, failed_one}
 use Rattle.jos_run.proofs.TurnsCounted.{step_holds}
@@ -44,6 +47,11 @@ makes g c =
       rest = moved (λ n s t. LeavesRest s t) before.slot before.state (behind g c) c.in-Ok.ensures.leaves.0;
       turn = moved (λ n s t. KeepsTurn done (slot_at s n) (slot_at t n)) before.slot before.state (behind g c) c.in-Ok.ensures.leaves.1;
       uses = moved (λ n s t. KeepsUses n s t) before.slot before.state (behind g c) c.in-Ok.ensures.leaves.2;
+      trap = c.in-Ok.stepped.trap;
+      raises = moved (λ n s t. Raises (place_of (slot_at s n)) n s c.in-Ok.stepped.trap t) before.slot before.state (behind g c)
+          c.in-Ok.ensures.raises;
+      traced_is = c.keep_trap.ensures.trace ∙ (λ i. traced (c.note_refusal.ensures i).trace c.in-Ok.stepped.trap)
+          ∙ (λ i. traced (before.rest i).trace c.in-Ok.stepped.trap);
       slot = (λ i. (c.keep_trap.ensures.rest i).served.slot) ∙ (λ i. (c.note_refusal.ensures i).served.slot) ∙ c.in-Ok.ensures.slot
           ∙ before.slot;
       turns = (λ i. (c.keep_trap.ensures.rest i).turns) ∙ (λ i. (c.note_refusal.ensures i).turns) ∙ (λ i. (before.rest i).turns);

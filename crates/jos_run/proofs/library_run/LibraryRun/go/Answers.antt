@@ -34,7 +34,7 @@ loop-left-preserved g c =
 
 pub returns-in-Err-clause-told : goal.returns-in-Err-clause-told
 returns-in-Err-clause-told g c =
-    on_end c.loop-left.invariant.went c.loop-left-test.true c.loop-left.invariant.within c.in-Err.end c.in-Err.ensures.over
+    on_end c.loop-left.invariant.went c.loop-left-test.true c.loop-left.invariant.within c.loop-left.invariant.holds c.in-Err.end c.in-Err.ensures.over
     c.in-Err.ensures.end
 
 pub returns-in-Err-advance-clause-told : goal.returns-in-Err-advance-clause-told

@@ -3,7 +3,7 @@ use Rattle.lib_os.specs.declared.progress.Progress.TheVariants as progress
 use Rattle.jos_run.specs.Served.{kernel_state}
 use Rattle.jos_run.proofs.Printed.{printed}
 use Rattle.jos_run.proofs.GuestLeaves.{guest_leaves}
-use Rattle.jos_run.proofs.ProgramSteps.{program_goes_on, program_ends, program_fails}
+use Rattle.jos_run.proofs.ProgramSteps.{program_goes_on, program_ends, program_fails, guest_raises}
 use Rattle.jos_run.proofs.served.Served.step_program.Goals as goal
 
 pub returns-then-is_live-clause-step : goal.returns-then-is_live-clause-step
@@ -29,3 +29,11 @@ returns-then-is_live-clause-leaves g c =
 pub returns-else-is_live-clause-leaves : goal.returns-else-is_live-clause-leaves
 returns-else-is_live-clause-leaves g c =
     guest_leaves (kernel_state c.args.self.now) _ c.args.self.now.slot progress.Ended c.in-Ok.ensures.told.0
+
+pub returns-then-is_live-clause-raises : goal.returns-then-is_live-clause-raises
+returns-then-is_live-clause-raises g c =
+    guest_raises (kernel_state c.args.self.now) _ c.args.self.now.slot c.in-Ok.trap c.requires.at c.in-Ok.ensures.told.0 c.in-Ok.ensures.told.1
+
+pub returns-else-is_live-clause-raises : goal.returns-else-is_live-clause-raises
+returns-else-is_live-clause-raises g c =
+    guest_raises (kernel_state c.args.self.now) _ c.args.self.now.slot c.in-Ok.trap c.requires.at c.in-Ok.ensures.told.0 c.in-Ok.ensures.told.1

@@ -1,0 +1,93 @@
+-- A run as the states of the kernel tell it: the steps that were made, the traps that programs raised in them, and the end.
+use Rattle.std.specs.Prelude.{◌≡◌, ℕ, ◌==◌, ◌++◌, Bool, true, false, List, [], ◌∷◌, length, Option, Some, None, Ok, if◌then◌else◌}
+use Rattle.circular_buffer.specs.Buffer.{keep_last}
+use Rattle.jos_base.specs.Environments.{is_running}
+use Rattle.jos_base.specs.KernelState.{KernelState, slot_at, turn_begun, turn_ended}
+use Rattle.jos_sched.specs.RoundRobin.{next}
+use Rattle.jos_kernel.specs.declared.report.End.{End}
+use Rattle.jos_kernel.specs.declared.report.End.TheVariants.{Budget}
+use Rattle.jos_kernel.specs.declared.trace.TrapLine.{TrapLine}
+use Rattle.jos_kernel.specs.Reports.{Reported}
+use Rattle.lib_os.specs.declared.progress.Progress.{Progress}
+use Rattle.lib_os.specs.LibrarySteps.{Keeps, Leaves}
+use Rattle.lib_os.specs.Places.{place_of}
+use Rattle.jos_run.specs.LibraryRuns.{end_seen}
+use Rattle.jos_run.specs.Steps.{Raises}
+
+-- ---- steps
+
+-- A step of the environment in a slot: whether its turn begins with it, and goes on behind it; what it comes to, what it
+-- writes to the console, the trap that it raises, if it raises one, and the state that it leaves.
+pub record StepMade : Type 0 where
+  pub slot : ℕ
+  pub begins : Bool
+  pub goes_on : Bool
+  pub progress : Progress
+  pub written : List ℕ
+  pub trap : Option TrapLine
+  pub left : KernelState
+
+-- the state in which it is made
+abbrev pub entered_by : KernelState → StepMade → KernelState
+entered_by s step = if step.begins then turn_begun s step.slot else s
+
+-- and the one behind it, or behind its turn, where that is over
+abbrev pub passed : StepMade → KernelState
+passed step = if step.goes_on then step.left else turn_ended step.left step.slot
+
+-- The step is made from this state on, by the slot whose turn it is, and is one that the library promises.
+pub record IsMade (s : KernelState) (step : StepMade) : Type 0 where
+  pub chosen : step.begins ≡ true → next s.environments s.last ≡ Some step.slot
+  pub running : is_running (slot_at (entered_by s step) step.slot).status ≡ true
+  pub raises : Raises (place_of (slot_at (entered_by s step) step.slot)) step.slot (entered_by s step) step.trap step.left
+  pub keeps : Keeps step.progress step.slot (entered_by s step) step.left step.written
+  pub leaves : Leaves (Ok step.progress) step.slot (entered_by s step) step.left
+
+-- These steps lead from one state to another.
+unfoldable pub LeadTo : List StepMade → KernelState → KernelState → Type 0
+LeadTo [] s t = s ≡ t
+LeadTo (step ∷ rest) s t = IsMade s step × LeadTo rest (passed step) t
+
+abbrev pub one_if : Option TrapLine → List TrapLine
+one_if None = []
+one_if (Some trap) = trap ∷ []
+
+-- the traps that were raised in them
+unfoldable pub traps_of : List StepMade → List TrapLine
+traps_of [] = []
+traps_of (step ∷ rest) = one_if step.trap ++ traps_of rest
+
+-- and what was written
+unfoldable pub written_in : List StepMade → List ℕ
+written_in [] = []
+written_in (step ∷ rest) = step.written ++ written_in rest
+
+-- ---- the end
+
+-- whether the slot that had the last turn is in it still
+abbrev pub is_in_turn : KernelState → Option ℕ → Bool
+is_in_turn s None = false
+is_in_turn s (Some n) = is_running (slot_at s n).status
+
+-- The end that the kernel's state tells after so many turns: in a turn it is the budget alone, where the steps are used up, and
+-- between two turns the first end test that holds.
+abbrev pub end_at : KernelState → ℕ → Bool → Option End
+end_at s turns spent =
+    if is_in_turn s s.last then (if spent then Some Budget else None) else end_seen s turns spent
+
+-- ---- what is told
+
+-- From this state on steps were made, as many as the report counts, which have printed these bytes, with these as the last of
+-- their traps; and the state to which they lead tells the end, the turns, the refusals and the upcalls of the report.
+pub record HasGone (s : KernelState) (budget most_traps : ℕ) (report : Reported) (traps : List TrapLine) (printed : List ℕ) :
+    Type 0 where
+  pub steps : List StepMade
+  pub now : KernelState
+  pub lead : LeadTo steps s now
+  pub steps_are : report.steps ≡ length steps
+  pub turns : length report.turns ≡ now.turns
+  pub refused : report.refused ≡ now.refusals
+  pub upcalls : report.upcalls ≡ now.upcalls
+  pub end : end_at now (length report.turns) (report.steps == budget) ≡ Some report.end
+  pub printed_are : printed ≡ written_in steps
+  pub last_traps : traps ≡ keep_last most_traps (traps_of steps)
