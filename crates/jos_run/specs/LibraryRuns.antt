@@ -1,6 +1,6 @@
 -- Where a run of the library's programs stands, between two turns and in one: the abstract system has made the turns so far,
 -- with the visible steps of the turn under way, and the kernel's state stands for where it has come to.
-use Rattle.std.specs.Prelude.{◌≡◌, ◌≢◌, ℕ, ◌+◌, ◌==◌, ◌&&◌, nat_le, not, Bool, true, false, List, [], ◌∷◌, ◌++◌}
+use Rattle.std.specs.Prelude.{◌≡◌, ◌≢◌, ℕ, ◌+◌, ◌==◌, ◌&&◌, nat_le, not, Bool, true, false, List, ◌++◌}
 use Rattle.std.specs.Prelude.{Option, Some, None, is_none, if◌then◌else◌}
 use Rattle.jos_base.specs.declared.environment.EnvType.{EnvType}
 use Rattle.jos_base.specs.declared.environment.EnvType.TheVariants.{User, FileServer}
