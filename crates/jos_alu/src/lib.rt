@@ -33,6 +33,3 @@ pub use products::{
 pub use registers::{advance, register, register_at, set_register, set_register_at};
 pub use shifts::{Shift, shift_by};
 pub use width::Width;
-
-#[cfg(test)]
-mod tests;

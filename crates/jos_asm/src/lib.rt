@@ -15,8 +15,6 @@ mod labels;
 mod lengths;
 mod limits;
 mod name;
-#[cfg(test)]
-mod tests;
 
 pub use builder::Builder;
 pub use fault::AsmFault;

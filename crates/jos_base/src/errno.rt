@@ -59,24 +59,3 @@ impl<T: Drop> From<AllocFailed<T>> for NoMemory {
         NoMemory
     }
 }
-
-#[cfg(test)]
-mod tests {
-    use super::*;
-
-    // the numbers of MIT 6.828's inc/error.h
-    #[test]
-    fn numbers_the_errors(rt: HostRuntime) {
-        for (errno, number) in [
-            (Errno::BadEnv, 2),
-            (Errno::Invalid, 3),
-            (Errno::NoMem, 4),
-            (Errno::NoFreeEnv, 5),
-            (Errno::IpcNotRecv, 7),
-            (Errno::NotFound, 11),
-            (Errno::BadPath, 12),
-        ] {
-            assert_eq!(rt; errno.code(), number, "{errno:?}");
-        }
-    }
-}

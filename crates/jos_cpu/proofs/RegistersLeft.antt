@@ -8,7 +8,7 @@ use Rattle.jos_isa.specs.declared.instruction.Operand.{Operand}
 use Rattle.jos_isa.specs.declared.instruction.Operand.TheVariants as operand
 use Rattle.jos_alu.specs.declared.width.Width.{Width}
 use Rattle.jos_alu.specs.declared.products.Halves.{Halves}
-use Rattle.jos_alu.specs.Registers.{register_at, advanced}
+use Rattle.jos_alu.specs.Registers.{advanced}
 use Rattle.jos_alu.specs.Products.{quotient_of, double_register}
 use Rattle.jos_cpu.specs.declared.memory.MemFault.{MemFault}
 use Rattle.jos_cpu.specs.declared.memory.MemFault.TheVariants.{Page, Fence}
@@ -33,7 +33,7 @@ use Rattle.jos_cpu.specs.Accesses.{is_repeated, is_over}
 use Rattle.jos_cpu.specs.Probes.{probed_all}
 use Rattle.jos_cpu.specs.Forms.{form_of}
 use Rattle.jos_cpu.specs.Effects.{Done, gives, value_at, with_quotient, gate_of, repetition_effect, after_repetition}
-use Rattle.jos_cpu.specs.Effects.{counted_down, gone_back, strings_effect, interrupt_effect, form_effect}
+use Rattle.jos_cpu.specs.Effects.{counted_down, gone_back, strings_effect, form_effect}
 use Rattle.jos_cpu.specs.Fetch.{fetched_at}
 use Rattle.jos_cpu.specs.Steps.{Stepped, probes, done_by, fault_event, after_probes, executed, after_fetch, step_of}
 

@@ -9,5 +9,4 @@ pub mod AtHand
 pub mod Effects
 pub mod Fetch
 pub mod Steps
-pub mod TestMemory
 pub mod Bursts

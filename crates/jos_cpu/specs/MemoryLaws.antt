@@ -1,13 +1,7 @@
--- Two facts from which a memory shows that it is lawful. They are proofs and no definitions, to be passed over when
--- reading: a memory cites them in its `lawful`, which can import them from here alone.
-use Rattle.std.specs.Prelude.{◌≡◌, ◌⊎◌, ℕ, zero, suc, Bool, true, false, List, [], ◌∷◌, slice_index, slice_set, refl}
-use Rattle.std.specs.Prelude.{if◌then◌else◌}
+-- A fact from which a memory shows that it is lawful. It is a proof and no definition, to be passed over when reading: a
+-- memory cites it in its `lawful`, which can import it from here alone.
+use Rattle.std.specs.Prelude.{◌≡◌, ◌⊎◌, ℕ, zero, suc, List, [], ◌∷◌, slice_index, slice_set, refl}
 use mathlib.Core.Logic.{inl, inr}
-
--- what both of two values have
-pub either_way : {A B : Type 0} (x y : A) (test : Bool) (f : A → B) → f y ≡ f x → f (if test then x else y) ≡ f x
-either_way x y true f e = refl
-either_way x y false f e = e
 
 -- a place of a list has what it had, or what was put into the list
 pub set_or_same : (xs : List ℕ) (i value j : ℕ) →

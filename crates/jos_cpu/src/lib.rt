@@ -38,6 +38,3 @@ pub use decodings::Decodings;
 pub use events::{Event, Gates};
 pub use memory::{Mem, MemFault};
 pub use stepping::step;
-
-#[cfg(test)]
-mod tests;

@@ -7,7 +7,5 @@
 
 mod code;
 mod programs;
-#[cfg(test)]
-mod tests;
 
 pub use programs::{is_program, program};

@@ -96,34 +96,3 @@ impl fmt::Display for ElfFault {
 }
 
 impl Error for ElfFault {}
-
-#[cfg(test)]
-mod tests {
-    use super::*;
-    use std::test::Fail;
-
-    #[test]
-    fn tells_each_fault(rt: HostRuntime) -> Result<(), Fail> {
-        for (fault, text) in [
-            (ElfFault::Truncated(40), "truncated 40"),
-            (ElfFault::Magic, "magic"),
-            (ElfFault::Class, "class"),
-            (ElfFault::Kind, "kind"),
-            (ElfFault::Machine, "machine"),
-            (ElfFault::EntrySize, "entry size"),
-            (ElfFault::TooMany, "too many"),
-            (ElfFault::SegmentRange(1), "segment range 1"),
-            (ElfFault::Overlap(1, 0), "overlap 1 0"),
-            (ElfFault::Truncated(u32::MAX), "truncated 4294967295"),
-            (
-                ElfFault::Overlap(u32::MAX, u32::MAX),
-                "overlap 4294967295 4294967295",
-            ),
-        ] {
-            assert_eq!(rt; fault.text().as_str(), text);
-            let told = format!(in rt.alloc(); "{fault}")?;
-            assert_eq!(rt; told.as_str(), text);
-        }
-        Ok(())
-    }
-}

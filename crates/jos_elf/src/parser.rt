@@ -135,6 +135,3 @@ pub fn parse(bytes: &[u8]) -> Result<Image, ElfFault>
         segments,
     })
 }
-
-#[cfg(test)]
-mod tests;

@@ -111,6 +111,3 @@ pub fn write(alloc: Global, entry: u32, parts: &[Part], bytes: &[u8]) -> Result<
     file.extend_from_slice(bytes)?;
     Ok(file)
 }
-
-#[cfg(test)]
-mod tests;

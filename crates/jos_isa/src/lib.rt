@@ -17,8 +17,6 @@ mod lengths;
 mod moves;
 mod opcode_map;
 mod row_opcodes;
-#[cfg(test)]
-mod tests;
 
 pub use decoder::{Decoded, decode, no_spelling_begins_another};
 pub use encoder::encode;

@@ -3,28 +3,28 @@
 ghost use Rattle.std.specs.Prelude.{◌≡◌, ◌<◌, ◌+◌, ◌%◌, ◌^◌, slice_index, slice_set, if◌then◌else◌};
 ghost use Rattle.jos_cpu.specs.Memory.{Memory, after};
 ghost use Rattle.jos_base.specs.Reach.{write_bit};
-ghost use Rattle.jos_cpu.specs.TestMemory.{offset, test_memory_allows, test_memory_fault};
+ghost use Rattle.machine_tests.specs.TestMemory.{offset, test_memory_allows, test_memory_fault};
 
-use crate::memory::{Mem, MemFault};
 use jos_alu::Width;
 use jos_base::{Access, FEC_U, FEC_WR, PageFault};
+use jos_cpu::{Mem, MemFault};
 
-const LEN: usize = 128;
+pub const LEN: usize = 128;
 
 /// Bytes from an address on, of which the first few may only be read.
 #[derive(Clone, Copy)]
-pub(crate) struct TestMemory {
-    pub(crate) base: u32,
-    pub(crate) locked: u32,
+pub struct TestMemory {
+    pub base: u32,
+    pub locked: u32,
     /// Whether nothing changes when bytes are reached, so that they are at hand.
-    pub(crate) standing: bool,
+    pub standing: bool,
     /// How many bytes were reached, where that is counted.
-    pub(crate) touched: u32,
-    pub(crate) bytes: [u8; LEN],
+    pub touched: u32,
+    pub bytes: [u8; LEN],
 }
 
 impl TestMemory {
-    pub(crate) fn offset(&self, va: u32) -> u32
+    fn offset(&self, va: u32) -> u32
         ensures { result ≡ offset self.now.base va }
     {
         va.wrapping_sub(self.base)
@@ -65,7 +65,7 @@ fn test_memory_fault(va: u32, access: Access) -> MemFault
 }
 
 impl Mem for TestMemory {
-    ghost use Rattle.jos_cpu.specs.declared.tests.test_memory.TestMemory.{TestMemory};
+    ghost use Rattle.machine_tests.specs.declared.memory.TestMemory.{TestMemory};
 
     ghost State = { TestMemory };
 
@@ -136,7 +136,8 @@ impl Mem for TestMemory {
     }
 
     ghost use Rattle.std.specs.Prelude.{refl};
-    ghost use Rattle.jos_cpu.specs.MemoryLaws.{either_way, set_or_same};
+    ghost use Rattle.jos_cpu.specs.MemoryLaws.{set_or_same};
+    ghost use Rattle.machine_tests.specs.MemoryLaws.{either_way};
 
     ghost lawful = { record {
       reached_rights = λ m va access. either_way m (record m { touched = (m.touched + 1) % 2 ^ 32 }) m.standing (λ w q wanted. test_memory_allows w.base w.locked 128 q wanted) refl;
