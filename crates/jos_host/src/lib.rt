@@ -13,8 +13,6 @@ mod host;
 mod mem;
 mod os;
 mod streams;
-#[cfg(test)]
-mod testing;
 
 pub use host::{Failed, FileCall, Host};
 pub use mem::{MemHost, NamedBytes};

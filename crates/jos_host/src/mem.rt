@@ -414,6 +414,3 @@ fn store(
         None => add(alloc, files, name, bytes),
     }
 }
-
-#[cfg(test)]
-mod tests;

@@ -155,6 +155,3 @@ fn write_file(files: &impl Files, name: &str, at: u64, bytes: &[u8]) -> io::Resu
         .open(files, name)?;
     write_from(&mut file, at, bytes)
 }
-
-#[cfg(test)]
-mod tests;

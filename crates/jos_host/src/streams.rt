@@ -103,6 +103,3 @@ pub(crate) fn unless_absent<T>(done: io::Result<T>) -> io::Result<Option<T>>
         },
     }
 }
-
-#[cfg(test)]
-mod tests;

@@ -1,7 +1,10 @@
+//! A host all in memory.
+
 ghost use Rattle.std.specs.Prelude.{◌≡◌, ◌≤◌, [], ◌++◌, IfOk, codes};
 
-use super::*;
-use crate::testing::same;
+use crate::same::same;
+use jos_host::{Failed, Host, MemHost, NamedBytes};
+use std::alloc::{AllocError, Global};
 use std::process::Abort;
 use std::test::Fail;
 
