@@ -10,8 +10,6 @@ mod environment;
 mod recent;
 mod slot_set;
 mod table;
-#[cfg(test)]
-mod tests;
 
 pub use environment::Environment;
 pub use table::Table;

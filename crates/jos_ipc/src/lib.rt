@@ -6,7 +6,5 @@
 #![tactic(auto)]
 
 mod rendezvous;
-#[cfg(test)]
-mod tests;
 
 pub use rendezvous::{Offer, Rendezvous};

@@ -227,7 +227,7 @@ fn boot_image(system: &mut System, image: &Image, file: &[u8]) -> bool
 
 /// Boots the images in their order, each with the file that it was read from. False where a frame or a slot is wanted
 /// and none is free.
-pub(crate) fn boot_images(system: &mut System, images: &[Image], files: &[Vec<u8>]) -> bool
+pub fn boot_images(system: &mut System, images: &[Image], files: &[Vec<u8>]) -> bool
     requires spaces { Keeps system.old }
     requires read { All IsRead (loadables images.now files.now) }
     ensures booted { result ≡ true → (input : List ℕ) →
@@ -243,6 +243,3 @@ pub(crate) fn boot_images(system: &mut System, images: &[Image], files: &[Vec<u8
     }
     true
 }
-
-#[cfg(test)]
-mod tests;

@@ -10,11 +10,9 @@ mod boot;
 mod kernel;
 mod machine;
 mod report;
-#[cfg(test)]
-mod tests;
 mod trace;
 
-pub use boot::{first_registers, load_pages, next_touched};
+pub use boot::{boot_images, first_registers, load_pages, next_touched};
 pub use kernel::{BootFault, ExoEnd, Kernel, exo_run};
 pub use report::{End, Refusal, Report, Stopped, Turn};
 pub use trace::{Trace, TrapLine};

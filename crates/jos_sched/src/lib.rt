@@ -9,8 +9,6 @@ mod fault;
 mod parser;
 mod round_robin;
 mod schedule;
-#[cfg(test)]
-mod tests;
 
 pub use fault::ScheduleFault;
 pub use parser::parse_schedule;

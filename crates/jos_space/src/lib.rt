@@ -18,6 +18,3 @@ mod role;
 mod spaces;
 
 pub use spaces::{Empty, PageAtHand, Space, Spaces};
-
-#[cfg(test)]
-mod tests;

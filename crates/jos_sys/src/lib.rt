@@ -14,8 +14,6 @@ mod memory;
 mod messages;
 mod pages;
 mod system;
-#[cfg(test)]
-mod tests;
 
 pub use faults::Faulted;
 pub use input::Input;

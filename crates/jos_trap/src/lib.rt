@@ -7,8 +7,6 @@
 mod frame;
 mod place;
 mod record;
-#[cfg(test)]
-mod tests;
 
 pub use frame::{FRAME_SIZE, frame_bytes, frame_words, from_frame};
 pub use place::{UpcallPlace, upcall_place};

@@ -1,5 +1,5 @@
 use Rattle.std.proofs.Common.{◌∙◌, ap}
-use Rattle.jos_sys.proofs.tests.Bench.write_page.Goals as goal
+use Rattle.kernel_tests.proofs.calls.CallBench.write_page.Goals as goal
 
 pub reach-requires : goal.reach-requires
 reach-requires c =

@@ -1,7 +1,7 @@
 use Rattle.std.proofs.Common.{◌∙◌, [], sym, ap}
 use Rattle.jos_base.specs.Environments.{is_live}
 use Rattle.jos_sys.proofs.Keeping.{lives}
-use Rattle.jos_sys.proofs.tests.live_space.Goals as goal
+use Rattle.kernel_tests.proofs.calls.live_space.Goals as goal
 
 pub space-requires : goal.space-requires
 space-requires c =

@@ -1,0 +1,252 @@
+//! Runs of the kernel, over a host that is all in memory.
+
+ghost use Rattle.std.specs.Prelude.{◌≡◌, ◌^◌, ◌<◌, length, IfOk};
+ghost use Rattle.jos_kernel.specs.Kernel.{Holds};
+
+use crate::codes::code_of;
+use anyhow::{Context, bail, ensure};
+use jos_base::{FRAMES_MIN, UTEXT};
+use jos_elf::{Part, parse, write};
+use jos_host::MemHost;
+use jos_kernel::{End, ExoEnd, Kernel, Report, Trace, exo_run};
+use jos_sched::{Schedule, parse_schedule};
+use std::alloc::Global;
+use test_cases::{Told, number};
+
+/// What is run: two codes, so many steps at most, by a schedule. So many traps are kept.
+#[derive(Drop)]
+struct Plan {
+    codes: (&'static [u8], &'static [u8]),
+    steps: u32,
+    trace: u32,
+    schedule: Schedule,
+}
+
+impl Plan {
+    /// What words say: the names of two codes, two numbers, and behind a stroke the schedule.
+    fn of(alloc: Global, words: &str) -> anyhow::Result<Plan> {
+        let (words, schedule) = words.split_once(" | ").context("no schedule")?;
+        let mut words = words.split_whitespace();
+        let first = words.next().and_then(code_of).context("no first code")?;
+        let second = words.next().and_then(code_of).context("no second code")?;
+        let steps = words.next().and_then(number).context("no number of steps")?;
+        let trace = words.next().and_then(number).context("no number of traps")?;
+        let schedule = schedule.as_bytes();
+        ensure!(schedule.len() < 1 << 32, "a long schedule");
+        match parse_schedule(alloc, schedule) {
+            Ok(schedule) => Ok(Plan {
+                codes: (first, second),
+                steps,
+                trace,
+                schedule,
+            }),
+            Err(fault) => bail!("{fault}"),
+        }
+    }
+}
+
+/// What a run has come to.
+#[derive(Drop)]
+struct Run {
+    report: Report,
+    trace: Trace,
+    console: Vec<u8>,
+}
+
+/// The file of an image with this code.
+fn file_of(alloc: Global, code: &[u8]) -> anyhow::Result<Vec<u8>>
+    ensures { IfOk result (λ file. length file.items < 2 ^ 32) }
+{
+    ensure!(0 < code.len() && code.len() < 256, "{} bytes", code.len());
+    let part = Part {
+        va: UTEXT + 0x20,
+        at: 0,
+        len: code.len() as u32,
+        mem_len: code.len() as u32,
+        writable: false,
+    };
+    match write(alloc, UTEXT + 0x20, &[part], code) {
+        Ok(file) => Ok(file),
+        Err(_) => bail!("no memory"),
+    }
+}
+
+/// Boots two images that have the codes, with no input, in 64 frames.
+fn boot(alloc: Global, plan: Plan) -> anyhow::Result<Kernel>
+    ensures holds { IfOk result Holds }
+    ensures steps { IfOk result (λ kernel. kernel.steps ≡ 0) }
+{
+    let first = file_of(alloc, plan.codes.0)?;
+    let second = file_of(alloc, plan.codes.1)?;
+    let image = match parse(&first) {
+        Ok(image) => image,
+        Err(_) => bail!("no image"),
+    };
+    let other = match parse(&second) {
+        Ok(image) => image,
+        Err(_) => bail!("no image"),
+    };
+    let booted = Kernel::boot(
+        alloc,
+        &[image, other],
+        &[first, second],
+        FRAMES_MIN,
+        Vec::new(alloc),
+        plan.schedule,
+        plan.trace,
+    );
+    match booted {
+        Ok(kernel) => Ok(kernel),
+        Err(fault) => bail!("{fault:?}"),
+    }
+}
+
+/// A host without files and input, at which no call fails.
+fn silent_host(alloc: Global) -> MemHost {
+    MemHost::new(alloc, Vec::new(alloc), Vec::new(alloc), Vec::new(alloc))
+}
+
+impl Run {
+    /// A run that is over, or whose steps are made.
+    fn finished(alloc: Global, kernel: Kernel, host: &MemHost, end: End) -> anyhow::Result<Run>
+        requires { Holds kernel }
+    {
+        let console = Vec::from_slice(alloc, host.console())?;
+        let (report, trace) = kernel.finish(end);
+        Ok(Run {
+            report,
+            trace,
+            console,
+        })
+    }
+
+    /// Runs a plan to its end.
+    fn whole(alloc: Global, words: &str) -> anyhow::Result<Run> {
+        let plan = Plan::of(alloc, words)?;
+        let steps = plan.steps as u64;
+        let mut host = silent_host(alloc);
+        let mut kernel = boot(alloc, plan)?;
+        ensure!(kernel.ended().is_none(), "no first step");
+        match exo_run(&mut kernel, &mut host, steps) {
+            ExoEnd::HostFault => bail!("the host failed"),
+            ExoEnd::Ended(end) => Run::finished(alloc, kernel, &host, end),
+        }
+    }
+
+    /// Makes the first turn of a plan. The number of its steps is told too.
+    fn first_turn(alloc: Global, words: &str) -> anyhow::Result<(Run, u64)> {
+        let plan = Plan::of(alloc, words)?;
+        let steps = plan.steps as u64;
+        let mut host = silent_host(alloc);
+        let mut kernel = boot(alloc, plan)?;
+        match kernel.ended() {
+            None if 0 < steps => match kernel.turn(&mut host, steps) {
+                Ok(made) => Ok((Run::finished(alloc, kernel, &host, End::Budget)?, made)),
+                Err(_) => bail!("the host failed"),
+            },
+            _ => bail!("no first turn"),
+        }
+    }
+
+    /// Makes the first step of a plan.
+    fn first_step(alloc: Global, words: &str) -> anyhow::Result<Run> {
+        let plan = Plan::of(alloc, words)?;
+        let mut host = silent_host(alloc);
+        let mut kernel = boot(alloc, plan)?;
+        match kernel.ended() {
+            None => match kernel.step(&mut host) {
+                Ok(()) => Run::finished(alloc, kernel, &host, End::Budget),
+                Err(_) => bail!("the host failed"),
+            },
+            Some(end) => bail!("{end:?}"),
+        }
+    }
+
+    /// The slots of the turns.
+    fn slots(&self, alloc: Global) -> anyhow::Result<Told> {
+        let mut slots = Vec::new(alloc);
+        for turn in &self.report.turns {
+            slots.push(turn.slot as u32)?;
+        }
+        Ok(Told::Words(slots))
+    }
+
+    /// The steps of the turns that the abstract system makes too.
+    fn visible_steps(&self, alloc: Global) -> anyhow::Result<Told> {
+        let mut steps = Vec::new(alloc);
+        for turn in &self.report.turns {
+            steps.push(turn.visible)?;
+        }
+        Ok(Told::Words(steps))
+    }
+
+    /// A trap's environment, number, error code, address and instruction.
+    fn trap(&self, alloc: Global, place: usize) -> anyhow::Result<Told> {
+        match self.trace.get(place) {
+            Some(line) => {
+                let words = [line.id, line.trap as u32, line.error, line.va, line.ip];
+                Ok(Told::words(alloc, &words)?)
+            }
+            None => Ok(Told::Nothing),
+        }
+    }
+
+    /// What is asked of a run.
+    fn answer(&self, alloc: Global, what: &str) -> anyhow::Result<Told> {
+        match what {
+            "steps" => Ok(Told::Count(self.report.steps)),
+            "turns" => Ok(Told::Count(self.report.turns.len() as u64)),
+            "slots" => self.slots(alloc),
+            "visible_steps" => self.visible_steps(alloc),
+            "upcalls" => Ok(Told::Count(self.report.upcalls)),
+            "traps" => Ok(Told::Count(self.trace.len() as u64)),
+            "first_trap" => self.trap(alloc, 0),
+            "second_trap" => self.trap(alloc, 1),
+            "console" => Ok(Told::Text(format!(in alloc; "{:?}", self.console)?)),
+            _ => bail!("{what} is not told of a run"),
+        }
+    }
+}
+
+/// The last run.
+#[derive(Drop)]
+pub(crate) struct RunBench {
+    run: Option<Run>,
+}
+
+impl RunBench {
+    /// No run yet.
+    pub(crate) fn new() -> RunBench {
+        RunBench { run: None }
+    }
+
+    /// Makes a run of a plan, or tells of the last run.
+    pub(crate) fn answer(
+        &mut self,
+        alloc: Global,
+        what: &str,
+        words: &str,
+    ) -> anyhow::Result<Told> {
+        match what {
+            "run" => {
+                let run = Run::whole(alloc, words)?;
+                let end = run.report.end;
+                self.run = Some(run);
+                Ok(Told::Text(format!(in alloc; "{end:?}")?))
+            }
+            "turn" => {
+                let (run, made) = Run::first_turn(alloc, words)?;
+                self.run = Some(run);
+                Ok(Told::Count(made))
+            }
+            "step" => {
+                self.run = Some(Run::first_step(alloc, words)?);
+                Ok(Told::Nothing)
+            }
+            _ => match &self.run {
+                Some(run) => run.answer(alloc, what),
+                None => bail!("no run"),
+            },
+        }
+    }
+}

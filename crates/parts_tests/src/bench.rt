@@ -1,0 +1,53 @@
+//! What is tried, and in which state it is.
+
+use crate::environments::tell_environments;
+use crate::frames::tell_frames;
+use crate::messages::tell_messages;
+use crate::schedules::tell_schedules;
+use crate::spaces::SpaceBench;
+use anyhow::{Context, bail};
+use jos_envs::Table;
+use jos_ipc::Rendezvous;
+use std::alloc::Global;
+use test_cases::{Bench, Told};
+
+/// What is tried.
+#[derive(Drop)]
+pub(crate) enum PartBench {
+    /// `jos_sched`.
+    Schedules,
+    /// `jos_trap`.
+    Frames,
+    /// `jos_ipc`.
+    Messages(Rendezvous),
+    /// `jos_envs`, and whom `jos_sched` gives the next turn.
+    Environments(Table),
+    /// `jos_space`.
+    Spaces(SpaceBench),
+}
+
+impl Bench for PartBench {
+    fn of(alloc: Global, line: &str) -> anyhow::Result<PartBench> {
+        match line {
+            "schedules" => Ok(PartBench::Schedules),
+            "frames" => Ok(PartBench::Frames),
+            "messages" => Ok(PartBench::Messages(Rendezvous::none())),
+            "environments" => {
+                let table = Table::new(alloc).ok().context("no memory")?;
+                Ok(PartBench::Environments(table))
+            }
+            "spaces" => Ok(PartBench::Spaces(SpaceBench::new(alloc)?)),
+            _ => bail!("{line} is not tried"),
+        }
+    }
+
+    fn answer(&mut self, alloc: Global, what: &str, words: &str) -> anyhow::Result<Told> {
+        match self {
+            PartBench::Schedules => tell_schedules(alloc, what, words),
+            PartBench::Frames => tell_frames(alloc, what, words),
+            PartBench::Messages(rendezvous) => tell_messages(rendezvous, alloc, what, words),
+            PartBench::Environments(table) => tell_environments(table, alloc, what, words),
+            PartBench::Spaces(spaces) => spaces.answer(alloc, what, words),
+        }
+    }
+}

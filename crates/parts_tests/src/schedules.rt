@@ -1,0 +1,59 @@
+//! Turns and schedules.
+
+use anyhow::{Context, ensure};
+use jos_sched::{Schedule, ScheduleFault, parse_schedule};
+use std::alloc::Global;
+use test_cases::{Told, numbers};
+
+/// The bytes of a text between quotes, in which `\t`, `\r` and `\n` are what they are in Rust.
+fn text_of(alloc: Global, quoted: &str) -> anyhow::Result<Vec<u8>> {
+    let mut text = Vec::new(alloc);
+    let mut escaped = false;
+    for byte in quoted.as_bytes() {
+        match *byte {
+            b'\\' => escaped = true,
+            b'"' => {}
+            byte => {
+                text.push(match (escaped, byte) {
+                    (true, b't') => b'\t',
+                    (true, b'r') => b'\r',
+                    (true, b'n') => b'\n',
+                    _ => byte,
+                })?;
+                escaped = false;
+            }
+        }
+    }
+    Ok(text)
+}
+
+/// The numbers of a schedule, or what is wrong with its text.
+fn read(alloc: Global, quoted: &str) -> anyhow::Result<Told> {
+    let text = text_of(alloc, quoted)?;
+    ensure!(text.len() < 1 << 32, "a long text");
+    match parse_schedule(alloc, &text) {
+        Ok(schedule) => Ok(Told::Text(format!(in alloc; "{:?}", schedule.numbers())?)),
+        Err(fault) => Ok(Told::Text(format!(in alloc; "{fault}")?)),
+    }
+}
+
+/// The steps of a turn, by the schedule 3, 5.
+fn quantum(alloc: Global, words: &str) -> anyhow::Result<Told> {
+    let schedule = Schedule::from_numbers(alloc, &[3, 5])
+        .ok()
+        .context("no memory")?;
+    let numbers = numbers(alloc, words)?;
+    let turn = numbers.first().copied().unwrap_or(0);
+    Ok(Told::Count(schedule.quantum(turn) as u64))
+}
+
+/// What comes of a case.
+pub(crate) fn tell_schedules(alloc: Global, what: &str, words: &str) -> anyhow::Result<Told> {
+    match what {
+        "read" => read(alloc, words),
+        "quantum" => quantum(alloc, words),
+        "too_many" => Ok(Told::Text(format!(in alloc; "{}", ScheduleFault::TooMany)?)),
+        "no_memory" => Ok(Told::Text(format!(in alloc; "{}", ScheduleFault::NoMemory)?)),
+        _ => anyhow::bail!("{what} is no case of schedules"),
+    }
+}

@@ -1,0 +1,51 @@
+//! What is tried, and how the lines reach it.
+
+use crate::told::Told;
+use anyhow::bail;
+use std::alloc::Global;
+use std::io::Input;
+
+/// What is tried, in the state to which the cases before have brought it.
+pub trait Bench: Sized + Drop {
+    /// What a line names, at its beginning.
+    fn of(alloc: Global, line: &str) -> anyhow::Result<Self>;
+
+    /// What comes of a case: of what is done with the words.
+    fn answer(&mut self, alloc: Global, what: &str, words: &str) -> anyhow::Result<Told>;
+}
+
+/// Does what a line says, and prints what comes of it.
+fn tell_line<B: Bench>(
+    rt: &impl Print,
+    alloc: Global,
+    bench: &mut Option<B>,
+    line: &str,
+) -> anyhow::Result<()> {
+    match line.split_once(": ") {
+        None => {
+            *bench = Some(B::of(alloc, line)?);
+            println!(rt; "{line}")?;
+        }
+        Some((name, case)) => match bench {
+            None => bail!("{name} stands before what is tried"),
+            Some(bench) => {
+                let (what, words) = case.split_once(" ").unwrap_or((case, ""));
+                let told = bench.answer(alloc, what, words)?;
+                println!(rt; "{name}: {told}")?;
+            }
+        },
+    }
+    Ok(())
+}
+
+/// Answers the cases of the input. Empty lines are passed over.
+pub fn tell_cases<B: Bench>(rt: &(impl Print + Input), alloc: Global) -> anyhow::Result<()> {
+    let mut bench: Option<B> = None;
+    for line in rt.lines(alloc) {
+        let line = line?;
+        if !line.is_empty() {
+            tell_line(rt, alloc, &mut bench, line.as_str())?;
+        }
+    }
+    Ok(())
+}
