@@ -65,8 +65,3 @@ pub fn answer_arguments<H: Host>(alloc: Global, read: io::Result<Args>, host: &m
 {
     exit_code(&answer_texts(alloc, read, host))
 }
-
-#[cfg(test)]
-mod argument_tests;
-#[cfg(test)]
-mod tests;

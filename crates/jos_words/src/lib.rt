@@ -9,8 +9,6 @@
 mod arguments;
 mod clap_commands;
 mod commands;
-#[cfg(test)]
-mod tests;
 mod values;
 mod words;
 

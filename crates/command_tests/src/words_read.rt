@@ -1,8 +1,13 @@
-//! What words mean, case by case.
+//! What words are read as, and words of which there are none.
 
-use super::*;
+use jos_cli::answer_arguments;
+use jos_host::MemHost;
+use jos_words::{Command, NumberAt, WordAt, read_words};
 use std::alloc::{AllocError, Global};
-use std::process::Abort;
+use std::env;
+use std::env::FillError;
+use std::process::{Abort, ExitCode};
+use std::rt::Env;
 
 fn add_word(line: &mut String, what: &str, word: Option<WordAt>) -> Result<(), AllocError> {
     match word {
@@ -114,82 +119,6 @@ ls|--|-d| => ls -d@2 path @3
 cat|d|a => cat d@1 a@2
 cat|--|--|-a => cat --@2 -a@3";
 
-// Words that are no command; the last line is one empty word.
-const NO_COMMAND: &str = "\
-Run|i
-Exo|a
---frames=1|exo|a
---|exo|a
-exo
-exo|--
-exo|--steps=1
-exo|--frames=1|--frames=1|a
-exo|--frames=1|--frames|2|a
-exo|a|--schedule
-exo|--schedule=|a
-exo|--schedule||a
-exo|--schedule|-|a
-exo|--schedule=-|a
-exo|--schedule=-s|a
-exo|--schedule|--|a
-exo|--schedule|--frames=1|a
-exo|--fram=1|a
-exo|--Frames=1|a
-exo|--=1|a
-exo|--traces=1|a
-exo|--trace|a
-exo|--trace=one|a
-exo|-x|a
-exo|-h
-exo|--help
-exo|-V|a
-exo|--version|a
-exo|--steps|000000000000000000001|a
-exo|--steps|+1|a
-exo|--steps|-1|a
-exo|--steps| 1|a
-exo|--steps|1 |a
-exo|--frames=0x1|a
-run
-run|--
-run|--steps=7
-run|--steps=7|--
-run|-x|i
-run|i|-x
-run|i|--help
-run|i|--step=7
-run|i|a|--steps
-run|i|--steps=7|--steps=7
-run|i|--steps=a
-demo
-demo|a
-demo|a|b|c
-demo|--frames=1|a|b
-demo|-n|a
-demo|--help|a
-mkfs
-mkfs|d
-mkfs|64|d
-mkfs|d|
-mkfs|d|+64
-mkfs|d|0x40|a
-mkfs|d|000000000000000000064
-mkfs|-f|d|64
-mkfs|d|64|--a
-ls
-ls|--
-ls|d|a|b
-ls|-l|d
-ls|d|--help
-Ls|d
-cat
-cat|d
-cat|d|a|b
-cat|d|-a
-cat|--help|d|a
-exo|--frames=\u{663}|a
-";
-
 #[test]
 fn each_value_is_read_with_its_place(rt: HostRuntime) -> Result<(), AllocError> {
     for case in READ.lines() {
@@ -201,11 +130,37 @@ fn each_value_is_read_with_its_place(rt: HostRuntime) -> Result<(), AllocError> 
     Ok(())
 }
 
-#[test]
-fn other_words_are_no_command(rt: HostRuntime) -> Result<(), AllocError> {
-    for words in NO_COMMAND.split('\n') {
-        reads(&rt, rt.alloc(), words, "Usage")?;
+/// A command line without words, and so without the name of a program.
+#[derive(Drop)]
+struct NoWords;
+
+impl Env for NoWords {
+    fn arg(&self, _i: usize, _buf: &mut [u8]) -> Result<usize, FillError> {
+        Err(FillError::NotPresent)
     }
-    assert!(rt; read_words(rt.alloc(), &[]).is_err(), "of no words");
-    Ok(())
+
+    fn var(&self, _name: &str, _buf: &mut [u8]) -> Result<usize, FillError> {
+        Err(FillError::NotPresent)
+    }
+
+    fn var_at(&self, _i: usize, _buf: &mut [u8]) -> Result<usize, FillError> {
+        Err(FillError::NotPresent)
+    }
+}
+
+/// Answers no words.
+fn answer_none(alloc: Global, host: &mut MemHost) -> ExitCode {
+    answer_arguments(alloc, env::args(&(NoWords, alloc)), host)
+}
+
+#[test]
+fn a_command_line_without_a_program_is_no_command(rt: HostRuntime) {
+    let alloc = rt.alloc();
+    let mut host = MemHost::new(alloc, Vec::new(alloc), Vec::new(alloc), Vec::new(alloc));
+    let code = answer_none(alloc, &mut host);
+    assert!(rt; code == ExitCode::from(1));
+    assert_eq!(rt;
+        host.notes(),
+        b"usage: jos COMMAND [OPTIONS] WORDS\n".as_slice()
+    );
 }
