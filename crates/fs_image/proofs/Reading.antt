@@ -8,7 +8,7 @@ use Rattle.jos_host.specs.Files.{Files, bytes_of}
 use Rattle.jos_host.specs.Told.{Rose}
 use Rattle.jos_host.specs.Asked.{Asked, and_asked}
 use Rattle.jos_host.specs.Frames.{from_to, Unchanged}
-use Rattle.jos_host.specs.declared.host.FileCall.TheVariants.{Size, Read}
+use Rattle.jos_host.specs.declared.host.HostCall.TheVariants.{Size, Read}
 use Rattle.fs_layout.specs.declared.numbers.TheConstants.{BLKSIZE, MAXBLOCKS}
 use Rattle.fs_layout.specs.Layout.{word_at}
 use Rattle.fs_layout.specs.DiskImage as disk

@@ -6,7 +6,7 @@ use Rattle.jos_host.specs.Files.{Files}
 use Rattle.jos_host.specs.Told.{Rose}
 use Rattle.jos_host.specs.Asked.{Asked}
 use Rattle.jos_host.specs.Frames.{Around}
-use Rattle.jos_host.specs.declared.host.FileCall.TheVariants.{Size, Read}
+use Rattle.jos_host.specs.declared.host.HostCall.TheVariants.{Size, Read}
 use Rattle.fs_layout.specs.declared.numbers.TheConstants.{BLKSIZE, MAXBLOCKS}
 use Rattle.fs_layout.specs.DiskImage as disk
 use Rattle.fs_image.specs.declared.disk_bytes.DiskFault.{DiskFault}

@@ -4,7 +4,7 @@ use Rattle.std.specs.Option.{option_map}
 use Rattle.jos_host.specs.Files.{Files, bytes_of}
 use Rattle.jos_host.specs.Asked.{Asked}
 use Rattle.jos_host.specs.Frames.{Around}
-use Rattle.jos_host.specs.declared.host.FileCall.TheVariants.{Read}
+use Rattle.jos_host.specs.declared.host.HostCall.TheVariants.{Read}
 
 -- calls that read the file
 unfoldable pub reads : List ℕ → ℕ → List Asked

@@ -1,14 +1,17 @@
 -- Calls on files that were made, one list after another.
-use Rattle.std.proofs.Common.{◌≡◌, ℕ, List, [], ◌∷◌, ◌++◌, Option, Some, None, refl, sym, ap, subst, ◌∙◌}
+use Rattle.std.specs.Option.{option_map}
+use Rattle.jos_host.specs.declared.host.HostCall.TheVariants.{NoteWrite}
+use Rattle.std.proofs.Common.{◌≡◌, ℕ, ◌+◌, List, [], ◌∷◌, ◌++◌, Option, Some, None, Result, Ok, Err, MatchResult, refl, sym, ap, subst, ◌∙◌, arith}
 use mathlib.Core.Logic.{inl, inr}
-use Rattle.jos_host.specs.Asked.{Asked, and_asked}
+use Rattle.jos_host.specs.Asked.{Asked, and_asked, and_noted}
 use Rattle.jos_host.specs.Frames.{from_to}
-use Rattle.std.proofs.lemmas.List.{append-nil}
+use Rattle.std.proofs.lemmas.List.{append-nil, replicate-append-replicate}
 use Rattle.std.proofs.Common.{append_assoc}
 use Rattle.jos_words.specs.Arguments.{Word}
 use Rattle.jos_words.specs.Commands.{Command, exo, run, demo, mkfs, ls, cat}
 use Rattle.fs_image.specs.DiskHeld.{IsReadInPieces}
-use Rattle.jos_cli.specs.FilesAsked.{AsksFor, AsksAll, AsksOnly, read_calls, write_calls, files_calls, exo_calls, run_calls, mkfs_calls}
+use Rattle.jos_cli.specs.FilesAsked.{AsksFor, AsksAll, AsksFiles, read_calls, write_calls, files_calls, exo_calls, run_calls, mkfs_calls}
+use Rattle.jos_cli.specs.FilesAsked.{note_calls, AsksNotes, AsksSomeNotes, AsksNote}
 
 -- none is made
 pub asks_none : (calls : List Asked) (old new : Option (List Asked)) → new ≡ old → AsksFor calls (from_to old new)
@@ -78,7 +81,7 @@ reads_none name None new same = (0, same)
 reads_none name (Some asked) new same = (0, same ∙ ap (λ l. Some l) (sym (append-nil asked)))
 
 -- a command may make no call
-pub asks_no_more : (command : Option Command) (old new : Option (List Asked)) → new ≡ old → AsksOnly command (from_to old new)
+pub asks_no_more : (command : Option Command) (old new : Option (List Asked)) → new ≡ old → AsksFiles command (from_to old new)
 asks_no_more None old new same = same
 asks_no_more (Some (exo e)) old new same = asks_none (exo_calls e) old new same
 asks_no_more (Some (run r)) old new same = asks_none (run_calls r) old new same
@@ -86,3 +89,48 @@ asks_no_more (Some (demo d)) old new same = asks_none (write_calls d.file.text) 
 asks_no_more (Some (mkfs m)) old new same = asks_none (mkfs_calls m) old new same
 asks_no_more (Some (ls l)) old new same = reads_none l.disk.text old new same
 asks_no_more (Some (cat c)) old new same = reads_none c.disk.text old new same
+
+-- ---- notes
+
+-- no note is written
+pub notes_none : (log : Option (List Asked)) → AsksSomeNotes (from_to log log)
+unfolding note_calls
+notes_none None = (0, refl)
+notes_none (Some asked) = (0, ap Some (sym (append-nil asked)))
+
+notes_at : (old new : Option (List Asked)) → new ≡ and_noted old → AsksNotes 1 (from_to old new)
+unfolding note_calls
+notes_at old new e = e
+
+pub notes_one : (old new : Option (List Asked)) → new ≡ and_noted old → AsksSomeNotes (from_to old new)
+notes_one old new e = (1, notes_at old new e)
+
+-- notes behind notes
+both : (m n : ℕ) (old mid new : Option (List Asked)) → AsksNotes m (from_to old mid) → AsksNotes n (from_to mid new) → AsksNotes (m + n) (from_to old new)
+unfolding note_calls
+both m n None mid new first then = then ∙ ap (option_map (λ calls. calls ++ note_calls n)) first
+both m n (Some asked) mid new first then =
+    then ∙ ap (option_map (λ calls. calls ++ note_calls n)) first
+    ∙ ap Some
+    (append_assoc asked (note_calls m) (note_calls n) ∙ ap (λ calls. asked ++ calls) (replicate-append-replicate m n (record { call = NoteWrite; name = [] })))
+
+pub notes_then : (old mid new : Option (List Asked)) → AsksSomeNotes (from_to old mid) → AsksSomeNotes (from_to mid new) → AsksSomeNotes (from_to old new)
+notes_then old mid new first then = (first.0 + then.0, both first.0 then.0 old mid new first.1 then.1)
+
+-- the last is written, or was tried
+pub notes_last : (old mid new : Option (List Asked)) → AsksSomeNotes (from_to old mid) → new ≡ and_noted mid → AsksNote (from_to old new)
+notes_last old mid new first e = (first.0, both first.0 1 old mid new first.1 (notes_at mid new e))
+
+pub notes_then_last : (old mid new : Option (List Asked)) → AsksSomeNotes (from_to old mid) → AsksNote (from_to mid new) → AsksNote (from_to old new)
+notes_then_last old mid new first then =
+    let order : first.0 + (then.0 + 1) ≡ (first.0 + then.0) + 1 = omega arith in
+    (first.0 + then.0, subst (λ (n : ℕ). AsksNotes n (from_to old new)) order (both first.0 (then.0 + 1) old mid new first.1 then.1))
+
+pub notes_alone : (old new : Option (List Asked)) → new ≡ and_noted old → AsksNote (from_to old new)
+notes_alone old new e = (0, notes_at old new e)
+
+-- one call, which may have failed
+pub notes_done : {T E : Type 0} (result : Result T E) (old new : Option (List Asked)) → new ≡ and_noted old →
+    MatchResult result (λ _. AsksSomeNotes (from_to old new)) (λ _. AsksNote (from_to old new))
+notes_done (Ok done) old new e = notes_one old new e
+notes_done (Err failed) old new e = notes_alone old new e

@@ -13,8 +13,13 @@ use Rattle.circular_buffer.specs.Buffer.{keep_last}
 use Rattle.jos_kernel.specs.declared.trace.TrapLine.{TrapLine}
 use Rattle.jos_kernel.specs.Kernel.{Told, progress_of, nothing, and_told, Counts, IsRun}
 use Rattle.jos_cli.specs.Answer.{ran, expected_of_run}
-use Rattle.jos_cli.specs.Kinds.{answered, cut_off, AnswersBy}
-use Rattle.jos_kernel.proofs.ToldBytes.{part_of_first}
+use Rattle.jos_cli.specs.Kinds.{answered, cut_off, AnswersBy, Answers}
+use Rattle.jos_cli.specs.Stages.{outcome_of_run}
+use Rattle.jos_cli.specs.declared.outcome.Outcome.TheVariants.{Limit}
+use Rattle.jos_cli.specs.declared.outcome.Which.TheVariants.{Boot}
+use Rattle.jos_kernel.specs.declared.kernel.BootFault.{BootFault}
+use Rattle.jos_kernel.specs.declared.kernel.BootFault.TheVariants as boot_fault
+use Rattle.jos_kernel.proofs.ToldBytes.{part_of_first, gains_none}
 
 module _ (old new : Kernel) (steps kept : ℕ) (counts : Counts old (record nothing { kept = kept })) (fresh : old.steps ≡ 0) where
   abbrev whole : Ran
@@ -53,3 +58,12 @@ pub not_booted : (images : List Loadable) (input schedule : List ℕ) (frames st
     exo_run images input schedule frames steps ≡ None
 unfolding exo_run
 not_booted images input schedule frames steps b = ap (run_of schedule steps) b
+
+-- no kernel was booted
+pub on_unbooted : (kept : ℕ) (images : List Loadable) (input schedule : List ℕ) (frames steps : ℕ) (fault : BootFault) (console : Option (List ℕ)) →
+    (fault ≡ boot_fault.Pool → booted images frames input ≡ None) →
+    Answers (expected_of_run kept (exo_run images input schedule frames steps)) (outcome_of_run (Err fault)) (from_to console console)
+on_unbooted kept images input schedule frames steps boot_fault.Pool console none =
+    subst (λ (r : Option Ran). Answers (expected_of_run kept r) (Limit Boot) (from_to console console))
+    (sym (not_booted images input schedule frames steps (none refl))) (refl, gains_none console)
+on_unbooted kept images input schedule frames steps boot_fault.NoMemory console none = refl

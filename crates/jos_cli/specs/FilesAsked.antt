@@ -1,6 +1,6 @@
--- Which calls on files a command makes. (This system's own.)
-use Rattle.std.specs.Prelude.{◌≡◌, ℕ, ◌⊎◌, List, [], ◌∷◌, ◌++◌, Option, Some, None}
-use Rattle.jos_host.specs.declared.host.FileCall.TheVariants.{Size, Read, Create, Write}
+-- Which calls a command makes: those on files, and then those that write its notes. (This system's own.)
+use Rattle.std.specs.Prelude.{◌≡◌, ℕ, ◌+◌, ◌⊎◌, List, [], ◌∷◌, ◌++◌, replicate, Option, Some, None, option_map}
+use Rattle.jos_host.specs.declared.host.HostCall.TheVariants.{Size, Read, Create, Write, NoteWrite}
 use Rattle.jos_host.specs.Asked.{Asked, and_asked}
 use Rattle.jos_host.specs.Frames.{Around, from_to}
 use Rattle.fs_image.specs.DiskHeld.{IsReadInPieces}
@@ -43,12 +43,37 @@ abbrev pub AsksAll : List Asked → Around (Option (List Asked)) → Type 0
 AsksAll [] log = log.after ≡ log.before
 AsksAll (c ∷ rest) log = AsksAll rest (from_to (and_asked log.before c.call c.name) log.after)
 
--- of a command; `ls` and `cat` read the disk in pieces
+-- the calls on files of a command; `ls` and `cat` read the disk in pieces
+abbrev pub AsksFiles : Option Command → Around (Option (List Asked)) → Type 0
+AsksFiles None log = AsksFor [] log
+AsksFiles (Some (exo e)) log = AsksFor (exo_calls e) log
+AsksFiles (Some (run r)) log = AsksFor (run_calls r) log
+AsksFiles (Some (demo d)) log = AsksFor (write_calls d.file.text) log
+AsksFiles (Some (mkfs m)) log = AsksFor (mkfs_calls m) log
+AsksFiles (Some (ls l)) log = IsReadInPieces l.disk.text log
+AsksFiles (Some (cat c)) log = IsReadInPieces c.disk.text log
+
+-- ---- the notes
+
+-- calls that write notes
+unfoldable pub note_calls : ℕ → List Asked
+note_calls count = replicate count (record { call = NoteWrite; name = [] })
+
+-- Notes are written, by so many calls, and nothing else is asked for.
+abbrev pub AsksNotes : ℕ → Around (Option (List Asked)) → Type 0
+AsksNotes count log = log.after ≡ option_map (λ calls. calls ++ note_calls count) log.before
+
+-- by some calls, or by none
+abbrev pub AsksSomeNotes : Around (Option (List Asked)) → Type 0
+AsksSomeNotes log = (count : ℕ) × AsksNotes count log
+
+-- by one call at least
+abbrev pub AsksNote : Around (Option (List Asked)) → Type 0
+AsksNote log = (more : ℕ) × AsksNotes (more + 1) log
+
+-- ---- all of it
+
+-- The calls on files come first. Behind them notes are written, whatever is answered, and no other call is made.
 abbrev pub AsksOnly : Option Command → Around (Option (List Asked)) → Type 0
-AsksOnly None log = AsksFor [] log
-AsksOnly (Some (exo e)) log = AsksFor (exo_calls e) log
-AsksOnly (Some (run r)) log = AsksFor (run_calls r) log
-AsksOnly (Some (demo d)) log = AsksFor (write_calls d.file.text) log
-AsksOnly (Some (mkfs m)) log = AsksFor (mkfs_calls m) log
-AsksOnly (Some (ls l)) log = IsReadInPieces l.disk.text log
-AsksOnly (Some (cat c)) log = IsReadInPieces c.disk.text log
+AsksOnly command log =
+    (between : Option (List Asked)) × AsksFiles command (from_to log.before between) × AsksNote (from_to between log.after)

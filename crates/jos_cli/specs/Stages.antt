@@ -8,10 +8,14 @@ use Rattle.jos_sched.specs.declared.fault.ScheduleFault.TheVariants as schedule
 use Rattle.jos_kernel.specs.Boot.{Loadable}
 use Rattle.jos_kernel.specs.ExoRun.{exo_run}
 use Rattle.jos_kernel.specs.Reports.{CutOff}
+use Rattle.jos_kernel.specs.declared.kernel.BootFault.{BootFault}
+use Rattle.jos_kernel.specs.declared.kernel.BootFault.TheVariants as boot_fault
 use Rattle.lib_spawn.specs.StackPage.{fits_stack}
 use Rattle.jos_cli.specs.declared.outcome.Outcome.{Outcome}
 use Rattle.jos_cli.specs.declared.outcome.Outcome.TheVariants.{Ran, Usage, Absent, Limit, BadSchedule, BadImage, HostFault, NoMemory, Made}
 use Rattle.jos_cli.specs.declared.outcome.Which.TheVariants.{Schedule, Image, Boot, File}
+use Rattle.jos_cli.specs.declared.answer.KernelEnd.{KernelEnd}
+use Rattle.jos_cli.specs.declared.answer.KernelEnd.TheVariants as kernel_end
 use Rattle.jos_cli.specs.declared.limits.Numbers.{Numbers}
 use Rattle.jos_cli.specs.declared.limits.Settings.{Settings}
 use Rattle.jos_cli.specs.Commands.{texts_of}
@@ -90,11 +94,16 @@ abbrev pub IfMade : Outcome → Type 0 → Type 0
 IfMade (Made bytes) P = P
 IfMade _ P = Unit {0}
 
--- the outcome of a run that began
-abbrev pub IsEnd : Outcome → Type 0
-IsEnd (Ran report trace) = Unit {0}
-IsEnd (HostFault stopped) = Unit {0}
-IsEnd _ = ⊥
+-- what is answered where the run of a kernel has ended
+abbrev pub outcome_of_end : KernelEnd → Outcome
+outcome_of_end (kernel_end.Ended report trace) = Ran report trace
+outcome_of_end (kernel_end.HostFault stopped) = HostFault stopped
+
+-- and where there may have been no kernel to run
+abbrev pub outcome_of_run : Result KernelEnd BootFault → Outcome
+outcome_of_run (Ok end) = outcome_of_end end
+outcome_of_run (Err boot_fault.Pool) = Limit Boot
+outcome_of_run (Err boot_fault.NoMemory) = NoMemory
 
 -- the outcome of images that were read, with their input
 abbrev pub IsBooted : Outcome → Type 0

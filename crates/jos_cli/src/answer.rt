@@ -1,6 +1,6 @@
 //! The top call.
 
-ghost use Rattle.std.specs.Prelude.{◌≡◌, ◌≢◌, ℕ, ◌≤◌, [], ◌++◌, List, All, length, map, Some, IsSome};
+ghost use Rattle.std.specs.Prelude.{◌≡◌, ◌≢◌, ℕ, ◌≤◌, [], ◌++◌, List, All, length, map, Some, IsSome, OnErr};
 ghost use Rattle.jos_host.specs.Files.{Files};
 ghost use Rattle.jos_host.specs.Told.{Rose};
 ghost use Rattle.jos_host.specs.Frames.{Unchanged, around};
@@ -21,9 +21,9 @@ ghost use Rattle.jos_cli.specs.Outcomes.{AnswersCommand, HasOutcomeCause, HasCom
 ghost use Rattle.jos_cli.specs.Outcomes.{CanRun, CanRunProgram, CanMake, CanList, CanPrint};
 ghost use Rattle.jos_cli.specs.Outcomes.{IsRunCase, IsMadeCase, IsMemoryCase, LeavesInputBy, LeavesInput};
 ghost use Rattle.jos_cli.specs.RunAnswers.{run_found_in};
-ghost use Rattle.jos_cli.specs.Stages.{AreFilesAt, IsEnd, IsBooted, expected_of_input, expected_of_images};
+ghost use Rattle.jos_cli.specs.Stages.{AreFilesAt, IsBooted, outcome_of_end, outcome_of_run, expected_of_input, expected_of_images};
 ghost use Rattle.jos_cli.specs.Stages.{expected_of_files, cut_if, cut_behind};
-ghost use Rattle.jos_cli.specs.FilesAsked.{AsksFor, files_calls, write_calls, exo_calls, AsksOnly};
+ghost use Rattle.jos_cli.specs.FilesAsked.{AsksFor, files_calls, write_calls, exo_calls, AsksFiles, AsksNote, AsksOnly};
 ghost use Rattle.jos_cli.specs.FilesLeft.{LeavesProgram, Leaves, LeavesGoodDisk};
 ghost use Rattle.jos_cli.specs.Notes.{IsNoted};
 ghost use Rattle.jos_cli.specs.FaultNotes.{IfHostFault, FaultIsNoted};
@@ -35,7 +35,7 @@ use crate::limits::{Settings, limit_of_words, numbers_of_exo, settings_of};
 use crate::loading::{Images, read_images, read_schedule};
 use crate::making::answer_mkfs;
 use crate::notes::write_note;
-use crate::outcome::{Outcome, Report, Stopped, Which};
+use crate::outcome::{Outcome, Report, Stopped, Trace, Which};
 use crate::running::answer_run;
 use jos_demo::{is_program, program};
 use jos_host::Host;
@@ -100,7 +100,8 @@ pub fn top<'a, H: Host>(alloc: Global, words: &'a [&'a str], host: &mut H) -> Ou
     ensures disk { LeavesGoodDisk (command_of (map (λ w. w.now) words.now)) result (around H.files host.old host.new) }
     // Only `exo` and `run` read input, once they have read all files: all of it, up to one byte past the limit.
     ensures input { LeavesInput (command_of (map (λ w. w.now) words.now)) result (around H.input host.old host.new) }
-    // Only files that the words name are asked for, in their order, each call once.
+    // Only files that the words name are asked for, in their order, each call once; and behind them notes are written,
+    // whatever is answered.
     ensures asked { AsksOnly (command_of (map (λ w. w.now) words.now)) (around H.asked host.old host.new) }
 {
     let (outcome, is_run) = answer_words(alloc, words, host);
@@ -143,7 +144,10 @@ pub(crate) fn refuse_words<H: Host>(alloc: Global, host: &mut H) -> Outcome
     ensures fault { (words : List (List ℕ)) → IfHostFault result (FaultIsNoted (H.files host.old) (H.input host.old) words
         (around H.faults host.old host.new) (around H.console host.old host.new) (around H.notes host.old host.new)) }
     ensures cause { HasOutcomeCause (around H.faults host.old host.new) result }
-    ensures rest { Unchanged H.files H.input H.asked H.console host.old host.new }
+    ensures files { H.files host.new ≡ H.files host.old }
+    ensures input { H.input host.new ≡ H.input host.old }
+    ensures console { H.console host.new ≡ H.console host.old }
+    ensures asked { AsksNote (around H.asked host.old host.new) }
     ensures memory { IsMemoryCase result }
 {
     match write_note(&Outcome::NoMemory, &[], host) {
@@ -152,29 +156,36 @@ pub(crate) fn refuse_words<H: Host>(alloc: Global, host: &mut H) -> Outcome
     }
 }
 
+/// How the run of a kernel that was booted ends. None ends for want of memory.
+#[derive(Drop)]
+enum KernelEnd {
+    /// It ended by itself, with the last of its traps.
+    Ended(Report, Trace),
+    /// A call of the host failed.
+    HostFault(Stopped),
+}
+
 /// Runs the kernel that was booted. Nothing more is asked of an allocator, so the run ends as it is defined to end,
 /// unless a call of the host fails.
-fn run_kernel<H: Host>(mut kernel: Kernel, settings: Settings, host: &mut H) -> Outcome
+fn run_kernel<H: Host>(mut kernel: Kernel, settings: Settings, host: &mut H) -> KernelEnd
     requires holds { Holds kernel }
     requires counts { Counts kernel (record nothing { kept = settings.trace }) }
     requires first { kernel.steps ≡ 0 }
-    ensures told { Answers (expected_of_run settings.trace (Some (run_from kernel.schedule settings.steps (progress_of kernel nothing)))) result
-        (around H.console host.old host.new) }
+    ensures told { Answers (expected_of_run settings.trace (Some (run_from kernel.schedule settings.steps (progress_of kernel nothing))))
+        (outcome_of_end result) (around H.console host.old host.new) }
     ensures rest { Unchanged H.files H.input H.asked H.notes host.old host.new }
-    ensures cause { HasOutcomeCause (around H.faults host.old host.new) result }
-    // No run ends for want of memory.
-    ensures end { IsEnd result }
+    ensures cause { HasOutcomeCause (around H.faults host.old host.new) (outcome_of_end result) }
 {
     match exo_run(&mut kernel, host, settings.steps) {
         ExoEnd::Ended(end) => {
             let (report, trace) = kernel.finish(end);
-            Outcome::Ran(report, trace)
+            KernelEnd::Ended(report, trace)
         }
-        ExoEnd::HostFault => Outcome::HostFault(kernel.cut_off()),
+        ExoEnd::HostFault => KernelEnd::HostFault(kernel.cut_off()),
     }
 }
 
-/// Boots the images and runs them.
+/// Boots the images and runs them, if they can be booted.
 fn run_loaded<H: Host>(
     alloc: Global,
     read: &Images,
@@ -182,17 +193,16 @@ fn run_loaded<H: Host>(
     schedule: Schedule,
     settings: Settings,
     host: &mut H,
-) -> Outcome
+) -> Result<KernelEnd, BootFault>
     requires read { All IsRead (loadables read.now.images.items read.now.files.items) }
     requires least { FRAMES_MIN ≤ settings.frames }
     requires most { settings.frames ≤ FRAMES_MAX }
     ensures told { Answers (expected_of_run settings.trace (exo_run (loadables read.now.images.items read.now.files.items)
-        input.items schedule settings.frames settings.steps)) result (around H.console host.old host.new) }
+        input.items schedule settings.frames settings.steps)) (outcome_of_run result) (around H.console host.old host.new) }
     ensures rest { Unchanged H.files H.input H.asked H.notes host.old host.new }
-    ensures cause { HasOutcomeCause (around H.faults host.old host.new) result }
-    ensures kind { IsBooted result }
-    // Want of memory is answered only where nothing was asked of the host.
-    ensures memory { result ≡ Outcome.NoMemory → host.new ≡ host.old }
+    ensures cause { HasOutcomeCause (around H.faults host.old host.new) (outcome_of_run result) }
+    // Where no kernel is booted, nothing is asked of the host.
+    ensures unasked { OnErr result (host.new ≡ host.old) }
 {
     match Kernel::boot(
         alloc,
@@ -203,7 +213,19 @@ fn run_loaded<H: Host>(
         schedule,
         settings.trace,
     ) {
-        Ok(kernel) => run_kernel(kernel, settings, host),
+        Ok(kernel) => Ok(run_kernel(kernel, settings, host)),
+        Err(fault) => Err(fault),
+    }
+}
+
+/// The answer where the images were booted, and where they were not: want of memory comes before the run alone.
+fn outcome_of_run(run: Result<KernelEnd, BootFault>) -> Outcome
+    ensures outcome { result ≡ outcome_of_run run }
+    ensures kind { IsBooted result }
+{
+    match run {
+        Ok(KernelEnd::Ended(report, trace)) => Outcome::Ran(report, trace),
+        Ok(KernelEnd::HostFault(stopped)) => Outcome::HostFault(stopped),
         Err(BootFault::Pool) => Outcome::Limit(Which::Boot),
         Err(BootFault::NoMemory) => Outcome::NoMemory,
     }
@@ -231,7 +253,7 @@ fn run_images<H: Host>(
     ensures no_usage { result ≢ Outcome.Usage }
 {
     match read_input(alloc, host) {
-        Ok(input) => run_loaded(alloc, read, input, schedule, settings, host),
+        Ok(input) => outcome_of_run(run_loaded(alloc, read, input, schedule, settings, host)),
         Err(outcome) => outcome,
     }
 }
@@ -325,7 +347,7 @@ fn answer_demo<'a, H: Host>(alloc: Global, words: DemoWords<'a>, host: &mut H) -
     ensures usage { IsUsageCase (known (Some (demo (demo_in_bytes words.entry)))) result }
     ensures files { Leaves (known (Some (demo (demo_in_bytes words.entry)))) result (around H.files host.old host.new) }
     ensures input { H.input host.new ≡ H.input host.old }
-    ensures asked { AsksOnly (known (Some (demo (demo_in_bytes words.entry)))) (around H.asked host.old host.new) }
+    ensures asked { AsksFiles (known (Some (demo (demo_in_bytes words.entry)))) (around H.asked host.old host.new) }
     ensures notes { H.notes host.new ≡ H.notes host.old }
     ensures cause { HasOutcomeCause (around H.faults host.old host.new) result }
 {
@@ -343,7 +365,7 @@ fn answer_words<'a, H: Host>(alloc: Global, words: &'a [&'a str], host: &mut H) 
     ensures usage { IsUsageCase (command_of (map (λ w. w.now) words.now)) result.0 }
     ensures files { Leaves (command_of (map (λ w. w.now) words.now)) result.0 (around H.files host.old host.new) }
     ensures input { LeavesInput (command_of (map (λ w. w.now) words.now)) result.0 (around H.input host.old host.new) }
-    ensures asked { AsksOnly (command_of (map (λ w. w.now) words.now)) (around H.asked host.old host.new) }
+    ensures asked { AsksFiles (command_of (map (λ w. w.now) words.now)) (around H.asked host.old host.new) }
     ensures disk { LeavesGoodDisk (command_of (map (λ w. w.now) words.now)) result.0 (around H.files host.old host.new) }
     ensures notes { H.notes host.new ≡ H.notes host.old }
     ensures cause { HasCommandCause (command_of (map (λ w. w.now) words.now)) (around H.faults host.old host.new) result.0 }

@@ -2,11 +2,12 @@
 
 ghost use Rattle.std.specs.Prelude.{◌≡◌, ◌≤◌, [], ◌++◌, codes, decimal, length, slice_get, unwrap_or, MatchResult, map};
 ghost use Rattle.jos_host.specs.Told.{HasCause, Appends};
-ghost use Rattle.jos_host.specs.Frames.{Unchanged, around};
+ghost use Rattle.jos_host.specs.Frames.{around};
 ghost use Rattle.jos_host.specs.Gains.{Gains, GainsPart};
 ghost use Rattle.jos_cli.specs.Notes.{end_text, report_text, limit_text, bad_schedule_text, bad_image_text, made_text, note_text};
 ghost use Rattle.jos_cli.specs.Notes.{bad_disk_text, not_there_text, bad_make_text};
 ghost use Rattle.jos_cli.specs.Notes.{word_in_note, trace_text, traps_told, note_of};
+ghost use Rattle.jos_cli.specs.FilesAsked.{AsksSomeNotes, AsksNote};
 
 use crate::outcome::{End, Outcome, Report, Trace, Which};
 use fs_image::ImageFault;
@@ -187,7 +188,10 @@ fn word_at<'a>(words: &[&'a str], place: usize) -> &'a str
 /// Writes some bytes to the notes, by no call where there are none.
 fn write_some<H: Host>(host: &mut H, bytes: &[u8]) -> Result<(), Failed>
     ensures told { Appends (H.notes host.old) bytes.now result (H.notes host.new) }
-    ensures rest { Unchanged H.files H.input H.asked H.console host.old host.new }
+    ensures files { H.files host.new ≡ H.files host.old }
+    ensures input { H.input host.new ≡ H.input host.old }
+    ensures console { H.console host.new ≡ H.console host.old }
+    ensures asked { MatchResult result (λ _. AsksSomeNotes (around H.asked host.old host.new)) (λ _. AsksNote (around H.asked host.old host.new)) }
     ensures cause { HasCause (H.faults host.old) (H.faults host.new) result }
 {
     if bytes.is_empty() {
@@ -201,7 +205,10 @@ fn write_trace<H: Host>(trace: &Trace, host: &mut H) -> Result<(), Failed>
     ensures told { MatchResult result
         (λ _. Gains (around H.notes host.old host.new) (trace_text trace.now.items))
         (λ _. GainsPart (around H.notes host.old host.new) (trace_text trace.now.items)) }
-    ensures rest { Unchanged H.files H.input H.asked H.console host.old host.new }
+    ensures files { H.files host.new ≡ H.files host.old }
+    ensures input { H.input host.new ≡ H.input host.old }
+    ensures console { H.console host.new ≡ H.console host.old }
+    ensures asked { MatchResult result (λ _. AsksSomeNotes (around H.asked host.old host.new)) (λ _. AsksNote (around H.asked host.old host.new)) }
     ensures cause { HasCause (H.faults host.old) (H.faults host.new) result }
 {
     for place in 0..trace.len() {
@@ -221,7 +228,10 @@ fn write_traps<H: Host>(outcome: &Outcome, host: &mut H) -> Result<(), Failed>
     ensures told { MatchResult result
         (λ _. Gains (around H.notes host.old host.new) (traps_told outcome.now))
         (λ _. GainsPart (around H.notes host.old host.new) (traps_told outcome.now)) }
-    ensures rest { Unchanged H.files H.input H.asked H.console host.old host.new }
+    ensures files { H.files host.new ≡ H.files host.old }
+    ensures input { H.input host.new ≡ H.input host.old }
+    ensures console { H.console host.new ≡ H.console host.old }
+    ensures asked { MatchResult result (λ _. AsksSomeNotes (around H.asked host.old host.new)) (λ _. AsksNote (around H.asked host.old host.new)) }
     ensures cause { HasCause (H.faults host.old) (H.faults host.new) result }
 {
     match outcome {
@@ -239,7 +249,11 @@ pub(crate) fn write_note<H: Host>(
     ensures told { MatchResult result
         (λ _. Gains (around H.notes host.old host.new) (note_of (map (λ w. w.now) words.now) outcome.now))
         (λ _. GainsPart (around H.notes host.old host.new) (note_of (map (λ w. w.now) words.now) outcome.now)) }
-    ensures rest { Unchanged H.files H.input H.asked H.console host.old host.new }
+    ensures files { H.files host.new ≡ H.files host.old }
+    ensures input { H.input host.new ≡ H.input host.old }
+    ensures console { H.console host.new ≡ H.console host.old }
+    // One call at least is made for it.
+    ensures asked { AsksNote (around H.asked host.old host.new) }
     ensures cause { HasCause (H.faults host.old) (H.faults host.new) result }
 {
     match write_some(host, word_in_note(words, outcome).as_bytes()) {

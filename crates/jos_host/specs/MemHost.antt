@@ -5,7 +5,7 @@ use Rattle.std.specs.declared.vec.Vec.{Vec}
 use Rattle.jos_host.specs.Asked.{Asked}
 use Rattle.jos_host.specs.Count.{risen}
 use Rattle.jos_host.specs.Files.{Files, with_bytes}
-use Rattle.jos_host.specs.declared.host.FileCall.{FileCall}
+use Rattle.jos_host.specs.declared.host.HostCall.{HostCall}
 
 -- bytes under a name
 pub record Named : Type 0 where
@@ -22,7 +22,7 @@ pub record Held : Type 0 where
   -- how many more bytes go to the console, and to the notes, with no memory taken
   pub console_room : ℕ
   pub notes_room : ℕ
-  -- the calls on files that were made
+  -- the calls on files that were made, and those that write notes
   pub asked : List Asked
   -- the numbers of the calls that fail, where the first call has the number 0
   pub fails : List ℕ
@@ -35,8 +35,8 @@ abbrev pub files_of : List Named → Files
 files_of [] = λ _. None
 files_of (file ∷ rest) = with_bytes (files_of rest) file.name file.bytes
 
--- the host that has noted this call on a file
-abbrev pub asking : Held → FileCall → List ℕ → Held
+-- the host that has noted this call
+abbrev pub asking : Held → HostCall → List ℕ → Held
 asking h call name = record h { asked = h.asked ++ record { call = call; name = name } ∷ [] }
 
 -- the host after a call that succeeded and changed nothing

@@ -4,11 +4,11 @@ ghost use Rattle.std.specs.Prelude.{◌≡◌, List, [], ◌∷◌, ◌++◌};
 ghost use Rattle.std.specs.Borrow.{ftrue};
 ghost use Rattle.jos_host.specs.Asked.{Asked};
 
-use crate::FileCall;
+use crate::HostCall;
 use std::marker::{Model, PhantomData};
 
-/// The calls on files, in order. Nothing of it is there when the program runs, so only the clauses here tie the
-/// list to the calls.
+/// The calls on files and those that write notes, in order. Nothing of it is there when the program runs, so only
+/// the clauses here tie the list to the calls.
 #[derive(Drop)]
 pub(crate) struct AskedLog {
     marker: PhantomData<u8>,
@@ -30,7 +30,7 @@ impl AskedLog {
     }
 
     /// Puts a call at the end.
-    pub(crate) fn note(&mut self, _call: &FileCall, _name: &[u8])
+    pub(crate) fn note(&mut self, _call: &HostCall, _name: &[u8])
         ensures { self.new.calls ≡ self.old.calls ++ record { call = _call.now; name = _name.now } ∷ [] }
     {}
 }

@@ -1,7 +1,7 @@
 //! The trait `Host`.
 
 ghost use Rattle.std.specs.Prelude.{◌≡◌, ℕ, ◌<◌, ◌≤◌, ◌^◌, List, Option, Some, None, IfOk, length};
-ghost use Rattle.jos_host.specs.Asked.{Asked, and_asked};
+ghost use Rattle.jos_host.specs.Asked.{Asked, and_asked, and_noted};
 ghost use Rattle.jos_host.specs.Files.{Files};
 ghost use Rattle.jos_host.specs.Told.{HasCause, ReadsSize, ReadsAt, IsWithin, Creates, WritesAt, ReadsInput, Appends};
 
@@ -9,13 +9,14 @@ ghost use Rattle.jos_host.specs.Told.{HasCause, ReadsSize, ReadsAt, IsWithin, Cr
 #[derive(Clone, Copy, Debug, PartialEq, Eq)]
 pub struct Failed;
 
-/// A call on a file, of which contracts tell what a host was asked.
+/// A call of which contracts tell that a host was asked: those on files, and the one that writes notes.
 #[derive(Clone, Copy, Debug, PartialEq, Eq)]
-pub enum FileCall {
+pub enum HostCall {
     Size,
     Read,
     Create,
     Write,
+    NoteWrite,
 }
 
 /// The outside: files by name, a console and a place for notes.
@@ -31,7 +32,7 @@ pub trait Host {
     ghost console: { Self → Option (List ℕ) };
     /// The note bytes written, where they are told.
     ghost notes: { Self → Option (List ℕ) };
-    /// The calls on files that were made, in order, where they are told: a call that failed is among them.
+    /// The calls on files and those that write notes, in order, where they are told: a call that failed is among them.
     ghost asked: { Self → Option (List Asked) };
     /// How often a call has failed. It never falls, and is below 2^64.
     ghost faults: { Self → ℕ };
@@ -43,7 +44,7 @@ pub trait Host {
         ensures input { input self.new ≡ input self.old }
         ensures console { console self.new ≡ console self.old }
         ensures notes { notes self.new ≡ notes self.old }
-        ensures asked { asked self.new ≡ and_asked (asked self.old) FileCall.Size name.now }
+        ensures asked { asked self.new ≡ and_asked (asked self.old) HostCall.Size name.now }
         ensures cause { HasCause (faults self.old) (faults self.new) result };
 
     /// Fills the buffer from byte `at` of the file on, and answers how many bytes came: fewer than there is
@@ -55,7 +56,7 @@ pub trait Host {
         ensures input { input self.new ≡ input self.old }
         ensures console { console self.new ≡ console self.old }
         ensures notes { notes self.new ≡ notes self.old }
-        ensures asked { asked self.new ≡ and_asked (asked self.old) FileCall.Read name.now }
+        ensures asked { asked self.new ≡ and_asked (asked self.old) HostCall.Read name.now }
         ensures cause { HasCause (faults self.old) (faults self.new) result };
 
     /// Makes the name an empty file.
@@ -64,7 +65,7 @@ pub trait Host {
         ensures input { input self.new ≡ input self.old }
         ensures console { console self.new ≡ console self.old }
         ensures notes { notes self.new ≡ notes self.old }
-        ensures asked { asked self.new ≡ and_asked (asked self.old) FileCall.Create name.now }
+        ensures asked { asked self.new ≡ and_asked (asked self.old) HostCall.Create name.now }
         ensures cause { HasCause (faults self.old) (faults self.new) result };
 
     /// Writes the bytes from byte `at` on, which is not past the end: they replace what was there and extend
@@ -75,7 +76,7 @@ pub trait Host {
         ensures input { input self.new ≡ input self.old }
         ensures console { console self.new ≡ console self.old }
         ensures notes { notes self.new ≡ notes self.old }
-        ensures asked { asked self.new ≡ and_asked (asked self.old) FileCall.Write name.now }
+        ensures asked { asked self.new ≡ and_asked (asked self.old) HostCall.Write name.now }
         ensures cause { HasCause (faults self.old) (faults self.new) result };
 
     /// Takes console input into the buffer, and answers how many bytes came: 0 into a buffer with room only
@@ -104,7 +105,7 @@ pub trait Host {
         ensures files { files self.new ≡ files self.old }
         ensures input { input self.new ≡ input self.old }
         ensures console { console self.new ≡ console self.old }
-        ensures asked { asked self.new ≡ asked self.old }
+        ensures asked { asked self.new ≡ and_noted (asked self.old) }
         ensures cause { HasCause (faults self.old) (faults self.new) result };
 
     ghost faults_fit: { (host : Self) → faults host < 2 ^ 64 };

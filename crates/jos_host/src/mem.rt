@@ -10,7 +10,7 @@ ghost use Rattle.jos_host.specs.MemHost.{files_of, asking, called, refused, Fail
 
 use crate::asked_log::AskedLog;
 use crate::faults::{refuse, settle};
-use crate::{Failed, FileCall, Host};
+use crate::{Failed, Host, HostCall};
 use std::alloc::{AllocError, Global};
 use std::marker::Model;
 
@@ -171,10 +171,10 @@ impl Host for MemHost {
     fn size(&mut self, name: &str) -> Result<Option<u64>, Failed>
         ensures listed { IsErr result ↔ Contains self.old.fails self.old.calls }
         ensures size { IfOk result (λ size. size ≡ option_map length (files_of self.old.named name.now)) }
-        ensures went { OnOk result (self.new ≡ called (asking self.old FileCall.Size name.now)) }
-        ensures failed { OnErr result (self.new ≡ refused (asking self.old FileCall.Size name.now)) }
+        ensures went { OnOk result (self.new ≡ called (asking self.old HostCall.Size name.now)) }
+        ensures failed { OnErr result (self.new ≡ refused (asking self.old HostCall.Size name.now)) }
     {
-        self.asked.note(&FileCall::Size, name.as_bytes());
+        self.asked.note(&HostCall::Size, name.as_bytes());
         begin(&self.fails, &mut self.calls, &mut self.faults)?;
         Ok(file_of(&self.files, name).map(|bytes| bytes.len() as u64))
     }
@@ -184,11 +184,11 @@ impl Host for MemHost {
         ensures within { IfOk result (λ n. n ≤ length buf.old) }
         ensures told { IfOk result
             (λ n. ReadsAt (Some (files_of self.old.named)) name.now at buf.old buf.new n) }
-        ensures went { OnOk result (self.new ≡ called (asking self.old FileCall.Read name.now)) }
-        ensures failed { OnErr result (self.new ≡ refused (asking self.old FileCall.Read name.now)) }
+        ensures went { OnOk result (self.new ≡ called (asking self.old HostCall.Read name.now)) }
+        ensures failed { OnErr result (self.new ≡ refused (asking self.old HostCall.Read name.now)) }
         ensures untouched { OnErr result (buf.new ≡ buf.old) }
     {
-        self.asked.note(&FileCall::Read, name.as_bytes());
+        self.asked.note(&HostCall::Read, name.as_bytes());
         begin(&self.fails, &mut self.calls, &mut self.faults)?;
         let bytes = file_of(&self.files, name).unwrap_or(&[]);
         Ok(fill(buf, after(bytes, at)))
@@ -201,10 +201,10 @@ impl Host for MemHost {
         ensures created { OnOk result
             (files_of self.new.named ≡ with_bytes (files_of self.old.named) name.now []) }
         ensures went { OnOk result (self.new
-            ≡ record (called (asking self.old FileCall.Create name.now)) { named = self.new.named }) }
-        ensures failed { OnErr result (self.new ≡ refused (asking self.old FileCall.Create name.now)) }
+            ≡ record (called (asking self.old HostCall.Create name.now)) { named = self.new.named }) }
+        ensures failed { OnErr result (self.new ≡ refused (asking self.old HostCall.Create name.now)) }
     {
-        self.asked.note(&FileCall::Create, name.as_bytes());
+        self.asked.note(&HostCall::Create, name.as_bytes());
         begin(&self.fails, &mut self.calls, &mut self.faults)?;
         settle(empty(self.alloc, &mut self.files, name), &mut self.faults)
     }
@@ -220,10 +220,10 @@ impl Host for MemHost {
             ≡ with_bytes (files_of self.old.named) name.now
             (overwritten (bytes_of (files_of self.old.named) name.now) at bytes.now)) }
         ensures went { OnOk result (self.new
-            ≡ record (called (asking self.old FileCall.Write name.now)) { named = self.new.named }) }
-        ensures failed { OnErr result (self.new ≡ refused (asking self.old FileCall.Write name.now)) }
+            ≡ record (called (asking self.old HostCall.Write name.now)) { named = self.new.named }) }
+        ensures failed { OnErr result (self.new ≡ refused (asking self.old HostCall.Write name.now)) }
     {
-        self.asked.note(&FileCall::Write, name.as_bytes());
+        self.asked.note(&HostCall::Write, name.as_bytes());
         begin(&self.fails, &mut self.calls, &mut self.faults)?;
         settle(
             store(self.alloc, &mut self.files, name, at, bytes),
@@ -266,12 +266,13 @@ impl Host for MemHost {
         // What the room holds takes no memory.
         ensures in_room { length bytes.now ≤ self.old.notes_room → FailsAsListed self.old result }
         ensures room { OnOk result (self.old.notes_room ≤ self.new.notes_room + length bytes.now) }
-        ensures went { OnOk result (self.new ≡ record (called self.old) {
+        ensures went { OnOk result (self.new ≡ record (called (asking self.old HostCall.NoteWrite [])) {
           notes = self.old.notes ++ bytes.now;
           notes_room = self.new.notes_room;
         }) }
-        ensures failed { OnErr result (self.new ≡ refused self.old) }
+        ensures failed { OnErr result (self.new ≡ refused (asking self.old HostCall.NoteWrite [])) }
     {
+        self.asked.note(&HostCall::NoteWrite, &[]);
         begin(&self.fails, &mut self.calls, &mut self.faults)?;
         settle(append(&mut self.notes, bytes), &mut self.faults)
     }

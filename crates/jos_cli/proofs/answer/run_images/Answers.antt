@@ -10,13 +10,13 @@ returns-in-Ok-clause-told g c =
     let told = c.in-Ok.ensures.told in (
       told.0,
       told.1,
-      goes_on (input_of told.0) _ c.in-Ok.input.items (kind_of c.run_loaded.result) (around g.H.Host.console c.args.host.now c.run_loaded.new.host)
-          told.2 (rw c.in-Ok.ensures.rest.third at c.run_loaded.ensures.told),
+      goes_on (input_of told.0) _ c.in-Ok.input.items (kind_of c.outcome_of_run.result) (around g.H.Host.console c.args.host.now c.run_loaded.new.host)
+          told.2 (rw c.outcome_of_run.ensures.outcome (rw c.in-Ok.ensures.rest.third at c.run_loaded.ensures.told)),
     )
 
 pub returns-in-Ok-clause-input : goal.returns-in-Ok-clause-input
 returns-in-Ok-clause-input g c =
-    left_booted c.run_loaded.result _ _ c.run_loaded.ensures.kind (rw c.run_loaded.ensures.rest.second c.in-Ok.ensures.left)
+    left_booted c.outcome_of_run.result _ _ c.outcome_of_run.ensures.kind (rw c.run_loaded.ensures.rest.second c.in-Ok.ensures.left)
 
 pub returns-in-Err-clause-told : goal.returns-in-Err-clause-told
 returns-in-Err-clause-told g c =

@@ -1,23 +1,20 @@
-use Rattle.std.proofs.Common.{refl, sym, subst}
-use Rattle.jos_cli.specs.declared.outcome.Outcome.TheVariants.{Limit}
-use Rattle.jos_cli.specs.declared.outcome.Which.TheVariants.{Boot}
-use Rattle.jos_kernel.proofs.ToldBytes.{gains_none}
+use Rattle.std.proofs.Common.{sym, subst}
 use Rattle.std.specs.Prelude.{Option}
 use Rattle.jos_kernel.specs.ExoRun.{Ran}
 use Rattle.jos_cli.specs.Answer.{expected_of_run}
 use Rattle.jos_cli.specs.Kinds.{Answers}
+use Rattle.jos_cli.specs.Stages.{outcome_of_end}
 use Rattle.jos_host.specs.Frames.{around}
-use Rattle.jos_cli.proofs.Runs.{run_booted, not_booted}
+use Rattle.jos_cli.proofs.Runs.{run_booted, on_unbooted}
 use Rattle.jos_cli.proofs.answer.run_loaded.Goals as goal
 
 pub returns-in-Ok-clause-told : goal.returns-in-Ok-clause-told
 returns-in-Ok-clause-told g c =
-    rw (c.deref.ensures.value, c.deref-2.ensures.value) at (subst (λ (r : Option Ran). Answers (expected_of_run c.args.settings.trace r) c.run_kernel.result (around g.H.Host.console c.args.host.now c.run_kernel.new.host))
+    rw (c.deref.ensures.value, c.deref-2.ensures.value) at (subst (λ (r : Option Ran). Answers (expected_of_run c.args.settings.trace r) (outcome_of_end c.run_kernel.result) (around g.H.Host.console c.args.host.now c.run_kernel.new.host))
     (sym (run_booted _ c.args.input.items c.args.schedule c.args.settings.frames c.args.settings.steps _ _ _ c.in-Ok.ensures.booted c.in-Ok.ensures.schedule c.in-Ok.ensures.first))
     c.run_kernel.ensures.told)
 
-pub returns-in-Err-Pool-clause-told : goal.returns-in-Err-Pool-clause-told
-returns-in-Err-Pool-clause-told g c =
-    rw (c.deref.ensures.value, c.deref-2.ensures.value) at (subst (λ (r : Option Ran). Answers (expected_of_run c.args.settings.trace r) (Limit Boot) (around g.H.Host.console c.args.host.now c.args.host.now))
-    (sym (not_booted _ c.args.input.items c.args.schedule c.args.settings.frames c.args.settings.steps (c.in-Err-Pool.ensures.pool c.in-Err-Pool.field-0-is)))
-    (refl, gains_none (g.H.Host.console c.args.host.now)))
+pub returns-in-Err-clause-told : goal.returns-in-Err-clause-told
+returns-in-Err-clause-told g c =
+    rw (c.deref.ensures.value, c.deref-2.ensures.value) at (on_unbooted c.args.settings.trace _ c.args.input.items c.args.schedule c.args.settings.frames c.args.settings.steps
+    c.in-Err.fault (g.H.Host.console c.args.host.now) c.in-Err.ensures.pool)

@@ -25,22 +25,22 @@ returns-in-Ok-clause-complete g c files input e f i is can calm =
 pub returns-in-Err-clause-answer : goal.returns-in-Err-clause-answer
 returns-in-Err-clause-answer g c =
     rw (c.note_fault.ensures, c.answer_words-outcome.ensures.cut) (answers_behind _ _ _ c.answer_words-outcome.result.0
-    (around g.H.Host.console c.args.host.now c.answer_words-outcome.new.host) _ c.answer_words-outcome.ensures.told c.in-Err.ensures.rest.fourth)
+    (around g.H.Host.console c.args.host.now c.answer_words-outcome.new.host) _ c.answer_words-outcome.ensures.told c.in-Err.ensures.console)
 
 pub returns-in-Err-clause-fault : goal.returns-in-Err-clause-fault
 returns-in-Err-clause-fault g c =
     rw c.note_fault.ensures (not_noted _ _ _ (around g.H.Host.faults c.args.host.now c.answer_words-outcome.new.host) _
-    (around g.H.Host.console c.args.host.now c.answer_words-outcome.new.host) _ _ c.in-Err.ensures.cause.rose c.in-Err.ensures.rest.fourth
+    (around g.H.Host.console c.args.host.now c.answer_words-outcome.new.host) _ _ c.in-Err.ensures.cause.rose c.in-Err.ensures.console
     c.answer_words-outcome.result.0 c.answer_words-outcome.ensures.cause c.answer_words-outcome.ensures.told
     (rw c.answer_words-outcome.ensures.notes at c.in-Err.ensures.told))
 
 pub returns-in-Err-clause-files : goal.returns-in-Err-clause-files
 returns-in-Err-clause-files g c =
-    rw c.note_fault.ensures (leaves_fault _ _ _ _ c.answer_words-outcome.result.0 _ c.answer_words-outcome.ensures.files c.in-Err.ensures.rest.first)
+    rw c.note_fault.ensures (leaves_fault _ _ _ _ c.answer_words-outcome.result.0 _ c.answer_words-outcome.ensures.files c.in-Err.ensures.files)
 
 pub returns-in-Err-clause-input : goal.returns-in-Err-clause-input
 returns-in-Err-clause-input g c =
-    rw c.note_fault.ensures (left_fault _ c.answer_words-outcome.result.0 _ _ _ _ c.answer_words-outcome.ensures.input c.in-Err.ensures.rest.second)
+    rw c.note_fault.ensures (left_fault _ c.answer_words-outcome.result.0 _ _ _ _ c.answer_words-outcome.ensures.input c.in-Err.ensures.input)
 
 pub returns-in-Ok-clause-disk_made : goal.returns-in-Ok-clause-disk_made
 returns-in-Ok-clause-disk_made g c files one f is can calm =
@@ -75,9 +75,9 @@ returns-in-Ok-clause-ran g c files input r f i is can calm =
 
 pub returns-in-Ok-clause-memory : goal.returns-in-Ok-clause-memory
 returns-in-Ok-clause-memory g c is = (
-  c.in-Ok.ensures.rest.fourth ∙ unwritten _ _ _ (around g.H.Host.console c.args.host.now c.answer_words-outcome.new.host)
+  c.in-Ok.ensures.console ∙ unwritten _ _ _ (around g.H.Host.console c.args.host.now c.answer_words-outcome.new.host)
       (rw is at c.answer_words-outcome.ensures.told),
-  c.in-Ok.ensures.rest.first ∙ leaves_no_memory _ _ _ (rw is at c.answer_words-outcome.ensures.files),
+  c.in-Ok.ensures.files ∙ leaves_no_memory _ _ _ (rw is at c.answer_words-outcome.ensures.files),
 )
 
 pub returns-in-Err-clause-cause : goal.returns-in-Err-clause-cause
@@ -85,3 +85,9 @@ returns-in-Err-clause-cause g c =
     rw (c.note_fault.ensures, c.answer_words-outcome.ensures.cut) (cause_behind _ c.answer_words-outcome.result.0 (g.H.Host.faults c.args.host.now)
     (g.H.Host.faults c.answer_words-outcome.new.host) (g.H.Host.faults c.write_note.new.host) c.answer_words-outcome.ensures.cause c.in-Err.ensures.cause.rose
     c.in-Err.ensures.cause.later (g.met.H.Host.faults_fit c.write_note.new.host))
+
+pub returns-in-Ok-clause-asked : goal.returns-in-Ok-clause-asked
+returns-in-Ok-clause-asked g c = (_, c.answer_words-outcome.ensures.asked, c.in-Ok.ensures.asked)
+
+pub returns-in-Err-clause-asked : goal.returns-in-Err-clause-asked
+returns-in-Err-clause-asked g c = (_, c.answer_words-outcome.ensures.asked, c.in-Err.ensures.asked)

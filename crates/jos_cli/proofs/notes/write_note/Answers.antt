@@ -1,6 +1,7 @@
 use Rattle.std.proofs.Common.{◌∙◌, refl}
 use Rattle.jos_kernel.proofs.ToldBytes.{part_of_first}
 use Rattle.jos_cli.proofs.NotesWritten.{note_written, traps_failed}
+use Rattle.jos_cli.proofs.Asking.{notes_then, notes_last, notes_then_last}
 use Rattle.jos_cli.proofs.notes.write_note.Goals as goal
 
 pub returns-in-Ok-write_traps-clause-told : goal.returns-in-Ok-write_traps-clause-told
@@ -14,3 +15,10 @@ returns-in-Err-write_traps-clause-told g c =
 
 pub returns-in-Err-clause-told : goal.returns-in-Err-clause-told
 returns-in-Err-clause-told g c = part_of_first _ _ c.as_bytes.result.now _ _ (c.as_bytes.ensures.value ∙ c.word_in_note.ensures) c.in-Err.ensures.told
+
+pub returns-in-Ok-write_traps-clause-asked : goal.returns-in-Ok-write_traps-clause-asked
+returns-in-Ok-write_traps-clause-asked g c =
+    notes_last _ _ _ (notes_then _ _ _ c.in-Ok.ensures.asked c.in-Ok-write_traps.ensures.asked) c.note_write.ensures.asked
+
+pub returns-in-Err-write_traps-clause-asked : goal.returns-in-Err-write_traps-clause-asked
+returns-in-Err-write_traps-clause-asked g c = notes_then_last _ _ _ c.in-Ok.ensures.asked c.in-Err-write_traps.ensures.asked

@@ -1,4 +1,4 @@
-use Rattle.std.proofs.Common.{map, drop, ap, ◌∙◌}
+use Rattle.std.proofs.Common.{map, drop, refl, ap, ◌∙◌}
 use Rattle.std.specs.Prelude.{string_bytes}
 use Rattle.jos_host.specs.Frames.{around}
 use Rattle.jos_cli.specs.Commands.{command_of}
@@ -8,19 +8,19 @@ use Rattle.jos_cli.proofs.Tops.{command_cause}
 use Rattle.jos_cli.proofs.texts.answer_texts.Goals as goal
 
 pub returns-in_default-clause-asked : goal.returns-in_default-clause-asked
-returns-in_default-clause-asked g c = asks_no_more (command_of _) _ _ c.refuse_words.ensures.rest.third
+returns-in_default-clause-asked g c = (_, asks_no_more (command_of _) _ _ refl, c.refuse_words.ensures.asked)
 
 pub returns-in_default-words_of-clause-asked : goal.returns-in_default-words_of-clause-asked
-returns-in_default-words_of-clause-asked g c = asks_no_more (command_of _) _ _ c.refuse_words-in_default-words_of.ensures.rest.third
+returns-in_default-words_of-clause-asked g c = (_, asks_no_more (command_of _) _ _ refl, c.refuse_words-in_default-words_of.ensures.asked)
 
 pub returns-in_default-clause-input : goal.returns-in_default-clause-input
 returns-in_default-clause-input g c =
-    left_no_memory (command_of _) c.refuse_words.result _ _ c.refuse_words.ensures.memory c.refuse_words.ensures.rest.second
+    left_no_memory (command_of _) c.refuse_words.result _ _ c.refuse_words.ensures.memory c.refuse_words.ensures.input
 
 pub returns-in_default-words_of-clause-input : goal.returns-in_default-words_of-clause-input
 returns-in_default-words_of-clause-input g c =
     left_no_memory (command_of _) c.refuse_words-in_default-words_of.result _ _ c.refuse_words-in_default-words_of.ensures.memory
-    c.refuse_words-in_default-words_of.ensures.rest.second
+    c.refuse_words-in_default-words_of.ensures.input
 
 pub returns-clause-complete : goal.returns-clause-complete
 returns-clause-complete g c files input e f i is can calm =

@@ -30,9 +30,9 @@ use denote.Triple.Spec.{Meets, triple_of}
 use denote.Triple.Table.{entered}
 use denote.Triple.Walked.{says, Stays, stay_ref, stay_none_ref, stay_none_slice, walk_of, AllGo, Goes-ref}
 use denote.Triple.Walked.{Goes-none_ref, Goes-none_slice, Walks, ends_at, walked, walk_Meets}
-use Rattle.jos_host.specs.declared.host.FileCall.{FileCall}
+use Rattle.jos_host.specs.declared.host.HostCall.{HostCall}
 use Rattle.jos_host.specs.declared.asked_log.AskedLog.{AskedLog}
-use Rattle.jos_host.specs.contracts.host.FileCall as Call
+use Rattle.jos_host.specs.contracts.host.HostCall as Call
 use Rattle.jos_host.specs.contracts.asked_log.AskedLog as Log
 use Rattle.jos_host.specs.contracts.asked_log.AskedLog.note.Key.{name as #it}
 use Rattle.jos_host.specs.contracts.asked_log.AskedLog.note as it
@@ -40,12 +40,12 @@ use Rattle.jos_host.proofs.asked_log.AskedLog.note.Statement as stated
 use Rattle.jos_host.proofs.asked_log.AskedLog.note.Code as code
 
 abbrev Arg : Type 0
-Arg = MutBor AskedLog × (Bor FileCall × (Bor (List ℕ) × Unit {0}))
+Arg = MutBor AskedLog × (Bor HostCall × (Bor (List ℕ) × Unit {0}))
 
 abbrev stayed : Stays (it.ended).signature.params (it.ended).kept
 stayed = (stay_ref (0 ∷ []) tt (plain (λ _. Log.the_row)), (stay_none_ref (1 ∷ []) tt (plain (λ _. Call.the_row)) yes, (stay_none_slice (2 ∷ []) tt (plain (λ _. u8)) yes, tt)))
 
-module _ {M : Type 1} {𝓤 : Ura M} (𝓛 : Logic 𝓤) (at_mem : Memory → SProp 𝓤) (run : Routine → Fun 𝓤) (κ κ' κ'' : Lft) (q q' q'' : Share) (b o : ℕ) (γ : GName) (h : AskedLog) (k : Bor FileCall) (s : Bor (List ℕ)) where
+module _ {M : Type 1} {𝓤 : Ura M} (𝓛 : Logic 𝓤) (at_mem : Memory → SProp 𝓤) (run : Routine → Fun 𝓤) (κ κ' κ'' : Lft) (q q' q'' : Share) (b o : ℕ) (γ : GName) (h : AskedLog) (k : Bor HostCall) (s : Bor (List ℕ)) where
   open 𝓛 use {H, A}
 
   abbrev x : Arg
