@@ -1,5 +1,5 @@
 -- A disk that was read, and what is told of it.
-use Rattle.std.proofs.Common.{◌≡◌, ℕ, ◌≤◌, nat_lt, Bool, true, false, cond, List, [], ◌∷◌, ◌++◌, length, take, Option, Some, None, Ok, Err}
+use Rattle.std.proofs.Common.{◌≡◌, ℕ, ◌+◌, ◌<◌, ◌≤◌, map, get_or, nat_lt, Bool, true, false, cond, List, [], ◌∷◌, ◌++◌, length, take, Option, Some, None, Ok, Err}
 use Rattle.std.proofs.Common.{refl, sym, ap, ◌∙◌, append_assoc, arith}
 use Rattle.std.proofs.lemmas.List.{append-nil, take_all}
 use Rattle.std.proofs.lemmas.Bool.Decides.{nat_tests}
@@ -10,7 +10,9 @@ use Rattle.jos_host.specs.Frames.{Around}
 use Rattle.jos_words.specs.Arguments.{Word}
 use Rattle.jos_words.specs.Commands.{Ls, Cat}
 use Rattle.fs_image.specs.DiskHeld.{Held, IsUnder, IsHeld}
-use Rattle.fs_contents.specs.Contents.{Told}
+use Rattle.fs_contents.specs.Contents.{Told, told_of_entry}
+use Rattle.fs_layout.specs.declared.records.Entry.{Entry}
+use Rattle.jos_cli.proofs.WordsRead.{one_more}
 use Rattle.jos_cli.specs.Found.{FileAt, file_at, IsFileAt}
 use Rattle.jos_cli.specs.Answer.{Judged, and_then, absent}
 use Rattle.jos_cli.specs.Disks.{held_at, checked, disk_of, path_of, record_line, listing}
@@ -78,8 +80,16 @@ listing-one : (told : Told) → listing (told ∷ []) ≡ record_line told
 unfolding listing
 listing-one told = append-nil (record_line told)
 
-pub listing_more : (records : List Told) (told : Told) → listing (records ++ told ∷ []) ≡ listing records ++ record_line told
+listing_more : (records : List Told) (told : Told) → listing (records ++ told ∷ []) ≡ listing records ++ record_line told
 listing_more records told = listing-append records (told ∷ []) ∙ ap (λ l. listing records ++ l) (listing-one told)
+
+-- a record more
+pub line_written : (entries : List Entry) (k : ℕ) (d : Entry) (old new : List ℕ) → k < length entries → old ≡ listing (map told_of_entry (take k entries)) →
+    new ≡ old ++ record_line (told_of_entry (get_or entries k d)) → new ≡ listing (map told_of_entry (take (k + 1) entries))
+line_written entries k d old new below before line =
+    let record_told = told_of_entry (get_or entries k d) in
+    line ∙ ap (λ l. l ++ record_line record_told) before
+    ∙ sym (ap listing (one_more told_of_entry entries k d below) ∙ listing_more (map told_of_entry (take k entries)) record_told)
 
 pub nothing_listed : [] ≡ listing []
 unfolding listing

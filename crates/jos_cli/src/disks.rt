@@ -1,6 +1,10 @@
 //! What is told of a disk: the records of a directory, and the bytes of a file.
 
-ghost use Rattle.std.specs.Prelude.{◌≡◌, ◌≢◌, ℕ, ◌<◌, ◌==◌, IfSome, position, Some, IfOk, IfErr, length, map, slice_index, MatchResult};
+ghost use Rattle.std.specs.Prelude.{◌≡◌, ◌≢◌, ℕ, ◌+◌, ◌*◌, ◌++◌, ◌<◌, ◌≤◌, ◌==◌, [], IfSome, position, Some, IfOk, IfErr, length, map, slice_index, MatchResult};
+ghost use Rattle.std.specs.Prelude.{vec_capacity};
+ghost use Rattle.jos_base.specs.declared.lines.TheConstants.{LINE_MAX};
+ghost use Rattle.fs_layout.specs.declared.numbers.TheConstants.{MAXNAMELEN};
+ghost use Rattle.jos_cli.specs.declared.disks.TheConstants.{RECORD_LINE_MAX};
 ghost use Rattle.std.specs.Option.{option_map};
 ghost use Rattle.jos_host.specs.Frames.{Unchanged, around, from_to};
 ghost use Rattle.fs_layout.specs.DiskFiles.{IsDiskImage};
@@ -9,7 +13,7 @@ ghost use Rattle.fs_contents.specs.Contents.{told_of_entry};
 ghost use Rattle.jos_words.specs.Arguments.{word_in_bytes};
 ghost use Rattle.jos_words.specs.Commands.{ls, cat, ls_in_bytes, cat_in_bytes};
 ghost use Rattle.jos_cli.specs.Found.{FileAt, IsFileAt};
-ghost use Rattle.jos_cli.specs.Disks.{checked, disk_of, size_text, listing, path_of, printed, expected_of_listing, expected_of_bytes};
+ghost use Rattle.jos_cli.specs.Disks.{checked, disk_of, size_text, record_line, listing, path_of, printed, expected_of_listing, expected_of_bytes};
 ghost use Rattle.jos_cli.specs.Kinds.{Answers};
 ghost use Rattle.jos_cli.specs.Outcomes.{AnswersCommand, HasOutcomeCause};
 ghost use Rattle.jos_cli.specs.Stages.{Judges};
@@ -18,8 +22,8 @@ use crate::files::host_fault;
 use crate::outcome::Outcome;
 use fs_contents::{ReadFault, list, read_file};
 use fs_image::{CheckFault, DiskBytes, DiskFault, check, read_disk};
-use fs_layout::{Entry, FTYPE_DIR};
-use jos_base::{LineText, push_decimal, push_text};
+use fs_layout::{Entry, FTYPE_DIR, MAXNAMELEN};
+use jos_base::{LINE_MAX, LineText, push_decimal, push_text};
 use jos_host::Host;
 use jos_words::{CatWords, LsWords, WordAt};
 use std::alloc::{AllocError, Global};
@@ -60,9 +64,13 @@ fn read_checked<'a, H: Host>(
     }
 }
 
+/// The most bytes of a record's line: those of a name, and what follows it.
+const RECORD_LINE_MAX: usize = MAXNAMELEN as usize + LINE_MAX;
+
 /// What follows the name in a record's line.
 fn size_text(entry: &Entry) -> LineText
-    ensures { result.items ≡ size_text (told_of_entry entry.now) }
+    ensures text { result.items ≡ size_text (told_of_entry entry.now) }
+    ensures short { length result.items ≤ LINE_MAX }
 {
     let mut line = LineText::new();
     if entry.kind == FTYPE_DIR {
@@ -85,7 +93,8 @@ fn first_nul(bytes: &[u8]) -> Option<usize>
 
 /// A record's name, which ends at its first NUL.
 fn name_of(entry: &Entry) -> &[u8]
-    ensures { result.now ≡ (told_of_entry entry.now).name }
+    ensures name { result.now ≡ (told_of_entry entry.now).name }
+    ensures short { length result.now ≤ MAXNAMELEN }
 {
     match first_nul(&entry.name) {
         Some(end) => &entry.name[..end],
@@ -93,16 +102,38 @@ fn name_of(entry: &Entry) -> &[u8]
     }
 }
 
-/// The lines of records.
-fn listing(alloc: Global, entries: &[Entry]) -> Result<Vec<u8>, AllocError>
-    ensures { IfOk result (λ text. text.items ≡ listing (map told_of_entry entries.now)) }
+/// Room for the lines of so many records.
+fn room_for_lines(alloc: Global, records: usize) -> Result<Vec<u8>, AllocError>
+    ensures empty { IfOk result (λ text. text.items ≡ []) }
+    ensures room { IfOk result (λ text. records * RECORD_LINE_MAX ≤ vec_capacity text) }
 {
-    let mut text = Vec::new(alloc);
-    for entry in entries {
-        text.extend_from_slice(name_of(entry))?;
-        text.extend_from_slice(size_text(entry).as_slice())?;
+    match records.checked_mul(RECORD_LINE_MAX) {
+        Some(room) => Vec::with_capacity(alloc, room),
+        None => Err(AllocError),
     }
-    Ok(text)
+}
+
+/// Appends a record's line, for which there is room.
+fn write_line(entry: &Entry, text: &mut Vec<u8>)
+    requires { length text.old.items + RECORD_LINE_MAX ≤ vec_capacity text.old }
+    ensures line { text.new.items ≡ text.old.items ++ record_line (told_of_entry entry.now) }
+    ensures short { length text.new.items ≤ length text.old.items + RECORD_LINE_MAX }
+    ensures room { vec_capacity text.old ≤ vec_capacity text.new }
+{
+    text.extend_from_slice(name_of(entry)).unwrap();
+    text.extend_from_slice(size_text(entry).as_slice()).unwrap();
+}
+
+/// The lines of records, in the room that was made for them.
+fn listing(mut text: Vec<u8>, entries: &[Entry]) -> Vec<u8>
+    requires empty { text.items ≡ [] }
+    requires room { length entries.now * RECORD_LINE_MAX ≤ vec_capacity text }
+    ensures { result.items ≡ listing (map told_of_entry entries.now) }
+{
+    for entry in entries {
+        write_line(entry, &mut text);
+    }
+    text
 }
 
 /// Writes bytes to the console.
@@ -125,8 +156,8 @@ fn print_listing<H: Host>(alloc: Global, entries: &[Entry], host: &mut H) -> Out
     ensures cause { HasOutcomeCause (around H.faults host.old host.new) result }
     ensures no_usage { result ≢ Outcome.Usage }
 {
-    match listing(alloc, entries) {
-        Ok(text) => print(alloc, &text, host),
+    match room_for_lines(alloc, entries.len()) {
+        Ok(text) => print(alloc, &listing(text, entries), host),
         Err(_) => Outcome::NoMemory,
     }
 }

@@ -1,19 +1,17 @@
-use Rattle.std.proofs.Common.{◌++◌, map, take, sym, ap, ◌∙◌, append_assoc}
-use Rattle.fs_contents.specs.Contents.{told_of_entry}
-use Rattle.jos_cli.specs.Disks.{listing}
-use Rattle.jos_cli.proofs.DisksRead.{nothing_listed, listing_more}
-use Rattle.jos_cli.proofs.WordsRead.{one_more}
+use Rattle.std.proofs.Common.{◌∙◌, arith}
+use Rattle.jos_cli.proofs.DisksRead.{nothing_listed, line_written}
 use Rattle.jos_cli.proofs.disks.listing.Goals as goal
 
 pub loop-entry-init : goal.loop-entry-init
-loop-entry-init c = c.new-text.ensures.items ∙ nothing_listed
+loop-entry-init c = record {
+  lines = c.requires.empty ∙ nothing_listed;
+  short = rw c.requires.empty (omega arith);
+  room = c.requires.room;
+}
 
 pub loop-entry-preserved : goal.loop-entry-preserved
-loop-entry-preserved c =
-    let before = map told_of_entry (take c.loop-entry.entry-index c.args.entries.now) in
-    let size = c.as_slice.ensures.value ∙ c.size_text.ensures in
-    c.in_ok-extend_from_slice-2.ensures.items
-    ∙ ap (λ l. l ++ c.as_slice.result.now) c.in_ok-extend_from_slice.ensures.items
-    ∙ append_assoc c.loop-entry.text.items c.name_of.result.now c.as_slice.result.now
-    ∙ (λ i. c.loop-entry.invariant i ++ (c.name_of.ensures i ++ size i))
-    ∙ sym (ap listing (one_more told_of_entry c.args.entries.now c.loop-entry.entry-index _ c.loop-entry-test.true) ∙ listing_more before _)
+loop-entry-preserved c = record {
+  lines = line_written c.args.entries.now c.loop-entry.entry-index _ _ _ c.loop-entry-test.true c.loop-entry.invariant.lines c.write_line.ensures.line;
+  short = omega (arith, c.write_line.ensures.short, c.loop-entry.invariant.short);
+  room = omega (arith, c.write_line.ensures.room, c.loop-entry.invariant.room);
+}
