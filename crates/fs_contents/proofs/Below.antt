@@ -1,55 +1,13 @@
 -- The values at each number below a count, as a list.
-use Rattle.std.proofs.Common.{◌≡◌, ◌∙◌, ◌+◌, ◌==◌, ◌<◌, ◌≤◌, ◌⊎◌, inl, inr, ℕ, zero, suc, Bool, true, false, List, [], ◌∷◌}
-use Rattle.std.proofs.Common.{◌++◌, length, take, drop, map, get_or, refl, sym, ap, arith, add-one, add-zero}
+use Rattle.std.proofs.Common.{◌≡◌, ◌∙◌, ◌+◌, ◌≤◌, ℕ, zero, suc, List, [], ◌∷◌}
+use Rattle.std.proofs.Common.{◌++◌, length, take, drop, map, sym, ap, arith, add-zero}
 use Rattle.std.specs.Prelude.{slice_index}
 use Rattle.std.specs.List.{range_with_len}
-use Rattle.std.proofs.lemmas.List.{ext_get_or, length_push, get_or_append_left, get_or_at, length-take-le, get_or-take}
+use Rattle.std.proofs.lemmas.List.{length-take-le, get_or-take}
 use Rattle.std.proofs.lemmas.List.{get_or-drop, length-drop, append_assoc, append-nil}
 use Rattle.std.proofs.lemmas.List.FromFn.{length-map-range_with_len, get_or-map-range_with_len}
-use Rattle.std.proofs.lemmas.Bool.Decides.{nat_tests}
 use Rattle.fs_layout.specs.DiskImage.{values_below}
-
--- a number below the next one is below this one, or it is this one
-pub below_or_last : (i n : ℕ) → i < suc n → (i < n) ⊎ (i ≡ n)
-below_or_last i n within = by_test (i == n) refl
-  where
-    by_test : (t : Bool) → (i == n) ≡ t → (i < n) ⊎ (i ≡ n)
-    by_test true e = inr (grind (arith, nat_tests))
-    by_test false e = inl (grind (arith, nat_tests))
-
--- there are as many as the count
-pub length-values : {A : Type 0} (n : ℕ) (f : ℕ → A) → length (values_below n f) ≡ n
-unfolding values_below
-length-values zero f = refl
-length-values (suc n) f = length_push (values_below n f) (f n) ∙ add-one (length (values_below n f)) ∙ ap suc (length-values n f)
-
--- each stands at its number
-pub get_or-values : {A : Type 0} (n : ℕ) (f : ℕ → A) (i : ℕ) (d : A) → i < n → get_or (values_below n f) i d ≡ f i
-unfolding values_below
-get_or-values zero f i d within = absurd (omega arith)
-get_or-values (suc n) f i d within = elim (below_or_last i n within) [
-  | inl below ↦
-      let inside : i < length (values_below n f) = omega (arith, length-values n f) in
-      get_or_append_left (values_below n f) (f n ∷ []) d i inside ∙ get_or-values n f i d below
-  | inr last ↦ get_or_at (values_below n f) (f n) [] d i (length-values n f ∙ sym last) ∙ ap f (sym last)
-]
-
--- A list that has them is that of the values.
-pub is-values : {A : Type 0} (xs : List A) (n : ℕ) (f : ℕ → A) (d : A) → length xs ≡ n →
-    ((i : ℕ) → i < n → get_or xs i d ≡ f i) → xs ≡ values_below n f
-is-values xs n f d long each =
-    ext_get_or d xs (values_below n f) (long ∙ sym (length-values n f))
-    (λ i within.
-    let below : i < n = omega arith in
-    each i below ∙ sym (get_or-values n f i d below))
-
--- equal values give equal lists
-pub values-same : {A : Type 0} (n : ℕ) (f g : ℕ → A) → ((i : ℕ) → i < n → f i ≡ g i) → values_below n f ≡ values_below n g
-unfolding values_below
-values-same zero f g same = refl
-values-same {A} (suc n) f g same =
-    ap (λ (l : List A). l ++ f n ∷ []) (values-same n f g (λ i within. same i (omega arith)))
-    ∙ ap (λ (x : A). values_below n g ++ x ∷ []) (same n (omega arith))
+use Rattle.fs_layout.proofs.Below.{length-values, get_or-values, is-values}
 
 -- the first values and those behind them
 pub values-append : {A : Type 0} (m n : ℕ) (f : ℕ → A) →

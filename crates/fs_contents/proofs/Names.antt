@@ -1,23 +1,17 @@
 -- A record's name, which ends at its first NUL.
 use Rattle.std.proofs.Common.{◌≡◌, ◌≢◌, ◌∙◌, ◌+◌, ◌==◌, ◌<◌, ◌≤◌, ℕ, Bool, true, false, List, length, take}
-use Rattle.std.proofs.Common.{refl, sym, ap, arith, add-zero}
+use Rattle.std.proofs.Common.{sym, ap, arith, add-zero}
 use Rattle.std.specs.Prelude.{bytes_eq}
 use Rattle.std.proofs.lemmas.List.Sums.{position_or_len_is}
 use Rattle.std.proofs.lemmas.Bool.Decides.{nat_tests}
 use Rattle.std.proofs.lemmas.Slice.Eq.{bytes_eq-Decides}
 use Rattle.fs_layout.specs.DiskImage.{values_below, name_of}
-use Rattle.fs_contents.proofs.Below.{length-values, get_or-values}
+use Rattle.std.proofs.lemmas.Bool.{false_from_ne_true, ne_eqb, eq-eqb}
+use Rattle.fs_layout.proofs.Below.{length-values, get_or-values}
 
 -- the bytes of a record from its place on
 abbrev pub from : (ℕ → ℕ) → ℕ → ℕ → ℕ
 from byte place k = byte (place + k)
-
--- what tests of a byte say
-test-not : (a : ℕ) → a ≢ 0 → (a == 0) ≡ false
-test-not a ne = grind (arith, nat_tests)
-
-test-is : (a : ℕ) → a ≡ 0 → (a == 0) ≡ true
-test-is a e = rw e refl
 
 is-nul : (a : ℕ) → (a == 0) ≡ true → a ≡ 0
 is-nul a e = grind (arith, nat_tests)
@@ -36,21 +30,16 @@ name-ends byte place k le before_it at_it =
     let long = length-values 128 f in
     ap (λ n. take n bytes)
     (position_or_len_is nul bytes k 0 (omega arith)
-    (λ j below. ap nul (get_or-values 128 f j 0 (omega arith)) ∙ test-not (f j) (before_it j below))
+    (λ j below. ap nul (get_or-values 128 f j 0 (omega arith)) ∙ ne_eqb (f j) 0 (before_it j below))
     (λ within.
     let inside : k < 128 = omega arith in
-    ap nul (get_or-values 128 f k 0 inside) ∙ test-is (f k) (at_it inside)))
-
--- what is not true is false
-bool-false : (b : Bool) → (b ≡ true → ⊥) → b ≡ false
-bool-false true ne = absurd (ne refl)
-bool-false false ne = refl
+    ap nul (get_or-values 128 f k 0 inside) ∙ eq-eqb (f k) 0 (at_it inside)))
 
 -- an empty record has no name
 pub filled-if-named : (byte : ℕ → ℕ) (place : ℕ) (name : List ℕ) → 0 < length name → bytes_eq (name_of byte place) name ≡ true →
     (byte place == 0) ≡ false
 filled-if-named byte place name some e =
-    bool-false (byte place == 0)
+    false_from_ne_true (byte place == 0)
     (λ empty.
     let none : from byte place 0 ≡ 0 = ap byte (add-zero place) ∙ is-nul (byte place) empty in
     let is = name-ends byte place 0 (omega arith) (λ j below. absurd (omega arith)) (λ within. none) in

@@ -1,23 +1,14 @@
 -- Records and blocks lie within the disk.
-use Rattle.std.proofs.Common.{◌≡◌, ◌+◌, ◌*◌, ◌/◌, ◌%◌, ◌<◌, ◌≤◌, ℕ, Bool, true, false, arith}
-use Rattle.std.specs.Prelude.{◌&&◌}
-use Rattle.std.proofs.lemmas.Bool.Decides.{nat_tests}
+use Rattle.std.proofs.Common.{◌≡◌, ◌+◌, ◌*◌, ◌/◌, ◌%◌, ◌<◌, ◌≤◌, ℕ, arith}
 use Rattle.fs_layout.specs.declared.numbers.TheConstants.{BLKSIZE, RECORDSIZE}
-use Rattle.fs_layout.specs.DiskImage.{block_count, is_data_block, number_of, size_of, blocks_needed, slot_count, slot_place}
+use Rattle.fs_layout.specs.DiskImage.{block_count, number_of, size_of, blocks_needed, slot_count, slot_place}
 use Rattle.fs_layout.specs.DiskLaws.{IsReadable}
-
--- a data block is below the number of blocks
-and-right : (a b : Bool) → (a && b) ≡ true → b ≡ true
-and-right true b e = e
-and-right false b e = absurd (cc)
-
-is-below : (blocks block : ℕ) → is_data_block blocks block ≡ true → block < blocks
-is-below blocks block is = grind (arith, nat_tests, and-right)
+use Rattle.fs_layout.proofs.OneTest.{data_block_below}
 
 -- the blocks of a readable record
 pub number-below : (byte : ℕ → ℕ) (place i : ℕ) → IsReadable byte place → i < blocks_needed byte place →
     number_of byte place i < block_count byte
-number-below byte place i readable within = is-below (block_count byte) (number_of byte place i) (readable.within i within)
+number-below byte place i readable within = data_block_below (block_count byte) (number_of byte place i) (readable.within i within)
 
 -- a block has so many bytes behind its first
 pub block-within : (number blocks total bytes : ℕ) → number < blocks → 4096 * blocks ≤ total → bytes ≤ 4096 →

@@ -4,12 +4,10 @@ use Rattle.std.proofs.Common.{List, [], ◌∷◌, ◌++◌, length, take, drop,
 use Rattle.std.specs.Prelude.{slice_index, if◌then◌else◌}
 use Rattle.std.specs.List.{before_first}
 use Rattle.std.proofs.lemmas.List.{get_or-take, get_or-drop, map-append, append-nil}
-use Rattle.std.proofs.lemmas.Bool.Decides.{nat_tests}
 use Rattle.fs_layout.specs.declared.numbers.TheConstants.{RECORDSIZE, FTYPE_DIR}
 use Rattle.fs_layout.specs.declared.records.Entry.{Entry}
 use Rattle.fs_layout.specs.Layout.{entry_at, bytes_from, word_at}
 use Rattle.fs_layout.specs.FileTree.{Named, listed}
-use Rattle.fs_layout.specs.FileTree.{records_from}
 use Rattle.fs_layout.specs.DiskImage.{values_below, size_of, name_of, is_empty_record, is_directory}
 use Rattle.fs_layout.specs.DiskImage.{slot_count, slot_place}
 use Rattle.fs_layout.specs.DiskFiles.{file_byte, file_bytes, node_of, named_of, records_at}
@@ -17,7 +15,10 @@ use Rattle.fs_layout.specs.DiskLaws.{IsReadable, AreReadable}
 use Rattle.fs_layout.proofs.Places.{entry-same}
 use Rattle.fs_contents.specs.Contents.{Told, told_of_node, told_of_records, told_of_entry}
 use Rattle.fs_contents.specs.Walks.{entries_below}
-use Rattle.fs_contents.proofs.Below.{length-values, range-values}
+use Rattle.fs_contents.proofs.Below.{range-values}
+use Rattle.fs_layout.proofs.Below.{length-values}
+use Rattle.fs_layout.proofs.FileTrees.{listed-records_from}
+use Rattle.std.proofs.lemmas.Bool.{ne_eqb, eq-eqb}
 
 -- ---- a record that was copied
 
@@ -34,13 +35,6 @@ copied-entry xs record_bytes place count e is =
 
 -- ---- records as a list
 
--- records made of a list have that list
-pub listed-from : (list : List (Option Named)) → listed (records_from list) ≡ list
-unfolding listed records_from
-listed-from [] = refl
-listed-from (None ∷ rest) = ap (λ (l : List (Option Named)). None ∷ l) (listed-from rest)
-listed-from (Some named ∷ rest) = ap (λ (l : List (Option Named)). Some named ∷ l) (listed-from rest)
-
 -- what two lists tell, one behind the other
 told-append : (xs ys : List (Option Named)) → told_of_records (xs ++ ys) ≡ told_of_records xs ++ told_of_records ys
 unfolding told_of_records
@@ -55,7 +49,7 @@ pub directory-length : (byte : ℕ → ℕ) (depth place : ℕ) → AreReadable 
 unfolding AreReadable records_at listed
 directory-length byte zero place readable is = sym (readable.1 is)
 directory-length byte (suc depth) place readable is =
-    ap length (listed-from (values_below (slot_count byte place) (λ i. named_of (records_at depth byte) byte (slot_place byte place i))))
+    ap length (listed-records_from (values_below (slot_count byte place) (λ i. named_of (records_at depth byte) byte (slot_place byte place i))))
     ∙ length-values (slot_count byte place) (λ i. named_of (records_at depth byte) byte (slot_place byte place i))
 
 -- the record itself is readable
@@ -151,18 +145,11 @@ unfolding AreReadable records_at listed
 directory-told byte zero directory readable is = none-told byte directory (slot_count byte directory) (readable.1 is)
 directory-told byte (suc depth) directory readable is =
     ap told_of_records
-    (listed-from
+    (listed-records_from
     (values_below (slot_count byte directory) (λ i. named_of (records_at depth byte) byte (slot_place byte directory i))))
     ∙ below-told byte depth directory (slot_count byte directory) (readable.1 is)
 
 -- ---- one record after another
-
--- what tests of a byte say
-test-not : (a : ℕ) → a ≢ 0 → (a == 0) ≡ false
-test-not a ne = grind (arith, nat_tests)
-
-test-is : (a : ℕ) → a ≡ 0 → (a == 0) ≡ true
-test-is a e = rw e refl
 
 -- one that is not empty
 pub entries-more : (byte : ℕ → ℕ) (directory n place : ℕ) (xs : List Entry) (entry : Entry) →
@@ -171,7 +158,7 @@ pub entries-more : (byte : ℕ → ℕ) (directory n place : ℕ) (xs : List Ent
 unfolding entries_below
 entries-more byte directory n place xs entry e at filled is =
     let read : byte (slot_place byte directory n) ≡ byte place = ap byte (sym at) in
-    let tested = ap (λ b. b == 0) read ∙ test-not (byte place) filled in
+    let tested = ap (λ b. b == 0) read ∙ ne_eqb (byte place) 0 filled in
     rw (add-one, entries_below, tested)
     (ap (λ (l : List Entry). l ++ entry ∷ []) e
     ∙ ap (λ (x : Entry). entries_below byte directory n ++ x ∷ []) (is ∙ ap (entry_at byte) at))
@@ -183,7 +170,7 @@ pub entries-passed : (byte : ℕ → ℕ) (directory n place : ℕ) (xs : List E
 unfolding entries_below
 entries-passed byte directory n place xs e at empty =
     let read : byte (slot_place byte directory n) ≡ byte place = ap byte (sym at) in
-    let tested = ap (λ b. b == 0) read ∙ test-is (byte place) empty in
+    let tested = ap (λ b. b == 0) read ∙ eq-eqb (byte place) 0 empty in
     rw (add-one, entries_below, tested) (e ∙ sym (append-nil (entries_below byte directory n)))
 
 -- at first there is none

@@ -15,9 +15,9 @@ use Rattle.fs_layout.specs.DiskFiles.{file_bytes, node_of, named_of, records_at}
 use Rattle.fs_layout.specs.DiskLaws.{AreReadable}
 use Rattle.fs_contents.specs.Contents.{found_node}
 use Rattle.fs_contents.specs.Walks.{IsFirstNamed, NoneIsNamed, LeadsOn}
-use Rattle.fs_contents.proofs.Below.{length-values, get_or-values}
 use Rattle.fs_contents.proofs.Names.{filled-if-named}
-use Rattle.fs_contents.proofs.Records.{listed-from}
+use Rattle.fs_layout.proofs.Below.{length-values, get_or-values}
+use Rattle.fs_layout.proofs.FileTrees.{listed-records_from}
 
 -- ---- a search in a directory
 
@@ -126,7 +126,7 @@ find-slot byte depth directory slot place name within at filled named first =
     let count : ℕ = slot_count byte directory in
     let long = length-values count g in
     let here : Named = record { name = name_of byte place; node = node_of (records_at depth byte) byte place } in
-    ap (find_name name) (listed-from (values_below count g))
+    ap (find_name name) (listed-records_from (values_below count g))
     ∙ find-first name (values_below count g) slot here (omega arith)
     (λ j below.
     ap (has_name name) (get_or-values count g j None (omega arith))
@@ -144,7 +144,7 @@ find-no-slot byte (suc depth) directory name none =
     let g : ℕ → Option Named = λ i. named_of (records_at depth byte) byte (slot_place byte directory i) in
     let count : ℕ = slot_count byte directory in
     let long = length-values count g in
-    ap (find_name name) (listed-from (values_below count g))
+    ap (find_name name) (listed-records_from (values_below count g))
     ∙ find-none name (values_below count g)
     (λ j below.
     let within : j < count = omega arith in

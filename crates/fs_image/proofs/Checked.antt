@@ -1,7 +1,7 @@
 -- What a check of a whole disk comes to.
 use Rattle.std.proofs.Common.{◌≡◌, ◌∙◌, ℕ, ◌+◌, ◌*◌, ◌<◌, ◌≤◌, Bool, true, false, List, length, replicate, Option, Some, None, Result, Ok, Err, refl, sym, ap, arith, add-one, inl, inr}
-use Rattle.std.specs.Prelude.{◌==◌, ◌&&◌, nat_le, slice_index}
-use Rattle.std.proofs.lemmas.Bool.{leb-true}
+use Rattle.std.specs.Prelude.{◌==◌, nat_le, slice_index}
+use Rattle.std.proofs.lemmas.Bool.{leb-true, and_from, and_parts}
 use Rattle.std.proofs.lemmas.Bool.Decides.{leb_tells}
 use Rattle.std.proofs.lemmas.List.{get_or-replicate, length-replicate}
 use Rattle.jos_base.specs.Counting.{total}
@@ -64,17 +64,6 @@ begins size byte none = by_tests (long size byte) (image.magic_of byte == FS_MAG
     by_tests true true false e h k = fails image.BlockCount (super_3 size byte none_named e h k)
     by_tests true true true e h k = record { long_is = e; count_is = k }
 
-and_left : (x y : Bool) → (x && y) ≡ true → x ≡ true
-and_left true y e = refl
-and_left false y e = absurd cc
-
-and_right : (x y : Bool) → (x && y) ≡ true → y ≡ true
-and_right true y e = e
-and_right false y e = absurd cc
-
-and_both : (x y : Bool) → x ≡ true → y ≡ true → (x && y) ≡ true
-and_both x y e h = rw (e, h) refl
-
 le_test : (m n : ℕ) → m ≤ n → nat_le m n ≡ true
 le_test m n h = elim (leb_tells m n) [ inl le ↦ le.0 | inr gt ↦ absurd (omega (arith, gt.1)) ]
 
@@ -90,13 +79,13 @@ held_disk held none enough =
     let byte = slice_index held.bytes in
     let count = image.block_count (slice_index held.bytes) in
     let b = begins held.total (slice_index held.bytes) none in
-    let reached : BLKSIZE * count ≤ held.total = leb-true _ _ (and_right (nat_le (3 * BLKSIZE) held.total) (nat_le (BLKSIZE * count) held.total) b.long_is) in
-    let least : MINBLOCKS ≤ count = leb-true _ _ (and_left (nat_le MINBLOCKS count) (nat_le count MAXBLOCKS) b.count_is) in
-    let most : count ≤ MAXBLOCKS = leb-true _ _ (and_right (nat_le MINBLOCKS count) (nat_le count MAXBLOCKS) b.count_is) in
+    let reached : BLKSIZE * count ≤ held.total = leb-true _ _ (and_parts (nat_le (3 * BLKSIZE) held.total) (nat_le (BLKSIZE * count) held.total) b.long_is).1 in
+    let least : MINBLOCKS ≤ count = leb-true _ _ (and_parts (nat_le MINBLOCKS count) (nat_le count MAXBLOCKS) b.count_is).0 in
+    let most : count ≤ MAXBLOCKS = leb-true _ _ (and_parts (nat_le MINBLOCKS count) (nat_le count MAXBLOCKS) b.count_is).1 in
     let within : BLKSIZE * count ≤ length held.bytes = omega arith in
     let three : 3 * BLKSIZE ≤ length held.bytes = omega arith in
     let is_long : long (length held.bytes) (slice_index held.bytes) ≡ true =
-    and_both (nat_le (3 * BLKSIZE) (length held.bytes)) (nat_le (BLKSIZE * count) (length held.bytes)) (le_test _ _ three) (le_test _ _ within) in
+    and_from (nat_le (3 * BLKSIZE) (length held.bytes)) (nat_le (BLKSIZE * count) (length held.bytes)) (le_test _ _ three) (le_test _ _ within) in
     same_fault (length held.bytes) held.total (slice_index held.bytes) (is_long ∙ sym b.long_is) ∙ none
 
 -- ---- the tests after the super block

@@ -1,8 +1,8 @@
 -- What tests one after another give.
-use Rattle.std.proofs.Common.{◌≡◌, ℕ, zero, suc, ◌+◌, ◌<◌, ◌≢◌, ◌⊎◌, inl, inr, Bool, true, false, Ok, Err, Result, refl, sym, ◌∙◌, ap, arith, add-one}
-use Rattle.std.specs.Prelude.{◌||◌, List, [], ◌∷◌, ◌++◌}
-use Rattle.std.proofs.lemmas.Bool.Decides.{eqb_tells}
-use Rattle.fs_layout.specs.DiskImage.{Blocks, Test, ImageFault, after, demand, only_where, in_turn, for_each_below, some_below}
+use Rattle.std.proofs.Common.{◌≡◌, ℕ, zero, suc, ◌+◌, ◌<◌, inl, inr, Bool, false, Ok, Err, Result, refl, sym, ◌∙◌, ap, arith, add-one}
+use Rattle.std.specs.Prelude.{List, [], ◌∷◌, ◌++◌}
+use Rattle.fs_layout.specs.DiskImage.{Blocks, Test, ImageFault, after, in_turn, for_each_below, some_below}
+use Rattle.jos_base.proofs.Bounds.{below_or_last}
 
 pub each_none : (test : ℕ → Test) (named : Blocks) → for_each_below 0 test named ≡ Ok named
 unfolding for_each_below
@@ -12,15 +12,11 @@ pub each_passed : (test : ℕ → Test) (named now : Blocks) (next : Result Bloc
 unfolding for_each_below
 each_passed test named now next i e f = rw (add-one, for_each_below, e) f
 
-below_cases : (i n : ℕ) → i < suc n → (i < n) ⊎ (i ≡ n)
-below_cases i n h =
-    elim (eqb_tells i n) [ inl same ↦ inr same.1 | inr other ↦ let ne : i ≢ n = other.1 in inl (omega arith) ]
-
 pub each_failed : (test : ℕ → Test) (named now : Blocks) (fault : ImageFault) (i n : ℕ) → i < n → for_each_below i test named ≡ Ok now → test i now ≡ Err fault → for_each_below n test named ≡ Err fault
 unfolding for_each_below
 each_failed test named now fault i zero h e f = absurd (omega arith)
 each_failed test named now fault i (suc n) h e f =
-    elim (below_cases i n h) [
+    elim (below_or_last i n h) [
       | inl below ↦ ap (λ r. after r (test n)) (each_failed test named now fault i n below e f)
       | inr same ↦ ap (λ r. after r (test n)) (ap (λ k. for_each_below k test named) (sym same) ∙ e) ∙ ap (λ k. test k now) (sym same) ∙ f
     ]
@@ -32,19 +28,6 @@ some_none passes = refl
 pub some_passed : (passes : ℕ → Bool) (i : ℕ) → some_below i passes ≡ false → passes i ≡ false → some_below (i + 1) passes ≡ false
 unfolding some_below
 some_passed passes i e f = rw (add-one, some_below, e) f
-
-or_true : (x : Bool) → (x || true) ≡ true
-or_true true = refl
-or_true false = refl
-
-pub some_found : (passes : ℕ → Bool) (i n : ℕ) → i < n → passes i ≡ true → some_below n passes ≡ true
-unfolding some_below
-some_found passes i zero h e = absurd (omega arith)
-some_found passes i (suc n) h e =
-    elim (below_cases i n h) [
-      | inl below ↦ ap (λ b. b || passes n) (some_found passes i n below e)
-      | inr same ↦ ap (λ b. some_below n passes || b) (ap passes (sym same) ∙ e) ∙ or_true (some_below n passes)
-    ]
 
 pub turn_fails : (test : Test) (tests : List Test) (named : Blocks) (fault : ImageFault) → test named ≡ Err fault → in_turn (test ∷ tests) named ≡ Err fault
 unfolding in_turn
@@ -62,18 +45,6 @@ after_last (Err fault) = refl
 pub turn_last : (test : Test) (named : Blocks) → in_turn (test ∷ []) named ≡ test named
 unfolding in_turn
 turn_last test named = after_last (test named)
-
-pub demand_fails : (b : Bool) (fault : ImageFault) (named : Blocks) → b ≡ false → demand b fault named ≡ Err fault
-demand_fails b fault named e = rw e refl
-
-pub demand_passes : (b : Bool) (fault : ImageFault) (named : Blocks) → b ≡ true → demand b fault named ≡ Ok named
-demand_passes b fault named e = rw e refl
-
-pub where_not : (b : Bool) (test : Test) (named : Blocks) → b ≡ false → only_where b test named ≡ Ok named
-where_not b test named e = rw e refl
-
-pub where_so : (b : Bool) (test : Test) (named : Blocks) → b ≡ true → only_where b test named ≡ test named
-where_so b test named e = rw e refl
 
 after_after : (r : Result Blocks ImageFault) (whole first rest : Test) → ((named : Blocks) → whole named ≡ after (first named) rest) → after r whole ≡ after (after r first) rest
 after_after (Ok named) whole first rest h = h named

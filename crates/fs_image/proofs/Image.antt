@@ -4,13 +4,14 @@ use Rattle.std.specs.Prelude.{◌==◌, ◌&&◌, not, nat_le}
 use Rattle.std.specs.Option.{option_map}
 use Rattle.std.specs.Result.{result_err}
 use Rattle.std.proofs.lemmas.List.{get_or_past}
-use Rattle.std.proofs.lemmas.Bool.Decides.{leb_tells}
 use Rattle.fs_layout.specs.declared.numbers.TheConstants.{BLKSIZE, FS_MAGIC}
 use Rattle.fs_layout.specs.DiskImage as image
 use Rattle.fs_layout.specs.DiskImage.{Blocks, Test, none_named, in_turn, for_each_below, demand}
 use Rattle.fs_image.specs.declared.fault.ImageFault.{ImageFault}
 use Rattle.fs_image.specs.Answers.{blocks_in, told, fault_of}
-use Rattle.fs_image.proofs.Each.{turn_fails, turn_passes, turn_last, append_fails, append_passes, each_none, each_passed, each_failed, demand_fails, demand_passes}
+use Rattle.fs_image.proofs.Each.{turn_fails, turn_passes, turn_last, append_fails, append_passes, each_none, each_passed, each_failed}
+use Rattle.std.proofs.lemmas.Bool.{cases_lt}
+use Rattle.fs_layout.proofs.OneTest.{demand_fails, demand_passes}
 
 -- ---- the super block
 
@@ -86,12 +87,9 @@ element : (l : List Bool) (q : ℕ) → ((k : ℕ) → k < length l → get_or l
 element l q h (inl within) = h q within
 element l q h (inr past) = get_or_past l q false past
 
-within_or_past : (q n : ℕ) → (q < n) ⊎ (n ≤ q)
-within_or_past q n = elim (leb_tells n q) [ inl past ↦ inr past.1 | inr within ↦ inl within.1 ]
-
 pub cleared : (l : List Bool) → ((k : ℕ) → k < length l → get_or l k false ≡ false) → blocks_in l ≡ none_named
 unfolding blocks_in
-cleared l h = λ i. λ q. element l q h (within_or_past q (length l)) i
+cleared l h = λ i. λ q. element l q h (cases_lt q (length l)) i
 
 err_of : (r : Option ImageFault) (n : Blocks) → result_err (told r n) ≡ option_map fault_of r
 err_of None n = refl

@@ -3,8 +3,9 @@ use Rattle.std.proofs.Common.{◌≡◌, ℕ, zero, suc, ◌+◌, ◌≢◌, tru
 use Rattle.std.specs.Prelude.{◌==◌, not, slice_index, if◌then◌else◌}
 use Rattle.std.specs.List.{before_first, prefix_len}
 use Rattle.std.proofs.lemmas.List.{append-nil, append_assoc, take_more, get_or-drop, get_or_past, length-drop}
-use Rattle.std.proofs.lemmas.Bool.Decides.{eqb_tells, leb_tells}
+use Rattle.std.proofs.lemmas.Bool.Decides.{leb_tells}
 use Rattle.fs_layout.specs.DiskImage.{values_below, name_of}
+use Rattle.std.proofs.lemmas.Bool.{ne_eqb}
 
 -- the bytes before the NUL, among so many from a place on
 unfoldable pub name_from : (ℕ → ℕ) → ℕ → ℕ → List ℕ
@@ -48,9 +49,6 @@ name_is byte place =
 
 -- ---- the bytes of a name among those of an image
 
-test_not : (a b : ℕ) → a ≢ b → (a == b) ≡ false
-test_not a b ne = elim (eqb_tells a b) [ inl same ↦ absurd (ne same.1) | inr other ↦ other.0 ]
-
 -- so many of its bytes are there, and so many are to come
 abbrev pub IsNamedBy : List ℕ → ℕ → ℕ → Type 0
 IsNamedBy bytes place k =
@@ -69,7 +67,7 @@ named_more bytes place k named ne within = λ n e.
     let more : k < length (drop place bytes) = omega (arith, length-drop place bytes) in
     let here : get_or (drop place bytes) k 0 ≡ slice_index bytes (place + k) = get_or-drop place bytes k 0 in
     named (suc n) left
-    ∙ ap (λ l. take k (drop place bytes) ++ l) (rw (test_not (slice_index bytes (place + k)) 0 ne, add-one) refl)
+    ∙ ap (λ l. take k (drop place bytes) ++ l) (rw (ne_eqb (slice_index bytes (place + k)) 0 ne, add-one) refl)
     ∙ sym (append_assoc (take k (drop place bytes)) (slice_index bytes (place + k) ∷ []) (name_from (λ i. slice_index bytes (place + i)) (k + 1) n))
     ∙ ap (λ x. (take k (drop place bytes) ++ x ∷ []) ++ name_from (λ i. slice_index bytes (place + i)) (k + 1) n) (sym here)
     ∙ ap (λ l. l ++ name_from (λ i. slice_index bytes (place + i)) (k + 1) n) (sym (take_more (drop place bytes) k 0 more))
@@ -109,5 +107,5 @@ pub full_name : (byte : ℕ → ℕ) (place : ℕ) → byte place ≢ 0 → name
 unfolding name_from
 full_name byte place ne e =
     let first : byte (place + 0) ≢ 0 = λ z. ne (ap byte (sym (add-zero place)) ∙ z) in
-    let is_full : name_of byte place ≡ byte (place + 0) ∷ name_from (λ k. byte (place + k)) 1 127 = name_is byte place ∙ rw (test_not (byte (place + 0)) 0 first) refl in
+    let is_full : name_of byte place ≡ byte (place + 0) ∷ name_from (λ k. byte (place + k)) 1 127 = name_is byte place ∙ rw (ne_eqb (byte (place + 0)) 0 first) refl in
     absurd (cc)

@@ -1,8 +1,8 @@
 -- What the test of one block gives.
 use Rattle.std.proofs.Common.{◌≡◌, ℕ, ◌<◌, ◌≤◌, Bool, true, false, List, length, get_or, set, Ok, Err, refl, sym, ap, arith, inl, inr}
-use Rattle.std.specs.Prelude.{◌==◌, ◌&&◌, nat_le, nat_lt, if◌then◌else◌}
+use Rattle.std.specs.Prelude.{◌==◌, nat_le, nat_lt, if◌then◌else◌}
 use Rattle.std.proofs.lemmas.List.{get_or-set_other, get_or-set_same}
-use Rattle.std.proofs.lemmas.Bool.{ltb-true}
+use Rattle.std.proofs.lemmas.Bool.{ltb-true, and_parts}
 use Rattle.std.proofs.lemmas.Bool.Decides.{eqb_tells}
 use Rattle.jos_base.specs.Words.{upd}
 use Rattle.fs_layout.specs.DiskImage as image
@@ -34,12 +34,8 @@ pub marked_free : (byte : ℕ → ℕ) (b : ℕ) (l : List Bool) → image.is_da
 unfolding image.block_test image.in_turn blocks_in
 marked_free byte b l d e f = rw (d, e, f) refl
 
-and_right : (x y : Bool) → (x && y) ≡ true → y ≡ true
-and_right true y e = e
-and_right false y e = absurd cc
-
 below_count : (blocks b : ℕ) → image.is_data_block blocks b ≡ true → b < blocks
-below_count blocks b e = ltb-true b blocks (and_right (nat_le (image.first_data_block blocks) b) (nat_lt b blocks) e)
+below_count blocks b e = ltb-true b blocks (and_parts (nat_le (image.first_data_block blocks) b) (nat_lt b blocks) e).1
 
 le_through : (b n m : ℕ) → b < n → n ≤ m → b < m
 le_through b n m h k = omega arith

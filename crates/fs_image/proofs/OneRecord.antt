@@ -6,7 +6,8 @@ use Rattle.fs_layout.specs.declared.numbers.TheConstants.{NDIRECT, MAXFILESIZE}
 use Rattle.fs_layout.specs.DiskImage.{Blocks, Test, ImageFault, DirSize, TooLong, Stray, in_turn, demand, for_each_below, only_where}
 use Rattle.fs_layout.specs.DiskImage.{number_test, direct_of, number_in_indirect, indirect_test, blocks_needed, numbers_tests}
 use Rattle.fs_layout.specs.DiskImage.{record_tests, stray_tests, has_stray, has_indirect, has_stray_in_indirect, is_good_size, size_of, kind_of}
-use Rattle.fs_image.proofs.Each.{turn_fails, turn_passes, turn_last, demand_passes}
+use Rattle.fs_image.proofs.Each.{turn_fails, turn_passes, turn_last}
+use Rattle.fs_layout.proofs.OneTest.{demand_passes}
 
 abbrev pub directs : (ℕ → ℕ) → ℕ → Test
 directs byte place = for_each_below (min (blocks_needed byte place) NDIRECT) (λ i. number_test byte place (direct_of byte place i))

@@ -7,7 +7,9 @@ use Rattle.fs_layout.specs.DiskImage.{Blocks, Test, ImageFault, Kind, BadName, S
 use Rattle.fs_layout.specs.DiskImage.{is_good_kind, kind_of, is_good_name, name_of, record_tests, has_taken_name, slot_place, slot_tests, slot_test}
 use Rattle.fs_layout.specs.DiskImage.{is_directory, is_empty_record, contents_test, slot_count}
 use Rattle.fs_image.specs.Answers.{own_tests}
-use Rattle.fs_image.proofs.Each.{turn_fails, turn_passes, turn_last, demand_fails, demand_passes, where_not, where_so, append_fails, append_passes}
+use Rattle.fs_image.proofs.Each.{turn_fails, turn_passes, turn_last, append_fails, append_passes}
+use Rattle.fs_layout.proofs.OneTest.{demand_fails, demand_passes, where_not, where_so}
+use Rattle.std.proofs.lemmas.Bool.{ne_eqb}
 
 -- the same tests, of a record at a place
 abbrev own_at : (ℕ → ℕ) → ℕ → ℕ → ℕ → List Test
@@ -69,9 +71,6 @@ own_5 byte directory i place n m e h k l t =
 
 -- ---- with what stands below it
 
-test_not : (a b : ℕ) → a ≢ b → (a == b) ≡ false
-test_not a b ne = elim (eqb_tells a b) [ inl same ↦ absurd (ne same.1) | inr other ↦ other.0 ]
-
 test_is : (a b : ℕ) → a ≡ b → (a == b) ≡ true
 test_is a b e = elim (eqb_tells a b) [ inl same ↦ same.0 | inr other ↦ absurd (other.1 e) ]
 
@@ -83,7 +82,7 @@ slot_empty onward byte directory i place n e h =
 slot_full : (onward : ℕ → Test) (byte : ℕ → ℕ) (directory i place : ℕ) (n : Blocks) → place ≡ slot_place byte directory i → byte place ≢ 0 → slot_test onward byte directory i n ≡ in_turn (slot_tests onward byte directory i) n
 slot_full onward byte directory i place n e h =
     where_so (not (is_empty_record byte (slot_place byte directory i))) (λ named. in_turn (slot_tests onward byte directory i) named) n
-    (ap not (test_not (byte (slot_place byte directory i)) 0 (λ z. h (ap byte e ∙ z))))
+    (ap not (ne_eqb (byte (slot_place byte directory i)) 0 (λ z. h (ap byte e ∙ z))))
 
 slots_are : (onward : ℕ → Test) (byte : ℕ → ℕ) (directory i : ℕ) → slot_tests onward byte directory i ≡ own_tests byte directory i ++ only_where (is_directory byte (slot_place byte directory i)) (onward (slot_place byte directory i)) ∷ []
 unfolding slot_tests own_tests
@@ -105,7 +104,7 @@ slot_below onward byte directory i place n m e h k =
 pub slot_file : (onward : ℕ → Test) (byte : ℕ → ℕ) (directory i place : ℕ) (n m : Blocks) → place ≡ slot_place byte directory i → byte place ≢ 0 → in_turn (own_tests byte directory i) n ≡ Ok m
     → kind_of byte place ≢ FTYPE_DIR → slot_test onward byte directory i n ≡ Ok m
 slot_file onward byte directory i place n m e h k d =
-    slot_below onward byte directory i place n m e h k ∙ where_not (is_directory byte place) (onward place) m (test_not (kind_of byte place) FTYPE_DIR d)
+    slot_below onward byte directory i place n m e h k ∙ where_not (is_directory byte place) (onward place) m (ne_eqb (kind_of byte place) FTYPE_DIR d)
 
 pub slot_directory : (onward : ℕ → Test) (byte : ℕ → ℕ) (directory i place : ℕ) (n m : Blocks) (r : Result Blocks ImageFault) → place ≡ slot_place byte directory i → byte place ≢ 0 → in_turn (own_tests byte directory i) n ≡ Ok m
     → kind_of byte place ≡ FTYPE_DIR → onward place m ≡ r → slot_test onward byte directory i n ≡ r

@@ -7,7 +7,7 @@ use Rattle.std.proofs.lemmas.Bool.Decides.{leb_tells}
 use Rattle.jos_host.specs.Files.{Files, bytes_of}
 use Rattle.jos_host.specs.Told.{Rose}
 use Rattle.jos_host.specs.Asked.{Asked, and_asked}
-use Rattle.jos_host.specs.Frames.{from_to, Unchanged}
+use Rattle.jos_host.specs.Frames.{from_to}
 use Rattle.jos_host.specs.declared.host.HostCall.TheVariants.{Size, Read}
 use Rattle.fs_layout.specs.declared.numbers.TheConstants.{BLKSIZE, MAXBLOCKS}
 use Rattle.fs_layout.specs.Layout.{word_at}
@@ -83,14 +83,6 @@ fault_under files name Host there = let some = some_file files name in (some.0, 
 fault_under files name NoMemory there = let some = some_file files name in (some.0, some.1, tt)
 
 -- ---- what is left as it was
-
-pub unchanged_more : {H A B C D : Type 0} {a : H → A} {b : H → B} {c : H → C} {d : H → D} (x y z : H) → Unchanged a b c d x y → Unchanged a b c d y z → Unchanged a b c d x z
-unchanged_more x y z h k = record {
-  first = k.first ∙ h.first;
-  second = k.second ∙ h.second;
-  third = k.third ∙ h.third;
-  fourth = k.fourth ∙ h.fourth;
-}
 
 -- ---- bytes
 

@@ -1,8 +1,7 @@
 -- Why the depth that bounds the walk over the directories is never used up: with each directory on the way down there
 -- is one block less that isn't named, and there are no more of these than blocks.
-use Rattle.std.proofs.Common.{◌≡◌, ◌≢◌, ◌∙◌, ◌+◌, ◌/◌, ◌<◌, ◌≤◌, ◌==◌, ◌&&◌, ◌⊎◌, inl, inr, ℕ, zero, suc, Bool, true}
+use Rattle.std.proofs.Common.{◌≡◌, ◌∙◌, ◌+◌, ◌/◌, ◌<◌, ◌≤◌, ◌⊎◌, inl, inr, ℕ, zero, suc, Bool, true}
 use Rattle.std.proofs.Common.{false, List, [], ◌∷◌, not, min, Result, Ok, Err, refl, sym, ap, arith}
-use Rattle.std.proofs.lemmas.Bool.Decides.{nat_tests}
 use Rattle.jos_base.specs.Words.{upd}
 use Rattle.fs_layout.specs.DiskImage.{ImageFault, Range, NamedTwice, MarkedFree, Blocks, none_named, Test, demand}
 use Rattle.fs_layout.specs.DiskImage.{only_where, after, in_turn, for_each_below, block_count, is_data_block}
@@ -10,6 +9,9 @@ use Rattle.fs_layout.specs.DiskImage.{is_marked_free, slot_count, block_test, nu
 use Rattle.fs_layout.specs.DiskImage.{numbers_tests, stray_tests, record_tests, slot_tests, slot_test, slot_place}
 use Rattle.fs_layout.specs.DiskImage.{is_empty_record, is_directory, contents_test, root_place}
 use Rattle.fs_layout.specs.DiskLaws.{DepthSuffices}
+use Rattle.std.proofs.lemmas.Bool.{cases_eq, not-true}
+use Rattle.jos_base.proofs.Maps.{upd-at, upd-other}
+use Rattle.fs_layout.proofs.OneTest.{data_block_below}
 
 -- ---- how many numbers below a count are not named
 
@@ -26,29 +28,13 @@ unfolding unnamed_below
 unnamed_below-none zero = omega arith
 unnamed_below-none (suc n) = let rest = unnamed_below-none n in omega arith
 
--- what a map is at the key that changed, and at the others
-upd-at : (named : Blocks) (block : ℕ) → upd named block true block ≡ true
-unfolding upd
-upd-at named block = let same : (block == block) ≡ true = grind (arith, nat_tests) in rw same refl
-
-upd-other : (named : Blocks) (block other : ℕ) → other ≢ block → upd named block true other ≡ named other
-unfolding upd
-upd-other named block other ne = let differ : (other == block) ≡ false = grind (arith, nat_tests) in rw differ refl
-
-same_or : (a b : ℕ) → (a ≡ b) ⊎ (a ≢ b)
-same_or a b = by_test (a == b) refl
-  where
-    by_test : (t : Bool) → (a == b) ≡ t → (a ≡ b) ⊎ (a ≢ b)
-    by_test true e = inl (grind (arith, nat_tests))
-    by_test false e = inr (grind (arith, nat_tests))
-
 unnamed_below-past : (n block : ℕ) (named : Blocks) → n ≤ block →
     unnamed_below n (upd named block true) ≡ unnamed_below n named
 unfolding unnamed_below
 unnamed_below-past zero block named past = refl
 unnamed_below-past (suc n) block named past =
     let rest = unnamed_below-past n block named (omega arith) in
-    let here = ap one_if_not (upd-other named block n (omega arith)) in
+    let here = ap one_if_not (upd-other named block true n (omega arith)) in
     omega arith
 
 -- one block more is named
@@ -56,17 +42,17 @@ unnamed_below-upd : (n block : ℕ) (named : Blocks) → block < n → named blo
     unnamed_below n (upd named block true) + 1 ≡ unnamed_below n named
 unfolding unnamed_below
 unnamed_below-upd zero block named within new = absurd (omega arith)
-unnamed_below-upd (suc n) block named within new = elim (same_or n block) [
+unnamed_below-upd (suc n) block named within new = elim (cases_eq n block) [
   | inl e ↦
       let rest = unnamed_below-past n block named (omega arith) in
-      let is_named : upd named block true n ≡ true = cc (upd-at named block) in
+      let is_named : upd named block true n ≡ true = cc (upd-at named block true) in
       let was_not : named n ≡ false = cc in
       let after_it = ap one_if_not is_named in
       let before_it = ap one_if_not was_not in
       omega arith
   | inr ne ↦
       let rest = unnamed_below-upd n block named (omega arith) new in
-      let here = ap one_if_not (upd-other named block n ne) in
+      let here = ap one_if_not (upd-other named block true n ne) in
       omega arith
 ]
 
@@ -221,17 +207,6 @@ same-each byte bound (suc n) one other keeps same named below =
 
 -- ---- the tests of a record
 
-and-right : (a b : Bool) → (a && b) ≡ true → b ≡ true
-and-right true b e = e
-and-right false b e = cc
-
-is_below : (blocks block : ℕ) → is_data_block blocks block ≡ true → block < blocks
-is_below blocks block is = grind (arith, nat_tests, and-right)
-
-not-true : (b : Bool) → not b ≡ true → b ≡ false
-not-true true e = cc
-not-true false e = refl
-
 uses-block : (byte : ℕ → ℕ) (block : ℕ) → Uses byte (block_test byte block)
 unfolding block_test in_turn
 uses-block byte block = record {
@@ -253,7 +228,7 @@ uses-block byte block = record {
       meets-demand holds (not (is_marked_free byte block)) (MarkedFree block) named
       (in_turn ((λ before. Ok (upd before block true)) ∷ []))
       (λ in_use.
-      let within = is_below (block_count byte) block is_data in
+      let within = data_block_below (block_count byte) block is_data in
       let one_less = unnamed-upd byte block named within (not-true (named block) is_new) in
       omega arith)));
 }

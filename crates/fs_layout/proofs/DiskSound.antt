@@ -1,6 +1,6 @@
 -- What tests that were passed tell: the records of a disk can be read, and the bound on the depth of its tree is never used up.
-use Rattle.std.proofs.Common.{◌≡◌, ◌∙◌, ◌*◌, ◌-◌, ◌%◌, ◌<◌, ◌≤◌, ◌==◌, ◌&&◌, ◌⊎◌, inl, inr, ℕ, zero, suc, Bool}
-use Rattle.std.proofs.Common.{true, false, List, [], ◌∷◌, ◌++◌, not, min, Some, None, Result, Ok, Err, refl, ap, subst}
+use Rattle.std.proofs.Common.{◌≡◌, ◌∙◌, ◌*◌, ◌-◌, ◌%◌, ◌<◌, ◌≤◌, ◌==◌, ◌&&◌, inl, inr, ℕ, zero, suc, Bool}
+use Rattle.std.proofs.Common.{true, false, List, [], ◌∷◌, not, min, Some, None, Result, Ok, Err, refl, sym, ap, subst}
 use Rattle.std.proofs.Common.{arith}
 use Rattle.std.specs.Prelude.{◌||◌, nat_lt, nat_le}
 use Rattle.std.specs.Result.{result_err}
@@ -20,6 +20,9 @@ use Rattle.fs_layout.specs.DiskFiles.{node_of, named_of, records_at}
 use Rattle.fs_layout.specs.DiskLaws.{IsReadable, AreReadable, DisksAreSound, TreeDepthSuffices}
 use Rattle.fs_layout.proofs.DiskDepth.{Meets, unnamed, unnamed-none, keeps-where, keeps-each, Suffices, record-suffices}
 use Rattle.fs_layout.proofs.DiskDepth.{keeps-slot_tests, keeps-contents}
+use Rattle.std.proofs.lemmas.Bool.{and_parts}
+use Rattle.jos_base.proofs.Bounds.{below_or_last}
+use Rattle.fs_layout.proofs.Below.{values-same}
 
 -- ---- tests that were passed
 
@@ -65,14 +68,6 @@ record One (test : ℕ → Test) (first : Blocks) (i : ℕ) : Type 0 where
   before_it : for_each_below i test first ≡ Ok named
   made : test i named ≡ Ok now
 
--- a number below the next one is below this one, or it is this one
-below_or_last : (i n : ℕ) → i < suc n → (i < n) ⊎ (n ≡ i)
-below_or_last i n within = by_test (n == i) refl
-  where
-    by_test : (t : Bool) → (n == i) ≡ t → (i < n) ⊎ (n ≡ i)
-    by_test true e = inr (grind (arith, nat_tests))
-    by_test false e = inl (grind (arith, nat_tests))
-
 -- each of them passed
 each-passed : (n : ℕ) (test : ℕ → Test) (first last : Blocks) → for_each_below n test first ≡ Ok last → (i : ℕ) → i < n →
     One test first i
@@ -83,7 +78,7 @@ each-passed (suc n) test first last e i within =
     elim (below_or_last i n within) [
       | inl below ↦ each-passed n test first parts.named parts.made i below
       | inr same ↦
-          subst (One test first) same
+          subst (One test first) (sym same)
           (record { named = parts.named; now = last; before_it = parts.made; made = parts.rest_made })
     ]
 
@@ -277,11 +272,6 @@ none-ok : (result : Result Blocks ImageFault) → result_err result ≡ None →
 none-ok (Ok now) e = (now, refl)
 none-ok (Err fault) e = absurd (cc)
 
--- the second of two conditions
-and-right : (a b : Bool) → (a && b) ≡ true → b ≡ true
-and-right true b e = e
-and-right false b e = absurd (cc)
-
 -- the law
 pub disks-sound : DisksAreSound
 unfolding image_fault image_tests super_tests tree_tests
@@ -310,18 +300,10 @@ disks-sound total byte e =
           (λ is. below.made);
       blocks =
           le-if (BLKSIZE * block_count byte) total
-          (and-right (nat_le (3 * BLKSIZE) total) (nat_le (BLKSIZE * block_count byte) total) t1.0);
+          (and_parts (nat_le (3 * BLKSIZE) total) (nat_le (BLKSIZE * block_count byte) total) t1.0).1;
     }
 
 -- ---- the tree
-
--- equal values give equal lists
-values-same : {A : Type 0} (n : ℕ) (f g : ℕ → A) → ((i : ℕ) → i < n → f i ≡ g i) → values_below n f ≡ values_below n g
-unfolding values_below
-values-same zero f g same = refl
-values-same {A} (suc n) f g same =
-    ap (λ (l : List A). l ++ f n ∷ []) (values-same n f g (λ i within. same i (omega arith)))
-    ∙ ap (λ (x : A). values_below n g ++ x ∷ []) (same n (omega arith))
 
 -- no values give no list
 none-below : {A : Type 0} (n : ℕ) (f : ℕ → A) → n ≡ 0 → values_below n f ≡ []

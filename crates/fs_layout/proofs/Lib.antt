@@ -1,7 +1,8 @@
 pub mod FileTrees
 pub mod FileBytes
 mod FileExamples
-mod Fields
+pub mod Below
+pub mod OneTest
 pub mod PathNames
 pub mod PathParts
 pub mod Written

@@ -6,7 +6,7 @@ use Rattle.std.specs.Int.{w32, to_le_bytes, from_le_bytes}
 use Rattle.std.proofs.Math.Seq.{take-suc}
 use Rattle.std.proofs.Math.ListN.{get_or-append}
 use Rattle.std.proofs.lemmas.Nat.{from_le_bytes-to_le_bytes_4}
-use Rattle.std.proofs.lemmas.List.{append-nil, get_or-append-add}
+use Rattle.std.proofs.lemmas.List.{get_or-append-add}
 use Rattle.std.proofs.lemmas.List.FromFn.{fill_by_all}
 use Rattle.std.proofs.lemmas.List.{length-replicate}
 use Rattle.jos_base.specs.TrapFrames.{bytes_of_words}
@@ -15,28 +15,9 @@ use Rattle.fs_layout.specs.declared.records.Super.{Super}
 use Rattle.fs_layout.specs.declared.numbers.TheConstants.{BLKSIZE, RECORDSIZE, MAXNAMELEN, NDIRECT, FS_MAGIC}
 use Rattle.fs_layout.specs.declared.numbers.TheConstants.{BLOCKS_AT, ROOT_AT, SIZE_AT, KIND_AT, DIRECT_AT, INDIRECT_AT, PADDING_AT}
 use Rattle.fs_layout.specs.Layout.{word_at, bytes_from, words_from, entry_at, super_at, zeros, entry_bytes, super_bytes, EntryFits}
+use Rattle.jos_base.proofs.WordBytes.{length-bytes_of_words, bytes_of_words-append, bytes_of_words-one}
 
 -- ---- writing
-
-pub length-bytes_of_words : (words : List ℕ) → length (bytes_of_words words) ≡ 4 * length words
-unfolding bytes_of_words
-length-bytes_of_words [] = refl
-length-bytes_of_words (word ∷ rest) =
-    let four : length (to_le_bytes w32 word ++ bytes_of_words rest) ≡ 4 + length (bytes_of_words rest) = length-append (to_le_bytes w32 word) (bytes_of_words rest) in
-    omega (arith, four, length-bytes_of_words rest)
-
-bytes_of_words-append : (words more : List ℕ) → bytes_of_words (words ++ more) ≡ bytes_of_words words ++ bytes_of_words more
-unfolding bytes_of_words
-bytes_of_words-append [] more = refl
-bytes_of_words-append (word ∷ rest) more = ap (λ (l : List ℕ). to_le_bytes w32 word ++ l) (bytes_of_words-append rest more) ∙ sym (append_assoc (to_le_bytes w32 word) (bytes_of_words rest) (bytes_of_words more))
-
-pub bytes_of_words-nil : bytes_of_words [] ≡ []
-unfolding bytes_of_words
-bytes_of_words-nil = refl
-
-bytes_of_words-one : (word : ℕ) → bytes_of_words (word ∷ []) ≡ to_le_bytes w32 word
-unfolding bytes_of_words
-bytes_of_words-one word = append-nil (to_le_bytes w32 word)
 
 -- one word more
 pub words-more : (words : List ℕ) (i : ℕ) → i < length words → bytes_of_words (take i words) ++ to_le_bytes w32 (get_or words i 0) ≡ bytes_of_words (take (i + 1) words)
@@ -67,12 +48,12 @@ pub record Stands (byte : ℕ → ℕ) (at : ℕ) (bytes : List ℕ) : Type 0 wh
 pub stands-whole : (bytes : List ℕ) → Stands (slice_index bytes) 0 bytes
 stands-whole bytes = record { each = λ k within. ap (λ n. get_or bytes n 0) (omega arith) }
 
-stands-first : (byte : ℕ → ℕ) (at : ℕ) (first rest : List ℕ) → Stands byte at (first ++ rest) → Stands byte at first
+pub stands-first : (byte : ℕ → ℕ) (at : ℕ) (first rest : List ℕ) → Stands byte at (first ++ rest) → Stands byte at first
 stands-first byte at first rest all = record {
   each = λ k within. all.each k (omega (arith, length-append first rest)) ∙ get_or-append first rest 0 k within;
 }
 
-stands-rest : (byte : ℕ → ℕ) (at next : ℕ) (first rest : List ℕ) → next ≡ at + length first → Stands byte at (first ++ rest) → Stands byte next rest
+pub stands-rest : (byte : ℕ → ℕ) (at next : ℕ) (first rest : List ℕ) → next ≡ at + length first → Stands byte at (first ++ rest) → Stands byte next rest
 stands-rest byte at next first rest behind all = record {
   each = λ k within.
       let place : next + k ≡ at + (length first + k) = omega arith in
@@ -80,7 +61,7 @@ stands-rest byte at next first rest behind all = record {
 }
 
 -- a word
-word-back : (byte : ℕ → ℕ) (at word : ℕ) (rest : List ℕ) → word < 2 ^ 32 → Stands byte at (bytes_of_words (word ∷ rest)) → word_at byte at ≡ word
+pub word-back : (byte : ℕ → ℕ) (at word : ℕ) (rest : List ℕ) → word < 2 ^ 32 → Stands byte at (bytes_of_words (word ∷ rest)) → word_at byte at ≡ word
 unfolding bytes_of_words
 word-back byte at word rest fits all =
     let long : 4 ≤ length (bytes_of_words (word ∷ rest)) = omega (arith, length-bytes_of_words (word ∷ rest)) in

@@ -1,6 +1,6 @@
 -- Bytes that are added behind others, part after part.
 use Rattle.std.proofs.Common.{◌≡◌, ℕ, ◌+◌, ◌-◌, ◌*◌, ◌^◌, ◌<◌, ◌≤◌, List, [], ◌∷◌, ◌++◌, length, get_or, take, drop, refl, ap, sym, ◌∙◌, arith}
-use Rattle.std.proofs.Common.{Bool, true, false, append_assoc, Result, Ok, Err, map, set, get_or-set_other, get_or-set_same, below_more, ◌≢◌}
+use Rattle.std.proofs.Common.{Bool, true, false, append_assoc, Result, Ok, Err, map}
 use Rattle.std.specs.Prelude.{OnOk, replicate, if◌then◌else◌}
 use Rattle.std.specs.Result.{is_ok}
 use Rattle.std.specs.List.{range_with_len}
@@ -17,6 +17,8 @@ use Rattle.fs_layout.specs.Layout.{zeros, entry_bytes}
 use Rattle.fs_make.specs.MakeFaults.{span_of, spans_of, root_size, blocks_used}
 use Rattle.fs_make.specs.MadeImage.{padded, further_numbers, made_entry, node_blocks, files_entries, files_blocks, root_bytes, bitmap_bytes, made_super, made_image}
 use Rattle.fs_make.proofs.Spans.{drop-next, spans-next}
+use Rattle.jos_base.proofs.WordBytes.{bytes_of_words-append, bytes_of_words-one}
+use Rattle.jos_base.proofs.Lists.{three_behind}
 
 -- one part more, and the last
 pub part-more : (now new part later rest whole : List ℕ) → new ≡ now ++ part → later ≡ part ++ rest → now ++ later ≡ whole → new ++ rest ≡ whole
@@ -41,15 +43,6 @@ name-padded name new e = λ i. e i ++ drop-replicate (length name) MAXNAMELEN 0 
 
 -- ---- words
 
-bytes_of_words-append : (words more : List ℕ) → bytes_of_words (words ++ more) ≡ bytes_of_words words ++ bytes_of_words more
-unfolding bytes_of_words
-bytes_of_words-append [] more = refl
-bytes_of_words-append (word ∷ rest) more = ap (λ (l : List ℕ). to_le_bytes w32 word ++ l) (bytes_of_words-append rest more) ∙ sym (append_assoc (to_le_bytes w32 word) (bytes_of_words rest) (bytes_of_words more))
-
-bytes_of_words-one : (word : ℕ) → bytes_of_words (word ∷ []) ≡ to_le_bytes w32 word
-unfolding bytes_of_words
-bytes_of_words-one word = append-nil (to_le_bytes w32 word)
-
 pub words-none : (f : ℕ → ℕ) (old : List ℕ) → old ≡ old ++ bytes_of_words (map f (range_with_len 0 0))
 unfolding bytes_of_words
 words-none f old = sym (append-nil old)
@@ -72,14 +65,6 @@ bytes-more f i byte old now new e b h =
 
 pub bytes-all : (f : ℕ → ℕ) (i n : ℕ) (old now : List ℕ) → i ≡ n → now ≡ old ++ map f (range_with_len 0 i) → now ≡ old ++ map f (range_with_len 0 n)
 bytes-all f i n old now e h = h ∙ ap (λ m. old ++ map f (range_with_len 0 m)) e
-
--- one number more in an array
-pub numbers-more : (f : ℕ → ℕ) (numbers : List ℕ) (i number : ℕ) → i < length numbers → ((k : ℕ) → k < i → get_or numbers k 0 ≡ f k) → number ≡ f i →
-    (k : ℕ) → k < i + 1 → get_or (set numbers i number) k 0 ≡ f k
-numbers-more f numbers i number within so_far e =
-    below_more _ _
-    (λ k below. let ne : k ≢ i = omega arith in rw get_or-set_other (so_far k below))
-    (rw get_or-set_same e)
 
 -- ---- files
 
@@ -140,9 +125,6 @@ not_chosen : (b : Bool) (x y : List ℕ) → b ≡ false → y ≡ (if b then x 
 not_chosen true x y e = absurd cc
 not_chosen false x y e = refl
 
-three : (old a b c named numbered new : List ℕ) → named ≡ old ++ a → numbered ≡ named ++ b → new ≡ numbered ++ c → new ≡ old ++ (a ++ (b ++ c))
-three old a b c named numbered new e h k = k ∙ ap (λ (l : List ℕ). l ++ c) (h ∙ ap (λ (l : List ℕ). l ++ b) e) ∙ append_assoc (old ++ a) b c ∙ append_assoc old a (b ++ c)
-
 long_is : (first : ℕ) (bytes : List ℕ) → needs_indirect (length bytes) ≡ true →
     take (BLKSIZE * NDIRECT) bytes ++ (bytes_of_words (further_numbers first (length bytes)) ++ padded (drop (BLKSIZE * NDIRECT) bytes)) ≡ node_blocks first bytes
 unfolding node_blocks
@@ -157,7 +139,7 @@ short_is first bytes short =
 pub node-long : {E : Type 0} (r : Result (Unit {0}) E) (first : ℕ) (bytes rest old named numbered new : List ℕ) → needs_indirect (length bytes) ≡ true → rest ≡ drop (BLKSIZE * NDIRECT) bytes → named ≡ old ++ take (BLKSIZE * NDIRECT) bytes →
     numbered ≡ named ++ bytes_of_words (further_numbers first (length bytes)) → OnOk r (new ≡ numbered ++ padded rest) → OnOk r (new ≡ old ++ node_blocks first bytes)
 node-long (Ok done) first bytes rest old named numbered new long d e h k =
-    three old (take (BLKSIZE * NDIRECT) bytes) (bytes_of_words (further_numbers first (length bytes))) (padded (drop (BLKSIZE * NDIRECT) bytes)) named numbered new e h
+    three_behind old named numbered new (take (BLKSIZE * NDIRECT) bytes) (bytes_of_words (further_numbers first (length bytes))) (padded (drop (BLKSIZE * NDIRECT) bytes)) e h
     (k ∙ ap (λ (l : List ℕ). numbered ++ padded l) d) ∙ ap (λ (l : List ℕ). old ++ l) (long_is first bytes long)
 node-long (Err fault) first bytes rest old named numbered new long d e h k = tt
 

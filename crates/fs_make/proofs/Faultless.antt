@@ -2,7 +2,6 @@
 use Rattle.std.proofs.Common.{◌≡◌, ◌∙◌, ◌+◌, ◌<◌, ◌||◌, ℕ, zero, suc, Bool, true, false, not, List, [], ◌∷◌, length, get_or}
 use Rattle.std.proofs.Common.{Option, Some, None, refl, sym, ap, arith}
 use Rattle.std.specs.Prelude.{nat_lt, nat_le, position, bytes_eq, option_map, if◌then◌else◌}
-use Rattle.std.specs.Option.{option_or}
 use Rattle.std.specs.List.{list_any, position_or_len}
 use Rattle.std.proofs.lemmas.Bool.{and_parts, or_parts, not-false, ltb-false, leb-true}
 use Rattle.std.proofs.lemmas.Bool.Decides.{nat_tests}
@@ -15,18 +14,11 @@ use Rattle.fs_make.specs.declared.fault.MakeFault.{MakeFault}
 use Rattle.fs_make.specs.declared.fault.MakeFault.TheVariants.{TooManyBlocks, BadName, TwiceNamed, TooLong, NoRoom}
 use Rattle.fs_make.specs.MakeFaults.{is_file_name, first_taken, root_size, blocks_used, fault_where, make_fault}
 use Rattle.fs_make.proofs.MadeRecords.{file_at, Faultless}
+use Rattle.jos_base.proofs.Options.{or_none, map_none}
 
 -- ---- no fault of several
 
-none-of : {A : Type 0} (a b : Option A) → option_or a b ≡ None → (a ≡ None) × (b ≡ None)
-none-of None b e = (refl, e)
-none-of (Some x) b e = cc
-
-none-mapped : {A B : Type 0} (f : A → B) (a : Option A) → option_map f a ≡ None → a ≡ None
-none-mapped f None e = refl
-none-mapped f (Some x) e = cc
-
-none-where : (fails : Bool) (fault : MakeFault) → fault_where fails fault ≡ None → fails ≡ false
+pub none-where : (fails : Bool) (fault : MakeFault) → fault_where fails fault ≡ None → fails ≡ false
 none-where true fault e = cc
 none-where false fault e = refl
 
@@ -62,7 +54,7 @@ none-after : (before : List (List ℕ)) (file : Named) (files : List Named) → 
     first_taken (file.name ∷ before) files ≡ None
 unfolding first_taken
 none-after before file files none =
-    none-mapped (λ (place : ℕ). place + 1) (first_taken (file.name ∷ before) files)
+    map_none (λ (place : ℕ). place + 1) (first_taken (file.name ∷ before) files)
     (none-taken (list_any (bytes_eq file.name) before) _ none).1
 
 -- none is one of those before the files
@@ -110,15 +102,15 @@ is_too_long file = nat_lt MAXFILESIZE (length file.bytes)
 pub faultless : (blocks : ℕ) (files : List Named) → make_fault blocks files ≡ None → Faultless blocks files
 unfolding make_fault
 faultless blocks files none =
-    let count = none-of (fault_where (not (is_good_count blocks)) TooManyBlocks) _ none in
-    let names = none-of (option_map BadName (position has_bad_name files)) _ count.1 in
-    let taken = none-of (option_map TwiceNamed (first_taken [] files)) _ names.1 in
-    let lengths = none-of (option_map TooLong (position is_too_long files)) _ taken.1 in
+    let count = or_none (fault_where (not (is_good_count blocks)) TooManyBlocks) _ none in
+    let names = or_none (option_map BadName (position has_bad_name files)) _ count.1 in
+    let taken = or_none (option_map TwiceNamed (first_taken [] files)) _ names.1 in
+    let lengths = or_none (option_map TooLong (position is_too_long files)) _ taken.1 in
     let good = not-false (is_good_count blocks) (none-where (not (is_good_count blocks)) TooManyBlocks count.0) in
     let bounds = and_parts (nat_le MINBLOCKS blocks) (nat_le blocks MAXBLOCKS) good in
-    let good_names = none-mapped BadName (position has_bad_name files) names.0 in
-    let none_taken = none-mapped TwiceNamed (first_taken [] files) taken.0 in
-    let none_long = none-mapped TooLong (position is_too_long files) lengths.0 in
+    let good_names = map_none BadName (position has_bad_name files) names.0 in
+    let none_taken = map_none TwiceNamed (first_taken [] files) taken.0 in
+    let none_long = map_none TooLong (position is_too_long files) lengths.0 in
     let small = nat_lt blocks (blocks_used blocks files) in
     let long = nat_lt MAXFILESIZE (root_size (length files)) in
     let room = or_parts small long (none-where (small || long) NoRoom lengths.1) in

@@ -10,9 +10,9 @@ use Rattle.fs_layout.specs.declared.numbers.TheConstants.{MAXNAMELEN}
 use Rattle.fs_layout.specs.Layout.{zeros}
 use Rattle.fs_layout.specs.FileActs.{is_slash}
 use Rattle.fs_layout.specs.DiskImage.{name_of, is_empty_record, is_good_name}
-use Rattle.fs_layout.proofs.Written.{Stands, length-zeros}
+use Rattle.fs_layout.proofs.Written.{Stands, length-zeros, stands-first}
 use Rattle.fs_make.specs.MakeFaults.{is_file_name}
-use Rattle.fs_make.proofs.Standing.{stands-first, get_or-zeros, values_below-is}
+use Rattle.fs_make.proofs.Standing.{get_or-zeros, values_below-is}
 
 -- ---- what is known of a file's name
 

@@ -1,5 +1,5 @@
 -- The first fault, one test after another.
-use Rattle.std.proofs.Common.{◌≡◌, ℕ, suc, zero, ◌+◌, ◌<◌, ◌≤◌, Bool, true, false, cond, List, [], ◌∷◌, length, get_or, refl, sym, arith, Option, Some, None, ◌∙◌}
+use Rattle.std.proofs.Common.{◌≡◌, ℕ, suc, zero, ◌+◌, ◌<◌, ◌≤◌, Bool, true, false, List, [], ◌∷◌, length, get_or, refl, sym, arith, Option, Some, None, ◌∙◌}
 use Rattle.std.specs.Prelude.{◌||◌, not, nat_lt, position, All, if◌then◌else◌}
 use Rattle.std.specs.List.{position_from}
 use Rattle.std.proofs.lemmas.Iterator.Adapters.{position_from-zero}
@@ -9,6 +9,7 @@ use Rattle.fs_layout.specs.declared.numbers.TheConstants.{MAXFILESIZE}
 use Rattle.fs_layout.specs.DiskImage.{is_good_count}
 use Rattle.fs_make.specs.declared.fault.MakeFault.TheVariants.{TooManyBlocks, BadName, TwiceNamed, TooLong, NoRoom}
 use Rattle.fs_make.specs.MakeFaults.{is_file_name, first_taken, root_size, blocks_used, make_fault}
+use Rattle.jos_base.proofs.Options.{cond_none}
 
 -- the tests that are made of files
 abbrev pub bad_name : List Named → Option ℕ
@@ -47,14 +48,10 @@ last-test blocks files fails e p t l r = rw (e, p, t, l, r) refl
 
 -- ---- files that pass
 
-none_parts : (b : Bool) (place : ℕ) (more : Option ℕ) → cond b (Some place) more ≡ None → (b ≡ false) × (more ≡ None)
-none_parts true place more e = absurd cc
-none_parts false place more e = (refl, e)
-
 none_from : (p : Named → Bool) (files : List Named) (place : ℕ) → position_from p place files ≡ None → (k : ℕ) (d : Named) → k < length files → p (get_or files k d) ≡ false
 none_from p [] place e k d within = absurd (omega arith)
-none_from p (file ∷ files) place e zero d within = (none_parts (p file) place (position_from p (place + 1) files) e).0
-none_from p (file ∷ files) place e (suc k) d within = none_from p files (place + 1) (none_parts (p file) place (position_from p (place + 1) files) e).1 k d (omega arith)
+none_from p (file ∷ files) place e zero d within = (cond_none (p file) place (position_from p (place + 1) files) e).0
+none_from p (file ∷ files) place e (suc k) d within = none_from p files (place + 1) (cond_none (p file) place (position_from p (place + 1) files) e).1 k d (omega arith)
 
 -- where no place is told, no file passes
 pub none-passes : (p : Named → Bool) (files : List Named) → position p files ≡ None → (k : ℕ) (d : Named) → k < length files → p (get_or files k d) ≡ false

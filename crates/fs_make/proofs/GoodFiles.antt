@@ -1,17 +1,17 @@
 -- What is known of files without a fault.
-use Rattle.std.proofs.Common.{◌≡◌, ℕ, ◌+◌, ◌<◌, ◌≤◌, Bool, true, false, List, [], length, get_or, refl, arith, Option, Some, None}
+use Rattle.std.proofs.Common.{◌≡◌, ℕ, ◌+◌, ◌<◌, ◌≤◌, true, false, List, [], length, get_or, refl, arith, None}
 use Rattle.std.specs.Prelude.{◌&&◌, ◌||◌, ◌==◌, not, nat_lt, nat_le, All, option_map}
-use Rattle.std.specs.Option.{option_or}
 use Rattle.std.specs.List.{list_any}
-use Rattle.std.proofs.lemmas.Bool.{ltb-true, ltb-false, leb-true}
+use Rattle.std.proofs.lemmas.Bool.{ltb-true, ltb-false, leb-true, and_parts, or_parts, not-false}
 use Rattle.jos_host.specs.MemHost.{Named}
 use Rattle.fs_layout.specs.declared.numbers.TheConstants.{MAXFILESIZE, MAXNAMELEN, MAXBLOCKS, MINBLOCKS}
 use Rattle.fs_layout.specs.FileActs.{is_slash}
 use Rattle.fs_layout.specs.DiskImage.{is_good_count, first_data_block}
-use Rattle.fs_make.specs.declared.fault.MakeFault.{MakeFault}
 use Rattle.fs_make.specs.declared.fault.MakeFault.TheVariants.{TooManyBlocks, BadName, TwiceNamed, TooLong, NoRoom}
 use Rattle.fs_make.specs.MakeFaults.{is_file_name, first_taken, span_of, spans_of, root_size, blocks_used, fault_where, make_fault}
 use Rattle.fs_make.proofs.FirstFault.{bad_name, too_long, no_room, none-passes, sizes-fit}
+use Rattle.jos_base.proofs.Options.{or_none, map_none}
+use Rattle.fs_make.proofs.Faultless.{none-where}
 
 pub record Good (blocks : ℕ) (files : List Named) : Type 0 where
   pub count : blocks ≤ MAXBLOCKS
@@ -20,39 +20,15 @@ pub record Good (blocks : ℕ) (files : List Named) : Type 0 where
   pub root : root_size (length files) ≤ MAXFILESIZE
   pub room : first_data_block blocks + span_of (root_size (length files)) + spans_of files ≤ blocks
 
-or_none : (a b : Option MakeFault) → option_or a b ≡ None → (a ≡ None) × (b ≡ None)
-or_none None b e = (refl, e)
-or_none (Some fault) b e = absurd cc
-
-map_none : (f : ℕ → MakeFault) (o : Option ℕ) → option_map f o ≡ None → o ≡ None
-map_none f None e = refl
-map_none f (Some place) e = absurd cc
-
-where_none : (b : Bool) (fault : MakeFault) → fault_where b fault ≡ None → b ≡ false
-where_none true fault e = absurd cc
-where_none false fault e = refl
-
-both : (a b : Bool) → (a && b) ≡ true → (a ≡ true) × (b ≡ true)
-both true b e = (refl, e)
-both false b e = absurd cc
-
-neither : (a b : Bool) → (a || b) ≡ false → (a ≡ false) × (b ≡ false)
-neither true b e = absurd cc
-neither false b e = (refl, e)
-
-unnegated : (b : Bool) → not b ≡ false → b ≡ true
-unnegated true e = refl
-unnegated false e = absurd cc
-
 name-short : (name : List ℕ) → is_file_name name ≡ true → length name < MAXNAMELEN
 unfolding is_file_name
 name-short name e =
-    let lengths = both (nat_lt 0 (length name) && nat_lt (length name) MAXNAMELEN) (not (list_any (λ byte. is_slash byte || (byte == 0)) name)) e in
-    ltb-true (length name) MAXNAMELEN (both (nat_lt 0 (length name)) (nat_lt (length name) MAXNAMELEN) lengths.0).1
+    let lengths = and_parts (nat_lt 0 (length name) && nat_lt (length name) MAXNAMELEN) (not (list_any (λ byte. is_slash byte || (byte == 0)) name)) e in
+    ltb-true (length name) MAXNAMELEN (and_parts (nat_lt 0 (length name)) (nat_lt (length name) MAXNAMELEN) lengths.0).1
 
 names-short : (files : List Named) → bad_name files ≡ None → All (λ file. length file.name < MAXNAMELEN) files
 names-short files e = λ k d within.
-    name-short (get_or files k d).name (unnegated (is_file_name (get_or files k d).name) (none-passes (λ (file : Named). not (is_file_name file.name)) files e k d within))
+    name-short (get_or files k d).name (not-false (is_file_name (get_or files k d).name) (none-passes (λ (file : Named). not (is_file_name file.name)) files e k d within))
 
 pub used-is : (blocks : ℕ) (files : List Named) → blocks_used blocks files ≡ first_data_block blocks + span_of (root_size (length files)) + spans_of files
 unfolding blocks_used
@@ -72,18 +48,18 @@ passed blocks files e =
     let three = or_none (option_map TwiceNamed (first_taken [] files)) _ two.1 in
     let four = or_none (option_map TooLong (too_long files)) _ three.1 in
     record {
-      count = where_none (not (is_good_count blocks)) TooManyBlocks one.0;
+      count = none-where (not (is_good_count blocks)) TooManyBlocks one.0;
       name = map_none BadName (bad_name files) two.0;
       size = map_none TooLong (too_long files) four.0;
-      room = where_none (no_room blocks files) NoRoom four.1;
+      room = none-where (no_room blocks files) NoRoom four.1;
     }
 
 pub good-files : (blocks : ℕ) (files : List Named) → make_fault blocks files ≡ None → Good blocks files
 good-files blocks files e =
     let tests = passed blocks files e in
-    let room = neither (nat_lt blocks (blocks_used blocks files)) (nat_lt MAXFILESIZE (root_size (length files))) tests.room in
+    let room = or_parts (nat_lt blocks (blocks_used blocks files)) (nat_lt MAXFILESIZE (root_size (length files))) tests.room in
     record {
-      count = leb-true blocks MAXBLOCKS (both (nat_le MINBLOCKS blocks) (nat_le blocks MAXBLOCKS) (unnegated (is_good_count blocks) tests.count)).1;
+      count = leb-true blocks MAXBLOCKS (and_parts (nat_le MINBLOCKS blocks) (nat_le blocks MAXBLOCKS) (not-false (is_good_count blocks) tests.count)).1;
       names = names-short files tests.name;
       sizes = sizes-fit files tests.size;
       root = ltb-false MAXFILESIZE (root_size (length files)) room.1;

@@ -17,13 +17,15 @@ use Rattle.fs_layout.specs.DiskImage.{image_tests, image_fault}
 use Rattle.fs_layout.specs.DiskFiles.{IsDiskImage}
 use Rattle.fs_make.specs.MakeFaults.{root_size, span_of, spans_of, blocks_used, make_fault}
 use Rattle.fs_make.specs.MadeImage.{first_file_block, made_image}
-use Rattle.fs_make.proofs.Walks.{demand-passed, turn, no_turn, skipped, taken, some_below-none, between, between-none}
+use Rattle.fs_make.proofs.Walks.{turn, no_turn, between, between-none}
 use Rattle.fs_make.proofs.Walks.{each-names, Used, span_at, record-named}
 use Rattle.fs_make.proofs.FileNames.{file-name, name-good}
 use Rattle.fs_make.proofs.Faultless.{faultless}
 use Rattle.fs_make.proofs.MadeImages.{length-made, made-says}
 use Rattle.fs_make.proofs.MadeRecords.{file_at, starts_at, starts-first, starts-next, starts-past, starts-behind, starts-within}
 use Rattle.fs_make.proofs.MadeRecords.{slots-enough, Faultless, SaysRoot, Says}
+use Rattle.fs_layout.proofs.OneTest.{demand_passes, where_not, where_so}
+use Rattle.fs_layout.proofs.Below.{some_below-none}
 
 -- ---- the blocks in use
 
@@ -48,7 +50,7 @@ blocks-used byte blocks files good says = record {
 name-free : (byte : ℕ → ℕ) (blocks : ℕ) (files : List Named) → Faultless blocks files → Says byte blocks files → (i : ℕ) → i < length files →
     has_taken_name byte root_place i ≡ false
 unfolding has_taken_name
-name-free byte blocks files good says i within = some_below-none i _ (λ j before.
+name-free byte blocks files good says i within = some_below-none _ i (λ j before.
     (λ k. bytes_eq ((says.file j (omega arith)).name k) ((says.file i within).name k)) ∙ good.apart i j before within)
 
 -- ---- the records of the directory
@@ -71,15 +73,15 @@ file-named byte blocks files onward i good says within =
     let among : from + span_of (length (file_at files i).bytes) ≤ one + spans_of files = starts-within one files i within in
     let next : to ≡ from + span_of (length (file_at files i).bytes) = starts-next one files i within in
     let span : span_at byte place ≡ span_of (length (file_at files i).bytes) = ap span_of file.size in
-    turn _ _ old old (Ok new) (demand-passed _ _ old (good_kind (kind_of byte place) file.kind))
+    turn _ _ old old (Ok new) (demand_passes _ _ old (good_kind (kind_of byte place) file.kind))
     (turn _ _ old old (Ok new)
-    (demand-passed _ _ old (ap is_good_name file.name ∙ name-good (file_at files i).name (file-name (file_at files i).name (good.named i within))))
+    (demand_passes _ _ old (ap is_good_name file.name ∙ name-good (file_at files i).name (file-name (file_at files i).name (good.named i within))))
     (turn _ _ old new (Ok new)
     (record-named byte place first (blocks_used blocks files) from (blocks-used byte blocks files good says.root) (omega arith) file.laid (omega arith)
     (good_size (kind_of byte place) (size_of byte place) file.kind)
     ∙ ap (λ (b : ℕ). Ok (between first b)) (omega arith))
-    (turn _ _ new new (Ok new) (demand-passed _ _ new (ap not (name-free byte blocks files good says i within)))
-    (turn _ _ new new (Ok new) (skipped (is_directory byte place) (onward place) new (no_directory (kind_of byte place) file.kind))
+    (turn _ _ new new (Ok new) (demand_passes _ _ new (ap not (name-free byte blocks files good says i within)))
+    (turn _ _ new new (Ok new) (where_not (is_directory byte place) (onward place) new (no_directory (kind_of byte place) file.kind))
     (no_turn new)))))
   where
     good_kind : (kind : ℕ) → kind ≡ FTYPE_REG → is_good_kind kind ≡ true
@@ -97,11 +99,11 @@ slot-named : (byte : ℕ → ℕ) (blocks : ℕ) (files : List Named) (onward : 
     ≡ Ok (between (first_data_block blocks) (starts_at (first_file_block blocks files) files (suc i)))
 slot-named byte blocks files onward i good says within = elim (cases_lt i (length files)) [
   | inl lt ↦
-      taken (not (is_empty_record byte (slot_place byte root_place i))) (in_turn (slot_tests onward byte root_place i)) _
+      where_so (not (is_empty_record byte (slot_place byte root_place i))) (in_turn (slot_tests onward byte root_place i)) _
       (ap not (says.file i lt).some)
       ∙ file-named byte blocks files onward i good says lt
   | inr past ↦
-      skipped (not (is_empty_record byte (slot_place byte root_place i))) (in_turn (slot_tests onward byte root_place i)) _
+      where_not (not (is_empty_record byte (slot_place byte root_place i))) (in_turn (slot_tests onward byte root_place i)) _
       (ap not (says.empty i past within))
       ∙ ap (λ (b : ℕ). Ok (between (first_data_block blocks) b))
       (starts-past (first_file_block blocks files) files i past ∙ sym (starts-past (first_file_block blocks files) files (suc i) (omega arith)))
@@ -144,7 +146,7 @@ unfolding first_blocks_test blocks_used
 first_blocks-passed byte blocks files named says =
     let count : block_count byte ≡ blocks = says.count in
     each-passed (first_data_block (block_count byte)) _ named (λ b lt.
-    demand-passed _ _ named (ap not (says.in_use b (before b (block_count byte) count lt))))
+    demand_passes _ _ named (ap not (says.in_use b (before b (block_count byte) count lt))))
   where
     before : (b n : ℕ) → n ≡ blocks → b < first_data_block n → b < blocks_used blocks files
     before b n e lt = omega arith
@@ -189,10 +191,10 @@ says-disk total byte blocks files good says long =
     let count : block_count byte ≡ blocks = says.root.count in
     let all : Blocks = between (first_data_block blocks) (blocks_used blocks files) in
     ap result_err
-    (turn _ _ none_named none_named (Ok all) (demand-passed _ _ none_named (long_enough (block_count byte) count least))
-    (turn _ _ none_named none_named (Ok all) (demand-passed _ _ none_named (eq-eqb (magic_of byte) FS_MAGIC says.root.magic))
-    (turn _ _ none_named none_named (Ok all) (demand-passed _ _ none_named (good_count (block_count byte) count least most))
-    (turn _ _ none_named none_named (Ok all) (demand-passed _ _ none_named (eq-eqb (kind_of byte root_place) FTYPE_DIR says.root.kind))
+    (turn _ _ none_named none_named (Ok all) (demand_passes _ _ none_named (long_enough (block_count byte) count least))
+    (turn _ _ none_named none_named (Ok all) (demand_passes _ _ none_named (eq-eqb (magic_of byte) FS_MAGIC says.root.magic))
+    (turn _ _ none_named none_named (Ok all) (demand_passes _ _ none_named (good_count (block_count byte) count least most))
+    (turn _ _ none_named none_named (Ok all) (demand_passes _ _ none_named (eq-eqb (kind_of byte root_place) FTYPE_DIR says.root.kind))
     (tree-named byte blocks files good says)))))
   where
     long_enough : (n : ℕ) → n ≡ blocks → 4 ≤ blocks → (nat_le (3 * BLKSIZE) total && nat_le (BLKSIZE * n) total) ≡ true

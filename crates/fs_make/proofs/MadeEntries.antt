@@ -12,10 +12,10 @@ use Rattle.fs_layout.specs.Layout.{word_at, zeros, entry_at, entry_bytes, words_
 use Rattle.fs_layout.specs.FileTree.{blocks_of}
 use Rattle.fs_layout.specs.DiskImage.{size_of, kind_of, direct_of, indirect_of, number_in_indirect, number_of, blocks_needed}
 use Rattle.fs_layout.specs.DiskFiles.{file_byte, file_bytes}
-use Rattle.fs_layout.proofs.Written.{Stands, entry-back}
+use Rattle.fs_layout.proofs.Written.{Stands, entry-back, stands-first}
 use Rattle.fs_make.specs.MadeImage.{direct_numbers, indirect_number, made_entry}
 use Rattle.fs_make.proofs.Walks.{LaidFrom}
-use Rattle.fs_make.proofs.Standing.{stands-first, values_below-is}
+use Rattle.fs_make.proofs.Standing.{values_below-is}
 use Rattle.fs_make.proofs.FileNames.{length-field}
 use Rattle.fs_make.proofs.MadeNodes.{further_number, NodeStands}
 

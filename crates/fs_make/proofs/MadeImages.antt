@@ -17,15 +17,17 @@ use Rattle.fs_layout.specs.FileTree.{bitmap_blocks}
 use Rattle.fs_layout.specs.DiskImage.{root_place, size_of}
 use Rattle.fs_layout.specs.DiskImage.{is_empty_record, number_of, slot_count, slot_place, first_data_block}
 use Rattle.fs_layout.specs.DiskFiles.{file_byte}
-use Rattle.fs_layout.proofs.Written.{Stands, stands-whole, length-bytes_of_words, length-zeros, length-entry_bytes}
+use Rattle.fs_layout.proofs.Written.{Stands, stands-whole, length-zeros, length-entry_bytes}
 use Rattle.fs_make.specs.MakeFaults.{root_size, span_of, spans_of, blocks_used}
 use Rattle.fs_make.specs.MadeImage.{made_entry, node_blocks, files_entries, files_blocks, root_bytes, bitmap_byte, bitmap_bytes}
 use Rattle.fs_make.specs.MadeImage.{first_file_block, made_super, made_image}
 use Rattle.fs_make.proofs.MadeRecords.{file_at, starts_at, starts-within, Faultless, SaysRoot, SaysFile, Says}
-use Rattle.fs_make.proofs.Standing.{stands-first, stands-rest, get_or-zeros, word-stands, words-rest}
+use Rattle.fs_make.proofs.Standing.{get_or-zeros, words-rest}
 use Rattle.fs_make.proofs.FileNames.{file-name, name-read, name-some}
 use Rattle.fs_make.proofs.MadeNodes.{length-node, node-stands}
 use Rattle.fs_make.proofs.MadeEntries.{RecordSays, InRange, entry-fits, record-says, laid-from, entry-name, file-byte, file-bytes}
+use Rattle.fs_layout.proofs.Written.{stands-first, stands-rest, word-back}
+use Rattle.jos_base.proofs.WordBytes.{length-bytes_of_words}
 
 -- ---- the records of the files
 
@@ -318,8 +320,8 @@ parts-say_root byte blocks files good parts =
     let node = node-stands byte (first_data_block blocks) (root_bytes (first_file_block blocks files) files) range.first_low parts.root in
     let room : blocks_used blocks files ≤ blocks = good.room in
     record {
-      magic = word-stands byte BLKSIZE FS_MAGIC (blocks ∷ []) (omega arith) words;
-      count = word-stands byte (BLKSIZE + 4) blocks [] (low blocks good.at_most) (words-rest byte BLKSIZE FS_MAGIC (blocks ∷ []) words);
+      magic = word-back byte BLKSIZE FS_MAGIC (blocks ∷ []) (omega arith) words;
+      count = word-back byte (BLKSIZE + 4) blocks [] (low blocks good.at_most) (words-rest byte BLKSIZE FS_MAGIC (blocks ∷ []) words);
       in_use = λ b lt. ap (λ (n : ℕ). n == 1)
           (ap (λ (n : ℕ). bit_at n (b % 8)) (bitmap-says byte blocks (blocks_used blocks files) b parts.bitmap (before b (blocks_used blocks files) room lt))
           ∙ bit-used (blocks_used blocks files) b lt);

@@ -11,10 +11,11 @@ use Rattle.jos_base.specs.TrapFrames.{bytes_of_words}
 use Rattle.fs_layout.specs.declared.numbers.TheConstants.{BLKSIZE, NDIRECT, NINDIRECT, MAXBLOCKS}
 use Rattle.fs_layout.specs.Layout.{word_at, zeros}
 use Rattle.fs_layout.specs.FileTree.{blocks_of, needs_indirect}
-use Rattle.fs_layout.proofs.Written.{Stands, length-bytes_of_words, length-zeros}
+use Rattle.fs_layout.proofs.Written.{Stands, length-zeros, stands-first, stands-rest}
 use Rattle.fs_make.specs.MakeFaults.{span_of}
 use Rattle.fs_make.specs.MadeImage.{padded, node_blocks}
-use Rattle.fs_make.proofs.Standing.{stands-first, stands-rest, words-stand}
+use Rattle.fs_make.proofs.Standing.{words-stand}
+use Rattle.jos_base.proofs.WordBytes.{length-bytes_of_words}
 
 -- ---- lists of numbers
 

@@ -6,7 +6,6 @@ use Rattle.std.specs.Result.{result_unwrap_or}
 use Rattle.std.proofs.lemmas.Bool.{cases_lt, eq-eqb}
 use Rattle.std.proofs.lemmas.Bool.Decides.{nat_tests}
 use Rattle.std.proofs.lemmas.List.{get_or_append_left, get_or-append_right, get_or-replicate, length-replicate, length-map}
-use Rattle.jos_base.specs.Counting.{total}
 use Rattle.jos_host.specs.MemHost.{Named}
 use Rattle.fs_layout.specs.declared.numbers.TheConstants.{RECORDSIZE, NDIRECT, FTYPE_REG, FTYPE_DIR}
 use Rattle.fs_layout.specs.FileTree.{a_directory, Records, records_from, needs_indirect}
@@ -24,6 +23,7 @@ use Rattle.fs_make.proofs.Faultless.{faultless}
 use Rattle.fs_make.proofs.MadeImages.{made-says}
 use Rattle.fs_make.proofs.MadeRecords.{file_at, slots-enough, Faultless, Says}
 use Rattle.fs_make.proofs.MadeDisks.{tree-named}
+use Rattle.jos_base.proofs.Sums.{total-none}
 
 -- ---- the tree
 
@@ -116,15 +116,6 @@ root-is byte blocks files records says are =
     rw (directory, are, indirect) refl
 
 -- ---- the blocks that nothing names
-
--- a sum of nothing
-total-none : (n : ℕ) (g : ℕ → ℕ) → ((b : ℕ) → b < n → g b ≡ 0) → total n g ≡ 0
-unfolding total
-total-none zero g none = refl
-total-none (suc n) g none =
-    let rest = total-none n g (λ b lt. none b (omega arith)) in
-    let here = none n (omega arith) in
-    omega arith
 
 -- those that are named
 blocks-named : (byte : ℕ → ℕ) (blocks : ℕ) (files : List Named) → Faultless blocks files → Says byte blocks files →

@@ -8,17 +8,14 @@ use Rattle.jos_base.specs.Words.{upd}
 use Rattle.fs_layout.specs.declared.numbers.TheConstants.{NDIRECT, NINDIRECT, MAXFILESIZE}
 use Rattle.fs_layout.specs.FileTree.{needs_indirect, blocks_taken}
 use Rattle.fs_layout.specs.DiskImage.{ImageFault, Range, NamedTwice, MarkedFree, Stray, Blocks, none_named, Test, demand}
-use Rattle.fs_layout.specs.DiskImage.{only_where, after, in_turn, for_each_below, some_below, block_count, is_data_block}
+use Rattle.fs_layout.specs.DiskImage.{only_where, after, in_turn, for_each_below, block_count, is_data_block}
 use Rattle.fs_layout.specs.DiskImage.{is_marked_free, size_of, kind_of, direct_of, indirect_of, number_in_indirect, has_indirect}
 use Rattle.fs_layout.specs.DiskImage.{blocks_needed, block_test, number_test, indirect_test, numbers_tests, has_stray}
 use Rattle.fs_layout.specs.DiskImage.{has_stray_in_indirect, stray_tests, is_good_size, record_tests}
+use Rattle.fs_layout.proofs.OneTest.{demand_passes, where_not, where_so}
+use Rattle.fs_layout.proofs.Below.{some_below-none}
 
 -- ---- tests that pass
-
--- a condition that holds
-pub demand-passed : (passes : Bool) (fault : ImageFault) (named : Blocks) → passes ≡ true → demand passes fault named ≡ Ok named
-demand-passed true fault named e = refl
-demand-passed false fault named e = cc
 
 -- a test that passes, and those after it
 pub turn : (test : Test) (tests : List Test) (named then : Blocks) (last : Result Blocks ImageFault) → test named ≡ Ok then →
@@ -30,22 +27,6 @@ turn test tests named then last first rest = ap (λ (r : Result Blocks ImageFaul
 pub no_turn : (named : Blocks) → in_turn [] named ≡ Ok named
 unfolding in_turn
 no_turn named = refl
-
--- a test that is not made, and one that is
-pub skipped : (made : Bool) (test : Test) (named : Blocks) → made ≡ false → only_where made test named ≡ Ok named
-skipped true test named e = cc
-skipped false test named e = refl
-
-pub taken : (made : Bool) (test : Test) (named : Blocks) → made ≡ true → only_where made test named ≡ test named
-taken true test named e = refl
-taken false test named e = cc
-
--- none passes
-pub some_below-none : (n : ℕ) (passes : ℕ → Bool) → ((i : ℕ) → i < n → passes i ≡ false) → some_below n passes ≡ false
-unfolding some_below
-some_below-none zero passes fails = refl
-some_below-none (suc n) passes fails =
-    (λ k. some_below-none n passes (λ i lt. fails i (omega arith)) k || passes n) ∙ fails n (omega arith)
 
 -- ---- the blocks from one on and before another
 
@@ -104,11 +85,11 @@ block-names byte first used block use_is from to =
     let old : Blocks = between first block in
     let new : Blocks = between first (suc block) in
     turn (demand (is_data_block (block_count byte) block) (Range block)) _ old old (Ok new)
-    (demand-passed _ _ old (use_is.first_data block from to))
+    (demand_passes _ _ old (use_is.first_data block from to))
     (turn (demand (not (old block)) (NamedTwice block)) _ old old (Ok new)
-    (demand-passed _ _ old (ap not (between-new first block)))
+    (demand_passes _ _ old (ap not (between-new first block)))
     (turn (demand (not (is_marked_free byte block)) (MarkedFree block)) _ old old (Ok new)
-    (demand-passed _ _ old (ap not (use_is.marked block to)))
+    (demand_passes _ _ old (ap not (use_is.marked block to)))
     (turn (λ before. Ok (upd before block true)) [] old new (Ok new)
     (ap (λ (b : Blocks). Ok b) (between-more first block from))
     (no_turn new))))
@@ -123,7 +104,7 @@ number-names byte place first used number use_is from to =
     let positive : 0 < number = omega (arith, use_is.some) in
     let other : not (number == 0) ≡ true = grind (arith, nat_tests) in
     turn _ (block_test byte number ∷ []) old old (Ok new)
-    (demand-passed _ _ old other)
+    (demand_passes _ _ old other)
     (turn (block_test byte number) [] old new (Ok new) (block-names byte first used number use_is from to) (no_turn new))
 
 -- the same of a number that is read
@@ -182,7 +163,7 @@ numbers-direct byte place first used from use_is le laid few within =
     turn _ _ (between first from) new last
     (numbers-name byte place first used (min needed NDIRECT) from (from + needed) (direct_of byte place) use_is le (omega arith) within
     (λ i lt. laid.direct i (omega arith) (omega arith)))
-    (turn _ _ new new last (skipped _ (number_test byte place (indirect_of byte place)) new not_made)
+    (turn _ _ new new last (where_not _ (number_test byte place (indirect_of byte place)) new not_made)
     (turn _ _ new new last
     (numbers-name byte place first used (needed - NDIRECT) (from + needed) (from + needed) (number_in_indirect byte place) use_is (omega arith) (omega arith) within
     (λ i lt. absurd (omega arith)))
@@ -204,7 +185,7 @@ numbers-indirect byte place first used from use_is le laid many within =
     (numbers-name byte place first used (min needed NDIRECT) from (from + NDIRECT) (direct_of byte place) use_is le (omega arith) (omega arith)
     (λ i lt. laid.direct i (omega arith) (omega arith)))
     (turn _ _ ten eleven last
-    (taken _ (number_test byte place (indirect_of byte place)) ten made
+    (where_so _ (number_test byte place (indirect_of byte place)) ten made
     ∙ number-read byte place first used (from + NDIRECT) (indirect_of byte place) use_is (omega arith) (omega arith) (laid.indirect many))
     (turn _ _ eleven new last
     (numbers-name byte place first used (needed - NDIRECT) (suc (from + NDIRECT)) (from + needed + 1) (number_in_indirect byte place) use_is (omega arith) (omega arith) within
@@ -234,7 +215,7 @@ numbers-named byte place first used from use_is le laid within = elim (cases_lt 
 -- the record's own
 not-stray : (byte : ℕ → ℕ) (place from : ℕ) → LaidFrom byte place from → has_stray byte place ≡ false
 unfolding has_stray
-not-stray byte place from laid = some_below-none NDIRECT _ (λ i lt. at i lt)
+not-stray byte place from laid = some_below-none _ NDIRECT (λ i lt. at i lt)
   where
     at : (i : ℕ) → i < NDIRECT → (nat_le (blocks_needed byte place) i && not (direct_of byte place i == 0)) ≡ false
     at i lt = grind (arith, nat_tests, laid.no_more_direct i lt)
@@ -243,7 +224,7 @@ not-stray byte place from laid = some_below-none NDIRECT _ (λ i lt. at i lt)
 not-stray_in_indirect : (byte : ℕ → ℕ) (place from : ℕ) → LaidFrom byte place from → NDIRECT < blocks_needed byte place →
     has_stray_in_indirect byte place ≡ false
 unfolding has_stray_in_indirect
-not-stray_in_indirect byte place from laid many = some_below-none NINDIRECT _ (λ i lt. at i lt)
+not-stray_in_indirect byte place from laid many = some_below-none _ NINDIRECT (λ i lt. at i lt)
   where
     at : (i : ℕ) → i < NINDIRECT → (nat_le (blocks_needed byte place) (NDIRECT + i) && not (number_in_indirect byte place i == 0)) ≡ false
     at i lt = grind (arith, nat_tests, laid.no_further many i lt)
@@ -252,10 +233,10 @@ not-stray_in_indirect byte place from laid many = some_below-none NINDIRECT _ (�
 strays-passed : (byte : ℕ → ℕ) (place from : ℕ) (named : Blocks) → LaidFrom byte place from → in_turn (stray_tests byte place) named ≡ Ok named
 unfolding stray_tests
 strays-passed byte place from named laid =
-    turn _ _ named named (Ok named) (demand-passed _ _ named (ap not (not-stray byte place from laid)))
+    turn _ _ named named (Ok named) (demand_passes _ _ named (ap not (not-stray byte place from laid)))
     (turn _ _ named named (Ok named) (elim (cases_lt NDIRECT (blocks_needed byte place)) [
-      | inr few ↦ skipped _ _ named (no_number (laid.no_indirect few))
-      | inl many ↦ only (demand (not (has_stray_in_indirect byte place)) (Stray place)) (has_indirect byte place) (demand-passed _ _ named (ap not (not-stray_in_indirect byte place from laid many)))
+      | inr few ↦ where_not _ _ named (no_number (laid.no_indirect few))
+      | inl many ↦ only (demand (not (has_stray_in_indirect byte place)) (Stray place)) (has_indirect byte place) (demand_passes _ _ named (ap not (not-stray_in_indirect byte place from laid many)))
     ])
     (no_turn named))
   where
@@ -278,7 +259,7 @@ record-named byte place first used from use_is le laid within good =
     let new : Blocks = between first (from + span_at byte place) in
     let needed_fits = laid.fits in
     let short : nat_le (size_of byte place) MAXFILESIZE ≡ true = grind (arith, nat_tests) in
-    turn _ _ old old (Ok new) (demand-passed _ _ old good)
-    (turn _ _ old old (Ok new) (demand-passed _ _ old short)
+    turn _ _ old old (Ok new) (demand_passes _ _ old good)
+    (turn _ _ old old (Ok new) (demand_passes _ _ old short)
     (turn _ _ old new (Ok new) (numbers-named byte place first used from use_is le laid within)
     (turn _ _ new new (Ok new) (strays-passed byte place from new laid) (no_turn new))))

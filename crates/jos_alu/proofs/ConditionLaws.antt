@@ -120,7 +120,7 @@ below_equal : (a b m r : ℕ) → a < m → b < m → (b ≤ a → r ≡ a - b) 
 below_equal a b m r ha hb ge lt = grind (arith, nat_tests)
 
 -- the lowest bits of a small number are the number
-small : (width : Width) (n : ℕ) → n < modulus width → n % modulus width ≡ n
+pub small : (width : Width) (n : ℕ) → n < modulus width → n % modulus width ≡ n
 small width n h = mod-eq_of_lt h
 
 signs_at : (width : Width) (a b : ℕ) → Bool

@@ -5,12 +5,12 @@ use Rattle.std.specs.Int.{w8, w16, w32, cast_signed}
 use Rattle.std.proofs.Math.Bool.{beq}
 use Rattle.std.proofs.lemmas.Int.{ints}
 use Rattle.std.proofs.lemmas.Bool.Decides.{nat_tests}
-use Rattle.std.proofs.Math.Nat.{mod-eq_of_lt, mod-mod}
-use Rattle.jos_alu.specs.declared.width.Width.{Width}
+use Rattle.std.proofs.Math.Nat.{mod-mod}
 use Rattle.jos_alu.specs.declared.width.Width.TheVariants.{Bits8, Bits16, Bits32}
-use Rattle.jos_alu.specs.Flags.{modulus, flags_of_sum, flags_of_difference}
+use Rattle.jos_alu.specs.Flags.{flags_of_sum, flags_of_difference}
 use Rattle.jos_alu.specs.Products.{signed_of, fits_in}
 use Rattle.jos_alu.specs.Laws.{OverflowsSigned}
+use Rattle.jos_alu.proofs.ConditionLaws.{small}
 
 sum_byte : (a b c : ℕ) → a < 256 → b < 256 → c < 2 →
     (beq (nat_le 128 a) (nat_le 128 b) && not (beq (nat_le 128 a) (nat_le 128 ((a + b + c) % 256))))
@@ -41,10 +41,6 @@ difference_word : (a b c : ℕ) → a < 2 ^ 32 → b < 2 ^ 32 → c < 2 →
     (not (beq (nat_le (2 ^ 31) a) (nat_le (2 ^ 31) b)) && not (beq (nat_le (2 ^ 31) a) (nat_le (2 ^ 31) ((a + 2 ^ 33 - (b + c)) % 2 ^ 32))))
     ≡ not (int_le (negsuc 2147483647) (cast_signed w32 a -ℤ cast_signed w32 b -ℤ pos c) && int_lt (cast_signed w32 a -ℤ cast_signed w32 b -ℤ pos c) (pos 2147483648))
 difference_word a b c ha hb hc = grind (arith, ints, nat_tests)
-
--- the lowest bits of a small number are the number
-small : (width : Width) (n : ℕ) → n < modulus width → n % modulus width ≡ n
-small width n h = mod-eq_of_lt h
 
 pub overflows : OverflowsSigned
 unfolding flags_of_sum flags_of_difference fits_in signed_of

@@ -2,13 +2,13 @@
 use Rattle.std.proofs.Common.{◌≡◌, ℕ, zero, suc, ◌+◌, ◌-◌, ◌*◌, ◌%◌, ◌^◌, ◌≤◌, All, Bool, true, false, List, [], ◌∷◌}
 use Rattle.std.proofs.Common.{◌++◌, length, take, drop, Option, Some, None, refl, sym, ap, ◌∙◌, cond, arith}
 use Rattle.std.proofs.Common.{append_assoc, length-append}
-use Rattle.std.specs.Prelude.{is_some, nat_le, not, unwrap_or, ◌||◌, IsTrue}
+use Rattle.std.specs.Prelude.{is_some, nat_le, not, unwrap_or, IsTrue}
 use Rattle.std.specs.List.{list_any}
 use Rattle.std.specs.Str.{bytes_eq}
 use Rattle.std.proofs.Math.Seq.{take-append_seam}
 use Rattle.std.proofs.lemmas.List.{drop_at}
 use Rattle.std.proofs.lemmas.Slice.Eq.{bytes_eq-Decides}
-use Rattle.std.proofs.lemmas.Bool.{leb-true, leb-false}
+use Rattle.std.proofs.lemmas.Bool.{leb-true, leb-false, or_parts}
 use Rattle.jos_isa.specs.Encoding.{encoded}
 use Rattle.jos_asm.specs.declared.limits.TheConstants.{CODE_MAX}
 use Rattle.jos_asm.specs.declared.item.Item.{Item}
@@ -18,6 +18,7 @@ use Rattle.jos_asm.specs.Program.{Program, length_of_all, bytes_of, distance, pl
 use Rattle.jos_asm.specs.Program.{is_unknown, first_unknown, first_twice, spelled_from}
 use Rattle.jos_asm.specs.Laid.{StandsAt, IsLaid, AreLaidFrom, AreLaid}
 use Rattle.jos_asm.proofs.Passes.{bytes_len, place_within}
+use Rattle.jos_base.proofs.Options.{cond_none}
 
 stands : (code front bytes rest : List ℕ) (at : ℕ) → length front ≡ at → code ≡ front ++ (bytes ++ rest) → StandsAt code at bytes
 stands code front bytes rest at long is = ap (λ (l : List ℕ). take (length bytes) l) (ap (drop at) is ∙ drop_at front (bytes ++ rest) at long) ∙ take-append_seam bytes rest
@@ -57,21 +58,13 @@ names_with before (item.Bytes bytes) = before
 abbrev has : List (List ℕ) → List ℕ → Bool
 has before name = list_any (λ earlier. bytes_eq earlier name) before
 
-none_twice : (b : Bool) (name : List ℕ) (later : Option (List ℕ)) → cond b (Some name) later ≡ None → (b ≡ false) × (later ≡ None)
-none_twice true name later h = absurd cc
-none_twice false name later h = (refl, h)
-
 twice_next : (before : List (List ℕ)) (i : Item) (items : List Item) → first_twice before (i ∷ items) ≡ None → first_twice (names_with before i) items ≡ None
 unfolding first_twice
-twice_next before (item.Label name) items h = (none_twice (has before name) name (first_twice (name ∷ before) items) h).1
+twice_next before (item.Label name) items h = (cond_none (has before name) name (first_twice (name ∷ before) items) h).1
 twice_next before (item.Insn insn) items h = h
 twice_next before (item.Jump row name) items h = h
 twice_next before (item.Address reg name) items h = h
 twice_next before (item.Bytes bytes) items h = h
-
-both_false : (a b : Bool) → (a || b) ≡ false → (a ≡ false) × (b ≡ false)
-both_false true b h = absurd cc
-both_false false b h = (refl, h)
 
 -- where a label is that no earlier one is named by
 abbrev Later : Program → List (List ℕ) → ℕ → List Item → Type 0
@@ -80,7 +73,7 @@ Later p before at items = (name : List ℕ) → has before name ≡ false → pl
 later_next : (p : Program) (before : List (List ℕ)) (at : ℕ) (i : Item) (items : List Item) → Later p before at (i ∷ items) → Later p (names_with before i) (at + length_of i) items
 unfolding place_from
 later_next p before at (item.Label label) items h name absent =
-    let two = both_false (bytes_eq label name) (has before name) absent in
+    let two = or_parts (bytes_eq label name) (has before name) absent in
     ap (λ b. cond b (Some at) (place_from (at + 0) items name)) (sym two.0) ∙ h name two.1
 later_next p before at (item.Insn insn) items h name absent = h name absent
 later_next p before at (item.Jump row label) items h name absent = h name absent
@@ -91,7 +84,7 @@ label_here : (p : Program) (before : List (List ℕ)) (at : ℕ) (label : List �
     → place_in p.items label ≡ Some at
 unfolding place_from first_twice
 label_here p before at label items h once =
-    let absent = (none_twice (has before label) label (first_twice (label ∷ before) items) once).0 in
+    let absent = (cond_none (has before label) label (first_twice (label ∷ before) items) once).0 in
     sym (h label absent) ∙ ap (λ b. cond b (Some at) (place_from (at + 0) items label)) ((bytes_eq-Decides label label).1 refl)
 
 -- ---- items

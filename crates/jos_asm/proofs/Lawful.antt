@@ -2,7 +2,7 @@
 use Rattle.std.proofs.Common.{◌≡◌, ℕ, zero, suc, ◌<◌, Bool, true, false, refl, sym, subst, arith, inl, inr, length}
 use Rattle.std.proofs.Common.{◌∙◌, ◌+◌, ◌*◌, ◌-◌, ◌^◌, ◌≤◌, cond}
 use Rattle.std.specs.Prelude.{◌||◌, not, nat_lt, nat_le, IsTrue}
-use Rattle.std.proofs.lemmas.Bool.{ltb-true, lt-ltb, leb-true, le-leb}
+use Rattle.std.proofs.lemmas.Bool.{ltb-true, lt-ltb, leb-true, le-leb, and_parts, or_left, or_right}
 use Rattle.jos_isa.specs.declared.instruction.Row.{Row}
 use Rattle.jos_isa.specs.declared.instruction.Row.TheVariants as row
 use Rattle.jos_isa.specs.OpcodeMap.{format_at, entry_at, from_70, from_b0, from_d0, format_behind, two_byte_at}
@@ -10,10 +10,11 @@ use Rattle.jos_isa.specs.RowOpcodes.{opcode_of, format_in}
 use Rattle.jos_isa.specs.Lawful.{is_numbered, is_named, is_immediate, fits_format, format_for, is_lawful}
 use Rattle.jos_isa.specs.Encoding.{encoded, immediate_bytes, opcode_bytes, format_bytes}
 use Rattle.jos_isa.specs.Moves.{mov}
-use Rattle.jos_isa.proofs.Booleans.{last_or_below, both_true, no_false, left_true, right_true}
+use Rattle.jos_isa.proofs.Booleans.{no_false}
 use Rattle.jos_asm.specs.declared.limits.TheConstants.{CODE_MAX, NEAR_BACK, NEAR_AHEAD}
 use Rattle.jos_asm.specs.Items.{is_relative, is_byte_jump, relative_length, relative}
 use Rattle.jos_asm.specs.Program.{distance, is_near, reaches}
+use Rattle.jos_base.proofs.Bounds.{below_or_last}
 
 -- P of each number below a bound
 abbrev AllBelow : (ℕ → Type 0) → ℕ → Type 0
@@ -22,9 +23,9 @@ AllBelow P (suc n) = P n × AllBelow P n
 
 each_below : (P : ℕ → Type 0) (n : ℕ) → AllBelow P n → (i : ℕ) → i < n → P i
 each_below P zero h i small = absurd (omega arith)
-each_below P (suc n) h i small = elim (last_or_below i n small) [
-  | inl e ↦ subst P (sym e) h.0
-  | inr less ↦ each_below P n h.1 i less
+each_below P (suc n) h i small = elim (below_or_last i n small) [
+  | inr e ↦ subst P (sym e) h.0
+  | inl less ↦ each_below P n h.1 i less
 ]
 
 -- a word that a signed byte stands for
@@ -111,14 +112,14 @@ signed_byte : (behind place : ℕ) → is_near behind place ≡ true → behind 
 signed_byte behind place near small = go (nat_le behind place) refl
   where
     back : behind ≤ place + NEAR_BACK
-    back = leb-true behind (place + NEAR_BACK) (both_true (nat_le behind (place + NEAR_BACK)) (nat_le place (behind + NEAR_AHEAD)) near).0
+    back = leb-true behind (place + NEAR_BACK) (and_parts (nat_le behind (place + NEAR_BACK)) (nat_le place (behind + NEAR_AHEAD)) near).0
 
     ahead : place ≤ behind + NEAR_AHEAD
-    ahead = leb-true place (behind + NEAR_AHEAD) (both_true (nat_le behind (place + NEAR_BACK)) (nat_le place (behind + NEAR_AHEAD)) near).1
+    ahead = leb-true place (behind + NEAR_AHEAD) (and_parts (nat_le behind (place + NEAR_BACK)) (nat_le place (behind + NEAR_AHEAD)) near).1
 
     go : (b : Bool) → nat_le behind place ≡ b → is_signed_byte (cond b (place - behind) (2 ^ 32 - (behind - place))) ≡ true
-    go true e = let d = place - behind in left_true (nat_lt d 0x80) (nat_le 0xffff_ff80 d) (lt-ltb d 0x80 (omega (arith, ahead)))
-    go false e = let d = 2 ^ 32 - (behind - place) in right_true (nat_lt d 0x80) (nat_le 0xffff_ff80 d) (le-leb 0xffff_ff80 d (omega (arith, back)))
+    go true e = let d = place - behind in or_left (nat_lt d 0x80) (nat_le 0xffff_ff80 d) (lt-ltb d 0x80 (omega (arith, ahead)))
+    go false e = let d = 2 ^ 32 - (behind - place) in or_right (nat_lt d 0x80) (nat_le 0xffff_ff80 d) (le-leb 0xffff_ff80 d (omega (arith, back)))
 
 reaching : (r : Row) (behind place : ℕ) → reaches r behind place ≡ true → behind ≤ 2 * CODE_MAX → is_byte_jump r ≡ true → is_signed_byte (distance behind place) ≡ true
 reaching r behind place h small byte = signed_byte behind place (only_right (is_byte_jump r) (is_near behind place) byte h) small

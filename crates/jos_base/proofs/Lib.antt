@@ -1,9 +1,11 @@
 pub mod Maps
 pub mod Puts
+pub mod Bounds
 pub mod Lists
 pub mod Options
 pub mod Sums
 pub mod Counts
+pub mod Released
 pub mod Uses
 pub mod Walks
 pub mod WordBytes

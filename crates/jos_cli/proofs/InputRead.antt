@@ -1,29 +1,22 @@
 -- Input that is taken piece by piece.
 use Rattle.std.proofs.Common.{◌≡◌, ℕ, ◌+◌, ◌-◌, ◌<◌, ◌≤◌, suc, List, ◌++◌, length, take, drop, Option, Some, None, Ok, Err}
-use Rattle.std.proofs.Common.{refl, sym, ap, subst, ◌∙◌, arith, le_refl, drop_at}
-use Rattle.std.proofs.lemmas.List.{length-take-le, length-drop, take_at, take-append-le, drop-drop}
-use Rattle.std.proofs.lemmas.Slice.{take-put_mid_below}
+use Rattle.std.proofs.Common.{refl, sym, ap, subst, ◌∙◌, arith}
+use Rattle.std.proofs.lemmas.List.{length-take-le, length-drop, take_at, drop-drop}
 use Rattle.std.proofs.Math.Seq.{take-add}
 use Rattle.std.specs.Option.{option_map}
-use borrow.Rule.Slice.PartMut.{put_mid, post_of}
+use borrow.Rule.Slice.PartMut.{put_mid}
 use Rattle.jos_host.specs.Told.{ReadsInput}
 use Rattle.jos_base.specs.declared.numbers.TheConstants.{INPUT_MAX}
 use Rattle.jos_cli.specs.declared.outcome.Which.TheVariants.{Input}
 use Rattle.jos_cli.specs.Found.{IsInput}
 use Rattle.jos_cli.specs.InputTaken.{HasTaken}
 use Rattle.jos_cli.specs.Answer.{limit, input_of}
-use Rattle.jos_cli.proofs.Reading.{zeros, length-zeros, within, past}
+use Rattle.jos_cli.proofs.Reading.{within, past}
+use Rattle.fs_layout.proofs.Written.{length-zeros}
+use Rattle.jos_host.proofs.Filled.{filled-put_mid}
+use Rattle.fs_layout.specs.Layout.{zeros}
 
 -- ---- one more piece
-
--- what the buffer has after a piece is put behind the first bytes
-taken-put_mid : (n k count : ℕ) (buffer part : List ℕ) → n ≤ length buffer → count ≤ length part →
-    take (n + count) (put_mid n k buffer part) ≡ take n buffer ++ take count part
-taken-put_mid n k count buffer part within fits =
-    take-add n count (put_mid n k buffer part)
-    ∙ ap (λ (l : List ℕ). l ++ take count (drop n (put_mid n k buffer part))) (take-put_mid_below n k buffer part n (le_refl n) within)
-    ∙ ap (λ (l : List ℕ). take n buffer ++ take count l) (drop_at (take n buffer) (part ++ post_of n k buffer) n (length-take-le n buffer within))
-    ∙ ap (λ (l : List ℕ). take n buffer ++ l) (take-append-le count part (post_of n k buffer) fits)
 
 module _ (E : Type 0) (mid new : Option (List ℕ)) (buffer rest part : List ℕ) (n k count : ℕ) (inside : n ≤ length buffer) (fits : count ≤ length part)
     (reads : ReadsInput {E = E} mid new rest part (Ok count)) where
@@ -38,7 +31,7 @@ module _ (E : Type 0) (mid new : Option (List ℕ)) (buffer rest part : List ℕ
       ap (take count) took.2.taken ∙ take_at (take count (drop n all)) (drop count rest) count (length-take-le count (drop n all) front) in (
         omega arith,
         took.1 ∙ ap (λ l. Some l) (took.2.left ∙ drop-drop count n all),
-        taken-put_mid n k count buffer part inside fits ∙ (λ i. h.2 i ++ piece i) ∙ sym (take-add n count all),
+        filled-put_mid n k count buffer part inside fits ∙ (λ i. h.2 i ++ piece i) ∙ sym (take-add n count all),
       )
 
 -- ---- the limit

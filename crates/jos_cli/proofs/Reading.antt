@@ -1,5 +1,5 @@
 -- What was read, as it is judged.
-use Rattle.std.proofs.Common.{◌≡◌, ◌≢◌, ℕ, ◌<◌, ◌≤◌, nat_lt, zero, suc, true, false, List, [], ◌∷◌, ◌++◌, length, Option, Some, None, Ok, Err}
+use Rattle.std.proofs.Common.{◌≡◌, ◌≢◌, ℕ, ◌<◌, ◌≤◌, nat_lt, suc, true, false, List, [], ◌∷◌, ◌++◌, length, Option, Some, None, Ok, Err}
 use Rattle.std.proofs.Common.{Result, refl, sym, ap, subst, ◌∙◌, arith}
 use Rattle.std.proofs.lemmas.Bool.Decides.{nat_tests}
 use Rattle.std.specs.Prelude.{⊤, MatchOption}
@@ -23,17 +23,10 @@ use Rattle.jos_cli.specs.declared.outcome.Outcome.{Outcome}
 use Rattle.jos_cli.specs.declared.outcome.Outcome.TheVariants.{HostFault}
 use Rattle.jos_cli.specs.Kinds.{Kind, answered, cut_off, no_memory, kind_of}
 use Rattle.jos_cli.specs.Stages.{RefusesBy, refusal_of}
+use Rattle.fs_layout.proofs.Written.{length-zeros}
+use Rattle.fs_layout.specs.Layout.{zeros}
 
 -- ---- a file
-
-unfoldable pub zeros : ℕ → List ℕ
-zeros zero = []
-zeros (suc n) = 0 ∷ zeros n
-
-pub length-zeros : (n : ℕ) → length (zeros n) ≡ n
-unfolding zeros
-length-zeros zero = refl
-length-zeros (suc n) = ap suc (length-zeros n)
 
 pub within : (most : ℕ) (which : Which) (place : ℕ) (bytes : List ℕ) → length bytes ≤ most → bytes_of most which place (Some bytes) ≡ Ok bytes
 within most which place bytes h = let e : nat_lt most (length bytes) ≡ false = grind (arith, nat_tests) in rw e refl

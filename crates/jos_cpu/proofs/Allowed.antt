@@ -3,7 +3,6 @@ use Rattle.std.proofs.Common.{◌≡◌, ℕ, ◌*◌, zero, suc, true, List, []
 use Rattle.jos_base.specs.declared.registers.Regs.{Regs}
 use Rattle.jos_base.specs.declared.memory.Access.{Access}
 use Rattle.jos_base.specs.declared.memory.Access.TheVariants.{Write}
-use Rattle.jos_isa.proofs.Booleans.{both_true, and_true}
 use Rattle.jos_alu.specs.declared.width.Width.{Width}
 use Rattle.jos_cpu.specs.declared.accesses.Usage.{Usage}
 use Rattle.jos_cpu.specs.declared.accesses.Usage.TheVariants.{Reads, Writes, Changes}
@@ -14,24 +13,25 @@ use Rattle.jos_cpu.specs.Accesses.{length_of, access_of}
 use Rattle.jos_cpu.specs.Probes.{Probe, probes_of}
 use Rattle.jos_cpu.specs.Transfers.{Number, next_word, number_for, pushed_numbers, writes_of}
 use Rattle.jos_cpu.proofs.Agreement.{Rights}
+use Rattle.std.proofs.lemmas.Bool.{and_parts, and_from}
 
 module _ (rights : Rights) where
   -- ---- some bytes
 
   pub one : (va : ℕ) (access : Access) → all_allowed rights va 1 access ≡ true → rights va access ≡ true
   unfolding all_allowed
-  one va access h = (both_true _ _ h).0
+  one va access h = (and_parts _ _ h).0
 
   pub two : (va : ℕ) (access : Access) → all_allowed rights va 2 access ≡ true → (rights va access ≡ true) × (rights (after va) access ≡ true)
   unfolding all_allowed
-  two va access h = let a = both_true _ _ h in let b = both_true _ _ a.1 in (a.0, b.0)
+  two va access h = let a = and_parts _ _ h in let b = and_parts _ _ a.1 in (a.0, b.0)
 
   pub four : (va : ℕ) (access : Access) → all_allowed rights va 4 access ≡ true →
       (rights va access ≡ true) × (rights (after va) access ≡ true)
       × (rights (after (after va)) access ≡ true) × (rights (after (after (after va))) access ≡ true)
   unfolding all_allowed
   four va access h =
-      let a = both_true _ _ h in let b = both_true _ _ a.1 in let c = both_true _ _ b.1 in let d = both_true _ _ c.1 in
+      let a = and_parts _ _ h in let b = and_parts _ _ a.1 in let c = and_parts _ _ b.1 in let d = and_parts _ _ c.1 in
       (a.0, b.0, c.0, d.0)
 
   -- ---- so many words from an address upwards
@@ -44,9 +44,9 @@ module _ (rights : Rights) where
       (all_allowed rights va 4 access ≡ true) × (all_allowed rights (next_word va) n access ≡ true)
   unfolding all_allowed
   first_word va n access h =
-      let a = both_true _ _ h in let b = both_true _ _ a.1 in let c = both_true _ _ b.1 in let d = both_true _ _ c.1 in (
-        and_true (rights va access) _ a.0 (and_true (rights (after va) access) _ b.0
-            (and_true (rights (after (after va)) access) _ c.0 (and_true (rights (after (after (after va))) access) _ d.0 refl))),
+      let a = and_parts _ _ h in let b = and_parts _ _ a.1 in let c = and_parts _ _ b.1 in let d = and_parts _ _ c.1 in (
+        and_from (rights va access) _ a.0 (and_from (rights (after va) access) _ b.0
+            (and_from (rights (after (after va)) access) _ c.0 (and_from (rights (after (after (after va))) access) _ d.0 refl))),
         d.1,
       )
 

@@ -4,7 +4,6 @@ use Rattle.std.proofs.Common.{◌≡◌, ℕ, Bool, true, false, refl, sym, ap, 
 use Rattle.std.specs.Prelude.{◌&&◌}
 use Rattle.jos_base.specs.declared.registers.Regs.{Regs}
 use Rattle.jos_base.specs.declared.memory.Access.{Access}
-use Rattle.jos_isa.proofs.Booleans.{both_true}
 use Rattle.jos_cpu.specs.declared.memory.MemFault.{MemFault}
 use Rattle.jos_cpu.specs.declared.memory.MemFault.TheVariants.{Fence}
 use Rattle.jos_cpu.specs.declared.events.Gates.{Gates}
@@ -13,6 +12,7 @@ use Rattle.jos_cpu.specs.Steps.{step_of}
 use Rattle.jos_cpu.proofs.Agreement.{Rights, AgreesReading, AgreesWriting, SameStep}
 use Rattle.jos_cpu.proofs.Related.{same_numbers, same_step}
 use Rattle.jos_cpu.proofs.Fenced.{fenced, StaysWithin, step_within}
+use Rattle.std.proofs.lemmas.Bool.{and_parts}
 
 -- Two memories are the same within some addresses: what may be reached there, the bytes that may be, and the faults
 -- of those that may not.
@@ -30,7 +30,7 @@ module _ {M : Type 0} (within : ℕ → Bool) (stop : MemFault) (t : Memory M) (
   reading = record {
     allowed = λ {m} {n} r va access. allows (within va) (r.allowed va access);
     fault = λ {m} {n} r va access off. faults (within va) (r.fault va access) off;
-    byte = λ {m} {n} r va access on. let k = both_true _ _ on in r.byte va access k.0 k.1;
+    byte = λ {m} {n} r va access on. let k = and_parts _ _ on in r.byte va access k.0 k.1;
     reached = λ {m} {n} r va access on. record {
       allowed = λ q a i. rw (lawful.reached_rights m va access, lawful.reached_rights n va access) (r.allowed q a i);
       byte = λ q a i o.

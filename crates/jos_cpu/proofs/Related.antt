@@ -10,7 +10,6 @@ use Rattle.jos_isa.specs.declared.instruction.Insn.{Insn}
 use Rattle.jos_isa.specs.declared.decoder.Decoded.{Decoded}
 use Rattle.jos_isa.specs.declared.decoder.Decoded.TheVariants.{Found, Short, Illegal}
 use Rattle.jos_isa.specs.Decoding.{decoded}
-use Rattle.jos_isa.proofs.Booleans.{and_true}
 use Rattle.jos_alu.specs.declared.width.Width.{Width}
 use Rattle.jos_alu.specs.declared.width.Width.TheVariants.{Bits8, Bits16, Bits32}
 use Rattle.jos_cpu.specs.declared.memory.MemFault.{MemFault}
@@ -29,6 +28,7 @@ use Rattle.jos_cpu.specs.Fetch.{fetched_from, fetched_at}
 use Rattle.jos_cpu.specs.Steps.{Stepped, probes, accesses, after_probes, executed, after_fetch, step_of}
 use Rattle.jos_cpu.proofs.Agreement.{Rights, AgreesReading, AgreesWriting, SameStep}
 use Rattle.jos_cpu.proofs.Allowed.{one, two, four, all_words, AllProbed, AllWritable, all_writable}
+use Rattle.std.proofs.lemmas.Bool.{and_from}
 
 module _ {M N : Type 0} {t : Memory M} {u : Memory N} {R : M → N → Type 0} {rights : M → Rights} (h : AgreesReading t u R rights) where
   -- two probes, before which the rights were these, and what the rights allow if the probes are not refused
@@ -58,7 +58,7 @@ module _ {M N : Type 0} {t : Memory M} {u : Memory N} {R : M → N → Type 0} {
     memory = s.memory;
     refusal = s.refusal;
     stays = s.stays ∙ e;
-    passed = λ none. and_true (before va access) _ first (ap (λ g. all_allowed g (after va) len access) (sym e) ∙ s.passed none);
+    passed = λ none. and_from (before va access) _ first (ap (λ g. all_allowed g (after va) len access) (sym e) ∙ s.passed none);
   }
 
   probe : (len : ℕ) {m : M} {n : N} → R m n → (va : ℕ) (access : Access) →

@@ -1,5 +1,5 @@
 pub mod Memory
-pub mod MemoryLaws
+pub mod MemoryProofs
 pub mod Forms
 pub mod Addresses
 pub mod Accesses

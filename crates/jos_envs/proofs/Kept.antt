@@ -21,8 +21,10 @@ use Rattle.jos_envs.specs.Table.{Kept, unused, slots_of, from_last, environments
 use Rattle.jos_envs.specs.Table.{KeepsOthersLive, recent_slot}
 use Rattle.jos_envs.specs.Table.{slot_in, any_live, any_live_below, may_run}
 use Rattle.jos_envs.specs.Lawful.{Good, Lawful, place_of, IsLiveIn, free_count}
-use Rattle.jos_envs.proofs.Maps.{upd-at, upd-other, same_or, get_or-set}
 use Rattle.jos_envs.proofs.Laws.{live_is, kept_good, freed_good, taken_good, room, len_most}
+use Rattle.std.proofs.lemmas.Bool.{cases_eq}
+use Rattle.jos_base.proofs.Maps.{upd-at, upd-other}
+use Rattle.jos_base.proofs.Lists.{get_or-set}
 
 -- ---- slots of the table
 
@@ -49,7 +51,7 @@ read_is k n e ok lt is =
     ap slot_of (is ∙ get_or_default k.slots n e unused (omega (arith, len, lt))) ∙ sym (inside k.slots n lt)
 
 slots-set : (slots : List Environment) (n : ℕ) (e : Environment) → n < NENV → n < length slots → (q : ℕ) → slots_of (slice_set slots n e) q ≡ upd (slots_of slots) n (slot_of e) q
-slots-set slots n e below within q = elim (same_or q n) [
+slots-set slots n e below within q = elim (cases_eq q n) [
   | inl same ↦
       ap (slots_of (slice_set slots n e)) same ∙ inside (slice_set slots n e) n below ∙ ap slot_of (get_or-set_same slots n e unused within)
       ∙ sym (upd-at (slots_of slots) n (slot_of e)) ∙ ap (upd (slots_of slots) n (slot_of e)) (sym same)
@@ -68,7 +70,7 @@ from_last-set order k v (suc n) le =
 -- ---- who is live after a change
 
 pub with_slot-live : (e : Environments) (n : ℕ) (slot : Slot) → is_free slot.status ≡ false → KeepsLive e (with_slot e n slot)
-with_slot-live e n slot lives q live = elim (same_or q n) [
+with_slot-live e n slot lives q live = elim (cases_eq q n) [
   | inl same ↦ ap (λ z. is_live (upd e.slots n slot z)) same ∙ ap is_live (upd-at e.slots n slot) ∙ ap not lives
   | inr ne ↦ ap is_live (upd-other e.slots n slot q ne) ∙ live
 ]
@@ -273,7 +275,7 @@ module _ (k : Kept) (ok : Lawful k) (some : k.free_len ≡ 0 → ⊥) where
 
       undone_slots : (q : ℕ) → upd (slots_of taken.slots) n (free_slot last.0) q ≡ slots_of k.slots q
       unfolding environments
-      undone_slots q = elim (same_or q n) [
+      undone_slots q = elim (cases_eq q n) [
         | inl same ↦
             ap (upd (slots_of taken.slots) n (free_slot last.0)) same ∙ upd-at (slots_of taken.slots) n (free_slot last.0)
             ∙ ap free_slot last_is ∙ sym (good.cleared n taken_free) ∙ ap (slots_of k.slots) (sym same)

@@ -8,7 +8,9 @@ use Rattle.jos_base.specs.Words.{upd}
 use Rattle.jos_base.specs.Counting.{total}
 use Rattle.jos_base.specs.Environments.{Slot, is_free, is_live, is_runnable, free_slot}
 use Rattle.jos_envs.specs.Lawful.{Good, free_count}
-use Rattle.jos_envs.proofs.Maps.{upd-at, upd-other, same_or, total-change, total-le}
+use Rattle.std.proofs.lemmas.Bool.{cases_eq}
+use Rattle.jos_base.proofs.Maps.{upd-at, upd-other}
+use Rattle.jos_base.proofs.Sums.{total-change, total-le}
 
 pub live_is : (slot : Slot) → is_live slot ≡ true → is_free slot.status ≡ false
 live_is slot live = by_test (is_free slot.status) live
@@ -50,7 +52,7 @@ module _ (s : ℕ → Slot) (place : ℕ → ℕ) (len : ℕ) (r : ℕ → Bool)
   pub kept_good : n < NENV → is_free (s n).status ≡ false → is_free new.status ≡ false → (marks : ℕ → Bool) → marks n ≡ is_runnable new.status
       → ((q : ℕ) → q ≢ n → marks q ≡ r q) → Good after place len marks
   kept_good below live lives marks here there = record {
-    cleared = λ q free. elim (same_or q n) [
+    cleared = λ q free. elim (cases_eq q n) [
       | inl e ↦ (let f : is_free (after n).status ≡ true = ap (λ z. is_free (after z).status) (sym e) ∙ free in cc (at, f, lives))
       | inr ne ↦ other q ne ∙ good.cleared q (ap (λ (z : Slot). is_free z.status) (sym (other q ne)) ∙ free) ∙ ap (λ (z : Slot). free_slot z.id) (sym (other q ne))
     ];
@@ -58,7 +60,7 @@ module _ (s : ℕ → Slot) (place : ℕ → ℕ) (len : ℕ) (r : ℕ → Bool)
     listed = λ p lt. ap (λ (z : Slot). is_free z.status) (other (place p) (λ e. cc (good.listed p lt, ap (λ z. is_free (s z).status) e, live))) ∙ good.listed p lt;
     once = good.once;
     count = (let c = recount below in let a = uncounted (s n) live in let b = uncounted new lives in let d = good.count in omega (arith, c, a, b, d));
-    marked = λ q lt. elim (same_or q n) [
+    marked = λ q lt. elim (cases_eq q n) [
       | inl e ↦ ap marks e ∙ here ∙ ap (λ (z : Slot). is_runnable z.status) (sym at) ∙ ap (λ z. is_runnable (after z).status) (sym e)
       | inr ne ↦ there q ne ∙ good.marked q lt ∙ ap (λ (z : Slot). is_runnable z.status) (sym (other q ne))
     ];
@@ -80,30 +82,30 @@ module _ (s : ℕ → Slot) (place : ℕ → ℕ) (len : ℕ) (r : ℕ → Bool)
   pub freed_good : n < NENV → is_free (s n).status ≡ false → is_free new.status ≡ true → new ≡ free_slot new.id
       → Good after (upd place len n) (suc len) (upd r n false)
   freed_good below live freed clear = record {
-    cleared = λ q free. elim (same_or q n) [
+    cleared = λ q free. elim (cases_eq q n) [
       | inl e ↦ subst (λ (z : Slot). z ≡ free_slot z.id) (sym (ap after e ∙ at)) clear
       | inr ne ↦ other q ne ∙ good.cleared q (ap (λ (z : Slot). is_free z.status) (sym (other q ne)) ∙ free) ∙ ap (λ (z : Slot). free_slot z.id) (sym (other q ne))
     ];
-    within = λ p lt. elim (same_or p len) [
+    within = λ p lt. elim (cases_eq p len) [
       | inl e ↦ subst (λ z. z < NENV) (sym (ap places e ∙ here)) below
       | inr ne ↦ subst (λ z. z < NENV) (sym (there p ne)) (good.within p (omega arith))
     ];
-    listed = λ p lt. elim (same_or p len) [
+    listed = λ p lt. elim (cases_eq p len) [
       | inl e ↦ ap (λ z. is_free (after z).status) (ap places e ∙ here) ∙ ap (λ (z : Slot). is_free z.status) at ∙ freed
       | inr ne ↦ ap (λ z. is_free (after z).status) (there p ne) ∙ ap (λ (z : Slot). is_free z.status) (other (place p) (apart live p (omega arith))) ∙ good.listed p (omega arith)
     ];
-    once = λ p q lt_p lt_q same. elim (same_or p len) [
-      | inl e ↦ elim (same_or q len) [
+    once = λ p q lt_p lt_q same. elim (cases_eq p len) [
+      | inl e ↦ elim (cases_eq q len) [
         | inl f ↦ e ∙ sym f
         | inr ne ↦ absurd (apart live q (omega arith) (sym (there q ne) ∙ sym same ∙ ap places e ∙ here))
       ]
-      | inr ne ↦ elim (same_or q len) [
+      | inr ne ↦ elim (cases_eq q len) [
         | inl f ↦ absurd (apart live p (omega arith) (sym (there p ne) ∙ same ∙ ap places f ∙ here))
         | inr nf ↦ good.once p q (omega arith) (omega arith) (sym (there p ne) ∙ same ∙ there q nf)
       ]
     ];
     count = (let c = recount below in let a = uncounted (s n) live in let b = counted new freed in let d = good.count in omega (arith, c, a, b, d));
-    marked = λ q lt. elim (same_or q n) [
+    marked = λ q lt. elim (cases_eq q n) [
       | inl e ↦ ap (upd r n false) e ∙ upd-at r n false ∙ sym (free_is_still new.status freed) ∙ ap (λ (z : Slot). is_runnable z.status) (sym at) ∙ ap (λ z. is_runnable (after z).status) (sym e)
       | inr ne ↦ upd-other r n false q ne ∙ good.marked q lt ∙ ap (λ (z : Slot). is_runnable z.status) (sym (other q ne))
     ];
@@ -119,7 +121,7 @@ module _ (s : ℕ → Slot) (place : ℕ → ℕ) (len : ℕ) (r : ℕ → Bool)
 
   pub taken_good : is_free new.status ≡ false → is_runnable new.status ≡ false → Good (upd s n new) place len r
   taken_good lives still = record {
-    cleared = λ q free. elim (same_or q n) [
+    cleared = λ q free. elim (cases_eq q n) [
       | inl e ↦ (let f : is_free new.status ≡ true = ap (λ (z : Slot). is_free z.status) (sym (ap (upd s n new) e ∙ upd-at s n new)) ∙ free in cc (f, lives))
       | inr ne ↦ upd-other s n new q ne ∙ good.cleared q (ap (λ (z : Slot). is_free z.status) (sym (upd-other s n new q ne)) ∙ free) ∙ ap (λ (z : Slot). free_slot z.id) (sym (upd-other s n new q ne))
     ];
@@ -127,7 +129,7 @@ module _ (s : ℕ → Slot) (place : ℕ → ℕ) (len : ℕ) (r : ℕ → Bool)
     listed = λ p lt. ap (λ (z : Slot). is_free z.status) (upd-other s n new (place p) (λ e. (let same = good.once p len (omega arith) (omega arith) e in omega (arith, same)))) ∙ good.listed p (omega arith);
     once = λ p q lt_p lt_q same. good.once p q (omega arith) (omega arith) same;
     count = (let c = recount s place (suc len) r good n new (good.within len (omega arith)) in let a = counted (s n) was_free in let b = uncounted new lives in let d = good.count in omega (arith, c, a, b, d));
-    marked = λ q lt. elim (same_or q n) [
+    marked = λ q lt. elim (cases_eq q n) [
       | inl e ↦ good.marked q lt ∙ ap (λ z. is_runnable (s z).status) e ∙ free_is_still (s n).status was_free ∙ sym still ∙ ap (λ (z : Slot). is_runnable z.status) (sym (ap (upd s n new) e ∙ upd-at s n new))
       | inr ne ↦ good.marked q lt ∙ ap (λ (z : Slot). is_runnable z.status) (sym (upd-other s n new q ne))
     ];
@@ -144,13 +146,13 @@ free_count-le slot = by_test (is_free slot.status)
 pub room : (s : ℕ → Slot) (place : ℕ → ℕ) (len : ℕ) (r : ℕ → Bool) → Good s place len r → (n : ℕ) → n < NENV → is_free (s n).status ≡ false → len < NENV
 room s place len r good n below live =
     let change = recount s place len r good n (free_slot 0) below in
-    let all = total-le NENV (λ q. free_count (upd s n (free_slot 0) q)) (λ q. free_count-le (upd s n (free_slot 0) q)) in
+    let all = total-le NENV 1 (λ q. free_count (upd s n (free_slot 0) q)) (λ q. free_count-le (upd s n (free_slot 0) q)) in
     let a = uncounted (s n) live in
     let d = good.count in
     omega (arith, change, all, a, d)
 
 pub len_most : (s : ℕ → Slot) (place : ℕ → ℕ) (len : ℕ) (r : ℕ → Bool) → Good s place len r → len ≤ NENV
 len_most s place len r good =
-    let all = total-le NENV (λ q. free_count (s q)) (λ q. free_count-le (s q)) in
+    let all = total-le NENV 1 (λ q. free_count (s q)) (λ q. free_count-le (s q)) in
     let d = good.count in
     omega (arith, all, d)

@@ -1,4 +1,3 @@
-pub mod Maps
 mod Sets
 mod Laws
 pub mod Kept

@@ -11,7 +11,8 @@ use Rattle.std.proofs.lemmas.Nat.Bits.{bit_at_set_same, bit_at_set_other, bit_at
 use Rattle.std.proofs.lemmas.Nat.Bits.{bit_at-trailing_zeros, bit_at-zero, bit_at_above}
 use Rattle.jos_base.specs.Words.{upd}
 use Rattle.jos_envs.specs.SlotSets.{contains, empty, IsFirstAt, IsLowest, IsLowestAt}
-use Rattle.jos_envs.proofs.Maps.{upd-at, upd-other, same_or, lt_or_ge}
+use Rattle.std.proofs.lemmas.Bool.{cases_eq, cases_lt}
+use Rattle.jos_base.proofs.Maps.{upd-at, upd-other}
 
 -- a word whose bit for one slot is new, in its place
 module _ (words : List ℕ) (slot word : ℕ) (member : Bool) (within : slot / 64 < length words) (bit : (bit_at word (slot % 64) == 1) ≡ member)
@@ -25,7 +26,7 @@ module _ (words : List ℕ) (slot word : ℕ) (member : Bool) (within : slot / 6
 
   at_other : (other : ℕ) → other ≢ slot → contains changed other ≡ contains words other
   unfolding contains
-  at_other other ne = elim (same_or (other / 64) (slot / 64)) [
+  at_other other ne = elim (cases_eq (other / 64) (slot / 64)) [
     | inl same ↦
         let apart : other % 64 ≢ slot % 64 = λ e. ne (omega arith) in
         let old : bit_at (get_or words (slot / 64) 0) (other % 64) ≡ bit_at (get_or words (other / 64) 0) (other % 64)
@@ -37,7 +38,7 @@ module _ (words : List ℕ) (slot word : ℕ) (member : Bool) (within : slot / 6
   ]
 
   pub contains-set : (other : ℕ) → contains changed other ≡ upd (contains words) slot member other
-  contains-set other = elim (same_or other slot) [
+  contains-set other = elim (cases_eq other slot) [
     | inl same ↦
         ap (contains changed) same ∙ at_slot ∙ sym (upd-at (contains words) slot member)
         ∙ ap (upd (contains words) slot member) (sym same)
@@ -88,7 +89,7 @@ lowest_is word place small some =
     }
   where
     below_64 : (word bit : ℕ) → word < 2 ^ 64 → bit_at word bit ≡ 1 → bit < 64
-    below_64 word bit small is_set = elim (lt_or_ge bit 64) [ inl lt ↦ lt | inr ge ↦ (let none = bit_at_above word 64 bit small ge in omega (arith, none, is_set)) ]
+    below_64 word bit small is_set = elim (cases_lt bit 64) [ inl lt ↦ lt | inr ge ↦ (let none = bit_at_above word 64 bit small ge in omega (arith, none, is_set)) ]
 
 -- ---- the first slot
 
@@ -107,7 +108,7 @@ module _ (words : List ℕ) (from slot : ℕ) (least : from ≤ slot) (below : s
   -- the slots up to the end of the word
   none_until : (end : ℕ) → end ≤ 64 → ((bit : ℕ) → slot % 64 ≤ bit → bit < end → bit_at (get_or words (slot / 64) 0) bit ≡ 0)
       → (other : ℕ) → from ≤ other → other < slot / 64 * 64 + end → contains words other ≡ false
-  none_until end most clear other le lt = elim (lt_or_ge other slot) [
+  none_until end most clear other le lt = elim (cases_lt other slot) [
     | inl before ↦ none other le before
     | inr behind ↦
         let same : other / 64 ≡ slot / 64 = omega arith in
@@ -135,4 +136,4 @@ unfolding contains empty
 contains_none = λ i. λ slot. (ap (λ (w : ℕ). bit_at w (slot % 64) == 1) (zeros 16 (slot / 64)) ∙ ap (λ b. b == 1) (bit_at-zero (slot % 64))) i
   where
     zeros : (n p : ℕ) → ◌≡◌ {A = ℕ} (get_or (replicate n 0) p 0) 0
-    zeros n p = elim (lt_or_ge p n) [ inl lt ↦ get_or-replicate n p 0 0 lt | inr ge ↦ get_or_past (replicate n 0) p 0 (omega (arith, length-replicate {A = ℕ} n 0, ge)) ]
+    zeros n p = elim (cases_lt p n) [ inl lt ↦ get_or-replicate n p 0 0 lt | inr ge ↦ get_or_past (replicate n 0) p 0 (omega (arith, length-replicate {A = ℕ} n 0, ge)) ]

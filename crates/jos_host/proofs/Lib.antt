@@ -1,2 +1,4 @@
 pub mod Named
 pub mod Outcome
+pub mod Frames
+pub mod Filled

@@ -29,12 +29,12 @@ use Rattle.jos_isa.specs.Lawful.{is_numbered, is_named, is_immediate, is_operand
 use Rattle.jos_isa.specs.Lawful.{is_same_repeat, fits_choice, fits_format, format_for, is_lawful}
 use Rattle.jos_isa.specs.Encoding.{opcode_bytes, immediate_bytes, disp_bytes, mode_of, rm_of, sib_bytes}
 use Rattle.jos_isa.specs.Encoding.{operand_bytes, chosen_bytes, format_bytes, encoded}
-use Rattle.jos_isa.proofs.Booleans.{both_true, no_false}
+use Rattle.jos_isa.proofs.Booleans.{no_false}
 use Rattle.jos_isa.proofs.Readers.{eqb-is}
 use Rattle.jos_isa.proofs.Places.{leads_back, row_in, row_in_fields, field_small}
 use Rattle.jos_isa.specs.ClauseWords.{OperandFits, NumbersFit}
 use Rattle.jos_isa.proofs.Writers.{immediate_spelled, rm_small, memory_spelled}
-use Rattle.std.proofs.lemmas.Bool.{ltb-true}
+use Rattle.std.proofs.lemmas.Bool.{ltb-true, and_parts}
 
 -- ---- opcodes
 
@@ -85,9 +85,9 @@ plain_spelled : (insn : Insn) (row : Row) (repeat : Repeat) (register : ℕ) (im
     → row ≡ insn.row → fits_format insn (Some (Plain row repeat register immediate)) ≡ true → SpellsFormat (Plain row repeat register immediate) insn (immediate_bytes immediate insn.imm)
 unfolding fits_format
 plain_spelled insn row repeat register immediate fits same h =
-    let outer = both_true (is_same_repeat repeat insn.repeat && is_absent insn.operand && nat_eq register insn.reg) (is_immediate immediate insn.imm) h in
-    let middle = both_true (is_same_repeat repeat insn.repeat && is_absent insn.operand) (nat_eq register insn.reg) outer.0 in
-    let inner = both_true (is_same_repeat repeat insn.repeat) (is_absent insn.operand) middle.0 in (
+    let outer = and_parts (is_same_repeat repeat insn.repeat && is_absent insn.operand && nat_eq register insn.reg) (is_immediate immediate insn.imm) h in
+    let middle = and_parts (is_same_repeat repeat insn.repeat && is_absent insn.operand) (nat_eq register insn.reg) outer.0 in
+    let inner = and_parts (is_same_repeat repeat insn.repeat) (is_absent insn.operand) middle.0 in (
       immediate_spelled immediate insn.imm fits outer.1,
       insn_is insn row repeat Absent register same (same_repeat repeat insn.repeat inner.0) (absent_is insn.operand inner.1) (eqb-is register insn.reg middle.1),
     )
@@ -146,15 +146,15 @@ modrm_spelled : (insn : Insn) (fields : Fields) → insn.imm < 2 ^ 32 → Operan
     → row_in_fields fields insn.row ≡ insn.row → fits_format insn (Some (ModRm fields)) ≡ true → SpellsFormat (ModRm fields) insn (format_bytes (Some (ModRm fields)) insn)
 unfolding fits_format fits_choice format_bytes chosen_bytes
 modrm_spelled insn fields imm_fits fits numbered named same h =
-    let outer = both_true (is_same_repeat Once insn.repeat && is_operand insn.operand) (fits_choice insn (choice_of fields (is_register insn.operand) (field_of fields insn.row insn.reg))) h in
-    let inner = both_true (is_same_repeat Once insn.repeat) (is_operand insn.operand) outer.0 in
+    let outer = and_parts (is_same_repeat Once insn.repeat && is_operand insn.operand) (fits_choice insn (choice_of fields (is_register insn.operand) (field_of fields insn.row insn.reg))) h in
+    let inner = and_parts (is_same_repeat Once insn.repeat) (is_operand insn.operand) outer.0 in
     go (choice_of fields (is_register insn.operand) (field_of fields insn.row insn.reg)) refl (same_repeat Once insn.repeat inner.0) inner.1 outer.1
   where
     go : (o : Option Choice) → choice_of fields (is_register insn.operand) (field_of fields insn.row insn.reg) ≡ o → Once ≡ insn.repeat → is_operand insn.operand ≡ true → fits_choice insn o ≡ true
         → SpellsFormat (ModRm fields) insn (operand_bytes insn.operand (field_of fields insn.row insn.reg) ++ chosen_bytes o insn.imm)
     go None e once operand f = no_false f
     go (Some choice) e once operand f =
-        let parts = both_true (nat_eq choice.reg insn.reg) (is_immediate choice.immediate insn.imm) f in
+        let parts = and_parts (nat_eq choice.reg insn.reg) (is_immediate choice.immediate insn.imm) f in
         let row : choice.row ≡ insn.row = chosen_row fields (is_register insn.operand) insn.row insn.reg choice e ∙ same in
         operand_spelled fields choice insn (field_of fields insn.row insn.reg) (field_small fields insn.row insn.reg numbered named)
         (immediate_spelled choice.immediate insn.imm imm_fits parts.1)
@@ -195,14 +195,14 @@ format_spelled insn imm_fits fits numbered named (Some (ModRm fields)) e h =
 pub lawful_spelled : (insn : Insn) → NumbersFit insn → is_lawful insn ≡ true → Spells insn (encoded insn)
 unfolding is_lawful encoded format_for
 lawful_spelled insn fits h =
-    let outer = both_true (is_numbered insn.row && is_named insn.row insn.reg) (fits_format insn (format_in insn.repeat (opcode_of insn.row insn.reg))) h in
-    let inner = both_true (is_numbered insn.row) (is_named insn.row insn.reg) outer.0 in
+    let outer = and_parts (is_numbered insn.row && is_named insn.row insn.reg) (fits_format insn (format_in insn.repeat (opcode_of insn.row insn.reg))) h in
+    let inner = and_parts (is_numbered insn.row) (is_named insn.row insn.reg) outer.0 in
     format_spelled insn fits.imm fits.operand inner.0 inner.1 (format_in insn.repeat (opcode_of insn.row insn.reg)) refl outer.1
 
 -- what a lawful instruction is
 pub lawful_parts : (insn : Insn) → is_lawful insn ≡ true → (is_numbered insn.row ≡ true) × (is_named insn.row insn.reg ≡ true) × (fits_format insn (format_for insn) ≡ true)
 unfolding is_lawful
 lawful_parts insn h =
-    let outer = both_true (is_numbered insn.row && is_named insn.row insn.reg) (fits_format insn (format_for insn)) h in
-    let inner = both_true (is_numbered insn.row) (is_named insn.row insn.reg) outer.0 in
+    let outer = and_parts (is_numbered insn.row && is_named insn.row insn.reg) (fits_format insn (format_for insn)) h in
+    let inner = and_parts (is_numbered insn.row) (is_named insn.row insn.reg) outer.0 in
     (inner.0, inner.1, outer.1)

@@ -4,7 +4,7 @@ use Rattle.std.proofs.Common.{cond, List, [], ◌∷◌, ◌++◌, length, get_o
 use Rattle.std.proofs.Common.{inl, inr, Ok, Err, Result}
 use Rattle.std.specs.Prelude.{◌&&◌, ◌||◌}
 use Rattle.std.specs.Int.{w16, from_le_bytes}
-use Rattle.std.proofs.lemmas.Bool.{lt-ltb, ltb-false, le-leb}
+use Rattle.std.proofs.lemmas.Bool.{lt-ltb, ltb-false, le-leb, and_parts, and_from, or_left, or_right}
 use Rattle.jos_isa.specs.declared.instruction.Insn.{Insn}
 use Rattle.jos_isa.specs.declared.instruction.Row.{Row}
 use Rattle.jos_isa.specs.declared.instruction.Repeat.{Repeat}
@@ -32,7 +32,7 @@ use Rattle.jos_isa.specs.RowOpcodes.{opcode_of, format_in, field_of}
 use Rattle.jos_isa.specs.Lawful.{is_numbered, is_named, is_immediate, is_base, is_index, is_mem_arg, is_operand}
 use Rattle.jos_isa.specs.Lawful.{is_register, is_same_repeat, fits_choice, fits_format, format_for, is_lawful}
 use Rattle.jos_isa.specs.ClauseWords.{AreBytes, IfFound}
-use Rattle.jos_isa.proofs.Booleans.{both_true, and_true, left_true, right_true, no_false, all_at}
+use Rattle.jos_isa.proofs.Booleans.{no_false, all_at}
 use Rattle.jos_isa.proofs.Readers.{eqb-is}
 use Rattle.jos_isa.proofs.Places.{is_same_immediate, is_plain, is_same_choice, is_chosen, choice_returns}
 use Rattle.jos_isa.proofs.Places.{fields_return, format_returns, some_returns, entry_returns, first_returns}
@@ -65,10 +65,10 @@ extended_lawful : (byte : ℕ) → byte < 256 → (nat_lt (sign_extended byte) 0
 extended_lawful byte small = go (nat_lt byte 128) refl
   where
     go : (b : Bool) → nat_lt byte 128 ≡ b → (nat_lt (cond b byte (byte + 0xffff_ff00)) 0x80 || nat_le 0xffff_ff80 (cond b byte (byte + 0xffff_ff00))) ≡ true
-    go true e = left_true (nat_lt byte 0x80) (nat_le 0xffff_ff80 byte) e
+    go true e = or_left (nat_lt byte 0x80) (nat_le 0xffff_ff80 byte) e
     go false e =
         let high : 128 ≤ byte = ltb-false byte 128 e in
-        right_true (nat_lt (byte + 0xffff_ff00) 0x80) (nat_le 0xffff_ff80 (byte + 0xffff_ff00)) (le-leb 0xffff_ff80 (byte + 0xffff_ff00) (omega arith))
+        or_right (nat_lt (byte + 0xffff_ff00) 0x80) (nat_le 0xffff_ff80 (byte + 0xffff_ff00)) (le-leb 0xffff_ff80 (byte + 0xffff_ff00) (omega arith))
 
 immediate_lawful : (immediate : Immediate) (value : ℕ) (bytes : List ℕ) → SpellsImmediate immediate value bytes → AreBytes bytes → is_immediate immediate value ≡ true
 unfolding is_immediate
@@ -122,7 +122,7 @@ sib_lawful rm sib bytes small (inr h) are =
 memory_lawful : (mode rm : ℕ) (arg : MemArg) (bytes : List ℕ) → rm < 8 → SpellsMemory mode rm arg bytes → AreBytes bytes → is_mem_arg arg ≡ true
 memory_lawful mode rm arg bytes small h are =
     let s = sib_lawful rm h.0 h.1 small h.4 (front_bytes h.1 h.2 (as_bytes bytes (h.1 ++ h.2) h.3 are)) in
-    subst (λ (a : MemArg). is_mem_arg a ≡ true) (sym h.6) (and_true _ _ (base_lawful mode h.0.base arg.disp h.2 s.0 h.5) s.1)
+    subst (λ (a : MemArg). is_mem_arg a ≡ true) (sym h.6) (and_from _ _ (base_lawful mode h.0.base arg.disp h.2 s.0 h.5) s.1)
 
 isnt-eqb : (a b : ℕ) → a ≢ b → nat_eq a b ≡ false
 isnt-eqb a b ne = go (nat_eq a b) refl
@@ -152,8 +152,8 @@ plain_fits : (o : Option Format) (row : Row) (repeat : Repeat) (register : ℕ) 
 unfolding fits_format
 plain_fits None row repeat register immediate value h fits = no_false h
 plain_fits (Some (Plain r p g i)) row repeat register immediate value h fits =
-    let outer = both_true (is_same_repeat p repeat && nat_eq g register) (is_same_immediate i immediate) h in
-    let inner = both_true (is_same_repeat p repeat) (nat_eq g register) outer.0 in
+    let outer = and_parts (is_same_repeat p repeat && nat_eq g register) (is_same_immediate i immediate) h in
+    let inner = and_parts (is_same_repeat p repeat) (nat_eq g register) outer.0 in
     rw (inner.0, inner.1, same_immediate i immediate outer.1, fits) refl
 plain_fits (Some (ModRm fields)) row repeat register immediate value h fits = no_false h
 
@@ -161,8 +161,8 @@ choice_fits : (o : Option Choice) (choice : Choice) (insn : Insn) → is_same_ch
 unfolding fits_choice
 choice_fits None choice insn h reg fits = no_false h
 choice_fits (Some other) choice insn h reg fits =
-    let parts = both_true (nat_eq other.reg choice.reg) (is_same_immediate other.immediate choice.immediate) h in
-    and_true _ _ (subst (λ (n : ℕ). nat_eq other.reg n ≡ true) reg parts.0) (rw (same_immediate other.immediate choice.immediate parts.1) fits)
+    let parts = and_parts (nat_eq other.reg choice.reg) (is_same_immediate other.immediate choice.immediate) h in
+    and_from _ _ (subst (λ (n : ℕ). nat_eq other.reg n ≡ true) reg parts.0) (rw (same_immediate other.immediate choice.immediate parts.1) fits)
 
 modrm_fits : (o : Option Format) (choice : Choice) (operand : Operand) (value : ℕ) → is_chosen (is_register operand) choice o ≡ true → is_operand operand ≡ true → is_immediate choice.immediate value ≡ true
     → fits_format (record { row = choice.row; repeat = Once; operand = operand; reg = choice.reg; imm = value }) o ≡ true
@@ -170,14 +170,14 @@ unfolding fits_format
 modrm_fits None choice operand value h is fits = no_false h
 modrm_fits (Some (Plain r p g i)) choice operand value h is fits = no_false h
 modrm_fits (Some (ModRm fields)) choice operand value h is fits =
-    and_true _ _ is
+    and_from _ _ is
     (choice_fits (choice_of fields (is_register operand) (field_of fields choice.row choice.reg)) choice (record { row = choice.row; repeat = Once; operand = operand; reg = choice.reg; imm = value }) h refl fits)
 
 -- ---- instructions
 
 chosen_returns : (fields : Fields) (register : Bool) (reg : ℕ) → fields_return fields reg ≡ true → choice_returns register (choice_of fields register reg) ≡ true
-chosen_returns fields true reg h = (both_true (choice_returns true (choice_of fields true reg)) (choice_returns false (choice_of fields false reg)) h).0
-chosen_returns fields false reg h = (both_true (choice_returns true (choice_of fields true reg)) (choice_returns false (choice_of fields false reg)) h).1
+chosen_returns fields true reg h = (and_parts (choice_returns true (choice_of fields true reg)) (choice_returns false (choice_of fields false reg)) h).0
+chosen_returns fields false reg h = (and_parts (choice_returns true (choice_of fields true reg)) (choice_returns false (choice_of fields false reg)) h).1
 
 opcode_returns : (format : Format) (bytes : List ℕ) → SpellsOpcode format bytes → AreBytes bytes → format_returns format ≡ true
 opcode_returns format [] h are = absurd h
@@ -188,9 +188,9 @@ opcode_returns format (b ∷ s ∷ t ∷ bytes) h are = absurd h
 format_lawful : (format : Format) (insn : Insn) (bytes : List ℕ) → format_returns format ≡ true → SpellsFormat format insn bytes → AreBytes bytes → is_lawful insn ≡ true
 unfolding is_lawful format_for
 format_lawful (Plain row repeat register immediate) insn bytes returns h are =
-    let parts = both_true (is_numbered row && is_named row register) (is_plain (format_in repeat (opcode_of row register)) repeat register immediate) returns in
+    let parts = and_parts (is_numbered row && is_named row register) (is_plain (format_in repeat (opcode_of row register)) repeat register immediate) returns in
     subst (λ (i : Insn). (is_numbered i.row && is_named i.row i.reg && fits_format i (format_in i.repeat (opcode_of i.row i.reg))) ≡ true) (sym h.1)
-    (and_true _ _ parts.0 (plain_fits (format_in repeat (opcode_of row register)) row repeat register immediate insn.imm parts.1 (immediate_lawful immediate insn.imm bytes h.0 are)))
+    (and_from _ _ parts.0 (plain_fits (format_in repeat (opcode_of row register)) row repeat register immediate insn.imm parts.1 (immediate_lawful immediate insn.imm bytes h.0 are)))
 format_lawful (ModRm fields) insn bytes returns h are =
     let chosen = h.0 in
     let modrm = h.4 in
@@ -203,9 +203,9 @@ format_lawful (ModRm fields) insn bytes returns h are =
     let some : choice_returns (is_register insn.operand) (Some chosen.choice) ≡ true =
     subst (λ (b : Bool). choice_returns b (Some chosen.choice) ≡ true) (sym operand.1) (subst (λ (o : Option Choice). choice_returns (nat_eq chosen.mode 3) o ≡ true) modrm.3 one)
     in
-    let parts = both_true (is_numbered chosen.choice.row && is_named chosen.choice.row chosen.choice.reg) (is_chosen (is_register insn.operand) chosen.choice (format_in Once (opcode_of chosen.choice.row chosen.choice.reg))) some in
+    let parts = and_parts (is_numbered chosen.choice.row && is_named chosen.choice.row chosen.choice.reg) (is_chosen (is_register insn.operand) chosen.choice (format_in Once (opcode_of chosen.choice.row chosen.choice.reg))) some in
     subst (λ (i : Insn). (is_numbered i.row && is_named i.row i.reg && fits_format i (format_in i.repeat (opcode_of i.row i.reg))) ≡ true) (sym rest.5)
-    (and_true _ _ parts.0
+    (and_from _ _ parts.0
     (modrm_fits (format_in Once (opcode_of chosen.choice.row chosen.choice.reg)) chosen.choice insn.operand insn.imm parts.1 operand.0
     (immediate_lawful chosen.choice.immediate insn.imm rest.1 rest.4 (back_bytes rest.0 rest.1 parted))))
 

@@ -2,7 +2,7 @@
 use Rattle.std.proofs.Common.{◌≡◌, ℕ, zero, suc, ◌<◌, nat_lt, Bool, true, false, List, [], ◌∷◌, Option, Some, None}
 use Rattle.std.proofs.Common.{refl, sym, ap, ◌∙◌, arith, inl, inr}
 use Rattle.std.specs.Prelude.{◌&&◌, ◌==◌}
-use Rattle.std.proofs.lemmas.Bool.{ltb-true}
+use Rattle.std.proofs.lemmas.Bool.{ltb-true, and_parts}
 use Rattle.jos_isa.specs.declared.instruction.Row.{Row}
 use Rattle.jos_isa.specs.declared.instruction.Row.TheVariants as row
 use Rattle.jos_isa.specs.declared.instruction.Repeat.{Repeat}
@@ -24,7 +24,8 @@ use Rattle.jos_isa.specs.OpcodeMap.{format_behind, unary_f6, unary_f7, step_fe, 
 use Rattle.jos_isa.specs.RowOpcodes.{opcode_of, digit_of, format_in, field_of}
 use Rattle.jos_isa.specs.Lawful.{is_numbered, is_named, is_same_repeat}
 use Rattle.std.proofs.lemmas.Bool.Decides.{nat_tests}
-use Rattle.jos_isa.proofs.Booleans.{all_below, all_at, last_or_below, both_true}
+use Rattle.jos_isa.proofs.Booleans.{all_below, all_at}
+use Rattle.jos_base.proofs.Bounds.{below_or_last}
 
 -- ---- from a row
 
@@ -57,9 +58,9 @@ listed_at f g zero e i small = absurd (omega arith)
 listed_at {A} f g (suc n) e i small =
     let heads : f n ≡ g n = cc in
     let tails : listed f n ≡ listed g n = cc in
-    elim (last_or_below i n small) [
-      | inl is ↦ ap f is ∙ heads ∙ sym (ap g is)
-      | inr less ↦ listed_at f g n tails i less
+    elim (below_or_last i n small) [
+      | inr is ↦ ap f is ∙ heads ∙ sym (ap g is)
+      | inl less ↦ listed_at f g n tails i less
     ]
 
 -- the same beside a repetition
@@ -100,7 +101,7 @@ leads_back row.PushR32 repeat reg h s = each (λ r reg. row_back row.PushR32 r r
 leads_back row.PopR32 repeat reg h s = each (λ r reg. row_back row.PopR32 r reg) (λ r reg. row.PopR32) 8 refl refl refl repeat reg (ltb-true reg 8 s)
 leads_back row.XchgEaxR32 repeat zero h s = absurd cc
 leads_back row.XchgEaxR32 repeat (suc reg) h s =
-    let small : suc reg < 8 = ltb-true (suc reg) 8 (both_true (nat_lt (suc reg) 8) _ s).0 in
+    let small : suc reg < 8 = ltb-true (suc reg) 8 (and_parts (nat_lt (suc reg) 8) _ s).0 in
     each (λ r reg. row_back row.XchgEaxR32 r (suc reg)) (λ r reg. row.XchgEaxR32) 7 refl refl refl repeat reg (omega arith)
 leads_back row.MovR8Imm8 repeat reg h s = each (λ r reg. row_back row.MovR8Imm8 r reg) (λ r reg. row.MovR8Imm8) 8 refl refl refl repeat reg (ltb-true reg 8 s)
 leads_back row.MovR32Imm32 repeat reg h s = each (λ r reg. row_back row.MovR32Imm32 r reg) (λ r reg. row.MovR32Imm32) 8 refl refl refl repeat reg (ltb-true reg 8 s)
@@ -180,7 +181,7 @@ second_returns map byte small = all_at (λ byte. some_returns (format_behind map
 
 pub named_small : (row : Row) (reg : ℕ) → is_named row reg ≡ true → reg < 8
 unfolding is_named
-named_small row.XchgEaxR32 reg h = ltb-true reg 8 (both_true (nat_lt reg 8) _ h).0
+named_small row.XchgEaxR32 reg h = ltb-true reg 8 (and_parts (nat_lt reg 8) _ h).0
 named_small row reg h = ltb-true reg 8 h
 
 digit_small : (row : Row) → is_numbered row ≡ true → digit_of row < 8

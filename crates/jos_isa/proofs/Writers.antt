@@ -1,10 +1,10 @@
 -- What is written spells a lawful instruction.
 use Rattle.std.proofs.Common.{◌≡◌, ◌≢◌, ℕ, ◌+◌, ◌%◌, ◌^◌, ◌<◌, ◌≤◌, nat_eq, nat_lt, nat_le, Bool, true, false, cond}
-use Rattle.std.proofs.Common.{List, [], ◌∷◌, ◌++◌, Option, Some, None, refl, sym, ap, subst, ◌∙◌, append_assoc, arith}
+use Rattle.std.proofs.Common.{[], ◌∷◌, ◌++◌, Option, Some, None, refl, sym, ap, subst, arith}
 use Rattle.std.proofs.Common.{◌⊎◌, inl, inr}
 use Rattle.std.specs.Prelude.{◌&&◌, ◌||◌, not, is_some}
 use Rattle.std.specs.Int.{w8, w16, w32, to_le_bytes, cast_unsigned}
-use Rattle.std.proofs.lemmas.Bool.{ltb-true, ltb-false}
+use Rattle.std.proofs.lemmas.Bool.{ltb-true, ltb-false, and_parts, not-true, or_cases}
 use Rattle.std.proofs.lemmas.Bool.Decides.{nat_tests}
 use Rattle.std.proofs.lemmas.Int.{to_z-of_z}
 use Rattle.std.proofs.lemmas.Nat.{from_le_bytes-to_le_bytes_2, from_le_bytes-to_le_bytes_4}
@@ -20,13 +20,10 @@ use Rattle.jos_isa.specs.Lawful.{is_immediate, is_base, is_index, is_mem_arg}
 use Rattle.jos_isa.specs.ClauseWords.{DispFits}
 use Rattle.jos_isa.specs.Encoding.{immediate_bytes, disp_bytes, base_number, index_number, mode_of, has_sib, rm_of}
 use Rattle.jos_isa.specs.Encoding.{sib_byte, sib_bytes}
-use Rattle.jos_isa.proofs.Booleans.{both_true, one_true, not_true, no_false}
+use Rattle.jos_isa.proofs.Booleans.{no_false}
 use Rattle.jos_isa.proofs.Readers.{eqb-is, eqb-isnt}
 
 -- ---- lists one behind the other
-
-pub three_behind : (start first second third a b c : List ℕ) → first ≡ start ++ a → second ≡ first ++ b → third ≡ second ++ c → third ≡ start ++ (a ++ (b ++ c))
-three_behind start first second third a b c p q r = rw (r, q, p) (append_assoc (start ++ a) b c ∙ append_assoc start a (b ++ c))
 
 -- ---- immediates
 
@@ -38,7 +35,7 @@ four_bytes : (n : ℕ) → n < 2 ^ 32 → SpellsImmediate Imm32 n (to_le_bytes w
 four_bytes n small = (_, _, _, _, sym (from_le_bytes-to_le_bytes_4 n small), refl)
 
 extended_again : (n : ℕ) → n < 2 ^ 32 → (nat_lt n 0x80 || nat_le 0xffff_ff80 n) ≡ true → n ≡ sign_extended (n % 0x100)
-extended_again n small h = go (nat_lt (n % 0x100) 128) refl (one_true (nat_lt n 0x80) (nat_le 0xffff_ff80 n) h)
+extended_again n small h = go (nat_lt (n % 0x100) 128) refl (or_cases (nat_lt n 0x80) (nat_le 0xffff_ff80 n) h)
   where
     go : (b : Bool) → nat_lt (n % 0x100) 128 ≡ b → (nat_lt n 0x80 ≡ true) ⊎ (nat_le 0xffff_ff80 n ≡ true) → n ≡ cond b (n % 0x100) (n % 0x100 + 0xffff_ff00)
     go true e (inl t) = let low : n < 0x80 = ltb-true n 0x80 t in omega arith
@@ -69,7 +66,7 @@ displacement_spelled None disp.Zero h fits = no_false h
 displacement_spelled None (disp.Byte z) h fits = no_false h
 displacement_spelled None (disp.Word n) h fits = let w = four_bytes n fits in (w.0, w.1, w.2, w.3, ap (λ (k : ℕ). disp.Word k) w.4, w.5)
 displacement_spelled (Some base) disp.Zero h fits =
-    let other : nat_eq base 5 ≡ false = not_true (nat_eq base 5) (both_true (nat_lt base 8) (not (nat_eq base 5)) h).1 in
+    let other : nat_eq base 5 ≡ false = not-true (nat_eq base 5) (and_parts (nat_lt base 8) (not (nat_eq base 5)) h).1 in
     rw other (refl, refl)
 displacement_spelled (Some base) (disp.Byte z) h fits = (cast_unsigned w8 z, ap (λ k. disp.Byte k) (sym (to_z-of_z w8 z fits)), refl)
 displacement_spelled (Some base) (disp.Word n) h fits = let w = four_bytes n fits in (w.0, w.1, w.2, w.3, ap (λ (k : ℕ). disp.Word k) w.4, w.5)
@@ -78,7 +75,7 @@ base_again : (base : Option ℕ) (d : Disp) → is_base base d ≡ true → base
 unfolding is_base
 base_again None d h = refl
 base_again (Some base) disp.Zero h =
-    let other : nat_eq base 5 ≡ false = not_true (nat_eq base 5) (both_true (nat_lt base 8) (not (nat_eq base 5)) h).1 in
+    let other : nat_eq base 5 ≡ false = not-true (nat_eq base 5) (and_parts (nat_lt base 8) (not (nat_eq base 5)) h).1 in
     rw other refl
 base_again (Some base) (disp.Byte z) h = refl
 base_again (Some base) (disp.Word n) h = refl
@@ -86,16 +83,16 @@ base_again (Some base) (disp.Word n) h = refl
 pub base_small : (base : Option ℕ) (d : Disp) → is_base base d ≡ true → base_number base < 8
 unfolding is_base
 base_small None d h = omega arith
-base_small (Some base) disp.Zero h = ltb-true base 8 (both_true (nat_lt base 8) (not (nat_eq base 5)) h).0
+base_small (Some base) disp.Zero h = ltb-true base 8 (and_parts (nat_lt base 8) (not (nat_eq base 5)) h).0
 base_small (Some base) (disp.Byte z) h = ltb-true base 8 h
 base_small (Some base) (disp.Word n) h = ltb-true base 8 h
 
 index_parts : (index scale : ℕ) → is_index (Some index) scale ≡ true → (nat_lt index 8 ≡ true) × (nat_eq index 4 ≡ false) × (nat_lt scale 4 ≡ true)
 unfolding is_index
 index_parts index scale h =
-    let outer = both_true (nat_lt index 8 && not (nat_eq index 4)) (nat_lt scale 4) h in
-    let inner = both_true (nat_lt index 8) (not (nat_eq index 4)) outer.0 in
-    (inner.0, not_true (nat_eq index 4) inner.1, outer.1)
+    let outer = and_parts (nat_lt index 8 && not (nat_eq index 4)) (nat_lt scale 4) h in
+    let inner = and_parts (nat_lt index 8) (not (nat_eq index 4)) outer.0 in
+    (inner.0, not-true (nat_eq index 4) inner.1, outer.1)
 
 pub index_small : (index : Option ℕ) (scale : ℕ) → is_index index scale ≡ true → index_number index < 8
 unfolding is_index
@@ -117,7 +114,7 @@ rm_of_small true number small = omega arith
 rm_of_small false number small = small
 
 pub rm_small : (arg : MemArg) → is_mem_arg arg ≡ true → rm_of arg < 8
-rm_small arg h = rm_of_small (has_sib arg) (base_number arg.base) (base_small arg.base arg.disp (both_true (is_base arg.base arg.disp) (is_index arg.index arg.scale) h).0)
+rm_small arg h = rm_of_small (has_sib arg) (base_number arg.base) (base_small arg.base arg.disp (and_parts (is_base arg.base arg.disp) (is_index arg.index arg.scale) h).0)
 
 -- where no SIB byte is needed
 no_index : (index : Option ℕ) (scale number : ℕ) → (is_some index || nat_eq number 4) ≡ false → is_index index scale ≡ true → (number ≢ 4) × (◌≡◌ {A = Sib} (record { base = number; index = index; scale = scale }) (record { base = number; index = None; scale = 0 }))
@@ -133,10 +130,10 @@ sib_spelled arg h = go (has_sib arg) refl
   where
     go : (b : Bool) → has_sib arg ≡ b → SpellsSib (cond b 4 (base_number arg.base)) (sib_of_arg arg) (cond b (sib_byte arg ∷ []) [])
     go true e =
-        let parts = both_true (is_base arg.base arg.disp) (is_index arg.index arg.scale) h in
+        let parts = and_parts (is_base arg.base arg.disp) (is_index arg.index arg.scale) h in
         inr (arg.scale, index_number arg.index, base_number arg.base, refl, index_small arg.index arg.scale parts.1, base_small arg.base arg.disp parts.0, sib_again (base_number arg.base) arg.index arg.scale parts.1, refl)
     go false e =
-        let parts = both_true (is_base arg.base arg.disp) (is_index arg.index arg.scale) h in
+        let parts = and_parts (is_base arg.base arg.disp) (is_index arg.index arg.scale) h in
         let alone = no_index arg.index arg.scale (base_number arg.base) e parts.1 in
         inl (alone.0, alone.1, refl)
 
@@ -149,7 +146,7 @@ mode_small (Some base) (disp.Word n) = omega arith
 
 pub memory_spelled : (arg : MemArg) → is_mem_arg arg ≡ true → DispFits arg.disp → SpellsMemory (mode_of arg.base arg.disp) (rm_of arg) arg (sib_bytes arg ++ disp_bytes arg.disp)
 memory_spelled arg h fits =
-    let parts = both_true (is_base arg.base arg.disp) (is_index arg.index arg.scale) h in (
+    let parts = and_parts (is_base arg.base arg.disp) (is_index arg.index arg.scale) h in (
       sib_of_arg arg,
       sib_bytes arg,
       disp_bytes arg.disp,

@@ -12,7 +12,6 @@ use Rattle.jos_base.specs.Words.{upd}
 use Rattle.jos_base.specs.Environments.{Slot, is_live, is_running}
 use Rattle.jos_base.specs.declared.numbers.TheConstants.{NENV}
 use Rattle.jos_base.specs.KernelState.{KernelState, slot_at, with_registers, turn_begun, turn_ended}
-use Rattle.jos_space.proofs.Counts.{upd-at}
 use Rattle.jos_sched.specs.Quantum.{quantum}
 use Rattle.jos_cpu.specs.declared.events.Event.{Event}
 use Rattle.jos_cpu.specs.declared.events.Gates.TheVariants.{Exo}
@@ -34,6 +33,7 @@ use Rattle.jos_kernel.proofs.Turns.{running_live, InTurn, further, many}
 use Rattle.jos_kernel.proofs.FirstStates.{SameTurns}
 use Rattle.jos_kernel.proofs.TurnsKept.{event_same}
 use Rattle.jos_kernel.proofs.RunsOn.{run_from-console}
+use Rattle.jos_base.proofs.Maps.{upd-at}
 
 -- ---- words
 

@@ -10,8 +10,6 @@ use Rattle.jos_base.specs.declared.numbers.TheConstants.{NENV}
 use Rattle.jos_base.specs.Environments.{Slot, record_words, records_of}
 use Rattle.jos_base.specs.KernelState.{KernelState, slot_at, with_registers}
 use Rattle.jos_base.specs.UserMemory.{byte_at}
-use Rattle.jos_space.proofs.Counts.{upd-at}
-use Rattle.jos_space.proofs.Lookups.{upd-twice}
 use Rattle.jos_cpu.specs.declared.events.Event.{Event}
 use Rattle.jos_cpu.specs.declared.events.Gates.{Gates}
 use Rattle.jos_cpu.specs.declared.events.Gates.TheVariants.{Exo}
@@ -22,6 +20,7 @@ use Rattle.jos_cpu.proofs.Agreement.{Agrees, through}
 use Rattle.jos_cpu.proofs.Through.{step_through}
 use Rattle.jos_kernel.specs.Running.{Running, user_memory, byte_in, allowed_in, fault_in, touched_in, stored_in}
 use Rattle.jos_kernel.specs.Steps.{after_event, after_instruction, env_step}
+use Rattle.jos_base.proofs.Maps.{upd-at, upd-twice}
 
 -- the memory with other registers in a slot
 abbrev with_registers_in : ℕ → Regs → Running → Running

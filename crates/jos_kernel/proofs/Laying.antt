@@ -11,8 +11,7 @@ use Rattle.jos_base.specs.KernelState.{KernelState, with_spaces}
 use Rattle.jos_elf.specs.declared.image.Segment.{Segment}
 use Rattle.jos_kernel.specs.Boot.{file_part, laid_between, laid, laid_all}
 use Rattle.jos_kernel.specs.Loading.{with_bytes_in}
-use Rattle.jos_space.proofs.Counts.{upd-at}
-use Rattle.jos_space.proofs.Lookups.{upd-twice, upd-stays}
+use Rattle.jos_base.proofs.Maps.{upd-at, upd-twice, upd-stays}
 
 -- ---- one segment
 

@@ -10,7 +10,6 @@ pub mod RunsOn
 pub mod TurnsKept
 pub mod Advancing
 pub mod ToldBytes
-pub mod Frames
 pub mod Runs
 pub mod Laying
 pub mod PagesTouched

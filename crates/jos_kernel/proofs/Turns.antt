@@ -10,7 +10,6 @@ use Rattle.jos_base.specs.declared.environment.Status.{Status}
 use Rattle.jos_base.specs.declared.environment.Status.TheVariants as status
 use Rattle.jos_base.specs.Environments.{Environments, Slot, is_live, is_free, is_running}
 use Rattle.jos_base.specs.KernelState.{KernelState, slot_at, with_registers, turn_ended}
-use Rattle.jos_space.proofs.Counts.{upd-at}
 use Rattle.jos_envs.specs.Table.{any_live, any_live_below}
 use Rattle.jos_sched.specs.Quantum.{quantum}
 use Rattle.jos_cpu.specs.declared.events.Event.TheVariants.{Next}
@@ -24,12 +23,10 @@ use Rattle.jos_kernel.specs.ExoRun.{first_refusal, traps_after}
 use Rattle.jos_kernel.specs.ExoRun.{progressed_in, progressed, one_step, after_test, run_from}
 use Rattle.jos_kernel.proofs.KeepsRest.{KeepsRest, steps_keeps, directory_is, slot_is, state_is}
 use Rattle.jos_kernel.proofs.EnvSteps.{env_step_is}
+use Rattle.std.proofs.Math.Bool.{or-true}
+use Rattle.jos_base.proofs.Maps.{upd-at}
 
 -- ---- live environments
-
-or_true : (c : Bool) → (c || true) ≡ true
-or_true true = refl
-or_true false = refl
 
 live_below : (slots : ℕ → Slot) (bound n : ℕ) → n < bound → is_live (slots n) ≡ true → any_live_below slots bound ≡ true
 unfolding any_live_below
@@ -40,7 +37,7 @@ live_below slots (suc bound) n below live = by_last (n == bound) refl (λ k. liv
         (any_live_below slots bound || is_live (slots bound)) ≡ true
     by_last true e rest =
         let k : n ≡ bound = grind (arith, nat_tests) in
-        ap (λ c. any_live_below slots bound || c) (ap (λ (x : ℕ). is_live (slots x)) (sym k) ∙ live) ∙ or_true (any_live_below slots bound)
+        ap (λ c. any_live_below slots bound || c) (ap (λ (x : ℕ). is_live (slots x)) (sym k) ∙ live) ∙ or-true (any_live_below slots bound)
     by_last false e rest =
         let k : n < bound = grind (arith, nat_tests) in
         ap (λ c. c || is_live (slots bound)) (rest k)

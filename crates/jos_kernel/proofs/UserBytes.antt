@@ -23,7 +23,7 @@ use Rattle.jos_cpu.specs.Transfers.{stored_number}
 use Rattle.jos_cpu.specs.AtHand.{IsPut}
 use Rattle.jos_cpu.proofs.Probing.{IsProbing, on_byte, on_refused}
 use Rattle.jos_kernel.specs.Running.{Running, user_memory, loaded_in, unloaded}
-use Rattle.jos_kernel.specs.MemoryLaws.{user_memory_is_lawful}
+use Rattle.jos_kernel.specs.MemoryProofs.{user_memory_is_lawful}
 
 -- ---- a window
 

@@ -5,6 +5,6 @@ pub mod Boot
 pub mod Loading
 pub mod ExoRun
 pub mod Machine
-pub mod MemoryLaws
+pub mod MemoryProofs
 pub mod Kernel
 pub mod Ends

@@ -5,7 +5,7 @@ ghost use Rattle.std.specs.Prelude.{All, true, false, length, vec_len, vec_capac
 ghost use Rattle.std.specs.Option.{ForSome};
 ghost use Rattle.jos_host.specs.Told.{HasCause};
 ghost use Rattle.jos_host.specs.Frames.{Unchanged, around, from_to};
-ghost use Rattle.jos_base.specs.declared.numbers.TheConstants.{TURN_MAX, CPUTS_MAX, NENV};
+ghost use Rattle.jos_base.specs.declared.numbers.TheConstants.{TURN_MAX, CPUTS_MAX, FRAMES_MIN, FRAMES_MAX, NENV};
 ghost use Rattle.jos_base.specs.Environments.{is_live, is_running};
 ghost use Rattle.jos_base.specs.KernelState.{slot_at};
 ghost use Rattle.jos_sched.specs.Quantum.{quantum};
@@ -98,8 +98,8 @@ impl Kernel {
         trace: u32,
     ) -> Result<Kernel, BootFault>
         requires images { All IsRead (loadables images.now files.now) }
-        requires least { 64 ≤ frames }
-        requires most { frames ≤ 65536 }
+        requires least { FRAMES_MIN ≤ frames }
+        requires most { frames ≤ FRAMES_MAX }
         ensures booted { IfOk result (λ kernel. booted (loadables images.now files.now) frames input.items ≡ Some (state_of kernel)) }
         ensures first { IfOk result (λ kernel. progress_of kernel nothing ≡ before_steps (state_of kernel)) }
         ensures schedule { IfOk result (λ kernel. kernel.schedule ≡ schedule) }

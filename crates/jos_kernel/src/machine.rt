@@ -125,7 +125,7 @@ impl Mem for Machine {
         }
     }
 
-    ghost use Rattle.jos_kernel.specs.MemoryLaws.{user_memory_is_lawful};
+    ghost use Rattle.jos_kernel.specs.MemoryProofs.{user_memory_is_lawful};
 
     ghost lawful = { user_memory_is_lawful };
 }

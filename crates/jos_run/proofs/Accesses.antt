@@ -19,7 +19,7 @@ use Rattle.jos_sys.specs.System.{Does}
 use Rattle.lib_os.specs.declared.user_os.Stop.{Stop}
 use Rattle.lib_os.specs.declared.user_os.Stop.TheVariants.{Upcall, Ended, Failed as HostFailed}
 use Rattle.lib_os.specs.UserCalls.{Step, IsStep, Output, Prints, got, giving, accessing, by_access, faulting}
-use Rattle.jos_kernel.specs.MemoryLaws.{reach_touched}
+use Rattle.jos_kernel.specs.MemoryProofs.{reach_touched}
 use Rattle.jos_run.specs.Served.{IsRaised}
 use Rattle.jos_run.proofs.Printed.{printed, prints}
 

@@ -24,23 +24,16 @@ use Rattle.lib_os.specs.Places.{place_of}
 use Rattle.lib_os.specs.StandsFor.{StandsFor, StandsAt, StandsAtStep, Names, Row, rows_of, RunsAs, WaitsOrHas, waits, has}
 use Rattle.lib_os.proofs.SlotsStand.{born_at}
 use Rattle.jos_run.specs.AbstractTurns.{turn_begun, may_end}
-use Rattle.jos_run.specs.LibraryRuns.{OnlyRuns, turn_of, IsBetween, IsInTurn, seen_after}
+use Rattle.jos_run.specs.LibraryRuns.{turn_of, IsBetween, IsInTurn, seen_after}
 use Rattle.jos_run.proofs.RunsKept.{step_hidden, step_visible, stopped_cannot, stopped_may_end, running_born}
 use Rattle.jos_run.proofs.RunsKept.{turn_ends_whole, turn_ends_early, waiting_may_end, pausing_waits, yielded_may_end}
 use Rattle.jos_run.proofs.RunsKept.{yielded_further, yield_tells}
+use Rattle.jos_run.proofs.Choices.{only_runs}
 
 -- ---- who is RUNNING
 
 same_number : (x y : ℕ) → ◌≡◌ {A = Option ℕ} (Some x) (Some y) → x ≡ y
 same_number x y is = ap (λ (o : Option ℕ). unwrap_or o x) is
-
--- none but the slot that had the last turn
-pub only_runs : {names : Names} {s : KernelState} {a : AbstractState} → StandsFor names s a → (n : ℕ) → s.last ≡ Some n → OnlyRuns s n
-only_runs {s = s} h n last m ne = by_test (is_running (slot_at s m).status) refl
-  where
-    by_test : (c : Bool) → is_running (slot_at s m).status ≡ c → c ≡ false
-    by_test true is = absurd (ne (same_number m n (sym (h.tabled.running m is) ∙ last)))
-    by_test false is = refl
 
 pub awake_running : (status : Status) (blocked : Bool) → RunsAs status blocked → is_running status ≡ true → blocked ≡ false
 awake_running Running false h runs = refl

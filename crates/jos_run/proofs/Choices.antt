@@ -1,6 +1,6 @@
 -- Who gets the next turn, and whether anybody is left: between two turns the kernel and the abstract system that it stands
 -- for answer alike.
-use Rattle.std.proofs.Common.{◌≡◌, ◌≢◌, ◌∙◌, ℕ, zero, suc, ◌+◌, ◌%◌, ◌^◌, ◌<◌, ◌==◌, ◌&&◌, ◌||◌, Bool, true, false, Option, Some, None}
+use Rattle.std.proofs.Common.{◌≡◌, ◌≢◌, ◌∙◌, ℕ, zero, suc, ◌+◌, ◌%◌, ◌^◌, ◌==◌, ◌&&◌, Bool, true, false, Option, Some, None}
 use Rattle.std.proofs.Common.{refl, sym, ap, subst, arith, if◌then◌else◌}
 use Rattle.std.proofs.lemmas.Bool.Decides.{nat_tests}
 use Rattle.std.specs.Prelude.{not, nat_le, is_none}
@@ -19,10 +19,11 @@ use Rattle.jos_kernel.specs.declared.report.End.TheVariants.{Done, Stuck, Budget
 use Rattle.fs_layout.specs.DiskImage.{some_below}
 use Rattle.lib_os.specs.AbstractState.{AbstractState, Slot, free, unborn, born, serving, Server, idle, can_run, can_run_as}
 use Rattle.lib_os.specs.StandsFor.{StandsFor, StandsForSlot, Names, RunsAs}
-use Rattle.lib_os.proofs.Maps.{upd-all, upd-other}
 use Rattle.lib_os.proofs.SlotsStand.{born_live}
 use Rattle.jos_run.specs.AbstractTurns.{first_of, next_slot, is_client, any_live, end_of}
 use Rattle.jos_run.specs.LibraryRuns.{NoneRuns, OnlyRuns, OnlyFirstServes, is_user, others_live, end_seen}
+use Rattle.jos_base.proofs.Maps.{upd-other, upd-all}
+use Rattle.fs_layout.proofs.Below.{some_below-same}
 
 -- ---- who may run
 
@@ -69,13 +70,6 @@ next_stands {s = s} {a = a} h none =
 
 -- ---- whether anybody is left
 
-some_alike : (f g : ℕ → Bool) (bound : ℕ) → ((n : ℕ) → n < bound → f n ≡ g n) → some_below bound f ≡ some_below bound g
-unfolding some_below
-some_alike f g zero same = refl
-some_alike f g (suc n) same =
-    ap (λ (c : Bool). c || f n) (some_alike f g n (λ m below. same m (omega arith)))
-    ∙ ap (λ (c : Bool). some_below n g || c) (same n (omega arith))
-
 client_counts : (names : Names) (sp : SpacesState) (k : KernelSlot) (slot : Slot) → StandsForSlot names sp k slot →
     is_client slot ≡ (is_live_slot k && is_user k.env_type)
 client_counts names sp k (free id) h = sym (ap (λ (x : KernelSlot). is_live_slot x && is_user x.env_type) h)
@@ -93,7 +87,7 @@ clients_stand {names = names} {s = s} {a = a} h n = client_counts names s.spaces
 pub any_user_stands : {names : Names} {s : KernelState} {a : AbstractState} → StandsFor names s a →
     any_live a ≡ some_below NENV (λ n. is_live_slot (slot_at s n) && is_user (slot_at s n).env_type)
 any_user_stands {s = s} {a = a} h =
-    some_alike (λ n. is_client (a.slots n)) (λ n. is_live_slot (slot_at s n) && is_user (slot_at s n).env_type) NENV
+    some_below-same NENV (λ n. is_client (a.slots n)) (λ n. is_live_slot (slot_at s n) && is_user (slot_at s n).env_type)
     (λ n below. clients_stand h n)
 
 and_true : (c : Bool) → (c && true) ≡ c
@@ -116,7 +110,7 @@ client_other {s = s} {a = a} h only n = by_test (n == 0) refl
 pub any_live_stands : {names : Names} {s : KernelState} {a : AbstractState} → StandsFor names s a → OnlyFirstServes s →
     any_live a ≡ others_live s
 any_live_stands {s = s} {a = a} h only =
-    some_alike (λ n. is_client (a.slots n)) (λ n. not (n == 0) && is_live_slot (slot_at s n)) NENV (λ n below. client_other h only n)
+    some_below-same NENV (λ n. is_client (a.slots n)) (λ n. not (n == 0) && is_live_slot (slot_at s n)) (λ n below. client_other h only n)
 
 -- no file server stands but in slot 0, whatever the state stands for
 pub only_first_serves : {names : Names} {s : KernelState} {a : AbstractState} → StandsFor names s a → OnlyFirstServes s

@@ -14,7 +14,6 @@ use Rattle.jos_elf.specs.Parsed.{Layout}
 use Rattle.jos_kernel.specs.Boot.{and_then, any_touches, any_writes, filled, page_bytes, page_loaded, pages_loaded, perm_of, stack_page}
 use Rattle.lib_os.specs.AbstractMemory.{has_page_in}
 use Rattle.lib_os.specs.AbstractState.{Page, own}
-use Rattle.lib_os.proofs.Maps.{upd-at, upd-other}
 use Rattle.lib_os.proofs.SlotsStand.{born_at}
 use Rattle.lib_spawn.specs.StackPage.{stack_contents, stack_size}
 use Rattle.lib_spawn.proofs.StackPages.{fits}
@@ -29,7 +28,9 @@ use Rattle.jos_run.proofs.PagesBegin.{pages_stage, limit_small}
 use Rattle.jos_run.proofs.PagesFilled.{has_page-put}
 use Rattle.jos_run.proofs.StackLoaded.{fits-some, stack-touched}
 use Rattle.jos_run.proofs.StartStands.{base, base_stage, booted_is, space_small}
-use Rattle.jos_run.proofs.Touched.{counted, counted-next, counted-none, counted-grows, counted-same, counted-drop, some-at, some-none}
+use Rattle.jos_run.proofs.Touched.{counted, counted-next, counted-none, counted-grows, counted-same, counted-drop}
+use Rattle.jos_base.proofs.Maps.{upd-at, upd-other}
+use Rattle.fs_layout.proofs.Below.{some_below-at, some_below-none}
 
 module _ (image : Layout) (words : List (List ℕ)) (input : List ℕ) (frames : ℕ) (kernel : KernelState)
     (at_guest : (slot_at kernel 1).extra ≡ no_extra) (small : (slot_at kernel 1).directory < frame_limit) (file : List ℕ) where
@@ -66,7 +67,7 @@ module _ (image : Layout) (words : List (List ℕ)) (input : List ℕ) (frames :
   region_is : (n : ℕ) → touched n ≡ true → touches_region segments (n / 1024) ≡ true
   region_is n is =
       let place : n / 1024 * 1024 + (n - n / 1024 * 1024) ≡ n = omega arith in
-      some-at (λ k. any_touches (n / 1024 * 1024 + k) segments) 1024 (n - n / 1024 * 1024) (omega arith)
+      some_below-at (λ k. any_touches (n / 1024 * 1024 + k) segments) 1024 (n - n / 1024 * 1024) (omega arith)
       (ap (λ (q : ℕ). any_touches q segments) place ∙ is)
 
   -- one page more
@@ -165,7 +166,7 @@ module _ (image : Layout) (words : List (List ℕ)) (input : List ℕ) (frames :
   wanted_first : wanted 0 ≡ counted (touches_region segments) 832
   wanted_first = counted-same (wants_by (below 0)) (touches_region segments) 832
       (λ r lt. ap (λ (b : Bool). touches_region segments r && not b)
-      (some-none (λ p. is_some (below 0 (r * 1024 + p))) 1024
+      (some_below-none (λ p. is_some (below 0 (r * 1024 + p))) 1024
       (λ p low. ap is_some (below-none image words input frames kernel at_guest small file (r * 1024 + p))))
       ∙ and_true (touches_region segments r))
     where

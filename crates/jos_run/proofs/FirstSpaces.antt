@@ -9,8 +9,8 @@ use Rattle.jos_base.specs.SpacesState.{SpacesState, Use, reserved, free, directo
 use Rattle.jos_base.specs.SpacesState.{first_spaces, reserved_frames, rising}
 use Rattle.jos_base.specs.Words.{upd}
 use Rattle.lib_os.specs.InOrder.{HasOneUse, AreFree}
-use Rattle.lib_os.proofs.Maps.{upd-at, upd-other}
 use Rattle.jos_run.proofs.FramesTaken.{AreBelow, head_taken, head_below}
+use Rattle.jos_base.proofs.Maps.{upd-at, upd-other}
 
 -- ---- rising numbers
 

@@ -1,11 +1,11 @@
 -- What takes frames from the free list leaves each frame its one use: a new directory, and a new page with the table of its
 -- region.
-use Rattle.std.proofs.Common.{◌≡◌, ◌≢◌, ◌∙◌, ◌⊎◌, inl, inr, ◌<◌, ◌/◌, ◌||◌, ℕ, Bool, true, false, List, [], ◌∷◌, Option, Some, None}
+use Rattle.std.proofs.Common.{◌≡◌, ◌≢◌, ◌∙◌, ◌⊎◌, inl, inr, ◌<◌, ◌/◌, ℕ, Bool, true, false, List, [], ◌∷◌, Option, Some, None}
 use Rattle.std.proofs.Common.{◌+◌, ◌≤◌, length, not, refl, sym, ap, subst, arith}
 use Rattle.std.specs.Prelude.{is_some}
 use Rattle.std.specs.List.{All}
 use Rattle.std.specs.Option.{option_map}
-use Rattle.std.proofs.lemmas.Bool.{false≢true}
+use Rattle.std.proofs.lemmas.Bool.{false≢true, cases_eq, or_right}
 use Rattle.std.proofs.lemmas.List.Elements.{All-tail}
 use Rattle.std.proofs.lemmas.Option.{same_Some}
 use Rattle.jos_base.specs.declared.numbers.TheConstants.{NPTENTRIES}
@@ -18,9 +18,10 @@ use Rattle.jos_base.specs.SpacesState.{taken, fresh_from, fresh_of, with_entry, 
 use Rattle.jos_base.specs.SpacesState.{tabled_new, tabled_by, tabled, inserted, allocated_in, allocated}
 use Rattle.jos_base.specs.Words.{upd}
 use Rattle.lib_os.specs.InOrder.{HasOneUse, AreFree}
-use Rattle.lib_os.proofs.Maps.{upd-at, upd-other}
-use Rattle.lib_os.proofs.Releasing.{released_entries}
-use Rattle.lib_os.proofs.Puts.{put-at, put-some, put-stands, same_or}
+use Rattle.lib_os.proofs.Puts.{put-some, put-stands}
+use Rattle.jos_base.proofs.Maps.{upd-at, upd-other}
+use Rattle.jos_base.proofs.Puts.{put-at}
+use Rattle.jos_base.proofs.Released.{released_entries}
 
 -- the frames of the list have numbers below the limit
 abbrev pub AreBelow : List ℕ → Type 0
@@ -36,7 +37,7 @@ is_unnamed _ = false
 -- ---- one frame gets another use
 
 upd-cases : {V : Type 0} (f : ℕ → V) (k : ℕ) (v : V) (q : ℕ) → ((q ≡ k) × (upd f k v q ≡ v)) ⊎ (upd f k v q ≡ f q)
-upd-cases f k v q = elim (same_or q k) [
+upd-cases f k v q = elim (cases_eq q k) [
   | inl e ↦ inl (e, ap (upd f k v) e ∙ upd-at f k v)
   | inr ne ↦ inr (upd-other f k v q ne)
 ]
@@ -92,7 +93,7 @@ region_put s h d r region is_table small new = record {
   owners = h.owners;
   within = h.within;
   small = h.small;
-  regions = λ q p e is. put-stands s.regions d r region q (p / NPTENTRIES) ∙ or_true _ _ (h.regions q p e is);
+  regions = λ q p e is. put-stands s.regions d r region q (p / NPTENTRIES) ∙ or_right _ _ (h.regions q p e is);
   tables = λ q i x is. elim (put-some s.regions d r region x q i is) [
     | inl here ↦ (ap (λ (y : Region). s.uses y.table) here.2 ∙ is_table, subst (λ (y : Region). y.table < frame_limit) (sym here.2) small)
     | inr there ↦ h.tables q i x there
@@ -109,10 +110,6 @@ region_put s h d r region is_table small new = record {
   ];
   free_list = h.free_list;
 }
-  where
-    or_true : (a b : Bool) → b ≡ true → (a || b) ≡ true
-    or_true true b e = refl
-    or_true false b e = e
 
 -- a page gets an entry
 entry_put : (s : SpacesState) → HasOneUse s → (d p : ℕ) (e : Entry) → s.uses e.frame ≡ page → s.uses d ≡ directory →

@@ -31,11 +31,11 @@ use Rattle.lib_os.specs.LibrarySteps.{Leaves, KeepsUses}
 use Rattle.lib_os.specs.Places.{words_entered}
 use Rattle.lib_os.proofs.FramesKept.{destroyed_frames, touched_frames}
 use Rattle.lib_os.proofs.Leaving.{running_calm}
-use Rattle.lib_os.proofs.Maps.{upd-at}
 use Rattle.lib_os.proofs.Slots.{slot_put}
 use Rattle.jos_run.specs.FencedMemory.{fenced_memory}
 use Rattle.jos_run.specs.GuestSteps.{after_event, after_instruction, guest_instruction}
 use Rattle.jos_run.proofs.GuestUses.{guest_uses}
+use Rattle.jos_base.proofs.Maps.{upd-at}
 
 -- what a step of the program in slot n leaves of a state
 pub record GuestLeaves (s : KernelState) (n : ℕ) (after : KernelState) : Type 0 where

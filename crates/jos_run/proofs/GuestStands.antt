@@ -16,11 +16,10 @@ use Rattle.jos_base.specs.Environments.{Slot as KernelSlot, free_slot, records_o
 use Rattle.jos_base.specs.KernelState.{KernelState, slot_at, with_slot_at, with_registers, with_extra, with_spaces}
 use Rattle.jos_base.specs.Lines.{line_text}
 use Rattle.jos_base.specs.Reach.{Entry}
-use Rattle.jos_base.specs.SpacesState.{SpacesState, Use, reserved, free, fresh, page, directory, table, is_directory, destroyed}
+use Rattle.jos_base.specs.SpacesState.{SpacesState, page, directory, destroyed}
 use Rattle.jos_base.specs.SystemCalls.{Did, Trapped, handled, delivered_to, deliver_fault, trapped_by, killed, without_environment}
 use Rattle.jos_base.specs.UserMemory.{is_allowed, fault_at, byte_at, touched, stored_byte}
 use Rattle.jos_base.specs.Words.{page_number, upd}
-use Rattle.jos_isa.proofs.Booleans.{both_true}
 use Rattle.jos_cpu.specs.declared.events.Event.{Event}
 use Rattle.jos_cpu.specs.declared.events.Event.TheVariants.{Next, Soft, Raised}
 use Rattle.jos_cpu.specs.declared.events.Gates.TheVariants.{Run}
@@ -48,7 +47,6 @@ use Rattle.lib_os.proofs.BytesRead.{user_allows, user_faults, user_entry, user_b
 use Rattle.lib_os.proofs.BytesStand.{stored_stands}
 use Rattle.lib_os.proofs.EndsStand.{ended_stands}
 use Rattle.lib_os.proofs.Fences.{inside_number}
-use Rattle.lib_os.proofs.Maps.{upd-at, upd-twice}
 use Rattle.lib_os.proofs.Removing.{destroyed_gone}
 use Rattle.lib_os.proofs.Serving.{words_of_none}
 use Rattle.lib_os.proofs.SlotsSet.{both_set}
@@ -56,10 +54,15 @@ use Rattle.lib_os.proofs.SlotsStand.{born_at, born_live}
 use Rattle.lib_os.proofs.StatesStand.{slot_changed, printed_stands, quiet_stands, Settles}
 use Rattle.lib_os.proofs.Touching.{touched_quiet, byte_stored}
 use Rattle.lib_os.proofs.UsesKept.{touched_kept, stored_kept}
-use Rattle.jos_run.specs.FencedMemory.{fenced_memory, fenced_memory_is_lawful}
+use Rattle.jos_run.specs.FencedMemory.{fenced_memory}
+use Rattle.jos_run.specs.MemoryProofs.{fenced_memory_is_lawful}
 use Rattle.jos_run.specs.GuestSteps.{quietly, goes_on, service_entered, after_event, after_instruction, guest_instruction}
 use Rattle.jos_run.proofs.ServicesEntered.{place_entered}
-use Rattle.jos_run.proofs.SpacesKept.{touched_uses, stored_uses, spaces_kept}
+use Rattle.jos_run.proofs.SpacesKept.{touched_uses, spaces_kept}
+use Rattle.std.proofs.lemmas.Bool.{and_parts}
+use Rattle.jos_base.proofs.Maps.{upd-at, upd-twice}
+use Rattle.jos_base.proofs.Uses.{directory_is}
+use Rattle.jos_space.proofs.Keeping.{stored_uses}
 
 -- ---- a store in the abstract system
 
@@ -124,20 +127,11 @@ module _ (names : Names) (s : KernelState) (a : AbstractState) (n : ℕ) (it : B
   byte_is : (is_inside va && is_allowed s.spaces own_directory va access) ≡ true →
       guest_byte a (Some it) va ≡ byte_at (records_of s.environments) s.spaces own_directory va
   byte_is on =
-      let k = both_true (is_inside va) (is_allowed s.spaces own_directory va access) on in
+      let k = and_parts (is_inside va) (is_allowed s.spaces own_directory va access) on in
       let may = sym (user_allows names s a n it h there va k.0 access) ∙ k.1 in
       sym (user_byte_is names s a n it h there va k.0 (records_of s.environments) (readable (page_at it va) access may))
 
 -- ---- the kernel's steps
-
--- what is a directory is used as one
-used_so : (u : Use) → is_directory u ≡ true → u ≡ directory
-used_so reserved is = absurd cc
-used_so free is = absurd cc
-used_so fresh is = absurd cc
-used_so page is = absurd cc
-used_so directory is = refl
-used_so table is = absurd cc
 
 module _ (t : KernelState) (n : ℕ) (regs : Regs) where
   abbrev after : KernelState
@@ -279,7 +273,7 @@ module _ (names : Names) (n : ℕ) (k : KernelSlot) (is_guest : place_of k ≡ p
         Alike (record { state = with_spaces m.state (stored_byte m.state.spaces d va byte); directory = m.directory })
         (record { state = stored g.state n it va byte; slot = n })
     alike_put va byte on =
-        let h = both_true (is_inside va) (is_allowed m.state.spaces d va Write) on in record {
+        let h = and_parts (is_inside va) (is_allowed m.state.spaces d va Write) on in record {
           loaded = r.loaded;
           slot = refl;
           kept = r.kept;
@@ -335,7 +329,7 @@ module _ (names : Names) (n : ℕ) (k : KernelSlot) (is_guest : place_of k ≡ p
     ends why =
         let h = r.stands.in_order in
         let own_space = (slot_at m.state n).directory in
-        let used = used_so (m.state.spaces.uses own_space) (h.spaces.in_use n (born_live born_stands)) in record {
+        let used = directory_is (m.state.spaces.uses own_space) (h.spaces.in_use n (born_live born_stands)) in record {
           printed = λ i. r.after.console_is i ++ line_text (sym born_stands.id i) why;
           stands = λ order. printed_stands (ended_stands r.stands n r.after.it r.after.there (destroyed_gone m.state.spaces own_space h.frames used) order)
               (line_text r.after.it.id why);

@@ -15,7 +15,6 @@ use Rattle.jos_base.specs.KernelState.{KernelState, slot_at, with_extra, with_re
 use Rattle.jos_base.specs.Reach.{write_bit}
 use Rattle.jos_base.specs.SystemCalls.{Did}
 use Rattle.jos_base.specs.UserMemory.{is_allowed, fault_at, byte_at, touched, stored_byte}
-use Rattle.jos_isa.proofs.Booleans.{both_true}
 use Rattle.jos_cpu.specs.declared.events.Event.{Event}
 use Rattle.jos_cpu.specs.declared.events.Event.TheVariants.{Soft}
 use Rattle.jos_cpu.specs.declared.events.Gates.TheVariants.{Run}
@@ -40,6 +39,7 @@ use Rattle.jos_run.specs.GuestSteps.{after_event, after_instruction, guest_instr
 use Rattle.jos_run.specs.Served.{Parts, kernel_state}
 use Rattle.jos_run.proofs.Accesses.{refused_state}
 use Rattle.jos_run.proofs.Printed.{printed, prints}
+use Rattle.std.proofs.lemmas.Bool.{and_parts}
 
 abbrev pub serving : KernelState → ℕ → ℕ → ℕ → Serving
 serving s n calls written = record { memory = own_memory s n; slot = n; calls = calls; written = written }
@@ -67,7 +67,7 @@ user_readable s d va access on =
 pub readable : (m : Serving) (va : ℕ) (access : Access) → served_memory.allowed m va access ≡ true → served_memory.allowed m va Read ≡ true
 unfolding served_memory fenced_memory user_memory
 readable m va access on =
-    let k = both_true (is_inside va) (allowed_in m.memory.state m.memory.directory va access) on in
+    let k = and_parts (is_inside va) (allowed_in m.memory.state m.memory.directory va access) on in
     rw k.0 (by_directory m.memory.directory k.1)
   where
     by_directory : (o : Option ℕ) → allowed_in m.memory.state o va access ≡ true → allowed_in m.memory.state o va Read ≡ true
@@ -85,7 +85,7 @@ module _ (s : KernelState) (n calls written : ℕ) where
       (is_live own_slot ≡ true) × (is_allowed s.spaces own_slot.directory va access ≡ true)
   unfolding served_memory fenced_memory user_memory
   live_where va access on =
-      let k = both_true (is_inside va) (allowed_in s (directory_in own_slot) va access) on in by_life (is_live own_slot) k.1
+      let k = and_parts (is_inside va) (allowed_in s (directory_in own_slot) va access) on in by_life (is_live own_slot) k.1
     where
       by_life : (c : Bool) → allowed_in s (if c then Some own_slot.directory else None) va access ≡ true →
           (c ≡ true) × (is_allowed s.spaces own_slot.directory va access ≡ true)

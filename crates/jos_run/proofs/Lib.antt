@@ -7,7 +7,6 @@ pub mod Printed
 pub mod Puts
 pub mod RunsKept
 pub mod TurnsTaken
-pub mod Words
 pub mod SpacesKept
 pub mod ServicesEntered
 pub mod GuestStands

@@ -6,14 +6,14 @@ use Rattle.std.proofs.Common.{length, refl, sym, ap, subst, arith, if◌then◌e
 use Rattle.std.specs.Prelude.{nat_lt}
 use Rattle.std.specs.List.{All}
 use Rattle.std.specs.Option.{option_map}
-use Rattle.std.proofs.lemmas.Bool.{false≢true}
+use Rattle.std.proofs.lemmas.Bool.{cases_eq}
 use Rattle.std.proofs.lemmas.Bool.Decides.{nat_tests}
 use Rattle.std.proofs.lemmas.Option.{same_Some}
 use Rattle.jos_base.specs.Counting.{frame_limit, page_limit}
 use Rattle.jos_base.specs.Environments.{Environments, no_extra}
 use Rattle.jos_base.specs.KernelState.{KernelState, HasSpaces, slot_at, with_spaces}
 use Rattle.jos_base.specs.Reach.{Entry}
-use Rattle.jos_base.specs.SpacesState.{SpacesState, Use, reserved, free, fresh, page, directory, table, is_directory, allocated}
+use Rattle.jos_base.specs.SpacesState.{SpacesState, free, directory, is_directory, allocated}
 use Rattle.jos_base.specs.SpacesState.{with_page_bytes}
 use Rattle.jos_base.specs.SystemCalls.{has_write, is_page_perm}
 use Rattle.jos_base.specs.Words.{upd}
@@ -27,10 +27,8 @@ use Rattle.lib_os.specs.InOrder.{IsInOrder}
 use Rattle.lib_os.specs.Need.{EachHasUse}
 use Rattle.lib_os.specs.StandsFor.{StandsFor, Names, rows_of, page_by, page_seen, is_shared, lasting}
 use Rattle.lib_os.proofs.Effects.{Made}
-use Rattle.lib_os.proofs.Maps.{upd-at, upd-other}
 use Rattle.lib_os.proofs.PagesStand.{regions_placed, row_placed}
 use Rattle.lib_os.proofs.Placing.{allocated_made}
-use Rattle.lib_os.proofs.Puts.{same_or}
 use Rattle.lib_os.proofs.Serving.{words_of_none}
 use Rattle.lib_os.proofs.SlotsStand.{minds_page, born_at, born_live}
 use Rattle.lib_os.proofs.UsesFound.{bytes_found}
@@ -41,19 +39,13 @@ use Rattle.jos_run.specs.Start.{first_memory, first_slot, page_of, program_with,
 use Rattle.jos_run.proofs.FramesTaken.{AreBelow, Takes, allocated_entry, allocated_takes}
 use Rattle.jos_run.proofs.PagesFilled.{filled_one_use, filled_stands, has_page-put}
 use Rattle.jos_run.proofs.StackLoaded.{stack-touched, stack-writes}
+use Rattle.jos_base.proofs.Maps.{upd-at, upd-other}
+use Rattle.jos_base.proofs.Uses.{directory_is}
 
 abbrev pub the_names : Names
 the_names = record { name = λ f. f; frame = λ name. name }
 
 -- ---- small facts
-
-directory_is : (u : Use) → is_directory u ≡ true → u ≡ directory
-directory_is directory is = refl
-directory_is reserved is = absurd (false≢true is)
-directory_is free is = absurd (false≢true is)
-directory_is fresh is = absurd (false≢true is)
-directory_is page is = absurd (false≢true is)
-directory_is table is = absurd (false≢true is)
 
 -- where no page is seen there is no entry
 pub no_entry : (names : Names) (s : SpacesState) (d p : ℕ) → page_seen names s d p ≡ None → s.entries d p ≡ None
@@ -204,7 +196,7 @@ module _ (image : Layout) (words : List (List ℕ)) (input : List ℕ) (frames :
 
     -- one page more
     below-next : (n p : ℕ) → memory_below (suc n) p ≡ upd (memory_below n) n (page_of segments file n) p
-    below-next n p = elim (same_or p n) [
+    below-next n p = elim (cases_eq p n) [
       | inl e ↦
           let test : nat_lt n (suc n) ≡ true = grind (arith, nat_tests) in
           ap (memory_below (suc n)) e
@@ -235,7 +227,7 @@ module _ (image : Layout) (words : List (List ℕ)) (input : List ℕ) (frames :
         (λ i p. below-next n p i)
         ∙ ap (λ (b : Bool). upd (memory_below n) n (if b then Some (own (page_bytes segments file n) (any_writes n segments)) else
         None)) untouched
-        ∙ (λ i p. nothing p (same_or p n) i)
+        ∙ (λ i p. nothing p (cases_eq p n) i)
       where
         nothing : (p : ℕ) → (p ≡ n) ⊎ (p ≢ n) → upd (memory_below n) n None p ≡ memory_below n p
         nothing p (inl e) = ap (upd (memory_below n) n None) e ∙ upd-at (memory_below n) n None ∙ sym (ap (memory_below n) e ∙ below-at n)

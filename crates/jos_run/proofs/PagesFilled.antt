@@ -1,5 +1,5 @@
 -- A page of an environment's own that is new and has bytes, and which regions have pages.
-use Rattle.std.proofs.Common.{◌≡◌, ◌∙◌, ◌+◌, ◌-◌, ◌*◌, ◌/◌, ◌<◌, ◌||◌, inl, inr, ℕ, zero, suc, Bool, true, false, List, Option, Some}
+use Rattle.std.proofs.Common.{◌≡◌, ◌∙◌, ◌+◌, ◌-◌, ◌*◌, ◌/◌, inl, inr, ℕ, Bool, true, false, List, Option, Some}
 use Rattle.std.proofs.Common.{refl, sym, ap, subst, arith}
 use Rattle.std.specs.Prelude.{is_some}
 use Rattle.std.proofs.lemmas.Option.{same_Some}
@@ -9,7 +9,6 @@ use Rattle.jos_base.specs.Reach.{Entry}
 use Rattle.jos_base.specs.SpacesState.{SpacesState, put, with_page_bytes}
 use Rattle.jos_base.specs.SystemCalls.{has_write, is_page_perm}
 use Rattle.jos_base.specs.Words.{upd}
-use Rattle.fs_layout.specs.DiskImage.{some_below}
 use Rattle.lib_os.specs.AbstractMemory.{has_page_in}
 use Rattle.lib_os.specs.AbstractState.{AbstractState, Born, Page, own, born, with_born}
 use Rattle.lib_os.specs.InOrder.{HasOneUse, IsInOrder}
@@ -17,11 +16,12 @@ use Rattle.lib_os.specs.Places.{place_of}
 use Rattle.lib_os.specs.StandsFor.{StandsFor, Names, Rows, rows_of, is_shared, AreNamed, IsNamed}
 use Rattle.lib_os.proofs.Effects.{Made}
 use Rattle.lib_os.proofs.EntriesStand.{all_put, seen_own}
-use Rattle.lib_os.proofs.Maps.{Elsewhere, upd-at, upd-other}
 use Rattle.lib_os.proofs.PagesStand.{Puts, puts_stand, row_placed, row_elsewhere, other_regions}
-use Rattle.lib_os.proofs.Puts.{same_or}
 use Rattle.lib_os.proofs.SlotsStand.{minds_page}
-use Rattle.jos_run.proofs.Touched.{some-at}
+use Rattle.std.proofs.lemmas.Bool.{cases_eq}
+use Rattle.jos_base.proofs.Maps.{upd-at, upd-other}
+use Rattle.jos_base.proofs.Puts.{Elsewhere}
+use Rattle.fs_layout.proofs.Below.{some_below-at, some_below-same}
 
 -- ---- a page
 
@@ -97,22 +97,17 @@ filled_one_use s f bytes h = record {
 
 -- ---- regions
 
-some-same : (n : ℕ) (f g : ℕ → Bool) → ((i : ℕ) → i < n → f i ≡ g i) → some_below n f ≡ some_below n g
-unfolding some_below
-some-same zero f g same = refl
-some-same (suc n) f g same = λ i. some-same n f g (λ k lt. same k (omega arith)) i || same n (omega arith) i
-
 -- the region of a page that is put has a page
 pub has_page-put : (memory : ℕ → Option Page) (p : ℕ) (page : Page) (r : ℕ) →
     has_page_in (upd memory p (Some page)) r ≡ upd (has_page_in memory) (p / NPTENTRIES) true r
-has_page-put memory p page r = elim (same_or r (p / 1024)) [
+has_page-put memory p page r = elim (cases_eq r (p / 1024)) [
   | inl e ↦
       let place : r * 1024 + (p - r * 1024) ≡ p = omega arith in
-      some-at (λ k. is_some (upd memory p (Some page) (r * 1024 + k))) 1024 (p - r * 1024) (omega arith)
+      some_below-at (λ k. is_some (upd memory p (Some page) (r * 1024 + k))) 1024 (p - r * 1024) (omega arith)
       (ap (λ (q : ℕ). is_some (upd memory p (Some page) q)) place ∙ ap is_some (upd-at memory p (Some page)))
       ∙ sym (ap (upd (has_page_in memory) (p / 1024) true) e ∙ upd-at (has_page_in memory) (p / 1024) true)
   | inr ne ↦
-      some-same 1024 (λ k. is_some (upd memory p (Some page) (r * 1024 + k))) (λ k. is_some (memory (r * 1024 + k)))
+      some_below-same 1024 (λ k. is_some (upd memory p (Some page) (r * 1024 + k))) (λ k. is_some (memory (r * 1024 + k)))
       (λ k lt. ap is_some (upd-other memory p (Some page) (r * 1024 + k) (λ same. ne (omega arith))))
       ∙ sym (upd-other (has_page_in memory) (p / 1024) true r ne)
 ]

@@ -10,7 +10,7 @@ use Rattle.jos_base.specs.Reach.{Entry, Location, reach_entry, allows}
 use Rattle.jos_base.specs.UserMemory.{is_allowed}
 use Rattle.jos_base.specs.Windows.{walked}
 use Rattle.jos_base.specs.Words.{page_number}
-use Rattle.jos_kernel.specs.MemoryLaws.{reach_stored}
+use Rattle.jos_kernel.specs.MemoryProofs.{reach_stored}
 use Rattle.lib_os.specs.UserCalls.{with_user_byte}
 
 -- a right hangs on the page's entry alone

@@ -1,5 +1,5 @@
 -- Runs step after step, how they end, and what is told of them.
-use Rattle.std.proofs.Common.{◌≡◌, ◌≢◌, ◌∙◌, ℕ, zero, suc, ◌+◌, ◌-◌, ◌<◌, ◌≤◌, ◌==◌, ◌&&◌, ◌||◌, ◌⊎◌, inl, inr, Bool, true, false}
+use Rattle.std.proofs.Common.{◌≡◌, ◌≢◌, ◌∙◌, ℕ, ◌+◌, ◌-◌, ◌<◌, ◌≤◌, ◌==◌, ◌&&◌, Bool, true, false}
 use Rattle.std.proofs.Common.{List, [], ◌∷◌, ◌++◌, length}
 use Rattle.std.proofs.Common.{Option, Some, None, Ok, refl, sym, ap, subst, arith, append_assoc, if◌then◌else◌, vec_len}
 use Rattle.std.specs.Prelude.{nat_le, not, is_none}
@@ -9,11 +9,8 @@ use Rattle.std.proofs.lemmas.List.{append-nil, length-append}
 use Rattle.circular_buffer.specs.Buffer.{Buffer, buffer, keep_last}
 use Rattle.jos_host.specs.Frames.{from_to}
 use Rattle.jos_host.specs.Gains.{Gains}
-use Rattle.jos_base.specs.declared.environment.EnvType.{EnvType}
-use Rattle.jos_base.specs.declared.environment.Status.{Status}
-use Rattle.jos_base.specs.declared.environment.Status.TheVariants.{Runnable}
 use Rattle.jos_base.specs.declared.numbers.TheConstants.{NENV, TURN_MAX}
-use Rattle.jos_base.specs.Environments.{Slot as KernelSlot, is_live, is_running, is_runnable}
+use Rattle.jos_base.specs.Environments.{is_live, is_running}
 use Rattle.jos_base.specs.KernelState.{KernelState, slot_at, turn_ended}
 use Rattle.jos_envs.specs.Table.{may_run}
 use Rattle.jos_sched.specs.Quantum.{quantum}
@@ -25,7 +22,6 @@ use Rattle.jos_kernel.specs.declared.report.Refusal.{Refusal}
 use Rattle.jos_kernel.specs.declared.report.Turn.{Turn}
 use Rattle.jos_kernel.specs.declared.trace.TrapLine.{TrapLine}
 use Rattle.jos_kernel.proofs.ToldBytes.{gains_none, gains_more}
-use Rattle.fs_layout.specs.DiskImage.{some_below}
 use Rattle.lib_os.specs.AbstractState.{AbstractState, Slot, can_run}
 use Rattle.lib_os.specs.LibrarySteps.{Stands}
 use Rattle.lib_os.specs.StandsFor.{StandsFor, Names}
@@ -34,45 +30,20 @@ use Rattle.lib_os.proofs.StatesStand.{turn_ended_stands}
 use Rattle.jos_run.specs.Begun.{IsNew}
 use Rattle.jos_run.specs.declared.library_run.LibraryRun.{LibraryRun}
 use Rattle.jos_run.specs.AbstractTurns.{next_slot, is_client, any_live, end_of}
-use Rattle.jos_run.specs.LibraryRuns.{OnlyFirstServes, is_user, others_live, end_seen, turn_of, IsBetween, IsInTurn}
+use Rattle.jos_run.specs.LibraryRuns.{others_live, end_seen, turn_of, IsBetween, IsInTurn}
 use Rattle.jos_run.specs.RunReports.{HasEnded, CutOffBy, ToldBy, IsTold, IsToldCutOff}
 use Rattle.jos_run.specs.RunSteps.{traps_of, end_at, HasGone}
 use Rattle.jos_run.specs.Running.{state_of, made, turns_so_far, HasRoom, Holds, StandsBy, RunsBy, Runs, IsChosen, Went, HasFailed}
 use Rattle.jos_run.specs.Running.{EndsBy, HasRun, report_of, cut_off_of}
 use Rattle.jos_run.proofs.Advancing.{awake_running}
-use Rattle.jos_run.proofs.Choices.{end_stands, ended_none, next_stands, runs_stand}
+use Rattle.jos_run.proofs.Choices.{end_stands, ended_none, next_stands, runs_stand, only_first_serves}
 use Rattle.jos_run.proofs.RunsKept.{run_begins, between_fits, in_turn_ran, in_turn_fits, running_born}
 use Rattle.jos_run.proofs.RunSteps.{no_step, lead_further, no_trap, traps_further, none_kept, none_written, written_further, end_between, end_in_turn, budget_spent}
 use Rattle.jos_run.proofs.StepsMade.{none_made, some_made}
+use Rattle.fs_layout.proofs.Below.{some_below-at}
+use Rattle.jos_kernel.proofs.Choices.{runnable_live}
 
 -- ---- who is there
-
-below_cases : (i n : ℕ) → i < suc n → (i < n) ⊎ (i ≡ n)
-below_cases i n h = by_test (i == n) refl
-  where
-    by_test : (c : Bool) → (i == n) ≡ c → (i < n) ⊎ (i ≡ n)
-    by_test true is = inr (grind (arith, nat_tests))
-    by_test false is = inl (let other : i ≢ n = grind (arith, nat_tests) in omega (arith, h, other))
-
-or_true : (c : Bool) → (c || true) ≡ true
-or_true true = refl
-or_true false = refl
-
-some_passes : (passes : ℕ → Bool) (i n : ℕ) → i < n → passes i ≡ true → some_below n passes ≡ true
-unfolding some_below
-some_passes passes i zero h is = absurd (omega arith)
-some_passes passes i (suc n) h is = elim (below_cases i n h) [
-  | inl below ↦ ap (λ (c : Bool). c || passes n) (some_passes passes i n below is)
-  | inr same ↦ ap (λ (c : Bool). some_below n passes || c) (ap passes (sym same) ∙ is) ∙ or_true (some_below n passes)
-]
-
--- who is RUNNABLE is there
-pub runnable_live : (k : KernelSlot) → is_runnable k.status ≡ true → is_live k ≡ true
-runnable_live k runs = by_status k.status runs
-  where
-    by_status : (status : Status) → is_runnable status ≡ true → is_live (record k { status = status }) ≡ true
-    by_status Runnable runs = refl
-    by_status _ runs = absurd (let contradiction : false ≡ true = runs in cc)
 
 -- The slot that gets the next turn has an environment.
 pub next_live : (s : KernelState) (n : ℕ) → next s.environments s.last ≡ Some n → (n < NENV) × (is_live (slot_at s n) ≡ true)
@@ -83,11 +54,8 @@ pub next_other : (s : KernelState) (n : ℕ) → next s.environments s.last ≡ 
 next_other s n is other =
     let there = next_live s n is in
     let test : (n == 0) ≡ false = grind (arith, nat_tests) in
-    some_passes (λ m. not (m == 0) && is_live (slot_at s m)) n NENV there.0
+    some_below-at (λ m. not (m == 0) && is_live (slot_at s m)) NENV n there.0
     (ap (λ (c : Bool). not c && is_live (slot_at s n)) test ∙ there.1)
-
-users_first : {names : Names} {s : KernelState} {a : AbstractState} → StandsFor names s a → OnlyFirstServes s
-users_first h n other = ap (λ (x : EnvType). is_user x) (h.tabled.servers n other)
 
 -- ---- steps after steps
 
@@ -161,7 +129,7 @@ between_end r spent end none seen first frames printed = by_first r.first_refuse
       taken = record { ran = h.ran; fit = between_fits h; console = h.console };
       whole = λ other. h.fit;
       over = ap (λ (k : ℕ). end_of h.now k spent) (sym r.turns.ok.0)
-          ∙ end_stands h.stands.1 h.none (users_first h.stands.1) (vec_len r.turns) spent ∙ seen;
+          ∙ end_stands h.stands.1 h.none (only_first_serves h.stands.1) (vec_len r.turns) spent ∙ seen;
     }
 
     by_made : (c : Bool) → true ≡ c → StandsBy c r.schedule first r printed →
@@ -208,7 +176,7 @@ running_client : {names : Names} {s : KernelState} {a : AbstractState} → Stand
     is_running (slot_at s n).status ≡ true → any_live a ≡ true
 running_client {a = a} h n within runs =
     let who = running_born h n runs in
-    some_passes (λ m. is_client (a.slots m)) n NENV within (ap (λ (slot : Slot). is_client slot) who.1)
+    some_below-at (λ m. is_client (a.slots m)) NENV n within (ap (λ (slot : Slot). is_client slot) who.1)
 
 -- the steps are used up while an environment runs
 spent_end : (a : AbstractState) (turns : ℕ) → any_live a ≡ true → is_none (next_slot a) ≡ false → end_of a turns true ≡ Some Budget

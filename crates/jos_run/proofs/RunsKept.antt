@@ -35,6 +35,7 @@ use Rattle.jos_run.specs.AbstractTurns.{yields_in, is_yielding, has_yielded, has
 use Rattle.jos_run.specs.LibraryRuns.{NoneRuns, OnlyRuns, turn_of, IsBetween, IsInTurn, seen_after}
 use Rattle.jos_run.proofs.Choices.{runs_stand, next_stands, begun_only, ended_none}
 use Rattle.jos_run.proofs.TurnsTaken.{run_with_turn, taken_is, no_steps, one_more_step, all_fit_append, fits_append, all_fit_fits}
+use Rattle.std.proofs.Math.Bool.{or-true}
 
 -- ---- the beginning
 
@@ -168,21 +169,17 @@ whole_turn_fits schedule k before after t some whole =
     let same : (t.visible + t.hidden == quantum schedule k) ≡ true = grind (arith, nat_tests) in
     fits_by schedule k before after false t some (omega arith) (ap (λ (c : Bool). c || false || may_end before t after) same)
 
-or_true : (c : Bool) → (c || true) ≡ true
-or_true true = refl
-or_true false = refl
-
 pub short_turn_fits : (schedule : List ℕ) (k : ℕ) (before after : AbstractState) (t : Turn) → 0 < t.visible + t.hidden →
     t.visible + t.hidden ≤ quantum schedule k → may_end before t after ≡ true → turn_fits schedule k false before t after ≡ true
 short_turn_fits schedule k before after t some within may =
     fits_by schedule k before after false t some within
-    (ap (λ (c : Bool). (t.visible + t.hidden == quantum schedule k) || false || c) may ∙ or_true ((t.visible + t.hidden == quantum schedule k) || false))
+    (ap (λ (c : Bool). (t.visible + t.hidden == quantum schedule k) || false || c) may ∙ or-true ((t.visible + t.hidden == quantum schedule k) || false))
 
 pub last_turn_fits : (schedule : List ℕ) (k : ℕ) (before after : AbstractState) (t : Turn) → 0 < t.visible + t.hidden →
     t.visible + t.hidden ≤ quantum schedule k → turn_fits schedule k true before t after ≡ true
 last_turn_fits schedule k before after t some within =
     fits_by schedule k before after true t some within
-    (ap (λ (c : Bool). c || may_end before t after) (or_true (t.visible + t.hidden == quantum schedule k)))
+    (ap (λ (c : Bool). c || may_end before t after) (or-true (t.visible + t.hidden == quantum schedule k)))
 
 -- ---- where a turn may end
 
@@ -206,7 +203,7 @@ pub yielded_may_end : (before after : AbstractState) (t : Turn) → has_yielded 
     may_end before t after ≡ true
 yielded_may_end before after t yielded =
     ap (λ (c : Bool). not (can_run after t.slot) || stands_waiting (after.slots t.slot) || c) yielded
-    ∙ or_true (not (can_run after t.slot) || stands_waiting (after.slots t.slot))
+    ∙ or-true (not (can_run after t.slot) || stands_waiting (after.slots t.slot))
 
 -- ---- how the kernel tells it
 

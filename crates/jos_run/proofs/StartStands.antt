@@ -37,7 +37,7 @@ use Rattle.jos_run.proofs.FirstSpaces.{two_one_use, two_below}
 use Rattle.jos_run.proofs.FirstSpaces.{directory_one, directory_two, no_other}
 use Rattle.jos_run.proofs.PagesBegin.{Stage, program_stage, the_names}
 use Rattle.jos_run.proofs.StackLoaded.{fits-some}
-use Rattle.jos_run.proofs.Touched.{some-none}
+use Rattle.fs_layout.proofs.Below.{some_below-none}
 
 module _ (image : Layout) (words : List (List ℕ)) (input : List ℕ) (frames first n : ℕ) (has : HasFrames frames first n)
     (small : stack_size words ≤ 4096) where
@@ -99,7 +99,7 @@ module _ (image : Layout) (words : List (List ℕ)) (input : List ℕ) (frames f
     upcall = refl;
     descriptors = λ fd. refl;
     memory = λ p. sym (ap (option_map _) (no_row (first + 1) p));
-    regions = λ r. some-none (λ p. is_some (no_memory (r * 1024 + p))) 1024 (λ i lt. refl) ∙ sym (no_region (first + 1) r);
+    regions = λ r. some_below-none (λ p. is_some (no_memory (r * 1024 + p))) 1024 (λ i lt. refl) ∙ sym (no_region (first + 1) r);
     stack = not_resident;
     at = two.at_start first (first + 1) registers (rows_of spaces (first + 1)) born_first refl refl refl;
   }

@@ -1,5 +1,5 @@
 -- How many pages and regions the segments of an image touch.
-use Rattle.std.proofs.Common.{◌≡◌, ◌≢◌, ◌∙◌, subst, ℕ, zero, suc, ◌+◌, ◌-◌, ◌*◌, ◌/◌, ◌<◌, ◌≤◌, ◌==◌, ◌||◌, inl, inr, Bool, true}
+use Rattle.std.proofs.Common.{◌≡◌, ◌≢◌, ◌∙◌, subst, ℕ, zero, suc, ◌+◌, ◌-◌, ◌*◌, ◌/◌, ◌<◌, ◌≤◌, ◌==◌, inl, inr, Bool, true}
 use Rattle.std.proofs.Common.{false, List, refl, sym, ap, arith}
 use Rattle.std.proofs.lemmas.Bool.Decides.{nat_tests}
 use Rattle.jos_base.specs.Counting.{total}
@@ -7,9 +7,9 @@ use Rattle.jos_base.specs.Environments.{bit_of}
 use Rattle.jos_elf.specs.declared.image.Segment.{Segment}
 use Rattle.jos_kernel.specs.Boot.{any_touches}
 use Rattle.jos_kernel.specs.Loading.{IsFirstAt}
-use Rattle.fs_layout.specs.DiskImage.{some_below}
-use Rattle.lib_os.proofs.Puts.{same_or}
 use Rattle.jos_run.specs.Boot.{touches_region}
+use Rattle.std.proofs.lemmas.Bool.{cases_eq}
+use Rattle.fs_layout.proofs.Below.{some_below-at, some_below-none}
 
 -- ---- counts
 
@@ -55,31 +55,6 @@ module _ (test : ℕ → Bool) where
       bit true = omega arith
       bit false = omega arith
 
-  -- ---- some
-
-  pub some-at : (n i : ℕ) → i < n → test i ≡ true → some_below n test ≡ true
-  unfolding some_below
-  some-at zero i lt passes = absurd (omega arith)
-  some-at (suc n) i lt passes = by_case (λ lower. some-at n i lower passes) (i == n) refl
-    where
-      or_true : (b : Bool) → (b || true) ≡ true
-      or_true true = refl
-      or_true false = refl
-
-      by_case : (i < n → some_below n test ≡ true) → (t : Bool) → (i == n) ≡ t → (some_below n test || test n) ≡ true
-      by_case before true same =
-          let at : i ≡ n = grind (arith, nat_tests) in
-          ap (λ (b : Bool). some_below n test || b) (ap test (sym at) ∙ passes) ∙ or_true (some_below n test)
-      by_case before false other =
-          let ne : i ≡ n → ⊥ = grind (arith, nat_tests) in
-          ap (λ (b : Bool). b || test n) (before (omega (arith, ne)))
-
-  pub some-none : (n : ℕ) → ((i : ℕ) → i < n → test i ≡ false) → some_below n test ≡ false
-  unfolding some_below
-  some-none zero none = refl
-  some-none (suc n) none =
-      ap (λ (b : Bool). b || test n) (some-none n (λ i lt. none i (omega arith))) ∙ none n (omega arith)
-
 -- ---- the pages of a region
 
 module _ (segments : List Segment) (region : ℕ) where
@@ -91,17 +66,17 @@ module _ (segments : List Segment) (region : ℕ) where
       by_test true same =
           let at : number / 1024 ≡ region = grind (arith, nat_tests) in
           let whole : region * 1024 + (number - region * 1024) ≡ number = (let le = first.behind in omega arith) in
-          sym (some-at (λ k. any_touches (region * 1024 + k) segments) 1024 (number - region * 1024) (omega arith)
+          sym (some_below-at (λ k. any_touches (region * 1024 + k) segments) 1024 (number - region * 1024) (omega arith)
           (ap (λ (n : ℕ). any_touches n segments) whole ∙ first.passes))
       by_test false other =
           let ne : number / 1024 ≡ region → ⊥ = grind (arith, nat_tests) in
           let past : region * 1024 + 1024 ≤ number = (let le = first.behind in omega (arith, ne)) in
-          sym (some-none (λ k. any_touches (region * 1024 + k) segments) 1024
+          sym (some_below-none (λ k. any_touches (region * 1024 + k) segments) 1024
           (λ k lt. first.others (region * 1024 + k) (omega arith) (omega arith)))
 
   pub region-untouched : ((number : ℕ) → region * 1024 ≤ number → any_touches number segments ≡ false) →
       false ≡ touches_region segments region
-  region-untouched none = sym (some-none (λ k. any_touches (region * 1024 + k) segments) 1024
+  region-untouched none = sym (some_below-none (λ k. any_touches (region * 1024 + k) segments) 1024
       (λ k lt. none (region * 1024 + k) (omega arith)))
 
 -- ---- counts side by side
@@ -132,7 +107,7 @@ pub counted-drop : (f g : ℕ → Bool) (n k : ℕ) → k < n → ((q : ℕ) →
     counted f n + bit_of (g k) ≡ counted g n + bit_of (f k)
 unfolding total
 counted-drop f g zero k lt same = absurd (omega arith)
-counted-drop f g (suc n) k lt same = elim (same_or k n) [
+counted-drop f g (suc n) k lt same = elim (cases_eq k n) [
   | inl e ↦
       let before = counted-same f g n (λ q low. same q (λ at. absurd (omega arith))) in
       let at_f = ap (λ (q : ℕ). bit_of (f q)) e in

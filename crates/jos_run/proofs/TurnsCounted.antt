@@ -1,5 +1,5 @@
 -- What a run keeps between two steps: at its beginning, and where a step was counted.
-use Rattle.std.proofs.Common.{◌≡◌, ◌∙◌, ℕ, ◌+◌, ◌^◌, ◌<◌, ◌≤◌, ◌==◌, ◌&&◌, Bool, true, false, List, [], ◌∷◌, ◌++◌, length}
+use Rattle.std.proofs.Common.{◌≡◌, ◌∙◌, ℕ, ◌+◌, ◌^◌, ◌<◌, ◌≤◌, ◌==◌, Bool, true, false, List, [], ◌∷◌, ◌++◌, length}
 use Rattle.std.proofs.Common.{Option, Some, None, refl, sym, ap, subst, arith, if◌then◌else◌, vec_len, vec_capacity}
 use Rattle.std.specs.Prelude.{nat_lt, unwrap_or}
 use Rattle.std.specs.Option.{ForSome}
@@ -20,6 +20,7 @@ use Rattle.jos_run.specs.Running.{state_of, made, turns_so_far, Holds, made_afte
 use Rattle.jos_run.proofs.Refusals.{steps_append, no_steps_yet}
 use Rattle.jos_run.proofs.RunSteps.{ended_idle}
 use Rattle.jos_run.proofs.StepsMade.{none_made, more_made, told_turns, entered_last, entered_turns, Makes}
+use Rattle.std.proofs.lemmas.Bool.{and_parts}
 
 -- ---- the beginning
 
@@ -58,11 +59,6 @@ ended_turns s n = by_test (is_running (slot_at s n).status)
     by_test true = (refl, refl)
     by_test false = (refl, refl)
 
-both_of : (c d : Bool) → (c && d) ≡ true → (c ≡ true) × (d ≡ true)
-both_of true true is = (refl, refl)
-both_of true false is = absurd (let contradiction : false ≡ true = is in cc)
-both_of false d is = absurd (let contradiction : false ≡ true = is in cc)
-
 -- what a turn keeps in which a step is counted
 pub record InTurn (r : LibraryRun) : Type 0 where
   pub turns : (state_of r).turns ≡ vec_len r.turns + 1
@@ -81,7 +77,7 @@ counted_holds true old new done k goes_on t room =
     let test : false ≡ (made new == 0) = grind (arith, nat_tests) in
     let long : vec_len new.turns ≡ vec_len old.turns =
     new.turns.ok.0 ∙ ap (λ (l : List Turn). length l) k.turns ∙ sym old.turns.ok.0 in
-    let parts = both_of (is_running (slot_at (state_of old) old.served.slot).status)
+    let parts = and_parts (is_running (slot_at (state_of old) old.served.slot).status)
     (nat_lt (made_after old done) (quantum old.schedule (length old.turns.items)))
     goes_on in
     let below : made_after old done < quantum old.schedule (length old.turns.items) = (let is = parts.1 in grind (arith, nat_tests)) in

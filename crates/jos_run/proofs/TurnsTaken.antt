@@ -11,6 +11,7 @@ use Rattle.lib_os.specs.AbstractRun.{abs_step}
 use Rattle.jos_run.specs.AbstractTurns.{next_slot, turn_begun, and_then, steps_taken, is_chosen, turn_taken, abs_run}
 use Rattle.jos_run.specs.AbstractTurns.{may_end, turn_fits, is_empty, holds_of, fits, all_fit}
 use Rattle.jos_run.specs.LibraryRuns.{turn_of}
+use Rattle.std.proofs.lemmas.Bool.{and_parts, and_from}
 
 -- ---- one behind the other
 
@@ -79,14 +80,6 @@ one_more_step a b c n visible taken step =
 
 -- ---- which turns fit
 
-split_and : (c d : Bool) → (c && d) ≡ true → (c ≡ true) × (d ≡ true)
-split_and true true e = (refl, refl)
-split_and true false e = absurd (let contradiction : false ≡ true = e in cc)
-split_and false d e = absurd (let contradiction : false ≡ true = e in cc)
-
-both : (c d : Bool) → c ≡ true → d ≡ true → (c && d) ≡ true
-both c d c_is d_is = ap (λ (x : Bool). x && d) c_is ∙ d_is
-
 holds_there : {o : Option AbstractState} (b : AbstractState) (is : AbstractState → Bool) → o ≡ Some b → is b ≡ true → holds_of o is ≡ true
 holds_there b is there h = ap (λ (p : Option AbstractState). holds_of p is) there ∙ h
 
@@ -108,7 +101,7 @@ one_fits : (schedule : List ℕ) (k : ℕ) (is_last : Bool) (before after : Abst
     holds_of (turn_taken before t) (λ b. turn_fits schedule k is_last before t b && rest) ≡ true
 one_fits schedule k is_last before after t rest taken fit others =
     holds_there after (λ b. turn_fits schedule k is_last before t b && rest) taken
-    (both (turn_fits schedule k is_last before t after) rest fit others)
+    (and_from (turn_fits schedule k is_last before t after) rest fit others)
 
 same_state : (a b : AbstractState) → ◌≡◌ {A = Option AbstractState} (Some a) (Some b) → a ≡ b
 same_state a b is = ap (λ (o : Option AbstractState). unwrap_or o a) is
@@ -124,8 +117,8 @@ first_fits schedule k a before turn run whole further fit ran goes_on = by_taken
         and_then o run ≡ Some before → holds_of o (λ b. turn_fits schedule k false a turn b && further b) ≡ true
     by_taken None fit ran = fit
     by_taken (Some b) fit ran =
-        let parts = split_and (turn_fits schedule k false a turn b) (whole b) fit in
-        both (turn_fits schedule k false a turn b) (further b) parts.0 (goes_on b parts.1 ran)
+        let parts = and_parts (turn_fits schedule k false a turn b) (whole b) fit in
+        and_from (turn_fits schedule k false a turn b) (further b) parts.0 (goes_on b parts.1 ran)
 
 one_behind : (schedule : List ℕ) (is_last : Bool) (k length_of : ℕ) (before after : AbstractState) (t : Turn) →
     turn_fits schedule (k + suc length_of) is_last before t after ≡ true → turn_fits schedule (k + 1 + length_of) is_last before t after ≡ true
@@ -185,8 +178,8 @@ each_fits schedule k is_last a turn whole further fit goes_on = by_taken (turn_t
         holds_of o (λ b. turn_fits schedule k is_last a turn b && further b) ≡ true
     by_taken None fit = fit
     by_taken (Some b) fit =
-        let parts = split_and (turn_fits schedule k false a turn b) (whole b) fit in
-        both (turn_fits schedule k is_last a turn b) (further b) (as_it_is is_last b parts.0) (goes_on b parts.1)
+        let parts = and_parts (turn_fits schedule k false a turn b) (whole b) fit in
+        and_from (turn_fits schedule k is_last a turn b) (further b) (as_it_is is_last b parts.0) (goes_on b parts.1)
 
 -- They fit, where the last of them might be followed by others.
 pub all_fit_fits : (schedule : List ℕ) (k : ℕ) (a : AbstractState) (turns : List Turn) → all_fit schedule k a turns ≡ true →

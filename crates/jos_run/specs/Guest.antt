@@ -6,12 +6,12 @@ use Rattle.jos_base.specs.declared.line.Line.{Line}
 use Rattle.jos_base.specs.Environments.{Slot, is_live}
 use Rattle.jos_base.specs.KernelState.{KernelState, slot_at}
 use Rattle.jos_base.specs.SystemCalls.{Trapped, killed, trapped_by}
-use Rattle.jos_cpu.specs.Memory.{Memory, IsLawful}
+use Rattle.jos_cpu.specs.Memory.{Memory}
 use Rattle.jos_kernel.specs.declared.trace.TrapLine.{TrapLine}
 use Rattle.jos_kernel.specs.Running.{Running}
 use Rattle.jos_kernel.specs.Steps.{EnvStep}
 use Rattle.lib_os.specs.UserCalls.{Output, Prints, PrintsPart}
-use Rattle.jos_run.specs.FencedMemory.{fenced_memory, fenced_memory_is_lawful}
+use Rattle.jos_run.specs.FencedMemory.{fenced_memory}
 use Rattle.jos_run.specs.Served.{Parts, kernel_state}
 
 -- the memory that the processor sees, and beside it what no access changes
@@ -32,18 +32,6 @@ served_memory = record {
   reached = λ m va access. with_memory m (fenced_memory.reached m.memory va access);
   stored = λ m va byte. with_memory m (fenced_memory.stored m.memory va byte);
 }
-
--- This is a proof and no definition: `lawful` of a memory can import it from here alone.
-pub served_memory_is_lawful : IsLawful served_memory
-unfolding served_memory
-served_memory_is_lawful =
-    let f = fenced_memory_is_lawful in record {
-      reached_rights = λ m va access. f.reached_rights m.memory va access;
-      reached_faults = λ m va access. f.reached_faults m.memory va access;
-      stored_bytes = λ m va byte q. f.stored_bytes m.memory va byte q;
-      stored_rights = λ m va byte. f.stored_rights m.memory va byte;
-      stored_faults = λ m va byte. f.stored_faults m.memory va byte;
-    }
 
 -- the directory of an environment, where there is one
 abbrev pub directory_in : Slot → Option ℕ

@@ -4,6 +4,7 @@ pub mod Served
 pub mod FencedMemory
 pub mod GuestSteps
 pub mod Guest
+pub mod MemoryProofs
 pub mod Steps
 pub mod RunLaws
 pub mod Boot

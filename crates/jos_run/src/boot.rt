@@ -1,7 +1,7 @@
 //! How a run begins: the file server's environment in slot 0, and a program with its words in slot 1.
 
 ghost use Rattle.std.specs.Prelude.{◌≡◌, ℕ, ◌/◌, ◌<◌, ◌≤◌, List, [], ◌∷◌, Some, None, Ok, All, IfOk, IfErr, length, true, false};
-ghost use Rattle.jos_base.specs.declared.numbers.TheConstants.{FDTABLE, NPTENTRIES, PGSIZE};
+ghost use Rattle.jos_base.specs.declared.numbers.TheConstants.{FDTABLE, FRAMES_MAX, FRAMES_MIN, NPTENTRIES, PGSIZE};
 ghost use Rattle.jos_base.specs.SystemCalls.{environment_made};
 ghost use Rattle.jos_elf.specs.Parsed.{Lies, parsed};
 ghost use Rattle.jos_sys.specs.System.{state_of, spaces_of, Keeps, is_live_in};
@@ -191,8 +191,8 @@ pub fn boot_program(
 ) -> Result<System, BootFault>
     requires read { parsed file.now ≡ Ok image.now }
     requires fits { fits_stack (texts words.now) ≡ true }
-    requires least { 64 ≤ frames }
-    requires most { frames ≤ 65536 }
+    requires least { FRAMES_MIN ≤ frames }
+    requires most { frames ≤ FRAMES_MAX }
     ensures booted { IfOk result (λ system. (input : List ℕ) →
         booted_within image.now file.now (texts words.now) frames input ≡ Some (state_of system input)) }
     ensures pool { IfErr result (λ fault. fault ≡ BootFault.Pool → (input : List ℕ) →

@@ -47,7 +47,8 @@ fn missing(va: u32, access: Access) -> MemFault
 }
 
 impl Mem for Served {
-    ghost use Rattle.jos_run.specs.Guest.{Serving, served_memory, serving_of, served_memory_is_lawful};
+    ghost use Rattle.jos_run.specs.Guest.{Serving, served_memory, serving_of};
+    ghost use Rattle.jos_run.specs.MemoryProofs.{served_memory_is_lawful};
 
     ghost State = { Serving };
 

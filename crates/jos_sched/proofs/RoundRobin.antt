@@ -6,8 +6,8 @@ use Rattle.jos_base.specs.declared.numbers.TheConstants.{NENV}
 use Rattle.jos_base.specs.Environments.{Environments}
 use Rattle.jos_envs.specs.SlotSets.{IsFirst}
 use Rattle.jos_envs.specs.Table.{may_run}
-use Rattle.jos_envs.proofs.Maps.{lt_or_ge}
 use Rattle.jos_sched.specs.RoundRobin.{first_of, start, next}
+use Rattle.std.proofs.lemmas.Bool.{cases_lt}
 
 -- none of them is runnable
 first_of-none : (e : Environments) (slot count : ℕ) → ((k : ℕ) → k < count → may_run e ((slot + k) % NENV) ≡ false) → first_of e slot count ≡ None
@@ -37,7 +37,7 @@ first_of-some e slot (suc count) (suc d) lt passes others =
 
 -- a slot round the table's end
 round : (slot k : ℕ) → slot ≤ NENV → k < NENV → (((slot + k) % NENV ≡ slot + k) × (slot + k < NENV)) ⊎ (((slot + k) % NENV ≡ slot + k - NENV) × (NENV ≤ slot + k))
-round slot k most lt = elim (lt_or_ge (slot + k) NENV) [
+round slot k most lt = elim (cases_lt (slot + k) NENV) [
   | inl below ↦ inl (omega arith, below)
   | inr above ↦ inr (omega arith, above)
 ]
@@ -62,7 +62,7 @@ next_round e last None most none all = first_of-none e (start last) NENV (λ k l
 next_round e last (Some n) most none is =
     let from = start last in
     let within = is.within in
-    let before : n < from = (elim (lt_or_ge n from) [ inl lt ↦ lt | inr ge ↦ absurd (cc (none n ge within, is.passes)) ]) in
+    let before : n < from = (elim (cases_lt n from) [ inl lt ↦ lt | inr ge ↦ absurd (cc (none n ge within, is.passes)) ]) in
     let there : (from + (NENV - from + n)) % NENV ≡ n = omega arith in
     first_of-some e from NENV (NENV - from + n) (omega arith) (subst (λ z. may_run e z ≡ true) (sym there) is.passes)
     (λ k lt. elim (round from k most (omega arith)) [
@@ -110,7 +110,7 @@ first_of-all e slot (suc count) is k lt =
 -- nobody gets it exactly where none is runnable
 pub none_runs : (e : Environments) (last : Option ℕ) → start last ≤ NENV → next e last ≡ None → (n : ℕ) → n < NENV → may_run e n ≡ false
 unfolding next
-none_runs e last most is n lt = elim (lt_or_ge n (start last)) [
+none_runs e last most is n lt = elim (cases_lt n (start last)) [
   | inl before ↦
       let same : (start last + (NENV - start last + n)) % NENV ≡ n = omega arith in
       subst (λ z. may_run e z ≡ false) same (first_of-all e (start last) NENV is (NENV - start last + n) (omega arith))

@@ -16,9 +16,10 @@ use Rattle.jos_base.specs.Counting.{page_limit}
 use Rattle.jos_base.specs.Windows.{walked, page_entry, entry_above, read_only, window_byte}
 use Rattle.jos_base.specs.declared.numbers.TheConstants.{UTOP}
 use Rattle.jos_space.specs.AtHand.{bits_at_hand, frame_with, frame_by, IsStill, stored_word, word_laid}
-use Rattle.jos_space.proofs.Counts.{upd-at}
-use Rattle.jos_space.proofs.Lookups.{put-stays, upd-twice}
 use Rattle.jos_space.proofs.EntryBits.{part_stands, or_stays}
+use Rattle.jos_base.proofs.Maps.{upd-at, upd-twice}
+use Rattle.jos_base.proofs.Puts.{put-stays}
+use Rattle.jos_base.proofs.Walks.{walked_below}
 
 -- what stands where a frame is found
 pub record IsFound (s : SpacesState) (d number bits frame : ℕ) : Type 0 where
@@ -68,11 +69,6 @@ allowed_with perm Write stand = let part = part_stands perm 103 7 stand refl in 
 marked_stays : (perm : ℕ) (access : Access) → bit_and perm (bits_at_hand access) ≡ bits_at_hand access → bit_or perm (access_bits access) ≡ perm
 marked_stays perm Read stand = or_stays perm 32 (part_stands perm 37 32 stand refl)
 marked_stays perm Write stand = or_stays perm 96 (part_stands perm 103 96 stand refl)
-
--- below UTOP an access finds what the table says
-pub walked_below : (s : SpacesState) (d n : ℕ) → n < page_limit → walked s d n ≡ s.entries d n
-unfolding walked
-walked_below s d n below = let low : nat_lt n page_limit ≡ true = grind (arith, nat_tests) in rw low refl
 
 pub low_page : (va : ℕ) → va < UTOP → va / 4096 < page_limit
 unfolding page_limit

@@ -1,33 +1,26 @@
 -- A space is destroyed.
-use Rattle.std.proofs.Common.{◌≡◌, ◌≢◌, ◌∙◌, ◌+◌, ◌*◌, ◌/◌, ◌%◌, ◌<◌, ◌==◌, inl, inr, ℕ, zero, suc, Bool, true, false}
-use Rattle.std.proofs.Common.{cond, [], length, get_or, Option, Some, None, refl, sym, ap, subst, arith, length-set}
+use Rattle.std.proofs.Common.{◌≡◌, ◌≢◌, ◌∙◌, ◌+◌, ◌*◌, ◌/◌, ◌%◌, ◌<◌, inl, inr, ℕ, zero, suc}
+use Rattle.std.proofs.Common.{[], length, get_or, Option, Some, None, refl, sym, ap, subst, arith, length-set}
 use Rattle.std.specs.Prelude.{slice_set}
 use Rattle.std.specs.Option.{option_map}
-use Rattle.jos_base.specs.Counting.{page_count, page_limit}
-use Rattle.jos_base.specs.SpacesState.{Region, SpacesState, put, freed, released, without_entry, frame_of, unmapped}
+use Rattle.jos_base.specs.Counting.{page_limit}
+use Rattle.jos_base.specs.SpacesState.{Region, SpacesState, put, freed, without_entry, frame_of, unmapped}
 use Rattle.jos_base.specs.SpacesState.{pages_removed, without_region, tables_freed, region_limit}
 use Rattle.jos_space.specs.declared.role.Role.{Role}
 use Rattle.jos_space.specs.declared.role.Role.TheVariants.{Reserved, Directory, Table}
 use Rattle.jos_space.specs.Frames.{Held, IsSound, Lists, AreSound, IsIdle, held_in, state, state_of, use_of}
 use Rattle.jos_space.specs.Frames.{regions_of, entries_of, entry_in}
-use Rattle.jos_space.proofs.Counts.{same_or}
 use Rattle.jos_space.proofs.Freeing.{idle_table}
-use Rattle.jos_space.proofs.Lookups.{put-at, put-other, put-stays, below_or}
 use Rattle.jos_space.proofs.Marking.{entries_none, regions_past}
 use Rattle.jos_space.proofs.MapsPage.{region_is}
 use Rattle.jos_space.proofs.OverLists.{word-set}
 use Rattle.jos_space.proofs.TableLists.{below_directory}
 use Rattle.jos_space.proofs.Tables.{with_region, region_sound, region_state}
+use Rattle.std.proofs.lemmas.Bool.{cases_eq, cases_lt}
+use Rattle.jos_base.proofs.Puts.{put-at, put-other, put-stays}
+use Rattle.jos_base.proofs.Released.{released_entries}
 
 -- ---- pages
-
-released_entries : (s : SpacesState) (o : Option ℕ) → (released s o).entries ≡ s.entries
-released_entries s None = refl
-released_entries s (Some g) = by_test (page_count s.entries g == 0)
-  where
-    by_test : (b : Bool) → (cond b (freed s g) s).entries ≡ s.entries
-    by_test true = refl
-    by_test false = refl
 
 unmapped_entries : (s : SpacesState) (d p : ℕ) → (unmapped s d p).entries ≡ put s.entries d p None
 unfolding unmapped
@@ -38,7 +31,7 @@ unfolding pages_removed
 pages_gone s d zero p below = absurd (omega arith)
 pages_gone s d (suc n) p below =
     (λ i. unmapped_entries (pages_removed s d n) d n i d p)
-    ∙ elim (same_or p n) [
+    ∙ elim (cases_eq p n) [
       | inl same ↦ ap (put (pages_removed s d n).entries d n None d) same ∙ put-at (pages_removed s d n).entries d n None
       | inr ne ↦ put-other (pages_removed s d n).entries d n None d p (λ _. ne) ∙ pages_gone s d n p (omega arith)
     ]
@@ -49,7 +42,7 @@ page_limit_is = refl
 
 -- a space whose pages below UTOP are removed has none
 pub no_pages : (l : Lists) (s : SpacesState) (d : ℕ) → state l ≡ pages_removed s d page_limit → (p : ℕ) → (state l).entries d p ≡ None
-no_pages l s d is p = elim (below_or p page_limit) [
+no_pages l s d is p = elim (cases_lt p page_limit) [
   | inl below ↦ ap (λ (t : SpacesState). t.entries d p) is ∙ pages_gone s d page_limit p below
   | inr past ↦ entries_none l d p (regions_past l d (p / 1024) (let limit = page_limit_is in omega (arith, past, limit)))
 ]
@@ -69,14 +62,14 @@ unfolding tables_freed
 tables_gone s d zero r below = absurd (omega arith)
 tables_gone s d (suc n) r below =
     without_regions (tables_freed s d n) d n ((tables_freed s d n).regions d n) refl r
-    ∙ elim (same_or r n) [
+    ∙ elim (cases_eq r n) [
       | inl same ↦ ap (put (tables_freed s d n).regions d n None d) same ∙ put-at (tables_freed s d n).regions d n None
       | inr ne ↦ put-other (tables_freed s d n).regions d n None d r (λ _. ne) ∙ tables_gone s d n r (omega arith)
     ]
 
 -- a space whose tables below UTOP are freed has none
 pub no_tables : (l : Lists) (s : SpacesState) (d : ℕ) → state l ≡ tables_freed s d region_limit → (r : ℕ) → (state l).regions d r ≡ None
-no_tables l s d is r = elim (below_or r region_limit) [
+no_tables l s d is r = elim (cases_lt r region_limit) [
   | inl below ↦ ap (λ (t : SpacesState). t.regions d r) is ∙ tables_gone s d region_limit r below
   | inr past ↦ regions_past l d r past
 ]
@@ -157,9 +150,9 @@ module _ (l : Lists) (ok : AreSound l) (d r : ℕ) (dir : get_or l.roles d Reser
           absurd (apart first second)
 
       unnamed : (x q : ℕ) (other : Region) → put (state l).regions d r None x q ≡ Some other → other.table ≢ t
-      unnamed x q other there = elim (same_or x d) [
+      unnamed x q other there = elim (cases_eq x d) [
         | inr ne ↦ elsewhere x q other (λ e. absurd (ne e)) (sym (put-other (state l).regions d r None x q (λ e. absurd (ne e))) ∙ there)
-        | inl same_x ↦ elim (same_or q r) [
+        | inl same_x ↦ elim (cases_eq q r) [
           | inr ne ↦ elsewhere x q other (λ _. ne) (sym (put-other (state l).regions d r None x q (λ _. ne)) ∙ there)
           | inl same_q ↦
               absurd (let none : ◌≡◌ {A = Option Region} None (Some other) = sym (put-at (state l).regions d r None) ∙ (λ i. put (state l).regions d r None (sym same_x i) (sym same_q i)) ∙ there in cc)

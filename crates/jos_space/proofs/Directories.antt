@@ -6,15 +6,16 @@ use Rattle.std.specs.Option.{option_map}
 use Rattle.std.proofs.lemmas.Bool.Decides.{nat_tests}
 use Rattle.jos_base.specs.Words.{upd}
 use Rattle.jos_base.specs.Reach.{Entry}
-use Rattle.jos_base.specs.SpacesState.{Use, reserved, free, fresh, page, directory, table, Region, SpacesState, is_directory}
+use Rattle.jos_base.specs.SpacesState.{Use, free, fresh, page, directory, table, Region, SpacesState, is_directory}
 use Rattle.jos_base.specs.SpacesState.{directories, freed, released, created, created_from, fresh_of, fresh_from, frame_of}
 use Rattle.jos_base.specs.SpacesState.{with_entry, mapped, tabled_new, tabled_by, tabled, inserted}
 use Rattle.jos_base.specs.SpacesState.{unmapped, pages_removed, without_region, tables_freed, destroyed}
 use Rattle.jos_base.specs.SpacesState.{region_limit, taken, zero_page}
 use Rattle.jos_base.specs.Counting.{page_count, page_limit}
 use Rattle.jos_space.specs.Calls.{KeepsDirectories}
-use Rattle.jos_space.proofs.Counts.{upd-at, upd-other, same_or}
-use Rattle.jos_space.proofs.Lookups.{upd-twice}
+use Rattle.std.proofs.lemmas.Bool.{cases_eq}
+use Rattle.jos_base.proofs.Maps.{upd-at, upd-other, upd-twice}
+use Rattle.jos_base.proofs.Uses.{directory_is}
 
 -- no frame has become a directory
 pub NoMore : SpacesState → SpacesState → Type 0
@@ -22,22 +23,14 @@ NoMore s t = (f : ℕ) → t.uses f ≡ directory → s.uses f ≡ directory
 
 -- ---- both ways
 
-is_one : (u : Use) → is_directory u ≡ true → u ≡ directory
-is_one directory e = refl
-is_one reserved e = absurd cc
-is_one free e = absurd cc
-is_one fresh e = absurd cc
-is_one page e = absurd cc
-is_one table e = absurd cc
-
 same_test : (u v : Use) → (u ≡ directory → v ≡ directory) → (v ≡ directory → u ≡ directory) → is_directory v ≡ is_directory u
 same_test u v there back = by_test (is_directory u) refl (is_directory v) refl
   where
     by_test : (a : Bool) → is_directory u ≡ a → (b : Bool) → is_directory v ≡ b → is_directory v ≡ is_directory u
     by_test true e true k = k ∙ sym e
     by_test false e false k = k ∙ sym e
-    by_test true e false k = let d = ap is_directory (there (is_one u e)) in absurd cc
-    by_test false e true k = let d = ap is_directory (back (is_one v k)) in absurd cc
+    by_test true e false k = let d = ap is_directory (there (directory_is u e)) in absurd cc
+    by_test false e true k = let d = ap is_directory (back (directory_is v k)) in absurd cc
 
 pub same_directories : (s t : SpacesState) → KeepsDirectories s t → NoMore s t → directories t ≡ directories s
 unfolding NoMore
@@ -47,7 +40,7 @@ same_directories s t there back = λ i. λ f. same_test (s.uses f) (t.uses f) (t
 
 used : (s : SpacesState) (uses : ℕ → Use) (g : ℕ) (now : Use) → uses ≡ upd s.uses g now → (now ≡ directory → ⊥) →
     (f : ℕ) → uses f ≡ directory → s.uses f ≡ directory
-used s uses g now e not f is = elim (same_or f g) [
+used s uses g now e not f is = elim (cases_eq f g) [
   | inl same ↦ absurd (not (sym (upd-at s.uses g now) ∙ ap (upd s.uses g now) (sym same) ∙ (λ i. sym e i f) ∙ is))
   | inr ne ↦ sym (upd-other s.uses g now f ne) ∙ (λ i. sym e i f) ∙ is
 ]

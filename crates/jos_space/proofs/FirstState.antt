@@ -13,9 +13,10 @@ use Rattle.jos_space.specs.Frames.{IsSound, Lists, AreSound, held_in, state, reg
 use Rattle.jos_space.specs.Frames.{free_count, state_of, listed, first_role, records, zero_record}
 use Rattle.jos_base.specs.declared.numbers.TheConstants.{NENV}
 use Rattle.jos_base.specs.Environments.{records_of, record_words, free_slot, first_environments}
-use Rattle.jos_space.proofs.Counts.{page_count-none}
-use Rattle.jos_space.proofs.Lookups.{region_facts, entry_region, below_or}
+use Rattle.jos_space.proofs.Lookups.{region_facts, entry_region}
 use Rattle.jos_space.proofs.OverLists.{limit_is}
+use Rattle.std.proofs.lemmas.Bool.{cases_lt}
+use Rattle.jos_base.proofs.Counts.{page_count-none}
 
 -- what the lists hold
 pub record IsFirst (n : ℕ) (l : Lists) : Type 0 where
@@ -51,9 +52,9 @@ module _ (n : ℕ) (l : Lists) (is : IsFirst n l) where
   role_out f past = get_or_past l.roles f Reserved (let len = is.roles_len in omega (arith, len, past))
 
   no_directory : (d : ℕ) → get_or l.roles d Reserved ≡ Directory → ⊥
-  no_directory d dir = elim (below_or d (reserved_frames n)) [
+  no_directory d dir = elim (cases_lt d (reserved_frames n)) [
     | inl lt ↦ let r = role_low d lt in cc
-    | inr past ↦ elim (below_or d n) [
+    | inr past ↦ elim (cases_lt d n) [
       | inl lt ↦ let r = role_free d past lt in cc
       | inr out ↦ let r = role_out d out in cc
     ]
@@ -71,7 +72,7 @@ module _ (n : ℕ) (l : Lists) (is : IsFirst n l) where
   count_zero f = ap (λ (xs : List ℕ). get_or xs f 0) is.counts ∙ zeros n f
     where
       zeros : (n i : ℕ) → get_or {A = ℕ} (replicate n 0) i 0 ≡ 0
-      zeros n i = elim (below_or i n) [
+      zeros n i = elim (cases_lt i n) [
         | inl lt ↦ get_or-replicate n i 0 0 lt
         | inr past ↦ get_or_past (replicate n 0) i 0 (let len = length-replicate {A = ℕ} n 0 in omega (arith, len, past))
       ]
@@ -81,7 +82,7 @@ module _ (n : ℕ) (l : Lists) (is : IsFirst n l) where
   free_total zero le = omega arith
   free_total (suc m) le =
       let rest = free_total m (omega arith) in
-      elim (below_or m (reserved_frames n)) [
+      elim (cases_lt m (reserved_frames n)) [
         | inl lt ↦ let here = ap free_count (role_low m lt) in omega (arith, rest, here, lt)
         | inr past ↦ let here = ap free_count (role_free m past (omega arith)) in omega (arith, rest, here, past)
       ]
@@ -120,20 +121,20 @@ module _ (n : ℕ) (l : Lists) (is : IsFirst n l) where
       λ i. at i ∷ rest i
 
   use_first : (f : ℕ) → use_of (get_or l.roles f Reserved) ≡ cond (nat_lt f (reserved_frames n)) reserved (cond (nat_lt f n) free reserved)
-  use_first f = elim (below_or f (reserved_frames n)) [
+  use_first f = elim (cases_lt f (reserved_frames n)) [
     | inl lt ↦ let t : nat_lt f (reserved_frames n) ≡ true = grind (arith, nat_tests) in ap use_of (role_low f lt) ∙ sym (ap (λ b. cond b reserved (cond (nat_lt f n) free reserved)) t)
     | inr past ↦
         let t : nat_lt f (reserved_frames n) ≡ false = grind (arith, nat_tests) in
-        elim (below_or f n) [
+        elim (cases_lt f n) [
           | inl lt ↦ let u : nat_lt f n ≡ true = grind (arith, nat_tests) in ap use_of (role_free f past lt) ∙ sym (λ i. cond (t i) reserved (cond (u i) free reserved))
           | inr out ↦ let u : nat_lt f n ≡ false = grind (arith, nat_tests) in ap use_of (role_out f out) ∙ sym (λ i. cond (t i) reserved (cond (u i) free reserved))
         ]
   ]
 
   bytes_first : (f : ℕ) → bytes_by (get_or l.roles f Reserved) (get_or l.bytes f []) ≡ []
-  bytes_first f = elim (below_or f (reserved_frames n)) [
+  bytes_first f = elim (cases_lt f (reserved_frames n)) [
     | inl lt ↦ ap (λ (r : Role). bytes_by r (get_or l.bytes f [])) (role_low f lt)
-    | inr past ↦ elim (below_or f n) [
+    | inr past ↦ elim (cases_lt f n) [
       | inl lt ↦ ap (λ (r : Role). bytes_by r (get_or l.bytes f [])) (role_free f past lt)
       | inr out ↦ ap (λ (r : Role). bytes_by r (get_or l.bytes f [])) (role_out f out)
     ]

@@ -10,11 +10,12 @@ use Rattle.jos_space.specs.declared.role.Role.{Role}
 use Rattle.jos_space.specs.declared.role.Role.TheVariants.{Reserved, Free, Fresh, Page, Directory, Table}
 use Rattle.jos_space.specs.Frames.{Held, IsSound, Lists, AreSound, IsIdle, held_in, state, state_of, use_of, is_used}
 use Rattle.jos_space.specs.Frames.{free_count, regions_of, entries_of}
-use Rattle.jos_space.proofs.Counts.{page_count-some}
 use Rattle.jos_space.proofs.Lookups.{region_facts, entry_limits}
-use Rattle.jos_space.proofs.OverLists.{look-set, free_fewer, limit_is}
+use Rattle.jos_space.proofs.OverLists.{free_fewer, limit_is}
 use Rattle.jos_space.proofs.Roles.{below_frames, is_reserved, is_table, no_table, freed_held, freed_sound}
 use Rattle.jos_space.proofs.Roles.{freed_state}
+use Rattle.jos_base.proofs.Counts.{page_count-some}
+use Rattle.jos_base.proofs.Lists.{get_or-set}
 
 not_free : (role : Role) → is_used (use_of role) ≡ true → free_count role ≡ 0
 not_free Reserved is = refl
@@ -82,8 +83,8 @@ module _ (l : Lists) (ok : AreSound l) (g : ℕ) (idle : IsIdle (state l) g) whe
       let one : l.free_len + 1 ≡ suc l.free_len = omega arith in
       λ i. record (held_in l) {
         frames = length-set l.roles g (Free l.free_len) i;
-        role = λ f. look-set l.roles g (Free l.free_len) Reserved freed_below f i;
-        place = λ k. look-set l.order l.free_len g 0 freed_place k i;
+        role = λ f. get_or-set l.roles g (Free l.free_len) Reserved freed_below f i;
+        place = λ k. get_or-set l.order l.free_len g 0 freed_place k i;
         free_len = one i;
       }
 

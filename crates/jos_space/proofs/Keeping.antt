@@ -13,14 +13,15 @@ use Rattle.jos_base.specs.Windows.{table_index}
 use Rattle.std.specs.Prelude.{nat_lt, ◌==◌}
 use Rattle.jos_space.specs.AtHand.{stored_word}
 use Rattle.jos_space.specs.Calls.{has_bytes, KeepsDirectories}
-use Rattle.jos_space.proofs.Counts.{upd-other, same_or}
+use Rattle.std.proofs.lemmas.Bool.{cases_eq}
+use Rattle.jos_base.proofs.Maps.{upd-other}
 
 pub keeps_same : (s t : SpacesState) → t.uses ≡ s.uses → KeepsDirectories s t
 keeps_same s t same f is = (λ i. same i f) ∙ is
 
 -- a frame that is no directory gets another use
 pub keeps_other : (s t : SpacesState) (g : ℕ) (now : Use) → t.uses ≡ upd s.uses g now → (s.uses g ≡ directory → ⊥) → KeepsDirectories s t
-keeps_other s t g now uses not f is = elim (same_or f g) [
+keeps_other s t g now uses not f is = elim (cases_eq f g) [
   | inl same ↦ absurd (not (ap s.uses (sym same) ∙ is))
   | inr ne ↦ (λ i. uses i f) ∙ upd-other s.uses g now f ne ∙ is
 ]

@@ -1,4 +1,3 @@
-pub mod Counts
 pub mod Lookups
 pub mod Mapping
 pub mod Uses

@@ -1,51 +1,16 @@
 -- What looks up what: regions by directories' words, entries by tables' words.
-use Rattle.std.proofs.Common.{◌≡◌, ◌≢◌, ◌∙◌, ◌/◌, ◌%◌, ◌<◌, ◌≤◌, ◌==◌, ◌⊎◌, inl, inr, ℕ, zero, suc, Bool, true, false}
-use Rattle.std.proofs.Common.{cond, ◌∷◌, Option, Some, None, refl, sym, ap, arith}
+use Rattle.std.proofs.Common.{◌≡◌, ◌∙◌, ◌/◌, ◌%◌, ◌<◌, inl, inr, ℕ, zero, suc, Bool, true, false}
+use Rattle.std.proofs.Common.{cond, ◌∷◌, Option, Some, None, refl, ap, arith}
 use Rattle.std.specs.Prelude.{nat_lt}
 use Rattle.std.proofs.lemmas.Bool.Decides.{nat_tests}
-use Rattle.jos_base.specs.Words.{upd}
 use Rattle.jos_base.specs.Reach.{Entry}
 use Rattle.jos_space.specs.declared.role.Role.{Role}
 use Rattle.jos_space.specs.declared.role.Role.TheVariants.{Reserved, Free, Fresh, Page, Directory, Table}
 use Rattle.jos_base.specs.Counting.{frame_limit, page_limit}
-use Rattle.jos_base.specs.SpacesState.{Region, put, region_limit}
+use Rattle.jos_base.specs.SpacesState.{Region, region_limit}
 use Rattle.jos_space.specs.Frames.{Held, IsSound, regions_of, entries_of, entry_in, entry_of, region_of, is_directory}
 use Rattle.jos_space.specs.Frames.{listed}
-use Rattle.jos_space.proofs.Counts.{upd-at, upd-other, same_or}
-
-pub upd-twice : {X : Type 0} (f : ℕ → X) (k : ℕ) (v w : X) → upd (upd f k v) k w ≡ upd f k w
-unfolding upd
-upd-twice {X = X} f k v w = λ i q. go (q == k) (f q) i
-  where
-    go : (b : Bool) (x : X) → cond b w (cond b v x) ≡ cond b w x
-    go true x = refl
-    go false x = refl
-
-pub upd-stays : {V : Type 0} (f : ℕ → V) (k : ℕ) (v : V) → v ≡ f k → (q : ℕ) → upd f k v q ≡ f q
-upd-stays f k v e q = elim (same_or q k) [
-  | inl same ↦ ap (upd f k v) same ∙ upd-at f k v ∙ e ∙ ap f (sym same)
-  | inr ne ↦ upd-other f k v q ne
-]
-
-module _ {V : Type 0} (f : ℕ → ℕ → V) (a b : ℕ) (v : V) where
-  pub put-at : put f a b v a b ≡ v
-  put-at = ap (λ (g : ℕ → V). g b) (upd-at f a (upd (f a) b v)) ∙ upd-at (f a) b v
-
-  pub put-other : (x y : ℕ) → (x ≡ a → y ≢ b) → put f a b v x y ≡ f x y
-  put-other x y ne = elim (same_or x a) [
-    | inl e ↦ ap (λ z. put f a b v z y) e ∙ ap (λ (g : ℕ → V). g y) (upd-at f a (upd (f a) b v)) ∙ upd-other (f a) b v y (ne e) ∙ ap (λ z. f z y) (sym e)
-    | inr x_ne ↦ ap (λ (g : ℕ → V). g y) (upd-other f a (upd (f a) b v) x x_ne)
-  ]
-
--- what is put where it stands changes nothing
-pub put-stays : {V : Type 0} (f : ℕ → ℕ → V) (a b : ℕ) (v : V) → v ≡ f a b → (x y : ℕ) → put f a b v x y ≡ f x y
-put-stays f a b v is x y = elim (same_or x a) [
-  | inr ne ↦ put-other f a b v x y (λ e. absurd (ne e))
-  | inl same_x ↦ elim (same_or y b) [
-    | inr ne ↦ put-other f a b v x y (λ _. ne)
-    | inl same_y ↦ (λ i. put f a b v (same_x i) (same_y i)) ∙ put-at f a b v ∙ is ∙ (λ i. f (sym same_x i) (sym same_y i))
-  ]
-]
+use Rattle.std.proofs.lemmas.Bool.{cases_lt}
 
 pub listed-same : (g h : ℕ → ℕ) (n : ℕ) → ((k : ℕ) → k < n → g k ≡ h k) → listed g n ≡ listed h n
 unfolding listed
@@ -90,15 +55,12 @@ entry_region c d p entry is = by_region (regions_of c d (p / 1024)) refl is
     by_region None e is = absurd cc
     by_region (Some region) e is = (region, e, is)
 
-pub below_or : (a b : ℕ) → (a < b) ⊎ (b ≤ a)
-below_or a b = grind arith
-
 -- the numbers of a space and of a page whose region has a table
 pub region_limits : (n : ℕ) (c : Held) (d p : ℕ) (region : Region) → IsSound n c → regions_of c d (p / 1024) ≡ Some region → (d < frame_limit) × (p < page_limit)
 unfolding page_limit
 region_limits n c d p region sound is =
     let facts = region_facts c d (p / 1024) region is in
-    elim (below_or d n) [
+    elim (cases_lt d n) [
       | inl lt ↦ let limit = sound.limit in (omega arith, (let below : p / 1024 < region_limit = facts.1 in omega arith))
       | inr ge ↦ absurd (let out = sound.outside d ge in let dir = facts.0 in cc)
     ]
@@ -114,11 +76,3 @@ entries-by c e regions words d p = ap (λ o. entry_in e o (p % 1024)) (regions d
     by_region : (o : Option Region) → entry_in e o (p % 1024) ≡ entry_in c o (p % 1024)
     by_region None = refl
     by_region (Some region) = λ i. entry_of (words i region.table (p % 1024))
-
-pub map_upd : {X Y : Type 0} (g : X → Y) (f : ℕ → X) (k : ℕ) (v : X) (q : ℕ) → g (upd f k v q) ≡ upd (λ z. g (f z)) k (g v) q
-unfolding upd
-map_upd {X = X} {Y = Y} g f k v q = go (q == k) (f q)
-  where
-    go : (b : Bool) (x : X) → g (cond b v x) ≡ cond b (g v) (g x)
-    go true x = refl
-    go false x = refl

@@ -9,8 +9,12 @@ use Rattle.jos_base.specs.Counting.{frame_limit, page_limit, named, page_count}
 use Rattle.jos_base.specs.SpacesState.{Region, put, page, with_entry}
 use Rattle.jos_space.specs.Frames.{Held, IsSound, regions_of, entries_of, entry_in, entry_of, is_directory}
 use Rattle.jos_space.specs.Frames.{free_count, bytes_by, use_of, state_of, listed, may_map}
-use Rattle.jos_space.proofs.Counts.{upd-at, upd-other, same_or, total-same, page_count-put, page_count-same}
-use Rattle.jos_space.proofs.Lookups.{put-at, put-other, regions-same, region_limits, entries-by, map_upd}
+use Rattle.jos_space.proofs.Lookups.{regions-same, region_limits, entries-by}
+use Rattle.std.proofs.lemmas.Bool.{cases_eq}
+use Rattle.jos_base.proofs.Maps.{upd-at, upd-other, upd-seen}
+use Rattle.jos_base.proofs.Sums.{total-same}
+use Rattle.jos_base.proofs.Counts.{page_count-put, page_count-same}
+use Rattle.jos_base.proofs.Puts.{put-at, put-other}
 
 -- ---- a word of a region's table
 
@@ -45,12 +49,12 @@ module _ (n : ℕ) (c : Held) (sound : IsSound n c) (d p : ℕ) (region : Region
       by_region None e =
           sym (put-other (entries_of c) d p (entry_of w) x y (λ same_x same_y. absurd (let at : regions_of c x (y / 1024) ≡ regions_of c d (p / 1024) = (λ i. regions_of c (same_x i) (same_y i / 1024)) in cc))
           ∙ ap (λ o. entry_in c o (y % 1024)) e)
-      by_region (Some other) e = elim (same_or other.table region.table) [
+      by_region (Some other) e = elim (cases_eq other.table region.table) [
         | inr ne ↦
             ap entry_of (put-other c.word region.table (p % 1024) w other.table (y % 1024) (λ t. absurd (ne t)))
             ∙ sym (put-other (entries_of c) d p (entry_of w) x y (λ same_x same_y. absurd (let at : regions_of c x (y / 1024) ≡ regions_of c d (p / 1024) = (λ i. regions_of c (same_x i) (same_y i / 1024)) in let regions : ◌≡◌ {A = Option Region} (Some other) (Some region) = sym e ∙ at ∙ is in let tables : other ≡ region = cc in ne (ap (λ (r : Region). r.table) tables)))
             ∙ ap (λ o. entry_in c o (y % 1024)) e)
-        | inl t ↦ elim (same_or (y % 1024) (p % 1024)) [
+        | inl t ↦ elim (cases_eq (y % 1024) (p % 1024)) [
           | inl at ↦ (λ i. entry_of (put c.word region.table (p % 1024) w (t i) (at i))) ∙ here (one_page x y other e t at)
           | inr ne ↦
               ap entry_of (put-other c.word region.table (p % 1024) w other.table (y % 1024) (λ _. ne))
@@ -77,7 +81,7 @@ map_free (Free k) e = absurd cc
 map_free Directory e = absurd cc
 map_free (Table x y) e = absurd cc
 
-map_bytes : (role : Role) (bytes : List ℕ) → may_map role ≡ true → bytes_by role bytes ≡ bytes
+pub map_bytes : (role : Role) (bytes : List ℕ) → may_map role ≡ true → bytes_by role bytes ≡ bytes
 map_bytes Fresh bytes e = refl
 map_bytes Page bytes e = refl
 map_bytes Reserved bytes e = absurd cc
@@ -96,13 +100,13 @@ module _ (n : ℕ) (c : Held) (sound : IsSound n c) (d p : ℕ) (region : Region
 
   -- what is neither Fresh nor a page keeps its role
   keeps : (f : ℕ) (role : Role) → c.role f ≡ role → may_map role ≡ false → upd c.role entry.frame Page f ≡ role
-  keeps f role e no_map = elim (same_or f entry.frame) [
+  keeps f role e no_map = elim (cases_eq f entry.frame) [
     | inl same ↦ absurd (let at : c.role entry.frame ≡ role = ap c.role (sym same) ∙ e in let both = ap may_map at in cc)
     | inr ne ↦ upd-other c.role entry.frame Page f ne ∙ e
   ]
 
   same_directory : (f : ℕ) → is_directory (upd c.role entry.frame Page f) ≡ is_directory (c.role f)
-  same_directory f = elim (same_or f entry.frame) [
+  same_directory f = elim (cases_eq f entry.frame) [
     | inl same ↦ ap is_directory (ap (upd c.role entry.frame Page) same ∙ upd-at c.role entry.frame Page) ∙ sym (map_directory (c.role entry.frame) may) ∙ ap (λ q. is_directory (c.role q)) (sym same)
     | inr ne ↦ ap is_directory (upd-other c.role entry.frame Page f ne)
   ]
@@ -137,21 +141,21 @@ module _ (n : ℕ) (c : Held) (sound : IsSound n c) (d p : ℕ) (region : Region
       limits = region_limits n c d p region sound is
 
       same_free : (f : ℕ) → free_count (upd c.role entry.frame Page f) ≡ free_count (c.role f)
-      same_free f = elim (same_or f entry.frame) [
+      same_free f = elim (cases_eq f entry.frame) [
         | inl same ↦ ap free_count (ap (upd c.role entry.frame Page) same ∙ upd-at c.role entry.frame Page) ∙ sym (map_free (c.role entry.frame) may) ∙ ap (λ q. free_count (c.role q)) (sym same)
         | inr ne ↦ ap free_count (upd-other c.role entry.frame Page f ne)
       ]
 
       page_stays : (f : ℕ) → c.role f ≡ Page → upd c.role entry.frame Page f ≡ Page
-      page_stays f e = elim (same_or f entry.frame) [
+      page_stays f e = elim (cases_eq f entry.frame) [
         | inl same ↦ ap (upd c.role entry.frame Page) same ∙ upd-at c.role entry.frame Page
         | inr ne ↦ upd-other c.role entry.frame Page f ne ∙ e
       ]
 
       by_place : (x y : ℕ) (other : Entry) → put (entries_of c) d p (Some entry) x y ≡ Some other → upd c.role entry.frame Page other.frame ≡ Page
-      by_place x y other here = elim (same_or x d) [
+      by_place x y other here = elim (cases_eq x d) [
         | inr ne ↦ page_stays other.frame (sound.pages x y other (sym (put-other (entries_of c) d p (Some entry) x y (λ e. absurd (ne e))) ∙ here))
-        | inl same_x ↦ elim (same_or y p) [
+        | inl same_x ↦ elim (cases_eq y p) [
           | inr ne ↦ page_stays other.frame (sound.pages x y other (sym (put-other (entries_of c) d p (Some entry) x y (λ _. ne)) ∙ here))
           | inl same_y ↦
               let at : ◌≡◌ {A = Option Entry} (Some entry) (Some other) = sym (put-at (entries_of c) d p (Some entry)) ∙ (λ i. put (entries_of c) d p (Some entry) (sym same_x i) (sym same_y i)) ∙ here in
@@ -172,10 +176,10 @@ module _ (n : ℕ) (c : Held) (sound : IsSound n c) (d p : ℕ) (region : Region
   }
     where
       same_use : (f : ℕ) → use_of (upd c.role entry.frame Page f) ≡ upd (λ q. use_of (c.role q)) entry.frame page f
-      same_use f = map_upd use_of c.role entry.frame Page f
+      same_use f = upd-seen use_of c.role entry.frame Page f
 
       same_bytes : (f : ℕ) → bytes_by (upd c.role entry.frame Page f) (c.bytes f) ≡ bytes_by (c.role f) (c.bytes f)
-      same_bytes f = elim (same_or f entry.frame) [
+      same_bytes f = elim (cases_eq f entry.frame) [
         | inl same ↦ ap (λ r. bytes_by r (c.bytes f)) (ap (upd c.role entry.frame Page) same ∙ upd-at c.role entry.frame Page) ∙ sym (map_bytes (c.role entry.frame) (c.bytes f) may) ∙ ap (λ q. bytes_by (c.role q) (c.bytes f)) (sym same)
         | inr ne ↦ ap (λ r. bytes_by r (c.bytes f)) (upd-other c.role entry.frame Page f ne)
       ]

@@ -6,16 +6,18 @@ use Rattle.std.specs.Option.{option_map}
 use Rattle.std.proofs.lemmas.Bool.Decides.{nat_tests}
 use Rattle.jos_base.specs.Words.{upd}
 use Rattle.jos_base.specs.Reach.{Entry}
-use Rattle.jos_space.specs.declared.role.Role.{Role}
-use Rattle.jos_space.specs.declared.role.Role.TheVariants.{Reserved, Free, Fresh, Page, Directory, Table}
+use Rattle.jos_space.specs.declared.role.Role.TheVariants.{Reserved, Page}
 use Rattle.jos_base.specs.Counting.{named}
 use Rattle.jos_base.specs.SpacesState.{Region, with_entry, frame_of}
 use Rattle.jos_space.specs.Frames.{Lists, AreSound, held_in, state, regions_of, entries_of, entry_in, entry_of}
 use Rattle.jos_space.specs.Frames.{state_of, may_map}
-use Rattle.jos_space.proofs.Counts.{upd-at, upd-other, same_or, page_count-some, page_count-le, named_is}
 use Rattle.jos_space.proofs.Lookups.{region_limits}
-use Rattle.jos_space.proofs.Roles.{below_frames, is_reserved}
-use Rattle.jos_space.proofs.OverLists.{look-set, mapped_lists_sound, mapped_lists_state, limit_is}
+use Rattle.jos_space.proofs.Roles.{below_frames, is_reserved, not_reserved}
+use Rattle.jos_space.proofs.OverLists.{mapped_lists_sound, mapped_lists_state, limit_is}
+use Rattle.std.proofs.lemmas.Bool.{cases_eq}
+use Rattle.jos_base.proofs.Maps.{upd-at, upd-other}
+use Rattle.jos_base.proofs.Counts.{page_count-some, page_count-le, named_is}
+use Rattle.jos_base.proofs.Lists.{get_or-set}
 
 -- a region whose table is known
 pub region_is : (o : Option Region) (t : ℕ) → option_map (λ (r : Region). r.table) o ≡ Some t → (region : Region) × (o ≡ Some region) × (region.table ≡ t)
@@ -68,14 +70,6 @@ module _ (l : Lists) (ok : AreSound l) (d p t f perm : ℕ) (here : option_map (
 
   pub below_frame : f < length l.roles
   below_frame = below_frames (length l.roles) (held_in l) f ok.sound (not_reserved (get_or l.roles f Reserved) may)
-    where
-      not_reserved : (role : Role) → may_map role ≡ true → is_reserved role ≡ false
-      not_reserved Reserved e = absurd cc
-      not_reserved (Free k) e = refl
-      not_reserved Fresh e = refl
-      not_reserved Page e = refl
-      not_reserved Directory e = refl
-      not_reserved (Table x y) e = refl
 
   pub below_counts : f < length l.counts
   below_counts = let below = below_frame in let len = ok.counts in omega (arith, below, len)
@@ -95,7 +89,7 @@ module _ (l : Lists) (ok : AreSound l) (d p t f perm : ℕ) (here : option_map (
 
   up_is : (x : ℕ) → get_or counts_up x 0 ≡ get_or l.counts x 0 + named x (Some entry)
   up_is x =
-      let set = look-set l.counts f (get_or l.counts f 0 + 1) 0 below_counts x in
+      let set = get_or-set l.counts f (get_or l.counts f 0 + 1) 0 below_counts x in
       elim (named_is x entry) [
         | inl h ↦ let one = h.1 in let at = ap (upd (λ z. get_or l.counts z 0) f (get_or l.counts f 0 + 1)) h.0 ∙ upd-at (λ z. get_or l.counts z 0) f (get_or l.counts f 0 + 1) in let same = ap (λ z. get_or l.counts z 0) h.0 in omega (arith, set, one, at, same)
         | inr h ↦ let none = h.1 in let at = upd-other (λ z. get_or l.counts z 0) f (get_or l.counts f 0 + 1) x h.0 in omega (arith, set, none, at)
@@ -151,14 +145,14 @@ module _ (l : Lists) (ok : AreSound l) (d p t f perm : ℕ) (here : option_map (
           omega (arith, some, count, up)
 
       pub still_page : get_or (slice_set l.roles f Page) g Reserved ≡ Page
-      still_page = look-set l.roles f Page Reserved below_frame g ∙ elim (same_or g f) [
+      still_page = get_or-set l.roles f Page Reserved below_frame g ∙ elim (cases_eq g f) [
         | inl e ↦ ap (upd (λ z. get_or l.roles z Reserved) f Page) e ∙ upd-at (λ z. get_or l.roles z Reserved) f Page
         | inr ne ↦ upd-other (λ z. get_or l.roles z Reserved) f Page g ne ∙ gone_page
       ]
 
       law_stood : (x : ℕ) → get_or (counts_down g) x 0 + named x (entries_of (held_in l) d p) ≡ get_or l.counts x 0 + named x (Some entry)
       law_stood x =
-          let set = look-set counts_up g (get_or counts_up g 0 - 1) 0 gone_counts x in
+          let set = get_or-set counts_up g (get_or counts_up g 0 - 1) 0 gone_counts x in
           let up = up_is x in
           let some = gone_counted in
           let was = ap (named x) gone_is in

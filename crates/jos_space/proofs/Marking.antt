@@ -20,12 +20,15 @@ use Rattle.jos_base.specs.Windows.{table_index}
 use Rattle.jos_base.specs.UserMemory.{reach_in, touched, touched_by}
 use Rattle.jos_space.specs.Frames.{Held, IsSound, Lists, AreSound, held_in, state, regions_of, entries_of, entry_in}
 use Rattle.jos_space.specs.Frames.{entry_of, is_directory, is_accessed, region_of, use_of, state_of, may_map}
-use Rattle.jos_space.proofs.Lookups.{region_facts, upd-stays, put-at, put-stays}
+use Rattle.jos_space.proofs.Lookups.{region_facts}
 use Rattle.jos_space.proofs.Roles.{below_frames, is_reserved}
 use Rattle.jos_space.proofs.Tables.{with_region, region_sound, region_state, region_at, knows_one}
 use Rattle.jos_space.proofs.TableLists.{regions_state}
 use Rattle.jos_space.proofs.MapsPage.{region_is, entry_present}
 use Rattle.jos_space.proofs.OverLists.{word-set, mapped_lists_sound, mapped_lists_state}
+use Rattle.jos_base.proofs.Maps.{upd-stays}
+use Rattle.jos_base.proofs.Puts.{put-at, put-stays}
+use Rattle.jos_base.proofs.Options.{some_is}
 
 -- bits set in a word's low twelve
 or_zero : (a : ℕ) → bit_or a 0 ≡ a
@@ -251,10 +254,6 @@ marks_table l ok d p t here =
   where
     sound_table : (l : Lists) → AreSound l → (d r : ℕ) (region : Region) → (state l).regions d r ≡ Some region → get_or l.roles region.table Reserved ≡ Table d r
     sound_table l ok d r region e = ok.sound.tables d r region (sym (regions_state (held_in l) d r) ∙ e)
-
-pub some_is : {X : Type 0} (o : Option X) → is_some o ≡ true → (x : X) × (o ≡ Some x)
-some_is None e = absurd cc
-some_is (Some x) e = (x, refl)
 
 -- what `mark_region` does
 pub record MarksRegion (l : Lists) (d r o : ℕ) (words : List (List ℕ)) : Type 0 where

@@ -14,26 +14,23 @@ use Rattle.jos_space.specs.Frames.{Held, IsSound, Lists, AreSound, held_in, stat
 use Rattle.jos_space.specs.Frames.{is_accessed, region_of, free_count, state_of, listed, may_map, handed_out}
 use Rattle.jos_space.specs.Frames.{handed_by}
 use Rattle.std.proofs.lemmas.Bool.Decides.{nat_tests}
-use Rattle.jos_space.proofs.Counts.{upd-at, upd-other, same_or, total-le, total-change}
-use Rattle.jos_space.proofs.Lookups.{put-other, upd-stays}
 use Rattle.jos_space.proofs.Mapping.{with_page, page_sound, page_state}
 use Rattle.jos_space.proofs.Roles.{below_frames, is_reserved, taken_held, taken_sound, taken_state, taken_free}
-
--- a list with one element set, looked up
-pub look-set : {X : Type 0} (xs : List X) (k : ℕ) (v d : X) → k < length xs → (q : ℕ) → get_or (slice_set xs k v) q d ≡ upd (λ z. get_or xs z d) k v q
-look-set xs k v d lt q = elim (same_or q k) [
-  | inl same ↦ ap (λ z. get_or (slice_set xs k v) z d) same ∙ get_or-set_same xs k v d lt ∙ sym (upd-at (λ z. get_or xs z d) k v) ∙ ap (upd (λ z. get_or xs z d) k v) (sym same)
-  | inr ne ↦ get_or-set_other xs k q v d ne ∙ sym (upd-other (λ z. get_or xs z d) k v q ne)
-]
+use Rattle.std.proofs.lemmas.Bool.{cases_eq}
+use Rattle.jos_base.proofs.Maps.{upd-at, upd-other, upd-stays}
+use Rattle.jos_base.proofs.Sums.{total-change, total-le}
+use Rattle.jos_base.proofs.Puts.{put-other}
+use Rattle.jos_base.proofs.Lists.{get_or-set}
+use Rattle.jos_space.proofs.Roles.{not_reserved}
 
 -- a word set in the list of a frame
 pub word-set : (words : List (List ℕ)) (t i w : ℕ) → t < length words → i < length (get_or words t []) → (f j : ℕ)
     → get_or (get_or (slice_set words t (slice_set (get_or words t []) i w)) f []) j 0 ≡ put (λ f j. get_or (get_or words f []) j 0) t i w f j
-word-set words t i w below_t below_i f j = elim (same_or f t) [
+word-set words t i w below_t below_i f j = elim (cases_eq f t) [
   | inr ne ↦ ap (λ (xs : List ℕ). get_or xs j 0) (get_or-set_other words t f (slice_set (get_or words t []) i w) [] ne) ∙ sym (put-other (λ f j. get_or (get_or words f []) j 0) t i w f j (λ e. absurd (ne e)))
   | inl same ↦
       ap (λ z. get_or (get_or (slice_set words t (slice_set (get_or words t []) i w)) z []) j 0) same
-      ∙ ap (λ (xs : List ℕ). get_or xs j 0) (get_or-set_same words t (slice_set (get_or words t []) i w) [] below_t) ∙ look-set (get_or words t []) i w 0 below_i j
+      ∙ ap (λ (xs : List ℕ). get_or xs j 0) (get_or-set_same words t (slice_set (get_or words t []) i w) [] below_t) ∙ get_or-set (get_or words t []) i w 0 below_i j
       ∙ sym (ap (λ (g : ℕ → ℕ). g j) (upd-at (λ f j. get_or (get_or words f []) j 0) t (upd (λ j. get_or (get_or words t []) j 0) i w)))
       ∙ ap (λ z. put (λ f j. get_or (get_or words f []) j 0) t i w z j) (sym same)
 ]
@@ -59,7 +56,7 @@ free_fewer n c f sound below none =
     omega (arith, one, at, all, is)
   where
     at_most : (q : ℕ) → upd (λ q. free_count (c.role q)) f 1 q ≤ 1
-    at_most q = elim (same_or q f) [
+    at_most q = elim (cases_eq q f) [
       | inl e ↦ let at = ap (upd (λ q. free_count (c.role q)) f 1) e ∙ upd-at (λ q. free_count (c.role q)) f 1 in omega (arith, at)
       | inr ne ↦ let at = upd-other (λ q. free_count (c.role q)) f 1 q ne in let one = free_one (c.role q) in omega (arith, at, one)
     ]
@@ -82,7 +79,7 @@ module _ (l : Lists) (ok : AreSound l) (m : ℕ) (some : l.free_len ≡ suc m) w
   taken_is : held_in taken_lists ≡ taken_held (length l.roles) (held_in l) ok.sound m some (get_or l.bytes head_of [])
   taken_is = λ i. record (held_in l) {
     frames = length-set l.roles head_of Fresh i;
-    role = λ f. look-set l.roles head_of Fresh Reserved head_below f i;
+    role = λ f. get_or-set l.roles head_of Fresh Reserved head_below f i;
     bytes = λ f. sym (upd-stays (λ f. get_or l.bytes f []) head_of (get_or l.bytes head_of []) refl f) i;
     free_len = m;
   }
@@ -111,14 +108,6 @@ module _ (l : Lists) (ok : AreSound l) (d p : ℕ) (region : Region) (is : regio
   abbrev pub mapped_lists : Lists
   mapped_lists = record l { words = slice_set l.words region.table (slice_set (get_or l.words region.table []) (p % 1024) w); roles = slice_set l.roles entry.frame Page; counts = counts }
 
-  not_reserved : (role : Role) → may_map role ≡ true → is_reserved role ≡ false
-  not_reserved Reserved e = absurd cc
-  not_reserved (Free k) e = refl
-  not_reserved Fresh e = refl
-  not_reserved Page e = refl
-  not_reserved Directory e = refl
-  not_reserved (Table x y) e = refl
-
   pub frame_below : entry.frame < length l.roles
   frame_below = below_frames (length l.roles) (held_in l) entry.frame ok.sound (not_reserved (get_or l.roles entry.frame Reserved) may)
 
@@ -129,7 +118,7 @@ module _ (l : Lists) (ok : AreSound l) (d p : ℕ) (region : Region) (is : regio
   mapped_is = λ i. record (held_in l) {
     frames = length-set l.roles entry.frame Page i;
     word = λ f j. word-set l.words region.table (p % 1024) w table_below (omega (arith, row)) f j i;
-    role = λ f. look-set l.roles entry.frame Page Reserved frame_below f i;
+    role = λ f. get_or-set l.roles entry.frame Page Reserved frame_below f i;
     count = λ f. get_or counts f 0;
   }
 

@@ -12,34 +12,20 @@ use Rattle.jos_base.specs.SpacesState.{created_from, with_page_bytes, own_count,
 use Rattle.jos_space.specs.Frames.{Held, IsSound, Lists, AreSound, held_in, state, regions_of, entries_of, region_of}
 use Rattle.jos_space.specs.Frames.{bytes_by, use_of, state_of, may_map, is_directory, zero_words, handed_out}
 use Rattle.jos_space.specs.Frames.{handed_by}
-use Rattle.jos_space.proofs.Counts.{upd-at, upd-other, same_or}
-use Rattle.jos_space.proofs.Lookups.{upd-twice}
 use Rattle.jos_space.proofs.Roles.{below_frames, is_reserved, is_table, created_held, created_sound, created_state}
-use Rattle.jos_space.proofs.Roles.{unseen}
+use Rattle.jos_space.proofs.Roles.{unseen, not_reserved}
 use Rattle.jos_space.proofs.Tables.{with_words, words_sound, words_state}
 use Rattle.jos_space.proofs.TableLists.{zero_words-at}
-use Rattle.jos_space.proofs.OverLists.{look-set, limit_is}
+use Rattle.jos_space.proofs.OverLists.{limit_is}
+use Rattle.std.proofs.lemmas.Bool.{cases_eq}
+use Rattle.jos_base.proofs.Maps.{upd-at, upd-other, upd-twice}
+use Rattle.jos_base.proofs.Lists.{get_or-set}
+use Rattle.jos_space.proofs.Mapping.{map_bytes}
 
 -- bytes are no part of what holds of the frames
 bytes_sound : (n : ℕ) (c : Held) (bytes : ℕ → List ℕ) → IsSound n c → IsSound n (record c { bytes = bytes })
 unfolding regions_of entries_of
 bytes_sound n c bytes sound = record { tables = sound.tables; pages = sound.pages; counts = sound.counts; listed = sound.listed; free_len = sound.free_len; outside = sound.outside; limit = sound.limit }
-
-by_map : (role : Role) (bytes : List ℕ) → may_map role ≡ true → bytes_by role bytes ≡ bytes
-by_map Fresh bytes e = refl
-by_map Page bytes e = refl
-by_map Reserved bytes e = absurd cc
-by_map (Free k) bytes e = absurd cc
-by_map Directory bytes e = absurd cc
-by_map (Table x y) bytes e = absurd cc
-
-not_reserved : (role : Role) → may_map role ≡ true → is_reserved role ≡ false
-not_reserved Reserved e = absurd cc
-not_reserved (Free k) e = refl
-not_reserved Fresh e = refl
-not_reserved Page e = refl
-not_reserved Directory e = refl
-not_reserved (Table x y) e = refl
 
 module _ (l : Lists) (ok : AreSound l) (f : ℕ) (may : may_map (get_or l.roles f Reserved) ≡ true) where
   pub bytes_below : f < length l.bytes
@@ -47,7 +33,7 @@ module _ (l : Lists) (ok : AreSound l) (f : ℕ) (may : may_map (get_or l.roles 
 
   pub page_is : (state l).pages f ≡ get_or l.bytes f []
   unfolding state_of
-  page_is = by_map (get_or l.roles f Reserved) (get_or l.bytes f []) may
+  page_is = map_bytes (get_or l.roles f Reserved) (get_or l.bytes f []) may
 
   module _ (bytes : List ℕ) where
     abbrev pub bytes_lists : Lists
@@ -68,9 +54,9 @@ module _ (l : Lists) (ok : AreSound l) (f : ℕ) (may : may_map (get_or l.roles 
     bytes_state = λ i. record (state l) { pages = λ q. same q i }
       where
         same : (q : ℕ) → bytes_by (get_or l.roles q Reserved) (get_or (slice_set l.bytes f bytes) q []) ≡ upd (λ z. bytes_by (get_or l.roles z Reserved) (get_or l.bytes z [])) f bytes q
-        same q = elim (same_or q f) [
+        same q = elim (cases_eq q f) [
           | inl e ↦
-              (λ i. bytes_by (get_or l.roles (e i) Reserved) ((ap (λ z. get_or (slice_set l.bytes f bytes) z []) e ∙ get_or-set_same l.bytes f bytes [] bytes_below) i)) ∙ by_map (get_or l.roles f Reserved) bytes may
+              (λ i. bytes_by (get_or l.roles (e i) Reserved) ((ap (λ z. get_or (slice_set l.bytes f bytes) z []) e ∙ get_or-set_same l.bytes f bytes [] bytes_below) i)) ∙ map_bytes (get_or l.roles f Reserved) bytes may
               ∙ sym (ap (upd (λ z. bytes_by (get_or l.roles z Reserved) (get_or l.bytes z [])) f bytes) e ∙ upd-at (λ z. bytes_by (get_or l.roles z Reserved) (get_or l.bytes z [])) f bytes)
           | inr ne ↦ ap (bytes_by (get_or l.roles q Reserved)) (get_or-set_other l.bytes f q bytes [] ne) ∙ sym (upd-other (λ z. bytes_by (get_or l.roles z Reserved) (get_or l.bytes z [])) f bytes q ne)
         ]
@@ -123,7 +109,7 @@ makes_directory l ok h is words words_is = subst (λ (ws : List (List ℕ)). Mak
     cleared_is = λ i. record (held_in l) { word = λ f j. word_is f j i }
       where
         word_is : (f j : ℕ) → upd (held_in l).word h (λ i. get_or zero_words i 0) f j ≡ get_or (get_or (slice_set l.words h zero_words) f []) j 0
-        word_is f j = elim (same_or f h) [
+        word_is f j = elim (cases_eq f h) [
           | inl e ↦
               ap (λ z. upd (held_in l).word h (λ i. get_or zero_words i 0) z j) e ∙ ap (λ (g : ℕ → ℕ). g j) (upd-at (held_in l).word h (λ i. get_or zero_words i 0))
               ∙ sym (ap (λ z. get_or (get_or (slice_set l.words h zero_words) z []) j 0) e ∙ ap (λ (xs : List ℕ). get_or xs j 0) (get_or-set_same l.words h zero_words [] below.0))
@@ -140,7 +126,7 @@ makes_directory l ok h is words words_is = subst (λ (ws : List (List ℕ)). Mak
     no_region i = ap region_of (ap (λ (xs : List ℕ). get_or xs i 0) (get_or-set_same l.words h zero_words [] below.0) ∙ zero_words-at i)
 
     held_is : held_in (record l { words = slice_set l.words h zero_words; roles = slice_set l.roles h Directory }) ≡ created_held (length l.roles) cleared cleared_sound h is no_region
-    held_is = λ i. record cleared { frames = length-set l.roles h Directory i; role = λ f. look-set l.roles h Directory Reserved below.1 f i }
+    held_is = λ i. record cleared { frames = length-set l.roles h Directory i; role = λ f. get_or-set l.roles h Directory Reserved below.1 f i }
 
 -- ---- what was handed out
 

@@ -4,7 +4,7 @@ use Rattle.std.specs.Prelude.{slice_set}
 use Rattle.jos_base.specs.declared.numbers.TheConstants.{NENV}
 use Rattle.jos_base.specs.Words.{upd}
 use Rattle.jos_space.specs.Frames.{Lists, AreSound, state, records}
-use Rattle.jos_space.proofs.OverLists.{look-set}
+use Rattle.jos_base.proofs.Lists.{get_or-set}
 
 module _ (l : Lists) (ok : AreSound l) (slot : ℕ) (below : slot < NENV) where
   pub slot_below : slot < length l.records
@@ -21,7 +21,7 @@ module _ (l : Lists) (ok : AreSound l) (slot : ℕ) (below : slot < NENV) where
   }
 
   pub record_set : (words : List ℕ) → records (record l { records = slice_set l.records slot words }) ≡ upd (records l) slot words
-  record_set words = λ i. λ n. look-set l.records slot words [] slot_below n i
+  record_set words = λ i. λ n. get_or-set l.records slot words [] slot_below n i
 
 -- they are no part of the state
 pub record_apart : (l : Lists) (all : List (List ℕ)) → state (record l { records = all }) ≡ state l

@@ -1,19 +1,11 @@
 -- The pages of a space are removed one after the other.
-use Rattle.std.proofs.Common.{◌≡◌, ◌∙◌, ◌+◌, ◌*◌, ◌/◌, ◌≤◌, ◌==◌, ℕ, zero, suc, Bool, true, false, cond, Option, Some}
+use Rattle.std.proofs.Common.{◌≡◌, ◌∙◌, ◌+◌, ◌*◌, ◌/◌, ◌≤◌, ℕ, zero, suc}
 use Rattle.std.proofs.Common.{None, refl, sym, ap, arith}
-use Rattle.jos_base.specs.SpacesState.{SpacesState, unmapped, released, freed, without_entry, frame_of, pages_removed}
-use Rattle.jos_base.specs.Counting.{page_count}
+use Rattle.jos_base.specs.SpacesState.{SpacesState, unmapped, without_entry, frame_of, pages_removed}
 use Rattle.jos_space.specs.Frames.{Lists, state}
 use Rattle.jos_space.proofs.Marking.{entries_none}
 use Rattle.jos_space.proofs.Unmapping.{unmapped_nothing}
-
-released_regions : (s : SpacesState) (o : Option ℕ) → (released s o).regions ≡ s.regions
-released_regions s None = refl
-released_regions s (Some g) = by_test (page_count s.entries g == 0)
-  where
-    by_test : (b : Bool) → (cond b (freed s g) s).regions ≡ s.regions
-    by_test true = refl
-    by_test false = refl
+use Rattle.jos_base.proofs.Released.{released_regions}
 
 pub unmapped_regions : (s : SpacesState) (d p : ℕ) → (unmapped s d p).regions ≡ s.regions
 unfolding unmapped

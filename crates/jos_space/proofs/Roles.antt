@@ -8,9 +8,12 @@ use Rattle.jos_space.specs.declared.role.Role.TheVariants.{Reserved, Free, Fresh
 use Rattle.jos_base.specs.Counting.{named, page_count}
 use Rattle.jos_base.specs.SpacesState.{Use, Region, SpacesState, directory, table, freed, taken, region_limit}
 use Rattle.jos_space.specs.Frames.{Held, IsSound, regions_of, entries_of, region_of, is_directory, free_count}
-use Rattle.jos_space.specs.Frames.{bytes_by, use_of, state_of, listed}
-use Rattle.jos_space.proofs.Counts.{upd-at, upd-other, same_or, total-change, page_count-same, page_count-some}
-use Rattle.jos_space.proofs.Lookups.{regions-same, entry_limits, entries-by, map_upd, listed-same, below_or}
+use Rattle.jos_space.specs.Frames.{bytes_by, use_of, state_of, listed, may_map}
+use Rattle.jos_space.proofs.Lookups.{regions-same, entry_limits, entries-by, listed-same}
+use Rattle.std.proofs.lemmas.Bool.{cases_eq, cases_lt}
+use Rattle.jos_base.proofs.Maps.{upd-at, upd-other, upd-seen}
+use Rattle.jos_base.proofs.Sums.{total-change}
+use Rattle.jos_base.proofs.Counts.{page_count-same, page_count-some}
 
 abbrev pub is_table : Role → Bool
 is_table (Table d r) = true
@@ -26,7 +29,7 @@ module _ (n : ℕ) (c : Held) (sound : IsSound n c) (f : ℕ) (role : Role) (byt
 
   module _ (was_directory : is_directory (c.role f) ≡ false) (now_directory : is_directory role ≡ false) where
     same_directory : (q : ℕ) → is_directory (upd c.role f role q) ≡ is_directory (c.role q)
-    same_directory q = elim (same_or q f) [
+    same_directory q = elim (cases_eq q f) [
       | inl same ↦ ap is_directory (ap (upd c.role f role) same ∙ upd-at c.role f role) ∙ now_directory ∙ sym was_directory ∙ ap (λ z. is_directory (c.role z)) (sym same)
       | inr ne ↦ ap is_directory (upd-other c.role f role q ne)
     ]
@@ -70,9 +73,18 @@ module _ (n : ℕ) (c : Held) (sound : IsSound n c) (f : ℕ) (role : Role) (byt
 pub no_table : (n : ℕ) (c : Held) (f : ℕ) → IsSound n c → is_table (c.role f) ≡ false → (x r : ℕ) (other : Region) → regions_of c x r ≡ Some other → other.table ≢ f
 no_table n c f sound none x r other here e = let at : c.role f ≡ Table x r = ap c.role (sym e) ∙ sound.tables x r other here in let both = ap is_table at in absurd cc
 
+-- a frame that may be mapped is not reserved
+pub not_reserved : (role : Role) → may_map role ≡ true → is_reserved role ≡ false
+not_reserved Reserved is = absurd cc
+not_reserved (Free k) is = refl
+not_reserved Fresh is = refl
+not_reserved Page is = refl
+not_reserved Directory is = refl
+not_reserved (Table x y) is = refl
+
 -- a frame that is not reserved is one of those that there are
 pub below_frames : (n : ℕ) (c : Held) (f : ℕ) → IsSound n c → is_reserved (c.role f) ≡ false → f < n
-below_frames n c f sound e = elim (below_or f n) [
+below_frames n c f sound e = elim (cases_lt f n) [
   | inl lt ↦ lt
   | inr past ↦ let out = ap is_reserved (sound.outside f past) in absurd cc
 ]
@@ -102,7 +114,7 @@ module _ (n : ℕ) (c : Held) (sound : IsSound n c) (m : ℕ) (some : c.free_len
   unfolding state_of
   taken_state = λ i. record {
     frames = c.frames;
-    uses = λ f. map_upd use_of c.role head Fresh f i;
+    uses = λ f. upd-seen use_of c.role head Fresh f i;
     free = listed c.place m;
     pages = λ f. same_bytes f i;
     regions = λ x r. role_regions n c sound head Fresh (upd c.bytes head zeros) c.place m (ap is_directory head_is) refl x r i;
@@ -110,7 +122,7 @@ module _ (n : ℕ) (c : Held) (sound : IsSound n c) (m : ℕ) (some : c.free_len
   }
     where
       same_bytes : (f : ℕ) → bytes_by (upd c.role head Fresh f) (upd c.bytes head zeros f) ≡ upd (λ q. bytes_by (c.role q) (c.bytes q)) head zeros f
-      same_bytes f = elim (same_or f head) [
+      same_bytes f = elim (cases_eq f head) [
         | inl e ↦ (λ i. bytes_by ((ap (upd c.role head Fresh) e ∙ upd-at c.role head Fresh) i) ((ap (upd c.bytes head zeros) e ∙ upd-at c.bytes head zeros) i)) ∙ sym (ap (upd (λ q. bytes_by (c.role q) (c.bytes q)) head zeros) e ∙ upd-at (λ q. bytes_by (c.role q) (c.bytes q)) head zeros)
         | inr ne ↦ (λ i. bytes_by (upd-other c.role head Fresh f ne i) (upd-other c.bytes head zeros f ne i)) ∙ sym (upd-other (λ q. bytes_by (c.role q) (c.bytes q)) head zeros f ne)
       ]
@@ -129,7 +141,7 @@ module _ (n : ℕ) (c : Held) (sound : IsSound n c) (g : ℕ) (used : free_count
 
   freed_regions : (x r : ℕ) → regions_of freed_held x r ≡ regions_of c x r
   unfolding regions_of
-  freed_regions x r = elim (same_or x g) [
+  freed_regions x r = elim (cases_eq x g) [
     | inr ne ↦ ap (λ (z : Role). cond (is_directory z) (cond (nat_lt r region_limit) (region_of (c.word x r)) None) None) (upd-other c.role g (Free c.free_len) x ne)
     | inl same ↦
         ap (λ (z : Role). cond (is_directory z) (cond (nat_lt r region_limit) (region_of (c.word x r)) None) None) (ap (upd c.role g (Free c.free_len)) same ∙ upd-at c.role g (Free c.free_len))
@@ -144,7 +156,7 @@ module _ (n : ℕ) (c : Held) (sound : IsSound n c) (g : ℕ) (used : free_count
       (below_frames n c g sound there) list_holds (omega (arith, used))
     where
       list_holds : (k : ℕ) → k < suc c.free_len → upd c.role g (Free c.free_len) (upd c.place c.free_len g k) ≡ Free k
-      list_holds k lt = elim (same_or k c.free_len) [
+      list_holds k lt = elim (cases_eq k c.free_len) [
         | inl e ↦ ap (upd c.role g (Free c.free_len)) (ap (upd c.place c.free_len g) e ∙ upd-at c.place c.free_len g) ∙ upd-at c.role g (Free c.free_len) ∙ ap (λ (z : ℕ). Free z) (sym e)
         | inr ne ↦ ap (upd c.role g (Free c.free_len)) (upd-other c.place c.free_len g k ne) ∙ upd-other c.role g (Free c.free_len) (c.place k) (place_stays k (omega arith)) ∙ sound.listed k (omega arith)
       ]
@@ -153,7 +165,7 @@ module _ (n : ℕ) (c : Held) (sound : IsSound n c) (g : ℕ) (used : free_count
   unfolding state_of listed
   freed_state = λ i. record {
     frames = c.frames;
-    uses = λ f. map_upd use_of c.role g (Free c.free_len) f i;
+    uses = λ f. upd-seen use_of c.role g (Free c.free_len) f i;
     free = upd-at c.place c.free_len g i ∷ listed-same (upd c.place c.free_len g) c.place c.free_len (λ k lt. upd-other c.place c.free_len g k (λ e. absurd (omega (arith, e, lt)))) i;
     pages = λ f. same_bytes f i;
     regions = λ x r. freed_regions x r i;
@@ -161,7 +173,7 @@ module _ (n : ℕ) (c : Held) (sound : IsSound n c) (g : ℕ) (used : free_count
   }
     where
       same_bytes : (f : ℕ) → bytes_by (upd c.role g (Free c.free_len) f) (c.bytes f) ≡ upd (λ q. bytes_by (c.role q) (c.bytes q)) g [] f
-      same_bytes f = elim (same_or f g) [
+      same_bytes f = elim (cases_eq f g) [
         | inl e ↦ ap (λ r. bytes_by r (c.bytes f)) (ap (upd c.role g (Free c.free_len)) e ∙ upd-at c.role g (Free c.free_len)) ∙ sym (ap (upd (λ q. bytes_by (c.role q) (c.bytes q)) g []) e ∙ upd-at (λ q. bytes_by (c.role q) (c.bytes q)) g [])
         | inr ne ↦ ap (λ r. bytes_by r (c.bytes f)) (upd-other c.role g (Free c.free_len) f ne) ∙ sym (upd-other (λ q. bytes_by (c.role q) (c.bytes q)) g [] f ne)
       ]
@@ -174,7 +186,7 @@ module _ (n : ℕ) (c : Held) (sound : IsSound n c) (h : ℕ) (is : c.role h ≡
 
   created_regions : (x r : ℕ) → regions_of created_held x r ≡ regions_of c x r
   unfolding regions_of
-  created_regions x r = elim (same_or x h) [
+  created_regions x r = elim (cases_eq x h) [
     | inr ne ↦ ap (λ (z : Role). cond (is_directory z) (cond (nat_lt r region_limit) (region_of (c.word x r)) None) None) (upd-other c.role h Directory x ne)
     | inl same ↦
         ap (λ (z : Role). cond (is_directory z) (cond (nat_lt r region_limit) (region_of (c.word x r)) None) None) (ap (upd c.role h Directory) same ∙ upd-at c.role h Directory)
@@ -203,7 +215,7 @@ module _ (n : ℕ) (c : Held) (sound : IsSound n c) (h : ℕ) (is : c.role h ≡
   unseen s now = record s { uses = upd s.uses h now; pages = upd s.pages h [] }
 
   unseen_bytes : (role : Role) → bytes_by role (c.bytes h) ≡ [] → (f : ℕ) → bytes_by (upd c.role h role f) (c.bytes f) ≡ upd (λ q. bytes_by (c.role q) (c.bytes q)) h [] f
-  unseen_bytes role none f = elim (same_or f h) [
+  unseen_bytes role none f = elim (cases_eq f h) [
     | inl e ↦ (λ i. bytes_by ((ap (upd c.role h role) e ∙ upd-at c.role h role) i) (c.bytes (e i))) ∙ none ∙ sym (ap (upd (λ q. bytes_by (c.role q) (c.bytes q)) h []) e ∙ upd-at (λ q. bytes_by (c.role q) (c.bytes q)) h [])
     | inr ne ↦ ap (λ r. bytes_by r (c.bytes f)) (upd-other c.role h role f ne) ∙ sym (upd-other (λ q. bytes_by (c.role q) (c.bytes q)) h [] f ne)
   ]
@@ -212,7 +224,7 @@ module _ (n : ℕ) (c : Held) (sound : IsSound n c) (h : ℕ) (is : c.role h ≡
   unfolding state_of
   created_state = λ i. record {
     frames = c.frames;
-    uses = λ f. map_upd use_of c.role h Directory f i;
+    uses = λ f. upd-seen use_of c.role h Directory f i;
     free = listed c.place c.free_len;
     pages = λ f. unseen_bytes Directory refl f i;
     regions = λ x r. created_regions x r i;
@@ -223,7 +235,7 @@ module _ (n : ℕ) (c : Held) (sound : IsSound n c) (h : ℕ) (is : c.role h ≡
   unfolding state_of
   table_state d r = λ i. record {
     frames = c.frames;
-    uses = λ f. map_upd use_of c.role h (Table d r) f i;
+    uses = λ f. upd-seen use_of c.role h (Table d r) f i;
     free = listed c.place c.free_len;
     pages = λ f. unseen_bytes (Table d r) refl f i;
     regions = λ x q. role_regions n c sound h (Table d r) c.bytes c.place c.free_len (ap is_directory is) refl x q i;

@@ -12,14 +12,16 @@ use Rattle.jos_base.specs.SpacesState.{Region, SpacesState, put, taken, fresh, t
 use Rattle.jos_base.specs.SpacesState.{tabled_new, region_limit}
 use Rattle.jos_space.specs.Frames.{Held, IsSound, Lists, AreSound, held_in, state, regions_of, entry_in, entry_of}
 use Rattle.jos_space.specs.Frames.{is_accessed, region_of, is_directory, state_of, zero_words, handed_by, handed_out}
-use Rattle.jos_space.proofs.Counts.{upd-at, upd-other, same_or}
-use Rattle.jos_space.proofs.Lookups.{upd-twice, below_or, put-at}
 use Rattle.jos_space.proofs.Roles.{below_frames, is_reserved, is_table, table_held, table_sound, table_state, unseen}
 use Rattle.jos_space.proofs.Tables.{words_sound, words_state, region_sound, region_state, knows_one}
-use Rattle.jos_space.proofs.OverLists.{look-set, word-set, limit_is}
+use Rattle.jos_space.proofs.OverLists.{word-set, limit_is}
+use Rattle.std.proofs.lemmas.Bool.{cases_eq, cases_lt}
+use Rattle.jos_base.proofs.Maps.{upd-at, upd-other, upd-twice}
+use Rattle.jos_base.proofs.Puts.{put-at}
+use Rattle.jos_base.proofs.Lists.{get_or-set}
 
 zeros-at : (n i : ℕ) → get_or {A = ℕ} (replicate n 0) i 0 ≡ 0
-zeros-at n i = elim (below_or i n) [
+zeros-at n i = elim (cases_lt i n) [
   | inl lt ↦ get_or-replicate n i 0 0 lt
   | inr past ↦ get_or_past (replicate n 0) i 0 (let len = length-replicate {A = ℕ} n 0 in omega (arith, len, past))
 ]
@@ -111,7 +113,7 @@ module _ (l : Lists) (ok : AreSound l) (d r h : ℕ) (dir : get_or l.roles d Res
     made_lists = record l { words = slice_set words_cleared d (slice_set (get_or words_cleared d []) r (h * 4096 + 7)); roles = slice_set l.roles h (Table d r) }
 
     cleared_look : (f i : ℕ) → get_or (get_or words_cleared f []) i 0 ≡ upd (held_in l).word h (λ i. get_or zero_words i 0) f i
-    cleared_look f i = elim (same_or f h) [
+    cleared_look f i = elim (cases_eq f h) [
       | inl e ↦ ap (λ z. get_or (get_or words_cleared z []) i 0) e ∙ ap (λ (xs : List ℕ). get_or xs i 0) (get_or-set_same l.words h zero_words [] below_words.0) ∙ sym (ap (λ z. upd (held_in l).word h (λ i. get_or zero_words i 0) z i) e ∙ ap (λ (g : ℕ → ℕ). g i) (upd-at (held_in l).word h (λ i. get_or zero_words i 0)))
       | inr ne ↦ ap (λ (xs : List ℕ). get_or xs i 0) (get_or-set_other l.words h f zero_words [] ne) ∙ sym (ap (λ (g : ℕ → ℕ). g i) (upd-other (held_in l).word h (λ i. get_or zero_words i 0) f ne))
     ]
@@ -121,7 +123,7 @@ module _ (l : Lists) (ok : AreSound l) (d r h : ℕ) (dir : get_or l.roles d Res
         (λ i. record (held_in l) {
           frames = length-set l.roles h (Table d r) i;
           word = λ f j. word-set words_cleared d r (h * 4096 + 7) (let b = below_words.1 in let len = length-set l.words h zero_words in omega (arith, b, len)) (omega (arith, row, below)) f j i;
-          role = λ f. look-set l.roles h (Table d r) Reserved below_h f i;
+          role = λ f. get_or-set l.roles h (Table d r) Reserved below_h f i;
         })
         ∙ (λ i. record role_set { word = put (λ f j. cleared_look f j i) d r (h * 4096 + 7) })
 

@@ -9,9 +9,12 @@ use Rattle.jos_base.specs.Counting.{named}
 use Rattle.jos_base.specs.SpacesState.{Region, put, region_limit}
 use Rattle.jos_space.specs.Frames.{Held, IsSound, regions_of, entries_of, entry_in, entry_of, region_of, is_directory}
 use Rattle.jos_space.specs.Frames.{state_of}
-use Rattle.jos_space.proofs.Counts.{upd-other, same_or, page_count-same}
-use Rattle.jos_space.proofs.Lookups.{regions-same, put-at, put-other}
+use Rattle.jos_space.proofs.Lookups.{regions-same}
 use Rattle.jos_space.proofs.Roles.{is_table}
+use Rattle.std.proofs.lemmas.Bool.{cases_eq}
+use Rattle.jos_base.proofs.Maps.{upd-other}
+use Rattle.jos_base.proofs.Counts.{page_count-same}
+use Rattle.jos_base.proofs.Puts.{put-at, put-other}
 
 pub region_at : (c : Held) (d r : ℕ) → c.role d ≡ Directory → r < region_limit → regions_of c d r ≡ region_of (c.word d r)
 unfolding regions_of
@@ -28,9 +31,9 @@ module _ (n : ℕ) (c : Held) (sound : IsSound n c) (d r : ℕ) (dir : c.role d 
   only_other x q ne = ap (λ z. cond (is_directory (c.role x)) (cond (nat_lt q region_limit) (region_of z) None) None) (put-other c.word d r w x q ne)
 
   pub region_regions : (x q : ℕ) → regions_of with_region x q ≡ put (regions_of c) d r now x q
-  region_regions x q = elim (same_or x d) [
+  region_regions x q = elim (cases_eq x d) [
     | inr ne ↦ only_other x q (λ e. absurd (ne e)) ∙ sym (put-other (regions_of c) d r now x q (λ e. absurd (ne e)))
-    | inl same ↦ elim (same_or q r) [
+    | inl same ↦ elim (cases_eq q r) [
       | inr ne ↦ only_other x q (λ _. ne) ∙ sym (put-other (regions_of c) d r now x q (λ _. ne))
       | inl at ↦ (λ i. regions_of with_region (same i) (at i)) ∙ region_at with_region d r dir below ∙ ap region_of (put-at c.word d r w) ∙ word_is ∙ sym (put-at (regions_of c) d r now) ∙ (λ i. put (regions_of c) d r now (sym same i) (sym at i))
     ]
@@ -54,9 +57,9 @@ module _ (n : ℕ) (c : Held) (sound : IsSound n c) (d r : ℕ) (dir : c.role d 
 
     pub region_entries : (x y : ℕ) → entries_of with_region x y ≡ entries_of c x y
     unfolding entries_of
-    region_entries x y = ap (λ o. entry_in with_region o (y % 1024)) (region_regions x (y / 1024)) ∙ elim (same_or x d) [
+    region_entries x y = ap (λ o. entry_in with_region o (y % 1024)) (region_regions x (y / 1024)) ∙ elim (cases_eq x d) [
       | inr ne ↦ elsewhere (λ e. absurd (ne e))
-      | inl same ↦ elim (same_or (y / 1024) r) [
+      | inl same ↦ elim (cases_eq (y / 1024) r) [
         | inr ne ↦ elsewhere (λ _. ne)
         | inl at ↦
             ap (λ o. entry_in with_region o (y % 1024)) ((λ i. put (regions_of c) d r now (same i) (at i)) ∙ put-at (regions_of c) d r now)
@@ -79,9 +82,9 @@ module _ (n : ℕ) (c : Held) (sound : IsSound n c) (d r : ℕ) (dir : c.role d 
     }
       where
         by_place : (x q : ℕ) (other : Region) → put (regions_of c) d r now x q ≡ Some other → c.role other.table ≡ Table x q
-        by_place x q other here = elim (same_or x d) [
+        by_place x q other here = elim (cases_eq x d) [
           | inr ne ↦ sound.tables x q other (sym (put-other (regions_of c) d r now x q (λ e. absurd (ne e))) ∙ here)
-          | inl same ↦ elim (same_or q r) [
+          | inl same ↦ elim (cases_eq q r) [
             | inr ne ↦ sound.tables x q other (sym (put-other (regions_of c) d r now x q (λ _. ne)) ∙ here)
             | inl at ↦
                 knows other (sym (put-at (regions_of c) d r now) ∙ (λ i. put (regions_of c) d r now (sym same i) (sym at i)) ∙ here)

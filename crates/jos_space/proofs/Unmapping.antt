@@ -10,14 +10,17 @@ use Rattle.jos_base.specs.Counting.{frame_limit, page_limit, named, page_count}
 use Rattle.jos_base.specs.SpacesState.{Region, SpacesState, put, without_entry, frame_of, released, unmapped}
 use Rattle.jos_space.specs.Frames.{Held, IsSound, Lists, AreSound, held_in, state, regions_of, entries_of, entry_in}
 use Rattle.jos_space.specs.Frames.{entry_of, state_of}
-use Rattle.jos_space.proofs.Counts.{upd-at, upd-other, same_or, page_count-put, page_count-same, page_count-some}
-use Rattle.jos_space.proofs.Counts.{named_is}
-use Rattle.jos_space.proofs.Lookups.{put-stays, put-at, put-other, regions-same, region_limits, entries-by}
+use Rattle.jos_space.proofs.Lookups.{regions-same, region_limits, entries-by}
 use Rattle.jos_space.proofs.Mapping.{word_regions, word_entries}
 use Rattle.jos_space.proofs.Roles.{below_frames, is_reserved}
 use Rattle.jos_space.proofs.TableLists.{regions_state}
 use Rattle.jos_space.proofs.MapsPage.{region_is, entry_present, entry_absent}
-use Rattle.jos_space.proofs.OverLists.{look-set, word-set}
+use Rattle.jos_space.proofs.OverLists.{word-set}
+use Rattle.std.proofs.lemmas.Bool.{cases_eq}
+use Rattle.jos_base.proofs.Maps.{upd-at, upd-other}
+use Rattle.jos_base.proofs.Counts.{page_count-put, page_count-same, page_count-some, named_is}
+use Rattle.jos_base.proofs.Puts.{put-at, put-other, put-stays}
+use Rattle.jos_base.proofs.Lists.{get_or-set}
 
 module _ (n : ℕ) (c : Held) (sound : IsSound n c) (d p : ℕ) (region : Region) (is : regions_of c d (p / 1024) ≡ Some region) (counted : ℕ → ℕ)
     (law : (f : ℕ) → counted f + named f (entries_of c d p) ≡ c.count f) where
@@ -53,9 +56,9 @@ module _ (n : ℕ) (c : Held) (sound : IsSound n c) (d p : ℕ) (region : Region
       limits = region_limits n c d p region sound is
 
       by_place : (x y : ℕ) (other : Entry) → put (entries_of c) d p None x y ≡ Some other → c.role other.frame ≡ Page
-      by_place x y other here = elim (same_or x d) [
+      by_place x y other here = elim (cases_eq x d) [
         | inr ne ↦ sound.pages x y other (sym (put-other (entries_of c) d p None x y (λ e. absurd (ne e))) ∙ here)
-        | inl same_x ↦ elim (same_or y p) [
+        | inl same_x ↦ elim (cases_eq y p) [
           | inr ne ↦ sound.pages x y other (sym (put-other (entries_of c) d p None x y (λ _. ne)) ∙ here)
           | inl same_y ↦ absurd (let at : ◌≡◌ {A = Option Entry} None (Some other) = sym (put-at (entries_of c) d p None) ∙ (λ i. put (entries_of c) d p None (sym same_x i) (sym same_y i)) ∙ here in cc)
         ]
@@ -150,7 +153,7 @@ module _ (l : Lists) (ok : AreSound l) (d p t : ℕ) (here : option_map (λ (r :
 
     pub law_stood : (f : ℕ) → get_or counts_less f 0 + named f (entries_of (held_in l) d p) ≡ get_or l.counts f 0
     law_stood f =
-        let set = look-set l.counts (o / 4096) (get_or l.counts (o / 4096) 0 - 1) 0 stood_counts f in
+        let set = get_or-set l.counts (o / 4096) (get_or l.counts (o / 4096) 0 - 1) 0 stood_counts f in
         let some = stood_some in
         let was = ap (named f) held_entry in
         elim (named_is f gone) [

@@ -119,14 +119,6 @@ same_use c e f is = ap use_of is
 
 -- ---- places
 
-pub not_reserved : (role : Role) → may_map role ≡ true → is_reserved role ≡ false
-not_reserved Reserved e = absurd cc
-not_reserved (Free k) e = refl
-not_reserved Fresh e = refl
-not_reserved Page e = refl
-not_reserved Directory e = refl
-not_reserved (Table x y) e = refl
-
 -- a frame that is not reserved has its place in each list
 pub record HasPlace (l : Lists) (f : ℕ) : Type 0 where
   pub roles : f < length l.roles

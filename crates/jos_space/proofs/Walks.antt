@@ -11,10 +11,11 @@ use Rattle.jos_space.specs.declared.role.Role.TheVariants.{Reserved, Directory, 
 use Rattle.jos_space.specs.Frames.{Lists, AreSound, held_in, state, state_of, may_map, region_of, entry_of}
 use Rattle.jos_space.specs.AtHand.{frame_with, frame_by, frame_by_entry}
 use Rattle.jos_space.proofs.EntryBits.{marks_of, low_bits, bits_present}
-use Rattle.jos_space.proofs.Marking.{entries_at, regions_past, marks_table, some_is}
+use Rattle.jos_space.proofs.Marking.{entries_at, regions_past, marks_table}
 use Rattle.jos_space.proofs.AtHand.{is_found}
 use Rattle.jos_space.proofs.Lookups.{entry_region, region_facts}
 use Rattle.jos_space.proofs.OverLists.{table_is}
+use Rattle.jos_base.proofs.Options.{some_is}
 
 by_region : (s : SpacesState) (d n bits : ℕ) (o : Option Region) → s.regions d (n / 1024) ≡ o → frame_with s d n bits ≡ frame_by bits o (s.entries d n)
 unfolding frame_with

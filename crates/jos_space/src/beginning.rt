@@ -2,7 +2,7 @@
 
 ghost use Rattle.std.specs.Prelude.{◌≡◌, ◌≤◌, ◌<◌, ◌-◌, ℕ, IfOk, length, get_or, replicate, []};
 ghost use Rattle.jos_base.specs.SpacesState.{reserved_frames};
-ghost use Rattle.jos_base.specs.declared.numbers.TheConstants.{NENV};
+ghost use Rattle.jos_base.specs.declared.numbers.TheConstants.{FRAMES_MAX, NENV};
 ghost use Rattle.jos_space.specs.Frames.{first_role, zero_record};
 ghost use Rattle.jos_space.specs.declared.role.Role.TheVariants.{Reserved};
 
@@ -13,7 +13,7 @@ use std::alloc::{AllocError, Global};
 
 /// How many frames are reserved.
 pub(crate) fn reserved(frames: u32) -> u32
-    requires { frames ≤ 65536 }
+    requires { frames ≤ FRAMES_MAX }
     ensures { result ≡ reserved_frames frames }
 {
     (frames + 511) / 512 + 19
@@ -21,7 +21,7 @@ pub(crate) fn reserved(frames: u32) -> u32
 
 /// What each frame is used for.
 pub(crate) fn first_roles(alloc: Global, frames: u32) -> Result<Vec<Role>, AllocError>
-    requires { frames ≤ 65536 }
+    requires { frames ≤ FRAMES_MAX }
     ensures len { IfOk result (λ roles. length roles.items ≡ frames) }
     ensures each { IfOk result (λ roles. (f : ℕ) → f < frames → get_or roles.items f Reserved ≡ first_role frames f) }
 {
@@ -40,7 +40,7 @@ pub(crate) fn first_roles(alloc: Global, frames: u32) -> Result<Vec<Role>, Alloc
 
 /// The free list, from its end; places behind it hold frames too, which are never looked at.
 pub(crate) fn first_order(alloc: Global, frames: u32) -> Result<Vec<u32>, AllocError>
-    requires { frames ≤ 65536 }
+    requires { frames ≤ FRAMES_MAX }
     ensures len { IfOk result (λ order. length order.items ≡ frames) }
     ensures each { IfOk result (λ order. (k : ℕ) → k < frames → get_or order.items k 0 ≡ frames - 1 - k) }
 {

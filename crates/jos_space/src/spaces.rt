@@ -1,6 +1,7 @@
 //! The frames of a machine, and the spaces that stand in them.
 
 ghost use Rattle.std.specs.Prelude.{◌≡◌, ◌≤◌, IfOk};
+ghost use Rattle.jos_base.specs.declared.numbers.TheConstants.{FRAMES_MIN, FRAMES_MAX};
 ghost use Rattle.jos_base.specs.SpacesState.{first_spaces};
 ghost use Rattle.jos_base.specs.Environments.{first_environments, records_of};
 ghost use Rattle.jos_space.specs.Frames.{state, records, AreSound};
@@ -72,8 +73,8 @@ impl Spaces {
     /// So many frames, with no space: the first are reserved, and the others free in rising order. Memory is taken here
     /// alone, some 8 KiB for each frame.
     pub fn new(alloc: Global, frames: u32) -> Result<Spaces, NoMemory>
-        requires least { 64 ≤ frames }
-        requires most { frames ≤ 65536 }
+        requires least { FRAMES_MIN ≤ frames }
+        requires most { frames ≤ FRAMES_MAX }
         ensures state { IfOk result (λ spaces. state spaces ≡ first_spaces frames) }
         ensures records { IfOk result (λ spaces. records spaces ≡ records_of first_environments) }
     {

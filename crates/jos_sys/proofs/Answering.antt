@@ -19,9 +19,9 @@ use Rattle.jos_base.specs.KernelState.{KernelState, slot_at, with_status, with_r
 use Rattle.jos_base.specs.SystemCalls.{Did, error_number, answered, refused, without_environment, env_destroy_of}
 use Rattle.jos_base.specs.SystemCalls.{environment_made, exofork, env_set_status_of, cputs, cputs_of, cgetc_from}
 use Rattle.jos_base.specs.SystemCalls.{user_bytes, with_bytes_reached}
-use Rattle.jos_envs.proofs.Maps.{upd-at}
 use Rattle.jos_sys.specs.declared.system.Answer.{Answer}
 use Rattle.jos_sys.specs.System.{IsDone, Does, IsTaken}
+use Rattle.jos_base.proofs.Maps.{upd-at}
 
 pub negated_is : (error : Errno) (code : ℕ) → code ≡ error_number error → 4294967295 - code + 1 ≡ negated (error_number error)
 negated_is BadEnv code e = omega arith

@@ -3,28 +3,12 @@ use Rattle.std.proofs.Common.{◌≡◌, ◌≢◌, ◌∙◌, inl, inr, ℕ, Bo
 use Rattle.jos_base.specs.declared.environment.Status.{Status}
 use Rattle.jos_base.specs.declared.environment.Status.TheVariants.{Free, Dying, NotRunnable, Runnable, Running}
 use Rattle.jos_base.specs.Words.{upd}
-use Rattle.jos_base.specs.SpacesState.{SpacesState, Use, reserved, free, fresh, page, directory, table, directories, is_directory, reserved_frames, first_spaces}
+use Rattle.jos_base.specs.SpacesState.{SpacesState, reserved, free, directory, directories, is_directory, reserved_frames, first_spaces}
 use Rattle.jos_base.specs.Environments.{Environments, Slot, with_slot, is_free, is_live, free_slot, slot_freed, first_environments}
 use Rattle.jos_base.specs.KernelState.{HasSpaces}
 use Rattle.std.specs.Prelude.{nat_lt, if◌then◌else◌}
-use Rattle.std.proofs.lemmas.Bool.{false≢true}
-use Rattle.jos_envs.proofs.Maps.{upd-at, upd-other, same_or}
-
--- a frame that is a directory has that use
-pub use_is : (u : Use) → is_directory u ≡ true → u ≡ directory
-use_is reserved e = cc
-use_is free e = cc
-use_is fresh e = cc
-use_is page e = cc
-use_is directory e = refl
-use_is table e = cc
-
--- what is seen of a slot stays where the slot that takes its place shows the same
-pub seen_still : {V : Type 0} (see : Slot → V) (slots : ℕ → Slot) (n : ℕ) (slot : Slot) → see slot ≡ see (slots n) → (q : ℕ) → see (upd slots n slot q) ≡ see (slots q)
-seen_still see slots n slot same q = elim (same_or q n) [
-  | inl e ↦ ap (λ z. see (upd slots n slot z)) e ∙ ap see (upd-at slots n slot) ∙ same ∙ ap (λ z. see (slots z)) (sym e)
-  | inr ne ↦ ap see (upd-other slots n slot q ne)
-]
+use Rattle.std.proofs.lemmas.Bool.{false≢true, cases_eq}
+use Rattle.jos_base.proofs.Maps.{upd-at, upd-other, upd-alike}
 
 module _ (s t : SpacesState) (e f : Environments) (keeps : HasSpaces s e) where
   -- the same directories, and the same slots live in the same spaces
@@ -58,21 +42,21 @@ module _ (s t : SpacesState) (e f : Environments) (keeps : HasSpaces s e) where
 
       pub keeps_made : is_live (e.slots n) ≡ false → HasSpaces t f
       keeps_made was_free = record {
-        in_use = λ q live_q. elim (same_or q n) [
+        in_use = λ q live_q. elim (cases_eq q n) [
           | inl e ↦ ap (λ z. directories t (f.slots z).directory) e ∙ ap (directories t) space ∙ ap (λ g. g d) now ∙ upd-at (directories s) d true
           | inr ne ↦ ap (λ g. g (f.slots q).directory) now ∙ upd-other (directories s) d true (f.slots q).directory (elsewhere q ne live_q) ∙ was_used q ne live_q
         ];
-        apart = λ q r live_q live_r one. elim (same_or q n) [
-          | inl e ↦ elim (same_or r n) [
+        apart = λ q r live_q live_r one. elim (cases_eq q n) [
+          | inl e ↦ elim (cases_eq r n) [
             | inl g ↦ e ∙ sym g
             | inr ne ↦ absurd (elsewhere r ne live_r (sym one ∙ ap (λ z. (f.slots z).directory) e ∙ space))
           ]
-          | inr ne ↦ elim (same_or r n) [
+          | inr ne ↦ elim (cases_eq r n) [
             | inl g ↦ absurd (elsewhere q ne live_q (one ∙ ap (λ z. (f.slots z).directory) g ∙ space))
             | inr nf ↦ both_apart q r ne nf live_q live_r one
           ]
         ];
-        owned = λ g used. elim (same_or g d) [
+        owned = λ g used. elim (cases_eq g d) [
           | inl e ↦ (n, live, space ∙ sym e)
           | inr ne ↦ (
               let o = keeps.owned g (sym (upd-other (directories s) d true g ne) ∙ sym (ap (λ h. h g) now) ∙ used) in
@@ -94,7 +78,7 @@ module _ (s t : SpacesState) (e f : Environments) (keeps : HasSpaces s e) where
             λ one. ne (keeps.apart q n (was_live q ne live) was_live_n (sym (same_space q ne) ∙ one)) in
             ap (λ g. g (f.slots q).directory) now ∙ upd-other (directories s) (e.slots n).directory false (f.slots q).directory away ∙ was_used q ne live);
         apart = λ q r live_q live_r one. both_apart q r (not_n q live_q) (not_n r live_r) live_q live_r one;
-        owned = λ g used. elim (same_or g (e.slots n).directory) [
+        owned = λ g used. elim (cases_eq g (e.slots n).directory) [
           | inl one ↦ (let here : directories t g ≡ false = ap (λ h. h g) now ∙ ap (upd (directories s) (e.slots n).directory false) one ∙ upd-at (directories s) (e.slots n).directory false in cc)
           | inr ne ↦ (
               let o = keeps.owned g (sym (upd-other (directories s) (e.slots n).directory false g ne) ∙ sym (ap (λ h. h g) now) ∙ used) in
@@ -108,7 +92,7 @@ pub keeps_slot : (s : SpacesState) (e f : Environments) (n : ℕ) (slot : Slot) 
     → is_live slot ≡ is_live (e.slots n) → slot.directory ≡ (e.slots n).directory → HasSpaces s e → HasSpaces s f
 keeps_slot s e f n slot now live space keeps =
     subst (HasSpaces s) (sym now)
-    (keeps_alike s s e (with_slot e n slot) keeps refl (seen_still is_live e.slots n slot live) (seen_still (λ z. z.directory) e.slots n slot space))
+    (keeps_alike s s e (with_slot e n slot) keeps refl (upd-alike is_live e.slots n slot live) (upd-alike (λ z. z.directory) e.slots n slot space))
 
 -- spaces whose directories stay
 pub keeps_spaces : (s t : SpacesState) (e : Environments) → directories t ≡ directories s → HasSpaces s e → HasSpaces t e

@@ -6,8 +6,8 @@ use Rattle.jos_base.specs.SpacesState.{SpacesState, directories, created}
 use Rattle.jos_base.specs.Environments.{Environments, Slot, with_slot, is_live, new_slot, next_id, allotted, allotted_from}
 use Rattle.jos_base.specs.KernelState.{KernelState, HasSpaces}
 use Rattle.jos_base.specs.SystemCalls.{environment_made}
-use Rattle.jos_envs.proofs.Maps.{upd-at, upd-other}
 use Rattle.jos_sys.proofs.Keeping.{keeps_made}
+use Rattle.jos_base.proofs.Maps.{upd-at, upd-other}
 
 module _ (k : KernelState) (parent : ℕ) where
   pub no_slot : allotted k.environments parent ≡ None → environment_made k parent ≡ Err NoFreeEnv

@@ -1,5 +1,5 @@
 -- The system calls on pages, over states alone.
-use Rattle.std.proofs.Common.{◌≡◌, ℕ, ◌+◌, ◌*◌, ◌/◌, ◌&&◌, ◌==◌, Bool, true, false, Option, Some, None, refl, sym, subst, arith}
+use Rattle.std.proofs.Common.{◌≡◌, ℕ, ◌+◌, ◌*◌, ◌/◌, ◌==◌, true, false, Option, Some, None, sym, subst, arith}
 use Rattle.std.specs.Prelude.{bit_and}
 use Rattle.std.proofs.lemmas.Bool.Decides.{nat_tests}
 use Rattle.jos_base.specs.declared.errno.Errno.TheVariants.{BadEnv, Invalid, NoMem}
@@ -12,21 +12,18 @@ use Rattle.jos_base.specs.SystemCalls.{answered, answered_with, refused, is_page
 use Rattle.jos_base.specs.SystemCalls.{page_alloc_of, page_map_of, page_map_by, page_unmap_of}
 use Rattle.jos_sys.specs.declared.system.Answer.{Answer}
 use Rattle.jos_sys.specs.System.{IsDone}
+use Rattle.std.proofs.lemmas.Bool.{and_parts}
 
 -- ---- good bits
-
-both : (a b : Bool) → (a && b) ≡ true → (a ≡ true) × (b ≡ true)
-both true b e = (refl, e)
-both false b e = let no : ⊥ = cc in absurd no
 
 eq_of : (a b : ℕ) → (a == b) ≡ true → a ≡ b
 eq_of a b e = grind (arith, nat_tests)
 
 pub perm_user : (perm : ℕ) → is_page_perm perm ≡ true → bit_and perm (PTE_P + PTE_U) ≡ PTE_P + PTE_U
-perm_user perm good = eq_of _ _ (both _ _ good).0
+perm_user perm good = eq_of _ _ (and_parts _ _ good).0
 
 pub perm_only : (perm : ℕ) → is_page_perm perm ≡ true → bit_and perm PTE_SYSCALL ≡ perm
-perm_only perm good = eq_of _ _ (both _ _ good).1
+perm_only perm good = eq_of _ _ (and_parts _ _ good).1
 
 -- the number of the page that begins at a multiple of its size
 pub page_of_number : (number : ℕ) → number * PGSIZE / PGSIZE ≡ number

@@ -14,10 +14,9 @@ use Rattle.jos_base.specs.Environments.{Slot, with_answer}
 use Rattle.jos_base.specs.KernelState.{KernelState, slot_at, with_slot_at, with_status, with_registers, with_rendezvous, with_spaces, with_refusal}
 use Rattle.jos_base.specs.SystemCalls.{Passing, nothing, a_page, invalid, answered, refused, shared_entry, entry_at, inserted_at}
 use Rattle.jos_base.specs.SystemCalls.{passing_of, message_taken, sent, ipc_try_send_of, ipc_recv}
-use Rattle.jos_space.proofs.Lookups.{upd-twice}
-use Rattle.jos_envs.proofs.Maps.{upd-at}
 use Rattle.jos_sys.specs.declared.system.Answer.{Answer}
 use Rattle.jos_sys.specs.System.{IsDone}
+use Rattle.jos_base.proofs.Maps.{upd-at, upd-twice}
 
 -- ---- what passes
 

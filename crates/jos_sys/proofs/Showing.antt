@@ -6,8 +6,8 @@ use Rattle.jos_base.specs.declared.numbers.TheConstants.{NENV}
 use Rattle.jos_base.specs.declared.registers.Regs.{Regs}
 use Rattle.jos_base.specs.Words.{upd}
 use Rattle.jos_base.specs.Environments.{Environments, Slot, with_slot, slot_freed, free_slot, record_words, records_of}
-use Rattle.jos_envs.proofs.Maps.{upd-at, upd-other, same_or}
-use Rattle.jos_sys.proofs.Keeping.{seen_still}
+use Rattle.std.proofs.lemmas.Bool.{cases_eq}
+use Rattle.jos_base.proofs.Maps.{upd-at, upd-other, upd-alike}
 
 -- the record of a slot of the table
 shown_at : (e : Environments) (n : ℕ) → n < NENV → records_of e n ≡ record_words (e.slots n)
@@ -29,7 +29,7 @@ module _ (e f : Environments) where
   pub shown_same : (n : ℕ) (slot : Slot) → f ≡ with_slot e n slot → record_words slot ≡ record_words (e.slots n) → records_of f ≡ records_of e
   unfolding records_of
   shown_same n slot now same =
-      ap records_of now ∙ (λ i q. if nat_lt q NENV then seen_still record_words e.slots n slot same q i else [])
+      ap records_of now ∙ (λ i q. if nat_lt q NENV then upd-alike record_words e.slots n slot same q i else [])
 
   -- all others are shown as they are
   pub others_by : (n : ℕ) → ((q : ℕ) → q ≢ n → f.slots q ≡ e.slots q) → (r : ℕ → List ℕ) → r ≡ records_of e
@@ -51,7 +51,7 @@ pub all_shown : (e : Environments) (n : ℕ) (slot : Slot) (words : List ℕ) (r
 all_shown e n slot words r s below at is others now = now ∙ (λ i q. each q i)
   where
     each : (q : ℕ) → upd r n words q ≡ records_of e q
-    each q = elim (same_or q n) [
+    each q = elim (cases_eq q n) [
       | inl one ↦ ap (upd r n words) one ∙ upd-at r n words ∙ is ∙ ap record_words at ∙ sym (shown_at e n below) ∙ ap (records_of e) (sym one)
       | inr ne ↦ upd-other r n words q ne ∙ others q ne
     ]

@@ -24,13 +24,13 @@ use Rattle.lib_os.specs.LibrarySteps.{Stands, NothingRefused, IsLibraryStep, Lea
 use Rattle.lib_os.specs.Places.{place_of}
 use Rattle.lib_os.specs.StandsFor.{StandsFor, Names, Row, rows_of, StandsForBorn, StandsAtStep, IsIn}
 use Rattle.lib_os.specs.UserCalls.{got, system, Step as Call, Output, PrintsPart}
-use Rattle.lib_os.proofs.Maps.{upd-at, upd-twice}
 use Rattle.lib_os.proofs.Answering.{back_stands}
 use Rattle.lib_os.proofs.Serving.{served, step_in}
 use Rattle.lib_os.proofs.Leaving.{wakes}
 use Rattle.lib_os.proofs.StepsLeave.{behind, stays, answers}
 use Rattle.lib_mem.specs.Own.{is_own_service}
 use Rattle.lib_mem.specs.Passing.{IsPassed}
+use Rattle.jos_base.proofs.Maps.{upd-at, upd-twice}
 
 -- ---- at the beginning
 

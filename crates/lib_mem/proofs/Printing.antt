@@ -12,7 +12,7 @@ use Rattle.jos_base.specs.Environments.{is_live}
 use Rattle.jos_base.specs.KernelState.{KernelState, slot_at}
 use Rattle.jos_base.specs.Lines.{line_text}
 use Rattle.jos_base.specs.Reach.{bytes_read}
-use Rattle.jos_base.specs.SpacesState.{Use, directory, is_directory}
+use Rattle.jos_base.specs.SpacesState.{directory}
 use Rattle.jos_base.specs.SystemCalls.{user_bytes, with_bytes_reached, without_environment}
 use Rattle.lib_os.specs.declared.place.Place.TheVariants as place
 use Rattle.lib_os.specs.declared.place.Step.{Step}
@@ -34,6 +34,7 @@ use Rattle.lib_os.proofs.StatesStand.{quiet_stands, printed_stands}
 use Rattle.lib_os.proofs.Touching.{all_touched_quiet}
 use Rattle.lib_mem.specs.Passing.{MayPass, IsPassed}
 use Rattle.lib_mem.proofs.Passing.{IsHere, here, Leads, answer_stands, passed_kept, ended_kept}
+use Rattle.jos_base.proofs.Uses.{directory_is}
 
 -- ---- its step in the abstract system
 
@@ -44,11 +45,6 @@ cputs_step a n b regs va len few buffer =
     let test : nat_lt CPUTS_MAX len ≡ false = grind (arith, nat_tests) in rw (test, buffer) refl
 
 -- ---- its step
-
--- a frame that is used as a directory
-used_so : (u : Use) → is_directory u ≡ true → u ≡ directory
-used_so directory is = refl
-used_so _ is = absurd (let no_test : false ≡ true = is in cc)
 
 module _ (s : KernelState) (n va len : ℕ) (step : Step) (rest : List ℕ) (live : is_live (slot_at s n) ≡ true)
     (at : place_of (slot_at s n) ≡ place.InService (service.Cputs va len) step)
@@ -102,7 +98,7 @@ module _ (s : KernelState) (n va len : ℕ) (step : Step) (rest : List ℕ) (liv
             names,
             printed_stands (ended_stands h n i.b i.is
                 (destroyed_gone s.spaces (slot_at s n).directory h.in_order.frames
-                (used_so (s.spaces.uses (slot_at s n).directory) (h.in_order.spaces.in_use n live))) in_order)
+                (directory_is (s.spaces.uses (slot_at s n).directory) (h.in_order.spaces.in_use n live))) in_order)
                 (line_text i.b.id (UserMemCheck fault.va)),
           ),
         )

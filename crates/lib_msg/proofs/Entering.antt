@@ -1,12 +1,11 @@
 -- receive, up to where it waits: what it refuses, and that the environment waits in both systems.
-use Rattle.std.proofs.Common.{◌≡◌, ◌≢◌, ◌∙◌, ◌==◌, ◌%◌, ◌&&◌, ◌||◌, ℕ, Bool, true, false, not, List, [], ◌∷◌, Some, Ok}
+use Rattle.std.proofs.Common.{◌≡◌, ◌≢◌, ◌∙◌, ◌==◌, ◌&&◌, ◌||◌, ℕ, Bool, true, false, not, List, [], ◌∷◌, Some, Ok}
 use Rattle.std.proofs.Common.{refl, sym, ap, subst, arith, if◌then◌else◌}
-use Rattle.std.specs.Prelude.{nat_lt}
 use Rattle.std.proofs.lemmas.Bool.Decides.{nat_tests}
 use Rattle.jos_base.specs.declared.called.Called.{Called}
 use Rattle.jos_base.specs.declared.called.Called.TheVariants.{Blocked}
 use Rattle.jos_base.specs.declared.environment.Status.TheVariants.{NotRunnable}
-use Rattle.jos_base.specs.declared.numbers.TheConstants.{SYS_GETENVID, SYS_IPC_RECV, E_INVAL, FIRST_ENV_ID, PGSIZE, UTOP}
+use Rattle.jos_base.specs.declared.numbers.TheConstants.{SYS_GETENVID, SYS_IPC_RECV, E_INVAL, FIRST_ENV_ID}
 use Rattle.jos_base.specs.declared.registers.Regs.{Regs}
 use Rattle.jos_base.specs.Environments.{Slot as KernelSlot, is_live}
 use Rattle.jos_base.specs.KernelState.{KernelState, slot_at, with_slot_at, with_extra, with_status, with_rendezvous}
@@ -27,8 +26,7 @@ use Rattle.lib_os.specs.Places.{place_of, words_at}
 use Rattle.lib_os.specs.StandsFor.{StandsFor, Names, rows_of, StandsAt, IsIn, IsAboutToWait, waits, destination_of}
 use Rattle.lib_os.specs.UserCalls.{IsCallStep, answer_of, system, Output, Prints}
 use Rattle.lib_os.proofs.Answering.{back_stands}
-use Rattle.lib_os.proofs.Calls.{comes_to, ipc_recv_is, receives_at, waits_is}
-use Rattle.lib_os.proofs.Fences.{page_inside_aligned}
+use Rattle.lib_os.proofs.Calls.{comes_to, ipc_recv_is, waits_is}
 use Rattle.lib_os.proofs.GoingOn.{in_with_words, words_stand, hidden}
 use Rattle.lib_os.proofs.Numbered.{named_at}
 use Rattle.lib_os.proofs.Quieting.{own_id, same_state, no_bytes}
@@ -38,10 +36,11 @@ use Rattle.lib_os.proofs.StatesStand.{slot_changed, stopped_settles}
 use Rattle.lib_os.proofs.Trying.{LivesOn, recv_lives}
 use Rattle.lib_os.proofs.WordsTell.{place_at}
 use Rattle.lib_msg.specs.Own.{may_receive}
+use Rattle.lib_os.proofs.Receiving.{taken_destination}
 
 -- ---- the abstract step
 
-server_is : {names : Names} {s : KernelState} {a : AbstractState} → StandsFor names s a → server_id a ≡ FIRST_ENV_ID
+pub server_is : {names : Names} {s : KernelState} {a : AbstractState} → StandsFor names s a → server_id a ≡ FIRST_ENV_ID
 server_is h = ap (λ (x : Slot). slot_id x) h.first
 
 refused_step : (a : AbstractState) (n : ℕ) (b : Born) (regs : Regs) (va from own : ℕ) → own ≡ b.id → server_id a ≡ FIRST_ENV_ID →
@@ -147,15 +146,6 @@ module _ (s mid : KernelState) (n va from own : ℕ) (called : Called) (output :
 abbrev wait_args : ℕ → ℕ → List ℕ
 wait_args va from = destination_of va ∷ from ∷ 0 ∷ 0 ∷ 0 ∷ []
 
--- the kernel is told a page's place below UTOP, or UTOP
-place_fits : (va : ℕ) → is_page_or_none va ≡ true → (nat_lt (destination_of va) UTOP && not (destination_of va % PGSIZE == 0)) ≡ false
-place_fits va page = by_test (va == 0) refl
-  where
-    by_test : (t : Bool) → (va == 0) ≡ t →
-        (nat_lt (if t then UTOP else va) UTOP && not ((if t then UTOP else va) % PGSIZE == 0)) ≡ false
-    by_test true none = refl
-    by_test false some = receives_at va (page_inside_aligned va (rw some at page))
-
 module _ (s mid : KernelState) (n va from id : ℕ) (called : Called) (output : Output)
     (stands : place_of (slot_at s n) ≡ place.InService (service.Receive va from) (step.Receiving id)) (live : is_live (slot_at s n) ≡ true)
     (call : IsCallStep (system s n SYS_IPC_RECV (wait_args va from)) (Ok called) mid output) where
@@ -180,7 +170,7 @@ module _ (s mid : KernelState) (n va from id : ℕ) (called : Called) (output : 
           let k : KernelSlot = record (slot_at s n) { rendezvous = r; status = NotRunnable; extra = words } in
           let came = comes_to (system s n SYS_IPC_RECV (wait_args va from)) Blocked called
           (with_status (with_rendezvous s n r) n NotRunnable) mid [] output
-          (ipc_recv_is s n live (destination_of va) from (0 ∷ 0 ∷ 0 ∷ []) (place_fits va at.page)) call in
+          (ipc_recv_is s n live (destination_of va) from (0 ∷ 0 ∷ 0 ∷ []) (taken_destination va at.page)) call in
           let mid_waits : mid ≡ with_slot_at s n waited = came.1 ∙ waits_is s n r NotRunnable in
           let state_is : after ≡ with_slot_at s n k = state ∙ (λ i. with_extra (mid_waits i) (same i) words) ∙ words_put s n waited words in
           let there : place_of k ≡ place.InService (service.Receive va from) (step.ReadingValue id) =

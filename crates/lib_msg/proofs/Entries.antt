@@ -31,6 +31,7 @@ use Rattle.lib_os.proofs.SlotsStand.{born_at}
 use Rattle.lib_os.proofs.Touching.{touched_quiet}
 use Rattle.lib_os.proofs.WindowWords.{read_at, load_table_word}
 use Rattle.lib_msg.specs.Own.{may_pass}
+use Rattle.std.proofs.lemmas.Bool.{and_parts}
 
 module _ (s : KernelState) (n id value va at_word : ℕ)
     (stands : place_of (slot_at s n) ≡ place.InService (service.Send id value va) step.ReadingEntry)
@@ -87,11 +88,6 @@ module _ (s : KernelState) (n id value va at_word : ℕ)
               ),
             )
 
-    both : (t u : Bool) → (t && u) ≡ true → (t ≡ true) × (u ≡ true)
-    both true true on = (refl, refl)
-    both true false on = absurd (let contradiction : false ≡ true = on in cc)
-    both false u on = absurd (let contradiction : false ≡ true = on in cc)
-
     may_there : {names : Names} {a : AbstractState} (h : StandsFor names s a) (b : Born) (is : a.slots n ≡ born b) →
         (at : IsLooking (slot_at s n) b id value va) → (va == 0) ≡ false →
         word ≡ entry_word (s.spaces.entries (slot_at s n).directory (va / PGSIZE)) → (bit_and word PTE_P == PTE_P) ≡ true →
@@ -118,7 +114,7 @@ module _ (s : KernelState) (n id value va at_word : ℕ)
             let bits = bit_and word PTE_SYSCALL in
             let words = words_at 8 (step.Trying bits) in
             let some : (va == 0) ≡ false = let e = at.0.somewhere in grind (arith, nat_tests) in
-            let tests = both (bit_and word PTE_P == PTE_P) (is_shared bits || not (has_write bits)) on in
+            let tests = and_parts (bit_and word PTE_P == PTE_P) (is_shared bits || not (has_write bits)) on in
             let state_is : after ≡ with_extra (loaded s n at_word) n words =
             state ∙ (λ i. with_extra (loaded_state s mid n at_word word output call i) (same i) words) in
             subst (λ (t : KernelState). StandsFor names t a) (sym state_is)

@@ -20,7 +20,7 @@ use Rattle.lib_os.specs.declared.progress.Progress.TheVariants as progress
 use Rattle.lib_os.specs.declared.service.Service.TheVariants as service
 use Rattle.lib_os.specs.AbstractMemory.{page_at}
 use Rattle.lib_os.specs.AbstractMessages.{server_id, is_page_to_send}
-use Rattle.lib_os.specs.AbstractState.{AbstractState, Born, Slot, entered, slot_id}
+use Rattle.lib_os.specs.AbstractState.{AbstractState, Born, entered}
 use Rattle.lib_os.specs.Answers as abstract_system
 use Rattle.lib_os.specs.Fence.{is_page_inside}
 use Rattle.lib_os.specs.InOrder.{IsInOrder}
@@ -40,11 +40,9 @@ use Rattle.lib_os.proofs.Serving.{served, step_in, finished, printed_nothing}
 use Rattle.lib_os.proofs.SlotsStand.{born_at}
 use Rattle.lib_os.proofs.WindowWords.{read_at, load_directory_word}
 use Rattle.lib_msg.specs.Own.{may_name}
+use Rattle.lib_msg.proofs.Entering.{server_is}
 
 -- ---- the abstract step
-
-server_is : {names : Names} {s : KernelState} {a : AbstractState} → StandsFor names s a → server_id a ≡ FIRST_ENV_ID
-server_is h = ap (λ (x : Slot). slot_id x) h.first
 
 named_parts : (id own : ℕ) → may_name id own ≡ true → (id ≢ 0) × (id ≢ own) × (id ≢ FIRST_ENV_ID)
 named_parts id own on = by_test (id == 0) (id == own) (id == FIRST_ENV_ID) refl refl refl on

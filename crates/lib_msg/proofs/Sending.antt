@@ -23,12 +23,12 @@ use Rattle.lib_os.specs.Services.{service_of}
 use Rattle.lib_os.specs.StandsFor.{StandsFor, Names, rows_of, IsIn, IsTrying, destination_of}
 use Rattle.lib_os.specs.UserCalls.{Step as Call, got, IsCallStep, answer_of, system, Output, Prints}
 use Rattle.lib_os.proofs.GoingOn.{in_with_words, words_stand, hidden}
-use Rattle.lib_os.proofs.Maps.{upd-at}
 use Rattle.lib_os.proofs.Numbered.{named_at}
 use Rattle.lib_os.proofs.Quieting.{turn_given, yield_quiet}
 use Rattle.lib_os.proofs.Serving.{served, finished, printed_nothing}
 use Rattle.lib_os.proofs.SlotsStand.{born_at}
 use Rattle.lib_os.proofs.StatesStand.{status_stands}
+use Rattle.jos_base.proofs.Maps.{upd-at}
 
 module _ (s mid : KernelState) (n id value va perm : ℕ) (called : Called) (output : Output)
     (stands : place_of (slot_at s n) ≡ place.InService (service.Send id value va) (step.Pausing perm)) (live : is_live (slot_at s n) ≡ true)

@@ -8,19 +8,19 @@ ghost use Rattle.jos_base.specs.KernelState.{slot_at};
 ghost use Rattle.lib_os.specs.LibrarySteps.{IsLibraryStep, Leaves, Lowers, GivesUp, MakesOneCall};
 ghost use Rattle.lib_os.specs.Places.{place_of};
 ghost use Rattle.lib_os.specs.UserCalls.{output};
-ghost use Rattle.jos_base.specs.declared.numbers.TheConstants.{NENV, UENVS};
+ghost use Rattle.jos_base.specs.declared.numbers.TheConstants.{ENV_SIZE, ENV_WORDS, NENV, UENVS};
 ghost use Rattle.lib_os.specs.StandsFor.{destination_of, kind_by};
 ghost use Rattle.lib_msg.specs.Own.{may_receive, is_receives, is_awake};
 
-use jos_base::{E_INVAL, FIRST_ENV_ID, NENV, PTE_W, Regs, SYS_GETENVID, SYS_IPC_RECV, UENVS, UTOP};
+use jos_base::{
+    E_INVAL, ENV_IPC_FROM, ENV_IPC_PERM, ENV_IPC_VALUE, ENV_SIZE, FIRST_ENV_ID, NENV, PTE_W, Regs,
+    SYS_GETENVID, SYS_IPC_RECV, UENVS, UTOP,
+};
 use jos_host::{Failed, Host};
 use lib_os::{
-    Place, Progress, Service, Step, UserOs, answer, answer_of, go_back, go_on, is_page_inside,
-    stopped,
+    Place, Progress, SERVICE_RECEIVE, Service, Step, UserOs, answer, answer_of, go_back, go_on,
+    is_page_inside, stopped,
 };
-
-/// The number of receive.
-const RECEIVE: u32 = 9;
 
 /// Whether an environment with this id may receive: a page lies within the fence, where 0 stands for none, and nobody receives
 /// from itself or from the server.
@@ -52,10 +52,10 @@ fn kind_by(perm: u32) -> u32
 
 /// The address of a word of the record of an environment's slot.
 fn record_word(id: u32, word: u32) -> u32
-    requires { word < 16 }
-    ensures { result ≡ UENVS + 64 * (id % NENV) + 4 * word }
+    requires { word < ENV_WORDS }
+    ensures { result ≡ UENVS + ENV_SIZE * (id % NENV) + 4 * word }
 {
-    UENVS + 64 * (id % NENV) + 4 * word
+    UENVS + ENV_SIZE * (id % NENV) + 4 * word
 }
 
 /// receive(va, from): a page must lie within the fence, and nobody receives from itself or from the server.
@@ -83,7 +83,7 @@ pub(crate) fn enter_receive<O: UserOs, H: Host>(
                 answer(os, E_INVAL.wrapping_neg());
                 return Ok(Progress::Finished);
             }
-            go_on(os, RECEIVE, Step::Receiving { id: own });
+            go_on(os, SERVICE_RECEIVE, Step::Receiving { id: own });
             Ok(Progress::Hidden)
         }
         Err(failed) => Err(failed),
@@ -111,7 +111,7 @@ pub(crate) fn wait_message<O: UserOs, H: Host>(
 {
     match os.system(host, SYS_IPC_RECV, [destination_of(va), from, 0, 0, 0]) {
         Ok(_) => {
-            go_on(os, RECEIVE, Step::ReadingValue { id });
+            go_on(os, SERVICE_RECEIVE, Step::ReadingValue { id });
             Ok(Progress::Visible)
         }
         Err(failed) => Err(failed),
@@ -138,9 +138,9 @@ pub(crate) fn read_value<O: UserOs, H: Host>(
     ensures rest { Unchanged H.files H.input H.asked H.notes host.old host.new }
     ensures cause { HasCause (H.faults host.old) (H.faults host.new) result }
 {
-    match os.load(host, record_word(id, 10)) {
+    match os.load(host, record_word(id, ENV_IPC_VALUE)) {
         Ok(value) => {
-            go_on(os, RECEIVE, Step::ReadingSender { id, value });
+            go_on(os, SERVICE_RECEIVE, Step::ReadingSender { id, value });
             Ok(Progress::Hidden)
         }
         Err(stop) => stopped(stop),
@@ -167,9 +167,9 @@ pub(crate) fn read_sender<O: UserOs, H: Host>(
     ensures rest { Unchanged H.files H.input H.asked H.notes host.old host.new }
     ensures cause { HasCause (H.faults host.old) (H.faults host.new) result }
 {
-    match os.load(host, record_word(id, 11)) {
+    match os.load(host, record_word(id, ENV_IPC_FROM)) {
         Ok(sender) => {
-            go_on(os, RECEIVE, Step::ReadingPerm { id, value, sender });
+            go_on(os, SERVICE_RECEIVE, Step::ReadingPerm { id, value, sender });
             Ok(Progress::Hidden)
         }
         Err(stop) => stopped(stop),
@@ -197,7 +197,7 @@ pub(crate) fn read_perm<O: UserOs, H: Host>(
     ensures rest { Unchanged H.files H.input H.asked H.notes host.old host.new }
     ensures cause { HasCause (H.faults host.old) (H.faults host.new) result }
 {
-    match os.load(host, record_word(id, 12)) {
+    match os.load(host, record_word(id, ENV_IPC_PERM)) {
         Ok(perm) => {
             let registers = os.registers();
             let told = Regs {

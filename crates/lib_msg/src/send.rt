@@ -17,12 +17,9 @@ use jos_base::{
 };
 use jos_host::{Failed, Host};
 use lib_os::{
-    PTE_SHARE, Place, Progress, Service, Step, UVPD, UserOs, answer, answer_of, go_on,
-    is_page_inside, stopped,
+    PTE_SHARE, Place, Progress, SERVICE_SEND, Service, Step, UVPD, UserOs, answer, answer_of,
+    go_on, is_page_inside, stopped,
 };
-
-/// The number of send.
-const SEND: u32 = 8;
 
 /// Whether an environment with this id may send to another: to no one with id 0, nor to itself or to the server.
 fn may_name(id: u32, own: u32) -> bool
@@ -73,14 +70,14 @@ pub(crate) fn enter_send<O: UserOs, H: Host>(
                 return Ok(Progress::Finished);
             }
             if va == 0 {
-                go_on(os, SEND, Step::Trying { perm: 0 });
+                go_on(os, SERVICE_SEND, Step::Trying { perm: 0 });
                 return Ok(Progress::Hidden);
             }
             if !is_page_inside(va) {
                 answer(os, E_INVAL.wrapping_neg());
                 return Ok(Progress::Finished);
             }
-            go_on(os, SEND, Step::ReadingRegion);
+            go_on(os, SERVICE_SEND, Step::ReadingRegion);
             Ok(Progress::Hidden)
         }
         Err(failed) => Err(failed),
@@ -112,7 +109,7 @@ pub(crate) fn read_region<O: UserOs, H: Host>(
                 answer(os, E_INVAL.wrapping_neg());
                 return Ok(Progress::Finished);
             }
-            go_on(os, SEND, Step::ReadingEntry);
+            go_on(os, SERVICE_SEND, Step::ReadingEntry);
             Ok(Progress::Hidden)
         }
         Err(stop) => stopped(stop),
@@ -145,7 +142,7 @@ pub(crate) fn read_entry<O: UserOs, H: Host>(
                 answer(os, E_INVAL.wrapping_neg());
                 return Ok(Progress::Finished);
             }
-            go_on(os, SEND, Step::Trying { perm });
+            go_on(os, SERVICE_SEND, Step::Trying { perm });
             Ok(Progress::Hidden)
         }
         Err(stop) => stopped(stop),
@@ -176,7 +173,7 @@ pub(crate) fn try_send<O: UserOs, H: Host>(
         Ok(called) => {
             let word = answer_of(called);
             if word == E_IPC_NOT_RECV.wrapping_neg() {
-                go_on(os, SEND, Step::Pausing { perm });
+                go_on(os, SERVICE_SEND, Step::Pausing { perm });
                 return Ok(Progress::Waited);
             }
             answer(os, word);
@@ -208,7 +205,7 @@ pub(crate) fn pause_send<O: UserOs, H: Host>(
 {
     match os.system(host, SYS_YIELD, [0; 5]) {
         Ok(_) => {
-            go_on(os, SEND, Step::Trying { perm });
+            go_on(os, SERVICE_SEND, Step::Trying { perm });
             Ok(Progress::Hidden)
         }
         Err(failed) => Err(failed),

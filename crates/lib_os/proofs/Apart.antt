@@ -10,7 +10,7 @@ use Rattle.lib_os.specs.Answers.{answered, at_stage}
 use Rattle.lib_os.specs.declared.numbers.TheConstants.{PIPEBUFSIZ}
 use Rattle.lib_os.specs.AbstractPipes.{is_such_held, is_read_end}
 use Rattle.lib_os.specs.AbstractLaws.{ForkCopies, OwnStoresAreUnseen, SharedStoresAreSeen, PipesAreBounded}
-use Rattle.lib_os.proofs.Maps.{upd-at, upd-other}
+use Rattle.jos_base.proofs.Maps.{upd-at, upd-other}
 
 pub fork_copies : ForkCopies
 fork_copies a n child b regs ne = upd-other _ n _ child ne ∙ upd-at _ child _

@@ -28,6 +28,7 @@ use Rattle.lib_os.specs.MemoryServices.{byte_or_fault}
 use Rattle.lib_os.specs.StandsFor.{Names, lasting, rows_of, is_shared, page_by, page_seen, AreNamed, AreUsers, StandsFor}
 use Rattle.lib_os.specs.StandsFor.{StandsForBorn, StandsForSlot}
 use Rattle.lib_os.proofs.Fences.{buffer_each, buffer_below, inside_number}
+use Rattle.jos_base.proofs.Walks.{walked_below}
 
 -- ---- bits
 
@@ -127,13 +128,6 @@ module _ (names : Names) (bytes : ℕ → List ℕ) where
       by_share false name = refl
 
 -- ---- an address
-
--- below UTOP a walk finds the entry of the page
-pub walked_below : (s : SpacesState) (d number : ℕ) → number < page_limit → walked s d number ≡ s.entries d number
-unfolding walked
-walked_below s d number below =
-    let is : nat_lt number page_limit ≡ true = grind (arith, nat_tests) in
-    rw is refl
 
 -- a space whose pages are those of an environment
 module _ (names : Names) (s : SpacesState) (d : ℕ) (b : Born) (memory : (p : ℕ) → b.memory p ≡ page_seen names s d p) (users : AreUsers (rows_of s)) where

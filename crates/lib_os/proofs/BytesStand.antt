@@ -16,9 +16,10 @@ use Rattle.lib_os.specs.StandsFor.{StandsFor, StandsForSlot, StandsForBorn, Name
 use Rattle.lib_os.specs.StandsFor.{Apart, AreNamed, AreUsers, IsNamed}
 use Rattle.lib_os.proofs.Effects.{Stored}
 use Rattle.lib_os.proofs.EntriesStand.{same_sharing, other_frame, seen_at, seen_own, seen_by}
-use Rattle.lib_os.proofs.Maps.{Elsewhere, upd-at, upd-other, upd-all}
 use Rattle.lib_os.proofs.SlotsStand.{SeenAlike, minds_page, sends_by_same, page_put, slot_stands, born_at}
 use Rattle.lib_os.proofs.StatesStand.{born_not_first, others_stand}
+use Rattle.jos_base.proofs.Maps.{upd-at, upd-other, upd-all}
+use Rattle.jos_base.proofs.Puts.{Elsewhere}
 
 module _ {names : Names} {s : KernelState} {a : AbstractState} {sp : SpacesState} (h : StandsFor names s a) (n : ℕ) (b : Born)
     (at : a.slots n ≡ born b) (va byte : ℕ) (e : Entry) (he : rows_of s.spaces (slot_at s n).directory (page_number va) ≡ Some e)

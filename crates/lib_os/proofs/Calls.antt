@@ -27,9 +27,9 @@ use Rattle.jos_base.specs.UserMemory.{read_byte, all_touched}
 use Rattle.jos_base.specs.Words.{negated, page_number, upd}
 use Rattle.lib_os.specs.LibrarySteps.{NothingRefused}
 use Rattle.lib_os.specs.UserCalls.{Step, IsCallStep, got, giving, asking, taken_back, called_by, system, Output, Prints}
-use Rattle.lib_os.proofs.Maps.{upd-at, upd-twice}
 use Rattle.lib_os.proofs.SlotsSet.{set_twice}
 use Rattle.lib_os.proofs.Slots.{slot_put, slots_alike, registers_put, registers_back}
+use Rattle.jos_base.proofs.Maps.{upd-at, upd-twice}
 
 -- ---- the cases of a call that asks for frames, and of one that writes
 

@@ -4,7 +4,8 @@ use Rattle.std.proofs.Common.{◌+◌, ◌<◌, ◌≤◌, ℕ, arith}
 use Rattle.std.specs.Prelude.{Option, is_some}
 use Rattle.jos_base.specs.Counting.{total}
 use Rattle.jos_base.specs.Environments.{bit_of}
-use Rattle.lib_os.proofs.Sums.{total-mono, total-sum, total-ones, total-swap, is_at, at_most_once}
+use Rattle.lib_os.proofs.Sums.{is_at, at_most_once}
+use Rattle.jos_base.proofs.Sums.{total-mono, total-sum, total-ones, total-swap}
 
 -- how many places have something
 abbrev pub filled : ℕ → (ℕ → Option ℕ) → ℕ

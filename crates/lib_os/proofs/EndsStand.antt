@@ -14,9 +14,9 @@ use Rattle.lib_os.specs.AbstractMemory.{ended}
 use Rattle.lib_os.specs.InOrder.{IsInOrder}
 use Rattle.lib_os.specs.StandsFor.{StandsFor, StandsForSlot, Names, rows_of}
 use Rattle.lib_os.proofs.Effects.{Gone}
-use Rattle.lib_os.proofs.Maps.{upd-other, upd-both}
 use Rattle.lib_os.proofs.SlotsStand.{SeenAlike, born_at}
 use Rattle.lib_os.proofs.StatesStand.{born_not_first, others_stand, tabled_freed}
+use Rattle.jos_base.proofs.Maps.{upd-other, upd-both}
 
 -- what stands after a space is gone stood there before
 pub gone_kept : {s t : SpacesState} {d : ℕ} → Gone s t d → (q r : ℕ) (x : Entry) → rows_of t q r ≡ Some x → rows_of s q r ≡ Some x

@@ -9,8 +9,9 @@ use Rattle.jos_base.specs.SpacesState.{SpacesState, put}
 use Rattle.jos_base.specs.SystemCalls.{has_write}
 use Rattle.lib_os.specs.AbstractState.{own, named}
 use Rattle.lib_os.specs.StandsFor.{Names, Rows, rows_of, page_by, page_seen, is_shared, Agree, Apart}
-use Rattle.lib_os.proofs.Maps.{Elsewhere, place_cases, put_some}
 use Rattle.lib_os.proofs.SlotsStand.{page_alike, option_map_alike}
+use Rattle.lib_os.proofs.Puts.{put-found}
+use Rattle.jos_base.proofs.Puts.{Elsewhere, place_cases}
 
 -- ---- pairs
 
@@ -40,7 +41,7 @@ other_frame rows apart d p q r x e ne he writes hx own_page same =
 pub apart_put : (rows : Rows) (d p : ℕ) (v : Option Entry) → Apart rows →
     ((q r : ℕ) (x e : Entry) → Elsewhere q r d p → rows q r ≡ Some x → v ≡ Some e → x.frame ≡ e.frame → Agree x.perm e.perm) →
     Apart (put rows d p v)
-apart_put rows d p v apart agree q r m o x y ne hx hy same = by_case (put_some rows d p v q r x hx) (put_some rows d p v m o y hy)
+apart_put rows d p v apart agree q r m o x y ne hx hy same = by_case (put-found rows d p v q r x hx) (put-found rows d p v m o y hy)
   where
     by_case : ((q ≡ d) × (r ≡ p) × (v ≡ Some x)) ⊎ ((e : Elsewhere q r d p) × (rows q r ≡ Some x)) →
         ((m ≡ d) × (o ≡ p) × (v ≡ Some y)) ⊎ ((e : Elsewhere m o d p) × (rows m o ≡ Some y)) → Agree x.perm y.perm
@@ -53,7 +54,7 @@ apart_put rows d p v apart agree q r m o x y ne hx hy same = by_case (put_some r
 pub all_put : (rows : Rows) (d p : ℕ) (v : Option Entry) (Q : Entry → Type 0) →
     ((q r : ℕ) (x : Entry) → Elsewhere q r d p → rows q r ≡ Some x → Q x) → ((e : Entry) → v ≡ Some e → Q e) →
     (q r : ℕ) (x : Entry) → put rows d p v q r ≡ Some x → Q x
-all_put rows d p v Q old new q r x hx = by_case (put_some rows d p v q r x hx)
+all_put rows d p v Q old new q r x hx = by_case (put-found rows d p v q r x hx)
   where
     by_case : ((q ≡ d) × (r ≡ p) × (v ≡ Some x)) ⊎ ((e : Elsewhere q r d p) × (rows q r ≡ Some x)) → Q x
     by_case (inl here) = new x here.2

@@ -8,9 +8,9 @@ use Rattle.jos_base.specs.declared.memory.Access.{Access}
 use Rattle.jos_base.specs.declared.memory.Access.TheVariants.{Read}
 use Rattle.jos_base.specs.declared.memory.PageFault.{PageFault}
 use Rattle.jos_base.specs.declared.numbers.TheConstants.{NPTENTRIES}
-use Rattle.jos_base.specs.Counting.{page_count, page_limit}
+use Rattle.jos_base.specs.Counting.{page_limit}
 use Rattle.jos_base.specs.Reach.{Entry, Location}
-use Rattle.jos_base.specs.SpacesState.{Region, SpacesState, freed, released, taken, fresh_of, fresh_from, frame_of, with_entry}
+use Rattle.jos_base.specs.SpacesState.{Region, SpacesState, taken, fresh_of, fresh_from, frame_of, with_entry}
 use Rattle.jos_base.specs.SpacesState.{mapped, tabled_new}
 use Rattle.jos_base.specs.SpacesState.{tabled_by, tabled, inserted, allocated_in, allocated, without_entry, unmapped}
 use Rattle.jos_base.specs.SpacesState.{pages_removed}
@@ -20,16 +20,13 @@ use Rattle.jos_base.specs.UserMemory.{reach_in, with_page_bits, with_region_bit,
 use Rattle.jos_base.specs.UserMemory.{all_touched}
 use Rattle.jos_base.specs.Windows.{table_index}
 use Rattle.jos_base.specs.Words.{page_number}
+use Rattle.jos_base.proofs.Released.{released_frames}
 
 by_test : (s a b : SpacesState) (t : Bool) → a.frames ≡ s.frames → b.frames ≡ s.frames → (if t then a else b).frames ≡ s.frames
 by_test s a b true first second = first
 by_test s a b false first second = second
 
 -- ---- pages removed
-
-released_frames : (s : SpacesState) (frame : Option ℕ) → (released s frame).frames ≡ s.frames
-released_frames s None = refl
-released_frames s (Some frame) = by_test s (freed s frame) s (page_count s.entries frame == 0) refl refl
 
 mapped_frames : (s : SpacesState) (space number : ℕ) (entry : Entry) → (mapped s space number entry).frames ≡ s.frames
 unfolding mapped

@@ -20,10 +20,10 @@ use Rattle.lib_os.specs.Places.{place_of, words_at}
 use Rattle.lib_os.specs.Services.{service_of}
 use Rattle.lib_os.specs.StandsFor.{StandsFor, Names, rows_of, StandsForBorn, StandsAt, StandsAtStep, IsIn}
 use Rattle.lib_os.specs.UserCalls.{Step as Call, IsCallStep, Output, Prints}
-use Rattle.lib_os.proofs.Maps.{upd-at}
 use Rattle.lib_os.proofs.Numbered.{number_of, named_at}
 use Rattle.lib_os.proofs.StatesStand.{slot_replaced}
 use Rattle.lib_os.proofs.WordsTell.{place_at}
+use Rattle.jos_base.proofs.Maps.{upd-at}
 
 -- ---- places
 

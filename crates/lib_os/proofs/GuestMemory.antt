@@ -7,12 +7,12 @@ use Rattle.jos_base.specs.declared.memory.Access.TheVariants.{Read, Write}
 use Rattle.jos_base.specs.Words.{page_number, page_offset, upd}
 use Rattle.jos_cpu.specs.declared.memory.MemFault.TheVariants as fault
 use Rattle.jos_cpu.specs.Memory.{IsLawful}
-use Rattle.jos_cpu.specs.MemoryLaws.{set_or_same}
+use Rattle.jos_cpu.specs.MemoryProofs.{set_or_same}
 use Rattle.lib_os.specs.AbstractState.{AbstractState, Born, Page, own, named, Slot, free, unborn, born, serving}
 use Rattle.lib_os.specs.AbstractMemory.{page_allows, page_fault, byte_in, stored_in}
 use Rattle.lib_os.specs.Fence.{is_inside}
 use Rattle.lib_os.specs.GuestStep.{guest_memory, guest_byte, guest_allows, guest_fault, guest_stored, born_in}
-use Rattle.lib_os.proofs.Maps.{upd-at, upd-alike}
+use Rattle.jos_base.proofs.Maps.{upd-at, upd-alike}
 
 -- ---- a page whose bytes are others
 

@@ -40,10 +40,11 @@ use Rattle.jos_base.specs.UserMemory.{reach_in, touched}
 use Rattle.jos_base.specs.Words.{page_number, upd}
 use Rattle.lib_os.specs.LibrarySteps.{LeavesRest}
 use Rattle.lib_os.specs.UserCalls.{giving, accessing, faulting, user_word, load, asking, sets_own, system}
-use Rattle.lib_os.proofs.Maps.{upd-all}
 use Rattle.lib_os.proofs.FramesKept.{Gets, unmapped_frames, destroyed_frames, inserted_gets, allocated_gets, touched_frames}
 use Rattle.lib_os.proofs.FramesKept.{all_touched_frames}
 use Rattle.lib_os.proofs.Slots.{slot_put, slot_kept, slots_alike}
+use Rattle.std.proofs.lemmas.Bool.{or_parts}
+use Rattle.jos_base.proofs.Maps.{upd-all}
 
 -- ---- what is left
 
@@ -354,11 +355,6 @@ running_calm _ is = refl
 abbrev pub wakes : ℕ → Bool
 wakes number = (number == SYS_YIELD) || (number == SYS_ENV_SET_STATUS)
 
-wakes_not : (first second : Bool) → (first || second) ≡ false → (first ≡ false) × (second ≡ false)
-wakes_not false false is = (refl, refl)
-wakes_not false true is = absurd (let contradiction : true ≡ false = is in cc)
-wakes_not true second is = absurd (let contradiction : true ≡ false = is in cc)
-
 module _ (s : KernelState) (n number : ℕ) (args : List ℕ) (no_fork : (number == SYS_EXOFORK) ≡ false) where
   -- an environment that waits for nothing makes a call in which it does not wake itself
   abbrev pub StaysCalm : Type 0
@@ -375,8 +371,8 @@ module _ (s : KernelState) (n number : ℕ) (args : List ℕ) (no_fork : (number
       let same : (slot_at k n).registers.eax ≡ number = ap (λ (x : Slot). x.registers.eax) k_is in
       let h = call_left StaysCalm k n (slot_at k n).registers (ap (λ (m : ℕ). m == SYS_EXOFORK) same ∙ no_fork)
       (λ p. ap (λ (x : Slot). x.rendezvous.receiving) k_is ∙ p.0)
-      (λ p. ap (λ (m : ℕ). m == SYS_YIELD) same ∙ (wakes_not _ _ p.1).0)
-      (λ p. ap (λ (m : ℕ). m == SYS_ENV_SET_STATUS) same ∙ (wakes_not _ _ p.1).1) in
+      (λ p. ap (λ (m : ℕ). m == SYS_YIELD) same ∙ (or_parts _ _ p.1).0)
+      (λ p. ap (λ (m : ℕ). m == SYS_ENV_SET_STATUS) same ∙ (or_parts _ _ p.1).1) in
       let done : KernelState = (call_of k n (slot_at k n).registers).state in
       by_test done (is_live (slot_at done n) && not (sets_own s n number args))
       (record {

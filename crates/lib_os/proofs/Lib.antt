@@ -1,5 +1,4 @@
 pub mod Effects
-pub mod Maps
 pub mod SlotsSet
 pub mod WordsTell
 pub mod BuiltServices
@@ -8,7 +7,6 @@ pub mod Answering
 pub mod TwoSlots
 pub mod SomeState
 pub mod Puts
-pub mod Counts
 pub mod Touching
 pub mod UsesKept
 pub mod Releasing

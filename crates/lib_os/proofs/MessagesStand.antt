@@ -35,7 +35,6 @@ use Rattle.lib_os.specs.StandsFor.{IsAboutToWait, destination_of, IsReceiving, k
 use Rattle.lib_os.proofs.Answering.{back_stands}
 use Rattle.lib_os.proofs.Effects.{Given}
 use Rattle.lib_os.proofs.EntriesStand.{seen_by}
-use Rattle.lib_os.proofs.Maps.{upd-at, upd-twice}
 use Rattle.lib_os.proofs.PagesStand.{given_stands}
 use Rattle.lib_os.proofs.Sends.{received_in, with_message}
 use Rattle.lib_os.proofs.Serving.{service_step, step_in}
@@ -43,6 +42,7 @@ use Rattle.lib_os.proofs.SlotsStand.{minds_page, born_at, born_live}
 use Rattle.lib_os.proofs.StatesStand.{slot_changed, slot_was_in_order, stopped_settles}
 use Rattle.lib_os.proofs.Waiters.{IsTaken}
 use Rattle.lib_os.proofs.WordsTell.{place_at}
+use Rattle.jos_base.proofs.Maps.{upd-at, upd-twice}
 
 -- ---- it begins to wait
 

@@ -21,7 +21,9 @@ use Rattle.lib_os.specs.StandsFor.{page_by}
 use Rattle.std.proofs.lemmas.Bool.Decides.{nat_tests}
 use Rattle.lib_os.proofs.Covering.{no_more_frames, filled, times_in}
 use Rattle.lib_os.proofs.SlotsStand.{born_at}
-use Rattle.lib_os.proofs.Sums.{is_at, is_at-here, total-less, total-mono, total-none, total-one, some_one}
+use Rattle.lib_os.proofs.Sums.{is_at, is_at-here}
+use Rattle.jos_base.proofs.Sums.{total-mono, total-less, total-none, total-one}
+use Rattle.fs_layout.proofs.Below.{some_below-at}
 
 -- ---- the places
 
@@ -224,10 +226,10 @@ module _ (names : Names) (s : KernelState) (a : AbstractState) (h : StandsFor na
           ∙ ap (λ (t : Bool). Some (if t then named m (has_write e.perm) else own (s.spaces.pages e.frame)
           (has_write e.perm))) shared in
           let self : is_page_of m (Some (named m (has_write e.perm))) ≡ true = grind (arith, nat_tests) in
-          let has : has_page_of m b ≡ true = some_one page_limit p (λ q. is_page_of m (b.memory q)) lt
+          let has : has_page_of m b ≡ true = some_below-at (λ q. is_page_of m (b.memory q)) page_limit p lt
           (ap (is_page_of m) memory ∙ self) in
           let some : someone a (has_page_of m) ≡ true =
-          some_one NENV n (λ q. born_passes (has_page_of m) (a.slots q)) below (ap (born_passes (has_page_of m)) found.1 ∙ has) in
+          some_below-at (λ q. born_passes (has_page_of m) (a.slots q)) NENV n below (ap (born_passes (has_page_of m)) found.1 ∙ has) in
           let here = is_at-here (named_frame names a m) e.frame (names.frame m)
           (ap (λ (t : Bool). where_so t (Some (names.frame m))) some) name.home in
           let one = total-one a.next_name m (λ q. is_at (named_frame names a q) e.frame) name.old in

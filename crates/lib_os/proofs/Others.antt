@@ -39,7 +39,7 @@ use Rattle.lib_os.specs.FileServices.{path_step, open_asked, open_step, remove_s
 use Rattle.lib_os.specs.LibraryCall.{library_step, at_once, only_at_once, receive_step}
 use Rattle.lib_os.specs.AbstractRun.{abs_step, program_step, slot_step}
 use Rattle.lib_os.specs.AbstractLaws.{is_for_others, is_about_others, StepsLeaveOthers}
-use Rattle.lib_os.proofs.Maps.{upd-other}
+use Rattle.jos_base.proofs.Maps.{upd-other}
 
 module _ (a : AbstractState) (n m : ℕ) (ne : m ≢ n) where
   -- slot m is as it was

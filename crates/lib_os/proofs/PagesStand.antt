@@ -19,9 +19,10 @@ use Rattle.lib_os.specs.StandsFor.{StandsFor, StandsForSlot, StandsForBorn, Name
 use Rattle.lib_os.specs.StandsFor.{Agree, Apart, AreNamed, AreUsers, IsNamed}
 use Rattle.lib_os.proofs.Effects.{Placed, Made, Given, Removed}
 use Rattle.lib_os.proofs.EntriesStand.{apart_put, all_put, same_entry, seen_at, seen_own, seen_named, seen_by}
-use Rattle.lib_os.proofs.Maps.{Elsewhere, place_cases, put-at, put-other, upd-at, upd-other, upd-all, upd-true}
 use Rattle.lib_os.proofs.SlotsStand.{SeenAlike, minds_page, sends_unminded, tables_unminded, page_alike, page_put, born_at}
 use Rattle.lib_os.proofs.StatesStand.{born_not_first, others_stand}
+use Rattle.jos_base.proofs.Maps.{upd-at, upd-other, upd-all, upd-true}
+use Rattle.jos_base.proofs.Puts.{Elsewhere, place_cases, put-at, put-other}
 
 -- ---- in general
 

@@ -14,9 +14,11 @@ use Rattle.jos_base.specs.SystemCalls.{is_page_perm}
 use Rattle.lib_os.specs.InOrder.{HasOneUse, AreFree}
 use Rattle.lib_os.specs.StandsFor.{rows_of, lasting}
 use Rattle.lib_os.proofs.Effects.{Placed, Made, Given, is_in_region}
-use Rattle.lib_os.proofs.Maps.{upd-at, upd-other}
-use Rattle.lib_os.proofs.Puts.{put-at, put-some, put-seen, put-stands, put-stood}
-use Rattle.lib_os.proofs.Releasing.{AreWithin, released_entries, released_regions, released_named, row_entry}
+use Rattle.lib_os.proofs.Puts.{put-some, put-stands, put-stood}
+use Rattle.lib_os.proofs.Releasing.{AreWithin, released_named, row_entry}
+use Rattle.jos_base.proofs.Maps.{upd-at, upd-other}
+use Rattle.jos_base.proofs.Puts.{put-at, put-seen}
+use Rattle.jos_base.proofs.Released.{released_entries, released_regions}
 
 free_or_page : (u : Use) → u ≡ page → u ≢ free
 free_or_page u is not = absurd cc

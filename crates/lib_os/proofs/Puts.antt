@@ -1,69 +1,22 @@
--- A map of two indices at the place that changed, and at the others.
-use Rattle.std.proofs.Common.{◌≡◌, ◌≢◌, ◌∙◌, ◌==◌, ◌⊎◌, inl, inr, ℕ, Bool, true, false, refl, sym, ap, subst, arith, if◌then◌else◌}
+-- A map of two indices whose values may be missing, at the place that changed and at the others.
+use Rattle.std.proofs.Common.{◌≡◌, ◌≢◌, ◌∙◌, ◌==◌, ◌⊎◌, inl, inr, ℕ, Bool, true, false, refl, sym, subst, arith}
 use Rattle.std.specs.Prelude.{Option, Some, None, is_some, ◌&&◌, ◌||◌}
 use Rattle.std.proofs.lemmas.Option.{same_Some}
 use Rattle.std.proofs.lemmas.Bool.Decides.{nat_tests}
-use Rattle.jos_base.specs.Words.{upd}
 use Rattle.jos_base.specs.SpacesState.{put}
-use Rattle.lib_os.proofs.Maps.{upd-at, upd-other, upd-alike}
+use Rattle.jos_base.proofs.Puts.{Elsewhere, place_cases, put-at, put-other, put-holds}
 
-pub same_or : (a b : ℕ) → (a ≡ b) ⊎ (a ≢ b)
-same_or a b = by_test (a == b) refl
+-- what stands somewhere after a change, is what changed or stood there before
+pub put-found : {V : Type 0} (f : ℕ → ℕ → Option V) (a b : ℕ) (v : Option V) (q r : ℕ) (x : V) → put f a b v q r ≡ Some x →
+    ((q ≡ a) × (r ≡ b) × (v ≡ Some x)) ⊎ ((e : Elsewhere q r a b) × (f q r ≡ Some x))
+put-found {V = V} f a b v q r x is = by_case (place_cases q r a b)
   where
-    by_test : (t : Bool) → (a == b) ≡ t → (a ≡ b) ⊎ (a ≢ b)
-    by_test true e = inl (grind (arith, nat_tests))
-    by_test false e = inr (grind (arith, nat_tests))
-
-upd-seen : {V W : Type 0} (seen : V → W) (f : ℕ → V) (k : ℕ) (v : V) (q : ℕ) → seen (upd f k v q) ≡ upd (λ x. seen (f x)) k (seen v) q
-unfolding upd
-upd-seen seen f k v q = by_test (q == k)
-  where
-    by_test : (t : Bool) → seen (if t then v else f q) ≡ (if t then seen v else seen (f q))
-    by_test true = refl
-    by_test false = refl
-
-module _ {V : Type 0} (f : ℕ → ℕ → V) (a b : ℕ) (v : V) where
-  pub put-at : put f a b v a b ≡ v
-  put-at = ap (λ (g : ℕ → V). g b) (upd-at f a (upd (f a) b v)) ∙ upd-at (f a) b v
-
-  pub put-other : (q r : ℕ) → (q ≡ a → r ≢ b) → put f a b v q r ≡ f q r
-  put-other q r ne = elim (same_or q a) [
-    | inl e ↦ ap (λ z. put f a b v z r) e ∙ ap (λ (g : ℕ → V). g r) (upd-at f a (upd (f a) b v)) ∙ upd-other (f a) b v r (ne e) ∙ ap (λ z. f z r) (sym e)
-    | inr q_ne ↦ ap (λ (g : ℕ → V). g r) (upd-other f a (upd (f a) b v) q q_ne)
-  ]
-
-  -- what holds of the new value at its place, and of all others at theirs, holds everywhere
-  pub put-holds : (P : ℕ → ℕ → V → Type 0) → P a b v → ((q r : ℕ) → (q ≡ a → r ≢ b) → P q r (f q r)) → (q r : ℕ) → P q r (put f a b v q r)
-  put-holds P here off q r = elim (same_or q a) [
-    | inr q_ne ↦
-        let ne : q ≡ a → r ≢ b = λ e. absurd (q_ne e) in
-        subst (P q r) (sym (put-other q r ne)) (off q r ne)
-    | inl q_is ↦ elim (same_or r b) [
-      | inr r_ne ↦
-          let ne : q ≡ a → r ≢ b = λ e. r_ne in
-          subst (P q r) (sym (put-other q r ne)) (off q r ne)
-      | inl r_is ↦
-          subst (λ x. P x r (put f a b v x r)) (sym q_is)
-          (subst (λ y. P a y (put f a b v a y)) (sym r_is) (subst (P a b) (sym put-at) here))
-    ]
-  ]
-
-  -- what the old value and the new one have alike, the map has as before everywhere
-  pub put-alike : {W : Type 0} (seen : V → W) → seen v ≡ seen (f a b) → (q r : ℕ) → seen (put f a b v q r) ≡ seen (f q r)
-  put-alike {W = W} seen e q r =
-      λ i. upd-alike {V = ℕ → V} {W = ℕ → W} (λ g y. seen (g y)) f a (upd (f a) b v) (λ j y. upd-alike seen (f a) b v e y j) q i r
-
-  -- what is seen of the new map is what is seen of the old one, with what is seen of the new value
-  pub put-seen : {W : Type 0} (seen : V → W) (q r : ℕ) → seen (put f a b v q r) ≡ put (λ x y. seen (f x y)) a b (seen v) q r
-  unfolding upd
-  put-seen {W = W} seen q r = by_test (q == a)
-    where
-      by_test : (t : Bool) →
-          seen ((if t then upd (f a) b v else f q) r) ≡ (if t then upd (λ y. seen (f a y)) b (seen v) else λ y. seen (f q y)) r
-      by_test true = upd-seen seen (f a) b v r
-      by_test false = refl
-
--- ---- of values that may be missing
+    by_case : ((q ≡ a) × (r ≡ b)) ⊎ Elsewhere q r a b → ((q ≡ a) × (r ≡ b) × (v ≡ Some x)) ⊎ ((e : Elsewhere q r a b) × (f q r ≡ Some x))
+    by_case (inl same) =
+        let here : put f a b v a b ≡ Some x = subst (λ (m : ℕ). put f a b v m b ≡ Some x) same.0
+        (subst (λ (n : ℕ). put f a b v q n ≡ Some x) same.1 is) in
+        inl (same.0, same.1, sym (put-at f a b v) ∙ here)
+    by_case (inr ne) = inr (ne, sym (put-other f a b v q r ne) ∙ is)
 
 module _ {V : Type 0} (f : ℕ → ℕ → Option V) (a b : ℕ) where
   -- what stands somewhere was put there, or stood there

@@ -8,7 +8,7 @@ use Rattle.jos_base.specs.Environments.{Slot as KernelSlot, is_live}
 use Rattle.jos_base.specs.KernelState.{KernelState, slot_at, with_status}
 use Rattle.lib_os.specs.UserCalls.{IsCallStep, answer_of, system, Output, Prints}
 use Rattle.lib_os.proofs.Calls.{comes_to, getenvid_is, yield_is}
-use Rattle.lib_os.proofs.Maps.{upd-at}
+use Rattle.jos_base.proofs.Maps.{upd-at}
 
 -- ---- the own id
 

@@ -25,7 +25,7 @@ use Rattle.lib_os.proofs.Slots.{words_put}
 use Rattle.lib_os.proofs.SlotsStand.{born_at, born_live}
 
 -- no page, and a page's address, are destinations that the kernel takes
-taken_destination : (va : ℕ) → is_page_or_none va ≡ true →
+pub taken_destination : (va : ℕ) → is_page_or_none va ≡ true →
     (nat_lt (destination_of va) UTOP && not (destination_of va % PGSIZE == 0)) ≡ false
 taken_destination va page = by_test (va == 0) refl
   where

@@ -9,28 +9,12 @@ use Rattle.jos_base.specs.Reach.{Entry}
 use Rattle.jos_base.specs.Counting.{Entries, page_count, frame_limit, page_limit}
 use Rattle.jos_base.specs.SpacesState.{SpacesState, released, freed}
 use Rattle.lib_os.specs.StandsFor.{rows_of, lasting}
-use Rattle.lib_os.proofs.Maps.{upd-other}
-use Rattle.lib_os.proofs.Counts.{page_count-some}
+use Rattle.jos_base.proofs.Maps.{upd-other}
+use Rattle.jos_base.proofs.Counts.{page_count-some}
 
 -- the entries stand in directories, below UTOP
 abbrev pub AreWithin : Entries → Type 0
 AreWithin entries = (d p : ℕ) (e : Entry) → entries d p ≡ Some e → (d < frame_limit) × (p < page_limit)
-
-pub released_entries : (s : SpacesState) (o : Option ℕ) → (released s o).entries ≡ s.entries
-released_entries s None = refl
-released_entries s (Some g) = by_test (page_count s.entries g == 0)
-  where
-    by_test : (b : Bool) → (if b then freed s g else s).entries ≡ s.entries
-    by_test true = refl
-    by_test false = refl
-
-pub released_regions : (s : SpacesState) (o : Option ℕ) → (released s o).regions ≡ s.regions
-released_regions s None = refl
-released_regions s (Some g) = by_test (page_count s.entries g == 0)
-  where
-    by_test : (b : Bool) → (if b then freed s g else s).regions ≡ s.regions
-    by_test true = refl
-    by_test false = refl
 
 released_pages : (s : SpacesState) (o : Option ℕ) (f : ℕ) → 1 ≤ page_count s.entries f → (released s o).pages f ≡ s.pages f
 released_pages s None f counted = refl

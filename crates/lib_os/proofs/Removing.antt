@@ -5,14 +5,18 @@ use Rattle.std.specs.Prelude.{Option, Some, None, [], is_some}
 use Rattle.std.specs.Option.{option_map}
 use Rattle.jos_base.specs.Reach.{Entry}
 use Rattle.jos_base.specs.Counting.{page_limit}
-use Rattle.jos_base.specs.SpacesState.{SpacesState, Region, Use, page, directory, table, put, frame_of}
+use Rattle.jos_base.specs.SpacesState.{SpacesState, Region, directory, table, put, frame_of}
 use Rattle.jos_base.specs.SpacesState.{without_entry, unmapped, pages_removed, without_region, tables_freed, region_limit, destroyed}
 use Rattle.lib_os.specs.InOrder.{HasOneUse}
 use Rattle.lib_os.specs.StandsFor.{rows_of, lasting}
 use Rattle.lib_os.proofs.Effects.{Removed, Gone}
-use Rattle.lib_os.proofs.Maps.{upd-other}
-use Rattle.lib_os.proofs.Puts.{same_or, put-at, put-other, put-none, put-seen}
-use Rattle.lib_os.proofs.Releasing.{AreWithin, released_entries, released_regions, released_named, row_entry}
+use Rattle.lib_os.proofs.Puts.{put-none}
+use Rattle.lib_os.proofs.Releasing.{AreWithin, released_named, row_entry}
+use Rattle.std.proofs.lemmas.Bool.{cases_eq}
+use Rattle.jos_base.proofs.Maps.{upd-other}
+use Rattle.jos_base.proofs.Puts.{put-at, put-other, put-seen}
+use Rattle.jos_base.proofs.Uses.{page_or_table, page_or_directory}
+use Rattle.jos_base.proofs.Released.{released_entries, released_regions}
 
 -- ---- one page
 
@@ -81,7 +85,7 @@ module _ (s : SpacesState) (d : ℕ) (within : AreWithin s.entries) where
   pages_gone zero r below = absurd (omega arith)
   pages_gone (suc n) r below =
       (λ i. unmapped_entries (pages_removed s d n) d n i d r)
-      ∙ elim (same_or r n) [
+      ∙ elim (cases_eq r n) [
         | inl same ↦ ap (put (pages_removed s d n).entries d n None d) same ∙ put-at (pages_removed s d n).entries d n None
         | inr ne ↦ put-other (pages_removed s d n).entries d n None d r (λ _. ne) ∙ pages_gone n r (omega arith)
       ]
@@ -142,12 +146,6 @@ tables_fewer s d (suc n) =
 
 -- ---- the space
 
-no_table : (u : Use) → u ≡ page → u ≢ table
-no_table u is not = absurd cc
-
-no_directory : (u : Use) → u ≡ page → u ≢ directory
-no_directory u is not = absurd cc
-
 pub destroyed_gone : (s : SpacesState) (d : ℕ) → HasOneUse s → s.uses d ≡ directory → Gone s (destroyed s d) d
 unfolding destroyed rows_of
 destroyed_gone s d h owner = record {
@@ -177,8 +175,8 @@ destroyed_gone s d h owner = record {
     named : (q r : ℕ) (x : Entry) → emptied.entries q r ≡ Some x → (destroyed s d).pages x.frame ≡ s.pages x.frame
     named q r x is =
         let is_page = h.pages q r x (fewer.stood q r x is) in
-        upd-other bare.pages d [] x.frame (λ same. no_directory (s.uses x.frame) is_page (ap s.uses same ∙ owner))
+        upd-other bare.pages d [] x.frame (λ same. page_or_directory (s.uses x.frame) is_page (ap s.uses same ∙ owner))
         ∙ tables.bytes x.frame (λ a b region there same.
         let known = h.tables a b region (sym (λ i. fewer.regions i a b) ∙ there) in
-        no_table (s.uses x.frame) is_page (sym (ap s.uses same) ∙ known.0))
+        page_or_table (s.uses x.frame) is_page (sym (ap s.uses same) ∙ known.0))
         ∙ fewer.bytes q r x is

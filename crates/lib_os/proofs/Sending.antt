@@ -29,17 +29,14 @@ use Rattle.lib_os.specs.StandsFor.{StandsFor, StandsForSlot, Names, rows_of, pag
 use Rattle.lib_os.proofs.Answering.{back_stands}
 use Rattle.lib_os.proofs.Effects.{Given}
 use Rattle.lib_os.proofs.EntriesStand.{seen_by}
-use Rattle.lib_os.proofs.Maps.{upd-other}
 use Rattle.lib_os.proofs.MessagesStand.{word_alone, page_stands}
 use Rattle.lib_os.proofs.Sends.{received_in, with_message}
 use Rattle.lib_os.proofs.Serving.{step_in}
 use Rattle.lib_os.proofs.Slots.{slot_kept}
 use Rattle.lib_os.proofs.SlotsStand.{born_at}
 use Rattle.lib_os.proofs.Waiters.{IsTaken, not_accepted, taken_is_sent}
-
-both_hold : (x y : Bool) → (x && y) ≡ true → (x ≡ true) × (y ≡ true)
-both_hold true y is = (refl, is)
-both_hold false y is = absurd cc
+use Rattle.std.proofs.lemmas.Bool.{and_parts}
+use Rattle.jos_base.proofs.Maps.{upd-other}
 
 -- ---- what passes
 
@@ -118,11 +115,11 @@ module _ {names : Names} {s : KernelState} {a : AbstractState} (h : StandsFor na
 
     module _ (there : lives a id ≡ true) where
       named_id : slot_id (a.slots t) ≡ id
-      named_id = let test = (both_hold (is_live (a.slots t)) (slot_id (a.slots t) == id) there).1 in grind (arith, nat_tests, test)
+      named_id = let test = (and_parts (is_live (a.slots t)) (slot_id (a.slots t) == id) there).1 in grind (arith, nat_tests, test)
 
       -- an environment has the id, and it is another
       pub named_is : (c : Born) × (a.slots t ≡ born c)
-      named_is = who_lives h t id (both_hold (is_live (a.slots t)) (slot_id (a.slots t) == id) there).0 named_id trying.other.1
+      named_is = who_lives h t id (and_parts (is_live (a.slots t)) (slot_id (a.slots t) == id) there).0 named_id trying.other.1
 
       pub named_other : t ≢ n
       named_other same = trying.other.0 (sym named_id ∙ ap (λ (m : ℕ). slot_id (a.slots m)) same ∙ ap slot_id at)

@@ -6,8 +6,8 @@ use Rattle.jos_base.specs.Words.{upd}
 use Rattle.jos_base.specs.declared.registers.Regs.{Regs}
 use Rattle.jos_base.specs.Environments.{Slot}
 use Rattle.jos_base.specs.KernelState.{KernelState, slot_at, with_slot_at, with_registers, with_extra}
-use Rattle.lib_os.proofs.Maps.{upd-at, upd-other, upd-alike}
 use Rattle.lib_os.proofs.SlotsSet.{set_twice, both_set}
+use Rattle.jos_base.proofs.Maps.{upd-at, upd-other, upd-alike}
 
 -- ---- maps
 

@@ -3,7 +3,7 @@ use Rattle.std.proofs.Common.{◌≡◌, ◌∙◌, ℕ, true, List, ap}
 use Rattle.jos_base.specs.declared.registers.Regs.{Regs}
 use Rattle.jos_base.specs.Environments.{Slot, is_live}
 use Rattle.jos_base.specs.KernelState.{KernelState, slot_at, with_slot_at, with_registers, with_extra}
-use Rattle.lib_os.proofs.Maps.{upd-at, upd-twice}
+use Rattle.jos_base.proofs.Maps.{upd-at, upd-twice}
 
 pub set_live : (s : KernelState) (n : ℕ) (k : Slot) → is_live k ≡ true → is_live (slot_at (with_slot_at s n k) n) ≡ true
 set_live s n k live = ap (λ (x : Slot). is_live x) (upd-at s.environments.slots n k) ∙ live

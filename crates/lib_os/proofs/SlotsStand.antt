@@ -24,7 +24,7 @@ use Rattle.lib_os.specs.Places.{place_of}
 use Rattle.lib_os.specs.StandsFor.{StandsFor, StandsForSlot, StandsForBorn, StandsAt, StandsAtStep, Names}
 use Rattle.lib_os.specs.StandsFor.{Row, rows_of, page_by, page_seen, is_shared, RunsAs, MaySend, IsIn, IsTrying, IsWaiting}
 use Rattle.lib_os.specs.StandsFor.{IsLooking, IsAboutToWait, IsReceiving, HasReceived, WaitsOrHas, waits, has, IsAtGuest}
-use Rattle.lib_os.proofs.Maps.{upd-all}
+use Rattle.jos_base.proofs.Maps.{upd-all}
 
 -- ---- where it stands
 

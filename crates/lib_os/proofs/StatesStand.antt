@@ -14,8 +14,8 @@ use Rattle.lib_os.specs.AbstractState.{AbstractState, Born, Slot, free, unborn, 
 use Rattle.lib_os.specs.InOrder.{HasOneUse, IsInOrder}
 use Rattle.lib_os.specs.StandsFor.{StandsFor, StandsForSlot, StandsForBorn, Names, Rows, rows_of, RunsAs, IsTabled, Apart, AreNamed, AreUsers}
 use Rattle.lib_os.proofs.Effects.{Quiet}
-use Rattle.lib_os.proofs.Maps.{upd-alike, upd-all, upd-both, upd-other}
 use Rattle.lib_os.proofs.SlotsStand.{SeenAlike, slot_stands, born_at, born_live, live_stands, status_born}
+use Rattle.jos_base.proofs.Maps.{upd-other, upd-alike, upd-all, upd-both}
 
 -- ---- one slot
 

@@ -17,7 +17,7 @@ use Rattle.jos_base.specs.UserMemory.{reach_in, access_bits, region_accessed, en
 use Rattle.jos_base.specs.UserMemory.{with_entry_bits, with_bits, touched, touched_by, all_touched, stored_byte, with_byte_at}
 use Rattle.lib_os.specs.StandsFor.{rows_of, lasting}
 use Rattle.lib_os.proofs.Effects.{Quiet, Stored}
-use Rattle.lib_os.proofs.Puts.{put-alike}
+use Rattle.jos_base.proofs.Puts.{put-alike}
 
 -- ---- nothing is seen
 

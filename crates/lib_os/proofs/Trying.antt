@@ -16,11 +16,11 @@ use Rattle.lib_os.specs.UserCalls.{Step, got, asking, called_by, system}
 use Rattle.lib_os.specs.AbstractState.{AbstractState}
 use Rattle.lib_os.specs.MemoryServices.{lives}
 use Rattle.lib_os.specs.StandsFor.{StandsFor, Names}
-use Rattle.lib_os.proofs.Maps.{upd-all}
 use Rattle.lib_os.proofs.Slots.{slot_put}
 use Rattle.lib_os.proofs.Calls.{system_is, live_still, waits_is, ipc_recv_is}
 use Rattle.lib_os.proofs.Sends.{message_taken_is, received_in}
 use Rattle.lib_os.proofs.SlotsStand.{live_stands, ids_stand}
+use Rattle.jos_base.proofs.Maps.{upd-all}
 
 -- the caller has an answer, and lives on with its registers; nothing is written
 pub record IsAnswered (call : Step Called) (n : ℕ) (regs : Regs) : Type 0 where

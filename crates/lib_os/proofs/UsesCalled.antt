@@ -23,7 +23,7 @@ use Rattle.jos_base.specs.Environments.{Environments, Slot, allotted, found, fou
 use Rattle.jos_base.specs.KernelState.{KernelState, slot_at, with_registers}
 use Rattle.jos_base.specs.Messages.{accepts}
 use Rattle.jos_base.specs.Reach.{Entry, Location}
-use Rattle.jos_base.specs.SpacesState.{SpacesState, Use, directory, is_directory, created, allocated, overlaid}
+use Rattle.jos_base.specs.SpacesState.{SpacesState, directory, created, allocated, overlaid}
 use Rattle.jos_base.specs.SystemCalls.{Did, Passing, a_page, invalid, nothing, killed, handler_entered}
 use Rattle.jos_base.specs.SystemCalls.{handled_at, handled, cputs, cputs_of, cgetc_from, env_destroy_of, made_of}
 use Rattle.jos_base.specs.SystemCalls.{environment_made, exofork_of}
@@ -47,6 +47,7 @@ use Rattle.lib_os.proofs.Slots.{slots_alike}
 use Rattle.lib_os.proofs.UsesFound.{all_touched_found, bytes_found, stored_found, touched_found}
 use Rattle.lib_os.proofs.UsesPlaced.{allocated_found, created_found, inserted_found}
 use Rattle.lib_os.proofs.UsesRemoved.{destroyed_found, unmapped_found}
+use Rattle.jos_base.proofs.Uses.{directory_is}
 
 -- ---- what a call may count on, and what it keeps
 
@@ -336,10 +337,6 @@ made_found s parent made all is = by_made (allotted s.environments parent) (crea
 
 -- ---- any system call
 
-directory_used : (u : Use) → is_directory u ≡ true → u ≡ directory
-directory_used directory is = refl
-directory_used _ is = absurd cc
-
 -- the caller may have other registers
 registers_may : (s : KernelState) (n : ℕ) (q : Regs) → IsInOrder s → is_live (slot_at s n) ≡ true → EachHasUse s.spaces →
     MayCall (with_registers s n q) n
@@ -348,7 +345,7 @@ registers_may s n q h live all = record {
   each = all;
   live = alike_live n ∙ live;
   homes = λ m lives.
-      let home = directory_used (s.spaces.uses (slot_at s m).directory) (h.spaces.in_use m (sym (alike_live m) ∙ lives)) in
+      let home = directory_is (s.spaces.uses (slot_at s m).directory) (h.spaces.in_use m (sym (alike_live m) ∙ lives)) in
       ap s.spaces.uses (slots_alike s n (λ (k : Slot). k.directory) changed refl m) ∙ home;
 }
   where

@@ -20,8 +20,9 @@ use Rattle.jos_base.specs.Windows.{table_index}
 use Rattle.jos_base.specs.UserMemory.{reach_in, access_bits, region_accessed, entry_marked, with_page_bits, with_region_bit}
 use Rattle.jos_base.specs.UserMemory.{with_entry_bits, with_bits, touched, touched_by, all_touched, stored_byte, with_byte_at}
 use Rattle.lib_os.specs.Need.{HasUse, in_list, in_entry, as_directory, as_table, EachHasUse}
-use Rattle.lib_os.proofs.Maps.{upd-other}
-use Rattle.lib_os.proofs.Puts.{same_or, put-alike}
+use Rattle.std.proofs.lemmas.Bool.{cases_eq}
+use Rattle.jos_base.proofs.Maps.{upd-other}
+use Rattle.jos_base.proofs.Puts.{put-alike}
 
 -- ---- lists
 
@@ -163,7 +164,7 @@ stored_found s d va byte all = by_outcome (reach_in s d va Write)
 total_found : (n : ℕ) (g : ℕ → ℕ) → total n g ≢ 0 → (k : ℕ) × (g k ≢ 0)
 unfolding total
 total_found zero g some = absurd (some refl)
-total_found (suc n) g some = elim (same_or (g n) 0) [
+total_found (suc n) g some = elim (cases_eq (g n) 0) [
   | inl none ↦ total_found n g (λ all. some (omega (arith, none, all)))
   | inr here ↦ (n, here)
 ]
@@ -194,11 +195,11 @@ pub freed_use : (s : SpacesState) (x : ℕ) → HasNoTables s x → (f : ℕ) �
 freed_use s x tableless f (inr same) = in_list (contains_head f x s.free same)
 freed_use s x tableless f (inl (in_list listed)) = in_list (contains_later f x s.free listed)
 freed_use s x tableless f (inl (in_entry d p e stands same)) = in_entry d p e stands same
-freed_use s x tableless f (inl (as_directory is)) = elim (same_or f x) [
+freed_use s x tableless f (inl (as_directory is)) = elim (cases_eq f x) [
   | inl same ↦ in_list (contains_head f x s.free (sym same))
   | inr ne ↦ as_directory (upd-other s.uses x _ f ne ∙ is)
 ]
-freed_use s x tableless f (inl (as_table d r region is lt stands same)) = elim (same_or d x) [
+freed_use s x tableless f (inl (as_table d r region is lt stands same)) = elim (cases_eq d x) [
   | inl d_is ↦
       absurd (tableless (ap s.uses (sym d_is) ∙ is) r region lt (ap (λ (q : ℕ). s.regions q r) (sym d_is) ∙ stands))
   | inr ne ↦ as_table d r region (upd-other s.uses x _ d ne ∙ is) lt stands same
@@ -222,20 +223,12 @@ released_use s (Some x) no_directory f has = by_test (page_count s.entries x == 
     by_test true test = freed_use s x (λ is. absurd (no_directory x refl is)) f (freed_one has)
     by_test false test = counted_one (grind (arith, nat_tests)) has
 
-pub released_frames : (s : SpacesState) (o : Option ℕ) → (released s o).frames ≡ s.frames
-released_frames s None = refl
-released_frames s (Some x) = by_test (page_count s.entries x == 0)
-  where
-    by_test : (t : Bool) → (if t then freed s x else s).frames ≡ s.frames
-    by_test true = refl
-    by_test false = refl
-
 -- ---- the beginning
 
 rising_has : (n first f : ℕ) → first ≤ f → f < first + n → Contains (rising first n) f
 unfolding rising
 rising_has zero first f low high = absurd (omega (arith, low, high))
-rising_has (suc n) first f low high = elim (same_or first f) [
+rising_has (suc n) first f low high = elim (cases_eq first f) [
   | inl same ↦ contains_head f first (rising (first + 1) n) same
   | inr ne ↦ contains_later f first (rising (first + 1) n) (rising_has n (first + 1) f (omega (arith, low)) (omega (arith, high)))
 ]

@@ -14,8 +14,8 @@ use Rattle.jos_base.specs.Windows.{table_index}
 use Rattle.jos_base.specs.UserMemory.{reach_in, access_bits, region_accessed, entry_marked, with_page_bits, with_region_bit}
 use Rattle.jos_base.specs.UserMemory.{with_entry_bits, with_bits, touched, touched_by, all_touched, stored_byte, with_byte_at}
 use Rattle.lib_os.specs.InOrder.{HasOneUse, AreFree}
-use Rattle.lib_os.proofs.Puts.{put-holds}
 use Rattle.lib_os.proofs.Touching.{region_quiet}
+use Rattle.jos_base.proofs.Puts.{put-holds}
 
 -- an entry of the same frame stood there
 abbrev CameFrom : Option Entry → Option Entry → Type 0

@@ -16,21 +16,14 @@ use Rattle.jos_base.specs.SpacesState.{tabled_by, tabled}
 use Rattle.jos_base.specs.SpacesState.{with_entry, mapped, inserted, allocated_in, allocated}
 use Rattle.lib_os.specs.InOrder.{HasOneUse, AreFree}
 use Rattle.lib_os.specs.Need.{HasUse, in_list, in_entry, as_directory, as_table, EachHasUse}
-use Rattle.lib_os.proofs.Maps.{place_cases, put-at, put-other, upd-at, upd-other}
-use Rattle.lib_os.proofs.Puts.{same_or}
-use Rattle.lib_os.proofs.UsesFound.{contains_cases, framed, released_use, released_frames}
-use Rattle.lib_os.proofs.UsesRemoved.{page_or_directory}
+use Rattle.lib_os.proofs.UsesFound.{contains_cases, framed, released_use}
+use Rattle.std.proofs.lemmas.Bool.{cases_eq}
+use Rattle.jos_base.proofs.Maps.{upd-at, upd-other}
+use Rattle.jos_base.proofs.Puts.{place_cases, put-at, put-other}
+use Rattle.jos_base.proofs.Uses.{page_or_directory, free_or_directory, fresh_or_directory, table_or_directory}
+use Rattle.jos_base.proofs.Released.{released_frames}
 
 -- ---- of uses
-
-free_or_directory : (u : Use) → u ≡ free → u ≢ directory
-free_or_directory u is not = absurd cc
-
-fresh_or_directory : (u : Use) → u ≡ fresh → u ≢ directory
-fresh_or_directory u is not = absurd cc
-
-table_or_directory : (u : Use) → u ≡ table → u ≢ directory
-table_or_directory u is not = absurd cc
 
 -- the next frame to be handed out is free
 abbrev pub IsHeadFree : (ℕ → Use) → List ℕ → Type 0
@@ -54,7 +47,7 @@ created_found s made all is = by_list s.free refl is
         after = (record s { uses = upd s.uses g directory; free = rest; pages = upd s.pages g [] })
 
         still : (d : ℕ) → s.uses d ≡ directory → after.uses d ≡ directory
-        still d was = elim (same_or d g) [
+        still d was = elim (cases_eq d g) [
           | inl same ↦ ap after.uses same ∙ upd-at s.uses g directory
           | inr ne ↦ upd-other s.uses g directory d ne ∙ was
         ]
@@ -98,7 +91,7 @@ module _ (s : SpacesState) (d frame index : ℕ) (h : MayInsert s d frame) (lt :
         (ap s.uses (sym same) ∙ was)) ∙ was
 
     no_new : (q : ℕ) → s.uses q ≢ directory → after.uses q ≢ directory
-    no_new q was_not is = elim (same_or q g) [
+    no_new q was_not is = elim (cases_eq q g) [
       | inl same ↦ table_or_directory (after.uses q) (ap after.uses same ∙ upd-at s.uses g table) is
       | inr ne ↦ was_not (sym (upd-other s.uses g table q ne) ∙ is)
     ]
@@ -159,7 +152,7 @@ mapped_found s t d p e h f low high =
 
     -- what stood there is no directory
     old_use : (x : ℕ) → old ≡ Some x → put_in.uses x ≢ directory
-    old_use x is = elim (same_or x e.frame) [
+    old_use x is = elim (cases_eq x e.frame) [
       | inl same ↦ page_or_directory (put_in.uses x) (ap put_in.uses same ∙ upd-at t.uses e.frame page)
       | inr ne ↦ λ now.
           let y = framed (t.entries d p) x is in
@@ -234,7 +227,7 @@ module _ (s : SpacesState) (h : HasOneUse s) (d : ℕ) (owner : s.uses d ≡ dir
     other = fresh_or_directory (first.uses g) (upd-at s.uses g fresh);
     pages = λ q r x stands now.
         let was = h.pages q r x stands in
-        elim (same_or x.frame g) [
+        elim (cases_eq x.frame g) [
           | inl same ↦ fresh_or_directory (first.uses x.frame) (ap first.uses same ∙ upd-at s.uses g fresh) now
           | inr ne ↦ page_or_directory (s.uses x.frame) was (sym (upd-other s.uses g fresh x.frame ne) ∙ now)
         ];

@@ -7,17 +7,21 @@ use Rattle.std.proofs.lemmas.Bool.Decides.{nat_tests}
 use Rattle.std.proofs.lemmas.Option.{same_Some}
 use Rattle.jos_base.specs.Reach.{Entry}
 use Rattle.jos_base.specs.Counting.{page_count, page_limit}
-use Rattle.jos_base.specs.SpacesState.{SpacesState, Region, Use, page, directory, table, put, freed, released, frame_of}
+use Rattle.jos_base.specs.SpacesState.{SpacesState, Region, page, table, put, freed, released, frame_of}
 use Rattle.jos_base.specs.SpacesState.{reserved_frames}
 use Rattle.jos_base.specs.SpacesState.{without_entry, unmapped, pages_removed, without_region, tables_freed, region_limit}
 use Rattle.jos_base.specs.SpacesState.{destroyed}
 use Rattle.lib_os.specs.InOrder.{HasOneUse}
 use Rattle.lib_os.specs.Need.{HasUse, in_list, in_entry, as_directory, as_table, EachHasUse}
-use Rattle.lib_os.proofs.Counts.{page_count-some}
-use Rattle.lib_os.proofs.Maps.{place_cases, put-at, put-other, put_some, upd-other}
-use Rattle.lib_os.proofs.Puts.{same_or, put-none}
+use Rattle.lib_os.proofs.Puts.{put-none, put-found}
 use Rattle.lib_os.proofs.Releasing.{AreWithin}
-use Rattle.lib_os.proofs.UsesFound.{freed_use, framed, released_use, released_frames}
+use Rattle.lib_os.proofs.UsesFound.{freed_use, framed, released_use}
+use Rattle.std.proofs.lemmas.Bool.{cases_eq}
+use Rattle.jos_base.proofs.Maps.{upd-other}
+use Rattle.jos_base.proofs.Puts.{place_cases, put-at, put-other}
+use Rattle.jos_base.proofs.Counts.{page_count-some}
+use Rattle.jos_base.proofs.Uses.{page_or_directory, page_or_table, table_or_directory}
+use Rattle.jos_base.proofs.Released.{released_frames}
 
 -- What is named is used as what names it says: of the one use of each frame what is so while a space is being destroyed.
 pub record AreSorted (s : SpacesState) : Type 0 where
@@ -35,15 +39,6 @@ are_sorted s h = record {
 }
 
 -- ---- of uses
-
-pub page_or_directory : (u : Use) → u ≡ page → u ≢ directory
-page_or_directory u is not = absurd cc
-
-page_or_table : (u : Use) → u ≡ page → u ≢ table
-page_or_table u is not = absurd cc
-
-table_or_directory : (u : Use) → u ≡ table → u ≢ directory
-table_or_directory u is not = absurd cc
 
 -- ---- a page that no entry names is freed
 
@@ -168,7 +163,7 @@ module _ (s : SpacesState) (d n : ℕ) (h : AreSorted s) where
       other_table q r x is same =
           let was = put-none s.regions d n x q r is in
           let places = h.apart q r d n x region was at same in
-          absurd (elim (put_some s.regions d n None q r x is) [
+          absurd (elim (put-found s.regions d n None q r x is) [
             | inl new ↦ (let e : ◌≡◌ {A = Option Region} None (Some x) = new.2 in absurd cc)
             | inr off ↦ off.0 places.0 places.1
           ])
@@ -217,7 +212,7 @@ tables_gone s d zero r h lt = absurd (omega (arith, lt))
 tables_gone s d (suc n) r h lt =
     let t = tables_freed s d n in
     let before = tables_kept s d n h in
-    elim (same_or r n) [
+    elim (cases_eq r n) [
       | inl same ↦
           ap (λ (k : ℕ). (without_region t d n (t.regions d n)).regions d k) same
           ∙ region_gone t d n before.sorted (t.regions d n) refl

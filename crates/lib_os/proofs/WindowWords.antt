@@ -1,6 +1,6 @@
 -- What the library reads at the windows: the words of the directory, of tables and of the records of slots. A word that
 -- lies in a window is read whole, and the read sets no bit but A of a region's table.
-use Rattle.std.proofs.Common.{◌≡◌, ◌≢◌, ◌∙◌, ◌+◌, ◌*◌, ◌/◌, ◌%◌, ◌^◌, ◌<◌, ◌≤◌, ℕ, Bool, true, false, List, [], ◌∷◌}
+use Rattle.std.proofs.Common.{◌≡◌, ◌∙◌, ◌+◌, ◌*◌, ◌/◌, ◌%◌, ◌^◌, ◌<◌, ◌≤◌, ℕ, Bool, true, false, List, [], ◌∷◌}
 use Rattle.std.proofs.Common.{refl, ap, arith, get_or, if◌then◌else◌}
 use Rattle.std.proofs.lemmas.Bool.Decides.{nat_tests}
 use Rattle.std.proofs.lemmas.Nat.{from_le_bytes-to_le_bytes_4}
@@ -13,7 +13,7 @@ use Rattle.jos_base.specs.Counting.{page_limit, frame_limit}
 use Rattle.jos_base.specs.Environments.{Environments, records_of, record_words}
 use Rattle.jos_base.specs.KernelState.{KernelState, slot_at, with_spaces}
 use Rattle.jos_base.specs.Reach.{Entry, reach_entry}
-use Rattle.jos_base.specs.SpacesState.{SpacesState, Region, region_limit, put}
+use Rattle.jos_base.specs.SpacesState.{SpacesState, Region, region_limit}
 use Rattle.jos_base.specs.UserMemory.{reach_in, touched, touched_by, with_window_bits, with_region_bit, region_accessed}
 use Rattle.jos_base.specs.UserMemory.{byte_at, byte_or_zero}
 use Rattle.jos_base.specs.Windows.{walked, window_entry, window_word, window_byte, read_only, region_entry, directory_entry}
@@ -21,8 +21,9 @@ use Rattle.jos_base.specs.Windows.{entry_above, entry_word, table_index, envs_in
 use Rattle.jos_base.specs.Words.{page_number, page_offset}
 use Rattle.lib_os.specs.declared.numbers.TheConstants.{UVPD}
 use Rattle.lib_os.specs.InOrder.{HasOneUse}
-use Rattle.lib_os.proofs.Maps.{upd-at, upd-other}
 use Rattle.lib_os.specs.UserCalls.{Step, got, load, accessing, giving, user_word}
+use Rattle.jos_base.proofs.Puts.{put-at, put-other}
+use Rattle.jos_base.proofs.Options.{some_is}
 
 -- ---- a word of its bytes
 
@@ -94,14 +95,6 @@ module _ (s : KernelState) (n va frame after word : ℕ) (aligned : va % 4 ≡ 0
       let whole : user_word (with_spaces s reached) n va ≡ word = rw (first, second, third, fourth) (word_back word small) in
       ap (accessing s n va Read (λ t. giving t (user_word t n va))) (window_reached s.spaces (slot_at s n).directory va frame is)
       ∙ ap (λ (w : ℕ). giving (with_spaces s reached) w) whole
-
--- ---- maps of two indices
-
-put-here : {V : Type 0} (f : ℕ → ℕ → V) (d r : ℕ) (v : V) → put f d r v d r ≡ v
-put-here {V = V} f d r v = ap (λ (g : ℕ → V). g r) (upd-at f d _) ∙ upd-at (f d) r v
-
-put-beside : {V : Type 0} (f : ℕ → ℕ → V) (d r : ℕ) (v : V) (q : ℕ) → q ≢ r → put f d r v d q ≡ f d q
-put-beside {V = V} f d r v q ne = ap (λ (g : ℕ → V). g q) (upd-at f d _) ∙ upd-other (f d) r v q ne
 
 -- ---- the region of the tables
 
@@ -211,10 +204,6 @@ module _ (s : SpacesState) (d : ℕ) where
 
 -- ---- what is loaded
 
-some_is : {V : Type 0} (o : Option V) → is_some o ≡ true → (x : V) × (o ≡ Some x)
-some_is (Some x) is = (x, refl)
-some_is None is = cc
-
 entry_word_small : (s : SpacesState) → HasOneUse s → (d p : ℕ) → entry_word (s.entries d p) < 2 ^ 32
 unfolding frame_limit
 entry_word_small s uses d p = by_entry (s.entries d p) refl
@@ -252,7 +241,7 @@ module _ (s : KernelState) (n : ℕ) (uses : HasOneUse s.spaces) where
       kept : (touched s.spaces own_directory (UVPD + 4 * r) Read).regions own_directory r ≡ s.spaces.regions own_directory r
       kept =
           ap (λ (t : SpacesState). t.regions own_directory r) (directory_touched s.spaces own_directory r below)
-          ∙ put-beside s.spaces.regions own_directory table_index (region_accessed (s.spaces.regions own_directory table_index)) r (omega arith)
+          ∙ put-other s.spaces.regions own_directory table_index (region_accessed (s.spaces.regions own_directory table_index)) own_directory r (λ _. omega arith)
 
   pub load_table_word : (p : ℕ) → p < page_limit → is_some (s.spaces.regions own_directory (p / NPTENTRIES)) ≡ true →
       load s n (UVPT + 4 * p) ≡ read_at s n (UVPT + 4 * p) (entry_word (s.spaces.entries own_directory p))
@@ -276,7 +265,7 @@ module _ (s : KernelState) (n : ℕ) (uses : HasOneUse s.spaces) where
       marked : (touched s.spaces own_directory (UVPT + 4 * p) Read).regions own_directory (p / NPTENTRIES) ≡ Some (record region { accessed = true })
       marked =
           ap (λ (t : SpacesState). t.regions own_directory (p / NPTENTRIES)) touched_is
-          ∙ put-here s.spaces.regions own_directory (p / NPTENTRIES) (region_accessed (s.spaces.regions own_directory (p / NPTENTRIES)))
+          ∙ put-at s.spaces.regions own_directory (p / NPTENTRIES) (region_accessed (s.spaces.regions own_directory (p / NPTENTRIES)))
           ∙ ap region_accessed region_is
 
 -- the record of any slot, also of one that is free

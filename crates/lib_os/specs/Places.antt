@@ -10,27 +10,46 @@ use Rattle.lib_os.specs.declared.place.Step.TheVariants as step
 use Rattle.lib_os.specs.declared.place.Place.{Place}
 use Rattle.lib_os.specs.declared.place.Place.TheVariants as place
 use Rattle.lib_os.specs.declared.numbers.TheConstants.{SERVICES}
+use Rattle.lib_os.specs.declared.numbers.TheConstants.{STEP_ENTERED, STEP_TRYING, STEP_PAUSING, STEP_READING_REGION}
+use Rattle.lib_os.specs.declared.numbers.TheConstants.{STEP_READING_ENTRY, STEP_RECEIVING, STEP_READING_VALUE}
+use Rattle.lib_os.specs.declared.numbers.TheConstants.{STEP_READING_SENDER, STEP_READING_PERM}
 use Rattle.lib_os.specs.Services.{service_of}
 
 -- ---- places
 
+-- the words, by their places
+abbrev pub service_word : List ℕ → ℕ
+service_word words = get_or words 0 0
+
+abbrev pub step_word : List ℕ → ℕ
+step_word words = get_or words 1 0
+
+abbrev pub first_word : List ℕ → ℕ
+first_word words = get_or words 2 0
+
+abbrev pub second_word : List ℕ → ℕ
+second_word words = get_or words 3 0
+
+abbrev pub third_word : List ℕ → ℕ
+third_word words = get_or words 4 0
+
 unfoldable pub step_in : List ℕ → Step
 step_in words =
-    let n = get_or words 1 0 in
-    if n == 0 then step.Entered
-    else if n == 1 then step.Trying (get_or words 2 0)
-    else if n == 2 then step.Pausing (get_or words 2 0)
-    else if n == 3 then step.ReadingRegion
-    else if n == 4 then step.ReadingEntry
-    else if n == 5 then step.Receiving (get_or words 2 0)
-    else if n == 6 then step.ReadingValue (get_or words 2 0)
-    else if n == 7 then step.ReadingSender (get_or words 2 0) (get_or words 3 0)
-    else step.ReadingPerm (get_or words 2 0) (get_or words 3 0) (get_or words 4 0)
+    let n = step_word words in
+    if n == STEP_ENTERED then step.Entered
+    else if n == STEP_TRYING then step.Trying (first_word words)
+    else if n == STEP_PAUSING then step.Pausing (first_word words)
+    else if n == STEP_READING_REGION then step.ReadingRegion
+    else if n == STEP_READING_ENTRY then step.ReadingEntry
+    else if n == STEP_RECEIVING then step.Receiving (first_word words)
+    else if n == STEP_READING_VALUE then step.ReadingValue (first_word words)
+    else if n == STEP_READING_SENDER then step.ReadingSender (first_word words) (second_word words)
+    else step.ReadingPerm (first_word words) (second_word words) (third_word words)
 
 unfoldable pub place_in : Regs → List ℕ → Place
 place_in regs words =
-    if get_or words 0 0 == 0 then place.Guest
-    else place.InService (service_of (record regs { eax = get_or words 0 0 - 1 })) (step_in words)
+    if service_word words == 0 then place.Guest
+    else place.InService (service_of (record regs { eax = service_word words - 1 })) (step_in words)
 
 -- where the environment of a slot stands
 abbrev pub place_of : Slot → Place
@@ -43,15 +62,15 @@ words_from number n first second third =
     (number + 1) ∷ n ∷ first ∷ second ∷ third ∷ 0 ∷ 0 ∷ 0 ∷ 0 ∷ 0 ∷ 0 ∷ 0 ∷ []
 
 unfoldable pub words_at : ℕ → Step → List ℕ
-words_at number step.Entered = words_from number 0 0 0 0
-words_at number (step.Trying perm) = words_from number 1 perm 0 0
-words_at number (step.Pausing perm) = words_from number 2 perm 0 0
-words_at number step.ReadingRegion = words_from number 3 0 0 0
-words_at number step.ReadingEntry = words_from number 4 0 0 0
-words_at number (step.Receiving id) = words_from number 5 id 0 0
-words_at number (step.ReadingValue id) = words_from number 6 id 0 0
-words_at number (step.ReadingSender id value) = words_from number 7 id value 0
-words_at number (step.ReadingPerm id value sender) = words_from number 8 id value sender
+words_at number step.Entered = words_from number STEP_ENTERED 0 0 0
+words_at number (step.Trying perm) = words_from number STEP_TRYING perm 0 0
+words_at number (step.Pausing perm) = words_from number STEP_PAUSING perm 0 0
+words_at number step.ReadingRegion = words_from number STEP_READING_REGION 0 0 0
+words_at number step.ReadingEntry = words_from number STEP_READING_ENTRY 0 0 0
+words_at number (step.Receiving id) = words_from number STEP_RECEIVING id 0 0
+words_at number (step.ReadingValue id) = words_from number STEP_READING_VALUE id 0 0
+words_at number (step.ReadingSender id value) = words_from number STEP_READING_SENDER id value 0
+words_at number (step.ReadingPerm id value sender) = words_from number STEP_READING_PERM id value sender
 
 -- the words with which a program's INT 0x40 leaves it; all numbers that name no service are kept as one
 abbrev pub words_entered : Regs → List ℕ

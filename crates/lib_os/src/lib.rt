@@ -32,7 +32,10 @@ pub use laws::{
     fork_copies, guest_memory_is_lawful, need_is_reached, pages_are_own_or_shared,
     pipes_are_bounded, some_state_stands, steps_leave_others, words_tell_the_place,
 };
-pub use numbers::{DESCRIPTORS, FDTABLE_END, PTE_SHARE, RESIDENT, SERVICES, UVPD};
+pub use numbers::{
+    DESCRIPTORS, FDTABLE_END, PTE_SHARE, RESIDENT, SERVICE_RECEIVE, SERVICE_SEND, SERVICE_WAIT,
+    SERVICES, UVPD,
+};
 pub use place::{Place, Step, find_place, words_at};
 pub use progress::Progress;
 pub use service::{Service, service_of};

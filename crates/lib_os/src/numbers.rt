@@ -42,3 +42,100 @@ pub const SERVICES: u32 = 22;
 /// Where a user reads the directory: the region of `UVPT` has the directory for its table, and so the directory for one of its
 /// pages. (MIT 6.828, inc/memlayout.h: `uvpd`)
 pub const UVPD: u32 = 0xef7b_d000;
+
+// ---- the numbers of the services, as a program has them in EAX (docs/library.md)
+
+/// `exit`.
+pub const SERVICE_EXIT: u32 = 0;
+
+/// `cputs`.
+pub const SERVICE_CPUTS: u32 = 1;
+
+/// `getid`.
+pub const SERVICE_GETID: u32 = 2;
+
+/// `yield`.
+pub const SERVICE_YIELD: u32 = 3;
+
+/// `fork`.
+pub const SERVICE_FORK: u32 = 4;
+
+/// `wait`.
+pub const SERVICE_WAIT: u32 = 5;
+
+/// `page_new`.
+pub const SERVICE_PAGE_NEW: u32 = 6;
+
+/// `page_drop`.
+pub const SERVICE_PAGE_DROP: u32 = 7;
+
+/// `send`.
+pub const SERVICE_SEND: u32 = 8;
+
+/// `receive`.
+pub const SERVICE_RECEIVE: u32 = 9;
+
+/// `open_file`.
+pub const SERVICE_OPEN_FILE: u32 = 10;
+
+/// `close`.
+pub const SERVICE_CLOSE: u32 = 11;
+
+/// `read`.
+pub const SERVICE_READ: u32 = 12;
+
+/// `write`.
+pub const SERVICE_WRITE: u32 = 13;
+
+/// `seek`.
+pub const SERVICE_SEEK: u32 = 14;
+
+/// `stat`.
+pub const SERVICE_STAT: u32 = 15;
+
+/// `set_size`.
+pub const SERVICE_SET_SIZE: u32 = 16;
+
+/// `remove`.
+pub const SERVICE_REMOVE: u32 = 17;
+
+/// `sync`.
+pub const SERVICE_SYNC: u32 = 18;
+
+/// `dup`.
+pub const SERVICE_DUP: u32 = 19;
+
+/// `pipe`.
+pub const SERVICE_PIPE: u32 = 20;
+
+/// `spawn`.
+pub const SERVICE_SPAWN: u32 = 21;
+
+// ---- how far a service is, as a word that is kept for the library
+
+/// Nothing of it is done.
+pub const STEP_ENTERED: u32 = 0;
+
+/// It is about to try.
+pub const STEP_TRYING: u32 = 1;
+
+/// It is about to give up its turn.
+pub const STEP_PAUSING: u32 = 2;
+
+/// It is about to read whether the region of its page has a table.
+pub const STEP_READING_REGION: u32 = 3;
+
+/// It is about to read the entry of its page.
+pub const STEP_READING_ENTRY: u32 = 4;
+
+/// It is about to wait for a word.
+pub const STEP_RECEIVING: u32 = 5;
+
+/// It waits, or is about to read the word that came.
+pub const STEP_READING_VALUE: u32 = 6;
+
+/// It is about to read who sent the word.
+pub const STEP_READING_SENDER: u32 = 7;
+
+/// It is about to read the bits of the page that came.
+pub const STEP_READING_PERM: u32 = 8;

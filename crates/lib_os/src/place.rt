@@ -4,6 +4,10 @@ ghost use Rattle.std.specs.Prelude.{◌≡◌, ◌≤◌, ℕ};
 ghost use Rattle.lib_os.specs.declared.numbers.TheConstants.{SERVICES};
 ghost use Rattle.lib_os.specs.Places as places;
 
+use crate::numbers::{
+    STEP_ENTERED, STEP_PAUSING, STEP_READING_ENTRY, STEP_READING_PERM, STEP_READING_REGION,
+    STEP_READING_SENDER, STEP_READING_VALUE, STEP_RECEIVING, STEP_TRYING,
+};
 use crate::service::{Service, service_of};
 use jos_base::{Extra, Regs};
 
@@ -46,14 +50,14 @@ fn find_step(words: &Extra) -> Step
 {
     let [_, step, first, second, third, _, _, _, _, _, _, _] = words.0;
     match step {
-        0 => Step::Entered,
-        1 => Step::Trying { perm: first },
-        2 => Step::Pausing { perm: first },
-        3 => Step::ReadingRegion,
-        4 => Step::ReadingEntry,
-        5 => Step::Receiving { id: first },
-        6 => Step::ReadingValue { id: first },
-        7 => Step::ReadingSender {
+        STEP_ENTERED => Step::Entered,
+        STEP_TRYING => Step::Trying { perm: first },
+        STEP_PAUSING => Step::Pausing { perm: first },
+        STEP_READING_REGION => Step::ReadingRegion,
+        STEP_READING_ENTRY => Step::ReadingEntry,
+        STEP_RECEIVING => Step::Receiving { id: first },
+        STEP_READING_VALUE => Step::ReadingValue { id: first },
+        STEP_READING_SENDER => Step::ReadingSender {
             id: first,
             value: second,
         },
@@ -91,15 +95,15 @@ pub fn words_at(number: u32, step: Step) -> Extra
     ensures { result.0 ≡ places.words_at number step }
 {
     let (place, first, second, third) = match step {
-        Step::Entered => (0, 0, 0, 0),
-        Step::Trying { perm } => (1, perm, 0, 0),
-        Step::Pausing { perm } => (2, perm, 0, 0),
-        Step::ReadingRegion => (3, 0, 0, 0),
-        Step::ReadingEntry => (4, 0, 0, 0),
-        Step::Receiving { id } => (5, id, 0, 0),
-        Step::ReadingValue { id } => (6, id, 0, 0),
-        Step::ReadingSender { id, value } => (7, id, value, 0),
-        Step::ReadingPerm { id, value, sender } => (8, id, value, sender),
+        Step::Entered => (STEP_ENTERED, 0, 0, 0),
+        Step::Trying { perm } => (STEP_TRYING, perm, 0, 0),
+        Step::Pausing { perm } => (STEP_PAUSING, perm, 0, 0),
+        Step::ReadingRegion => (STEP_READING_REGION, 0, 0, 0),
+        Step::ReadingEntry => (STEP_READING_ENTRY, 0, 0, 0),
+        Step::Receiving { id } => (STEP_RECEIVING, id, 0, 0),
+        Step::ReadingValue { id } => (STEP_READING_VALUE, id, 0, 0),
+        Step::ReadingSender { id, value } => (STEP_READING_SENDER, id, value, 0),
+        Step::ReadingPerm { id, value, sender } => (STEP_READING_PERM, id, value, sender),
     };
     Extra([number + 1, place, first, second, third, 0, 0, 0, 0, 0, 0, 0])
 }

@@ -3,6 +3,12 @@
 ghost use Rattle.std.specs.Prelude.{◌≡◌};
 ghost use Rattle.lib_os.specs.Services as services;
 
+use crate::numbers::{
+    SERVICE_CLOSE, SERVICE_CPUTS, SERVICE_DUP, SERVICE_EXIT, SERVICE_FORK, SERVICE_GETID,
+    SERVICE_OPEN_FILE, SERVICE_PAGE_DROP, SERVICE_PAGE_NEW, SERVICE_PIPE, SERVICE_READ,
+    SERVICE_RECEIVE, SERVICE_REMOVE, SERVICE_SEEK, SERVICE_SEND, SERVICE_SET_SIZE, SERVICE_SPAWN,
+    SERVICE_STAT, SERVICE_SYNC, SERVICE_WAIT, SERVICE_WRITE, SERVICE_YIELD,
+};
 use jos_base::Regs;
 
 /// A service with what it is given. Addresses and ids are words, as the program has them in its registers. Those that
@@ -61,7 +67,7 @@ pub enum Service {
 fn is_built(number: u32) -> bool
     ensures { result ≡ services.is_built number }
 {
-    number < 4 || (5 <= number && number <= 9)
+    number < SERVICE_FORK || (SERVICE_WAIT <= number && number <= SERVICE_RECEIVE)
 }
 
 /// The service that a program asks for by INT 0x40, with its number in EAX and what it gives in EDX, ECX and EBX.
@@ -82,64 +88,64 @@ fn named_service(regs: &Regs) -> Service
     ensures { result ≡ services.named_service regs.now }
 {
     match regs.eax {
-        0 => Service::Exit,
-        1 => Service::Cputs {
+        SERVICE_EXIT => Service::Exit,
+        SERVICE_CPUTS => Service::Cputs {
             va: regs.edx,
             len: regs.ecx,
         },
-        2 => Service::GetId,
-        3 => Service::Yield,
-        4 => Service::Fork,
-        5 => Service::Wait { id: regs.edx },
-        6 => Service::PageNew {
+        SERVICE_GETID => Service::GetId,
+        SERVICE_YIELD => Service::Yield,
+        SERVICE_FORK => Service::Fork,
+        SERVICE_WAIT => Service::Wait { id: regs.edx },
+        SERVICE_PAGE_NEW => Service::PageNew {
             va: regs.edx,
             flags: regs.ecx,
         },
-        7 => Service::PageDrop { va: regs.edx },
-        8 => Service::Send {
+        SERVICE_PAGE_DROP => Service::PageDrop { va: regs.edx },
+        SERVICE_SEND => Service::Send {
             id: regs.edx,
             value: regs.ecx,
             va: regs.ebx,
         },
-        9 => Service::Receive {
+        SERVICE_RECEIVE => Service::Receive {
             va: regs.edx,
             from: regs.ecx,
         },
-        10 => Service::OpenFile {
+        SERVICE_OPEN_FILE => Service::OpenFile {
             path: regs.edx,
             mode: regs.ecx,
         },
-        11 => Service::Close { fd: regs.edx },
-        12 => Service::Read {
+        SERVICE_CLOSE => Service::Close { fd: regs.edx },
+        SERVICE_READ => Service::Read {
             fd: regs.edx,
             va: regs.ecx,
             len: regs.ebx,
         },
-        13 => Service::Write {
+        SERVICE_WRITE => Service::Write {
             fd: regs.edx,
             va: regs.ecx,
             len: regs.ebx,
         },
-        14 => Service::Seek {
+        SERVICE_SEEK => Service::Seek {
             fd: regs.edx,
             offset: regs.ecx,
         },
-        15 => Service::Stat {
+        SERVICE_STAT => Service::Stat {
             fd: regs.edx,
             va: regs.ecx,
         },
-        16 => Service::SetSize {
+        SERVICE_SET_SIZE => Service::SetSize {
             fd: regs.edx,
             size: regs.ecx,
         },
-        17 => Service::Remove { path: regs.edx },
-        18 => Service::Sync,
-        19 => Service::Dup {
+        SERVICE_REMOVE => Service::Remove { path: regs.edx },
+        SERVICE_SYNC => Service::Sync,
+        SERVICE_DUP => Service::Dup {
             old: regs.edx,
             new: regs.ecx,
         },
-        20 => Service::Pipe,
-        21 => Service::Spawn {
+        SERVICE_PIPE => Service::Pipe,
+        SERVICE_SPAWN => Service::Spawn {
             path: regs.edx,
             argv: regs.ecx,
         },

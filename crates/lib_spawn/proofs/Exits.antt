@@ -1,12 +1,12 @@
 -- exit: no descriptor is open, so that the environment ends at once, in both systems.
-use Rattle.std.proofs.Common.{◌≡◌, ◌∙◌, ℕ, ◌+◌, zero, suc, true, false, [], ◌∷◌, Option, Some, None, Ok, refl, sym, ap, subst}
+use Rattle.std.proofs.Common.{◌≡◌, ◌∙◌, ℕ, ◌+◌, zero, suc, true, [], ◌∷◌, Option, Some, None, Ok, refl, sym, ap, subst}
 use Rattle.std.specs.Prelude.{is_some}
 use Rattle.jos_base.specs.declared.called.Called.{Called}
 use Rattle.jos_base.specs.declared.called.Called.TheVariants.{Ended}
 use Rattle.jos_base.specs.declared.numbers.TheConstants.{SYS_ENV_DESTROY}
 use Rattle.jos_base.specs.Environments.{Slot as KernelSlot, is_live}
 use Rattle.jos_base.specs.KernelState.{KernelState, slot_at}
-use Rattle.jos_base.specs.SpacesState.{Use, directory, is_directory}
+use Rattle.jos_base.specs.SpacesState.{directory}
 use Rattle.jos_base.specs.SystemCalls.{without_environment}
 use Rattle.lib_os.specs.declared.numbers.TheConstants.{DESCRIPTORS}
 use Rattle.lib_os.specs.declared.place.Place.TheVariants as place
@@ -27,6 +27,7 @@ use Rattle.lib_os.proofs.Calls.{comes_to, env_destroy_is}
 use Rattle.lib_os.proofs.EndsStand.{ended_stands}
 use Rattle.lib_os.proofs.Removing.{destroyed_gone}
 use Rattle.lib_os.proofs.Serving.{served, step_in, over, printed_nothing}
+use Rattle.jos_base.proofs.Uses.{directory_is}
 
 none_from : (descriptors : ℕ → Option ℕ) → ((fd : ℕ) → descriptors fd ≡ None) → (fd n : ℕ) → first_from is_some descriptors fd n ≡ None
 unfolding first_from
@@ -37,10 +38,6 @@ none_from descriptors none fd (suc n) = rw (none fd) (none_from descriptors none
 at_once : (row : Row) (k : KernelSlot) (b : Born) (at : Step) → StandsAtStep row k b service.Exit at → IsIn k b service.Exit entered
 at_once row k b step.Entered h = h
 at_once row k b _ h = absurd h
-
-in_use : (u : Use) → is_directory u ≡ true → u ≡ directory
-in_use directory is = refl
-in_use _ is = absurd (let contradiction : false ≡ true = is in cc)
 
 abstract_exit : (a : AbstractState) (n : ℕ) (b : Born) (k : KernelSlot) → ((fd : ℕ) → b.descriptors fd ≡ None) →
     library_step a n b k.registers service.Exit entered ≡ Some (ended a n b)
@@ -60,7 +57,7 @@ exits s mid n at called output stands live in_order call =
     goes is names a h quiet =
         let v = served h n service.Exit at stands in
         let here : IsIn (slot_at s n) v.b service.Exit entered = at_once (rows_of s.spaces (slot_at s n).directory) (slot_at s n) v.b at v.at in
-        let used = in_use (s.spaces.uses (slot_at s n).directory) (h.in_order.spaces.in_use n live) in
+        let used = directory_is (s.spaces.uses (slot_at s n).directory) (h.in_order.spaces.in_use n live) in
         let gone = destroyed_gone s.spaces (slot_at s n).directory h.in_order.frames used in
         let done = ended_stands h n v.b v.is gone (subst (λ (t : KernelState). IsInOrder t) is in_order) in (
           ended a n v.b,

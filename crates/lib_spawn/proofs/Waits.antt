@@ -30,7 +30,6 @@ use Rattle.lib_os.specs.UserCalls.{Step as Call, IsCallStep, answer_of, system, 
 use Rattle.lib_os.proofs.Answering.{back_stands}
 use Rattle.lib_os.proofs.Calls.{comes_to}
 use Rattle.lib_os.proofs.GoingOn.{in_with_words, words_stand, hidden, never}
-use Rattle.lib_os.proofs.Maps.{upd-at}
 use Rattle.lib_os.proofs.Numbered.{named_at}
 use Rattle.lib_os.proofs.Quieting.{own_id, same_state, no_bytes, turn_given, yield_quiet}
 use Rattle.lib_os.proofs.Sends.{found_some, found_none, nobody_named, never_taken}
@@ -39,6 +38,7 @@ use Rattle.lib_os.proofs.SlotsStand.{born_at}
 use Rattle.lib_os.proofs.StatesStand.{status_stands}
 use Rattle.lib_os.proofs.Trying.{IsAnswered, try_send_answered, there_stands}
 use Rattle.lib_spawn.specs.Own.{is_waits}
+use Rattle.jos_base.proofs.Maps.{upd-at}
 
 -- ---- the abstract step
 

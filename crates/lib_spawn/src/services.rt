@@ -12,10 +12,9 @@ ghost use Rattle.lib_spawn.specs.Own.{is_own, is_waits};
 
 use jos_base::{E_BAD_ENV, E_INVAL, SYS_ENV_DESTROY, SYS_GETENVID, SYS_IPC_TRY_SEND, SYS_YIELD};
 use jos_host::{Failed, Host};
-use lib_os::{Place, Progress, Service, Step, UserOs, answer, answer_of, find_place, go_on};
-
-/// The number of wait.
-const WAIT: u32 = 5;
+use lib_os::{
+    Place, Progress, SERVICE_WAIT, Service, Step, UserOs, answer, answer_of, find_place, go_on,
+};
 
 /// An address that is none of a page, so that what is sent from there is never taken.
 const NOWHERE: u32 = 1;
@@ -59,7 +58,7 @@ fn enter_wait<O: UserOs, H: Host>(os: &mut O, host: &mut H, id: u32) -> Result<P
                 answer(os, E_INVAL.wrapping_neg());
                 return Ok(Progress::Finished);
             }
-            go_on(os, WAIT, Step::Trying { perm: 0 });
+            go_on(os, SERVICE_WAIT, Step::Trying { perm: 0 });
             Ok(Progress::Hidden)
         }
         Err(failed) => Err(failed),
@@ -91,7 +90,7 @@ fn try_wait<O: UserOs, H: Host>(
                 answer(os, 0);
                 return Ok(Progress::Finished);
             }
-            go_on(os, WAIT, Step::Pausing { perm });
+            go_on(os, SERVICE_WAIT, Step::Pausing { perm });
             Ok(Progress::Waited)
         }
         Err(failed) => Err(failed),
@@ -118,7 +117,7 @@ fn pause_wait<O: UserOs, H: Host>(
 {
     match os.system(host, SYS_YIELD, [0; 5]) {
         Ok(_) => {
-            go_on(os, WAIT, Step::Trying { perm });
+            go_on(os, SERVICE_WAIT, Step::Trying { perm });
             Ok(Progress::Hidden)
         }
         Err(failed) => Err(failed),

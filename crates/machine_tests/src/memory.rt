@@ -136,7 +136,7 @@ impl Mem for TestMemory {
     }
 
     ghost use Rattle.std.specs.Prelude.{refl};
-    ghost use Rattle.jos_cpu.specs.MemoryLaws.{set_or_same};
+    ghost use Rattle.jos_cpu.specs.MemoryProofs.{set_or_same};
     ghost use Rattle.machine_tests.specs.MemoryLaws.{either_way};
 
     ghost lawful = { record {

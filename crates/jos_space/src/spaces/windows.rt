@@ -4,7 +4,7 @@
 
 ghost use Rattle.std.specs.Prelude.{◌≡◌, ◌≤◌, ◌<◌, ◌+◌, ◌/◌, ◌%◌, get_or};
 ghost use Rattle.std.specs.Option.{option_map};
-ghost use Rattle.jos_base.specs.declared.numbers.TheConstants.{ENV_WORDS, NPTENTRIES, PGSIZE, UTOP};
+ghost use Rattle.jos_base.specs.declared.numbers.TheConstants.{ENV_WORDS, FRAMES_MAX, NPTENTRIES, PGSIZE, UTOP};
 ghost use Rattle.jos_base.specs.SpacesState.{count_frames, directory, region_limit};
 ghost use Rattle.jos_base.specs.Windows.{region_entry, directory_entry, window_page, entry_above, page_entry, walked};
 ghost use Rattle.jos_base.specs.Windows.{entry_word, count_word, window_word, window_byte};
@@ -57,7 +57,7 @@ fn region_perm(word: u32) -> Perm
 
 /// The entry at an index of the table of a window that has so many frames from a first one upwards.
 fn window_page(first: u32, frames: u32, index: u32) -> Option<(Frame, Perm)>
-    requires { first + frames ≤ 65536 }
+    requires { first + frames ≤ FRAMES_MAX }
     ensures { entry_looked result ≡ window_page first frames index }
 {
     if index < frames {
@@ -81,7 +81,7 @@ impl Spaces {
     /// How many frames there are.
     fn frames(&self) -> u32
         ensures frames { result ≡ (state self.now).frames }
-        ensures most { result ≤ 65536 }
+        ensures most { result ≤ FRAMES_MAX }
     {
         self.roles.len() as u32
     }

@@ -1,6 +1,7 @@
 use Rattle.std.proofs.Common.{◌∙◌, ◌≤◌, ℕ, length, refl, arith}
-use Rattle.fs_image.proofs.Reading.{reading_none, reading_more, cause_moved, unchanged_more, grows_none, grows_more, reaches_none, reaches_more, reaches_last}
+use Rattle.fs_image.proofs.Reading.{reading_none, reading_more, cause_moved, grows_none, grows_more, reaches_none, reaches_more, reaches_last}
 use Rattle.fs_image.proofs.disk_bytes.read_to.Goals as goal
+use Rattle.jos_host.proofs.Frames.{still}
 
 pub loop-alloc-init : goal.loop-alloc-init
 loop-alloc-init g c = record {
@@ -22,7 +23,7 @@ returns-then-came-count-clause-grows g c =
     grows_more c.args.end _ c.args.bytes.now.items c.loop-alloc.bytes.items c.read_piece.new.bytes.items c.loop-alloc.invariant.grows c.in-Ok.ensures.grows (omega (arith, c.in-Ok.ensures.within))
 
 pub returns-then-came-count-clause-rest : goal.returns-then-came-count-clause-rest
-returns-then-came-count-clause-rest g c = unchanged_more c.args.host.now c.loop-alloc.host c.read_piece.new.host c.loop-alloc.invariant.rest c.in-Ok.ensures.rest
+returns-then-came-count-clause-rest g c = still c.loop-alloc.invariant.rest c.in-Ok.ensures.rest
 
 pub returns-then-came-count-clause-asked : goal.returns-then-came-count-clause-asked
 returns-then-came-count-clause-asked g c =
@@ -41,14 +42,14 @@ loop-alloc-preserved g c = record {
       reaches_more (g.H.Host.files c.args.host.now) c.args.name.now c.args.bytes.now.items c.loop-alloc.bytes.items c.read_piece.new.bytes.items _ c.in-Ok.came c.loop-alloc.invariant.told told c.in-Ok.ensures.len;
   grows =
       grows_more c.args.end _ c.args.bytes.now.items c.loop-alloc.bytes.items c.read_piece.new.bytes.items c.loop-alloc.invariant.grows c.in-Ok.ensures.grows (omega (arith, c.in-Ok.ensures.within));
-  rest = unchanged_more c.args.host.now c.loop-alloc.host c.read_piece.new.host c.loop-alloc.invariant.rest c.in-Ok.ensures.rest;
+  rest = still c.loop-alloc.invariant.rest c.in-Ok.ensures.rest;
   asked =
       reading_more c.args.name.now (g.H.Host.asked c.args.host.now) (g.H.Host.asked c.loop-alloc.host) (g.H.Host.asked c.read_piece.new.host) c.loop-alloc.invariant.asked c.in-Ok.ensures.asked;
   faults = c.in-Ok.ensures.cause ∙ c.loop-alloc.invariant.faults;
 }
 
 pub returns-in-Err-clause-rest : goal.returns-in-Err-clause-rest
-returns-in-Err-clause-rest g c = unchanged_more c.args.host.now c.loop-alloc.host c.read_piece.new.host c.loop-alloc.invariant.rest c.in-Err.ensures.rest
+returns-in-Err-clause-rest g c = still c.loop-alloc.invariant.rest c.in-Err.ensures.rest
 
 pub returns-in-Err-clause-asked : goal.returns-in-Err-clause-asked
 returns-in-Err-clause-asked g c =

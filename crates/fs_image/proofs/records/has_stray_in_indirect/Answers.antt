@@ -2,8 +2,9 @@ use Rattle.std.proofs.Common.{◌≡◌, ◌+◌, ℕ, Bool, sym, arith, ◌∙�
 use Rattle.std.specs.Prelude.{◌&&◌, ◌==◌, not, nat_le, slice_index}
 use Rattle.fs_layout.specs.declared.numbers.TheConstants.{NDIRECT}
 use Rattle.fs_layout.specs.DiskImage.{some_below, blocks_needed, number_in_indirect, has_stray_in_indirect}
-use Rattle.fs_image.proofs.Each.{some_none, some_passed, some_found}
+use Rattle.fs_image.proofs.Each.{some_none, some_passed}
 use Rattle.fs_image.proofs.records.has_stray_in_indirect.Goals as goal
+use Rattle.fs_layout.proofs.Below.{some_below-at}
 
 abbrev stray_at : (ℕ → ℕ) → ℕ → ℕ → Bool
 stray_at byte place i = nat_le (blocks_needed byte place) (NDIRECT + i) && not (number_in_indirect byte place i == 0)
@@ -13,7 +14,7 @@ loop-i-init c = some_none (stray_at (slice_index c.args.disk.now.bytes.now) c.ar
 
 pub returns-then-is_stray_in_indirect : goal.returns-then-is_stray_in_indirect
 unfolding has_stray_in_indirect
-returns-then-is_stray_in_indirect c = sym (some_found (stray_at (slice_index c.args.disk.now.bytes.now) c.args.place) c.loop-i.i 1024 (omega arith) (cc))
+returns-then-is_stray_in_indirect c = sym (some_below-at (stray_at (slice_index c.args.disk.now.bytes.now) c.args.place) 1024 c.loop-i.i (omega arith) (cc))
 
 pub loop-i-preserved : goal.loop-i-preserved
 loop-i-preserved c = some_passed (stray_at (slice_index c.args.disk.now.bytes.now) c.args.place) c.loop-i.i c.loop-i.invariant (cc)

@@ -3,8 +3,8 @@ use Rattle.std.specs.Prelude.{slice_index}
 use Rattle.std.proofs.lemmas.List.FromFn.{fill_by_all}
 use Rattle.fs_layout.specs.Layout.{bytes_from}
 use Rattle.fs_layout.specs.declared.numbers.TheConstants.{MAXNAMELEN}
-use Rattle.fs_layout.proofs.Fields.{one_more}
 use Rattle.fs_layout.proofs.records.name_at.Goals as goal
+use Rattle.jos_base.proofs.Lists.{one_more}
 
 pub loop-place-preserved : goal.loop-place-preserved
 loop-place-preserved c = record {

@@ -2,8 +2,9 @@ use Rattle.std.proofs.Common.{◌≡◌, ◌+◌, ◌*◌, ◌∙◌, ℕ, List,
 use Rattle.std.specs.Int.{w32, to_le_bytes}
 use Rattle.std.proofs.lemmas.List.{append-nil}
 use Rattle.jos_base.specs.TrapFrames.{bytes_of_words}
-use Rattle.fs_layout.proofs.Written.{words-more, bytes_of_words-nil}
+use Rattle.fs_layout.proofs.Written.{words-more}
 use Rattle.fs_layout.proofs.writer.put_words.Goals as goal
+use Rattle.jos_base.proofs.WordBytes.{bytes_of_words-nil}
 
 pub loop-place-init : goal.loop-place-init
 loop-place-init c = rw (bytes_of_words-nil, append-nil (take c.args.at c.args.out.now), add-zero) refl

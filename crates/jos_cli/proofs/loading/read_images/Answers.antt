@@ -6,12 +6,12 @@ use Rattle.jos_cli.specs.Kinds.{kind_of}
 use Rattle.jos_cli.specs.Answer.{images_of}
 use Rattle.jos_cli.specs.Stages.{AreFilesAt, RefusesBy}
 use Rattle.jos_cli.specs.FilesAsked.{AsksFor, AsksAll, files_calls}
-use Rattle.jos_kernel.proofs.Frames.{still}
 use Rattle.jos_cli.proofs.Asking.{asks_nothing, asks_file, asks_part, asks_part_whole}
 use Rattle.jos_cli.proofs.Finding.{some_files}
 use Rattle.jos_cli.proofs.WordsRead.{one_more, at_one}
 use Rattle.jos_cli.proofs.ImagesRead.{HasRead, nothing_read, on_read, on_refused}
 use Rattle.jos_cli.proofs.loading.read_images.Goals as goal
+use Rattle.jos_host.proofs.Frames.{still}
 
 pub loop-word-init : goal.loop-word-init
 loop-word-init g c = record {

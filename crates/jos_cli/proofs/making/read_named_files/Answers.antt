@@ -6,12 +6,12 @@ use Rattle.jos_cli.specs.Kinds.{kind_of}
 use Rattle.jos_cli.specs.Making.{named_files}
 use Rattle.jos_cli.specs.Stages.{AreFilesAt, RefusesBy}
 use Rattle.jos_cli.specs.FilesAsked.{AsksFor, AsksAll, files_calls}
-use Rattle.jos_kernel.proofs.Frames.{still}
 use Rattle.jos_cli.proofs.Asking.{asks_nothing, asks_file, asks_part, asks_part_whole}
 use Rattle.jos_cli.proofs.Finding.{some_files}
 use Rattle.jos_cli.proofs.WordsRead.{one_more, at_one}
 use Rattle.jos_cli.proofs.NamedRead.{HasNamed, nothing_named, on_named, on_refused_name}
 use Rattle.jos_cli.proofs.making.read_named_files.Goals as goal
+use Rattle.jos_host.proofs.Frames.{still}
 
 pub loop-word-init : goal.loop-word-init
 loop-word-init g c = record {

@@ -3,6 +3,7 @@ use Rattle.jos_cli.proofs.Asking.{notes_none, notes_one, notes_then, notes_last}
 use Rattle.jos_cli.proofs.NotesWritten.{nothing_traced, one_traced, one_failed, all_traced, no_trap}
 use Rattle.jos_cli.proofs.notes.write_trace.Goals as goal
 use Rattle.jos_cli.proofs.notes.write_trace.Goals.{in-Some+in-Ok, in_default}
+use Rattle.jos_host.proofs.Frames.{still}
 
 pub loop-place-init : goal.loop-place-init
 loop-place-init g c = record {

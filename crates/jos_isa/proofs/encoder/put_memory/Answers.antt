@@ -1,8 +1,9 @@
 use Rattle.std.proofs.Common.{◌≡◌, ℕ, ◌+◌, ◌*◌, ◌<◌, [], ◌∷◌, ◌++◌, take, sym, subst, ap, ◌∙◌}
 use Rattle.jos_isa.specs.Encoding.{mode_of, rm_of, sib_bytes, disp_bytes, operand_bytes}
-use Rattle.jos_isa.proofs.Writers.{rm_small, three_behind}
+use Rattle.jos_isa.proofs.Writers.{rm_small}
 use Rattle.jos_isa.proofs.Kept.{kept_on}
 use Rattle.jos_isa.proofs.encoder.put_memory.Goals as goal
+use Rattle.jos_base.proofs.Lists.{three_behind}
 
 pub three_fields-modrm-requires-clause-low : goal.three_fields-modrm-requires-clause-low
 three_fields-modrm-requires-clause-low c = subst (λ (n : ℕ). n < 8) (sym c.rm_of.ensures) (rm_small c.args.arg c.requires.lawful)

@@ -1,6 +1,6 @@
 use Rattle.std.proofs.Common.{arith}
-use Rattle.jos_run.proofs.Words.{words_of_bytes-is}
 use Rattle.jos_run.proofs.served.words_of_frame.Goals as goal
+use Rattle.jos_trap.proofs.Bytes.{words_of_bytes-is}
 
 pub returns : goal.returns
 returns c =

@@ -1,10 +1,10 @@
 use Rattle.std.proofs.Common.{arith}
 use Rattle.jos_sys.proofs.Buffers.{on_fault, on_byte, at_end}
-use Rattle.jos_sys.proofs.Keeping.{use_is}
 use Rattle.jos_sys.proofs.calls.read_bytes.Goals as goal
+use Rattle.jos_base.proofs.Uses.{directory_is}
 
 pub read-requires : goal.read-requires
-read-requires c = use_is _ c.requires.space
+read-requires c = directory_is _ c.requires.space
 
 pub returns-in-Err-clause-read : goal.returns-in-Err-clause-read
 returns-in-Err-clause-read c = on_fault c.loop.invariant c.loop-test.true c.in-Err.ensures

@@ -1,13 +1,13 @@
 use Rattle.std.proofs.Common.{◌∙◌, ap, refl}
 use Rattle.jos_sys.proofs.Buffers.{touching_start, touching_more, touching_end}
-use Rattle.jos_sys.proofs.Keeping.{use_is}
 use Rattle.jos_sys.proofs.calls.touch_all.Goals as goal
+use Rattle.jos_base.proofs.Uses.{directory_is}
 
 pub loop-init : goal.loop-init
 loop-init c = (touching_start, refl)
 
 pub access-requires : goal.access-requires
-access-requires c = use_is _ (ap (λ d. d c.args.space.directory.0) c.loop.invariant.0.directories ∙ c.requires.space)
+access-requires c = directory_is _ (ap (λ d. d c.args.space.directory.0) c.loop.invariant.0.directories ∙ c.requires.space)
 
 pub loop-preserved : goal.loop-preserved
 loop-preserved c = (

@@ -3,9 +3,9 @@ use Rattle.jos_base.specs.Environments.{is_running}
 use Rattle.jos_base.specs.KernelState.{slot_at}
 use Rattle.jos_kernel.specs.Kernel.{state_of, progress_of, nothing}
 use Rattle.jos_kernel.proofs.Choices.{under_way}
-use Rattle.jos_kernel.proofs.Frames.{still}
 use Rattle.jos_kernel.proofs.Runs.{went_further, fails_further}
 use Rattle.jos_kernel.proofs.kernel.Kernel.go_on.Goals as goal
+use Rattle.jos_host.proofs.Frames.{still}
 
 pub advance-requires-in-loop-self-clause-goes_on : goal.advance-requires-in-loop-self-clause-goes_on
 advance-requires-in-loop-self-clause-goes_on g c =

@@ -1,9 +1,9 @@
 use Rattle.std.proofs.Common.{◌≡◌, ℕ, ◌+◌, ◌-◌, refl, subst, ◌∙◌, arith}
 use Rattle.jos_host.specs.Frames.{from_to}
 use Rattle.jos_kernel.specs.Kernel.{Went, FailsIn}
-use Rattle.jos_kernel.proofs.Frames.{still}
 use Rattle.jos_kernel.proofs.Runs.{none_yet, went_further, fails_further, on_end, on_budget}
 use Rattle.jos_kernel.proofs.kernel.Kernel.run.Goals as goal
+use Rattle.jos_host.proofs.Frames.{still}
 
 pub loop-left-init : goal.loop-left-init
 loop-left-init g c =

@@ -1,13 +1,13 @@
 use Rattle.std.proofs.Common.{ap, sym, ◌∙◌, arith, ◌≡◌, ◌%◌, ◌+◌, true}
 use Rattle.std.specs.Prelude.{nat_le}
 use Rattle.std.proofs.lemmas.Bool.Decides.{nat_tests}
-use Rattle.jos_isa.proofs.Booleans.{both_true}
 use Rattle.jos_sys.specs.declared.system.System.{System}
 use Rattle.jos_sys.specs.System.{state_of, left_of}
 use Rattle.jos_kernel.specs.Running.{loaded_in}
 use Rattle.jos_kernel.proofs.Machines.{byte_lawful, word_lawful}
 use Rattle.jos_kernel.proofs.UserBytes.{byte_put, word_put, put_rights, put_word_rights, either_rights}
 use Rattle.jos_kernel.proofs.machine.MachineMem.put_at_hand.Goals as goal
+use Rattle.std.proofs.lemmas.Bool.{and_parts}
 
 pub invariant_of-self : goal.invariant_of-self
 invariant_of-self c =
@@ -31,7 +31,7 @@ returns-in-Bits8-clause-stays c =
 
 pub returns-in-Bits32-clause-put : goal.returns-in-Bits32-clause-put
 returns-in-Bits32-clause-put c h =
-    let room : nat_le (c.args.va % 4096 + 4) 4096 ≡ true = (both_true _ _ (sym c.put_word.ensures.exact ∙ h)).0 in
+    let room : nat_le (c.args.va % 4096 + 4) 4096 ≡ true = (and_parts _ _ (sym c.put_word.ensures.exact ∙ h)).0 in
     rw (← c.self.view_is, c.in-Some.is, c.in-Bits32.is)
     (word_put _ _ _ _ _ (omega (arith, c.ranges.va.fits)) (grind (arith, nat_tests)) (c.put_word.ensures.still h) (c.put_word.ensures.put h (left_of c.self.inside.input)))
 
@@ -40,6 +40,6 @@ returns-in-Bits32-clause-stays c =
     rw (← c.self.view_is, c.in-Some.is)
     (either_rights _ _ c.put_word.result
     (λ h. (
-    let room : nat_le (c.args.va % 4096 + 4) 4096 ≡ true = (both_true _ _ (sym c.put_word.ensures.exact ∙ h)).0 in
+    let room : nat_le (c.args.va % 4096 + 4) 4096 ≡ true = (and_parts _ _ (sym c.put_word.ensures.exact ∙ h)).0 in
     put_word_rights _ _ _ _ (word_put _ _ _ _ c.args.value (omega (arith, c.ranges.va.fits)) (grind (arith, nat_tests)) (c.put_word.ensures.still h) (c.put_word.ensures.put h (left_of c.self.inside.input)))))
     (λ h. ap (λ (s : System). loaded_in (state_of s (left_of c.self.inside.input)) c.in-Some.space.directory.0) (c.put_word.ensures.left h)))

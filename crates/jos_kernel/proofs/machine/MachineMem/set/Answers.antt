@@ -2,7 +2,7 @@ use Rattle.std.proofs.Common.{ap, ◌∙◌}
 use Rattle.jos_base.specs.KernelState.{KernelState}
 use Rattle.jos_sys.specs.System.{state_of, left_of}
 use Rattle.jos_kernel.specs.Running.{user_memory, loaded_in}
-use Rattle.jos_kernel.specs.MemoryLaws.{user_memory_is_lawful}
+use Rattle.jos_kernel.specs.MemoryProofs.{user_memory_is_lawful}
 use Rattle.jos_kernel.proofs.Machines.{still_lawful}
 use Rattle.jos_kernel.proofs.machine.MachineMem.set.Goals as goal
 

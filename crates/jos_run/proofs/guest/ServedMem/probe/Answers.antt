@@ -1,6 +1,7 @@
 use Rattle.std.proofs.Common.{◌∙◌, ◌+◌, ◌-◌, Some, ap, sym, arith}
 use Rattle.jos_cpu.proofs.Probing.{at_start, on_byte, on_refused, at_end}
-use Rattle.jos_run.specs.Guest.{served_memory, served_memory_is_lawful, serving_of}
+use Rattle.jos_run.specs.Guest.{served_memory, serving_of}
+use Rattle.jos_run.specs.MemoryProofs.{served_memory_is_lawful}
 use Rattle.jos_run.proofs.Guests.{readable}
 use Rattle.jos_run.proofs.guest.ServedMem.probe.Goals as goal
 

@@ -4,7 +4,8 @@ use Rattle.jos_base.specs.Environments.{is_live}
 use Rattle.jos_base.specs.KernelState.{KernelState, slot_at}
 use Rattle.jos_base.specs.UserMemory.{is_allowed, byte_at}
 use Rattle.jos_sys.specs.System.{state_of, spaces_of, left_of}
-use Rattle.jos_run.specs.Guest.{served_memory, served_memory_is_lawful, serving_of}
+use Rattle.jos_run.specs.Guest.{served_memory, serving_of}
+use Rattle.jos_run.specs.MemoryProofs.{served_memory_is_lawful}
 use Rattle.jos_run.specs.Served.{Parts, kernel_state}
 use Rattle.jos_run.proofs.Guests.{serving, live_where, stored_here, byte_here}
 use Rattle.jos_run.proofs.guest.ServedMem.set.Goals as goal

@@ -2,10 +2,11 @@ use Rattle.std.proofs.Common.{◌∙◌, ◌/◌, sym, ap, Option}
 use Rattle.jos_base.specs.Reach.{Entry, reach_entry}
 use Rattle.jos_base.specs.SpacesState.{SpacesState, is_directory}
 use Rattle.jos_space.specs.Frames.{state}
-use Rattle.jos_space.proofs.AtHand.{low_page, walked_below}
+use Rattle.jos_space.proofs.AtHand.{low_page}
 use Rattle.jos_space.proofs.Keeping.{keeps_same, bits_uses}
 use Rattle.jos_space.proofs.Marking.{touched_fault, touched_ok, reached_some}
 use Rattle.jos_space.proofs.spaces.Spaces.access.Goals as goal
+use Rattle.jos_base.proofs.Walks.{walked_below}
 
 pub mark-requires-clause-entry : goal.mark-requires-clause-entry
 mark-requires-clause-entry c below =

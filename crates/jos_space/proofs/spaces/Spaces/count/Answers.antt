@@ -3,9 +3,9 @@ use Rattle.jos_base.specs.SpacesState.{own_count}
 use Rattle.jos_space.specs.declared.role.Role.{Role}
 use Rattle.jos_space.specs.declared.role.Role.TheVariants.{Reserved}
 use Rattle.jos_space.specs.Frames.{Lists, AreSound, held_in, use_of, entries_of}
-use Rattle.jos_space.proofs.Counts.{page_count-le}
 use Rattle.jos_space.proofs.PageBytes.{count_is, count_past, own_le}
 use Rattle.jos_space.proofs.spaces.Spaces.count.Goals as goal
+use Rattle.jos_base.proofs.Counts.{page_count-le}
 
 pub overflow_add-result : goal.overflow_add-result
 overflow_add-result c =

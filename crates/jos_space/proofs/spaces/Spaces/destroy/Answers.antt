@@ -1,11 +1,11 @@
 use Rattle.std.proofs.Common.{◌∙◌, ap}
 use Rattle.jos_base.specs.SpacesState.{SpacesState, free, freed, tables_freed, destroyed, region_limit}
 use Rattle.jos_space.specs.Frames.{state}
-use Rattle.jos_space.proofs.Counts.{upd-other}
 use Rattle.jos_space.proofs.Destroying.{no_pages, no_tables}
 use Rattle.jos_space.proofs.Freeing.{idle_directory}
 use Rattle.jos_space.proofs.Directories.{destroyed_directories}
 use Rattle.jos_space.proofs.spaces.Spaces.destroy.Goals as goal
+use Rattle.jos_base.proofs.Maps.{upd-other}
 
 pub free_tables-requires-clause-space : goal.free_tables-requires-clause-space
 free_tables-requires-clause-space c = c.remove_pages.ensures.kept c.args.space.directory.0 c.requires

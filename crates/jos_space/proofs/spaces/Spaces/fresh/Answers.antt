@@ -2,12 +2,12 @@ use Rattle.std.proofs.Common.{◌∙◌, Some, refl, sym, ap}
 use Rattle.jos_base.specs.SpacesState.{SpacesState}
 use Rattle.jos_space.specs.Frames.{held_in, state}
 use Rattle.jos_space.specs.Calls.{has_bytes}
-use Rattle.jos_space.proofs.Counts.{upd-at}
 use Rattle.jos_space.proofs.Keeping.{free_apart}
 use Rattle.jos_space.proofs.PageBytes.{fresh_is, empty_fresh}
 use Rattle.jos_base.specs.SpacesState.{zero_page}
 use Rattle.jos_space.proofs.Directories.{fresh_directories}
 use Rattle.jos_space.proofs.spaces.Spaces.fresh.Goals as goal
+use Rattle.jos_base.proofs.Maps.{upd-at}
 
 pub returns-in-None-clause-none : goal.returns-in-None-clause-none
 returns-in-None-clause-none c =

@@ -4,13 +4,13 @@ use Rattle.jos_base.specs.Reach.{Entry}
 use Rattle.jos_base.specs.SpacesState.{SpacesState, page, mapped, inserted, released}
 use Rattle.jos_space.specs.Calls.{has_bytes, KeepsDirectories}
 use Rattle.jos_space.specs.Frames.{state}
-use Rattle.jos_space.proofs.Counts.{upd-at}
 use Rattle.jos_space.proofs.EntryBits.{user_present}
 use Rattle.jos_space.proofs.Keeping.{keeps_other, keeps_both, free_apart, bytes_apart, bytes_used}
-use Rattle.jos_space.proofs.Lookups.{put-at}
 use Rattle.jos_space.proofs.Directories.{same_directories, inserted_no_more}
 use Rattle.jos_space.proofs.PagesHeld.{pages_same}
 use Rattle.jos_space.proofs.spaces.Spaces.insert.Goals as goal
+use Rattle.jos_base.proofs.Maps.{upd-at}
+use Rattle.jos_base.proofs.Puts.{put-at}
 
 pub map_page-gone-requires-clause-frame : goal.map_page-gone-requires-clause-frame
 map_page-gone-requires-clause-frame c =

@@ -5,10 +5,11 @@ use Rattle.jos_base.specs.SpacesState.{Region, with_entry, frame_of}
 use Rattle.jos_space.specs.declared.role.Role.TheVariants.{Reserved}
 use Rattle.jos_space.specs.Frames.{Lists, state, may_map}
 use Rattle.jos_space.specs.contracts.spaces.Spaces.{the_view}
-use Rattle.jos_space.proofs.Uses.{page_use, has_place, not_reserved, bytes_in}
+use Rattle.jos_space.proofs.Uses.{page_use, has_place, bytes_in}
 use Rattle.jos_space.proofs.EntryBits.{is_there, is_away}
 use Rattle.jos_space.proofs.MapsPage.{below_table, word_fits, count_room, maps_absent, maps_stood}
 use Rattle.jos_space.proofs.spaces.Spaces.map_page.Goals as goal
+use Rattle.jos_space.proofs.Roles.{not_reserved}
 
 pub word_at-old-requires-clause-frame : goal.word_at-old-requires-clause-frame
 word_at-old-requires-clause-frame c =

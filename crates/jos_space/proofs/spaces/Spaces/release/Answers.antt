@@ -6,10 +6,10 @@ use Rattle.jos_space.specs.Frames.{Lists, state}
 use Rattle.jos_space.specs.contracts.spaces.Spaces.{the_view}
 use Rattle.jos_space.proofs.Roles.{is_reserved}
 use Rattle.jos_space.proofs.Uses.{page_in, has_place}
-use Rattle.jos_space.proofs.Counts.{upd-other}
 use Rattle.jos_space.proofs.Freeing.{idle_page, released_now, released_not, count_of, named_counts}
 use Rattle.jos_space.proofs.Keeping.{keeps_other, page_apart}
 use Rattle.jos_space.proofs.spaces.Spaces.release.Goals as goal
+use Rattle.jos_base.proofs.Maps.{upd-other}
 
 is_page : (s : SpacesState) (o : Option ℕ) (g : ℕ) → o ≡ Some g → IfSome o (λ g. s.uses g ≡ page) → s.uses g ≡ page
 is_page s o g some h = subst (λ (o : Option ℕ). IfSome o (λ g. s.uses g ≡ page)) some h

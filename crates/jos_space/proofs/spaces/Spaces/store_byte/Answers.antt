@@ -6,8 +6,9 @@ use Rattle.jos_base.specs.UserMemory.{byte_at, byte_or_zero, stored_byte, with_b
 use Rattle.jos_base.specs.Windows.{walked}
 use Rattle.jos_space.specs.Frames.{state, records}
 use Rattle.jos_space.specs.Calls.{has_bytes}
-use Rattle.jos_space.proofs.AtHand.{read_where_written, write_low, low_address, walked_below, byte_below}
+use Rattle.jos_space.proofs.AtHand.{read_where_written, write_low, low_address, byte_below}
 use Rattle.jos_space.proofs.spaces.Spaces.store_byte.Goals as goal
+use Rattle.jos_base.proofs.Walks.{walked_below}
 
 pub set_byte-requires-clause-frame : goal.set_byte-requires-clause-frame
 set_byte-requires-clause-frame c =

@@ -2,11 +2,11 @@ use Rattle.std.proofs.Common.{◌∙◌, Some, refl, sym, ap}
 use Rattle.std.specs.Option.{option_map}
 use Rattle.jos_base.specs.SpacesState.{SpacesState, Region, table}
 use Rattle.jos_space.specs.Frames.{held_in, state}
-use Rattle.jos_space.proofs.Counts.{upd-other}
 use Rattle.jos_space.proofs.Keeping.{free_apart}
 use Rattle.jos_space.proofs.TableLists.{tabled_there, not_there, tabled_empty, tabled_made, regions_of_taken}
 use Rattle.jos_space.proofs.TableLists.{table_found}
 use Rattle.jos_space.proofs.spaces.Spaces.table_for.Goals as goal
+use Rattle.jos_base.proofs.Maps.{upd-other}
 
 pub set_table-requires-clause-space : goal.set_table-requires-clause-space
 set_table-requires-clause-space c = c.in-Some-take.ensures.keeps c.args.space (λ none. free_apart ((state c.args.self.now).uses c.args.space) none c.requires.space) ∙ c.requires.space

@@ -1,7 +1,8 @@
 use Rattle.std.proofs.Common.{◌∙◌, ◌/◌, sym, arith}
 use Rattle.jos_space.specs.Frames.{state}
-use Rattle.jos_space.proofs.AtHand.{low_page, walked_below}
+use Rattle.jos_space.proofs.AtHand.{low_page}
 use Rattle.jos_space.proofs.spaces.Spaces.walk.Goals as goal
+use Rattle.jos_base.proofs.Walks.{walked_below}
 
 pub returns-then-va-lt-UTOP-clause-entry : goal.returns-then-va-lt-UTOP-clause-entry
 returns-then-va-lt-UTOP-clause-entry c =

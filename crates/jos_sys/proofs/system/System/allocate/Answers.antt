@@ -2,11 +2,12 @@ use Rattle.std.proofs.Common.{◌∙◌, ◌≡◌, ◌/◌, [], Some, None, IfS
 use Rattle.jos_base.specs.declared.numbers.TheConstants.{PGSIZE}
 use Rattle.jos_base.specs.SpacesState.{allocated}
 use Rattle.jos_space.specs.Frames.{state}
-use Rattle.jos_sys.proofs.Keeping.{use_is, keeps_spaces}
+use Rattle.jos_sys.proofs.Keeping.{keeps_spaces}
 use Rattle.jos_sys.proofs.system.System.allocate.Goals as goal
+use Rattle.jos_base.proofs.Uses.{directory_is}
 
 pub allocate-requires-clause-space : goal.allocate-requires-clause-space
-allocate-requires-clause-space c = use_is _ (c.space-space.ensures.in_use c.requires.spaces)
+allocate-requires-clause-space c = directory_is _ (c.space-space.ensures.in_use c.requires.spaces)
 
 pub returns-clause-some : goal.returns-clause-some
 returns-clause-some c =

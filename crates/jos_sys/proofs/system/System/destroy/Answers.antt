@@ -3,13 +3,14 @@ use Rattle.jos_base.specs.Words.{upd}
 use Rattle.jos_base.specs.SpacesState.{directories, destroyed}
 use Rattle.jos_space.specs.Frames.{state}
 use Rattle.jos_sys.specs.System.{state_of}
-use Rattle.jos_sys.proofs.Keeping.{use_is, freed_keeps, keeps_seen}
+use Rattle.jos_sys.proofs.Keeping.{freed_keeps, keeps_seen}
 use Rattle.jos_sys.proofs.Showing.{others_freed}
 use Rattle.jos_envs.proofs.Kept.{live_within}
 use Rattle.jos_sys.proofs.system.System.destroy.Goals as goal
+use Rattle.jos_base.proofs.Uses.{directory_is}
 
 pub destroy-requires : goal.destroy-requires
-destroy-requires c = use_is _ (c.space-space.ensures.in_use c.requires.spaces)
+destroy-requires c = directory_is _ (c.space-space.ensures.in_use c.requires.spaces)
 
 pub show-requires : goal.show-requires
 show-requires c = live_within c.args.self.now.table c.args.slot c.requires.live

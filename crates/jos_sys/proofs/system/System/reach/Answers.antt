@@ -1,9 +1,10 @@
 use Rattle.std.proofs.Common.{◌∙◌}
-use Rattle.jos_sys.proofs.Keeping.{use_is, keeps_spaces}
+use Rattle.jos_sys.proofs.Keeping.{keeps_spaces}
 use Rattle.jos_sys.proofs.system.System.reach.Goals as goal
+use Rattle.jos_base.proofs.Uses.{directory_is}
 
 pub access-requires : goal.access-requires
-access-requires c = use_is _ c.requires
+access-requires c = directory_is _ c.requires
 
 pub returns-in-Ok-clause-spaces : goal.returns-in-Ok-clause-spaces
 returns-in-Ok-clause-spaces c = λ keeps. record {

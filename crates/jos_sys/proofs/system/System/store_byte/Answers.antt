@@ -1,9 +1,10 @@
 use Rattle.std.proofs.Common.{◌∙◌}
-use Rattle.jos_sys.proofs.Keeping.{use_is, keeps_spaces}
+use Rattle.jos_sys.proofs.Keeping.{keeps_spaces}
 use Rattle.jos_sys.proofs.system.System.store_byte.Goals as goal
+use Rattle.jos_base.proofs.Uses.{directory_is}
 
 pub store_byte-requires : goal.store_byte-requires
-store_byte-requires c = record { space = use_is _ c.requires.space; allowed = c.requires.allowed }
+store_byte-requires c = record { space = directory_is _ c.requires.space; allowed = c.requires.allowed }
 
 pub returns-clause-spaces : goal.returns-clause-spaces
 returns-clause-spaces c = λ keeps. record {

@@ -1,5 +1,5 @@
-use Rattle.jos_sys.proofs.Keeping.{use_is}
 use Rattle.jos_sys.proofs.system.System.user_bytes.Goals as goal
+use Rattle.jos_base.proofs.Uses.{directory_is}
 
 pub user_bytes-requires : goal.user_bytes-requires
-user_bytes-requires c = use_is _ c.requires
+user_bytes-requires c = directory_is _ c.requires

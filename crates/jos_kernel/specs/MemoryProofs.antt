@@ -24,7 +24,7 @@ use Rattle.jos_base.specs.UserMemory.{with_page_bits, with_region_bit, with_bits
 use Rattle.jos_base.specs.UserMemory.{byte_at, byte_of, byte_or_zero, stored_byte, with_byte_at}
 use Rattle.jos_cpu.specs.declared.memory.MemFault.TheVariants.{Page}
 use Rattle.jos_cpu.specs.Memory.{IsLawful}
-use Rattle.jos_cpu.specs.MemoryLaws.{set_or_same}
+use Rattle.jos_cpu.specs.MemoryProofs.{set_or_same}
 use Rattle.jos_kernel.specs.Running.{user_memory, byte_in, allowed_in, fault_in, touched_in, stored_in}
 
 -- ---- rights by the bits of an entry
