@@ -1,2 +1,2 @@
-pub mod MemoryLaws
+pub mod MemoryProofs
 pub mod TestMemory

@@ -137,7 +137,7 @@ impl Mem for TestMemory {
 
     ghost use Rattle.std.specs.Prelude.{refl};
     ghost use Rattle.jos_cpu.specs.MemoryProofs.{set_or_same};
-    ghost use Rattle.machine_tests.specs.MemoryLaws.{either_way};
+    ghost use Rattle.machine_tests.specs.MemoryProofs.{either_way};
 
     ghost lawful = { record {
       reached_rights = λ m va access. either_way m (record m { touched = (m.touched + 1) % 2 ^ 32 }) m.standing (λ w q wanted. test_memory_allows w.base w.locked 128 q wanted) refl;
