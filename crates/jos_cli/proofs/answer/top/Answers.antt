@@ -87,7 +87,7 @@ returns-in-Err-clause-cause g c =
     c.in-Err.ensures.cause.later (g.met.H.Host.faults_fit c.write_note.new.host))
 
 pub returns-in-Ok-clause-asked : goal.returns-in-Ok-clause-asked
-returns-in-Ok-clause-asked g c = (_, c.answer_words-outcome.ensures.asked, c.in-Ok.ensures.asked)
+returns-in-Ok-clause-asked g c = (g.H.Host.asked c.answer_words-outcome.new.host, c.answer_words-outcome.ensures.asked, c.in-Ok.ensures.asked)
 
 pub returns-in-Err-clause-asked : goal.returns-in-Err-clause-asked
-returns-in-Err-clause-asked g c = (_, c.answer_words-outcome.ensures.asked, c.in-Err.ensures.asked)
+returns-in-Err-clause-asked g c = (g.H.Host.asked c.answer_words-outcome.new.host, c.answer_words-outcome.ensures.asked, c.in-Err.ensures.asked)

@@ -8,10 +8,10 @@ use Rattle.jos_cli.proofs.Tops.{command_cause}
 use Rattle.jos_cli.proofs.texts.answer_texts.Goals as goal
 
 pub returns-in_default-clause-asked : goal.returns-in_default-clause-asked
-returns-in_default-clause-asked g c = (_, asks_no_more (command_of _) _ _ refl, c.refuse_words.ensures.asked)
+returns-in_default-clause-asked g c = (g.H.Host.asked c.args.host.now, asks_no_more (command_of _) _ _ refl, c.refuse_words.ensures.asked)
 
 pub returns-in_default-words_of-clause-asked : goal.returns-in_default-words_of-clause-asked
-returns-in_default-words_of-clause-asked g c = (_, asks_no_more (command_of _) _ _ refl, c.refuse_words-in_default-words_of.ensures.asked)
+returns-in_default-words_of-clause-asked g c = (g.H.Host.asked c.args.host.now, asks_no_more (command_of _) _ _ refl, c.refuse_words-in_default-words_of.ensures.asked)
 
 pub returns-in_default-clause-input : goal.returns-in_default-clause-input
 returns-in_default-clause-input g c =
