@@ -1,5 +1,5 @@
 //! An environment that is asked call by call: `load`, `load_byte`, `store`, `store_byte`, `exchange`, `system`, `restore_frame`,
-//! `registers`, `set_registers`, `extra` and `set_extra`, as `UserOs` has them, and `bytes VA LEN` for so many of `load_byte`.
+//! `registers`, `set_registers`, `extra` and `set_extra`, as `UserOs` has them.
 
 ghost use Rattle.std.specs.Prelude.{◌%◌, ◌≡◌, ◌<◌};
 ghost use Rattle.jos_base.specs.declared.numbers.TheConstants.{NENV};
@@ -52,50 +52,6 @@ impl Bench {
         Bench { served, host, slot }
     }
 
-    /// So many bytes from an address on.
-    fn bytes(&mut self, alloc: Global, va: u32, len: u32) -> Result<String, AllocError> {
-        let mut text = String::new(alloc);
-        for k in 0..len {
-            self.served.serve(self.slot);
-            if !self.served.is_live() {
-                return String::from_str(alloc, "gone");
-            }
-            if !text.is_empty() {
-                text.push_str(" ")?;
-            }
-            match self.served.load_byte(&mut self.host, va.wrapping_add(k)) {
-                Ok(byte) => write!(text, "{byte:02x}")?,
-                Err(stop) => write!(text, "{stop:?}")?,
-            }
-        }
-        Ok(text)
-    }
-
-    /// Makes a call that reaches memory, if this is one. Each is the first for which the environment is served.
-    fn memory_call(
-        &mut self,
-        alloc: Global,
-        call: &str,
-        given: &str,
-    ) -> Result<Option<String>, AllocError> {
-        self.served.serve(self.slot);
-        if !self.served.is_live() {
-            return Ok(Some(String::from_str(alloc, "gone")?));
-        }
-        let [va, word, ..] = numbers(given);
-        let (served, host) = (&mut self.served, &mut self.host);
-        let told = match call {
-            "load" => tell_word(alloc, served.load(host, aligned(va))),
-            "load_byte" => tell_word(alloc, served.load_byte(host, va).map(u32::from)),
-            "store" => tell_done(alloc, served.store(host, aligned(va), word)),
-            "store_byte" => tell_done(alloc, served.store_byte(host, va, (word % 256) as u8)),
-            "exchange" => tell_word(alloc, served.exchange(host, aligned(va), word)),
-            "restore_frame" => tell_done(alloc, served.restore_frame(host)),
-            _ => return Ok(None),
-        };
-        Ok(Some(told?))
-    }
-
     /// Makes a system call.
     fn system_call(&mut self, alloc: Global, given: &str) -> Result<String, AllocError> {
         self.served.serve(self.slot);
@@ -111,21 +67,26 @@ impl Bench {
         }
     }
 
-    /// What is told for a line.
+    /// What is told for a line. Each call is the first for which the environment is served.
     pub(crate) fn asked(
         &mut self,
         alloc: Global,
         call: &str,
         given: &str,
     ) -> Result<String, AllocError> {
-        if let Some(told) = self.memory_call(alloc, call, given)? {
-            return Ok(told);
+        self.served.serve(self.slot);
+        if !self.served.is_live() {
+            return String::from_str(alloc, "gone");
         }
+        let [va, word, ..] = numbers(given);
+        let (served, host) = (&mut self.served, &mut self.host);
         match call {
-            "bytes" => {
-                let [va, len, ..] = numbers(given);
-                self.bytes(alloc, va, len)
-            }
+            "load" => tell_word(alloc, served.load(host, aligned(va))),
+            "load_byte" => tell_word(alloc, served.load_byte(host, va).map(u32::from)),
+            "store" => tell_done(alloc, served.store(host, aligned(va), word)),
+            "store_byte" => tell_done(alloc, served.store_byte(host, va, (word % 256) as u8)),
+            "exchange" => tell_word(alloc, served.exchange(host, aligned(va), word)),
+            "restore_frame" => tell_done(alloc, served.restore_frame(host)),
             "system" => self.system_call(alloc, given),
             _ => self.own_call(alloc, call, given),
         }
