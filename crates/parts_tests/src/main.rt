@@ -1,5 +1,46 @@
 //! What is tested of the kernel's parts: schedules, trap frames, messages, the table of environments and address spaces.
-//! The lines of the input are cases (`test_cases`).
+//! Each line of `stdin` is a case (`test_cases`), and `stdout` has what is wanted, worked out by hand.
+//!
+//! | Case of `schedules` | What is told |
+//! |---|---|
+//! | `read "TEXT"` | the numbers of a schedule, or its fault |
+//! | `quantum TURN` | the steps of a turn by the schedule 3, 5 |
+//! | `too_many`, `no_memory` | the text of this fault |
+//!
+//! | Case of `frames` | What is told |
+//! |---|---|
+//! | `upcall_place ESP` | where the frame of a fault with this ESP stands |
+//! | `frame_words VA ERROR ESP`, `frame_bytes ..`, `from_frame ..` | the frame of a fault, some of its bytes, the registers that it tells |
+//! | `record_words PLACE BYTE ..`, `from_record ..` | the words of a record with these bytes; EFLAGS, ESP and EIP that it tells |
+//!
+//! | Case of `messages` | What is told |
+//! |---|---|
+//! | `wants VA SENDER` | what the rendezvous holds then: whether it waits, the sender that is waited for, the destination, the word, its sender and the bits of its page |
+//! | `holds` | the same |
+//! | `accepts SENDER`, `offer SENDER WORD PERM` | whether the word is waited for, or has come |
+//!
+//! | Case of `environments` | What is told |
+//! |---|---|
+//! | `is_unused` | whether there is no environment |
+//! | `allot` | the slot and the id of a new environment |
+//! | `end SLOT`, `runnable SLOT` | nothing: it ends, or waits for a turn |
+//! | `renew SLOT TIMES` | the last id, where the slot is freed and given so often |
+//! | `record SLOT`, `full_record` | the record of a slot, and of an environment with no part empty |
+//! | `first_next`, `next_behind SLOT` | who gets the first turn, and the turn behind that of a slot |
+//!
+//! | Case of `spaces` | What is told |
+//! |---|---|
+//! | `take FRAMES`, `create` | the last of so many frames that are taken, and the directory of a new space |
+//! | `count FRAME` | how often it is named |
+//! | `page VA BITS`, `page_of_six VA BITS OFFSET` | the frame of a new page, which has the bytes 1 to 6 from the offset on |
+//! | `share VA VA BITS` | whether the first page could be put at the second address |
+//! | `remove VA`, `destroy` | nothing: the page, or the space, is no more |
+//! | `directory`, `look VA` | the frame of the directory, and that of a page with its bits |
+//! | `reads VA`, `writes VA` | where an access leads, or its fault |
+//! | `word VA`, `byte VA`, `byte_or_fault VA` | what a user reads |
+//! | `bytes VA`, `bytes_by VA VA` | the bytes that are at hand, by the page at hand of the first address |
+//! | `put_word VA WORD`, `put_byte VA BYTE` | whether it was written |
+//! | `set_word SLOT INDEX WORD`, `set_words SLOT 0 WORD` | nothing: a word of a slot's record is set, or all |
 #![tactic(auto)]
 
 mod bench;
