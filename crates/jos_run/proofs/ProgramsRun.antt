@@ -20,18 +20,18 @@ use Rattle.jos_run.specs.RunEnds.{AnswersBy, HasEndCause, Ran, RunsFrom, end_of_
 use Rattle.jos_run.specs.Start.{start}
 use Rattle.jos_run.specs.RunReports.{IsTold, IsToldCutOff}
 use Rattle.jos_run.specs.RunSteps.{HasGone}
-use Rattle.jos_run.specs.Running.{state_of, HasRoom, Holds, Runs, HasRun, report_of, cut_off_of}
+use Rattle.jos_run.specs.Running.{state_of, turns_so_far, HasRoom, Holds, Runs, HasRun, report_of, cut_off_of}
 use Rattle.jos_run.proofs.RunEnds.{told_whole, told_cut_off}
 
 pub ended_told : {budget : ℕ} {r t : LibraryRun} {a b : Option (List ℕ)} (end : End) (report : Reported) (schedule : List ℕ) (most : ℕ)
     (s : KernelState) (traps : List TrapLine) →
-    HasRun budget (Ok end) (from_to r t) (from_to a b) → r.steps ≡ 0 → r.trace ≡ buffer [] most → Holds t → r.schedule ≡ schedule →
+    HasRun budget (Ok end) (from_to r t) (from_to a b) → r.steps ≡ 0 → r.trace ≡ buffer [] most → turns_so_far r ≡ [] → Holds t → r.schedule ≡ schedule →
     report ≡ report_of t end → traps ≡ t.trace.items → state_of r ≡ s →
     (first : AbstractState) (frames : ℕ) → Runs first frames r [] →
     (printed : List ℕ) × Gains (from_to a b) printed × IsTold schedule first frames budget report printed
     × HasGone s budget most report traps printed
-ended_told {budget = budget} {r = r} {t = t} end report schedule most s traps ran none empty holds scheduled reported kept begun first frames h =
-    let told = told_whole end most ran none empty holds first frames h in (
+ended_told {budget = budget} {r = r} {t = t} end report schedule most s traps ran none empty no_turns holds scheduled reported kept begun first frames h =
+    let told = told_whole end most ran none empty no_turns holds first frames h in (
       told.0,
       told.1,
       subst (λ (numbers : List ℕ). IsTold numbers first frames budget report told.0) scheduled

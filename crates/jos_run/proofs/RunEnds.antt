@@ -32,13 +32,13 @@ use Rattle.jos_run.specs.declared.library_run.LibraryRun.{LibraryRun}
 use Rattle.jos_run.specs.AbstractTurns.{next_slot, is_client, any_live, end_of}
 use Rattle.jos_run.specs.LibraryRuns.{others_live, end_seen, turn_of, IsBetween, IsInTurn}
 use Rattle.jos_run.specs.RunReports.{HasEnded, CutOffBy, ToldBy, IsTold, IsToldCutOff}
-use Rattle.jos_run.specs.RunSteps.{traps_of, end_at, HasGone}
+use Rattle.jos_run.specs.RunSteps.{traps_of, turns_with, end_at, HasGone}
 use Rattle.jos_run.specs.Running.{state_of, made, turns_so_far, HasRoom, Holds, StandsBy, RunsBy, Runs, IsChosen, Went, HasFailed}
 use Rattle.jos_run.specs.Running.{EndsBy, HasRun, report_of, cut_off_of}
 use Rattle.jos_run.proofs.Advancing.{awake_running}
 use Rattle.jos_run.proofs.Choices.{end_stands, ended_none, next_stands, runs_stand, only_first_serves}
 use Rattle.jos_run.proofs.RunsKept.{run_begins, between_fits, in_turn_ran, in_turn_fits, running_born}
-use Rattle.jos_run.proofs.RunSteps.{no_step, lead_further, no_trap, traps_further, none_kept, none_written, written_further, end_between, end_in_turn, budget_spent}
+use Rattle.jos_run.proofs.RunSteps.{no_step, lead_further, no_trap, traps_further, none_kept, none_written, written_further, no_turn_more, turns_further, end_between, end_in_turn, budget_spent}
 use Rattle.jos_run.proofs.StepsMade.{none_made, some_made}
 use Rattle.fs_layout.proofs.Below.{some_below-at}
 use Rattle.jos_kernel.proofs.Choices.{runnable_live}
@@ -70,6 +70,7 @@ none_yet r console = record {
   long = refl;
   lead = no_step (state_of r);
   printed_are = sym none_written;
+  turns = no_turn_more (turns_so_far r);
   kept = λ most traps is.
       is ∙ ap (λ (l : List TrapLine). buffer (keep_last most l) most)
       (sym (append-nil traps) ∙ ap (λ (l : List TrapLine). traps ++ l) (sym no_trap));
@@ -88,6 +89,8 @@ went_further {steps = steps} {more = more} {r = r} {s = s} {t = t} {a = a} {b = 
   lead = lead_further v.steps_made w.steps_made (state_of r) (state_of s) (state_of t) v.lead w.lead;
   printed_are =
       (λ i. v.printed_are i ++ w.printed_are i) ∙ sym (written_further v.steps_made w.steps_made);
+  turns = w.turns ∙ ap (λ (l : List Turn). turns_with l w.steps_made) v.turns
+      ∙ sym (turns_further (turns_so_far r) v.steps_made w.steps_made);
   kept = λ most traps is.
       w.kept most (traps ++ traps_of v.steps_made) (v.kept most traps is)
       ∙ ap (λ (l : List TrapLine). buffer (keep_last most l) most)
@@ -310,9 +313,9 @@ turns_within r h = subst (λ (n : ℕ). n ≤ TURN_MAX) (sym (turns_are r)) (by_
 
 -- What the kernel has gone through.
 gone_whole : {budget : ℕ} {r t : LibraryRun} {a b : Option (List ℕ)} (end : End) (most : ℕ) →
-    (ran : HasRun budget (Ok end) (from_to r t) (from_to a b)) → r.steps ≡ 0 → r.trace ≡ buffer [] most → Holds t →
+    (ran : HasRun budget (Ok end) (from_to r t) (from_to a b)) → r.steps ≡ 0 → r.trace ≡ buffer [] most → turns_so_far r ≡ [] → Holds t →
     HasGone (state_of r) budget most (report_of t end) t.trace.items ran.2.printed
-gone_whole {budget = budget} {r = r} {t = t} end most ran none empty holds =
+gone_whole {budget = budget} {r = r} {t = t} end most ran none empty no_turns holds =
     let went = ran.2 in
     let steps : t.steps ≡ ran.0 = (let all : t.steps ≡ r.steps + ran.0 = went.steps_are in omega arith) in
     record {
@@ -320,7 +323,8 @@ gone_whole {budget = budget} {r = r} {t = t} end most ran none empty holds =
       now = state_of t;
       lead = went.lead;
       steps_are = steps ∙ sym went.long;
-      turns = turns_are t ∙ sym holds.turns;
+      turns = went.turns ∙ ap (λ (l : List Turn). turns_with l went.steps_made) no_turns;
+      turns_count = turns_are t ∙ sym holds.turns;
       refused = refl;
       upcalls = refl;
       end = subst (λ (n : ℕ). end_at (state_of t) (length (turns_so_far t)) (n == budget) ≡ Some end) (sym steps) ran.4;
@@ -331,11 +335,11 @@ gone_whole {budget = budget} {r = r} {t = t} end most ran none empty holds =
 
 -- The report of a run that has ended by itself.
 pub told_whole : {budget : ℕ} {r t : LibraryRun} {a b : Option (List ℕ)} (end : End) (most : ℕ) →
-    HasRun budget (Ok end) (from_to r t) (from_to a b) → r.steps ≡ 0 → r.trace ≡ buffer [] most → Holds t →
+    HasRun budget (Ok end) (from_to r t) (from_to a b) → r.steps ≡ 0 → r.trace ≡ buffer [] most → turns_so_far r ≡ [] → Holds t →
     (first : AbstractState) (frames : ℕ) → Runs first frames r [] →
     (printed : List ℕ) × Gains (from_to a b) printed × IsTold r.schedule first frames budget (report_of t end) printed
     × HasGone (state_of r) budget most (report_of t end) t.trace.items printed
-told_whole {budget = budget} {r = r} {t = t} end most ran none empty holds first frames h =
+told_whole {budget = budget} {r = r} {t = t} end most ran none empty no_turns holds first frames h =
     let went = ran.2 in
     let within : ran.0 ≤ budget = ran.1 in
     let steps : t.steps ≡ ran.0 = (let all : t.steps ≡ r.steps + ran.0 = went.steps_are in omega arith) in (
@@ -352,7 +356,7 @@ told_whole {budget = budget} {r = r} {t = t} end most ran none empty holds first
             went.printed) went.schedule
             (by_first steps t.first_refused (went.runs first frames [] h) (ran.3 first frames [] h));
       },
-      gone_whole end most ran none empty holds,
+      gone_whole end most ran none empty no_turns holds,
     )
   where
     spent_all : t.steps ≡ ran.0 → (ran.0 == budget) ≡ true → t.steps ≡ budget

@@ -11,11 +11,13 @@ use Rattle.jos_base.specs.KernelState.{KernelState, slot_at, with_status, turn_e
 use Rattle.jos_sched.specs.RoundRobin.{next}
 use Rattle.jos_kernel.specs.declared.report.End.{End}
 use Rattle.jos_kernel.specs.declared.report.End.TheVariants.{Done, Stuck, Budget, TurnsFull}
+use Rattle.jos_kernel.specs.declared.report.Turn.{Turn}
 use Rattle.jos_kernel.specs.declared.trace.TrapLine.{TrapLine}
 use Rattle.jos_kernel.specs.Kernel.{traced}
+use Rattle.lib_os.specs.declared.progress.Progress.{Progress}
 use Rattle.lib_os.proofs.Slots.{slot_put}
-use Rattle.jos_run.specs.LibraryRuns.{others_live, end_seen}
-use Rattle.jos_run.specs.RunSteps.{StepMade, passed, IsMade, LeadTo, one_if, traps_of, written_in, is_in_turn, end_at}
+use Rattle.jos_run.specs.LibraryRuns.{turn_of, seen_after, hidden_after, others_live, end_seen}
+use Rattle.jos_run.specs.RunSteps.{StepMade, passed, IsMade, LeadTo, one_if, traps_of, written_in, with_step, with_last_step, counted_in, turns_with, is_in_turn, end_at}
 
 -- ---- one behind the other
 
@@ -96,6 +98,41 @@ written_further [] more = refl
 written_further (step ∷ rest) more =
     ap (λ (l : List ℕ). step.written ++ l) (written_further rest more)
     ∙ sym (append_assoc step.written (written_in rest) (written_in more))
+
+-- ---- turns
+
+pub no_turn_more : (turns : List Turn) → turns ≡ turns_with turns []
+unfolding turns_with
+no_turn_more turns = refl
+
+pub turns_further : (turns : List Turn) (steps more : List StepMade) →
+    turns_with turns (steps ++ more) ≡ turns_with (turns_with turns steps) more
+unfolding turns_with
+turns_further turns [] more = refl
+turns_further turns (step ∷ rest) more = turns_further (counted_in turns step) rest more
+
+with_last : (turns : List Turn) (turn : Turn) (progress : Progress) →
+    with_last_step (turns ++ turn ∷ []) progress ≡ turns ++ with_step turn progress ∷ []
+unfolding with_last_step
+with_last [] turn progress = refl
+with_last (first ∷ []) turn progress = refl
+with_last (first ∷ next ∷ rest) turn progress = ap (λ (l : List Turn). first ∷ l) (with_last (next ∷ rest) turn progress)
+
+-- a step of a turn that begins, or of the last one
+pub turn_longer : (begins : Bool) (turns : List Turn) (step : StepMade) (slot visible hidden : ℕ) → step.begins ≡ begins →
+    (begins ≡ true → (slot ≡ step.slot) × (visible ≡ 0) × (hidden ≡ 0)) →
+    turns_with (if begins then turns else turns ++ turn_of slot visible hidden ∷ []) (step ∷ [])
+    ≡ turns ++ turn_of slot (seen_after step.progress visible) (hidden_after step.progress hidden) ∷ []
+unfolding turns_with
+turn_longer true turns step slot visible hidden is begun =
+    let new = begun refl in
+    ap (λ (c : Bool). with_last_step (if c then turns ++ turn_of step.slot 0 0 ∷ [] else turns) step.progress) is
+    ∙ with_last turns (turn_of step.slot 0 0) step.progress
+    ∙ (λ i. turns ++ turn_of (sym new.0 i) (seen_after step.progress (sym new.1 i)) (hidden_after step.progress (sym new.2 i)) ∷ [])
+turn_longer false turns step slot visible hidden is begun =
+    let all = turns ++ turn_of slot visible hidden ∷ [] in
+    ap (λ (c : Bool). with_last_step (if c then all ++ turn_of step.slot 0 0 ∷ [] else all) step.progress) is
+    ∙ with_last turns (turn_of slot visible hidden) step.progress
 
 -- ---- the end
 

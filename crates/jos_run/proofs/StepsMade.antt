@@ -30,12 +30,12 @@ use Rattle.jos_run.specs.AbstractTurns.{steps_taken}
 use Rattle.jos_run.specs.AbstractTurns.{turn_begun as begun_at}
 use Rattle.jos_run.specs.LibraryRuns.{turn_of, IsBetween, IsInTurn, seen_after, hidden_after}
 use Rattle.jos_run.specs.RunReports.{IsRefused, IsCutOff, CutOffBy}
-use Rattle.jos_run.specs.RunSteps.{StepMade, LeadTo, traps_of, written_in}
+use Rattle.jos_run.specs.RunSteps.{StepMade, LeadTo, traps_of, written_in, turns_with}
 use Rattle.jos_run.specs.Steps.{Raises}
 use Rattle.jos_run.specs.Running.{state_of, made, turns_so_far, Holds, StandsBy, StandsSo, RunsBy, Runs, IsChosen, entered, noted}
 use Rattle.jos_run.specs.Running.{made_after, goes_on_after, turn_after, CountedBy, Counted, Went, HasFailed}
 use Rattle.jos_run.proofs.Advancing.{Comes, stepped, turn_over}
-use Rattle.jos_run.proofs.RunSteps.{lead_one, kept_one, written_one}
+use Rattle.jos_run.proofs.RunSteps.{lead_one, kept_one, written_one, turn_longer}
 use Rattle.jos_run.proofs.Refusals.{refused_further, refused_longer}
 use Rattle.jos_run.proofs.RunsKept.{turn_begins, in_turn_ran, step_failed, failed_fits}
 
@@ -431,6 +431,35 @@ writes : (r m : LibraryRun) (n : ℕ) (done : Progress) (bytes : List ℕ) (k : 
 unfolding step_of
 writes r m n done bytes k = sym (written_one (step_of r m n done bytes k))
 
+-- the turns with it
+turns_on : (r m after : LibraryRun) (n : ℕ) (done : Progress) (bytes : List ℕ) (k : Makes r m n done bytes) → Counted m after done →
+    turns_so_far after ≡ turns_with (turns_so_far r) (step_of r m n done bytes k ∷ [])
+unfolding step_of
+turns_on r m after n done bytes k counts =
+    told_turns (goes_on_after m done) m after done counts
+    ∙ (λ i. (k.turns i).items ++ turn_of (whose i) (seen_after done (k.visible i)) (hidden_after done (k.hidden i)) ∷ [])
+    ∙ sym (by_begins (made r == 0) refl)
+  where
+    -- the slot whose turn it is, where one is under way
+    whose : m.served.slot ≡ (if made r == 0 then n else r.served.slot)
+    whose = k.slot ∙ by_test (made r == 0) refl
+      where
+        by_test : (c : Bool) → (made r == 0) ≡ c → n ≡ (if c then n else r.served.slot)
+        by_test true is = refl
+        by_test false is = k.chosen.turn (some_made r is)
+
+    by_begins : (c : Bool) → (made r == 0) ≡ c →
+        turns_with (if c then r.turns.items else r.turns.items ++ turn_of r.served.slot r.visible r.hidden ∷ [])
+        (step_of r m n done bytes k ∷ [])
+        ≡ r.turns.items ++ turn_of (if c then n else r.served.slot) (seen_after done r.visible) (hidden_after done r.hidden) ∷ []
+    by_begins true is =
+        let none : made r ≡ 0 = none_made r is in
+        turn_longer true r.turns.items (step_of r m n done bytes k) n r.visible r.hidden is
+        (λ so. (refl, omega (arith, none), omega (arith, none)))
+    by_begins false is =
+        turn_longer false r.turns.items (step_of r m n done bytes k) r.served.slot r.visible r.hidden is
+        (λ so. absurd (let contradiction : false ≡ true = so in cc))
+
 -- one step more was made
 pub went_one : NeedIsReached → (r m after : LibraryRun) (n : ℕ) (done : Progress) (bytes : List ℕ) (console : Around (Option (List ℕ))) →
     Makes r m n done bytes → Counted m after done → Gains console bytes → Went 1 (from_to r after) console
@@ -443,6 +472,7 @@ went_one reached r m after n done bytes console k counts gains = record {
   long = refl;
   lead = leads_on r m after n done bytes k counts;
   printed_are = writes r m n done bytes k;
+  turns = turns_on r m after n done bytes k counts;
   kept = keeps_traps r m after n done bytes k counts;
   runs = runs_further reached r m after n done bytes k counts;
 }

@@ -6,12 +6,13 @@ use Rattle.jos_base.specs.KernelState.{KernelState, slot_at, turn_begun, turn_en
 use Rattle.jos_sched.specs.RoundRobin.{next}
 use Rattle.jos_kernel.specs.declared.report.End.{End}
 use Rattle.jos_kernel.specs.declared.report.End.TheVariants.{Budget}
+use Rattle.jos_kernel.specs.declared.report.Turn.{Turn}
 use Rattle.jos_kernel.specs.declared.trace.TrapLine.{TrapLine}
 use Rattle.jos_kernel.specs.Reports.{Reported}
 use Rattle.lib_os.specs.declared.progress.Progress.{Progress}
 use Rattle.lib_os.specs.LibrarySteps.{Keeps, Leaves}
 use Rattle.lib_os.specs.Places.{place_of}
-use Rattle.jos_run.specs.LibraryRuns.{end_seen}
+use Rattle.jos_run.specs.LibraryRuns.{turn_of, seen_after, hidden_after, end_seen}
 use Rattle.jos_run.specs.Steps.{Raises}
 
 -- ---- steps
@@ -62,6 +63,28 @@ unfoldable pub written_in : List StepMade → List ℕ
 written_in [] = []
 written_in (step ∷ rest) = step.written ++ written_in rest
 
+-- ---- turns
+
+-- a turn with one more step
+abbrev pub with_step : Turn → Progress → Turn
+with_step turn progress =
+    turn_of turn.slot (seen_after progress turn.visible) (hidden_after progress turn.hidden)
+
+-- the same of the last turn of a list
+unfoldable pub with_last_step : List Turn → Progress → List Turn
+with_last_step [] progress = []
+with_last_step (turn ∷ []) progress = with_step turn progress ∷ []
+with_last_step (turn ∷ next ∷ rest) progress = turn ∷ with_last_step (next ∷ rest) progress
+
+-- the turns with a step, which is the first of a turn or one more of the last
+abbrev pub counted_in : List Turn → StepMade → List Turn
+counted_in turns step = with_last_step (if step.begins then turns ++ turn_of step.slot 0 0 ∷ [] else turns) step.progress
+
+-- the turns behind these, which the steps make up
+unfoldable pub turns_with : List Turn → List StepMade → List Turn
+turns_with turns [] = turns
+turns_with turns (step ∷ rest) = turns_with (counted_in turns step) rest
+
 -- ---- the end
 
 -- whether the slot that had the last turn is in it still
@@ -85,7 +108,8 @@ pub record HasGone (s : KernelState) (budget most_traps : ℕ) (report : Reporte
   pub now : KernelState
   pub lead : LeadTo steps s now
   pub steps_are : report.steps ≡ length steps
-  pub turns : length report.turns ≡ now.turns
+  pub turns : report.turns ≡ turns_with [] steps
+  pub turns_count : length report.turns ≡ now.turns
   pub refused : report.refused ≡ now.refusals
   pub upcalls : report.upcalls ≡ now.upcalls
   pub end : end_at now (length report.turns) (report.steps == budget) ≡ Some report.end

@@ -23,7 +23,7 @@ use Rattle.lib_os.specs.Need.{EachHasUse}
 use Rattle.jos_run.specs.declared.library_run.LibraryRun.{LibraryRun}
 use Rattle.jos_run.specs.Served.{kernel_state}
 use Rattle.jos_run.specs.LibraryRuns.{turn_of, IsBetween, IsInTurn, seen_after, hidden_after, end_seen}
-use Rattle.jos_run.specs.RunSteps.{StepMade, LeadTo, traps_of, written_in, is_in_turn, end_at}
+use Rattle.jos_run.specs.RunSteps.{StepMade, LeadTo, traps_of, written_in, turns_with, is_in_turn, end_at}
 use Rattle.jos_run.specs.RunReports.{IsRefused, HasEnded, steps_of, CutOffBy}
 
 abbrev pub state_of : LibraryRun → KernelState
@@ -139,6 +139,7 @@ pub record Went (steps : ℕ) (run : Around LibraryRun) (console : Around (Optio
   pub long : length steps_made ≡ steps
   pub lead : LeadTo steps_made (state_of run.before) (state_of run.after)
   pub printed_are : printed ≡ written_in steps_made
+  pub turns : turns_so_far run.after ≡ turns_with (turns_so_far run.before) steps_made
   pub kept : (most : ℕ) (traps : List TrapLine) → run.before.trace ≡ buffer (keep_last most traps) most →
       run.after.trace ≡ buffer (keep_last most (traps ++ traps_of steps_made)) most
   pub runs : (first : AbstractState) (frames : ℕ) (before : List ℕ) → Runs first frames run.before before →

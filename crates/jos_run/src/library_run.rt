@@ -82,6 +82,7 @@ impl LibraryRun {
         ensures state { state_of result ≡ kernel_state served }
         ensures schedule { result.schedule ≡ schedule }
         ensures steps { result.steps ≡ 0 }
+        ensures told { turns_so_far result ≡ [] }
         ensures trace { result.trace ≡ trace }
         ensures holds { Holds result }
         ensures runs { (first : AbstractState) (frames : ℕ) → Stands (kernel_state served) first → IsNew (kernel_state served) frames →
