@@ -115,7 +115,7 @@ unfolding step upd
 waits = refl
 
 may_wait_for_it : may_wait (two (service.Wait 0x1002) service.Exit) 1 1000 ≡ true
-unfolding may_wait upd
+unfolding may_wait upd abs_step library_step
 may_wait_for_it = refl
 
 -- when the other has ended, it is answered

@@ -120,7 +120,7 @@ pipe_may_wait a n (service.Write fd va len) (Some pipe) quantum =
 pipe_may_wait a n _ (Some pipe) quantum = is_moved_by_another a n pipe
 
 abbrev pub service_may_wait : AbstractState → ℕ → Born → Service → ℕ → Bool
-service_may_wait a n b (service.Wait id) quantum = lives a id
+service_may_wait a n b (service.Wait id) quantum = lives a id && is_none (abs_step a n)
 service_may_wait a n b (service.Send id value va) quantum = lives a id && is_none (abs_step a n)
 service_may_wait a n b service quantum =
     waits_to_ask a n || pipe_may_wait a n service (pipe_at a b (moved_descriptor service)) quantum

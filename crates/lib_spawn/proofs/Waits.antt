@@ -1,6 +1,7 @@
 -- wait: what it tries tells whether the other lives, in both systems; while it does, the environment waits.
-use Rattle.std.proofs.Common.{◌≡◌, ◌≢◌, ◌∙◌, ◌==◌, ◌%◌, ◌||◌, ◌⊎◌, inl, inr, ℕ, Bool, true, false, List, [], ◌∷◌, Option, Some, None, Ok}
+use Rattle.std.proofs.Common.{◌≡◌, ◌≢◌, ◌∙◌, ◌==◌, ◌%◌, ◌&&◌, ◌||◌, ◌⊎◌, inl, inr, ℕ, Bool, true, false, List, [], ◌∷◌, Option, Some, None, Ok}
 use Rattle.std.proofs.Common.{refl, sym, ap, subst, arith, if◌then◌else◌}
+use Rattle.std.specs.Prelude.{is_none}
 use Rattle.std.proofs.lemmas.Bool.Decides.{nat_tests}
 use Rattle.jos_base.specs.declared.called.Called.{Called}
 use Rattle.jos_base.specs.declared.called.Called.TheVariants.{Answered}
@@ -17,8 +18,8 @@ use Rattle.lib_os.specs.declared.place.Step.{Step}
 use Rattle.lib_os.specs.declared.place.Step.TheVariants as step
 use Rattle.lib_os.specs.declared.progress.Progress.TheVariants as progress
 use Rattle.lib_os.specs.declared.service.Service.TheVariants as service
-use Rattle.lib_os.specs.AbstractRun.{may_wait}
-use Rattle.lib_os.specs.AbstractState.{AbstractState, Born, born, entered}
+use Rattle.lib_os.specs.AbstractRun.{abs_step, may_wait, phase_may_wait, slot_may_wait}
+use Rattle.lib_os.specs.AbstractState.{AbstractState, Born, Slot, Phase, born, entered}
 use Rattle.lib_os.specs.Answers as abstract_system
 use Rattle.lib_os.specs.LibraryCall.{library_step}
 use Rattle.lib_os.specs.LibrarySteps.{IsLibraryStep, Follows, GoesOn, NothingRefused, answered}
@@ -61,10 +62,23 @@ over_step a n b regs id some other gone =
     let second : (id == b.id) ≡ false = grind (arith, nat_tests) in
     rw (first, second, gone) refl
 
+no_step_yet : (a : AbstractState) (n : ℕ) (b : Born) (regs : Regs) (id : ℕ) → id ≢ 0 → id ≢ b.id → lives a id ≡ true →
+    library_step a n b regs (service.Wait id) entered ≡ None
+unfolding library_step
+no_step_yet a n b regs id some other there =
+    let first : (id == 0) ≡ false = grind (arith, nat_tests) in
+    let second : (id == b.id) ≡ false = grind (arith, nat_tests) in
+    rw (first, second, there) refl
+
 waits_step : (a : AbstractState) (n : ℕ) (b : Born) (k : KernelSlot) (id quantum : ℕ) → a.slots n ≡ born b →
-    IsIn k b (service.Wait id) entered → lives a id ≡ true → may_wait a n quantum ≡ true
+    IsWaiting k b id → lives a id ≡ true → may_wait a n quantum ≡ true
 unfolding may_wait
-waits_step a n b k id quantum is at there = rw (is, at.phase) there
+waits_step a n b k id quantum is at there =
+    let none : abs_step a n ≡ None =
+    step_in a n b k (service.Wait id) entered is at.is_in ∙ no_step_yet a n b k.registers id at.some at.other there in
+    ap (λ (x : Slot). slot_may_wait a n x quantum) is
+    ∙ ap (λ (x : Phase). phase_may_wait a n b x quantum) at.is_in.phase
+    ∙ (λ i. there i && is_none (none i))
 
 -- ---- the first step
 
@@ -210,7 +224,7 @@ module _ (s mid : KernelState) (n id perm word : ℕ) (called : Called) (output 
                     (record { is_in = in_with_words words at.is_in; some = at.some; other = at.other })),
               ),
             ),
-            waits_step a n v.b (slot_at s n) id SHORT_QUANTUM v.is at.is_in there,
+            waits_step a n v.b (slot_at s n) id SHORT_QUANTUM v.is at there,
           )
 
       goes : (names : Names) (a : AbstractState) → StandsFor names s a → Follows progress.Waited n after a []
