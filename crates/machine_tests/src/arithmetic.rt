@@ -1,6 +1,6 @@
 //! Cases of jos_alu.
 
-use crate::words::{Words, named};
+use case_words::{Words, named};
 use jos_alu::{
     Computed, Condition, Operation, Shift, Sign, Width, advance, bit_of, combine, condition_holds,
     decrease, double_register, extend, halves_of, increase, is_negative, is_set, is_too_long,
@@ -9,6 +9,12 @@ use jos_alu::{
 };
 use jos_base::{Regs, UTEXT};
 use std::alloc::AllocError;
+
+const WIDTHS: [(&str, Width); 3] = [
+    ("8", Width::Bits8),
+    ("16", Width::Bits16),
+    ("32", Width::Bits32),
+];
 
 const OPERATIONS: [(&str, Operation); 8] = [
     ("add", Operation::Add),
@@ -42,10 +48,15 @@ fn sign(words: &mut Words) -> Sign {
     named(&SIGNS, words.word()).unwrap_or(Sign::Unsigned)
 }
 
+/// A width in bits.
+fn width(words: &mut Words) -> Width {
+    named(&WIDTHS, words.word()).unwrap_or(Width::Bits8)
+}
+
 /// A value with EFLAGS, by EFLAGS before, a width and up to three numbers.
 fn computed(kind: &str, mut words: Words) -> Option<Computed> {
     let eflags = words.number();
-    let width = words.width();
+    let width = width(&mut words);
     let a = words.number();
     let b = words.number();
     let c = words.number();
@@ -69,13 +80,13 @@ fn computed(kind: &str, mut words: Words) -> Option<Computed> {
 fn fact(kind: &str, mut words: Words) -> Option<bool> {
     match kind {
         "is-set" => Some(is_set(words.number(), words.number())),
-        "is-negative" => Some(is_negative(words.width(), words.number())),
+        "is-negative" => Some(is_negative(width(&mut words), words.number())),
         "holds" => {
             let eflags = words.number();
             let condition = named(&CONDITIONS, words.word())?;
             Some(condition_holds(eflags, condition))
         }
-        "is-too-long" => Some(is_too_long(sign(&mut words), words.width(), words.long())),
+        "is-too-long" => Some(is_too_long(sign(&mut words), width(&mut words), words.long())),
         _ => None,
     }
 }
@@ -84,12 +95,12 @@ fn fact(kind: &str, mut words: Words) -> Option<bool> {
 fn number(kind: &str, mut words: Words) -> Option<u64> {
     match kind {
         "bit-of" => Some(bit_of(words.number() != 0) as u64),
-        "lowest" => Some(lowest(words.width(), words.long()) as u64),
-        "extend" => Some(extend(sign(&mut words), words.width(), words.number()) as u64),
-        "sign-extend" => Some(sign_extend(words.width(), words.number()) as u64),
+        "lowest" => Some(lowest(width(&mut words), words.long()) as u64),
+        "extend" => Some(extend(sign(&mut words), width(&mut words), words.number()) as u64),
+        "sign-extend" => Some(sign_extend(width(&mut words), words.number()) as u64),
         "product" => Some(product_of(
             sign(&mut words),
-            words.width(),
+            width(&mut words),
             words.number(),
             words.number(),
         )),
@@ -103,7 +114,7 @@ fn by_each_count(out: &mut String, mut words: Words) -> Result<(), AllocError> {
     let Some(shift) = named(&SHIFTS, words.word()) else {
         return out.push_str("no shift");
     };
-    let width = words.width();
+    let width = width(&mut words);
     let value = words.number();
     let other = words.number();
     for count in 0..32u32 {
@@ -118,7 +129,7 @@ fn by_each_count(out: &mut String, mut words: Words) -> Result<(), AllocError> {
 fn quotient(out: &mut String, mut words: Words) -> Result<(), AllocError> {
     let halves = quotient_of(
         sign(&mut words),
-        words.width(),
+        width(&mut words),
         words.long(),
         words.number(),
     );

@@ -2,7 +2,7 @@
 
 ghost use Rattle.std.specs.Prelude.{◌<◌};
 
-use crate::words::{Words, named};
+use case_words::{Words, named};
 use jos_base::INSTRUCTION_MAX;
 use jos_isa::{
     Decoded, Disp, Insn, MemArg, Operand, Repeat, Row, decode, encode, lawful, least_length, mov,

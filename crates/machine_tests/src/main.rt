@@ -1,4 +1,4 @@
-//! What the crates of the machine answer, a case a line.
+//! What jos_alu and jos_isa answer, and the numbers of errors, a case a line.
 //!
 //! Each line of `stdin` is a case, and the line of `stdout` with the same number has its name and what is wanted for it,
 //! which comes from outside: results of a real processor, what other programs read and write, and values that were worked
@@ -18,28 +18,13 @@
 //! | `isa group OPCODE` | which second bytes go on and which are refused |
 //! | `isa counts bytes`, `isa counts pairs` | how many of them are found, short and illegal |
 //! | `isa least BYTES` | the least length by them |
-//! | `cpu run CODE REGISTERS FLAGS END MOST` | the registers, of EFLAGS these flags, EIP, and memory as one number |
-//! | `cpu burst CODE REGISTERS FROM MOST TAIL` | how many steps it makes, by themselves and in one burst |
-//! | `cpu under-exo CODE REGISTERS`, `cpu under-run ..` | what comes of a step, and how many bytes it reaches |
-//! | `elf parse LENGTH FILL BYTES..` | what a file says, or its fault |
-//! | `elf cut LENGTH FILL BYTES..` | below which length it is told to be cut at its end |
-//! | `elf fault NAME NUMBERS` | a fault's text as `text` and as `{}` has it |
-//! | `elf write NAME` | an image that is written, and what it is read as |
-//! | `asm BASE ITEMS` | the bytes of a program, or its fault |
-//! | `demo "NAME"` | whether there is such an example program, and its file |
 #![tactic(auto)]
 
 mod arithmetic;
-mod images;
 mod instructions;
-mod memory;
-mod processor;
-mod programs;
-mod words;
 
-use crate::words::{Words, named};
+use case_words::{Answers, Words, named, tell_cases};
 use jos_base::Errno;
-use jos_cpu::Decodings;
 use std::alloc::Global;
 use std::io;
 
@@ -53,38 +38,26 @@ const ERRORS: [(&str, Errno); 7] = [
     ("BadPath", Errno::BadPath),
 ];
 
-/// What the functions answer to a case. What was decoded is kept from one case to the next.
-fn answer(alloc: Global, decodings: &mut Decodings, mut words: Words) -> io::Result<String> {
-    let mut out = String::new(alloc);
-    match words.word() {
-        "error" => match named(&ERRORS, words.word()) {
-            Some(errno) => write!(out, "{:x}", errno.code())?,
-            None => out.push_str("no error")?,
-        },
-        "alu" => arithmetic::answer(&mut out, words)?,
-        "isa" => instructions::answer(alloc, &mut out, words)?,
-        "cpu" => processor::answer(alloc, decodings, &mut out, words)?,
-        "elf" => images::answer(alloc, &mut out, words)?,
-        "asm" => programs::assemble(alloc, &mut out, words)?,
-        "demo" => programs::demo(alloc, &mut out, words)?,
-        _ => out.push_str("no case")?,
+/// The functions that are tried.
+#[derive(Clone, Copy)]
+struct Tried;
+
+impl Answers for Tried {
+    fn answer(&mut self, alloc: Global, mut words: Words) -> io::Result<String> {
+        let mut out = String::new(alloc);
+        match words.word() {
+            "error" => match named(&ERRORS, words.word()) {
+                Some(errno) => write!(out, "{:x}", errno.code())?,
+                None => out.push_str("no error")?,
+            },
+            "alu" => arithmetic::answer(&mut out, words)?,
+            "isa" => instructions::answer(alloc, &mut out, words)?,
+            _ => out.push_str("no case")?,
+        }
+        Ok(out)
     }
-    Ok(out)
 }
 
 fn main(rt: HostRuntime) -> io::Result<()> {
-    let alloc = rt.alloc();
-    let mut decodings = Decodings::new(alloc)?;
-    for line in rt.lines(alloc) {
-        let line = line?;
-        let line = line.as_str();
-        if line.is_empty() || line.starts_with('#') {
-            println!(rt; "{line}")?;
-        } else {
-            let (name, case) = line.split_once(": ").unwrap_or((line, line));
-            let text = answer(alloc, &mut decodings, Words::new(case))?;
-            println!(rt; "{name} = {text}")?;
-        }
-    }
-    Ok(())
+    tell_cases(&rt, rt.alloc(), &mut Tried)
 }

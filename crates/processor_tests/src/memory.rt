@@ -3,7 +3,7 @@
 ghost use Rattle.std.specs.Prelude.{◌≡◌, ◌<◌, ◌+◌, ◌%◌, ◌^◌, slice_index, slice_set, if◌then◌else◌};
 ghost use Rattle.jos_cpu.specs.Memory.{Memory, after};
 ghost use Rattle.jos_base.specs.Reach.{write_bit};
-ghost use Rattle.machine_tests.specs.TestMemory.{offset, test_memory_allows, test_memory_fault};
+ghost use Rattle.processor_tests.specs.TestMemory.{offset, test_memory_allows, test_memory_fault};
 
 use jos_alu::Width;
 use jos_base::{Access, FEC_U, FEC_WR, PageFault};
@@ -65,7 +65,7 @@ fn test_memory_fault(va: u32, access: Access) -> MemFault
 }
 
 impl Mem for TestMemory {
-    ghost use Rattle.machine_tests.specs.declared.memory.TestMemory.{TestMemory};
+    ghost use Rattle.processor_tests.specs.declared.memory.TestMemory.{TestMemory};
 
     ghost State = { TestMemory };
 
@@ -137,7 +137,7 @@ impl Mem for TestMemory {
 
     ghost use Rattle.std.specs.Prelude.{refl};
     ghost use Rattle.jos_cpu.specs.MemoryProofs.{set_or_same};
-    ghost use Rattle.machine_tests.specs.MemoryProofs.{either_way};
+    ghost use Rattle.processor_tests.specs.MemoryProofs.{either_way};
 
     ghost lawful = { record {
       reached_rights = λ m va access. either_way m (record m { touched = (m.touched + 1) % 2 ^ 32 }) m.standing (λ w q wanted. test_memory_allows w.base w.locked 128 q wanted) refl;

@@ -1,6 +1,6 @@
 //! Cases of jos_elf.
 
-use crate::words::{Words, bytes_of};
+use case_words::{Words, bytes_of};
 use jos_base::{NoMemory, UTEMP, UTEXT};
 use jos_elf::{ElfFault, Part, parse, write};
 use std::alloc::{AllocError, Global};

@@ -2,12 +2,12 @@ use Rattle.std.proofs.Common.{◌≡◌, ℕ, ◌+◌, ◌<◌, ◌≤◌, ◌/�
 use Rattle.std.specs.Prelude.{nat_le, nat_lt, slice_index, slice_set, if◌then◌else◌}
 use Rattle.std.proofs.lemmas.Bool.Decides.{nat_tests}
 use Rattle.jos_alu.specs.declared.width.Width.TheVariants.{Bits8, Bits32}
-use Rattle.machine_tests.specs.declared.memory.TestMemory.{TestMemory}
+use Rattle.processor_tests.specs.declared.memory.TestMemory.{TestMemory}
 use Rattle.jos_cpu.specs.Memory.{Memory, after, probed}
 use Rattle.jos_cpu.specs.Transfers.{stored_number}
 use Rattle.jos_cpu.specs.AtHand.{IsPut}
-use Rattle.machine_tests.specs.TestMemory.{offset, test_memory_allows, test_memory_fault}
-use Rattle.machine_tests.proofs.memory.TestMemoryMem.put_at_hand.Goals as goal
+use Rattle.processor_tests.specs.TestMemory.{offset, test_memory_allows, test_memory_fault}
+use Rattle.processor_tests.proofs.memory.TestMemoryMem.put_at_hand.Goals as goal
 
 abbrev test_memory_table : Memory TestMemory
 test_memory_table = record {

@@ -5,7 +5,7 @@ ghost use Rattle.std.specs.Bool.{OnTrue};
 ghost use Rattle.jos_asm.specs.Items.{is_relative};
 ghost use Rattle.jos_asm.specs.Calls.{IsName};
 
-use crate::words::Words;
+use case_words::Words;
 use jos_asm::{Builder, NAME_MAX};
 use jos_base::NoMemory;
 use jos_demo::{is_program, program};

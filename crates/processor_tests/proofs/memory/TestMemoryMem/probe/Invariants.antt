@@ -1,9 +1,9 @@
 use Rattle.std.specs.Prelude.{◌-◌, ◌+◌, ◌%◌, ◌^◌, slice_index, slice_set, if◌then◌else◌}
-use Rattle.machine_tests.specs.declared.memory.TestMemory.{TestMemory}
+use Rattle.processor_tests.specs.declared.memory.TestMemory.{TestMemory}
 use Rattle.jos_cpu.specs.Memory.{Memory}
-use Rattle.machine_tests.specs.TestMemory.{offset, test_memory_allows, test_memory_fault}
+use Rattle.processor_tests.specs.TestMemory.{offset, test_memory_allows, test_memory_fault}
 use Rattle.jos_cpu.proofs.Probing.{IsProbing}
-use Rattle.machine_tests.proofs.memory.TestMemoryMem.probe.Given as goal
+use Rattle.processor_tests.proofs.memory.TestMemoryMem.probe.Given as goal
 
 abbrev pub test_memory_table : Memory TestMemory
 test_memory_table = record {

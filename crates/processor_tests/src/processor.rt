@@ -1,7 +1,7 @@
 //! Cases of jos_cpu.
 
 use crate::memory::{LEN, TestMemory};
-use crate::words::Words;
+use case_words::Words;
 use jos_base::{Regs, UTEXT};
 use jos_cpu::{Decodings, Event, Gates, make_burst, step};
 use std::alloc::{AllocError, Global};

@@ -1,15 +1,8 @@
 //! The words of a case, which are read one after another. A word that is none of its kind is read as 0 or as the first
 //! of its kind, so that the answer is not the one that is wanted.
 
-use jos_alu::Width;
 use std::alloc::Global;
 use std::io;
-
-const WIDTHS: [(&str, Width); 3] = [
-    ("8", Width::Bits8),
-    ("16", Width::Bits16),
-    ("32", Width::Bits32),
-];
 
 /// The words that are not read yet.
 #[derive(Clone, Copy)]
@@ -18,6 +11,7 @@ pub struct Words<'a> {
 }
 
 impl<'a> Words<'a> {
+    /// The words of a case.
     pub fn new(rest: &'a str) -> Words<'a> {
         Words { rest }
     }
@@ -34,14 +28,17 @@ impl<'a> Words<'a> {
         word
     }
 
+    /// A number of 32 bits.
     pub fn number(&mut self) -> u32 {
         u32::from_str_radix(self.word(), 16).unwrap_or(0)
     }
 
+    /// A number of 64 bits.
     pub fn long(&mut self) -> u64 {
         u64::from_str_radix(self.word(), 16).unwrap_or(0)
     }
 
+    /// A number of 8 bits.
     pub fn byte(&mut self) -> u8 {
         self.register().unwrap_or(0)
     }
@@ -49,11 +46,6 @@ impl<'a> Words<'a> {
     /// The number of a register, or a word that is none.
     pub fn register(&mut self) -> Option<u8> {
         u8::from_str_radix(self.word(), 16).ok()
-    }
-
-    /// A width in bits.
-    pub fn width(&mut self) -> Width {
-        named(&WIDTHS, self.word()).unwrap_or(Width::Bits8)
     }
 
     /// Bytes, each as two digits.
