@@ -1,7 +1,6 @@
 //! Programs step by step: the server in slot 0, and one environment.
 
 use crate::calls::Bench;
-use crate::telling::numbers;
 use jos_base::{
     EnvId, EnvType, FRAMES_MIN, PTE_P, PTE_U, PTE_W, Perm, Regs, Status, USTACKTOP, UTEXT,
 };
@@ -10,6 +9,7 @@ use jos_run::Served;
 use jos_sys::{Input, System};
 use lib_os::UserOs;
 use std::alloc::{AllocError, Global};
+use test_cases::twelve_numbers;
 
 /// The system with the server, and an environment in slot 1 with a page at `UTEXT`, which it may read and write.
 fn environment(alloc: Global) -> Option<Served> {
@@ -49,7 +49,7 @@ fn program(alloc: Global, code: [u32; 2], registers: Regs) -> Option<Bench> {
 
 /// What comes of so many steps of a program.
 pub(crate) fn steps(alloc: Global, given: &str) -> Result<String, AllocError> {
-    let [first, second, eax, edx, ecx, ebx, count, ..] = numbers(given);
+    let [first, second, eax, edx, ecx, ebx, count, ..] = twelve_numbers(given);
     let registers = Regs {
         eax,
         ecx,

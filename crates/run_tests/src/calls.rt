@@ -4,12 +4,13 @@
 ghost use Rattle.std.specs.Prelude.{◌%◌, ◌≡◌, ◌<◌};
 ghost use Rattle.jos_base.specs.declared.numbers.TheConstants.{NENV};
 
-use crate::telling::{numbers, quoted, registers_in, tell_numbers};
+use crate::telling::{quoted, tell_numbers};
 use jos_base::{Called, Extra, Regs};
 use jos_host::MemHost;
 use jos_run::Served;
 use lib_os::{Stop, UserOs};
 use std::alloc::{AllocError, Global};
+use test_cases::{given_registers, twelve_numbers};
 
 /// An environment in a slot, over a host without files and input at which no call fails.
 #[derive(Drop)]
@@ -58,7 +59,7 @@ impl Bench {
         if !self.served.is_live() {
             return String::from_str(alloc, "gone");
         }
-        let [number, first, second, third, fourth, fifth, ..] = numbers(given);
+        let [number, first, second, third, fourth, fifth, ..] = twelve_numbers(given);
         let args = [first, second, third, fourth, fifth];
         match self.served.system(&mut self.host, number, args) {
             Ok(Called::Answered(word)) => format!(in alloc; "{word:x}"),
@@ -78,7 +79,7 @@ impl Bench {
         if !self.served.is_live() {
             return String::from_str(alloc, "gone");
         }
-        let [va, word, ..] = numbers(given);
+        let [va, word, ..] = twelve_numbers(given);
         let (served, host) = (&mut self.served, &mut self.host);
         match call {
             "load" => tell_word(alloc, served.load(host, aligned(va))),
@@ -116,7 +117,7 @@ impl Bench {
                 tell_numbers(alloc, &words)
             }
             "set_registers" => {
-                self.served.set_registers(registers_in(given));
+                self.served.set_registers(given_registers(given));
                 String::from_str(alloc, "done")
             }
             "extra" => {
@@ -124,7 +125,7 @@ impl Bench {
                 tell_numbers(alloc, &words)
             }
             "set_extra" => {
-                self.served.set_extra(Extra(numbers(given)));
+                self.served.set_extra(Extra(twelve_numbers(given)));
                 String::from_str(alloc, "done")
             }
             _ => String::from_str(alloc, "no call"),

@@ -3,7 +3,6 @@
 ghost use Rattle.std.specs.Prelude.{◌<◌, ◌^◌, IfOk, length};
 
 use crate::calls::Bench;
-use crate::telling::words_in;
 use jos_base::{
     EnvId, FRAMES_MAX, FRAMES_MIN, PGSIZE, PTE_P, PTE_U, PTE_W, Perm, Status, UTEMP, UTEXT,
 };
@@ -13,6 +12,7 @@ use jos_run::{Served, boot_frames, boot_program};
 use jos_sys::{Input, System};
 use lib_spawn::fits_stack;
 use std::alloc::{AllocError, Global};
+use test_cases::program_words;
 
 /// The file of a program with one page, which begins with a byte.
 fn one_page(alloc: Global) -> Result<Vec<u8>, AllocError>
@@ -62,7 +62,7 @@ pub(crate) fn boot(
 ) -> Result<String, AllocError> {
     let (frames, words) = given.split_once(' ').unwrap_or((given, ""));
     let frames = frames.parse().unwrap_or(0);
-    let words = words_in(alloc, words)?;
+    let words = program_words(alloc, words)?;
     if frames < FRAMES_MIN || FRAMES_MAX < frames || !fits_stack(&words) {
         return String::from_str(alloc, "no run");
     }
