@@ -4,7 +4,7 @@ ghost use Rattle.std.specs.Prelude.{◌≡◌, ◌<◌, IfSome, IsSome, true};
 ghost use Rattle.jos_base.specs.declared.numbers.TheConstants.{NENV};
 ghost use Rattle.jos_sys.specs.System.{Keeps, in_use, is_live_in};
 
-use anyhow::{bail, ensure};
+use anyhow::{Context, bail, ensure};
 use jos_base::{
     Access, Called, EnvId, FRAMES_MAX, FRAMES_MIN, NENV, PGSIZE, PageFault, Perm, Regs,
     SYS_EXOFORK, SYS_PAGE_ALLOC, Status, UTEXT,
@@ -14,7 +14,7 @@ use jos_space::Space;
 use jos_sys::{Answer, Faulted, Input, System};
 use std::alloc::Global;
 use std::marker::Model;
-use test_cases::{Told, WRITE, given, numbers};
+use test_cases::{Bench, Told, WRITE, given, number, numbers};
 
 /// A system and what stands outside it.
 #[derive(Drop)]
@@ -47,7 +47,7 @@ fn live_space(system: &System, slot: usize) -> Option<Space>
 
 impl CallBench {
     /// A system of so many frames with an environment in slot 0, and the input `ab`.
-    pub(crate) fn new(alloc: Global, frames: u32) -> anyhow::Result<CallBench> {
+    fn new(alloc: Global, frames: u32) -> anyhow::Result<CallBench> {
         ensure!(
             FRAMES_MIN <= frames && frames <= FRAMES_MAX,
             "{frames} frames"
@@ -212,14 +212,18 @@ impl CallBench {
         let text = String::from_utf8_lossy(alloc, self.host.console())?;
         Ok(Told::Text(format!(in alloc; "{text:?}")?))
     }
+}
 
-    /// What comes of a case.
-    pub(crate) fn answer(
-        &mut self,
-        alloc: Global,
-        what: &str,
-        words: &str,
-    ) -> anyhow::Result<Told> {
+impl Bench for CallBench {
+    fn of(alloc: Global, line: &str) -> anyhow::Result<CallBench> {
+        let frames = line
+            .strip_prefix("calls in ")
+            .and_then(number)
+            .context(format_args!("{line} is not tried"))?;
+        CallBench::new(alloc, frames)
+    }
+
+    fn answer(&mut self, alloc: Global, what: &str, words: &str) -> anyhow::Result<Told> {
         let numbers = numbers(alloc, words)?;
         match what {
             "refused" => Ok(Told::Count(self.system.refused())),

@@ -1,7 +1,7 @@
 use Rattle.std.proofs.Common.{◌∙◌, ℕ, Bool, [], sym, ap}
 use Rattle.jos_base.specs.Environments.{is_live}
 use Rattle.jos_sys.proofs.Keeping.{lives}
-use Rattle.kernel_tests.proofs.images.place.Goals as goal
+use Rattle.boot_tests.proofs.images.place.Goals as goal
 
 pub space-space-requires : goal.space-space-requires
 space-space-requires c = ap is_live (sym (c.environment.ensures [])) ∙ lives c.environment.result.status c.in_default.not-Free
