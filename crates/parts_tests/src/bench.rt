@@ -4,7 +4,6 @@ use crate::environments::tell_environments;
 use crate::frames::tell_frames;
 use crate::messages::tell_messages;
 use crate::schedules::tell_schedules;
-use crate::spaces::SpaceBench;
 use anyhow::{Context, bail};
 use jos_envs::Table;
 use jos_ipc::Rendezvous;
@@ -22,8 +21,6 @@ pub(crate) enum PartBench {
     Messages(Rendezvous),
     /// `jos_envs`, and whom `jos_sched` gives the next turn.
     Environments(Table),
-    /// `jos_space`.
-    Spaces(SpaceBench),
 }
 
 impl Bench for PartBench {
@@ -36,7 +33,6 @@ impl Bench for PartBench {
                 let table = Table::new(alloc).ok().context("no memory")?;
                 Ok(PartBench::Environments(table))
             }
-            "spaces" => Ok(PartBench::Spaces(SpaceBench::new(alloc)?)),
             _ => bail!("{line} is not tried"),
         }
     }
@@ -47,7 +43,6 @@ impl Bench for PartBench {
             PartBench::Frames => tell_frames(alloc, what, words),
             PartBench::Messages(rendezvous) => tell_messages(rendezvous, alloc, what, words),
             PartBench::Environments(table) => tell_environments(table, alloc, what, words),
-            PartBench::Spaces(spaces) => spaces.answer(alloc, what, words),
         }
     }
 }

@@ -1,5 +1,5 @@
-//! What is tested of the kernel's parts: schedules, trap frames, messages, the table of environments and address spaces.
-//! Each line of `stdin` is a case (`test_cases`), and `stdout` has what is wanted, worked out by hand.
+//! What is tested of the kernel's parts: schedules, trap frames, messages and the table of environments. Each line of
+//! `stdin` is a case (`test_cases`), and `stdout` has what is wanted, worked out by hand.
 //!
 //! | Case of `schedules` | What is told |
 //! |---|---|
@@ -27,20 +27,6 @@
 //! | `renew SLOT TIMES` | the last id, where the slot is freed and given so often |
 //! | `record SLOT`, `full_record` | the record of a slot, and of an environment with no part empty |
 //! | `first_next`, `next_behind SLOT` | who gets the first turn, and the turn behind that of a slot |
-//!
-//! | Case of `spaces` | What is told |
-//! |---|---|
-//! | `take FRAMES`, `create` | the last of so many frames that are taken, and the directory of a new space |
-//! | `count FRAME` | how often it is named |
-//! | `page VA BITS`, `page_of_six VA BITS OFFSET` | the frame of a new page, which has the bytes 1 to 6 from the offset on |
-//! | `share VA VA BITS` | whether the first page could be put at the second address |
-//! | `remove VA`, `destroy` | nothing: the page, or the space, is no more |
-//! | `directory`, `look VA` | the frame of the directory, and that of a page with its bits |
-//! | `reads VA`, `writes VA` | where an access leads, or its fault |
-//! | `word VA`, `byte VA`, `byte_or_fault VA` | what a user reads |
-//! | `bytes VA`, `bytes_by VA VA` | the bytes that are at hand, by the page at hand of the first address |
-//! | `put_word VA WORD`, `put_byte VA BYTE` | whether it was written |
-//! | `set_word SLOT INDEX WORD`, `set_words SLOT 0 WORD` | nothing: a word of a slot's record is set, or all |
 #![tactic(auto)]
 
 mod bench;
@@ -48,7 +34,6 @@ mod environments;
 mod frames;
 mod messages;
 mod schedules;
-mod spaces;
 
 use crate::bench::PartBench;
 

@@ -11,7 +11,7 @@ use jos_base::{Access, ENV_WORDS, FRAMES_MIN, Frame, NENV, PGSIZE, Perm, UTOP};
 use jos_space::{Space, Spaces};
 use std::alloc::Global;
 use std::marker::Model;
-use test_cases::{READ, Told, WRITE, given, numbers};
+use test_cases::{Bench, READ, Told, WRITE, given, numbers};
 
 /// Frames, and a space of them until it is destroyed.
 #[derive(Drop)]
@@ -251,7 +251,7 @@ fn set_record(spaces: &mut Spaces, numbers: &[u32], all: bool)
 
 impl SpaceBench {
     /// 64 frames, and a space.
-    pub(crate) fn new(alloc: Global) -> anyhow::Result<SpaceBench> {
+    fn new(alloc: Global) -> anyhow::Result<SpaceBench> {
         let mut spaces = Spaces::new(alloc, FRAMES_MIN).ok().context("no memory")?;
         match spaces.create() {
             Some(space) => Ok(SpaceBench {
@@ -277,14 +277,17 @@ impl SpaceBench {
             self.spaces.destroy(space);
         }
     }
+}
 
-    /// What comes of a case.
-    pub(crate) fn answer(
-        &mut self,
-        alloc: Global,
-        what: &str,
-        words: &str,
-    ) -> anyhow::Result<Told> {
+impl Bench for SpaceBench {
+    fn of(alloc: Global, line: &str) -> anyhow::Result<SpaceBench> {
+        match line {
+            "spaces" => SpaceBench::new(alloc),
+            _ => bail!("{line} is not tried"),
+        }
+    }
+
+    fn answer(&mut self, alloc: Global, what: &str, words: &str) -> anyhow::Result<Told> {
         let numbers = numbers(alloc, words)?;
         let first = given(&numbers, 0);
         match what {
