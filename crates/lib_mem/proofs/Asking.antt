@@ -1,33 +1,22 @@
 -- getid and yield: the state is as before, or the environment may run on and has given up its turn.
-use Rattle.std.proofs.Common.{◌≡◌, ◌∙◌, ℕ, true, List, [], Some, Result, Ok, Err, refl, sym, ap, subst}
-use Rattle.jos_host.specs.declared.host.Failed.{Failed}
-use Rattle.jos_base.specs.declared.called.Called.{Called}
-use Rattle.jos_base.specs.declared.called.Called.TheVariants.{Answered, Ended}
+use Rattle.std.proofs.Common.{◌≡◌, ◌∙◌, ℕ, true, List, [], Some, refl, sym, ap}
 use Rattle.jos_base.specs.declared.environment.Status.TheVariants.{Runnable}
-use Rattle.jos_base.specs.declared.numbers.TheConstants.{SYS_GETENVID, SYS_YIELD}
 use Rattle.jos_base.specs.declared.registers.Regs.{Regs}
 use Rattle.jos_base.specs.Environments.{Slot as KernelSlot, is_live}
 use Rattle.jos_base.specs.KernelState.{KernelState, slot_at, with_status}
 use Rattle.lib_os.specs.declared.place.Place.TheVariants as place
 use Rattle.lib_os.specs.declared.place.Step.{Step}
-use Rattle.lib_os.specs.declared.progress.Progress.{Progress}
-use Rattle.lib_os.specs.declared.progress.Progress.TheVariants as progress
 use Rattle.lib_os.specs.declared.service.Service.TheVariants as service
 use Rattle.lib_os.specs.AbstractState.{AbstractState, Born, entered}
 use Rattle.lib_os.specs.Answers.{back_with}
 use Rattle.lib_os.specs.LibraryCall.{library_step}
-use Rattle.lib_os.specs.LibrarySteps.{IsLibraryStep, Leaves, LeavesRest, is_yield, answered}
+use Rattle.lib_os.specs.LibrarySteps.{answered}
 use Rattle.lib_os.specs.Places.{place_of}
 use Rattle.lib_os.specs.StandsFor.{StandsFor, Names}
-use Rattle.lib_os.specs.UserCalls.{got, Step as Call, system, Output}
-use Rattle.lib_os.proofs.Calls.{getenvid_is, yield_is}
-use Rattle.lib_os.proofs.Leaving.{system_left}
 use Rattle.lib_os.proofs.Serving.{printed_nothing}
 use Rattle.lib_os.proofs.Slots.{slot_put}
 use Rattle.lib_os.proofs.StatesStand.{status_stands}
-use Rattle.lib_os.proofs.UsesCalled.{system_found}
-use Rattle.lib_mem.specs.Passing.{MayPass, IsPassed}
-use Rattle.lib_mem.proofs.Passing.{here, Leads, answer_stands, passed_kept}
+use Rattle.lib_mem.proofs.Passing.{here, Leads, answer_stands}
 
 -- ---- getid
 
@@ -38,10 +27,7 @@ getid_step a n b regs = refl
 
 module _ (s : KernelState) (n : ℕ) (step : Step) (args : List ℕ) (live : is_live (slot_at s n) ≡ true)
     (at : place_of (slot_at s n) ≡ place.InService service.GetId step) where
-  pub getid_may : MayPass n (system s n SYS_GETENVID args)
-  getid_may = subst (λ call. MayPass n call) (sym (getenvid_is s n live args)) live
-
-  getid_leads : (names : Names) (a : AbstractState) → StandsFor names s a → Leads s n [] s (answered s n (slot_at s n).id) a
+  pub getid_leads : (names : Names) (a : AbstractState) → StandsFor names s a → Leads s n [] s (answered s n (slot_at s n).id) a
   getid_leads names a h =
       let i = here h n service.GetId step refl at in
       let id_is : (slot_at s n).id ≡ i.b.id = i.own.id in
@@ -52,11 +38,6 @@ module _ (s : KernelState) (n : ℕ) (step : Step) (args : List ℕ) (live : is_
         λ in_order quiet. (names, answer_stands h n i.b i.is i.at.silent i.at.awake (slot_at s n).id),
       )
 
-  pub getid_kept : (result : Result Progress Failed) (after : KernelState) (output : Output) →
-      IsPassed (system s n SYS_GETENVID args) n result after output → IsLibraryStep result n s after output
-  getid_kept result after output passed =
-      passed_kept s after n output s [] (system s n SYS_GETENVID args) (slot_at s n).id result (getenvid_is s n live args) getid_leads passed
-
 -- ---- yield
 
 yield_step : (a : AbstractState) (n : ℕ) (b : Born) (regs : Regs) →
@@ -66,11 +47,7 @@ yield_step a n b regs = refl
 
 module _ (s : KernelState) (n : ℕ) (step : Step) (args : List ℕ) (live : is_live (slot_at s n) ≡ true)
     (at : place_of (slot_at s n) ≡ place.InService service.Yield step) where
-  pub yield_may : MayPass n (system s n SYS_YIELD args)
-  yield_may =
-      subst (λ call. MayPass n call) (sym (yield_is s n live args)) (ap (λ (k : KernelSlot). is_live k) (slot_put s n (record (slot_at s n) { status = Runnable })))
-
-  yield_leads : (names : Names) (a : AbstractState) → StandsFor names s a → Leads s n [] (with_status s n Runnable) (answered (with_status s n Runnable) n 0) a
+  pub yield_leads : (names : Names) (a : AbstractState) → StandsFor names s a → Leads s n [] (with_status s n Runnable) (answered (with_status s n Runnable) n 0) a
   yield_leads names a h =
       let i = here h n service.Yield step refl at in
       let put : slot_at (with_status s n Runnable) n ≡ record (slot_at s n) { status = Runnable } =
@@ -85,26 +62,3 @@ module _ (s : KernelState) (n : ℕ) (step : Step) (args : List ℕ) (live : is_
               (ap (λ (k : KernelSlot). k.rendezvous.receiving) put ∙ i.at.silent) i.at.awake 0,
         ),
       )
-
-  pub yield_kept : (result : Result Progress Failed) (after : KernelState) (output : Output) →
-      IsPassed (system s n SYS_YIELD args) n result after output → IsLibraryStep result n s after output
-  yield_kept result after output passed =
-      passed_kept s after n output (with_status s n Runnable) [] (system s n SYS_YIELD args) 0 result (yield_is s n live args) yield_leads passed
-
-  -- the one service that gives up its turn, and is over with it
-  pub yield_leaves : (result : Result Progress Failed) (after : KernelState) (output : Output) →
-      IsPassed (system s n SYS_YIELD args) n result after output → Leaves result n s after
-  yield_leaves (Ok progress.Finished) after output passed =
-      subst (λ (t : KernelState). Leaves (Ok progress.Finished) n s t) (sym passed.2) (
-        record { last = rest.last; turns = rest.turns; frames = rest.frames; refused = rest.refused; told = rest.told },
-        (λ running silent runs. ap is_yield at),
-        (λ in_order is_there each. system_found s n SYS_YIELD args in_order is_there each),
-      )
-    where
-      rest : LeavesRest s (system s n SYS_YIELD args).state
-      rest = (system_left s n SYS_YIELD args refl).rest
-  yield_leaves (Ok progress.Ended) after output passed =
-      let told : got (Answered 0) ≡ got Ended = sym (ap (λ (x : Call Called). x.gives) (yield_is s n live args)) ∙ passed.0 in
-      absurd (let contradiction : got (Answered 0) ≡ got Ended = told in cc)
-  yield_leaves (Ok _) after output passed = absurd passed
-  yield_leaves (Err failed) after output passed = tt

@@ -1,6 +1,5 @@
 -- page_drop: the page is gone from the environment's space.
-use Rattle.std.proofs.Common.{◌≡◌, ◌∙◌, ℕ, true, List, [], ◌∷◌, Some, Result, refl, sym, ap, subst}
-use Rattle.jos_host.specs.declared.host.Failed.{Failed}
+use Rattle.std.proofs.Common.{◌≡◌, ◌∙◌, ℕ, true, List, [], ◌∷◌, Some, refl, ap}
 use Rattle.jos_base.specs.declared.called.Called.{Called}
 use Rattle.jos_base.specs.declared.called.Called.TheVariants.{Answered}
 use Rattle.jos_base.specs.declared.numbers.TheConstants.{SYS_PAGE_UNMAP}
@@ -12,25 +11,23 @@ use Rattle.jos_base.specs.Words.{page_number}
 use Rattle.lib_os.specs.declared.place.Place.{Place}
 use Rattle.lib_os.specs.declared.place.Place.TheVariants as place
 use Rattle.lib_os.specs.declared.place.Step.{Step}
-use Rattle.lib_os.specs.declared.progress.Progress.{Progress}
 use Rattle.lib_os.specs.declared.service.Service.TheVariants as service
 use Rattle.lib_os.specs.AbstractMemory.{without_page}
 use Rattle.lib_os.specs.AbstractState.{AbstractState, Born, entered}
 use Rattle.lib_os.specs.Answers.{back_with}
 use Rattle.lib_os.specs.Fence.{is_page_inside}
 use Rattle.lib_os.specs.LibraryCall.{library_step}
-use Rattle.lib_os.specs.LibrarySteps.{IsLibraryStep, answered}
+use Rattle.lib_os.specs.LibrarySteps.{answered}
 use Rattle.lib_os.specs.Places.{place_of}
 use Rattle.lib_os.specs.StandsFor.{StandsFor, Names}
-use Rattle.lib_os.specs.UserCalls.{system, giving, Step as Call, Output}
+use Rattle.lib_os.specs.UserCalls.{system, giving, Step as Call}
 use Rattle.lib_os.proofs.Calls.{page_unmap_is}
 use Rattle.lib_os.proofs.Fences.{page_inside_address}
 use Rattle.lib_os.proofs.PagesStand.{removed_stands}
 use Rattle.lib_os.proofs.Removing.{unmapped_removed}
 use Rattle.lib_os.proofs.Serving.{printed_nothing}
 use Rattle.lib_os.proofs.SlotsStand.{minds_page}
-use Rattle.lib_mem.specs.Passing.{MayPass, IsPassed}
-use Rattle.lib_mem.proofs.Passing.{here, Leads, changed_stands, passed_kept}
+use Rattle.lib_mem.proofs.Passing.{here, Leads, changed_stands}
 
 drop_step : (a : AbstractState) (n : ℕ) (b : Born) (regs : Regs) (va : ℕ) → is_page_inside va ≡ true →
     library_step a n b regs (service.PageDrop va) entered ≡ Some (back_with a n (without_page b va) (record regs { eax = 0 }))
@@ -39,19 +36,16 @@ drop_step a n b regs va inside = rw inside refl
 
 module _ (s : KernelState) (n va : ℕ) (step : Step) (rest : List ℕ) (live : is_live (slot_at s n) ≡ true)
     (at : place_of (slot_at s n) ≡ place.InService (service.PageDrop va) step) (inside : is_page_inside va ≡ true) where
-  abbrev spaces : SpacesState
+  abbrev pub spaces : SpacesState
   spaces = unmapped s.spaces (slot_at s n).directory (page_number va)
 
-  abbrev asked : Call Called
+  abbrev pub asked : Call Called
   asked = system s n SYS_PAGE_UNMAP (0 ∷ va ∷ rest)
 
-  asked_is : asked ≡ giving (with_spaces s spaces) (Answered 0)
+  pub asked_is : asked ≡ giving (with_spaces s spaces) (Answered 0)
   asked_is = page_unmap_is s n live va rest (page_inside_address va inside)
 
-  pub drop_may : MayPass n asked
-  drop_may = subst (λ (call : Call Called). MayPass n call) (sym asked_is) live
-
-  drop_leads : (names : Names) (a : AbstractState) → StandsFor names s a → Leads s n [] (with_spaces s spaces) (answered (with_spaces s spaces) n 0) a
+  pub drop_leads : (names : Names) (a : AbstractState) → StandsFor names s a → Leads s n [] (with_spaces s spaces) (answered (with_spaces s spaces) n 0) a
   drop_leads names a h =
       let i = here h n (service.PageDrop va) step refl at in (
         back_with a n (without_page i.b va) (record (slot_at s n).registers { eax = 0 }),
@@ -65,7 +59,3 @@ module _ (s : KernelState) (n va : ℕ) (step : Step) (rest : List ℕ) (live : 
               i.at.silent i.at.awake 0,
         ),
       )
-
-  pub drop_kept : (result : Result Progress Failed) (after : KernelState) (output : Output) →
-      IsPassed asked n result after output → IsLibraryStep result n s after output
-  drop_kept result after output passed = passed_kept s after n output (with_spaces s spaces) [] asked 0 result asked_is drop_leads passed

@@ -1,8 +1,7 @@
 -- page_new: a page of zeros stands in the environment's space, its own or under a new name.
-use Rattle.std.proofs.Common.{◌≡◌, ◌∙◌, ℕ, ◌+◌, Bool, true, false, List, [], ◌∷◌, Option, Some, None, Result, refl, sym, ap, subst, arith, ◌≤◌, if◌then◌else◌}
+use Rattle.std.proofs.Common.{◌≡◌, ◌∙◌, ℕ, ◌+◌, Bool, true, false, List, [], ◌∷◌, Option, Some, None, refl, sym, ap, subst, arith, ◌≤◌, if◌then◌else◌}
 use Rattle.std.specs.Prelude.{nat_lt}
 use Rattle.std.proofs.lemmas.Bool.Decides.{nat_tests}
-use Rattle.jos_host.specs.declared.host.Failed.{Failed}
 use Rattle.jos_base.specs.declared.called.Called.{Called}
 use Rattle.jos_base.specs.declared.called.Called.TheVariants.{Answered}
 use Rattle.jos_base.specs.declared.numbers.TheConstants.{SYS_PAGE_ALLOC, E_NO_MEM}
@@ -15,7 +14,6 @@ use Rattle.jos_base.specs.Words.{negated, page_number, upd}
 use Rattle.lib_os.specs.declared.place.Place.{Place}
 use Rattle.lib_os.specs.declared.place.Place.TheVariants as place
 use Rattle.lib_os.specs.declared.place.Step.{Step}
-use Rattle.lib_os.specs.declared.progress.Progress.{Progress}
 use Rattle.lib_os.specs.declared.service.Service.TheVariants as service
 use Rattle.lib_os.specs.AbstractMemory.{with_page}
 use Rattle.lib_os.specs.AbstractState.{AbstractState, Born, own, named, entered, with_born}
@@ -23,11 +21,11 @@ use Rattle.lib_os.specs.Answers.{answered as abstract_answered}
 use Rattle.lib_os.specs.Fence.{is_page_inside}
 use Rattle.lib_os.specs.InOrder.{IsInOrder}
 use Rattle.lib_os.specs.LibraryCall.{library_step}
-use Rattle.lib_os.specs.LibrarySteps.{IsLibraryStep, Stands, answered}
+use Rattle.lib_os.specs.LibrarySteps.{Stands, answered}
 use Rattle.lib_os.specs.MemoryServices.{has_flag, page_made}
 use Rattle.lib_os.specs.Places.{place_of}
 use Rattle.lib_os.specs.StandsFor.{StandsFor, Names, is_shared}
-use Rattle.lib_os.specs.UserCalls.{system, giving, Step as Call, Output}
+use Rattle.lib_os.specs.UserCalls.{system, giving, Step as Call}
 use Rattle.lib_os.proofs.Calls.{page_alloc_some, page_alloc_none, refusal_is_seen}
 use Rattle.lib_os.proofs.Effects.{Made}
 use Rattle.lib_os.proofs.Fences.{page_inside_address}
@@ -36,8 +34,7 @@ use Rattle.lib_os.proofs.Placing.{allocated_made}
 use Rattle.lib_os.proofs.Serving.{printed_nothing}
 use Rattle.lib_os.proofs.SlotsStand.{minds_page}
 use Rattle.lib_mem.specs.Own.{perm_of}
-use Rattle.lib_mem.specs.Passing.{MayPass, IsPassed}
-use Rattle.lib_mem.proofs.Passing.{IsHere, here, Leads, changed_stands, passed_kept}
+use Rattle.lib_mem.proofs.Passing.{IsHere, here, Leads, changed_stands}
 
 -- ---- the bits of its entry
 
@@ -82,10 +79,10 @@ module _ (s : KernelState) (n va flags perm : ℕ) (step : Step) (rest : List �
   entry_bits : (is_page_perm perm ≡ true) × (has_write perm ≡ has_flag flags 1) × (is_shared perm ≡ has_flag flags 2)
   entry_bits = subst (λ (p : ℕ). (is_page_perm p ≡ true) × (has_write p ≡ has_flag flags 1) × (is_shared p ≡ has_flag flags 2)) (sym bits) (perm_is flags)
 
-  abbrev asked : Call Called
+  abbrev pub asked : Call Called
   asked = system s n SYS_PAGE_ALLOC (0 ∷ va ∷ perm ∷ rest)
 
-  abbrev found : Option (ℕ × SpacesState)
+  abbrev pub found : Option (ℕ × SpacesState)
   found = allocated s.spaces (slot_at s n).directory (page_number va) perm
 
   permitted : is_page_perm perm ≡ true
@@ -93,7 +90,7 @@ module _ (s : KernelState) (n va flags perm : ℕ) (step : Step) (rest : List �
 
   -- where a frame was free
   module _ (f : ℕ) (t : SpacesState) (is : found ≡ Some (f, t)) where
-    some_is : asked ≡ giving (with_spaces s t) (Answered 0)
+    pub some_is : asked ≡ giving (with_spaces s t) (Answered 0)
     some_is = page_alloc_some s n live va perm rest (page_inside_address va inside) permitted f t is
 
     page_stands : {names : Names} {a : AbstractState} → StandsFor names s a → IsInOrder (with_spaces s t) →
@@ -128,7 +125,7 @@ module _ (s : KernelState) (n va flags perm : ℕ) (step : Step) (rest : List �
               i.at.silent i.at.awake 0,
         )
 
-    some_leads : (names : Names) (a : AbstractState) → StandsFor names s a → Leads s n [] (with_spaces s t) (answered (with_spaces s t) n 0) a
+    pub some_leads : (names : Names) (a : AbstractState) → StandsFor names s a → Leads s n [] (with_spaces s t) (answered (with_spaces s t) n 0) a
     some_leads names a h =
         let i = here h n (service.PageNew va flags) step refl at in (
           page_made a n i.b (slot_at s n).registers va flags,
@@ -139,10 +136,10 @@ module _ (s : KernelState) (n va flags perm : ℕ) (step : Step) (rest : List �
 
   -- where none was
   module _ (none : found ≡ None) where
-    none_is : asked ≡ giving (with_refusal s) (Answered (negated E_NO_MEM))
+    pub none_is : asked ≡ giving (with_refusal s) (Answered (negated E_NO_MEM))
     none_is = page_alloc_none s n live va perm rest (page_inside_address va inside) permitted none
 
-    none_leads : (names : Names) (a : AbstractState) → StandsFor names s a → Leads s n [] (with_refusal s) (answered (with_refusal s) n (negated E_NO_MEM)) a
+    pub none_leads : (names : Names) (a : AbstractState) → StandsFor names s a → Leads s n [] (with_refusal s) (answered (with_refusal s) n (negated E_NO_MEM)) a
     none_leads names a h =
         let i = here h n (service.PageNew va flags) step refl at in (
           page_made a n i.b (slot_at s n).registers va flags,
@@ -150,20 +147,3 @@ module _ (s : KernelState) (n va flags perm : ℕ) (step : Step) (rest : List �
           nothing_printed a n i.b (slot_at s n).registers va flags ∙ printed_nothing a,
           λ in_order quiet. absurd (refusal_is_seen s (record { stays = quiet.stays; could = quiet.could })),
         )
-
-  pub page_new_may : MayPass n asked
-  page_new_may = by_found found refl
-    where
-      by_found : (o : Option (ℕ × SpacesState)) → found ≡ o → MayPass n asked
-      by_found None is = subst (λ (call : Call Called). MayPass n call) (sym (none_is is)) live
-      by_found (Some pair) is = subst (λ (call : Call Called). MayPass n call) (sym (some_is pair.0 pair.1 is)) live
-
-  pub page_new_kept : (result : Result Progress Failed) (after : KernelState) (output : Output) →
-      IsPassed asked n result after output → IsLibraryStep result n s after output
-  page_new_kept result after output passed = by_found found refl
-    where
-      by_found : (o : Option (ℕ × SpacesState)) → found ≡ o → IsLibraryStep result n s after output
-      by_found None is =
-          passed_kept s after n output (with_refusal s) [] asked (negated E_NO_MEM) result (none_is is) (none_leads is) passed
-      by_found (Some pair) is =
-          passed_kept s after n output (with_spaces s pair.1) [] asked 0 result (some_is pair.0 pair.1 is) (some_leads pair.0 pair.1 is) passed

@@ -1,18 +1,14 @@
 -- A service of this crate, at its only step, and its answer. Where the kernel's state stands for an abstract one, so it does
 -- behind the answer.
-use Rattle.std.proofs.Common.{◌≡◌, ◌∙◌, ◌==◌, ℕ, true, false, List, Some, Result, Ok, Err, refl, sym, ap, subst}
+use Rattle.std.proofs.Common.{◌≡◌, ℕ, true, false, List, Some, refl, subst}
 use Rattle.std.specs.Prelude.{◌++◌}
-use Rattle.jos_host.specs.declared.host.Failed.{Failed}
 use Rattle.jos_base.specs.declared.called.Called.{Called}
 use Rattle.jos_base.specs.declared.called.Called.TheVariants.{Answered, Ended}
-use Rattle.jos_base.specs.declared.numbers.TheConstants.{SYS_EXOFORK}
 use Rattle.jos_base.specs.Environments.{Slot as KernelSlot}
 use Rattle.jos_base.specs.KernelState.{KernelState, slot_at}
 use Rattle.lib_os.specs.declared.place.Place.TheVariants as place
 use Rattle.lib_os.specs.declared.place.Step.{Step}
 use Rattle.lib_os.specs.declared.place.Step.TheVariants as step
-use Rattle.lib_os.specs.declared.progress.Progress.{Progress}
-use Rattle.lib_os.specs.declared.progress.Progress.TheVariants as progress
 use Rattle.lib_os.specs.declared.service.Service.{Service}
 use Rattle.lib_os.specs.declared.service.Service.TheVariants as service
 use Rattle.lib_os.specs.AbstractState.{AbstractState, Born, born, guest, at_guest, entered, with_born}
@@ -20,17 +16,14 @@ use Rattle.lib_os.specs.AbstractRun.{abs_step}
 use Rattle.lib_os.specs.Answers.{back_with}
 use Rattle.lib_os.specs.InOrder.{IsInOrder}
 use Rattle.lib_os.specs.LibraryCall.{library_step}
-use Rattle.lib_os.specs.LibrarySteps.{Stands, NothingRefused, IsLibraryStep, Leaves, answered}
+use Rattle.lib_os.specs.LibrarySteps.{Stands, NothingRefused, answered}
 use Rattle.lib_os.specs.Places.{place_of}
 use Rattle.lib_os.specs.StandsFor.{StandsFor, Names, Row, rows_of, StandsForBorn, StandsAtStep, IsIn}
-use Rattle.lib_os.specs.UserCalls.{got, system, Step as Call, Output, PrintsPart}
+use Rattle.lib_os.specs.UserCalls.{got, Step as Call}
+use Rattle.jos_base.proofs.Maps.{upd-at, upd-twice}
 use Rattle.lib_os.proofs.Answering.{back_stands}
 use Rattle.lib_os.proofs.Serving.{served, step_in}
-use Rattle.lib_os.proofs.Leaving.{wakes}
-use Rattle.lib_os.proofs.StepsLeave.{behind, stays, answers}
 use Rattle.lib_mem.specs.Own.{is_own_service}
-use Rattle.lib_mem.specs.Passing.{IsPassed}
-use Rattle.jos_base.proofs.Maps.{upd-at, upd-twice}
 
 -- ---- at the beginning
 
@@ -105,67 +98,3 @@ telling state word written = record { state = state; gives = got (Answered word)
 
 abbrev pub ending : KernelState → List ℕ → Call Called
 ending state written = record { state = state; gives = got Ended; written = written }
-
-module _ (s after : KernelState) (n : ℕ) (output : Output) (state : KernelState) (written : List ℕ) where
-  -- whatever it gives, where the host has failed
-  failed_kept : (last : KernelState) (failed : Failed) →
-      ((names : Names) (a : AbstractState) → StandsFor names s a → Leads s n written state last a) →
-      PrintsPart output written → IsLibraryStep (Err failed) n s after output
-  failed_kept last failed leads gains = (written, gains, λ a h. let l = leads h.0 a h.1 in (l.0, l.1, l.2))
-
-  pub told_kept : (word : ℕ) (result : Result Progress Failed) →
-      ((names : Names) (a : AbstractState) → StandsFor names s a → Leads s n written state (answered state n word) a) →
-      IsPassed (telling state word written) n result after output → IsLibraryStep result n s after output
-  told_kept word (Ok progress.Finished) leads passed =
-      let told : got (Answered word) ≡ got (Answered passed.0) = passed.1 in
-      let word_is : word ≡ passed.0 = cc in
-      let same : answered state n word ≡ after = ap (λ (w : ℕ). answered state n w) word_is ∙ sym passed.2 in (
-        written,
-        passed.3,
-        λ a h quiet. let l = leads h.0 a h.1 in
-            (l.0, l.1, l.2, subst (λ (x : KernelState). NothingRefused s x → Stands x l.0) same (l.3 passed.4) quiet),
-      )
-  told_kept word (Ok progress.Ended) leads passed =
-      absurd (let told : got (Answered word) ≡ got Ended = passed.0 in cc)
-  told_kept word (Err failed) leads passed = failed_kept (answered state n word) failed leads passed
-  told_kept word (Ok _) leads passed = absurd passed
-
-  pub over_kept : (result : Result Progress Failed) →
-      ((names : Names) (a : AbstractState) → StandsFor names s a → Leads s n written state state a) →
-      IsPassed (ending state written) n result after output → IsLibraryStep result n s after output
-  over_kept (Ok progress.Finished) leads passed =
-      absurd (let told : got Ended ≡ got (Answered passed.0) = passed.1 in cc)
-  over_kept (Ok progress.Ended) leads passed = (
-    written,
-    passed.2,
-    λ a h quiet. let l = leads h.0 a h.1 in
-        (l.0, l.1, l.2, subst (λ (x : KernelState). NothingRefused s x → Stands x l.0) (sym passed.1) (l.3 passed.3) quiet),
-  )
-  over_kept (Err failed) leads passed = failed_kept state failed leads passed
-  over_kept (Ok _) leads passed = absurd passed
-
-  -- the same of a call that comes to one
-  pub passed_kept : (call : Call Called) (word : ℕ) (result : Result Progress Failed) → call ≡ telling state word written →
-      ((names : Names) (a : AbstractState) → StandsFor names s a → Leads s n written state (answered state n word) a) →
-      IsPassed call n result after output → IsLibraryStep result n s after output
-  passed_kept call word result is leads passed =
-      told_kept word result leads (subst (λ (x : Call Called). IsPassed x n result after output) is passed)
-
-  pub ended_kept : (call : Call Called) (result : Result Progress Failed) → call ≡ ending state written →
-      ((names : Names) (a : AbstractState) → StandsFor names s a → Leads s n written state state a) →
-      IsPassed call n result after output → IsLibraryStep result n s after output
-  ended_kept call result is leads passed =
-      over_kept result leads (subst (λ (x : Call Called). IsPassed x n result after output) is passed)
-
--- ---- what it leaves
-
--- a call that is passed on, by which the environment does not wake itself
-pub passed_leaves : (s after : KernelState) (n number : ℕ) (args : List ℕ) (result : Result Progress Failed) (output : Output) →
-    (number == SYS_EXOFORK) ≡ false → wakes number ≡ false → IsPassed (system s n number args) n result after output → Leaves result n s after
-passed_leaves s after n number args (Ok progress.Finished) output no_fork asleep passed =
-    answers s (system s n number args).state after n n passed.0 progress.Finished (behind s n number args no_fork asleep) passed.2
-passed_leaves s after n number args (Ok progress.Ended) output no_fork asleep passed =
-    subst (λ (t : KernelState). Leaves (Ok progress.Ended) n s t) (sym passed.1)
-    (stays s (system s n number args).state n progress.Ended (behind s n number args no_fork asleep))
-passed_leaves s after n number args (Ok _) output no_fork asleep passed = absurd passed
-passed_leaves s after n number args (Err failed) output no_fork asleep passed = tt

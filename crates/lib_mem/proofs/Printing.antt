@@ -1,8 +1,7 @@
 -- cputs: all bytes are printed, or the environment is gone.
-use Rattle.std.proofs.Common.{◌≡◌, ◌∙◌, ◌≤◌, ℕ, true, false, List, ◌∷◌, ◌++◌, Some, Result, Ok, Err, refl, sym, ap, subst, arith}
+use Rattle.std.proofs.Common.{◌≡◌, ◌∙◌, ◌≤◌, ℕ, true, false, List, ◌∷◌, ◌++◌, Some, Result, Ok, Err, refl, sym, ap, arith}
 use Rattle.std.specs.Prelude.{nat_lt}
 use Rattle.std.proofs.lemmas.Bool.Decides.{nat_tests}
-use Rattle.jos_host.specs.declared.host.Failed.{Failed}
 use Rattle.jos_base.specs.declared.called.Called.{Called}
 use Rattle.jos_base.specs.declared.line.Line.TheVariants.{UserMemCheck}
 use Rattle.jos_base.specs.declared.memory.PageFault.{PageFault}
@@ -14,27 +13,24 @@ use Rattle.jos_base.specs.Lines.{line_text}
 use Rattle.jos_base.specs.Reach.{bytes_read}
 use Rattle.jos_base.specs.SpacesState.{directory}
 use Rattle.jos_base.specs.SystemCalls.{user_bytes, with_bytes_reached, without_environment}
+use Rattle.jos_base.proofs.Uses.{directory_is}
 use Rattle.lib_os.specs.declared.place.Place.TheVariants as place
 use Rattle.lib_os.specs.declared.place.Step.{Step}
-use Rattle.lib_os.specs.declared.progress.Progress.{Progress}
 use Rattle.lib_os.specs.declared.service.Service.TheVariants as service
 use Rattle.lib_os.specs.AbstractState.{AbstractState, Born, entered}
 use Rattle.lib_os.specs.Fence.{is_buffer}
 use Rattle.lib_os.specs.LibraryCall.{library_step}
-use Rattle.lib_os.specs.LibrarySteps.{IsLibraryStep, answered}
+use Rattle.lib_os.specs.LibrarySteps.{answered}
 use Rattle.lib_os.specs.MemoryServices.{byte_or_fault, printed}
 use Rattle.lib_os.specs.Places.{place_of}
 use Rattle.lib_os.specs.StandsFor.{StandsFor, Names}
-use Rattle.lib_os.specs.UserCalls.{system, Step as Call, Output}
+use Rattle.lib_os.specs.UserCalls.{system, Step as Call}
 use Rattle.lib_os.proofs.BytesRead.{buffer_reads}
-use Rattle.lib_os.proofs.Calls.{cputs_writes, cputs_ends}
 use Rattle.lib_os.proofs.EndsStand.{ended_stands}
 use Rattle.lib_os.proofs.Removing.{destroyed_gone}
 use Rattle.lib_os.proofs.StatesStand.{quiet_stands, printed_stands}
 use Rattle.lib_os.proofs.Touching.{all_touched_quiet}
-use Rattle.lib_mem.specs.Passing.{MayPass, IsPassed}
-use Rattle.lib_mem.proofs.Passing.{IsHere, here, Leads, answer_stands, passed_kept, ended_kept}
-use Rattle.jos_base.proofs.Uses.{directory_is}
+use Rattle.lib_mem.proofs.Passing.{IsHere, here, Leads, answer_stands}
 
 -- ---- its step in the abstract system
 
@@ -49,7 +45,7 @@ cputs_step a n b regs va len few buffer =
 module _ (s : KernelState) (n va len : ℕ) (step : Step) (rest : List ℕ) (live : is_live (slot_at s n) ≡ true)
     (at : place_of (slot_at s n) ≡ place.InService (service.Cputs va len) step)
     (few : len ≤ CPUTS_MAX) (buffer : is_buffer va len ≡ true) where
-  abbrev asked : Call Called
+  abbrev pub asked : Call Called
   asked = system s n SYS_CPUTS (va ∷ len ∷ rest)
 
   abbrev read : Result (List ℕ) PageFault
@@ -65,7 +61,7 @@ module _ (s : KernelState) (n va len : ℕ) (step : Step) (rest : List ℕ) (liv
 
   -- where all can be read
   module _ (bytes : List ℕ) (is : read ≡ Ok bytes) where
-    bytes_leads : (names : Names) (a : AbstractState) → StandsFor names s a →
+    pub bytes_leads : (names : Names) (a : AbstractState) → StandsFor names s a →
         Leads s n bytes (with_bytes_reached s n va len) (answered (with_bytes_reached s n va len) n 0) a
     bytes_leads names a h =
         let i = here h n (service.Cputs va len) step refl at in
@@ -82,10 +78,10 @@ module _ (s : KernelState) (n va len : ℕ) (step : Step) (rest : List ℕ) (liv
 
   -- where a byte can't
   module _ (fault : PageFault) (is : read ≡ Err fault) where
-    abbrev line : List ℕ
+    abbrev pub line : List ℕ
     line = line_text (slot_at s n).id (UserMemCheck fault.va)
 
-    fault_leads : (names : Names) (a : AbstractState) → StandsFor names s a →
+    pub fault_leads : (names : Names) (a : AbstractState) → StandsFor names s a →
         Leads s n line (without_environment s n) (without_environment s n) a
     fault_leads names a h =
         let i = here h n (service.Cputs va len) step refl at in
@@ -102,22 +98,3 @@ module _ (s : KernelState) (n va len : ℕ) (step : Step) (rest : List ℕ) (liv
                 (line_text i.b.id (UserMemCheck fault.va)),
           ),
         )
-
-  pub cputs_may : MayPass n asked
-  cputs_may = by_read read refl
-    where
-      by_read : (r : Result (List ℕ) PageFault) → read ≡ r → MayPass n asked
-      by_read (Ok bytes) is = subst (λ (call : Call Called). MayPass n call) (sym (cputs_writes s n live va len rest few bytes is)) live
-      by_read (Err fault) is = subst (λ (call : Call Called). MayPass n call) (sym (cputs_ends s n live va len rest few fault is)) tt
-
-  pub cputs_kept : (result : Result Progress Failed) (after : KernelState) (output : Output) →
-      IsPassed asked n result after output → IsLibraryStep result n s after output
-  cputs_kept result after output passed = by_read read refl
-    where
-      by_read : (r : Result (List ℕ) PageFault) → read ≡ r → IsLibraryStep result n s after output
-      by_read (Ok bytes) is =
-          passed_kept s after n output (with_bytes_reached s n va len) bytes asked 0 result (cputs_writes s n live va len rest few bytes is)
-          (bytes_leads bytes is) passed
-      by_read (Err fault) is =
-          ended_kept s after n output (without_environment s n) (line fault is) asked result (cputs_ends s n live va len rest few fault is)
-          (fault_leads fault is) passed

@@ -1,31 +1,25 @@
 -- What is refused for what stands in the registers: the state is as before, and the answer is E_INVAL's number, negated.
-use Rattle.std.proofs.Common.{◌≡◌, ◌∙◌, ℕ, Bool, true, false, ◌||◌, not, List, [], Some, Ok, refl, sym, ap, subst, if◌then◌else◌}
+use Rattle.std.proofs.Common.{◌≡◌, ◌∙◌, ℕ, Bool, true, false, ◌||◌, not, List, [], Some, refl, ap, if◌then◌else◌}
 use Rattle.std.specs.Prelude.{nat_lt}
-use Rattle.jos_base.specs.declared.called.Called.{Called}
-use Rattle.jos_base.specs.declared.called.Called.TheVariants.{Answered}
-use Rattle.jos_base.specs.declared.numbers.TheConstants.{SYS_GETENVID, E_INVAL, CPUTS_MAX}
+use Rattle.jos_base.specs.declared.numbers.TheConstants.{E_INVAL, CPUTS_MAX}
 use Rattle.jos_base.specs.declared.registers.Regs.{Regs}
 use Rattle.jos_base.specs.Environments.{is_live}
 use Rattle.jos_base.specs.KernelState.{KernelState, slot_at}
 use Rattle.jos_base.specs.Words.{negated}
 use Rattle.lib_os.specs.declared.place.Place.TheVariants as place
 use Rattle.lib_os.specs.declared.place.Step.{Step}
-use Rattle.lib_os.specs.declared.progress.Progress.TheVariants as progress
 use Rattle.lib_os.specs.declared.service.Service.{Service}
 use Rattle.lib_os.specs.declared.service.Service.TheVariants as service
 use Rattle.lib_os.specs.AbstractState.{AbstractState, Born, entered}
 use Rattle.lib_os.specs.Answers.{refused}
 use Rattle.lib_os.specs.Fence.{is_buffer, is_page_inside}
-use Rattle.lib_os.specs.InOrder.{IsInOrder}
 use Rattle.lib_os.specs.LibraryCall.{library_step}
-use Rattle.lib_os.specs.LibrarySteps.{IsLibraryStep, answered}
+use Rattle.lib_os.specs.LibrarySteps.{answered}
 use Rattle.lib_os.specs.Places.{place_of}
 use Rattle.lib_os.specs.StandsFor.{StandsFor, Names}
-use Rattle.lib_os.specs.UserCalls.{system, giving, IsCallStep, Step as Call, Output}
-use Rattle.lib_os.proofs.Calls.{getenvid_is}
 use Rattle.lib_os.proofs.Serving.{printed_nothing}
 use Rattle.lib_mem.specs.Own.{is_own_service, IsRefused}
-use Rattle.lib_mem.proofs.Passing.{here, Leads, answer_stands, told_kept}
+use Rattle.lib_mem.proofs.Passing.{here, Leads, answer_stands}
 
 -- ---- its step in the abstract system
 
@@ -73,7 +67,7 @@ refused_own _ is = absurd is
 
 module _ (s : KernelState) (n : ℕ) (of : Service) (step : Step) (args : List ℕ) (live : is_live (slot_at s n) ≡ true)
     (at : place_of (slot_at s n) ≡ place.InService of step) (is : IsRefused of) where
-  refused_leads : (names : Names) (a : AbstractState) → StandsFor names s a → Leads s n [] s (answered s n (negated E_INVAL)) a
+  pub refused_leads : (names : Names) (a : AbstractState) → StandsFor names s a → Leads s n [] s (answered s n (negated E_INVAL)) a
   refused_leads names a h =
       let i = here h n of step (refused_own of is) at in (
         refused a n i.b (slot_at s n).registers E_INVAL,
@@ -81,23 +75,3 @@ module _ (s : KernelState) (n : ℕ) (of : Service) (step : Step) (args : List �
         printed_nothing a,
         λ in_order quiet. (names, answer_stands h n i.b i.is i.at.silent i.at.awake (negated E_INVAL)),
       )
-
-  -- the call has left the state as it was, whatever it answered
-  asked_is : (called : Called) (mid : KernelState) (output : Output) →
-      IsCallStep (system s n SYS_GETENVID args) (Ok called) mid output → IsCallStep (giving s (Answered (slot_at s n).id)) (Ok called) mid output
-  asked_is called mid output came = subst (λ (x : Call Called). IsCallStep x (Ok called) mid output) (getenvid_is s n live args) came
-
-  pub refused_live : (called : Called) (mid : KernelState) (m : ℕ) (output : Output) →
-      IsCallStep (system s n SYS_GETENVID args) (Ok called) mid output → m ≡ n → is_live (slot_at mid m) ≡ true
-  refused_live called mid m output came same =
-      let was = asked_is called mid output came in
-      subst (λ (q : ℕ). is_live (slot_at mid q) ≡ true) (sym same)
-      (subst (λ (x : KernelState). is_live (slot_at x n) ≡ true) (sym was.1) live)
-
-  pub refused_kept : (called : Called) (mid after : KernelState) (m word : ℕ) (output : Output) → IsInOrder mid →
-      IsCallStep (system s n SYS_GETENVID args) (Ok called) mid output → m ≡ n → after ≡ answered mid m word → word ≡ negated E_INVAL →
-      IsLibraryStep (Ok progress.Finished) n s after output
-  refused_kept called mid after m word output in_order came same is_after word_is =
-      let was = asked_is called mid output came in
-      told_kept s after n output s [] (negated E_INVAL) (Ok progress.Finished) refused_leads
-      (negated E_INVAL, refl, is_after ∙ (λ i. answered (was.1 i) (same i) (word_is i)), was.2, subst (λ (x : KernelState). IsInOrder x) was.1 in_order)

@@ -1,2 +1,2 @@
 pub mod Own
-pub mod Passing
+pub mod MemPlans

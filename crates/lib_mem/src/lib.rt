@@ -8,4 +8,4 @@
 
 mod services;
 
-pub use services::mem_step;
+pub use services::{Mem, mem_step};

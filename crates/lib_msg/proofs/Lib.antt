@@ -1,6 +1,8 @@
+pub mod Looking
+pub mod Entries
+pub mod Sending
+pub mod SendLaw
 pub mod Entering
 pub mod Receiving
-pub mod Looking
-pub mod Sending
-pub mod Entries
+pub mod ReceiveLaw
 pub mod Elsewhere

@@ -10,4 +10,6 @@ mod receive;
 mod send;
 mod services;
 
+pub use receive::{Receive, ReceiveStage};
+pub use send::{Send, SendStage};
 pub use services::msg_step;

@@ -1,6 +1,6 @@
 //! Which step of which service is next.
 
-ghost use Rattle.std.specs.Prelude.{◌≡◌, ◌+◌, ◌-◌, ◌*◌, ◌%◌, ◌<◌, ◌^◌, true, false};
+ghost use Rattle.std.specs.Prelude.{◌≡◌, ◌+◌, ◌-◌, ◌*◌, ◌%◌, ◌<◌, ◌^◌, true, false, None, IfSome};
 ghost use Rattle.jos_host.specs.Told.{HasCause};
 ghost use Rattle.jos_host.specs.Frames.{Unchanged, around, from_to};
 ghost use Rattle.jos_base.specs.Environments.{is_live};
@@ -8,12 +8,47 @@ ghost use Rattle.jos_base.specs.KernelState.{slot_at};
 ghost use Rattle.lib_os.specs.LibrarySteps.{IsLibraryStep, Leaves, Lowers, GivesUp, MakesOneCall};
 ghost use Rattle.lib_os.specs.Places.{place_of};
 ghost use Rattle.lib_os.specs.UserCalls.{output};
-ghost use Rattle.lib_msg.specs.Own.{is_own, is_awake};
+ghost use Rattle.lib_msg.specs.Own.{is_own, is_awake, is_sends, is_receives};
+ghost use Rattle.lib_msg.specs.SendStages as sends;
+ghost use Rattle.lib_msg.specs.ReceiveStages as receives;
 
-use crate::receive::{enter_receive, no_receive, read_perm, read_sender, read_value, wait_message};
-use crate::send::{enter_send, no_send, pause_send, read_entry, read_region, try_send};
+use crate::receive::{Receive, ReceiveStage};
+use crate::send::{Send, SendStage};
 use jos_host::{Failed, Host};
 use lib_os::{Place, Progress, Service, Step, UserOs, find_place};
+use lib_stage::{Nowhere, drive};
+
+/// The stage of send that is kept as a step, if it is one of send's.
+fn send_at(step: Step) -> Option<SendStage>
+    ensures there { IfSome result (λ at. step ≡ sends.step_of at) }
+    ensures none { result ≡ None → is_sends step ≡ false }
+{
+    match step {
+        Step::Entered => Some(SendStage::Entered),
+        Step::ReadingRegion => Some(SendStage::ReadingRegion),
+        Step::ReadingEntry => Some(SendStage::ReadingEntry),
+        Step::Trying { perm } => Some(SendStage::Trying { perm }),
+        Step::Pausing { perm } => Some(SendStage::Pausing { perm }),
+        _ => None,
+    }
+}
+
+/// The stage of receive that is kept as a step, if it is one of receive's.
+fn receive_at(step: Step) -> Option<ReceiveStage>
+    ensures there { IfSome result (λ at. step ≡ receives.step_of at) }
+    ensures none { result ≡ None → is_receives step ≡ false }
+{
+    match step {
+        Step::Entered => Some(ReceiveStage::Entered),
+        Step::Receiving { id } => Some(ReceiveStage::Receiving { id }),
+        Step::ReadingValue { id } => Some(ReceiveStage::ReadingValue { id }),
+        Step::ReadingSender { id, value } => Some(ReceiveStage::ReadingSender { id, value }),
+        Step::ReadingPerm { id, value, sender } => {
+            Some(ReceiveStage::ReadingPerm { id, value, sender })
+        }
+        _ => None,
+    }
+}
 
 /// The next step of an environment that is in send or receive, and has turns. It makes one call of the kernel.
 ///
@@ -36,23 +71,13 @@ pub fn msg_step<O: UserOs, H: Host>(os: &mut O, host: &mut H) -> Result<Progress
     let words = os.extra();
     match find_place(&registers, &words) {
         Place::InService { service, step } => match service {
-            Service::Send { id, value, va } => match step {
-                Step::Entered => enter_send(os, host, id, value, va),
-                Step::ReadingRegion => read_region(os, host, id, value, va),
-                Step::ReadingEntry => read_entry(os, host, id, value, va),
-                Step::Trying { perm } => try_send(os, host, id, value, va, perm),
-                Step::Pausing { perm } => pause_send(os, host, id, value, va, perm),
-                _ => no_send(os, host, id, value, va, step),
+            Service::Send { id, value, va } => match send_at(step) {
+                Some(at) => drive(&Send { id, value, va, at }, os, host),
+                None => drive(&Nowhere, os, host),
             },
-            Service::Receive { va, from } => match step {
-                Step::Entered => enter_receive(os, host, va, from),
-                Step::Receiving { id } => wait_message(os, host, va, from, id),
-                Step::ReadingValue { id } => read_value(os, host, va, from, id),
-                Step::ReadingSender { id, value } => read_sender(os, host, va, from, id, value),
-                Step::ReadingPerm { id, value, sender } => {
-                    read_perm(os, host, va, from, id, value, sender)
-                }
-                _ => no_receive(os, host, va, from, step),
+            Service::Receive { va, from } => match receive_at(step) {
+                Some(at) => drive(&Receive { va, from, at }, os, host),
+                None => drive(&Nowhere, os, host),
             },
             _ => unreachable!(),
         },

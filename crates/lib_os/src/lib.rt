@@ -33,8 +33,9 @@ pub use laws::{
     pipes_are_bounded, some_state_stands, steps_leave_others, words_tell_the_place,
 };
 pub use numbers::{
-    DESCRIPTORS, FDTABLE_END, PTE_SHARE, RESIDENT, SERVICE_RECEIVE, SERVICE_SEND, SERVICE_WAIT,
-    SERVICES, UVPD,
+    DESCRIPTORS, FDTABLE_END, PTE_SHARE, RESIDENT, SERVICE_CPUTS, SERVICE_EXIT, SERVICE_GETID,
+    SERVICE_PAGE_DROP, SERVICE_PAGE_NEW, SERVICE_RECEIVE, SERVICE_SEND, SERVICE_WAIT,
+    SERVICE_YIELD, SERVICES, UVPD,
 };
 pub use place::{Place, Step, find_place, words_at};
 pub use progress::Progress;

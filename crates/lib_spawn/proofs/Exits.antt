@@ -1,14 +1,14 @@
 -- exit: no descriptor is open, so that the environment ends at once, in both systems.
-use Rattle.std.proofs.Common.{◌≡◌, ◌∙◌, ℕ, ◌+◌, zero, suc, true, [], ◌∷◌, Option, Some, None, Ok, refl, sym, ap, subst}
+use Rattle.std.proofs.Common.{◌≡◌, ◌∙◌, ℕ, ◌+◌, zero, suc, true, [], ◌∷◌, Option, Some, None, refl, sym, ap, subst}
 use Rattle.std.specs.Prelude.{is_some}
 use Rattle.jos_base.specs.declared.called.Called.{Called}
-use Rattle.jos_base.specs.declared.called.Called.TheVariants.{Ended}
 use Rattle.jos_base.specs.declared.numbers.TheConstants.{SYS_ENV_DESTROY}
 use Rattle.jos_base.specs.Environments.{Slot as KernelSlot, is_live}
 use Rattle.jos_base.specs.KernelState.{KernelState, slot_at}
 use Rattle.jos_base.specs.SpacesState.{directory}
 use Rattle.jos_base.specs.SystemCalls.{without_environment}
-use Rattle.lib_os.specs.declared.numbers.TheConstants.{DESCRIPTORS}
+use Rattle.jos_base.proofs.Uses.{directory_is}
+use Rattle.lib_os.specs.declared.numbers.TheConstants.{DESCRIPTORS, SERVICE_EXIT}
 use Rattle.lib_os.specs.declared.place.Place.TheVariants as place
 use Rattle.lib_os.specs.declared.place.Step.{Step}
 use Rattle.lib_os.specs.declared.place.Step.TheVariants as step
@@ -19,15 +19,17 @@ use Rattle.lib_os.specs.AbstractState.{AbstractState, Born, entered}
 use Rattle.lib_os.specs.Descriptors.{first_from, exit_by}
 use Rattle.lib_os.specs.InOrder.{IsInOrder}
 use Rattle.lib_os.specs.LibraryCall.{library_step}
-use Rattle.lib_os.specs.LibrarySteps.{IsLibraryStep, GoesOn, NothingRefused}
+use Rattle.lib_os.specs.LibrarySteps.{Keeps}
 use Rattle.lib_os.specs.Places.{place_of}
-use Rattle.lib_os.specs.StandsFor.{StandsFor, Names, Row, rows_of, StandsAtStep, IsIn}
-use Rattle.lib_os.specs.UserCalls.{IsCallStep, system, Output}
-use Rattle.lib_os.proofs.Calls.{comes_to, env_destroy_is}
+use Rattle.lib_os.specs.StandsFor.{Row, rows_of, StandsAtStep, IsIn}
+use Rattle.lib_os.specs.UserCalls.{Step as Call}
+use Rattle.lib_os.proofs.Calls.{env_destroy_is}
 use Rattle.lib_os.proofs.EndsStand.{ended_stands}
 use Rattle.lib_os.proofs.Removing.{destroyed_gone}
-use Rattle.lib_os.proofs.Serving.{served, step_in, over, printed_nothing}
-use Rattle.jos_base.proofs.Uses.{directory_is}
+use Rattle.lib_os.proofs.Serving.{served, step_in, printed_nothing}
+use Rattle.lib_stage.specs.ServiceSteps.{ServiceHolds}
+use Rattle.lib_stage.proofs.Laws.{KeepsBy, law_of_end}
+use Rattle.lib_spawn.specs.WaitStages.{exiting}
 
 none_from : (descriptors : ℕ → Option ℕ) → ((fd : ℕ) → descriptors fd ≡ None) → (fd n : ℕ) → first_from is_some descriptors fd n ≡ None
 unfolding first_from
@@ -44,24 +46,21 @@ abstract_exit : (a : AbstractState) (n : ℕ) (b : Born) (k : KernelSlot) → ((
 unfolding library_step
 abstract_exit a n b k none = ap (λ (lowest : Option ℕ). Some (exit_by a n b lowest)) (none_from b.descriptors none 0 DESCRIPTORS)
 
-pub exits : (s mid : KernelState) (n : ℕ) (at : Step) (called : Called) (output : Output) →
-    place_of (slot_at s n) ≡ place.InService service.Exit at → is_live (slot_at s n) ≡ true → IsInOrder mid →
-    IsCallStep (system s n SYS_ENV_DESTROY (0 ∷ 0 ∷ 0 ∷ 0 ∷ 0 ∷ [])) (Ok called) mid output →
-    IsLibraryStep (Ok progress.Ended) n s mid output
-exits s mid n at called output stands live in_order call =
-    let came = comes_to (system s n SYS_ENV_DESTROY (0 ∷ 0 ∷ 0 ∷ 0 ∷ 0 ∷ [])) Ended called (without_environment s n) mid [] output
-    (env_destroy_is s n live (0 ∷ 0 ∷ 0 ∷ 0 ∷ [])) call in
-    over s mid n [] output (came.2) (goes (came.1))
-  where
-    goes : mid ≡ without_environment s n → (names : Names) (a : AbstractState) → StandsFor names s a → NothingRefused s mid → GoesOn n mid a []
-    goes is names a h quiet =
-        let v = served h n service.Exit at stands in
-        let here : IsIn (slot_at s n) v.b service.Exit entered = at_once (rows_of s.spaces (slot_at s n).directory) (slot_at s n) v.b at v.at in
-        let used = directory_is (s.spaces.uses (slot_at s n).directory) (h.in_order.spaces.in_use n live) in
-        let gone = destroyed_gone s.spaces (slot_at s n).directory h.in_order.frames used in
-        let done = ended_stands h n v.b v.is gone (subst (λ (t : KernelState). IsInOrder t) is in_order) in (
-          ended a n v.b,
-          step_in a n v.b (slot_at s n) service.Exit entered v.is here ∙ abstract_exit a n v.b (slot_at s n) v.own.descriptors,
-          printed_nothing a,
-          (names, subst (λ (t : KernelState). StandsFor names t (ended a n v.b)) (sym is) done),
-        )
+module _ (s : KernelState) (n : ℕ) (at : Step) (stands : place_of (slot_at s n) ≡ place.InService service.Exit at)
+    (live : is_live (slot_at s n) ≡ true) where
+  exit_keeps : IsInOrder (without_environment s n) → Keeps progress.Ended n s (without_environment s n) []
+  exit_keeps in_order a h quiet =
+      let v = served h.1 n service.Exit at stands in
+      let here : IsIn (slot_at s n) v.b service.Exit entered = at_once (rows_of s.spaces (slot_at s n).directory) (slot_at s n) v.b at v.at in
+      let used = directory_is (s.spaces.uses (slot_at s n).directory) (h.1.in_order.spaces.in_use n live) in
+      let gone = destroyed_gone s.spaces (slot_at s n).directory h.1.in_order.frames used in (
+        ended a n v.b,
+        step_in a n v.b (slot_at s n) service.Exit entered v.is here ∙ abstract_exit a n v.b (slot_at s n) v.own.descriptors,
+        printed_nothing a,
+        (h.0, ended_stands h.1 n v.b v.is gone in_order),
+      )
+
+  pub exit_holds : ServiceHolds s n exiting
+  exit_holds =
+      law_of_end s n service.Exit at stands refl SERVICE_EXIT SYS_ENV_DESTROY (0 ∷ 0 ∷ 0 ∷ 0 ∷ 0 ∷ []) refl refl
+      (subst (λ (z : Call Called). IsInOrder z.state → KeepsBy s n exiting z) (sym (env_destroy_is s n live (0 ∷ 0 ∷ 0 ∷ 0 ∷ []))) exit_keeps)

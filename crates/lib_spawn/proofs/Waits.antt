@@ -1,18 +1,18 @@
 -- wait: what it tries tells whether the other lives, in both systems; while it does, the environment waits.
-use Rattle.std.proofs.Common.{◌≡◌, ◌≢◌, ◌∙◌, ◌==◌, ◌%◌, ◌&&◌, ◌||◌, ◌⊎◌, inl, inr, ℕ, Bool, true, false, List, [], ◌∷◌, Option, Some, None, Ok}
+use Rattle.std.proofs.Common.{◌≡◌, ◌≢◌, ◌∙◌, ◌==◌, ◌%◌, ◌&&◌, ◌||◌, ◌⊎◌, inl, inr, ℕ, Bool, true, false, [], ◌∷◌, Option, Some, None}
 use Rattle.std.proofs.Common.{refl, sym, ap, subst, arith, if◌then◌else◌}
 use Rattle.std.specs.Prelude.{is_none}
 use Rattle.std.proofs.lemmas.Bool.Decides.{nat_tests}
 use Rattle.jos_base.specs.declared.called.Called.{Called}
 use Rattle.jos_base.specs.declared.called.Called.TheVariants.{Answered}
 use Rattle.jos_base.specs.declared.environment.Status.TheVariants.{Runnable}
-use Rattle.jos_base.specs.declared.numbers.TheConstants.{SYS_GETENVID, SYS_IPC_TRY_SEND, SYS_YIELD, E_BAD_ENV, E_INVAL, E_IPC_NOT_RECV, NENV}
+use Rattle.jos_base.specs.declared.numbers.TheConstants.{SYS_IPC_TRY_SEND, E_BAD_ENV, E_INVAL, E_IPC_NOT_RECV, NENV}
 use Rattle.jos_base.specs.declared.registers.Regs.{Regs}
 use Rattle.jos_base.specs.Environments.{Slot as KernelSlot, is_live, found}
 use Rattle.jos_base.specs.KernelState.{KernelState, slot_at, with_extra, with_status}
 use Rattle.jos_base.specs.Messages.{accepts}
 use Rattle.jos_base.specs.Words.{negated}
-use Rattle.lib_os.specs.declared.numbers.TheConstants.{SHORT_QUANTUM}
+use Rattle.lib_os.specs.declared.numbers.TheConstants.{SERVICE_WAIT, SHORT_QUANTUM}
 use Rattle.lib_os.specs.declared.place.Place.TheVariants as place
 use Rattle.lib_os.specs.declared.place.Step.{Step}
 use Rattle.lib_os.specs.declared.place.Step.TheVariants as step
@@ -22,24 +22,26 @@ use Rattle.lib_os.specs.AbstractRun.{abs_step, may_wait, phase_may_wait, slot_ma
 use Rattle.lib_os.specs.AbstractState.{AbstractState, Born, Slot, Phase, born, entered}
 use Rattle.lib_os.specs.Answers as abstract_system
 use Rattle.lib_os.specs.LibraryCall.{library_step}
-use Rattle.lib_os.specs.LibrarySteps.{IsLibraryStep, Follows, GoesOn, NothingRefused, answered}
+use Rattle.lib_os.specs.LibrarySteps.{Follows, Keeps, is_pausing}
 use Rattle.lib_os.specs.MemoryServices.{lives}
 use Rattle.lib_os.specs.Places.{place_of, words_at}
 use Rattle.lib_os.specs.Services.{service_of}
 use Rattle.lib_os.specs.StandsFor.{StandsFor, Names, Row, rows_of, StandsAtStep, IsIn, IsWaiting}
-use Rattle.lib_os.specs.UserCalls.{Step as Call, IsCallStep, answer_of, system, Output, Prints}
+use Rattle.lib_os.specs.UserCalls.{Step as Call, Got, got, giving, system}
 use Rattle.lib_os.proofs.Answering.{back_stands}
-use Rattle.lib_os.proofs.Calls.{comes_to}
-use Rattle.lib_os.proofs.GoingOn.{in_with_words, words_stand, hidden, never}
+use Rattle.lib_os.proofs.GoingOn.{in_with_words, words_stand}
+use Rattle.jos_base.proofs.Maps.{upd-at}
 use Rattle.lib_os.proofs.Numbered.{named_at}
-use Rattle.lib_os.proofs.Quieting.{own_id, same_state, no_bytes, turn_given, yield_quiet}
 use Rattle.lib_os.proofs.Sends.{found_some, found_none, nobody_named, never_taken}
-use Rattle.lib_os.proofs.Serving.{IsServed, served, step_in, finished, printed_nothing}
+use Rattle.lib_os.proofs.Serving.{IsServed, served, step_in, printed_nothing}
 use Rattle.lib_os.proofs.SlotsStand.{born_at}
 use Rattle.lib_os.proofs.StatesStand.{status_stands}
 use Rattle.lib_os.proofs.Trying.{IsAnswered, try_send_answered, there_stands}
+use Rattle.lib_stage.specs.declared.ask.Next.TheVariants as next
+use Rattle.lib_stage.specs.Nexts.{seen_as, settled}
+use Rattle.lib_spawn.specs.declared.services.WaitStage.TheVariants as stage
 use Rattle.lib_spawn.specs.Own.{is_waits}
-use Rattle.jos_base.proofs.Maps.{upd-at}
+use Rattle.lib_spawn.specs.WaitStages.{next_of}
 
 -- ---- the abstract step
 
@@ -82,66 +84,49 @@ waits_step a n b k id quantum is at there =
 
 -- ---- the first step
 
-module _ (s mid : KernelState) (n id own : ℕ) (called : Called) (output : Output)
-    (stands : place_of (slot_at s n) ≡ place.InService (service.Wait id) step.Entered) (live : is_live (slot_at s n) ≡ true)
-    (call : IsCallStep (system s n SYS_GETENVID (0 ∷ 0 ∷ 0 ∷ 0 ∷ 0 ∷ [])) (Ok called) mid output) (told : own ≡ answer_of called) where
-  own_is : own ≡ (slot_at s n).id
-  own_is = told ∙ own_id s n (0 ∷ 0 ∷ 0 ∷ 0 ∷ 0 ∷ []) live mid called output call
+module _ (s : KernelState) (n id : ℕ) (stands : place_of (slot_at s n) ≡ place.InService (service.Wait id) step.Entered) where
+  abbrev own : ℕ
+  own = (slot_at s n).id
 
-  mid_is : mid ≡ s
-  mid_is = same_state s n (0 ∷ 0 ∷ 0 ∷ 0 ∷ 0 ∷ []) live mid called output call
-
-  quiet_call : Prints output []
-  quiet_call = no_bytes s n (0 ∷ 0 ∷ 0 ∷ 0 ∷ 0 ∷ []) live mid called output call
-
-  pub wait_refused : (after : KernelState) (m word : ℕ) → m ≡ n → after ≡ answered mid m word → word ≡ negated E_INVAL →
-      (id ≡ 0) ⊎ (id ≡ own) → IsLibraryStep (Ok progress.Finished) n s after output
-  wait_refused after m word same state word_is why = finished s after n [] output quiet_call goes
+  pub entered_keeps : let x = next_of id stage.Entered own in Keeps (seen_as x) n s (settled SERVICE_WAIT x s n) []
+  entered_keeps = by_tests (id == 0) (id == own) refl refl
     where
-      state_is : after ≡ answered s n (negated E_INVAL)
-      state_is = state ∙ (λ i. answered (mid_is i) (same i) (word_is i))
-
-      by_own : (b : Born) → (slot_at s n).id ≡ b.id → (id ≡ 0) ⊎ (id ≡ own) → (id ≡ 0) ⊎ (id ≡ b.id)
-      by_own b e (inl none) = inl none
-      by_own b e (inr o) = inr (o ∙ own_is ∙ e)
-
-      goes : (names : Names) (a : AbstractState) → StandsFor names s a → NothingRefused s after → GoesOn n after a []
-      goes names a h quiet =
-          let v = served h n (service.Wait id) step.Entered stands in
+      refused : (id ≡ 0) ⊎ (id ≡ own) → let x = next.Answer (negated E_INVAL) in Keeps (seen_as x) n s (settled SERVICE_WAIT x s n) []
+      refused why a h quiet =
+          let v = served h.1 n (service.Wait id) step.Entered stands in
           let here : IsIn (slot_at s n) v.b (service.Wait id) entered = v.at in
           let regs = (slot_at s n).registers in (
             abstract_system.refused a n v.b regs E_INVAL,
             step_in a n v.b (slot_at s n) (service.Wait id) entered v.is here ∙ refused_step a n v.b regs id (by_own v.b v.own.id why),
             printed_nothing a,
+            (h.0, back_stands h.1 n v.b v.is (record regs { eax = negated E_INVAL }) here.silent here.awake refl),
+          )
+        where
+          by_own : (b : Born) → own ≡ b.id → (id ≡ 0) ⊎ (id ≡ own) → (id ≡ 0) ⊎ (id ≡ b.id)
+          by_own b e (inl none) = inl none
+          by_own b e (inr o) = inr (o ∙ e)
+
+      goes_on : id ≢ 0 → id ≢ own → let x = next.GoOn (step.Trying 0) in Keeps (seen_as x) n s (settled SERVICE_WAIT x s n) []
+      goes_on some other a h quiet =
+          let v = served h.1 n (service.Wait id) step.Entered stands in
+          let here : IsIn (slot_at s n) v.b (service.Wait id) entered = v.at in (
+            refl,
             (
-              names,
-              subst (λ (t : KernelState). StandsFor names t (abstract_system.refused a n v.b regs E_INVAL)) (sym state_is)
-                  (back_stands h n v.b v.is (record regs { eax = negated E_INVAL }) here.silent here.awake refl),
+              h.0,
+              words_stand h.1 n SERVICE_WAIT v.b v.is v.own (service.Wait id) (step.Trying 0) (named_at (slot_at s n) (service.Wait id) step.Entered stands)
+                  (record { is_in = in_with_words (words_at SERVICE_WAIT (step.Trying 0)) here; some = some; other = λ e. other (e ∙ sym v.own.id) }),
             ),
           )
 
-  pub wait_goes_on : (after : KernelState) (m : ℕ) → m ≡ n → after ≡ with_extra mid m (words_at 5 (step.Trying 0)) → id ≢ 0 → id ≢ own →
-      IsLibraryStep (Ok progress.Hidden) n s after output
-  wait_goes_on after m same state some other = hidden s after n output quiet_call goes
-    where
-      state_is : after ≡ with_extra s n (words_at 5 (step.Trying 0))
-      state_is = state ∙ (λ i. with_extra (mid_is i) (same i) (words_at 5 (step.Trying 0)))
-
-      goes : (names : Names) (a : AbstractState) → StandsFor names s a → NothingRefused s after → StandsFor names after a
-      goes names a h quiet =
-          let v = served h n (service.Wait id) step.Entered stands in
-          let here : IsIn (slot_at s n) v.b (service.Wait id) entered = v.at in
-          subst (λ (t : KernelState). StandsFor names t a) (sym state_is)
-          (words_stand h n 5 v.b v.is v.own (service.Wait id) (step.Trying 0) (named_at (slot_at s n) (service.Wait id) step.Entered stands)
-          (record {
-            is_in = in_with_words (words_at 5 (step.Trying 0)) here;
-            some = some;
-            other = λ e. other (e ∙ sym v.own.id ∙ sym own_is);
-          }))
+      by_tests : (t u : Bool) → (id == 0) ≡ t → (id == own) ≡ u →
+          let x = if t || u then next.Answer (negated E_INVAL) else next.GoOn (step.Trying 0) in Keeps (seen_as x) n s (settled SERVICE_WAIT x s n) []
+      by_tests true u none mine = refused (inl (grind (arith, nat_tests)))
+      by_tests false true some mine = refused (inr (grind (arith, nat_tests)))
+      by_tests false false some other = goes_on (grind (arith, nat_tests)) (grind (arith, nat_tests))
 
 -- ---- what it tries
 
-abbrev wait_call : KernelState → ℕ → ℕ → Call Called
+abbrev pub wait_call : KernelState → ℕ → ℕ → Call Called
 wait_call s n id = system s n SYS_IPC_TRY_SEND (id ∷ 0 ∷ 1 ∷ 0 ∷ 0 ∷ [])
 
 -- what was tried tells whether the other lives
@@ -153,125 +138,106 @@ other_answer : (t : Bool) (word : ℕ) → word ≡ (if t then negated E_INVAL e
 other_answer true word is bad = omega arith
 other_answer false word is bad = omega arith
 
-module _ (s mid : KernelState) (n id perm word : ℕ) (called : Called) (output : Output)
-    (stands : place_of (slot_at s n) ≡ place.InService (service.Wait id) (step.Trying perm)) (live : is_live (slot_at s n) ≡ true)
-    (call : IsCallStep (wait_call s n id) (Ok called) mid output) (told : word ≡ answer_of called) where
+abbrev word_of : Called → ℕ
+word_of (Answered word) = word
+word_of _ = 0
+
+abbrev word_got : Got Called → ℕ
+word_got (got called) = word_of called
+word_got _ = 0
+
+module _ (s : KernelState) (n id perm : ℕ) (stands : place_of (slot_at s n) ≡ place.InService (service.Wait id) (step.Trying perm))
+    (live : is_live (slot_at s n) ≡ true) where
+  pub tried_is : IsAnswered (wait_call s n id) n (slot_at s n).registers
+  tried_is = try_send_answered s n id 0 1 0 (0 ∷ []) live
+
+  abbrev mid : KernelState
+  mid = (wait_call s n id).state
+
+  abbrev word : ℕ
+  word = tried_is.answer
+
   tried : {names : Names} {a : AbstractState} → StandsFor names s a → (b : Born) → IsWaiting (slot_at s n) b id → Tried s mid n id word a
   tried {a = a} h b at = by_found (found s.environments id n false) refl
     where
+      told : (w : ℕ) → wait_call s n id ≡ giving s (Answered w) → (word ≡ w) × (mid ≡ s)
+      told w is = (
+        ap (λ (g : Got Called). word_got g) (sym tried_is.gives ∙ ap (λ (z : Call Called). z.gives) is),
+        ap (λ (z : Call Called). z.state) is,
+      )
+
       by_found : (f : Option ℕ) → found s.environments id n false ≡ f → Tried s mid n id word a
       by_found None none =
-          let came = comes_to (wait_call s n id) (Answered (negated E_BAD_ENV)) called s mid [] output
-          (nobody_named s n id 0 1 0 (0 ∷ []) live at.is_in.silent none) call in
-          let bad : word ≡ negated E_BAD_ENV = told ∙ ap answer_of (came.0) in
-          over bad (came.1) (sym (there_stands h id) ∙ found_none s.environments id n at.some none)
+          let came = told (negated E_BAD_ENV) (nobody_named s n id 0 1 0 (0 ∷ []) live at.is_in.silent none) in
+          over (came.0) (came.1) (sym (there_stands h id) ∙ found_none s.environments id n at.some none)
       by_found (Some target) named =
           let answer = if accepts (slot_at s target).rendezvous (slot_at s n).id then negated E_INVAL else negated E_IPC_NOT_RECV in
-          let came = comes_to (wait_call s n id) (Answered answer) called s mid [] output
-          (never_taken s n id 0 1 0 (0 ∷ []) live at.is_in.silent target named refl refl) call in
+          let came = told answer (never_taken s n id 0 1 0 (0 ∷ []) live at.is_in.silent target named refl refl) in
           let there = found_some s.environments id n at.some target named in
           let test : ((slot_at s (id % NENV)).id == id) ≡ true = let e = there.2 in grind (arith, nat_tests) in
-          lives_on (other_answer (accepts (slot_at s target).rendezvous (slot_at s n).id) word (told ∙ ap answer_of (came.0))) (came.1)
+          lives_on (other_answer (accepts (slot_at s target).rendezvous (slot_at s n).id) word (came.0)) (came.1)
           (sym (there_stands h id) ∙ rw (there.1, test) refl)
 
-  nothing_written : Prints output []
-  nothing_written =
-      subst (λ (written : List ℕ). Prints output written) (try_send_answered s n id 0 1 0 (0 ∷ []) live).written (call.2)
-
-  pub wait_is_over : (after : KernelState) (m : ℕ) → m ≡ n → after ≡ answered mid m 0 → word ≡ negated E_BAD_ENV →
-      IsLibraryStep (Ok progress.Finished) n s after output
-  wait_is_over after m same state bad = finished s after n [] output nothing_written goes
+  pub trying_keeps : let x = next_of id (stage.Trying perm) word in Keeps (seen_as x) n s (settled SERVICE_WAIT x mid n) []
+  trying_keeps a h quiet = by_test (word == negated E_BAD_ENV) refl (tried h.1 v.b v.at)
     where
-      by_tried : (names : Names) (a : AbstractState) → StandsFor names s a → (b : Born) → a.slots n ≡ born b →
-          IsWaiting (slot_at s n) b id → Tried s mid n id word a → GoesOn n after a []
-      by_tried names a h b is at (lives_on other as_before lives_there) = absurd (other bad)
-      by_tried names a h b is at (over bad_env as_before gone) =
+      v : IsServed h.0 s a n (service.Wait id) (step.Trying perm)
+      v = served h.1 n (service.Wait id) (step.Trying perm) stands
+
+      at : IsWaiting (slot_at s n) v.b id
+      at = v.at
+
+      by_test : (t : Bool) → (word == negated E_BAD_ENV) ≡ t → Tried s mid n id word a →
+          let x = if t then next.Answer 0 else next.Wait (step.Pausing perm) in Follows (seen_as x) n (settled SERVICE_WAIT x mid n) a []
+      by_test true is (lives_on other as_before there) = absurd (other (grind (arith, nat_tests)))
+      by_test false is (over bad as_before gone) = absurd (let no_bad : word ≢ negated E_BAD_ENV = grind (arith, nat_tests) in no_bad bad)
+      by_test true is (over bad as_before gone) =
           let regs = (slot_at s n).registers in
-          let state_is : after ≡ answered s n 0 = state ∙ (λ i. answered (as_before i) (same i) 0) in (
-            abstract_system.answered a n b regs 0,
-            step_in a n b (slot_at s n) (service.Wait id) entered is at.is_in ∙ over_step a n b regs id at.some at.other gone,
+          subst (λ (t : KernelState). Follows progress.Finished n (settled SERVICE_WAIT (next.Answer 0) t n) a []) (sym as_before) (
+            abstract_system.answered a n v.b regs 0,
+            step_in a n v.b (slot_at s n) (service.Wait id) entered v.is at.is_in ∙ over_step a n v.b regs id at.some at.other gone,
             printed_nothing a,
-            (
-              names,
-              subst (λ (t : KernelState). StandsFor names t (abstract_system.answered a n b regs 0)) (sym state_is)
-                  (back_stands h n b is (record regs { eax = 0 }) at.is_in.silent at.is_in.awake refl),
-            ),
+            (h.0, back_stands h.1 n v.b v.is (record regs { eax = 0 }) at.is_in.silent at.is_in.awake refl),
           )
-
-      goes : (names : Names) (a : AbstractState) → StandsFor names s a → NothingRefused s after → GoesOn n after a []
-      goes names a h quiet =
-          let v = served h n (service.Wait id) (step.Trying perm) stands in
-          by_tried names a h v.b v.is v.at (tried h v.b v.at)
-
-  pub wait_waits : (after : KernelState) (m : ℕ) → m ≡ n → after ≡ with_extra mid m (words_at 5 (step.Pausing perm)) →
-      word ≢ negated E_BAD_ENV → IsLibraryStep (Ok progress.Waited) n s after output
-  wait_waits after m same state not_bad = ([], nothing_written, λ a h quiet. goes h.0 a h.1)
-    where
-      by_tried : (names : Names) (a : AbstractState) → StandsFor names s a → IsServed names s a n (service.Wait id) (step.Trying perm) →
-          (b : Born) → Tried s mid n id word a → Follows progress.Waited n after a []
-      by_tried names a h v b (over bad as_before gone) = absurd (not_bad bad)
-      by_tried names a h v b (lives_on other as_before there) =
-          let at : IsWaiting (slot_at s n) v.b id = v.at in
-          let words = words_at 5 (step.Pausing perm) in
-          let state_is : after ≡ with_extra s n words = state ∙ (λ i. with_extra (as_before i) (same i) words) in (
+      by_test false is (lives_on other as_before there) =
+          let words = words_at SERVICE_WAIT (step.Pausing perm) in
+          subst (λ (t : KernelState). Follows progress.Waited n (settled SERVICE_WAIT (next.Wait (step.Pausing perm)) t n) a []) (sym as_before) (
             (
               refl,
               (
-                names,
-                subst (λ (t : KernelState). StandsFor names t a) (sym state_is)
-                    (words_stand h n 5 v.b v.is v.own (service.Wait id) (step.Pausing perm)
+                h.0,
+                words_stand h.1 n SERVICE_WAIT v.b v.is v.own (service.Wait id) (step.Pausing perm)
                     (named_at (slot_at s n) (service.Wait id) (step.Trying perm) stands)
-                    (record { is_in = in_with_words words at.is_in; some = at.some; other = at.other })),
+                    (record { is_in = in_with_words words at.is_in; some = at.some; other = at.other }),
               ),
             ),
             waits_step a n v.b (slot_at s n) id SHORT_QUANTUM v.is at there,
           )
 
-      goes : (names : Names) (a : AbstractState) → StandsFor names s a → Follows progress.Waited n after a []
-      goes names a h = let v = served h n (service.Wait id) (step.Trying perm) stands in by_tried names a h v v.b (tried h v.b v.at)
-
-  tried_is : IsAnswered (wait_call s n id) n (slot_at s n).registers
-  tried_is = try_send_answered s n id 0 1 0 (0 ∷ []) live
-
-  pub trier_lives : (m : ℕ) → m ≡ n → is_live (slot_at mid m) ≡ true
-  trier_lives m same = (λ i. is_live (slot_at (call.1 i) (same i))) ∙ tried_is.live
-
-  pub trier_keeps : (slot_at mid n).registers ≡ (slot_at s n).registers
-  trier_keeps = (λ i. (slot_at (call.1 i) n).registers) ∙ tried_is.registers
-
 -- ---- it gives up its turn
 
-module _ (s mid : KernelState) (n id perm : ℕ) (called : Called) (output : Output)
-    (stands : place_of (slot_at s n) ≡ place.InService (service.Wait id) (step.Pausing perm)) (live : is_live (slot_at s n) ≡ true)
-    (call : IsCallStep (system s n SYS_YIELD (0 ∷ 0 ∷ 0 ∷ 0 ∷ 0 ∷ [])) (Ok called) mid output) where
-  given : mid ≡ with_status s n Runnable
-  given = turn_given s n (0 ∷ 0 ∷ 0 ∷ 0 ∷ 0 ∷ []) live mid called output call
-
-  slot_is : slot_at (with_status s n Runnable) n ≡ record (slot_at s n) { status = Runnable }
-  slot_is = upd-at s.environments.slots n (record (slot_at s n) { status = Runnable })
-
-  pub wait_pauses : (after : KernelState) (m : ℕ) → m ≡ n → after ≡ with_extra mid m (words_at 5 (step.Trying perm)) →
-      IsLibraryStep (Ok progress.Hidden) n s after output
-  wait_pauses after m same state = hidden s after n output (yield_quiet s n (0 ∷ 0 ∷ 0 ∷ 0 ∷ 0 ∷ []) live mid called output call) goes
-    where
-      state_is : after ≡ with_extra (with_status s n Runnable) n (words_at 5 (step.Trying perm))
-      state_is = state ∙ (λ i. with_extra (given i) (same i) (words_at 5 (step.Trying perm)))
-
-      goes : (names : Names) (a : AbstractState) → StandsFor names s a → NothingRefused s after → StandsFor names after a
-      goes names a h quiet =
-          let v = served h n (service.Wait id) (step.Pausing perm) stands in
-          let at : IsWaiting (slot_at s n) v.b id = v.at in
-          let ran = status_stands h n v.b v.is at.is_in.awake in
-          let w = words_at 5 (step.Trying perm) in
-          let k : KernelSlot = record (slot_at s n) { status = Runnable } in
-          let in_it : IsIn k v.b (service.Wait id) entered =
-          record { program = at.is_in.program; phase = at.is_in.phase; silent = at.is_in.silent; awake = at.is_in.awake } in
-          subst (λ (t : KernelState). StandsFor names t a) (sym state_is)
-          (words_stand ran n 5 v.b v.is (born_at ran n v.b v.is) (service.Wait id) (step.Trying perm)
-          (subst (λ (x : KernelSlot). service_of (record x.registers { eax = 5 }) ≡ service.Wait id) (sym slot_is)
-          (named_at (slot_at s n) (service.Wait id) (step.Pausing perm) stands))
-          (subst (λ (x : KernelSlot). IsWaiting (record x { extra = w }) v.b id) (sym slot_is)
-          (record { is_in = in_with_words w in_it; some = at.some; other = at.other })))
+module _ (s : KernelState) (n id perm : ℕ) (stands : place_of (slot_at s n) ≡ place.InService (service.Wait id) (step.Pausing perm)) where
+  pub pausing_keeps : Keeps progress.Hidden n s (with_extra (with_status s n Runnable) n (words_at SERVICE_WAIT (step.Trying perm))) []
+  pausing_keeps a h quiet =
+      let v = served h.1 n (service.Wait id) (step.Pausing perm) stands in
+      let at : IsWaiting (slot_at s n) v.b id = v.at in
+      let ran = status_stands h.1 n v.b v.is at.is_in.awake in
+      let w = words_at SERVICE_WAIT (step.Trying perm) in
+      let slot_is : slot_at (with_status s n Runnable) n ≡ record (slot_at s n) { status = Runnable } =
+      upd-at s.environments.slots n (record (slot_at s n) { status = Runnable }) in
+      let k : KernelSlot = record (slot_at s n) { status = Runnable } in
+      let in_it : IsIn k v.b (service.Wait id) entered =
+      record { program = at.is_in.program; phase = at.is_in.phase; silent = at.is_in.silent; awake = at.is_in.awake } in (
+        refl,
+        (
+          h.0,
+          words_stand ran n SERVICE_WAIT v.b v.is (born_at ran n v.b v.is) (service.Wait id) (step.Trying perm)
+              (subst (λ (x : KernelSlot). service_of (record x.registers { eax = SERVICE_WAIT }) ≡ service.Wait id) (sym slot_is)
+              (named_at (slot_at s n) (service.Wait id) (step.Pausing perm) stands))
+              (subst (λ (x : KernelSlot). IsWaiting (record x { extra = w }) v.b id) (sym slot_is)
+              (record { is_in = in_with_words w in_it; some = at.some; other = at.other })),
+        ),
+      )
 
 -- ---- a step that it has not
 
@@ -281,9 +247,11 @@ no_such_step row k b id (step.Trying perm) not h = let contradiction : true ≡ 
 no_such_step row k b id (step.Pausing perm) not h = let contradiction : true ≡ false = not in cc
 no_such_step row k b id _ not h = h
 
-pub no_wait : (s mid after : KernelState) (n id : ℕ) (at : Step) (called : Called) (number : ℕ) (args : List ℕ) (output : Output) →
-    place_of (slot_at s n) ≡ place.InService (service.Wait id) at → is_waits at ≡ false →
-    IsCallStep (system s n number args) (Ok called) mid output → IsLibraryStep (Ok progress.Finished) n s after output
-no_wait s mid after n id at called number args output stands not call =
-    never s mid after n (system s n number args) called output progress.Finished call
-    (λ names a h. let v = served h n (service.Wait id) at stands in no_such_step (rows_of s.spaces (slot_at s n).directory) (slot_at s n) v.b id at not v.at)
+pub nowhere_in_wait : (s : KernelState) (n id : ℕ) (at : Step) → place_of (slot_at s n) ≡ place.InService (service.Wait id) at →
+    is_waits at ≡ false → (names : Names) (a : AbstractState) → StandsFor names s a → ⊥
+nowhere_in_wait s n id at stands not names a h =
+    let v = served h n (service.Wait id) at stands in no_such_step (rows_of s.spaces (slot_at s n).directory) (slot_at s n) v.b id at not v.at
+
+pub waits_no_pause : (id : ℕ) (at : Step) → is_waits at ≡ false → is_pausing (place.InService (service.Wait id) at) ≡ false
+waits_no_pause id (step.Pausing perm) not = not
+waits_no_pause id _ not = refl

@@ -11,7 +11,7 @@
 mod services;
 mod stack;
 
-pub use services::spawn_step;
+pub use services::{Exit, Wait, WaitStage, spawn_step};
 pub use stack::{
     ARGS_MAX, STACK_ROOM, StackBytes, fits_stack, stack_contents, stack_pointer, stack_size,
 };

@@ -1,0 +1,100 @@
+-- The law of send: each of its stages is a part of its one step in the abstract system.
+use Rattle.std.proofs.Common.{◌≡◌, ◌+◌, ◌*◌, ◌/◌, ◌==◌, ◌^◌, ◌<◌, ℕ, Bool, true, false, not, [], ◌∷◌, refl, sym, subst, arith, if◌then◌else◌}
+use Rattle.std.specs.Prelude.{bit_and}
+use Rattle.jos_base.specs.declared.called.Called.{Called}
+use Rattle.jos_base.specs.declared.numbers.TheConstants.{NPTENTRIES, PGSIZE, PTE_P, UVPT, E_INVAL, E_IPC_NOT_RECV}
+use Rattle.jos_base.specs.declared.numbers.TheConstants.{SYS_GETENVID, SYS_IPC_TRY_SEND}
+use Rattle.jos_base.specs.Environments.{is_live}
+use Rattle.jos_base.specs.KernelState.{KernelState, slot_at}
+use Rattle.jos_base.specs.Words.{negated}
+use Rattle.lib_os.specs.declared.numbers.TheConstants.{SERVICE_SEND, UVPD}
+use Rattle.lib_os.specs.declared.place.Place.TheVariants as place
+use Rattle.lib_os.specs.declared.place.Step.TheVariants as step
+use Rattle.lib_os.specs.declared.service.Service.TheVariants as service
+use Rattle.lib_os.specs.Fence.{is_page_inside}
+use Rattle.lib_os.specs.LibrarySteps.{is_pausing}
+use Rattle.lib_os.specs.Places.{place_of}
+use Rattle.lib_os.specs.StandsFor.{destination_of}
+use Rattle.lib_os.specs.UserCalls.{Step as Call, answer_of}
+use Rattle.lib_os.proofs.Calls.{getenvid_is}
+use Rattle.lib_os.proofs.Trying.{LivesOn}
+use Rattle.lib_stage.specs.declared.ask.Next.{Next}
+use Rattle.lib_stage.specs.declared.ask.Next.TheVariants as next
+use Rattle.lib_stage.specs.ServiceSteps.{Plan, ServiceHolds}
+use Rattle.lib_stage.proofs.Laws.{Falls, IsAt, KeepsBy, is_plain, answered_keeps, law_of_call, law_of_load, law_of_pause}
+use Rattle.lib_msg.specs.declared.send.SendStage.{SendStage}
+use Rattle.lib_msg.specs.declared.send.SendStage.TheVariants as stage
+use Rattle.lib_msg.specs.Own.{may_name, may_pass}
+use Rattle.lib_msg.specs.SendStages.{step_of, next_of, sending}
+use Rattle.lib_msg.proofs.Looking.{entered_keeps, region_word, region_there, region_follows}
+use Rattle.lib_msg.proofs.Entries.{word, entry_there, entry_follows}
+use Rattle.lib_msg.proofs.Sending.{send_call, sent, trying_keeps, pausing_keeps}
+
+module _ (s : KernelState) (n id value va : ℕ) (live : is_live (slot_at s n) ≡ true) where
+  -- ---- where it goes on from where, lower
+
+  abbrev Goes : SendStage → Next → Type 0
+  Goes at x = Falls (service.Send id value va) (step_of at) x
+
+  by_answer : (at : SendStage) (t : Bool) (word : ℕ) (x : Next) → Goes at x → Goes at (if t then next.Answer word else x)
+  by_answer at true word x goes = tt
+  by_answer at false word x goes = goes
+
+  falls : (at : SendStage) (word : ℕ) → Goes at (next_of id va at word)
+  falls stage.Entered own =
+      by_answer stage.Entered (not (may_name id own)) (negated E_INVAL) _
+      (by_page (va == 0) _ (by_answer stage.Entered (not (is_page_inside va)) (negated E_INVAL) _ (omega arith)))
+    where
+      by_page : (t : Bool) (x : Next) → Goes stage.Entered x → Goes stage.Entered (if t then next.GoOn (step.Trying 0) else x)
+      by_page true x goes = omega arith
+      by_page false x goes = goes
+  falls stage.ReadingRegion word = by_answer stage.ReadingRegion (not (bit_and word PTE_P == PTE_P)) (negated E_INVAL) _ (omega arith)
+  falls stage.ReadingEntry word = by_answer stage.ReadingEntry (not (may_pass word)) (negated E_INVAL) _ (omega arith)
+  falls (stage.Trying perm) word = by_test (word == negated E_IPC_NOT_RECV)
+    where
+      by_test : (t : Bool) → Goes (stage.Trying perm) (if t then next.Wait (step.Pausing perm) else next.Answer word)
+      by_test true = refl
+      by_test false = tt
+  falls (stage.Pausing perm) word = omega arith
+
+  -- ---- the law
+
+  abbrev plan : SendStage → Plan
+  plan at = sending (record { id = id; value = value; va = va; at = at })
+
+  module _ (small : value < 2 ^ 32) where
+    here : (at : SendStage) → place_of (slot_at s n) ≡ place.InService (service.Send id value va) (step_of at) →
+        is_plain (plan at).asks ≡ true → is_pausing (place.InService (service.Send id value va) (step_of at)) ≡ false →
+        IsAt s n (plan at) (service.Send id value va) (step_of at)
+    here at stands plain goes_on =
+        record { stands = stands; live = live; numbered = refl; plain = plain; goes_on = goes_on; falls = λ called. falls at (answer_of called) }
+
+    pub send_holds : (at : SendStage) → place_of (slot_at s n) ≡ place.InService (service.Send id value va) (step_of at) → ServiceHolds s n (plan at)
+    send_holds stage.Entered stands =
+        let args = 0 ∷ 0 ∷ 0 ∷ 0 ∷ 0 ∷ [] in
+        law_of_call s n (plan stage.Entered) (service.Send id value va) step.Entered (here stage.Entered stands refl refl) SYS_GETENVID args refl refl
+        (subst (λ (z : Call Called). LivesOn z n (slot_at s n).registers) (sym (getenvid_is s n live args)) (record { live = live; registers = refl; written = refl }))
+        (λ order. subst (λ (z : Call Called). KeepsBy s n (plan stage.Entered) z) (sym (getenvid_is s n live args)) (entered_keeps s n id value va stands))
+    send_holds stage.ReadingRegion stands =
+        law_of_load s n (plan stage.ReadingRegion) (service.Send id value va) step.ReadingRegion (here stage.ReadingRegion stands refl refl)
+        (UVPD + 4 * (va / PGSIZE / NPTENTRIES)) refl
+        (λ names a h. (
+          record { word = region_word s n id value va stands; is = region_there s n id value va stands names a h },
+          region_follows s n id value va stands names a h,
+        ))
+    send_holds stage.ReadingEntry stands =
+        law_of_load s n (plan stage.ReadingEntry) (service.Send id value va) step.ReadingEntry (here stage.ReadingEntry stands refl refl)
+        (UVPT + 4 * (va / PGSIZE)) refl
+        (λ names a h. (
+          record { word = word s n id value va stands; is = entry_there s n id value va stands names a h },
+          entry_follows s n id value va stands names a h,
+        ))
+    send_holds (stage.Trying perm) stands =
+        let it = sent s n id value va perm stands live small in
+        law_of_call s n (plan (stage.Trying perm)) (service.Send id value va) (step.Trying perm) (here (stage.Trying perm) stands refl refl)
+        SYS_IPC_TRY_SEND (id ∷ value ∷ destination_of va ∷ perm ∷ 0 ∷ []) refl refl
+        (record { live = it.live; registers = it.registers; written = it.written })
+        (answered_keeps s n (plan (stage.Trying perm)) (send_call s n id value va perm) it (trying_keeps s n id value va perm stands live small))
+    send_holds (stage.Pausing perm) stands =
+        law_of_pause s n (service.Send id value va) (step.Pausing perm) (step.Trying perm) SERVICE_SEND (0 ∷ 0 ∷ 0 ∷ 0 ∷ 0 ∷ []) stands live refl refl
+        (omega arith) (pausing_keeps s n id value va perm stands)

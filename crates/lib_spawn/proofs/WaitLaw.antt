@@ -1,0 +1,61 @@
+-- The law of wait: each of its stages is a part of its one step in the abstract system.
+use Rattle.std.proofs.Common.{◌≡◌, ◌==◌, ◌||◌, ℕ, Bool, true, false, [], ◌∷◌, refl, sym, subst, arith, if◌then◌else◌}
+use Rattle.jos_base.specs.declared.called.Called.{Called}
+use Rattle.jos_base.specs.declared.numbers.TheConstants.{E_BAD_ENV, E_INVAL, SYS_GETENVID, SYS_IPC_TRY_SEND}
+use Rattle.jos_base.specs.Environments.{is_live}
+use Rattle.jos_base.specs.KernelState.{KernelState, slot_at}
+use Rattle.jos_base.specs.Words.{negated}
+use Rattle.lib_os.specs.declared.numbers.TheConstants.{SERVICE_WAIT}
+use Rattle.lib_os.specs.declared.place.Place.TheVariants as place
+use Rattle.lib_os.specs.declared.place.Step.TheVariants as step
+use Rattle.lib_os.specs.declared.service.Service.TheVariants as service
+use Rattle.lib_os.specs.LibrarySteps.{is_pausing}
+use Rattle.lib_os.specs.Places.{place_of}
+use Rattle.lib_os.specs.UserCalls.{Step as Call, answer_of}
+use Rattle.lib_os.proofs.Calls.{getenvid_is}
+use Rattle.lib_os.proofs.Trying.{LivesOn}
+use Rattle.lib_stage.specs.declared.ask.Next.TheVariants as next
+use Rattle.lib_stage.specs.ServiceSteps.{Plan, ServiceHolds}
+use Rattle.lib_stage.proofs.Laws.{Falls, IsAt, KeepsBy, is_plain, answered_keeps, law_of_call, law_of_pause}
+use Rattle.lib_spawn.specs.declared.services.WaitStage.{WaitStage}
+use Rattle.lib_spawn.specs.declared.services.WaitStage.TheVariants as stage
+use Rattle.lib_spawn.specs.WaitStages.{step_of, next_of, waiting}
+use Rattle.lib_spawn.proofs.Waits.{entered_keeps, wait_call, tried_is, trying_keeps, pausing_keeps}
+
+module _ (s : KernelState) (n id : ℕ) (live : is_live (slot_at s n) ≡ true) where
+  falls : (at : WaitStage) (word : ℕ) → Falls (service.Wait id) (step_of at) (next_of id at word)
+  falls stage.Entered own = by_test ((id == 0) || (id == own))
+    where
+      by_test : (t : Bool) → Falls (service.Wait id) step.Entered (if t then next.Answer (negated E_INVAL) else next.GoOn (step.Trying 0))
+      by_test true = tt
+      by_test false = omega arith
+  falls (stage.Trying perm) word = by_test (word == negated E_BAD_ENV)
+    where
+      by_test : (t : Bool) → Falls (service.Wait id) (step.Trying perm) (if t then next.Answer 0 else next.Wait (step.Pausing perm))
+      by_test true = tt
+      by_test false = refl
+  falls (stage.Pausing perm) word = omega arith
+
+  abbrev plan : WaitStage → Plan
+  plan at = waiting (record { id = id; at = at })
+
+  here : (at : WaitStage) → place_of (slot_at s n) ≡ place.InService (service.Wait id) (step_of at) → is_plain (plan at).asks ≡ true →
+      is_pausing (place.InService (service.Wait id) (step_of at)) ≡ false → IsAt s n (plan at) (service.Wait id) (step_of at)
+  here at stands plain goes_on =
+      record { stands = stands; live = live; numbered = refl; plain = plain; goes_on = goes_on; falls = λ called. falls at (answer_of called) }
+
+  pub wait_holds : (at : WaitStage) → place_of (slot_at s n) ≡ place.InService (service.Wait id) (step_of at) → ServiceHolds s n (plan at)
+  wait_holds stage.Entered stands =
+      let args = 0 ∷ 0 ∷ 0 ∷ 0 ∷ 0 ∷ [] in
+      law_of_call s n (plan stage.Entered) (service.Wait id) step.Entered (here stage.Entered stands refl refl) SYS_GETENVID args refl refl
+      (subst (λ (z : Call Called). LivesOn z n (slot_at s n).registers) (sym (getenvid_is s n live args)) (record { live = live; registers = refl; written = refl }))
+      (λ order. subst (λ (z : Call Called). KeepsBy s n (plan stage.Entered) z) (sym (getenvid_is s n live args)) (entered_keeps s n id stands))
+  wait_holds (stage.Trying perm) stands =
+      let it = tried_is s n id perm stands live in
+      law_of_call s n (plan (stage.Trying perm)) (service.Wait id) (step.Trying perm) (here (stage.Trying perm) stands refl refl)
+      SYS_IPC_TRY_SEND (id ∷ 0 ∷ 1 ∷ 0 ∷ 0 ∷ []) refl refl
+      (record { live = it.live; registers = it.registers; written = it.written })
+      (answered_keeps s n (plan (stage.Trying perm)) (wait_call s n id) it (λ order. trying_keeps s n id perm stands live))
+  wait_holds (stage.Pausing perm) stands =
+      law_of_pause s n (service.Wait id) (step.Pausing perm) (step.Trying perm) SERVICE_WAIT (0 ∷ 0 ∷ 0 ∷ 0 ∷ 0 ∷ []) stands live refl refl
+      (omega arith) (pausing_keeps s n id perm stands)

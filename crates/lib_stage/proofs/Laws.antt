@@ -1,0 +1,345 @@
+-- The parts of a service's law that are the same for all services: by what it asks, and by where it goes on.
+use Rattle.std.proofs.Common.{◌≡◌, ◌∙◌, ◌+◌, ◌-◌, ◌^◌, ◌<◌, ◌==◌, ◌&&◌, ◌++◌, ℕ, Bool, true, false, not, List, [], length, Ok, Some, None, refl, sym, ap, subst}
+use Rattle.std.specs.Prelude.{min}
+use Rattle.jos_host.specs.Frames.{from_to}
+use Rattle.jos_base.specs.declared.called.Called.{Called}
+use Rattle.jos_base.specs.declared.called.Called.TheVariants.{Answered}
+use Rattle.jos_base.specs.declared.environment.Status.TheVariants.{Runnable}
+use Rattle.jos_base.specs.declared.numbers.TheConstants.{SYS_EXOFORK, SYS_YIELD}
+use Rattle.jos_base.specs.Environments.{Slot, is_live}
+use Rattle.jos_base.specs.KernelState.{KernelState, slot_at, with_extra, with_registers, with_status}
+use Rattle.jos_base.specs.SystemCalls.{system_call}
+use Rattle.lib_os.specs.declared.place.Place.TheVariants as place
+use Rattle.lib_os.specs.declared.place.Step.{Step as At}
+use Rattle.lib_os.specs.declared.progress.Progress.TheVariants as progress
+use Rattle.lib_os.specs.declared.service.Service.{Service}
+use Rattle.lib_os.specs.AbstractRun.{abs_step}
+use Rattle.lib_os.specs.AbstractState.{AbstractState}
+use Rattle.lib_os.specs.InOrder.{IsInOrder}
+use Rattle.lib_os.specs.LibrarySteps.{Stands, Follows, Keeps, KeepsUses, Leaves, LeavesRest, Lowers, is_pausing, steps_left}
+use Rattle.lib_os.specs.Places.{place_of, words_at}
+use Rattle.lib_os.specs.StandsFor.{StandsFor, Names}
+use Rattle.lib_os.specs.UserCalls.{Step, Got, got, to_handler, gone, giving, load, asking, system, may_print, Output}
+use Rattle.lib_os.proofs.Calls.{yield_is}
+use Rattle.lib_os.proofs.GoingOn.{went_to, lowered, gave_up, gives_nothing_up}
+use Rattle.lib_os.proofs.Leaving.{load_left, system_left, wakes}
+use Rattle.lib_os.proofs.Loading.{loaded, loaded_state, GivesWord}
+use Rattle.jos_base.proofs.Maps.{upd-at}
+use Rattle.lib_os.proofs.Numbered.{number_of}
+use Rattle.lib_os.proofs.StepsLeave.{Behind, behind, answers, goes_back, goes_on, stays}
+use Rattle.lib_os.proofs.Trying.{IsAnswered, LivesOn}
+use Rattle.lib_os.proofs.UsesCalled.{load_found, system_found}
+use Rattle.lib_os.proofs.WindowWords.{read_at}
+use Rattle.lib_stage.specs.declared.ask.Ask.{Ask}
+use Rattle.lib_stage.specs.declared.ask.Ask.TheVariants as ask
+use Rattle.lib_stage.specs.declared.ask.Next.{Next}
+use Rattle.lib_stage.specs.declared.ask.Next.TheVariants as next
+use Rattle.lib_stage.specs.Asks.{performed, got_as, told_as, MayFail}
+use Rattle.lib_stage.specs.Nexts.{settled, seen_as, is_gone}
+use Rattle.lib_stage.specs.ServiceSteps.{Plan, upshot_by, nowhere, PlanHolds, ServiceHolds}
+
+-- ---- what is left
+
+-- a call in which an environment neither forks nor wakes itself
+abbrev pub is_plain : Ask → Bool
+is_plain (ask.System number args) = not (number == SYS_EXOFORK) && not (wakes number)
+is_plain (ask.Load va) = true
+is_plain _ = false
+
+both_off : (t u : Bool) → (not t && not u) ≡ true → (t ≡ false) × (u ≡ false)
+both_off false false is = (refl, refl)
+both_off false true is = absurd (let contradiction : false ≡ true = is in cc)
+both_off true u is = absurd (let contradiction : false ≡ true = is in cc)
+
+plain_behind : (s : KernelState) (n : ℕ) (a : Ask) → is_plain a ≡ true → Behind s n (performed s n a).state
+unfolding performed
+plain_behind s n (ask.System number args) plain =
+    let both = both_off (number == SYS_EXOFORK) (wakes number) plain in behind s n number args both.0 both.1
+plain_behind s n (ask.Load va) plain =
+    record { left = load_left _ s n va; used = λ in_order live each. load_found s n in_order.frames each va }
+plain_behind s n (ask.LoadByte va) plain = absurd (let contradiction : false ≡ true = plain in cc)
+plain_behind s n (ask.Store va word) plain = absurd (let contradiction : false ≡ true = plain in cc)
+plain_behind s n (ask.StoreByte va byte) plain = absurd (let contradiction : false ≡ true = plain in cc)
+plain_behind s n (ask.Exchange va word) plain = absurd (let contradiction : false ≡ true = plain in cc)
+plain_behind s n ask.RestoreFrame plain = absurd (let contradiction : false ≡ true = plain in cc)
+
+settled_leaves : (s mid : KernelState) (n number : ℕ) (x : Next) → Behind s n mid → Leaves (Ok (seen_as x)) n s (settled number x mid n)
+settled_leaves s mid n number (next.Answer word) h = answers s mid _ n n word progress.Finished h refl
+settled_leaves s mid n number (next.Answers eax edx ecx ebx) h =
+    goes_back s mid _ n n (record (slot_at mid n).registers { eax = eax; edx = edx; ecx = ecx; ebx = ebx }) progress.Finished h refl
+settled_leaves s mid n number (next.GoOn at) h = goes_on s mid _ n n (words_at number at) progress.Hidden h refl
+settled_leaves s mid n number (next.Show at) h = goes_on s mid _ n n (words_at number at) progress.Visible h refl
+settled_leaves s mid n number (next.Wait at) h = goes_on s mid _ n n (words_at number at) progress.Waited h refl
+settled_leaves s mid n number next.Gone h = stays s mid n progress.Ended h
+
+pub plain_leaves : (s : KernelState) (n : ℕ) (plan : Plan) → is_plain plan.asks ≡ true →
+    let did = upshot_by plan n (performed s n plan.asks) (performed s n plan.asks).gives in Leaves (Ok did.progress) n s did.state
+plain_leaves s n plan plain = by_got (performed s n plan.asks).gives
+  where
+    by_got : (g : Got Called) → let did = upshot_by plan n (performed s n plan.asks) g in Leaves (Ok did.progress) n s did.state
+    by_got (got called) = settled_leaves s _ n plan.number (plan.next called) (plain_behind s n plan.asks plain)
+    by_got to_handler = stays s _ n progress.Ended (plain_behind s n plan.asks plain)
+    by_got gone = stays s _ n progress.Ended (plain_behind s n plan.asks plain)
+
+-- ---- who goes on
+
+-- Where the call gives a word, and the service is not gone by it, the environment lives on with its registers.
+pub record GoesOn (s : KernelState) (n : ℕ) (plan : Plan) (step : Step Called) : Type 0 where
+  pub live : (called : Called) → step.gives ≡ got called → is_gone (plan.next called) ≡ false → is_live (slot_at step.state n) ≡ true
+  pub registers : (called : Called) → step.gives ≡ got called → is_gone (plan.next called) ≡ false →
+      (slot_at step.state n).registers ≡ (slot_at s n).registers
+
+-- the number falls, or the service gives up its turn by its next step
+abbrev pub Falls : Service → At → Next → Type 0
+Falls service from (next.GoOn to) = steps_left (place.InService service to) < steps_left (place.InService service from)
+Falls service from (next.Wait to) = is_pausing (place.InService service to) ≡ true
+Falls service from _ = Unit {0}
+
+pub falling_lowers : (s : KernelState) (n : ℕ) (plan : Plan) (step : Step Called) (service : Service) (from : At) →
+    place_of (slot_at s n) ≡ place.InService service from → plan.number ≡ number_of service → GoesOn s n plan step →
+    ((called : Called) → Falls service from (plan.next called)) →
+    let did = upshot_by plan n step step.gives in Lowers (Ok did.progress) (place_of (slot_at s n)) (place_of (slot_at did.state n))
+falling_lowers s n plan step service from stands numbered goes falls = by_got step.gives refl
+  where
+    there : (to : At) → (slot_at step.state n).registers ≡ (slot_at s n).registers →
+        place_of (slot_at (settled plan.number (next.GoOn to) step.state n) n) ≡ place.InService service to
+    there to kept =
+        went_to s step.state (settled plan.number (next.GoOn to) step.state n) n n n service from to stands kept refl refl
+        (ap (λ (number : ℕ). settled number (next.GoOn to) step.state n) numbered)
+
+    by_next : (x : Next) → (is_gone x ≡ false → (slot_at step.state n).registers ≡ (slot_at s n).registers) → Falls service from x →
+        Lowers (Ok (seen_as x)) (place_of (slot_at s n)) (place_of (slot_at (settled plan.number x step.state n) n))
+    by_next (next.Answer word) kept falls = tt
+    by_next (next.Answers eax edx ecx ebx) kept falls = tt
+    by_next (next.GoOn to) kept falls = lowered _ _ service from to stands (there to (kept refl)) falls
+    by_next (next.Show to) kept falls = tt
+    by_next (next.Wait to) kept falls = ap is_pausing (there to (kept refl)) ∙ falls
+    by_next next.Gone kept falls = tt
+
+    by_got : (g : Got Called) → step.gives ≡ g →
+        let did = upshot_by plan n step g in Lowers (Ok did.progress) (place_of (slot_at s n)) (place_of (slot_at did.state n))
+    by_got (got called) is = by_next (plan.next called) (goes.registers called is) (falls called)
+    by_got to_handler is = tt
+    by_got gone is = tt
+
+-- ---- the law, by its parts
+
+-- the parts that are a service's own, by what its call comes to
+abbrev pub FollowsBy : KernelState → ℕ → Plan → AbstractState → Step Called → Type 0
+FollowsBy s n plan a step = let did = upshot_by plan n step step.gives in Follows did.progress n did.state a did.written
+
+abbrev pub KeepsBy : KernelState → ℕ → Plan → Step Called → Type 0
+KeepsBy s n plan step = let did = upshot_by plan n step step.gives in Keeps did.progress n s did.state did.written
+
+abbrev pub FailsBy : KernelState → ℕ → Plan → Step Called → Type 0
+FailsBy s n plan step = MayFail plan.asks step.gives → (a : AbstractState) → Stands s a →
+    (b : AbstractState) × (abs_step a n ≡ Some b) × (b.console ≡ a.console ++ step.written)
+
+-- a stage of a service, at which it stands and from which it goes on lower, and does not give up its turn
+pub record IsAt (s : KernelState) (n : ℕ) (plan : Plan) (service : Service) (from : At) : Type 0 where
+  pub stands : place_of (slot_at s n) ≡ place.InService service from
+  pub live : is_live (slot_at s n) ≡ true
+  pub numbered : plan.number ≡ number_of service
+  pub plain : is_plain plan.asks ≡ true
+  pub goes_on : is_pausing (place.InService service from) ≡ false
+  pub falls : (called : Called) → Falls service from (plan.next called)
+
+pub law_of : (s : KernelState) (n : ℕ) (plan : Plan) (service : Service) (from : At) → IsAt s n plan service from →
+    GoesOn s n plan (performed s n plan.asks) → (IsInOrder (performed s n plan.asks).state → KeepsBy s n plan (performed s n plan.asks)) →
+    FailsBy s n plan (performed s n plan.asks) → ServiceHolds s n plan
+law_of s n plan service from at goes keeps fails = record {
+  lives = goes.live;
+  keeps = keeps;
+  fails = fails;
+  leaves = plain_leaves s n plan at.plain;
+  lowers = falling_lowers s n plan (performed s n plan.asks) service from at.stands at.numbered goes at.falls;
+  gives_up =
+      let did = upshot_by plan n (performed s n plan.asks) (performed s n plan.asks).gives in
+      gives_nothing_up (Ok did.progress) (slot_at s n) (slot_at did.state n) (ap is_pausing at.stands ∙ at.goes_on);
+}
+
+-- ---- a call that is known, and prints nothing
+
+-- the environment lives on with its registers
+pub giving_goes : (s : KernelState) (n : ℕ) (plan : Plan) (step : Step Called) → LivesOn step n (slot_at s n).registers → GoesOn s n plan step
+giving_goes s n plan step on = record { live = λ called is stays. on.live; registers = λ called is stays. on.registers }
+
+pub law_of_call : (s : KernelState) (n : ℕ) (plan : Plan) (service : Service) (from : At) → IsAt s n plan service from →
+    (number : ℕ) (args : List ℕ) → plan.asks ≡ ask.System number args → may_print number ≡ false →
+    LivesOn (system s n number args) n (slot_at s n).registers →
+    (IsInOrder (system s n number args).state → KeepsBy s n plan (system s n number args)) → ServiceHolds s n plan
+unfolding performed
+law_of_call s n plan service from at number args asks silent on keeps =
+    let is : performed s n plan.asks ≡ system s n number args = ap (λ (x : Ask). performed s n x) asks in
+    law_of s n plan service from at
+    (subst (λ (z : Step Called). GoesOn s n plan z) (sym is) (giving_goes s n plan (system s n number args) on))
+    (subst (λ (z : Step Called). IsInOrder z.state → KeepsBy s n plan z) (sym is) keeps)
+    (λ may a h. absurd (let contradiction : true ≡ false = sym (subst (λ (x : Ask). MayFail x (performed s n plan.asks).gives) asks may) ∙ silent in cc))
+
+-- a call that has answered, by its answer
+pub answered_keeps : (s : KernelState) (n : ℕ) (plan : Plan) (step : Step Called) (it : IsAnswered step n (slot_at s n).registers) →
+    (IsInOrder step.state → let x = plan.next (Answered it.answer) in Keeps (seen_as x) n s (settled plan.number x step.state n) []) →
+    IsInOrder step.state → KeepsBy s n plan step
+answered_keeps s n plan step it keeps order =
+    subst (λ (g : Got Called). let did = upshot_by plan n step g in Keeps did.progress n s did.state did.written) (sym it.gives)
+    (subst (λ (written : List ℕ). let x = plan.next (Answered it.answer) in Keeps (seen_as x) n s (settled plan.number x step.state n) written) (sym it.written) (keeps order))
+
+-- a system call always gives something
+pub system_gives : (s : KernelState) (n number : ℕ) (args : List ℕ) → (called : Called) × ((system s n number args).gives ≡ got called)
+unfolding system
+system_gives s n number args = ((system_call (with_registers s n (asking (slot_at s n).registers number args)) n).called, refl)
+
+-- a system call after which the service shows its step and goes on, whatever is answered
+pub shown_keeps : (s : KernelState) (n number : ℕ) (args : List ℕ) (plan : Plan) (to : At) → LivesOn (system s n number args) n (slot_at s n).registers →
+    ((called : Called) → plan.next called ≡ next.Show to) →
+    Keeps progress.Visible n s (with_extra (system s n number args).state n (words_at plan.number to)) [] → KeepsBy s n plan (system s n number args)
+shown_keeps s n number args plan to on shows keeps =
+    let step = system s n number args in
+    let gives = system_gives s n number args in
+    subst (λ (g : Got Called). let did = upshot_by plan n step g in Keeps did.progress n s did.state did.written) (sym gives.1)
+    (subst (λ (x : Next). Keeps (seen_as x) n s (settled plan.number x step.state n) step.written) (sym (shows gives.0))
+    (subst (λ (written : List ℕ). Keeps progress.Visible n s (with_extra step.state n (words_at plan.number to)) written) (sym on.written) keeps))
+
+-- ---- a system call that prints nothing, behind which the environment is gone
+
+module _ (s : KernelState) (n : ℕ) (service : Service) (from : At) (stands : place_of (slot_at s n) ≡ place.InService service from)
+    (goes_on : is_pausing (place.InService service from) ≡ false) (number call : ℕ) (args : List ℕ)
+    (plain : is_plain (ask.System call args) ≡ true) (silent : may_print call ≡ false) where
+  abbrev ending : Plan
+  ending = record { number = number; asks = ask.System call args; next = λ called. next.Gone }
+
+  pub law_of_end : (IsInOrder (system s n call args).state → KeepsBy s n ending (system s n call args)) → ServiceHolds s n ending
+  unfolding performed
+  law_of_end keeps =
+      let did = upshot_by ending n (performed s n ending.asks) (performed s n ending.asks).gives in
+      record {
+        lives = λ called is stays. absurd (let contradiction : true ≡ false = stays in cc);
+        keeps = keeps;
+        fails = λ may a h. absurd (let contradiction : true ≡ false = sym may ∙ silent in cc);
+        leaves = plain_leaves s n ending plain;
+        lowers = ended_lowers (performed s n ending.asks).gives;
+        gives_up = gives_nothing_up (Ok did.progress) (slot_at s n) (slot_at did.state n) (ap is_pausing stands ∙ goes_on);
+      }
+    where
+      ended_lowers : (g : Got Called) → let did = upshot_by ending n (performed s n ending.asks) g in
+          Lowers (Ok did.progress) (place_of (slot_at s n)) (place_of (slot_at did.state n))
+      ended_lowers (got called) = tt
+      ended_lowers to_handler = tt
+      ended_lowers gone = tt
+
+-- ---- a stage that the service has not
+
+module _ (s : KernelState) (n : ℕ) (calm : is_pausing (place_of (slot_at s n)) ≡ false)
+    (none : (names : Names) (a : AbstractState) → StandsFor names s a → ⊥) where
+  pub nowhere_holds : ServiceHolds s n nowhere
+  unfolding performed
+  nowhere_holds =
+      let did = upshot_by nowhere n (performed s n nowhere.asks) (performed s n nowhere.asks).gives in
+      record {
+        lives = λ called is stays. absurd (let contradiction : true ≡ false = stays in cc);
+        keeps = λ order a h quiet. absurd (none h.0 a h.1);
+        fails = λ may a h. absurd (none h.0 a h.1);
+        leaves = plain_leaves s n nowhere refl;
+        lowers = ended_lowers (performed s n nowhere.asks).gives;
+        gives_up = gives_nothing_up (Ok did.progress) (slot_at s n) (slot_at did.state n) calm;
+      }
+    where
+      ended_lowers : (g : Got Called) → let did = upshot_by nowhere n (performed s n nowhere.asks) g in
+          Lowers (Ok did.progress) (place_of (slot_at s n)) (place_of (slot_at did.state n))
+      ended_lowers (got called) = tt
+      ended_lowers to_handler = tt
+      ended_lowers gone = tt
+
+-- ---- a load at a window
+
+-- what a load comes to that gives a word
+abbrev pub word_read : KernelState → ℕ → ℕ → ℕ → Step Called
+word_read s n va word = told_as (λ w. w) (read_at s n va word)
+
+told_got : (word : ℕ → ℕ) (called : Called) (g : Got ℕ) → got_as word g ≡ got called → (w : ℕ) × (g ≡ got w)
+told_got word called (got w) is = (w, refl)
+told_got word called to_handler is = absurd (let contradiction : ◌≡◌ {A = Got Called} to_handler (got called) = is in cc)
+told_got word called gone is = absurd (let contradiction : ◌≡◌ {A = Got Called} gone (got called) = is in cc)
+
+-- an output in which these bytes were printed
+abbrev printing : List ℕ → Output
+printing bytes = record { console = from_to None None; count = from_to 0 (min (0 + length bytes) (2 ^ 64 - 1)) }
+
+load_got : (s : KernelState) (n va word : ℕ) → (load s n va).gives ≡ got word → (load s n va).state ≡ loaded s n va
+load_got s n va word is =
+    loaded_state s (load s n va).state n va word (printing (load s n va).written) (is, refl, record { gains = refl; counted = refl })
+
+load_goes : (s : KernelState) (n : ℕ) (plan : Plan) (va : ℕ) → is_live (slot_at s n) ≡ true → GoesOn s n plan (told_as (λ w. w) (load s n va))
+load_goes s n plan va live = record {
+  live = λ called is stays. let w = told_got (λ w. w) called (load s n va).gives is in
+      (λ i. is_live (slot_at (load_got s n va w.0 w.1 i) n)) ∙ live;
+  registers = λ called is stays. let w = told_got (λ w. w) called (load s n va).gives is in
+      λ i. (slot_at (load_got s n va w.0 w.1 i) n).registers;
+}
+
+-- It gives a word wherever the state stands for an abstract one, and what follows is told by that word.
+pub law_of_load : (s : KernelState) (n : ℕ) (plan : Plan) (service : Service) (from : At) → IsAt s n plan service from →
+    (va : ℕ) → plan.asks ≡ ask.Load va →
+    ((names : Names) (a : AbstractState) → StandsFor names s a →
+    (w : GivesWord s n va) × (IsInOrder (loaded s n va) → FollowsBy s n plan a (word_read s n va w.word))) → ServiceHolds s n plan
+unfolding performed
+law_of_load s n plan service from at va asks gives =
+    law_of s n plan service from at
+    (subst (λ (z : Step Called). GoesOn s n plan z) (sym is) (load_goes s n plan va at.live))
+    (subst (λ (z : Step Called). IsInOrder z.state → KeepsBy s n plan z) (sym is) keeps)
+    (λ may a h. let w = (gives h.0 a h.1).0 in
+    let given : (performed s n plan.asks).gives ≡ got (Answered w.word) = ap (λ (z : Step Called). z.gives) is ∙ ap (λ (z : Step ℕ). got_as (λ w. w) z.gives) w.is in
+    let none : (performed s n plan.asks).gives ≡ gone = subst (λ (x : Ask). MayFail x (performed s n plan.asks).gives) asks may in
+    absurd (let contradiction : gone ≡ got (Answered w.word) = sym none ∙ given in cc))
+  where
+    is : performed s n plan.asks ≡ told_as (λ w. w) (load s n va)
+    is = ap (λ (x : Ask). performed s n x) asks
+
+    keeps : IsInOrder (load s n va).state → KeepsBy s n plan (told_as (λ w. w) (load s n va))
+    keeps order a h quiet =
+        let it = gives h.0 a h.1 in
+        subst (λ (z : Step ℕ). FollowsBy s n plan a (told_as (λ w. w) z)) (sym it.0.is)
+        (it.1 (subst (λ (t : KernelState). IsInOrder t) (ap (λ (z : Step ℕ). z.state) it.0.is) order))
+
+-- ---- a stage that gives up its turn, and then goes on
+
+module _ (s : KernelState) (n : ℕ) (service : Service) (from to : At) (number : ℕ) (args : List ℕ)
+    (stands : place_of (slot_at s n) ≡ place.InService service from) (live : is_live (slot_at s n) ≡ true)
+    (numbered : number ≡ number_of service) (pausing : is_pausing (place.InService service from) ≡ true) where
+  abbrev pub pause : Plan
+  pause = record { number = number; asks = ask.System SYS_YIELD args; next = λ called. next.GoOn to }
+
+  abbrev ran : KernelState
+  ran = with_status s n Runnable
+
+  abbrev after : KernelState
+  after = with_extra ran n (words_at number to)
+
+  slot_is : slot_at ran n ≡ record (slot_at s n) { status = Runnable }
+  slot_is = upd-at s.environments.slots n (record (slot_at s n) { status = Runnable })
+
+  rest : LeavesRest s ran
+  rest = subst (λ (z : Step Called). LeavesRest s z.state) (yield_is s n live args) (system_left s n SYS_YIELD args refl).rest
+
+  used : KeepsUses n s ran
+  used = subst (λ (z : Step Called). KeepsUses n s z.state) (yield_is s n live args) (λ in_order live each. system_found s n SYS_YIELD args in_order live each)
+
+  pub law_of_pause : steps_left (place.InService service to) < steps_left (place.InService service from) → Keeps progress.Hidden n s after [] →
+      ServiceHolds s n pause
+  unfolding performed
+  law_of_pause falls keeps =
+      let call : Step Called = giving ran (Answered 0) in
+      subst (λ (z : Step Called). PlanHolds s n pause z) (sym (yield_is s n live args)) (record {
+        lives = λ called is stays. ap (λ (k : Slot). is_live k) slot_is;
+        keeps = λ order. keeps;
+        fails = λ may a h. absurd (let contradiction : false ≡ true = may in cc);
+        leaves = (
+          record { last = rest.last; turns = rest.turns; frames = rest.frames; refused = rest.refused; told = rest.told },
+          (λ running silent runs. ap is_pausing stands ∙ pausing),
+          used,
+        );
+        lowers = falling_lowers s n pause call service from stands numbered
+            (record { live = λ called is stays. ap (λ (k : Slot). is_live k) slot_is; registers = λ called is stays. ap (λ (k : Slot). k.registers) slot_is })
+            (λ called. falls);
+        gives_up = gave_up s ran after n n n (words_at number to) refl refl refl refl;
+      })

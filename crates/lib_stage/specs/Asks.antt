@@ -1,0 +1,48 @@
+-- What an ask is: a call of the kernel, whose word is told as an answer.
+use Rattle.std.specs.Prelude.{◌≡◌, ℕ, ◌%◌, true, Result, Ok, Err}
+use Rattle.jos_base.specs.declared.called.Called.{Called}
+use Rattle.jos_base.specs.declared.called.Called.TheVariants.{Answered}
+use Rattle.jos_base.specs.KernelState.{KernelState}
+use Rattle.lib_os.specs.declared.user_os.Stop.{Stop}
+use Rattle.lib_os.specs.declared.user_os.Stop.TheVariants as stop
+use Rattle.lib_os.specs.UserCalls as call
+use Rattle.lib_os.specs.UserCalls.{Step, Got, got, to_handler, gone, Output, Prints, PrintsPart, may_print}
+use Rattle.lib_stage.specs.declared.ask.Ask.{Ask}
+use Rattle.lib_stage.specs.declared.ask.Ask.TheVariants as ask
+
+abbrev pub got_as : {X : Type 0} → (X → ℕ) → Got X → Got Called
+got_as word (got x) = got (Answered (word x))
+got_as word to_handler = to_handler
+got_as word gone = gone
+
+abbrev pub told_as : {X : Type 0} → (X → ℕ) → Step X → Step Called
+told_as word step = record { state = step.state; gives = got_as word step.gives; written = step.written }
+
+-- the state after the call, what it gives and what is written
+unfoldable pub performed : KernelState → ℕ → Ask → Step Called
+performed s n (ask.System number args) = call.system s n number args
+performed s n (ask.Load va) = told_as (λ word. word) (call.load s n va)
+performed s n (ask.LoadByte va) = told_as (λ byte. byte) (call.load_byte s n va)
+performed s n (ask.Store va word) = told_as (λ done. 0) (call.store s n va word)
+performed s n (ask.StoreByte va byte) = told_as (λ done. 0) (call.store_byte s n va byte)
+performed s n (ask.Exchange va word) = told_as (λ stood. stood) (call.exchange s n va word)
+performed s n ask.RestoreFrame = told_as (λ done. 0) (call.restore_frame s n)
+
+-- words lie at multiples of four
+abbrev pub IsAligned : Ask → Type 0
+IsAligned (ask.Load va) = va % 4 ≡ 0
+IsAligned (ask.Store va word) = va % 4 ≡ 0
+IsAligned (ask.Exchange va word) = va % 4 ≡ 0
+IsAligned _ = Unit {0}
+
+-- The host may fail in it: in a system call that prints, and where the environment is destroyed by its fault.
+abbrev pub MayFail : Ask → Got Called → Type 0
+MayFail (ask.System number args) gives = may_print number ≡ true
+MayFail _ gives = gives ≡ gone
+
+-- what came of it
+abbrev pub IsPerformed : Ask → Step Called → Result Called Stop → KernelState → Output → Type 0
+IsPerformed a step (Ok called) state output = (step.gives ≡ got called) × (state ≡ step.state) × Prints output step.written
+IsPerformed a step (Err stop.Upcall) state output = (step.gives ≡ to_handler) × (state ≡ step.state) × Prints output step.written
+IsPerformed a step (Err stop.Ended) state output = (step.gives ≡ gone) × (state ≡ step.state) × Prints output step.written
+IsPerformed a step (Err stop.Failed) state output = MayFail a step.gives × PrintsPart output step.written
