@@ -7,7 +7,7 @@ use Rattle.jos_elf.specs.Parsed.{Layout}
 use Rattle.jos_kernel.specs.Boot.{any_touches, any_writes, page_bytes, stack_page}
 use Rattle.fs_layout.specs.FileTree.{a_directory, no_more}
 use Rattle.lib_os.specs.AbstractMemory.{has_page_in}
-use Rattle.lib_os.specs.AbstractState.{AbstractState, Born, Page, own, Place, Slot, free, born, serving, guest, at_guest, idle, terminal}
+use Rattle.lib_os.specs.AbstractState.{AbstractState, Born, Page, own, TablePlace, Slot, free, born, serving, guest, at_guest, idle, terminal}
 use Rattle.lib_spawn.specs.StackPage.{stack_contents}
 use Rattle.jos_run.specs.Boot.{program_registers, stack_segment}
 
@@ -40,7 +40,7 @@ program_with image words memory = record {
 abbrev pub first_slot : Born → ℕ → Slot
 first_slot b n = if n == 0 then serving FIRST_ENV_ID else if n == 1 then born b else free 0
 
-abbrev pub no_place : Place
+abbrev pub no_place : TablePlace
 no_place = record { held_by = None; used = false }
 
 -- the server and this program alone

@@ -128,7 +128,7 @@ pub data Server : Type 0 where
   acted : ℕ → ℕ → List ℕ → Option ℕ → Server
 
 -- a place of the table of open files
-pub record Place : Type 0 where
+pub record TablePlace : Type 0 where
   -- the object that has it
   pub held_by : Option ℕ
   -- whether any ever had it
@@ -148,7 +148,7 @@ pub record AbstractState : Type 0 where
   -- the next name of a page, an object or a pipe
   pub next_name : ℕ
   pub files : FileSystem
-  pub opened : ℕ → Place
+  pub opened : ℕ → TablePlace
   pub server : Server
   -- the bytes that were printed
   pub console : List ℕ
