@@ -3,14 +3,14 @@
 ghost use Rattle.std.specs.Prelude.{◌^◌, ◌<◌, length, IfOk};
 ghost use Rattle.jos_sys.specs.System.{Keeps};
 
-use anyhow::bail;
-use jos_base::{Access, FRAMES_MIN, PGSIZE, Status, UTEMP, UTEXT};
+use anyhow::{Context, bail, ensure};
+use jos_base::{Access, FRAMES_MIN, PGSIZE, Status, UTEXT};
 use jos_elf::{Part, parse, write};
 use jos_kernel::boot_images;
 use jos_sys::System;
 use std::alloc::Global;
 use std::marker::Model;
-use test_cases::{Told, given, numbers};
+use test_cases::{Bench, Told, given, numbers};
 
 /// A system in which an image was booted.
 #[derive(Drop)]
@@ -118,37 +118,13 @@ fn tell_directories(alloc: Global, words: &str) -> anyhow::Result<Told> {
 }
 
 impl ImageBench {
-    /// A system in which an image is booted: code, data that are bytes of the code too, and a page of one byte behind the
-    /// file's bytes.
-    pub(crate) fn new(alloc: Global) -> anyhow::Result<ImageBench> {
-        let parts = [
-            Part {
-                va: UTEXT + 0x20,
-                at: 0,
-                len: 8,
-                mem_len: 8,
-                writable: false,
-            },
-            Part {
-                va: UTEXT + 0x28,
-                at: 5,
-                len: 3,
-                mem_len: 0x1000,
-                writable: true,
-            },
-            Part {
-                va: UTEMP - 1,
-                at: 8,
-                len: 0,
-                mem_len: 1,
-                writable: false,
-            },
-        ];
-        let bytes = [1, 2, 3, 4, 5, 6, 7, 8];
-        let file = match write(alloc, UTEXT + 0x24, &parts, &bytes) {
+    /// A system in which the image is booted whose file these digits spell.
+    fn new(alloc: Global, digits: &str) -> anyhow::Result<ImageBench> {
+        let file = match hex::decode(alloc, digits) {
             Ok(file) => file,
-            Err(_) => bail!("no memory"),
+            Err(_) => bail!("no bytes"),
         };
+        ensure!(file.len() < 1 << 32, "a long file");
         let mut system = new_system(alloc)?;
         if boot(&mut system, file) {
             Ok(ImageBench { system })
@@ -156,14 +132,17 @@ impl ImageBench {
             bail!("the image is not booted")
         }
     }
+}
 
-    /// What is asked of the environment.
-    pub(crate) fn answer(
-        &mut self,
-        alloc: Global,
-        what: &str,
-        words: &str,
-    ) -> anyhow::Result<Told> {
+impl Bench for ImageBench {
+    fn of(alloc: Global, line: &str) -> anyhow::Result<ImageBench> {
+        let digits = line
+            .strip_prefix("image ")
+            .context(format_args!("{line} is not tried"))?;
+        ImageBench::new(alloc, digits)
+    }
+
+    fn answer(&mut self, alloc: Global, what: &str, words: &str) -> anyhow::Result<Told> {
         let environment = self.system.environment(0);
         match what {
             "status" => Ok(Told::Text(format!(in alloc; "{:?}", environment.status)?)),

@@ -4,11 +4,12 @@ use crate::words::Words;
 use std::alloc::Global;
 use std::io;
 use std::io::Input;
+use test_cases::tell_lines;
 
 /// What answers the cases of a program.
 pub trait Answers: Sized {
-    /// What comes of a case.
-    fn answer(&mut self, alloc: Global, words: Words) -> io::Result<String>;
+    /// Adds what comes of a case.
+    fn answer(&mut self, alloc: Global, out: &mut String, words: Words) -> io::Result<()>;
 }
 
 /// Answers the cases of the input.
@@ -16,17 +17,11 @@ pub fn tell_cases<A: Answers>(
     rt: &(impl Print + Input),
     alloc: Global,
     answers: &mut A,
-) -> io::Result<()> {
-    for line in rt.lines(alloc) {
-        let line = line?;
-        let line = line.as_str();
-        if line.is_empty() || line.starts_with('#') {
-            println!(rt; "{line}")?;
-        } else {
-            let (name, case) = line.split_once(": ").unwrap_or((line, line));
-            let text = answers.answer(alloc, Words::new(case))?;
-            println!(rt; "{name} = {text}")?;
-        }
-    }
-    Ok(())
+) -> anyhow::Result<()> {
+    tell_lines(rt, alloc, |line| {
+        let (name, case) = line.split_once(": ").unwrap_or((line, line));
+        let mut out = format!(in alloc; "{name} = ")?;
+        answers.answer(alloc, &mut out, Words::new(case))?;
+        Ok(out)
+    })
 }

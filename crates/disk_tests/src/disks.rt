@@ -1,20 +1,11 @@
 //! What may be a disk, and what stands on it.
 
-use crate::bytes::{put_words, tell_words};
 use crate::layout::tell_entry;
+use case_words::told_bytes;
 use fs_contents::{list, read_file};
 use fs_image::{CheckFault, DiskBytes, DiskFault, check, read_disk};
 use jos_host::{MemHost, NamedBytes};
 use std::alloc::{AllocError, Global};
-
-/// Bytes, cut or lengthened to so many, with words put into them.
-pub(crate) fn changed(alloc: Global, bytes: &[u8], change: &str) -> Result<Vec<u8>, AllocError> {
-    let (len, words) = change.split_once(' ').unwrap_or((change, ""));
-    let mut changed = Vec::from_slice(alloc, bytes)?;
-    changed.resize(len.parse().unwrap_or(0), 0)?;
-    put_words(&mut changed, words);
-    Ok(changed)
-}
 
 /// A host with the file `disk`, whose call of this number fails, if one is given.
 fn host_of(alloc: Global, bytes: &[u8], fails: Option<u64>) -> Result<MemHost, AllocError> {
@@ -105,12 +96,7 @@ pub(crate) fn read(alloc: Global, bytes: &[u8], path: &str) -> Result<String, Al
         return String::from_str(alloc, "no disk");
     };
     match read_file(alloc, disk.bytes(), path.as_bytes()) {
-        Ok(file) => {
-            let len = file.len();
-            let mut text = format!(in alloc; "{len} bytes")?;
-            tell_words(&mut text, &file)?;
-            Ok(text)
-        }
+        Ok(file) => told_bytes(alloc, &file),
         Err(fault) => format!(in alloc; "{fault:?}"),
     }
 }

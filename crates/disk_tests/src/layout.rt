@@ -1,10 +1,26 @@
 //! Records, super blocks and paths.
 
-use crate::bytes::{put_words, tell_name, tell_words};
+use case_words::{put_words, tell_words};
 use fs_layout::{
     BLKSIZE, Entry, RECORDSIZE, decode_entry, decode_super, encode_entry, encode_super, parts,
 };
 use std::alloc::{AllocError, Global};
+
+/// Adds bytes up to the last one that is not 0: letters and the like as they are, others as two digits.
+fn tell_name(text: &mut String, name: &[u8]) -> Result<(), AllocError> {
+    let len = match name.iter().rposition(|byte| *byte != 0) {
+        Some(last) => last + 1,
+        None => 0,
+    };
+    for byte in &name[..len] {
+        if byte.is_ascii_graphic() {
+            text.push(char::from(*byte))?;
+        } else {
+            write!(text, "\\{byte:02x}")?;
+        }
+    }
+    Ok(())
+}
 
 /// Adds what a record says.
 pub(crate) fn tell_entry(text: &mut String, entry: &Entry) -> Result<(), AllocError> {

@@ -1,4 +1,4 @@
-//! What the crates of the disk answer, a case a line.
+//! What fs_layout, fs_image and fs_contents answer of disks, a case a line.
 //!
 //! Each line of `stdin` is a case, and the line of `stdout` with the same number has what is wanted for it, worked out by
 //! hand from `docs/disk.md`. A comment and an empty line are repeated.
@@ -8,28 +8,24 @@
 //! | `record WORD..` | the record with these bytes, and the bytes of it as it is written |
 //! | `super WORD..` | the same of a super block |
 //! | `parts PATH` | where the names stand in a path |
-//! | `image-fault N`, `make-fault N` | the N-th fault of a list of them, and its text as `{}` has it and as `text` |
+//! | `image-fault N` | the N-th fault of a list of them, and its text as `{}` has it and as `text` |
 //! | `disk LEN WORD..` | what `check` tells of these bytes, to which the next cases go |
 //! | `check LEN WORD..` | what it tells of them with other words, in so many bytes |
 //! | `reads CALL NAME..` | what a host answers of its files, whose call of this number fails: the disk is its file `disk` |
 //! | `list PATH`, `read PATH` | what `list` and `read_file` give |
-//! | `make BLOCKS \| NAME LEN WORD.. \| ..` | the image of files, `length ..` of it the length alone |
 //!
-//! Bytes are told by the words in them that are not 0, in hexadecimal digits behind their places (`src/bytes.rt`).
+//! Bytes are told by the words in them that are not 0, in hexadecimal digits behind their places (`case_words`).
 #![tactic(auto)]
 
-mod bytes;
 mod disks;
 mod layout;
-mod making;
 
-use crate::disks::{changed, checked, listed, read, reads};
+use crate::disks::{checked, listed, read, reads};
 use crate::layout::{names_in, record, super_block};
-use crate::making::{length, made};
+use case_words::changed;
 use fs_image::ImageFault;
-use fs_make::MakeFault;
 use std::alloc::{AllocError, Global};
-use std::io;
+use test_cases::tell_lines;
 
 /// A fault of each kind, with the greatest numbers too.
 static IMAGE_FAULTS: [ImageFault; 14] = [
@@ -49,17 +45,6 @@ static IMAGE_FAULTS: [ImageFault; 14] = [
     ImageFault::SameName(u64::MAX),
 ];
 
-/// The same for the making of a disk.
-static MAKE_FAULTS: [MakeFault; 7] = [
-    MakeFault::TooManyBlocks,
-    MakeFault::BadName(0),
-    MakeFault::TwiceNamed(7),
-    MakeFault::TooLong(12),
-    MakeFault::NoRoom,
-    MakeFault::NoMemory,
-    MakeFault::TwiceNamed(u32::MAX),
-];
-
 /// The text of a fault of a disk.
 fn image_fault(alloc: Global, place: &str) -> Result<String, AllocError> {
     match IMAGE_FAULTS.get(place.parse::<usize>().unwrap_or(usize::MAX)) {
@@ -72,30 +57,14 @@ fn image_fault(alloc: Global, place: &str) -> Result<String, AllocError> {
     }
 }
 
-/// The text of a fault of files of which no disk is made.
-fn make_fault(alloc: Global, place: &str) -> Result<String, AllocError> {
-    match MAKE_FAULTS.get(place.parse::<usize>().unwrap_or(usize::MAX)) {
-        Some(fault) => {
-            let text = fault.text();
-            let text = text.as_str();
-            format!(in alloc; "{fault:?}: {fault}; {text}")
-        }
-        None => String::from_str(alloc, "no fault"),
-    }
-}
-
 /// What is told for a line, by the disk of the lines before it.
 fn answer(alloc: Global, disk: &mut Vec<u8>, line: &str) -> Result<String, AllocError> {
-    if line.is_empty() || line.starts_with('#') {
-        return String::from_str(alloc, line);
-    }
     let (case, given) = line.split_once(' ').unwrap_or((line, ""));
     match case {
         "record" => record(alloc, given),
         "super" => super_block(alloc, given),
         "parts" => names_in(alloc, given),
         "image-fault" => image_fault(alloc, given),
-        "make-fault" => make_fault(alloc, given),
         "disk" => {
             *disk = changed(alloc, &[], given)?;
             checked(alloc, disk)
@@ -104,17 +73,15 @@ fn answer(alloc: Global, disk: &mut Vec<u8>, line: &str) -> Result<String, Alloc
         "reads" => reads(alloc, disk, given),
         "list" => listed(alloc, disk, given),
         "read" => read(alloc, disk, given),
-        "make" => made(alloc, given),
-        "length" => length(alloc, given),
         _ => String::from_str(alloc, "no case"),
     }
 }
 
-fn main(rt: HostRuntime) -> io::Result<()> {
+fn main(rt: HostRuntime) -> anyhow::Result<()> {
     let mut disk = Vec::new(rt.alloc());
-    for line in rt.lines(rt.alloc()) {
-        let told = answer(rt.alloc(), &mut disk, line?.as_str())?;
-        println!(rt; "{told}")?;
-    }
-    Ok(())
+    tell_lines(
+        &rt,
+        rt.alloc(),
+        |line| Ok(answer(rt.alloc(), &mut disk, line)?),
+    )
 }

@@ -27,18 +27,16 @@ use std::io;
 struct Tried;
 
 impl Answers for Tried {
-    fn answer(&mut self, alloc: Global, mut words: Words) -> io::Result<String> {
-        let mut out = String::new(alloc);
+    fn answer(&mut self, alloc: Global, out: &mut String, mut words: Words) -> io::Result<()> {
         match words.word() {
-            "elf" => images::answer(alloc, &mut out, words)?,
-            "asm" => programs::assemble(alloc, &mut out, words)?,
-            "demo" => programs::demo(alloc, &mut out, words)?,
-            _ => out.push_str("no case")?,
+            "elf" => images::answer(alloc, out, words),
+            "asm" => programs::assemble(alloc, out, words),
+            "demo" => programs::demo(alloc, out, words),
+            _ => Ok(out.push_str("no case")?),
         }
-        Ok(out)
     }
 }
 
-fn main(rt: HostRuntime) -> io::Result<()> {
+fn main(rt: HostRuntime) -> anyhow::Result<()> {
     tell_cases(&rt, rt.alloc(), &mut Tried)
 }

@@ -22,8 +22,7 @@ use lib_os::{
 };
 use lib_spawn::{fits_stack, stack_contents, stack_pointer, stack_size};
 use std::alloc::{AllocError, Global};
-use std::io;
-use test_cases::{given_registers, program_words, twelve_numbers};
+use test_cases::{given_registers, program_words, tell_lines, twelve_numbers};
 
 /// The place of a program that is about to try a service.
 fn trying(alloc: Global, given: &str) -> Result<String, AllocError> {
@@ -37,7 +36,7 @@ fn trying(alloc: Global, given: &str) -> Result<String, AllocError> {
 }
 
 /// Adds bytes.
-pub(crate) fn tell_bytes(text: &mut String, bytes: &[u8]) -> Result<(), AllocError> {
+fn tell_bytes(text: &mut String, bytes: &[u8]) -> Result<(), AllocError> {
     for byte in bytes {
         write!(text, " {byte:02x}")?;
     }
@@ -61,8 +60,9 @@ fn tell_holds(alloc: Global, holds: bool) -> Result<String, AllocError> {
     format!(in alloc; "{holds}")
 }
 
-/// What is told for a case.
-fn tell_case(alloc: Global, case: &str, given: &str) -> Result<String, AllocError> {
+/// What is told for a line.
+fn answer(alloc: Global, line: &str) -> Result<String, AllocError> {
+    let (case, given) = line.split_once(' ').unwrap_or((line, ""));
     let [first, second, ..] = twelve_numbers(given);
     match case {
         "page" => tell_holds(alloc, is_page_inside(first)),
@@ -83,19 +83,6 @@ fn tell_case(alloc: Global, case: &str, given: &str) -> Result<String, AllocErro
     }
 }
 
-/// What is told for a line.
-fn answer(alloc: Global, line: &str) -> Result<String, AllocError> {
-    if line.is_empty() || line.starts_with('#') {
-        return String::from_str(alloc, line);
-    }
-    let (case, given) = line.split_once(' ').unwrap_or((line, ""));
-    tell_case(alloc, case, given)
-}
-
-fn main(rt: HostRuntime) -> io::Result<()> {
-    for line in rt.lines(rt.alloc()) {
-        let told = answer(rt.alloc(), line?.as_str())?;
-        println!(rt; "{told}")?;
-    }
-    Ok(())
+fn main(rt: HostRuntime) -> anyhow::Result<()> {
+    tell_lines(&rt, rt.alloc(), |line| Ok(answer(rt.alloc(), line)?))
 }

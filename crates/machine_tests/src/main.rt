@@ -43,21 +43,19 @@ const ERRORS: [(&str, Errno); 7] = [
 struct Tried;
 
 impl Answers for Tried {
-    fn answer(&mut self, alloc: Global, mut words: Words) -> io::Result<String> {
-        let mut out = String::new(alloc);
+    fn answer(&mut self, alloc: Global, out: &mut String, mut words: Words) -> io::Result<()> {
         match words.word() {
             "error" => match named(&ERRORS, words.word()) {
-                Some(errno) => write!(out, "{:x}", errno.code())?,
-                None => out.push_str("no error")?,
+                Some(errno) => Ok(write!(out, "{:x}", errno.code())?),
+                None => Ok(out.push_str("no error")?),
             },
-            "alu" => arithmetic::answer(&mut out, words)?,
-            "isa" => instructions::answer(alloc, &mut out, words)?,
-            _ => out.push_str("no case")?,
+            "alu" => Ok(arithmetic::answer(out, words)?),
+            "isa" => instructions::answer(alloc, out, words),
+            _ => Ok(out.push_str("no case")?),
         }
-        Ok(out)
     }
 }
 
-fn main(rt: HostRuntime) -> io::Result<()> {
+fn main(rt: HostRuntime) -> anyhow::Result<()> {
     tell_cases(&rt, rt.alloc(), &mut Tried)
 }

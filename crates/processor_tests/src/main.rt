@@ -26,17 +26,15 @@ struct Tried {
 }
 
 impl Answers for Tried {
-    fn answer(&mut self, alloc: Global, mut words: Words) -> io::Result<String> {
-        let mut out = String::new(alloc);
+    fn answer(&mut self, alloc: Global, out: &mut String, mut words: Words) -> io::Result<()> {
         match words.word() {
-            "cpu" => processor::answer(alloc, &mut self.decodings, &mut out, words)?,
-            _ => out.push_str("no case")?,
+            "cpu" => processor::answer(alloc, &mut self.decodings, out, words),
+            _ => Ok(out.push_str("no case")?),
         }
-        Ok(out)
     }
 }
 
-fn main(rt: HostRuntime) -> io::Result<()> {
+fn main(rt: HostRuntime) -> anyhow::Result<()> {
     let alloc = rt.alloc();
     let mut tried = Tried {
         decodings: Decodings::new(alloc)?,

@@ -1,9 +1,7 @@
 //! The memory of the tests.
 
-ghost use Rattle.std.specs.Prelude.{◌≡◌, ◌<◌, ◌+◌, ◌%◌, ◌^◌, slice_index, slice_set, if◌then◌else◌};
-ghost use Rattle.jos_cpu.specs.Memory.{Memory, after};
-ghost use Rattle.jos_base.specs.Reach.{write_bit};
-ghost use Rattle.processor_tests.specs.TestMemory.{offset, test_memory_allows, test_memory_fault};
+ghost use Rattle.std.specs.Prelude.{◌≡◌, ◌+◌, ◌%◌, ◌^◌, if◌then◌else◌};
+ghost use Rattle.processor_tests.specs.TestMemory.{offset, test_memory_allows, test_memory_fault, test_memory_table};
 
 use jos_alu::Width;
 use jos_base::{Access, FEC_U, FEC_WR, PageFault};
@@ -71,13 +69,7 @@ impl Mem for TestMemory {
 
     ghost seen = { λ w. w };
 
-    ghost table = { record {
-      byte = λ w va. slice_index w.bytes (offset w.base va);
-      allowed = λ w va access. test_memory_allows w.base w.locked 128 va access;
-      fault = λ w va access. test_memory_fault va access;
-      reached = λ w va access. if w.standing then w else record w { touched = (w.touched + 1) % 2 ^ 32 };
-      stored = λ w va byte. record w { bytes = slice_set w.bytes (offset w.base va) byte };
-    } };
+    ghost table = { test_memory_table };
 
     fn probe(&mut self, va: u32, len: u32, access: Access) -> Result<(), MemFault> {
         let mut at = va;

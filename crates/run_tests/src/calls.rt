@@ -5,12 +5,12 @@ ghost use Rattle.std.specs.Prelude.{◌%◌, ◌≡◌, ◌<◌};
 ghost use Rattle.jos_base.specs.declared.numbers.TheConstants.{NENV};
 
 use crate::telling::{quoted, tell_numbers};
-use jos_base::{Called, Extra, Regs};
+use jos_base::{Called, Extra};
 use jos_host::MemHost;
 use jos_run::Served;
 use lib_os::{Stop, UserOs};
 use std::alloc::{AllocError, Global};
-use test_cases::{given_registers, twelve_numbers};
+use test_cases::{given_registers, register_words, twelve_numbers};
 
 /// An environment in a slot, over a host without files and input at which no call fails.
 #[derive(Drop)]
@@ -100,22 +100,7 @@ impl Bench {
             return String::from_str(alloc, "gone");
         }
         match call {
-            "registers" => {
-                let Regs {
-                    eax,
-                    ecx,
-                    edx,
-                    ebx,
-                    esp,
-                    ebp,
-                    esi,
-                    edi,
-                    eip,
-                    eflags,
-                } = self.served.registers();
-                let words = [eax, ecx, edx, ebx, esp, ebp, esi, edi, eip, eflags];
-                tell_numbers(alloc, &words)
-            }
+            "registers" => tell_numbers(alloc, &register_words(&self.served.registers())),
             "set_registers" => {
                 self.served.set_registers(given_registers(given));
                 String::from_str(alloc, "done")

@@ -24,13 +24,10 @@ use crate::beginning::{boot, first, frames};
 use crate::calls::Bench;
 use crate::stepping::steps;
 use std::alloc::{AllocError, Global};
-use std::io;
+use test_cases::tell_lines;
 
 /// What is told for a line, by the environment of the lines before it.
 fn answer(alloc: Global, bench: &mut Option<Bench>, line: &str) -> Result<String, AllocError> {
-    if line.is_empty() || line.starts_with('#') {
-        return String::from_str(alloc, line);
-    }
     let (case, given) = line.split_once(' ').unwrap_or((line, ""));
     match case {
         "steps" => steps(alloc, given),
@@ -48,11 +45,9 @@ fn answer(alloc: Global, bench: &mut Option<Bench>, line: &str) -> Result<String
     }
 }
 
-fn main(rt: HostRuntime) -> io::Result<()> {
+fn main(rt: HostRuntime) -> anyhow::Result<()> {
     let mut bench = None;
-    for line in rt.lines(rt.alloc()) {
-        let told = answer(rt.alloc(), &mut bench, line?.as_str())?;
-        println!(rt; "{told}")?;
-    }
-    Ok(())
+    tell_lines(&rt, rt.alloc(), |line| {
+        Ok(answer(rt.alloc(), &mut bench, line)?)
+    })
 }

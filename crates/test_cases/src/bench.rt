@@ -1,5 +1,6 @@
 //! What is tried, and how the lines reach it.
 
+use crate::lines::tell_lines;
 use crate::told::Told;
 use anyhow::bail;
 use std::alloc::Global;
@@ -14,38 +15,26 @@ pub trait Bench: Sized + Drop {
     fn answer(&mut self, alloc: Global, what: &str, words: &str) -> anyhow::Result<Told>;
 }
 
-/// Does what a line says, and prints what comes of it.
-fn tell_line<B: Bench>(
-    rt: &impl Print,
-    alloc: Global,
-    bench: &mut Option<B>,
-    line: &str,
-) -> anyhow::Result<()> {
+/// Does what a line says, and tells what comes of it.
+fn tell_line<B: Bench>(alloc: Global, bench: &mut Option<B>, line: &str) -> anyhow::Result<String> {
     match line.split_once(": ") {
         None => {
             *bench = Some(B::of(alloc, line)?);
-            println!(rt; "{line}")?;
+            Ok(String::from_str(alloc, line)?)
         }
         Some((name, case)) => match bench {
             None => bail!("{name} stands before what is tried"),
             Some(bench) => {
                 let (what, words) = case.split_once(" ").unwrap_or((case, ""));
                 let told = bench.answer(alloc, what, words)?;
-                println!(rt; "{name}: {told}")?;
+                Ok(format!(in alloc; "{name}: {told}")?)
             }
         },
     }
-    Ok(())
 }
 
-/// Answers the cases of the input. Empty lines are passed over.
+/// Answers the cases of the input.
 pub fn tell_cases<B: Bench>(rt: &(impl Print + Input), alloc: Global) -> anyhow::Result<()> {
     let mut bench: Option<B> = None;
-    for line in rt.lines(alloc) {
-        let line = line?;
-        if !line.is_empty() {
-            tell_line(rt, alloc, &mut bench, line.as_str())?;
-        }
-    }
-    Ok(())
+    tell_lines(rt, alloc, |line| tell_line(alloc, &mut bench, line))
 }

@@ -1,4 +1,4 @@
-//! What a line gives in hexadecimal digits, and words that stand behind bars.
+//! What a line gives in hexadecimal digits, registers among it, and words that stand behind bars.
 
 use jos_base::Regs;
 use std::alloc::{AllocError, Global};
@@ -27,6 +27,22 @@ pub fn given_registers(given: &str) -> Regs {
         eip,
         eflags,
     }
+}
+
+/// Registers as words, in the same order.
+pub fn register_words(registers: &Regs) -> [u32; 10] {
+    [
+        registers.eax,
+        registers.ecx,
+        registers.edx,
+        registers.ebx,
+        registers.esp,
+        registers.ebp,
+        registers.esi,
+        registers.edi,
+        registers.eip,
+        registers.eflags,
+    ]
 }
 
 /// The words of a program, each of which stands behind a bar.

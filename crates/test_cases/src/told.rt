@@ -1,5 +1,6 @@
 //! What comes of a case.
 
+use crate::digits::register_words;
 use jos_base::Regs;
 use std::alloc::{AllocError, Global};
 use std::fmt;
@@ -43,21 +44,7 @@ impl Told {
 
     /// EAX, ECX, EDX, EBX, ESP, EBP, ESI, EDI, EIP and EFLAGS.
     pub fn registers(alloc: Global, registers: &Regs) -> Result<Told, AllocError> {
-        Told::words(
-            alloc,
-            &[
-                registers.eax,
-                registers.ecx,
-                registers.edx,
-                registers.ebx,
-                registers.esp,
-                registers.ebp,
-                registers.esi,
-                registers.edi,
-                registers.eip,
-                registers.eflags,
-            ],
-        )
+        Told::words(alloc, &register_words(registers))
     }
 }
 

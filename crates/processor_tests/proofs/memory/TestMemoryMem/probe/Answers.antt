@@ -6,9 +6,8 @@ use Rattle.jos_base.specs.declared.memory.Access.TheVariants.{Read, Write}
 use Rattle.jos_cpu.specs.Memory.{Probed}
 use Rattle.jos_cpu.specs.declared.memory.MemFault.{MemFault}
 use Rattle.processor_tests.specs.declared.memory.TestMemory.{TestMemory}
-use Rattle.processor_tests.specs.TestMemory.{test_memory_allows}
+use Rattle.processor_tests.specs.TestMemory.{test_memory_allows, test_memory_table}
 use Rattle.jos_cpu.proofs.Probing.{at_start, on_byte, on_refused, at_end}
-use Rattle.processor_tests.proofs.memory.TestMemoryMem.probe.Invariants.{test_memory_table}
 use Rattle.processor_tests.proofs.memory.TestMemoryMem.probe.Goals as goal
 
 -- what may be written may be read

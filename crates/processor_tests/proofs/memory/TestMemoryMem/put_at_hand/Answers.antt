@@ -1,22 +1,13 @@
-use Rattle.std.proofs.Common.{◌≡◌, ℕ, ◌+◌, ◌<◌, ◌≤◌, ◌/◌, ◌%◌, ◌^◌, true, refl, arith}
-use Rattle.std.specs.Prelude.{nat_le, nat_lt, slice_index, slice_set, if◌then◌else◌}
+use Rattle.std.proofs.Common.{◌≡◌, ℕ, ◌+◌, ◌<◌, ◌≤◌, ◌/◌, ◌%◌, true, refl, arith}
+use Rattle.std.specs.Prelude.{nat_le, nat_lt, slice_set}
 use Rattle.std.proofs.lemmas.Bool.Decides.{nat_tests}
 use Rattle.jos_alu.specs.declared.width.Width.TheVariants.{Bits8, Bits32}
 use Rattle.processor_tests.specs.declared.memory.TestMemory.{TestMemory}
-use Rattle.jos_cpu.specs.Memory.{Memory, after, probed}
+use Rattle.jos_cpu.specs.Memory.{after, probed}
 use Rattle.jos_cpu.specs.Transfers.{stored_number}
 use Rattle.jos_cpu.specs.AtHand.{IsPut}
-use Rattle.processor_tests.specs.TestMemory.{offset, test_memory_allows, test_memory_fault}
+use Rattle.processor_tests.specs.TestMemory.{offset, test_memory_table}
 use Rattle.processor_tests.proofs.memory.TestMemoryMem.put_at_hand.Goals as goal
-
-abbrev test_memory_table : Memory TestMemory
-test_memory_table = record {
-  byte = λ w va. slice_index w.bytes (offset w.base va);
-  allowed = λ w va access. test_memory_allows w.base w.locked 128 va access;
-  fault = λ w va access. test_memory_fault va access;
-  reached = λ w va access. if w.standing then w else record w { touched = (w.touched + 1) % 2 ^ 32 };
-  stored = λ w va byte. record w { bytes = slice_set w.bytes (offset w.base va) byte };
-}
 
 module _ (w : TestMemory) (standing : w.standing ≡ true) (va value : ℕ) where
   byte_put : w.locked ≤ offset w.base va → offset w.base va < 128 →

@@ -4,7 +4,7 @@
 //! another. In what is given, `12424:4+1*2044/4096` is so many words of which each is greater by 1, and stands 4096 bytes
 //! behind the one before it.
 
-use std::alloc::AllocError;
+use std::alloc::{AllocError, Global};
 
 /// Words.
 #[derive(Drop)]
@@ -44,7 +44,7 @@ fn put_word(bytes: &mut [u8], place: usize, word: u32) {
 }
 
 /// Puts words at their places.
-pub(crate) fn put_words(bytes: &mut [u8], words: &str) {
+pub fn put_words(bytes: &mut [u8], words: &str) {
     for run in words.split_whitespace() {
         if let Some(run) = read_run(run) {
             let mut place = run.place;
@@ -56,6 +56,15 @@ pub(crate) fn put_words(bytes: &mut [u8], words: &str) {
             }
         }
     }
+}
+
+/// Bytes, cut or lengthened to so many, with words put into them.
+pub fn changed(alloc: Global, bytes: &[u8], change: &str) -> Result<Vec<u8>, AllocError> {
+    let (len, words) = change.split_once(' ').unwrap_or((change, ""));
+    let mut changed = Vec::from_slice(alloc, bytes)?;
+    changed.resize(len.parse().unwrap_or(0), 0)?;
+    put_words(&mut changed, words);
+    Ok(changed)
 }
 
 /// The word in four bytes or fewer, as if zeros followed.
@@ -77,7 +86,7 @@ fn tell_equal(text: &mut String, place: usize, word: u32, count: u32) -> Result<
 }
 
 /// Adds the words of bytes.
-pub(crate) fn tell_words(text: &mut String, bytes: &[u8]) -> Result<(), AllocError> {
+pub fn tell_words(text: &mut String, bytes: &[u8]) -> Result<(), AllocError> {
     let mut first = 0;
     let mut word = 0;
     let mut count = 0u32;
@@ -96,18 +105,10 @@ pub(crate) fn tell_words(text: &mut String, bytes: &[u8]) -> Result<(), AllocErr
     tell_equal(text, first, word, count)
 }
 
-/// Adds bytes up to the last one that is not 0: letters and the like as they are, others as two digits.
-pub(crate) fn tell_name(text: &mut String, name: &[u8]) -> Result<(), AllocError> {
-    let len = match name.iter().rposition(|byte| *byte != 0) {
-        Some(last) => last + 1,
-        None => 0,
-    };
-    for byte in &name[..len] {
-        if byte.is_ascii_graphic() {
-            text.push(char::from(*byte))?;
-        } else {
-            write!(text, "\\{byte:02x}")?;
-        }
-    }
-    Ok(())
+/// How many bytes these are, and their words.
+pub fn told_bytes(alloc: Global, bytes: &[u8]) -> Result<String, AllocError> {
+    let len = bytes.len();
+    let mut text = format!(in alloc; "{len} bytes")?;
+    tell_words(&mut text, bytes)?;
+    Ok(text)
 }

@@ -11,7 +11,7 @@ use jos_host::MemHost;
 use jos_kernel::{End, ExoEnd, Kernel, Report, Trace, exo_run};
 use jos_sched::{Schedule, parse_schedule};
 use std::alloc::Global;
-use test_cases::{Told, number};
+use test_cases::{Bench, Told, number};
 
 /// What is run: two codes, so many steps at most, by a schedule. So many traps are kept.
 #[derive(Drop)]
@@ -208,25 +208,21 @@ impl Run {
     }
 }
 
-/// The last run.
+/// The last run, if a plan was run.
 #[derive(Drop)]
 pub(crate) struct RunBench {
     run: Option<Run>,
 }
 
-impl RunBench {
-    /// No run yet.
-    pub(crate) fn new() -> RunBench {
-        RunBench { run: None }
+impl Bench for RunBench {
+    fn of(_alloc: Global, line: &str) -> anyhow::Result<RunBench> {
+        match line {
+            "runs" => Ok(RunBench { run: None }),
+            _ => bail!("{line} is not tried"),
+        }
     }
 
-    /// Makes a run of a plan, or tells of the last run.
-    pub(crate) fn answer(
-        &mut self,
-        alloc: Global,
-        what: &str,
-        words: &str,
-    ) -> anyhow::Result<Told> {
+    fn answer(&mut self, alloc: Global, what: &str, words: &str) -> anyhow::Result<Told> {
         match what {
             "run" => {
                 let run = Run::whole(alloc, words)?;

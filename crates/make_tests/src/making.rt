@@ -1,7 +1,6 @@
 //! Disks that are made of files.
 
-use crate::bytes::tell_words;
-use crate::disks::changed;
+use case_words::{changed, told_bytes};
 use fs_make::{MakeFault, make};
 use jos_host::NamedBytes;
 use std::alloc::{AllocError, Global};
@@ -35,12 +34,7 @@ fn image_of(alloc: Global, given: &str) -> Result<Result<Vec<u8>, MakeFault>, Al
 /// The image of so many blocks with files, word by word.
 pub(crate) fn made(alloc: Global, given: &str) -> Result<String, AllocError> {
     match image_of(alloc, given)? {
-        Ok(image) => {
-            let len = image.len();
-            let mut text = format!(in alloc; "{len} bytes")?;
-            tell_words(&mut text, &image)?;
-            Ok(text)
-        }
+        Ok(image) => told_bytes(alloc, &image),
         Err(fault) => format!(in alloc; "{fault:?}"),
     }
 }
