@@ -14,7 +14,7 @@ pub mod GuestUses
 pub mod GuestLeaves
 pub mod Guests
 pub mod ProgramSteps
-pub mod Serves
+pub mod ServicesHold
 pub mod StackLoaded
 pub mod Touched
 pub mod Booted

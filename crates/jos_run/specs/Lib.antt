@@ -14,3 +14,4 @@ pub mod RunSteps
 pub mod RunReports
 pub mod Running
 pub mod RunEnds
+pub mod Plans

@@ -11,6 +11,7 @@ mod laws;
 mod library_run;
 mod programs;
 mod served;
+mod services;
 mod steps;
 mod turns;
 

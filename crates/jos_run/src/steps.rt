@@ -6,7 +6,7 @@ ghost use Rattle.jos_host.specs.Frames.{Unchanged, from_to};
 ghost use Rattle.jos_base.specs.Environments.{is_live, is_runnable, is_running};
 ghost use Rattle.jos_base.specs.KernelState.{slot_at};
 ghost use Rattle.lib_os.specs.InOrder.{IsInOrder};
-ghost use Rattle.lib_os.specs.LibrarySteps.{IsLibraryStep, Leaves, Lowers};
+ghost use Rattle.lib_os.specs.LibrarySteps.{IsLibraryStep, Leaves, Lowers, GivesUp};
 ghost use Rattle.lib_os.specs.Places.{place_of};
 ghost use Rattle.lib_os.specs.UserCalls.{output};
 ghost use Rattle.lib_os.specs.declared.place.Place.TheVariants as place;
@@ -14,13 +14,12 @@ ghost use Rattle.jos_run.specs.Served.{kernel_state};
 ghost use Rattle.jos_run.specs.Steps.{is_awake, progress_of, Raises};
 
 use crate::served::Served;
+use crate::services::stage_of;
 use jos_base::Status;
 use jos_host::{Failed, Host};
 use jos_kernel::TrapLine;
-use lib_mem::mem_step;
-use lib_msg::msg_step;
-use lib_os::{Place, Progress, Service, UserOs, find_place};
-use lib_spawn::spawn_step;
+use lib_os::{Place, Progress, UserOs, find_place};
+use lib_stage::drive;
 
 /// What a step has come to, and the trap that it raised, if it raised one.
 #[derive(Clone, Copy, Debug, PartialEq, Eq)]
@@ -103,6 +102,7 @@ impl Served {
         ensures step { IsLibraryStep (progress_of result) self.old.slot (kernel_state self.old) (kernel_state self.new) (output H.console (λ s. s.written) (from_to host.old host.new) (from_to self.old self.new)) }
         ensures leaves { Leaves (progress_of result) self.old.slot (kernel_state self.old) (kernel_state self.new) }
         ensures lowers { Lowers (progress_of result) (place_of (slot_at (kernel_state self.old) self.old.slot)) (place_of (slot_at (kernel_state self.new) self.new.slot)) }
+        ensures gives_up { GivesUp (progress_of result) (slot_at (kernel_state self.old) self.old.slot) (slot_at (kernel_state self.new) self.new.slot) }
         ensures raises { IfOk result (λ stepped. Raises (place_of (slot_at (kernel_state self.old) self.old.slot)) self.old.slot (kernel_state self.old) stepped.trap (kernel_state self.new)) }
         ensures slot { self.new.slot ≡ self.old.slot }
         ensures calls { self.new.calls ≤ self.old.calls + 1 }
@@ -113,13 +113,9 @@ impl Served {
         let words = self.extra();
         match find_place(&registers, &words) {
             Place::Guest => self.step_program(host),
-            Place::InService { service, step: _ } => match service {
-                Service::Exit | Service::Wait { .. } => served_quietly(spawn_step(self, host)),
-                Service::Send { .. } | Service::Receive { .. } => {
-                    served_quietly(msg_step(self, host))
-                }
-                _ => served_quietly(mem_step(self, host)),
-            },
+            Place::InService { service, step } => {
+                served_quietly(drive(&stage_of(service, step), self, host))
+            }
         }
     }
 }

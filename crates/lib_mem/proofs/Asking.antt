@@ -1,8 +1,8 @@
 -- getid and yield: the state is as before, or the environment may run on and has given up its turn.
-use Rattle.std.proofs.Common.{◌≡◌, ◌∙◌, ℕ, true, List, [], Some, refl, sym, ap}
+use Rattle.std.proofs.Common.{◌≡◌, ◌∙◌, ℕ, [], Some, refl, sym, ap}
 use Rattle.jos_base.specs.declared.environment.Status.TheVariants.{Runnable}
 use Rattle.jos_base.specs.declared.registers.Regs.{Regs}
-use Rattle.jos_base.specs.Environments.{Slot as KernelSlot, is_live}
+use Rattle.jos_base.specs.Environments.{Slot as KernelSlot}
 use Rattle.jos_base.specs.KernelState.{KernelState, slot_at, with_status}
 use Rattle.lib_os.specs.declared.place.Place.TheVariants as place
 use Rattle.lib_os.specs.declared.place.Step.{Step}
@@ -16,6 +16,7 @@ use Rattle.lib_os.specs.StandsFor.{StandsFor, Names}
 use Rattle.lib_os.proofs.Serving.{printed_nothing}
 use Rattle.lib_os.proofs.Slots.{slot_put}
 use Rattle.lib_os.proofs.StatesStand.{status_stands}
+use Rattle.lib_mem.specs.declared.services.MemoryService.TheVariants as memory
 use Rattle.lib_mem.proofs.Passing.{here, Leads, answer_stands}
 
 -- ---- getid
@@ -25,11 +26,11 @@ getid_step : (a : AbstractState) (n : ℕ) (b : Born) (regs : Regs) →
 unfolding library_step
 getid_step a n b regs = refl
 
-module _ (s : KernelState) (n : ℕ) (step : Step) (args : List ℕ) (live : is_live (slot_at s n) ≡ true)
+module _ (s : KernelState) (n : ℕ) (step : Step)
     (at : place_of (slot_at s n) ≡ place.InService service.GetId step) where
   pub getid_leads : (names : Names) (a : AbstractState) → StandsFor names s a → Leads s n [] s (answered s n (slot_at s n).id) a
   getid_leads names a h =
-      let i = here h n service.GetId step refl at in
+      let i = here h n memory.GetId step at in
       let id_is : (slot_at s n).id ≡ i.b.id = i.own.id in
       let regs = (slot_at s n).registers in (
         back_with a n i.b (record regs { eax = (slot_at s n).id }),
@@ -45,11 +46,11 @@ yield_step : (a : AbstractState) (n : ℕ) (b : Born) (regs : Regs) →
 unfolding library_step
 yield_step a n b regs = refl
 
-module _ (s : KernelState) (n : ℕ) (step : Step) (args : List ℕ) (live : is_live (slot_at s n) ≡ true)
+module _ (s : KernelState) (n : ℕ) (step : Step)
     (at : place_of (slot_at s n) ≡ place.InService service.Yield step) where
   pub yield_leads : (names : Names) (a : AbstractState) → StandsFor names s a → Leads s n [] (with_status s n Runnable) (answered (with_status s n Runnable) n 0) a
   yield_leads names a h =
-      let i = here h n service.Yield step refl at in
+      let i = here h n memory.Yield step at in
       let put : slot_at (with_status s n Runnable) n ≡ record (slot_at s n) { status = Runnable } =
       slot_put s n (record (slot_at s n) { status = Runnable }) in (
         back_with a n i.b (record (slot_at (with_status s n Runnable) n).registers { eax = 0 }),

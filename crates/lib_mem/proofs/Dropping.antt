@@ -27,6 +27,7 @@ use Rattle.lib_os.proofs.PagesStand.{removed_stands}
 use Rattle.lib_os.proofs.Removing.{unmapped_removed}
 use Rattle.lib_os.proofs.Serving.{printed_nothing}
 use Rattle.lib_os.proofs.SlotsStand.{minds_page}
+use Rattle.lib_mem.specs.declared.services.MemoryService.TheVariants as memory
 use Rattle.lib_mem.proofs.Passing.{here, Leads, changed_stands}
 
 drop_step : (a : AbstractState) (n : ℕ) (b : Born) (regs : Regs) (va : ℕ) → is_page_inside va ≡ true →
@@ -47,7 +48,7 @@ module _ (s : KernelState) (n va : ℕ) (step : Step) (rest : List ℕ) (live : 
 
   pub drop_leads : (names : Names) (a : AbstractState) → StandsFor names s a → Leads s n [] (with_spaces s spaces) (answered (with_spaces s spaces) n 0) a
   drop_leads names a h =
-      let i = here h n (service.PageDrop va) step refl at in (
+      let i = here h n (memory.PageDrop va) step at in (
         back_with a n (without_page i.b va) (record (slot_at s n).registers { eax = 0 }),
         i.goes ∙ drop_step a n i.b (slot_at s n).registers va inside,
         printed_nothing a,

@@ -4,4 +4,4 @@ pub mod Refusing
 pub mod Dropping
 pub mod Making
 pub mod Printing
-pub mod MemLaw
+pub mod MemoryLaw

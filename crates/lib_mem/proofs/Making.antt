@@ -33,7 +33,8 @@ use Rattle.lib_os.proofs.PagesStand.{made_own_stands, made_shared_stands}
 use Rattle.lib_os.proofs.Placing.{allocated_made}
 use Rattle.lib_os.proofs.Serving.{printed_nothing}
 use Rattle.lib_os.proofs.SlotsStand.{minds_page}
-use Rattle.lib_mem.specs.Own.{perm_of}
+use Rattle.lib_mem.specs.MemoryPlans.{perm_of}
+use Rattle.lib_mem.specs.declared.services.MemoryService.TheVariants as memory
 use Rattle.lib_mem.proofs.Passing.{IsHere, here, Leads, changed_stands}
 
 -- ---- the bits of its entry
@@ -127,7 +128,7 @@ module _ (s : KernelState) (n va flags perm : ℕ) (step : Step) (rest : List �
 
     pub some_leads : (names : Names) (a : AbstractState) → StandsFor names s a → Leads s n [] (with_spaces s t) (answered (with_spaces s t) n 0) a
     some_leads names a h =
-        let i = here h n (service.PageNew va flags) step refl at in (
+        let i = here h n (memory.PageNew va flags) step at in (
           page_made a n i.b (slot_at s n).registers va flags,
           i.goes ∙ page_new_step a n i.b (slot_at s n).registers va flags few inside,
           nothing_printed a n i.b (slot_at s n).registers va flags ∙ printed_nothing a,
@@ -141,7 +142,7 @@ module _ (s : KernelState) (n va flags perm : ℕ) (step : Step) (rest : List �
 
     pub none_leads : (names : Names) (a : AbstractState) → StandsFor names s a → Leads s n [] (with_refusal s) (answered (with_refusal s) n (negated E_NO_MEM)) a
     none_leads names a h =
-        let i = here h n (service.PageNew va flags) step refl at in (
+        let i = here h n (memory.PageNew va flags) step at in (
           page_made a n i.b (slot_at s n).registers va flags,
           i.goes ∙ page_new_step a n i.b (slot_at s n).registers va flags few inside,
           nothing_printed a n i.b (slot_at s n).registers va flags ∙ printed_nothing a,

@@ -23,23 +23,34 @@ use Rattle.lib_os.specs.UserCalls.{got, Step as Call}
 use Rattle.jos_base.proofs.Maps.{upd-at, upd-twice}
 use Rattle.lib_os.proofs.Answering.{back_stands}
 use Rattle.lib_os.proofs.Serving.{served, step_in}
-use Rattle.lib_mem.specs.Own.{is_own_service}
+use Rattle.lib_mem.specs.declared.services.MemoryService.{MemoryService}
+use Rattle.lib_mem.specs.declared.services.MemoryService.TheVariants as memory
 
 -- ---- at the beginning
 
+-- as one of the library's
+abbrev pub service_in : MemoryService → Service
+service_in (memory.Cputs va len) = service.Cputs va len
+service_in memory.GetId = service.GetId
+service_in memory.Yield = service.Yield
+service_in (memory.PageNew va flags) = service.PageNew va flags
+service_in (memory.PageDrop va) = service.PageDrop va
+service_in memory.Unknown = service.Unknown
+
 -- each of these services is one step
-own_in : (row : Row) (k : KernelSlot) (b : Born) (s : Service) (t : Step) → is_own_service s ≡ true → StandsAtStep row k b s t → IsIn k b s entered
-own_in row k b (service.Cputs va len) step.Entered own h = h
-own_in row k b service.GetId step.Entered own h = h
-own_in row k b service.Yield step.Entered own h = h
-own_in row k b (service.PageNew va flags) step.Entered own h = h
-own_in row k b (service.PageDrop va) step.Entered own h = h
-own_in row k b service.Unknown step.Entered own h = h
-own_in row k b (service.Wait id) t own h = absurd (let no_own : false ≡ true = own in cc)
-own_in row k b (service.Send id value va) t own h = absurd (let no_own : false ≡ true = own in cc)
-own_in row k b (service.Receive va from) t own h = absurd (let no_own : false ≡ true = own in cc)
-own_in row k b _ step.Entered own h = absurd (let no_own : false ≡ true = own in cc)
-own_in row k b _ _ own h = absurd h
+own_in : (row : Row) (k : KernelSlot) (b : Born) (m : MemoryService) (t : Step) → StandsAtStep row k b (service_in m) t → IsIn k b (service_in m) entered
+own_in row k b (memory.Cputs va len) step.Entered h = h
+own_in row k b memory.GetId step.Entered h = h
+own_in row k b memory.Yield step.Entered h = h
+own_in row k b (memory.PageNew va flags) step.Entered h = h
+own_in row k b (memory.PageDrop va) step.Entered h = h
+own_in row k b memory.Unknown step.Entered h = h
+own_in row k b (memory.Cputs va len) _ h = absurd h
+own_in row k b memory.GetId _ h = absurd h
+own_in row k b memory.Yield _ h = absurd h
+own_in row k b (memory.PageNew va flags) _ h = absurd h
+own_in row k b (memory.PageDrop va) _ h = absurd h
+own_in row k b memory.Unknown _ h = absurd h
 
 -- an environment that is in one of them
 pub record IsHere (names : Names) (s : KernelState) (a : AbstractState) (n : ℕ) (service : Service) : Type 0 where
@@ -49,17 +60,17 @@ pub record IsHere (names : Names) (s : KernelState) (a : AbstractState) (n : ℕ
   pub at : IsIn (slot_at s n) b service entered
   pub goes : abs_step a n ≡ library_step a n b (slot_at s n).registers service entered
 
-pub here : {names : Names} {s : KernelState} {a : AbstractState} → StandsFor names s a → (n : ℕ) (service : Service) (step : Step) →
-    is_own_service service ≡ true → place_of (slot_at s n) ≡ place.InService service step → IsHere names s a n service
-here {s = s} {a = a} h n service step own at =
-    let begun = served h n service step at in
-    let is_in = own_in (rows_of s.spaces (slot_at s n).directory) (slot_at s n) begun.b service step own begun.at in
+pub here : {names : Names} {s : KernelState} {a : AbstractState} → StandsFor names s a → (n : ℕ) (m : MemoryService) (step : Step) →
+    place_of (slot_at s n) ≡ place.InService (service_in m) step → IsHere names s a n (service_in m)
+here {s = s} {a = a} h n m step at =
+    let begun = served h n (service_in m) step at in
+    let is_in = own_in (rows_of s.spaces (slot_at s n).directory) (slot_at s n) begun.b m step begun.at in
     record {
       b = begun.b;
       is = begun.is;
       own = begun.own;
       at = is_in;
-      goes = step_in a n begun.b (slot_at s n) service entered begun.is is_in;
+      goes = step_in a n begun.b (slot_at s n) (service_in m) entered begun.is is_in;
     }
 
 -- ---- its answer

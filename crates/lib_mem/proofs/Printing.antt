@@ -30,6 +30,7 @@ use Rattle.lib_os.proofs.EndsStand.{ended_stands}
 use Rattle.lib_os.proofs.Removing.{destroyed_gone}
 use Rattle.lib_os.proofs.StatesStand.{quiet_stands, printed_stands}
 use Rattle.lib_os.proofs.Touching.{all_touched_quiet}
+use Rattle.lib_mem.specs.declared.services.MemoryService.TheVariants as memory
 use Rattle.lib_mem.proofs.Passing.{IsHere, here, Leads, answer_stands}
 
 -- ---- its step in the abstract system
@@ -64,7 +65,7 @@ module _ (s : KernelState) (n va len : ℕ) (step : Step) (rest : List ℕ) (liv
     pub bytes_leads : (names : Names) (a : AbstractState) → StandsFor names s a →
         Leads s n bytes (with_bytes_reached s n va len) (answered (with_bytes_reached s n va len) n 0) a
     bytes_leads names a h =
-        let i = here h n (service.Cputs va len) step refl at in
+        let i = here h n (memory.Cputs va len) step at in
         let regs = (slot_at s n).registers in (
           printed a n i.b regs (Ok bytes),
           i.goes ∙ goes h i ∙ ap (λ (r : Result (List ℕ) PageFault). Some (printed a n i.b regs r)) is,
@@ -84,7 +85,7 @@ module _ (s : KernelState) (n va len : ℕ) (step : Step) (rest : List ℕ) (liv
     pub fault_leads : (names : Names) (a : AbstractState) → StandsFor names s a →
         Leads s n line (without_environment s n) (without_environment s n) a
     fault_leads names a h =
-        let i = here h n (service.Cputs va len) step refl at in
+        let i = here h n (memory.Cputs va len) step at in
         let regs = (slot_at s n).registers in
         let same : line_text i.b.id (UserMemCheck fault.va) ≡ line = ap (λ (id : ℕ). line_text id (UserMemCheck fault.va)) (sym i.own.id) in (
           printed a n i.b regs (Err fault),

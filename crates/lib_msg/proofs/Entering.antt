@@ -27,8 +27,7 @@ use Rattle.lib_os.proofs.Serving.{served, step_in, printed_nothing}
 use Rattle.lib_stage.specs.declared.ask.Next.TheVariants as next
 use Rattle.lib_stage.specs.Nexts.{seen_as, settled}
 use Rattle.lib_msg.specs.declared.receive.ReceiveStage.TheVariants as stage
-use Rattle.lib_msg.specs.Own.{may_receive}
-use Rattle.lib_msg.specs.ReceiveStages.{next_of}
+use Rattle.lib_msg.specs.ReceiveStages.{may_receive, next_of}
 
 -- ---- the abstract step
 

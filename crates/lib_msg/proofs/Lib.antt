@@ -5,4 +5,3 @@ pub mod SendLaw
 pub mod Entering
 pub mod Receiving
 pub mod ReceiveLaw
-pub mod Elsewhere

@@ -44,8 +44,7 @@ use Rattle.lib_stage.specs.declared.ask.Next.{Next}
 use Rattle.lib_stage.specs.declared.ask.Next.TheVariants as next
 use Rattle.lib_stage.specs.Nexts.{seen_as, settled}
 use Rattle.lib_msg.specs.declared.send.SendStage.TheVariants as stage
-use Rattle.lib_msg.specs.Own.{may_name}
-use Rattle.lib_msg.specs.SendStages.{next_of}
+use Rattle.lib_msg.specs.SendStages.{may_name, next_of}
 use Rattle.lib_msg.proofs.Entering.{server_is}
 
 -- ---- the abstract step

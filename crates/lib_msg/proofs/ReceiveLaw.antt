@@ -1,11 +1,12 @@
 -- The law of receive: its stages are the two steps that it has in the abstract system.
-use Rattle.std.proofs.Common.{◌≡◌, ℕ, Bool, true, false, not, [], ◌∷◌, refl, sym, subst, arith, if◌then◌else◌}
+use Rattle.std.proofs.Common.{◌≡◌, ◌||◌, ℕ, Bool, true, false, not, [], ◌∷◌, refl, sym, subst, arith, if◌then◌else◌}
 use Rattle.jos_base.specs.declared.called.Called.{Called}
 use Rattle.jos_base.specs.declared.numbers.TheConstants.{E_INVAL, ENV_IPC_FROM, ENV_IPC_PERM, ENV_IPC_VALUE, SYS_GETENVID, SYS_IPC_RECV}
-use Rattle.jos_base.specs.Environments.{is_live}
+use Rattle.jos_base.specs.Environments.{is_live, is_runnable, is_running}
 use Rattle.jos_base.specs.KernelState.{KernelState, slot_at}
 use Rattle.jos_base.specs.Words.{negated}
 use Rattle.lib_os.specs.declared.place.Place.TheVariants as place
+use Rattle.lib_os.specs.declared.place.Step.{Step}
 use Rattle.lib_os.specs.declared.place.Step.TheVariants as step
 use Rattle.lib_os.specs.declared.service.Service.TheVariants as service
 use Rattle.lib_os.specs.Places.{place_of}
@@ -14,16 +15,24 @@ use Rattle.lib_os.specs.UserCalls.{Step as Call, answer_of}
 use Rattle.lib_os.proofs.Calls.{getenvid_is}
 use Rattle.lib_os.proofs.Trying.{LivesOn, recv_lives}
 use Rattle.lib_stage.specs.declared.ask.Next.TheVariants as next
-use Rattle.lib_stage.specs.ServiceSteps.{Plan, ServiceHolds}
-use Rattle.lib_stage.proofs.Laws.{Falls, IsAt, KeepsBy, is_plain, shown_keeps, law_of_call, law_of_load}
+use Rattle.lib_stage.specs.ServiceSteps.{Plan, or_nowhere, ServiceHolds}
+use Rattle.lib_stage.proofs.Laws.{Falls, IsAt, KeepsBy, is_plain, shown_keeps, law_of_call, law_of_load, law_of_nowhere}
 use Rattle.lib_msg.specs.declared.receive.ReceiveStage.{ReceiveStage}
 use Rattle.lib_msg.specs.declared.receive.ReceiveStage.TheVariants as stage
-use Rattle.lib_msg.specs.Own.{is_awake, may_receive}
-use Rattle.lib_msg.specs.ReceiveStages.{step_of, next_of, record_word, receiving}
+use Rattle.lib_msg.specs.ReceiveStages.{may_receive, next_of, receive_at, receiving, record_word}
 use Rattle.lib_msg.proofs.Entering.{entered_keeps, waiting_keeps}
 use Rattle.lib_msg.proofs.Receiving.{value_there, value_follows, sender_there, sender_follows, perm_there, perm_follows}
 
-module _ (s : KernelState) (n va from : ℕ) (live : is_live (slot_at s n) ≡ true) (awake : is_awake (slot_at s n).status ≡ true) where
+-- the step that a stage is kept as
+abbrev step_of : ReceiveStage → Step
+step_of stage.Entered = step.Entered
+step_of (stage.Receiving id) = step.Receiving id
+step_of (stage.ReadingValue id) = step.ReadingValue id
+step_of (stage.ReadingSender id value) = step.ReadingSender id value
+step_of (stage.ReadingPerm id value sender) = step.ReadingPerm id value sender
+
+module _ (s : KernelState) (n va from : ℕ) (live : is_live (slot_at s n) ≡ true)
+    (awake : (is_runnable (slot_at s n).status || is_running (slot_at s n).status) ≡ true) where
   falls : (at : ReceiveStage) (word : ℕ) → Falls (service.Receive va from) (step_of at) (next_of va from at word)
   falls stage.Entered own = by_test (may_receive va from own)
     where
@@ -43,36 +52,41 @@ module _ (s : KernelState) (n va from : ℕ) (live : is_live (slot_at s n) ≡ t
   here at stands plain =
       record { stands = stands; live = live; numbered = refl; plain = plain; goes_on = refl; falls = λ called. falls at (answer_of called) }
 
-  pub receive_holds : (at : ReceiveStage) → place_of (slot_at s n) ≡ place.InService (service.Receive va from) (step_of at) → ServiceHolds s n (plan at)
-  receive_holds stage.Entered stands =
+  pub receive_holds : (at : Step) → place_of (slot_at s n) ≡ place.InService (service.Receive va from) at →
+      ServiceHolds s n (or_nowhere receiving (receive_at va from at))
+  receive_holds step.Entered stands =
       let args = 0 ∷ 0 ∷ 0 ∷ 0 ∷ 0 ∷ [] in
       law_of_call s n (plan stage.Entered) (service.Receive va from) step.Entered (here stage.Entered stands refl) SYS_GETENVID args refl refl
       (subst (λ (z : Call Called). LivesOn z n (slot_at s n).registers) (sym (getenvid_is s n live args)) (record { live = live; registers = refl; written = refl }))
       (λ order. subst (λ (z : Call Called). KeepsBy s n (plan stage.Entered) z) (sym (getenvid_is s n live args)) (entered_keeps s n va from stands))
-  receive_holds (stage.Receiving id) stands =
+  receive_holds (step.Receiving id) stands =
       let args = destination_of va ∷ from ∷ 0 ∷ 0 ∷ 0 ∷ [] in
       law_of_call s n (plan (stage.Receiving id)) (service.Receive va from) (step.Receiving id) (here (stage.Receiving id) stands refl) SYS_IPC_RECV args refl refl
       (recv_lives s n (destination_of va) from (0 ∷ 0 ∷ 0 ∷ []) live)
       (λ order. shown_keeps s n SYS_IPC_RECV args (plan (stage.Receiving id)) (step.ReadingValue id)
       (recv_lives s n (destination_of va) from (0 ∷ 0 ∷ 0 ∷ []) live) (λ called. refl) (waiting_keeps s n va from id stands))
-  receive_holds (stage.ReadingValue id) stands =
+  receive_holds (step.ReadingValue id) stands =
       law_of_load s n (plan (stage.ReadingValue id)) (service.Receive va from) (step.ReadingValue id) (here (stage.ReadingValue id) stands refl)
       (record_word id ENV_IPC_VALUE) refl
       (λ names a h. (
         record { word = (slot_at s n).rendezvous.value; is = value_there s n va from id stands awake names a h },
         value_follows s n va from id stands awake names a h,
       ))
-  receive_holds (stage.ReadingSender id value) stands =
+  receive_holds (step.ReadingSender id value) stands =
       law_of_load s n (plan (stage.ReadingSender id value)) (service.Receive va from) (step.ReadingSender id value)
       (here (stage.ReadingSender id value) stands refl) (record_word id ENV_IPC_FROM) refl
       (λ names a h. (
         record { word = (slot_at s n).rendezvous.sender; is = sender_there s n va from id value stands names a h },
         sender_follows s n va from id value stands names a h,
       ))
-  receive_holds (stage.ReadingPerm id value sender) stands =
+  receive_holds (step.ReadingPerm id value sender) stands =
       law_of_load s n (plan (stage.ReadingPerm id value sender)) (service.Receive va from) (step.ReadingPerm id value sender)
       (here (stage.ReadingPerm id value sender) stands refl) (record_word id ENV_IPC_PERM) refl
       (λ names a h. (
         record { word = (slot_at s n).rendezvous.perm; is = perm_there s n va from id value sender stands names a h },
         perm_follows s n va from id value sender stands names a h,
       ))
+  receive_holds (step.Trying perm) stands = law_of_nowhere s n (service.Receive va from) (step.Trying perm) stands refl (λ row k b h. h)
+  receive_holds (step.Pausing perm) stands = law_of_nowhere s n (service.Receive va from) (step.Pausing perm) stands refl (λ row k b h. h)
+  receive_holds step.ReadingRegion stands = law_of_nowhere s n (service.Receive va from) step.ReadingRegion stands refl (λ row k b h. h)
+  receive_holds step.ReadingEntry stands = law_of_nowhere s n (service.Receive va from) step.ReadingEntry stands refl (λ row k b h. h)

@@ -1,12 +1,12 @@
 -- receive, when a message has come: its words are read in the record of the own slot, and told to the program.
-use Rattle.std.proofs.Common.{◌≡◌, ◌∙◌, ◌+◌, ◌*◌, ◌%◌, ◌^◌, ◌<◌, ℕ, Bool, true, false, List, [], Some, get_or}
+use Rattle.std.proofs.Common.{◌≡◌, ◌∙◌, ◌+◌, ◌*◌, ◌%◌, ◌^◌, ◌<◌, ◌||◌, ℕ, Bool, true, false, List, [], Some, get_or}
 use Rattle.std.proofs.Common.{refl, sym, ap, subst, arith}
 use Rattle.jos_base.specs.declared.environment.Status.{Status}
 use Rattle.jos_base.specs.declared.environment.Status.TheVariants.{Runnable, Running, NotRunnable}
 use Rattle.jos_base.specs.declared.memory.Access.TheVariants.{Read}
 use Rattle.jos_base.specs.declared.numbers.TheConstants.{ENV_IPC_FROM, ENV_IPC_PERM, ENV_IPC_VALUE, ENV_SIZE, ENV_WORDS, NENV, UENVS}
 use Rattle.jos_base.specs.declared.registers.Regs.{Regs}
-use Rattle.jos_base.specs.Environments.{Slot as KernelSlot, record_words}
+use Rattle.jos_base.specs.Environments.{Slot as KernelSlot, is_runnable, is_running, record_words}
 use Rattle.jos_base.specs.KernelState.{KernelState, slot_at, with_extra}
 use Rattle.lib_os.specs.declared.numbers.TheConstants.{SERVICE_RECEIVE}
 use Rattle.lib_os.specs.declared.place.Place.TheVariants as place
@@ -30,7 +30,6 @@ use Rattle.lib_os.proofs.SlotsStand.{born_at, born_live}
 use Rattle.lib_os.proofs.StatesStand.{quiet_stands}
 use Rattle.lib_os.proofs.Touching.{touched_quiet}
 use Rattle.lib_os.proofs.WindowWords.{read_at, load_record_word}
-use Rattle.lib_msg.specs.Own.{is_awake}
 use Rattle.lib_msg.specs.ReceiveStages.{record_word}
 
 -- ---- the record
@@ -60,12 +59,13 @@ own_word s n id i word numbered self short is small =
     ∙ (λ j. read_at s n (sym there j) (is j))
 
 -- an environment that may run does not wait
-awake_has : (k : KernelSlot) (b : Born) (va from : ℕ) → RunsAs k.status b.blocked → is_awake k.status ≡ true → WaitsOrHas k b va from →
+awake_has : (k : KernelSlot) (b : Born) (va from : ℕ) → RunsAs k.status b.blocked →
+    (is_runnable k.status || is_running k.status) ≡ true → WaitsOrHas k b va from →
     HasReceived k b va from
 awake_has k b va from runs awake (has h) = h
 awake_has k b va from runs awake (waits h) = absurd (never k.status b.blocked runs awake h.blocked)
   where
-    never : (status : Status) (blocked : Bool) → RunsAs status blocked → is_awake status ≡ true → blocked ≡ true → ⊥
+    never : (status : Status) (blocked : Bool) → RunsAs status blocked → (is_runnable status || is_running status) ≡ true → blocked ≡ true → ⊥
     never Runnable false r w e = let contradiction : false ≡ true = e in absurd cc
     never Running false r w e = let contradiction : false ≡ true = e in absurd cc
     never NotRunnable true r w e = let contradiction : false ≡ true = w in absurd cc
@@ -93,7 +93,8 @@ module _ (s : KernelState) (n va from id : ℕ) where
 
   -- ---- the word
 
-  module _ (stands : place_of k ≡ place.InService (service.Receive va from) (step.ReadingValue id)) (awake : is_awake k.status ≡ true)
+  module _ (stands : place_of k ≡ place.InService (service.Receive va from) (step.ReadingValue id))
+      (awake : (is_runnable k.status || is_running k.status) ≡ true)
       (names : Names) (a : AbstractState) (h : StandsFor names s a) where
     came : (b : Born) → RunsAs k.status b.blocked → (id ≡ k.id) × WaitsOrHas k b va from → HasReceived k b va from
     came b runs at = awake_has k b va from runs awake (at.1)

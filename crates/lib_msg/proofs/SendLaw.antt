@@ -9,6 +9,7 @@ use Rattle.jos_base.specs.KernelState.{KernelState, slot_at}
 use Rattle.jos_base.specs.Words.{negated}
 use Rattle.lib_os.specs.declared.numbers.TheConstants.{SERVICE_SEND, UVPD}
 use Rattle.lib_os.specs.declared.place.Place.TheVariants as place
+use Rattle.lib_os.specs.declared.place.Step.{Step}
 use Rattle.lib_os.specs.declared.place.Step.TheVariants as step
 use Rattle.lib_os.specs.declared.service.Service.TheVariants as service
 use Rattle.lib_os.specs.Fence.{is_page_inside}
@@ -20,15 +21,22 @@ use Rattle.lib_os.proofs.Calls.{getenvid_is}
 use Rattle.lib_os.proofs.Trying.{LivesOn}
 use Rattle.lib_stage.specs.declared.ask.Next.{Next}
 use Rattle.lib_stage.specs.declared.ask.Next.TheVariants as next
-use Rattle.lib_stage.specs.ServiceSteps.{Plan, ServiceHolds}
-use Rattle.lib_stage.proofs.Laws.{Falls, IsAt, KeepsBy, is_plain, answered_keeps, law_of_call, law_of_load, law_of_pause}
+use Rattle.lib_stage.specs.ServiceSteps.{Plan, or_nowhere, ServiceHolds}
+use Rattle.lib_stage.proofs.Laws.{Falls, IsAt, KeepsBy, is_plain, answered_keeps, law_of_call, law_of_load, law_of_nowhere, law_of_pause}
 use Rattle.lib_msg.specs.declared.send.SendStage.{SendStage}
 use Rattle.lib_msg.specs.declared.send.SendStage.TheVariants as stage
-use Rattle.lib_msg.specs.Own.{may_name, may_pass}
-use Rattle.lib_msg.specs.SendStages.{step_of, next_of, sending}
+use Rattle.lib_msg.specs.SendStages.{may_name, may_pass, next_of, send_at, sending}
 use Rattle.lib_msg.proofs.Looking.{entered_keeps, region_word, region_there, region_follows}
 use Rattle.lib_msg.proofs.Entries.{word, entry_there, entry_follows}
 use Rattle.lib_msg.proofs.Sending.{send_call, sent, trying_keeps, pausing_keeps}
+
+-- the step that a stage is kept as
+abbrev step_of : SendStage → Step
+step_of stage.Entered = step.Entered
+step_of stage.ReadingRegion = step.ReadingRegion
+step_of stage.ReadingEntry = step.ReadingEntry
+step_of (stage.Trying perm) = step.Trying perm
+step_of (stage.Pausing perm) = step.Pausing perm
 
 module _ (s : KernelState) (n id value va : ℕ) (live : is_live (slot_at s n) ≡ true) where
   -- ---- where it goes on from where, lower
@@ -69,32 +77,39 @@ module _ (s : KernelState) (n id value va : ℕ) (live : is_live (slot_at s n) �
     here at stands plain goes_on =
         record { stands = stands; live = live; numbered = refl; plain = plain; goes_on = goes_on; falls = λ called. falls at (answer_of called) }
 
-    pub send_holds : (at : SendStage) → place_of (slot_at s n) ≡ place.InService (service.Send id value va) (step_of at) → ServiceHolds s n (plan at)
-    send_holds stage.Entered stands =
+    pub send_holds : (at : Step) → place_of (slot_at s n) ≡ place.InService (service.Send id value va) at →
+        ServiceHolds s n (or_nowhere sending (send_at id value va at))
+    send_holds step.Entered stands =
         let args = 0 ∷ 0 ∷ 0 ∷ 0 ∷ 0 ∷ [] in
         law_of_call s n (plan stage.Entered) (service.Send id value va) step.Entered (here stage.Entered stands refl refl) SYS_GETENVID args refl refl
         (subst (λ (z : Call Called). LivesOn z n (slot_at s n).registers) (sym (getenvid_is s n live args)) (record { live = live; registers = refl; written = refl }))
         (λ order. subst (λ (z : Call Called). KeepsBy s n (plan stage.Entered) z) (sym (getenvid_is s n live args)) (entered_keeps s n id value va stands))
-    send_holds stage.ReadingRegion stands =
+    send_holds step.ReadingRegion stands =
         law_of_load s n (plan stage.ReadingRegion) (service.Send id value va) step.ReadingRegion (here stage.ReadingRegion stands refl refl)
         (UVPD + 4 * (va / PGSIZE / NPTENTRIES)) refl
         (λ names a h. (
           record { word = region_word s n id value va stands; is = region_there s n id value va stands names a h },
           region_follows s n id value va stands names a h,
         ))
-    send_holds stage.ReadingEntry stands =
+    send_holds step.ReadingEntry stands =
         law_of_load s n (plan stage.ReadingEntry) (service.Send id value va) step.ReadingEntry (here stage.ReadingEntry stands refl refl)
         (UVPT + 4 * (va / PGSIZE)) refl
         (λ names a h. (
           record { word = word s n id value va stands; is = entry_there s n id value va stands names a h },
           entry_follows s n id value va stands names a h,
         ))
-    send_holds (stage.Trying perm) stands =
+    send_holds (step.Trying perm) stands =
         let it = sent s n id value va perm stands live small in
         law_of_call s n (plan (stage.Trying perm)) (service.Send id value va) (step.Trying perm) (here (stage.Trying perm) stands refl refl)
         SYS_IPC_TRY_SEND (id ∷ value ∷ destination_of va ∷ perm ∷ 0 ∷ []) refl refl
         (record { live = it.live; registers = it.registers; written = it.written })
         (answered_keeps s n (plan (stage.Trying perm)) (send_call s n id value va perm) it (trying_keeps s n id value va perm stands live small))
-    send_holds (stage.Pausing perm) stands =
+    send_holds (step.Pausing perm) stands =
         law_of_pause s n (service.Send id value va) (step.Pausing perm) (step.Trying perm) SERVICE_SEND (0 ∷ 0 ∷ 0 ∷ 0 ∷ 0 ∷ []) stands live refl refl
         (omega arith) (pausing_keeps s n id value va perm stands)
+    send_holds (step.Receiving own) stands = law_of_nowhere s n (service.Send id value va) (step.Receiving own) stands refl (λ row k b h. h)
+    send_holds (step.ReadingValue own) stands = law_of_nowhere s n (service.Send id value va) (step.ReadingValue own) stands refl (λ row k b h. h)
+    send_holds (step.ReadingSender own word) stands =
+        law_of_nowhere s n (service.Send id value va) (step.ReadingSender own word) stands refl (λ row k b h. h)
+    send_holds (step.ReadingPerm own word sender) stands =
+        law_of_nowhere s n (service.Send id value va) (step.ReadingPerm own word sender) stands refl (λ row k b h. h)

@@ -1,38 +1,59 @@
 -- send: what it asks at each stage, and what it does next by the reply.
-use Rattle.std.specs.Prelude.{ℕ, ◌+◌, ◌*◌, ◌/◌, ◌==◌, not, [], ◌∷◌, bit_and, if◌then◌else◌}
-use Rattle.jos_base.specs.declared.numbers.TheConstants.{E_INVAL, E_IPC_NOT_RECV, NPTENTRIES, PGSIZE, PTE_P, PTE_SYSCALL, UVPT}
+use Rattle.std.specs.Prelude.{ℕ, ◌+◌, ◌*◌, ◌/◌, ◌==◌, ◌&&◌, ◌||◌, not, Bool, [], ◌∷◌, Option, Some, None, bit_and, if◌then◌else◌}
+use Rattle.std.specs.Option.{option_map}
+use Rattle.jos_base.specs.declared.numbers.TheConstants.{E_INVAL, E_IPC_NOT_RECV, FIRST_ENV_ID, NPTENTRIES, PGSIZE, PTE_P, PTE_SYSCALL, UVPT}
 use Rattle.jos_base.specs.declared.numbers.TheConstants.{SYS_GETENVID, SYS_IPC_TRY_SEND, SYS_YIELD}
+use Rattle.jos_base.specs.SystemCalls.{has_write}
 use Rattle.jos_base.specs.Words.{negated}
 use Rattle.lib_os.specs.declared.numbers.TheConstants.{SERVICE_SEND, UVPD}
 use Rattle.lib_os.specs.declared.place.Step.{Step}
 use Rattle.lib_os.specs.declared.place.Step.TheVariants as step
 use Rattle.lib_os.specs.Fence.{is_page_inside}
-use Rattle.lib_os.specs.StandsFor.{destination_of}
+use Rattle.lib_os.specs.StandsFor.{destination_of, is_shared}
 use Rattle.lib_os.specs.UserCalls.{answer_of}
 use Rattle.lib_stage.specs.declared.ask.Ask.{Ask}
 use Rattle.lib_stage.specs.declared.ask.Ask.TheVariants as ask
 use Rattle.lib_stage.specs.declared.ask.Next.{Next}
 use Rattle.lib_stage.specs.declared.ask.Next.TheVariants as next
+use Rattle.lib_stage.specs.Asks.{no_args}
 use Rattle.lib_stage.specs.ServiceSteps.{Plan}
 use Rattle.lib_msg.specs.declared.send.Send.{Send}
 use Rattle.lib_msg.specs.declared.send.SendStage.{SendStage}
 use Rattle.lib_msg.specs.declared.send.SendStage.TheVariants as stage
-use Rattle.lib_msg.specs.Own.{may_name, may_pass}
 
--- the step of the library's that a stage is kept as
-abbrev pub step_of : SendStage → Step
-step_of stage.Entered = step.Entered
-step_of stage.ReadingRegion = step.ReadingRegion
-step_of stage.ReadingEntry = step.ReadingEntry
-step_of (stage.Trying perm) = step.Trying perm
-step_of (stage.Pausing perm) = step.Pausing perm
+-- ---- stages
+
+-- the stage of send that is kept as a step, if it is one of send's
+abbrev pub stage_at : Step → Option SendStage
+stage_at step.Entered = Some stage.Entered
+stage_at step.ReadingRegion = Some stage.ReadingRegion
+stage_at step.ReadingEntry = Some stage.ReadingEntry
+stage_at (step.Trying perm) = Some (stage.Trying perm)
+stage_at (step.Pausing perm) = Some (stage.Pausing perm)
+stage_at _ = None
+
+abbrev pub send_at : ℕ → ℕ → ℕ → Step → Option Send
+send_at id value va step = option_map (λ at. record { id = id; value = value; va = va; at = at }) (stage_at step)
+
+-- ---- what it asks
 
 abbrev pub ask_of : ℕ → ℕ → ℕ → SendStage → Ask
-ask_of id value va stage.Entered = ask.System SYS_GETENVID (0 ∷ 0 ∷ 0 ∷ 0 ∷ 0 ∷ [])
+ask_of id value va stage.Entered = ask.System SYS_GETENVID no_args
 ask_of id value va stage.ReadingRegion = ask.Load (UVPD + 4 * (va / PGSIZE / NPTENTRIES))
 ask_of id value va stage.ReadingEntry = ask.Load (UVPT + 4 * (va / PGSIZE))
 ask_of id value va (stage.Trying perm) = ask.System SYS_IPC_TRY_SEND (id ∷ value ∷ destination_of va ∷ perm ∷ 0 ∷ [])
-ask_of id value va (stage.Pausing perm) = ask.System SYS_YIELD (0 ∷ 0 ∷ 0 ∷ 0 ∷ 0 ∷ [])
+ask_of id value va (stage.Pausing perm) = ask.System SYS_YIELD no_args
+
+-- ---- what it does next
+
+-- who may send to whom: to no one with id 0, nor to itself or to the server
+abbrev pub may_name : ℕ → ℕ → Bool
+may_name id own = not (id == 0) && (not (id == own) && not (id == FIRST_ENV_ID))
+
+-- the page of an entry's word is there and may pass: it is shared, or may not be written
+abbrev pub may_pass : ℕ → Bool
+may_pass word =
+    (bit_and word PTE_P == PTE_P) && (is_shared (bit_and word PTE_SYSCALL) || not (has_write (bit_and word PTE_SYSCALL)))
 
 -- by the word that came
 abbrev pub next_of : ℕ → ℕ → SendStage → ℕ → Next
@@ -48,6 +69,8 @@ next_of id va stage.ReadingEntry word =
 next_of id va (stage.Trying perm) word =
     if word == negated E_IPC_NOT_RECV then next.Wait (step.Pausing perm) else next.Answer word
 next_of id va (stage.Pausing perm) word = next.GoOn (step.Trying perm)
+
+-- ---- the plan
 
 abbrev pub sending : Send → Plan
 sending s = record {

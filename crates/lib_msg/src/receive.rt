@@ -3,7 +3,7 @@
 ghost use Rattle.std.specs.Prelude.{◌≡◌, ◌+◌, ◌*◌, ◌%◌, ◌<◌};
 ghost use Rattle.jos_base.specs.declared.numbers.TheConstants.{ENV_SIZE, ENV_WORDS, NENV, UENVS};
 ghost use Rattle.lib_os.specs.StandsFor.{destination_of, kind_by};
-ghost use Rattle.lib_msg.specs.Own.{may_receive};
+ghost use Rattle.lib_msg.specs.ReceiveStages.{may_receive, receive_at};
 
 use jos_base::{
     Called, E_INVAL, ENV_IPC_FROM, ENV_IPC_PERM, ENV_IPC_VALUE, ENV_SIZE, FIRST_ENV_ID, NENV,
@@ -33,6 +33,25 @@ pub struct Receive {
     pub va: u32,
     pub from: u32,
     pub at: ReceiveStage,
+}
+
+impl Receive {
+    /// receive at a step, if it has this step.
+    pub fn at_step(va: u32, from: u32, step: Step) -> Option<Receive>
+        ensures { result ≡ receive_at va from step }
+    {
+        let at = match step {
+            Step::Entered => ReceiveStage::Entered,
+            Step::Receiving { id } => ReceiveStage::Receiving { id },
+            Step::ReadingValue { id } => ReceiveStage::ReadingValue { id },
+            Step::ReadingSender { id, value } => ReceiveStage::ReadingSender { id, value },
+            Step::ReadingPerm { id, value, sender } => {
+                ReceiveStage::ReadingPerm { id, value, sender }
+            }
+            _ => return None,
+        };
+        Some(Receive { va, from, at })
+    }
 }
 
 /// Whether an environment with this id may receive: a page lies within the fence, where 0 stands for none, and nobody receives

@@ -2,7 +2,7 @@
 
 ghost use Rattle.std.specs.Prelude.{◌≡◌};
 ghost use Rattle.lib_os.specs.StandsFor.{destination_of};
-ghost use Rattle.lib_msg.specs.Own.{may_name, may_pass};
+ghost use Rattle.lib_msg.specs.SendStages.{may_name, may_pass, send_at};
 
 use jos_base::{
     Called, E_INVAL, E_IPC_NOT_RECV, FIRST_ENV_ID, NPTENTRIES, PGSIZE, PTE_P, PTE_SYSCALL, PTE_W,
@@ -33,6 +33,23 @@ pub struct Send {
     pub value: u32,
     pub va: u32,
     pub at: SendStage,
+}
+
+impl Send {
+    /// send at a step, if it has this step.
+    pub fn at_step(id: u32, value: u32, va: u32, step: Step) -> Option<Send>
+        ensures { result ≡ send_at id value va step }
+    {
+        let at = match step {
+            Step::Entered => SendStage::Entered,
+            Step::ReadingRegion => SendStage::ReadingRegion,
+            Step::ReadingEntry => SendStage::ReadingEntry,
+            Step::Trying { perm } => SendStage::Trying { perm },
+            Step::Pausing { perm } => SendStage::Pausing { perm },
+            _ => return None,
+        };
+        Some(Send { id, value, va, at })
+    }
 }
 
 /// Whether an environment with this id may send to another: to no one with id 0, nor to itself or to the server.

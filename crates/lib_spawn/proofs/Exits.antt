@@ -29,7 +29,7 @@ use Rattle.lib_os.proofs.Removing.{destroyed_gone}
 use Rattle.lib_os.proofs.Serving.{served, step_in, printed_nothing}
 use Rattle.lib_stage.specs.ServiceSteps.{ServiceHolds}
 use Rattle.lib_stage.proofs.Laws.{KeepsBy, law_of_end}
-use Rattle.lib_spawn.specs.WaitStages.{exiting}
+use Rattle.lib_spawn.specs.EndStages.{exiting}
 
 none_from : (descriptors : ℕ → Option ℕ) → ((fd : ℕ) → descriptors fd ≡ None) → (fd n : ℕ) → first_from is_some descriptors fd n ≡ None
 unfolding first_from

@@ -7,6 +7,7 @@ use Rattle.jos_base.specs.KernelState.{KernelState, slot_at}
 use Rattle.jos_base.specs.Words.{negated}
 use Rattle.lib_os.specs.declared.numbers.TheConstants.{SERVICE_WAIT}
 use Rattle.lib_os.specs.declared.place.Place.TheVariants as place
+use Rattle.lib_os.specs.declared.place.Step.{Step}
 use Rattle.lib_os.specs.declared.place.Step.TheVariants as step
 use Rattle.lib_os.specs.declared.service.Service.TheVariants as service
 use Rattle.lib_os.specs.LibrarySteps.{is_pausing}
@@ -15,12 +16,18 @@ use Rattle.lib_os.specs.UserCalls.{Step as Call, answer_of}
 use Rattle.lib_os.proofs.Calls.{getenvid_is}
 use Rattle.lib_os.proofs.Trying.{LivesOn}
 use Rattle.lib_stage.specs.declared.ask.Next.TheVariants as next
-use Rattle.lib_stage.specs.ServiceSteps.{Plan, ServiceHolds}
-use Rattle.lib_stage.proofs.Laws.{Falls, IsAt, KeepsBy, is_plain, answered_keeps, law_of_call, law_of_pause}
+use Rattle.lib_stage.specs.ServiceSteps.{Plan, or_nowhere, ServiceHolds}
+use Rattle.lib_stage.proofs.Laws.{Falls, IsAt, KeepsBy, is_plain, answered_keeps, law_of_call, law_of_nowhere, law_of_pause}
 use Rattle.lib_spawn.specs.declared.services.WaitStage.{WaitStage}
 use Rattle.lib_spawn.specs.declared.services.WaitStage.TheVariants as stage
-use Rattle.lib_spawn.specs.WaitStages.{step_of, next_of, waiting}
+use Rattle.lib_spawn.specs.EndStages.{next_of, wait_at, waiting}
 use Rattle.lib_spawn.proofs.Waits.{entered_keeps, wait_call, tried_is, trying_keeps, pausing_keeps}
+
+-- the step that a stage is kept as
+abbrev step_of : WaitStage → Step
+step_of stage.Entered = step.Entered
+step_of (stage.Trying perm) = step.Trying perm
+step_of (stage.Pausing perm) = step.Pausing perm
 
 module _ (s : KernelState) (n id : ℕ) (live : is_live (slot_at s n) ≡ true) where
   falls : (at : WaitStage) (word : ℕ) → Falls (service.Wait id) (step_of at) (next_of id at word)
@@ -44,18 +51,27 @@ module _ (s : KernelState) (n id : ℕ) (live : is_live (slot_at s n) ≡ true) 
   here at stands plain goes_on =
       record { stands = stands; live = live; numbered = refl; plain = plain; goes_on = goes_on; falls = λ called. falls at (answer_of called) }
 
-  pub wait_holds : (at : WaitStage) → place_of (slot_at s n) ≡ place.InService (service.Wait id) (step_of at) → ServiceHolds s n (plan at)
-  wait_holds stage.Entered stands =
+  pub wait_holds : (at : Step) → place_of (slot_at s n) ≡ place.InService (service.Wait id) at →
+      ServiceHolds s n (or_nowhere waiting (wait_at id at))
+  wait_holds step.Entered stands =
       let args = 0 ∷ 0 ∷ 0 ∷ 0 ∷ 0 ∷ [] in
       law_of_call s n (plan stage.Entered) (service.Wait id) step.Entered (here stage.Entered stands refl refl) SYS_GETENVID args refl refl
       (subst (λ (z : Call Called). LivesOn z n (slot_at s n).registers) (sym (getenvid_is s n live args)) (record { live = live; registers = refl; written = refl }))
       (λ order. subst (λ (z : Call Called). KeepsBy s n (plan stage.Entered) z) (sym (getenvid_is s n live args)) (entered_keeps s n id stands))
-  wait_holds (stage.Trying perm) stands =
+  wait_holds (step.Trying perm) stands =
       let it = tried_is s n id perm stands live in
       law_of_call s n (plan (stage.Trying perm)) (service.Wait id) (step.Trying perm) (here (stage.Trying perm) stands refl refl)
       SYS_IPC_TRY_SEND (id ∷ 0 ∷ 1 ∷ 0 ∷ 0 ∷ []) refl refl
       (record { live = it.live; registers = it.registers; written = it.written })
       (answered_keeps s n (plan (stage.Trying perm)) (wait_call s n id) it (λ order. trying_keeps s n id perm stands live))
-  wait_holds (stage.Pausing perm) stands =
+  wait_holds (step.Pausing perm) stands =
       law_of_pause s n (service.Wait id) (step.Pausing perm) (step.Trying perm) SERVICE_WAIT (0 ∷ 0 ∷ 0 ∷ 0 ∷ 0 ∷ []) stands live refl refl
       (omega arith) (pausing_keeps s n id perm stands)
+  wait_holds step.ReadingRegion stands = law_of_nowhere s n (service.Wait id) step.ReadingRegion stands refl (λ row k b h. h)
+  wait_holds step.ReadingEntry stands = law_of_nowhere s n (service.Wait id) step.ReadingEntry stands refl (λ row k b h. h)
+  wait_holds (step.Receiving own) stands = law_of_nowhere s n (service.Wait id) (step.Receiving own) stands refl (λ row k b h. h)
+  wait_holds (step.ReadingValue own) stands = law_of_nowhere s n (service.Wait id) (step.ReadingValue own) stands refl (λ row k b h. h)
+  wait_holds (step.ReadingSender own word) stands =
+      law_of_nowhere s n (service.Wait id) (step.ReadingSender own word) stands refl (λ row k b h. h)
+  wait_holds (step.ReadingPerm own word sender) stands =
+      law_of_nowhere s n (service.Wait id) (step.ReadingPerm own word sender) stands refl (λ row k b h. h)

@@ -14,7 +14,6 @@ use Rattle.jos_base.specs.Messages.{accepts}
 use Rattle.jos_base.specs.Words.{negated}
 use Rattle.lib_os.specs.declared.numbers.TheConstants.{SERVICE_WAIT, SHORT_QUANTUM}
 use Rattle.lib_os.specs.declared.place.Place.TheVariants as place
-use Rattle.lib_os.specs.declared.place.Step.{Step}
 use Rattle.lib_os.specs.declared.place.Step.TheVariants as step
 use Rattle.lib_os.specs.declared.progress.Progress.TheVariants as progress
 use Rattle.lib_os.specs.declared.service.Service.TheVariants as service
@@ -22,11 +21,11 @@ use Rattle.lib_os.specs.AbstractRun.{abs_step, may_wait, phase_may_wait, slot_ma
 use Rattle.lib_os.specs.AbstractState.{AbstractState, Born, Slot, Phase, born, entered}
 use Rattle.lib_os.specs.Answers as abstract_system
 use Rattle.lib_os.specs.LibraryCall.{library_step}
-use Rattle.lib_os.specs.LibrarySteps.{Follows, Keeps, is_pausing}
+use Rattle.lib_os.specs.LibrarySteps.{Follows, Keeps}
 use Rattle.lib_os.specs.MemoryServices.{lives}
 use Rattle.lib_os.specs.Places.{place_of, words_at}
 use Rattle.lib_os.specs.Services.{service_of}
-use Rattle.lib_os.specs.StandsFor.{StandsFor, Names, Row, rows_of, StandsAtStep, IsIn, IsWaiting}
+use Rattle.lib_os.specs.StandsFor.{StandsFor, Names, IsIn, IsWaiting}
 use Rattle.lib_os.specs.UserCalls.{Step as Call, Got, got, giving, system}
 use Rattle.lib_os.proofs.Answering.{back_stands}
 use Rattle.lib_os.proofs.GoingOn.{in_with_words, words_stand}
@@ -40,8 +39,7 @@ use Rattle.lib_os.proofs.Trying.{IsAnswered, try_send_answered, there_stands}
 use Rattle.lib_stage.specs.declared.ask.Next.TheVariants as next
 use Rattle.lib_stage.specs.Nexts.{seen_as, settled}
 use Rattle.lib_spawn.specs.declared.services.WaitStage.TheVariants as stage
-use Rattle.lib_spawn.specs.Own.{is_waits}
-use Rattle.lib_spawn.specs.WaitStages.{next_of}
+use Rattle.lib_spawn.specs.EndStages.{next_of}
 
 -- ---- the abstract step
 
@@ -238,20 +236,3 @@ module _ (s : KernelState) (n id perm : ℕ) (stands : place_of (slot_at s n) �
               (record { is_in = in_with_words w in_it; some = at.some; other = at.other })),
         ),
       )
-
--- ---- a step that it has not
-
-no_such_step : (row : Row) (k : KernelSlot) (b : Born) (id : ℕ) (at : Step) → is_waits at ≡ false → StandsAtStep row k b (service.Wait id) at → ⊥
-no_such_step row k b id step.Entered not h = let contradiction : true ≡ false = not in cc
-no_such_step row k b id (step.Trying perm) not h = let contradiction : true ≡ false = not in cc
-no_such_step row k b id (step.Pausing perm) not h = let contradiction : true ≡ false = not in cc
-no_such_step row k b id _ not h = h
-
-pub nowhere_in_wait : (s : KernelState) (n id : ℕ) (at : Step) → place_of (slot_at s n) ≡ place.InService (service.Wait id) at →
-    is_waits at ≡ false → (names : Names) (a : AbstractState) → StandsFor names s a → ⊥
-nowhere_in_wait s n id at stands not names a h =
-    let v = served h n (service.Wait id) at stands in no_such_step (rows_of s.spaces (slot_at s n).directory) (slot_at s n) v.b id at not v.at
-
-pub waits_no_pause : (id : ℕ) (at : Step) → is_waits at ≡ false → is_pausing (place.InService (service.Wait id) at) ≡ false
-waits_no_pause id (step.Pausing perm) not = not
-waits_no_pause id _ not = refl

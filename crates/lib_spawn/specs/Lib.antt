@@ -1,3 +1,2 @@
-pub mod Own
 pub mod StackPage
-pub mod WaitStages
+pub mod EndStages

@@ -9,23 +9,25 @@ use Rattle.jos_base.specs.declared.numbers.TheConstants.{SYS_EXOFORK, SYS_YIELD}
 use Rattle.jos_base.specs.Environments.{Slot, is_live}
 use Rattle.jos_base.specs.KernelState.{KernelState, slot_at, with_extra, with_registers, with_status}
 use Rattle.jos_base.specs.SystemCalls.{system_call}
+use Rattle.jos_base.proofs.Maps.{upd-at}
+use Rattle.lib_os.specs.declared.numbers.TheConstants.{SERVICES}
 use Rattle.lib_os.specs.declared.place.Place.TheVariants as place
 use Rattle.lib_os.specs.declared.place.Step.{Step as At}
 use Rattle.lib_os.specs.declared.progress.Progress.TheVariants as progress
 use Rattle.lib_os.specs.declared.service.Service.{Service}
 use Rattle.lib_os.specs.AbstractRun.{abs_step}
-use Rattle.lib_os.specs.AbstractState.{AbstractState}
+use Rattle.lib_os.specs.AbstractState.{AbstractState, Born}
 use Rattle.lib_os.specs.InOrder.{IsInOrder}
 use Rattle.lib_os.specs.LibrarySteps.{Stands, Follows, Keeps, KeepsUses, Leaves, LeavesRest, Lowers, is_pausing, steps_left}
 use Rattle.lib_os.specs.Places.{place_of, words_at}
-use Rattle.lib_os.specs.StandsFor.{StandsFor, Names}
+use Rattle.lib_os.specs.StandsFor.{StandsFor, Names, Row, rows_of, StandsAtStep}
 use Rattle.lib_os.specs.UserCalls.{Step, Got, got, to_handler, gone, giving, load, asking, system, may_print, Output}
 use Rattle.lib_os.proofs.Calls.{yield_is}
 use Rattle.lib_os.proofs.GoingOn.{went_to, lowered, gave_up, gives_nothing_up}
 use Rattle.lib_os.proofs.Leaving.{load_left, system_left, wakes}
 use Rattle.lib_os.proofs.Loading.{loaded, loaded_state, GivesWord}
-use Rattle.jos_base.proofs.Maps.{upd-at}
 use Rattle.lib_os.proofs.Numbered.{number_of}
+use Rattle.lib_os.proofs.Serving.{served}
 use Rattle.lib_os.proofs.StepsLeave.{Behind, behind, answers, goes_back, goes_on, stays}
 use Rattle.lib_os.proofs.Trying.{IsAnswered, LivesOn}
 use Rattle.lib_os.proofs.UsesCalled.{load_found, system_found}
@@ -202,6 +204,13 @@ shown_keeps s n number args plan to on shows keeps =
 
 -- ---- a system call that prints nothing, behind which the environment is gone
 
+gone_lowers : (s : KernelState) (n number : ℕ) (asks : Ask) (step : Step Called) (g : Got Called) →
+    let did = upshot_by (record { number = number; asks = asks; next = λ called. next.Gone }) n step g in
+    Lowers (Ok did.progress) (place_of (slot_at s n)) (place_of (slot_at did.state n))
+gone_lowers s n number asks step (got called) = tt
+gone_lowers s n number asks step to_handler = tt
+gone_lowers s n number asks step gone = tt
+
 module _ (s : KernelState) (n : ℕ) (service : Service) (from : At) (stands : place_of (slot_at s n) ≡ place.InService service from)
     (goes_on : is_pausing (place.InService service from) ≡ false) (number call : ℕ) (args : List ℕ)
     (plain : is_plain (ask.System call args) ≡ true) (silent : may_print call ≡ false) where
@@ -217,38 +226,30 @@ module _ (s : KernelState) (n : ℕ) (service : Service) (from : At) (stands : p
         keeps = keeps;
         fails = λ may a h. absurd (let contradiction : true ≡ false = sym may ∙ silent in cc);
         leaves = plain_leaves s n ending plain;
-        lowers = ended_lowers (performed s n ending.asks).gives;
+        lowers = gone_lowers s n number ending.asks (performed s n ending.asks) (performed s n ending.asks).gives;
         gives_up = gives_nothing_up (Ok did.progress) (slot_at s n) (slot_at did.state n) (ap is_pausing stands ∙ goes_on);
       }
-    where
-      ended_lowers : (g : Got Called) → let did = upshot_by ending n (performed s n ending.asks) g in
-          Lowers (Ok did.progress) (place_of (slot_at s n)) (place_of (slot_at did.state n))
-      ended_lowers (got called) = tt
-      ended_lowers to_handler = tt
-      ended_lowers gone = tt
 
--- ---- a stage that the service has not
+-- ---- a step that the service has not
 
-module _ (s : KernelState) (n : ℕ) (calm : is_pausing (place_of (slot_at s n)) ≡ false)
-    (none : (names : Names) (a : AbstractState) → StandsFor names s a → ⊥) where
-  pub nowhere_holds : ServiceHolds s n nowhere
+-- Nothing stands there, so that no state stands for an abstract one.
+module _ (s : KernelState) (n : ℕ) (service : Service) (at : At) (stands : place_of (slot_at s n) ≡ place.InService service at)
+    (goes_on : is_pausing (place.InService service at) ≡ false) (none : (row : Row) (k : Slot) (b : Born) → StandsAtStep row k b service at → ⊥) where
+  nobody : (names : Names) (a : AbstractState) → StandsFor names s a → ⊥
+  nobody names a h = let v = served h n service at stands in none (rows_of s.spaces (slot_at s n).directory) (slot_at s n) v.b v.at
+
+  pub law_of_nowhere : ServiceHolds s n nowhere
   unfolding performed
-  nowhere_holds =
+  law_of_nowhere =
       let did = upshot_by nowhere n (performed s n nowhere.asks) (performed s n nowhere.asks).gives in
       record {
         lives = λ called is stays. absurd (let contradiction : true ≡ false = stays in cc);
-        keeps = λ order a h quiet. absurd (none h.0 a h.1);
-        fails = λ may a h. absurd (none h.0 a h.1);
+        keeps = λ order a h quiet. absurd (nobody h.0 a h.1);
+        fails = λ may a h. absurd (nobody h.0 a h.1);
         leaves = plain_leaves s n nowhere refl;
-        lowers = ended_lowers (performed s n nowhere.asks).gives;
-        gives_up = gives_nothing_up (Ok did.progress) (slot_at s n) (slot_at did.state n) calm;
+        lowers = gone_lowers s n SERVICES nowhere.asks (performed s n nowhere.asks) (performed s n nowhere.asks).gives;
+        gives_up = gives_nothing_up (Ok did.progress) (slot_at s n) (slot_at did.state n) (ap is_pausing stands ∙ goes_on);
       }
-    where
-      ended_lowers : (g : Got Called) → let did = upshot_by nowhere n (performed s n nowhere.asks) g in
-          Lowers (Ok did.progress) (place_of (slot_at s n)) (place_of (slot_at did.state n))
-      ended_lowers (got called) = tt
-      ended_lowers to_handler = tt
-      ended_lowers gone = tt
 
 -- ---- a load at a window
 

@@ -1,5 +1,5 @@
 -- What an ask is: a call of the kernel, whose word is told as an answer.
-use Rattle.std.specs.Prelude.{◌≡◌, ℕ, ◌%◌, true, Result, Ok, Err}
+use Rattle.std.specs.Prelude.{◌≡◌, ℕ, ◌%◌, true, List, [], ◌∷◌, Result, Ok, Err}
 use Rattle.jos_base.specs.declared.called.Called.{Called}
 use Rattle.jos_base.specs.declared.called.Called.TheVariants.{Answered}
 use Rattle.jos_base.specs.KernelState.{KernelState}
@@ -9,6 +9,12 @@ use Rattle.lib_os.specs.UserCalls as call
 use Rattle.lib_os.specs.UserCalls.{Step, Got, got, to_handler, gone, Output, Prints, PrintsPart, may_print}
 use Rattle.lib_stage.specs.declared.ask.Ask.{Ask}
 use Rattle.lib_stage.specs.declared.ask.Ask.TheVariants as ask
+
+-- the words of a system call that is given none
+abbrev pub no_args : List ℕ
+no_args = 0 ∷ 0 ∷ 0 ∷ 0 ∷ 0 ∷ []
+
+-- ---- what an ask comes to
 
 abbrev pub got_as : {X : Type 0} → (X → ℕ) → Got X → Got Called
 got_as word (got x) = got (Answered (word x))

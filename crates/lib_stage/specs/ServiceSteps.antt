@@ -1,10 +1,11 @@
 -- A step of a service: what it asks is done, and then what it does next by the reply.
-use Rattle.std.specs.Prelude.{◌≡◌, ℕ, ◌++◌, false, true, List, [], ◌∷◌, Some, Result, Ok, Err}
+use Rattle.std.specs.Prelude.{◌≡◌, ℕ, ◌++◌, false, true, List, Option, Some, None, Result, Ok, Err}
 use Rattle.jos_host.specs.declared.host.Failed.{Failed}
 use Rattle.jos_base.specs.declared.called.Called.{Called}
 use Rattle.jos_base.specs.declared.numbers.TheConstants.{SYS_GETENVID}
 use Rattle.jos_base.specs.Environments.{is_live}
 use Rattle.jos_base.specs.KernelState.{KernelState, slot_at}
+use Rattle.lib_os.specs.declared.numbers.TheConstants.{SERVICES}
 use Rattle.lib_os.specs.declared.progress.Progress.{Progress}
 use Rattle.lib_os.specs.declared.progress.Progress.TheVariants as progress
 use Rattle.lib_os.specs.AbstractRun.{abs_step}
@@ -17,7 +18,7 @@ use Rattle.lib_stage.specs.declared.ask.Ask.{Ask}
 use Rattle.lib_stage.specs.declared.ask.Ask.TheVariants as ask
 use Rattle.lib_stage.specs.declared.ask.Next.{Next}
 use Rattle.lib_stage.specs.declared.ask.Next.TheVariants as next
-use Rattle.lib_stage.specs.Asks.{performed, MayFail}
+use Rattle.lib_stage.specs.Asks.{no_args, performed, MayFail}
 use Rattle.lib_stage.specs.Nexts.{settled, seen_as, is_gone}
 
 -- What a service is at a stage, with what it is given: its number, what it asks, and what it does next by the reply.
@@ -67,6 +68,13 @@ pub record PlanHolds (s : KernelState) (n : ℕ) (plan : Plan) (step : Step Call
 abbrev pub ServiceHolds : KernelState → ℕ → Plan → Type 0
 ServiceHolds s n plan = PlanHolds s n plan (performed s n plan.asks)
 
--- a step that a service has not: nothing is asked for, and it is over
+-- ---- a step that a service has not
+
+-- nothing is asked for but an id, and it is over
 abbrev pub nowhere : Plan
-nowhere = record { number = 0; asks = ask.System SYS_GETENVID (0 ∷ 0 ∷ 0 ∷ 0 ∷ 0 ∷ []); next = λ called. next.Gone }
+nowhere = record { number = SERVICES; asks = ask.System SYS_GETENVID no_args; next = λ called. next.Gone }
+
+-- the plan of a service at a step, if it has this step
+abbrev pub or_nowhere : {S : Type 0} → (S → Plan) → Option S → Plan
+or_nowhere plan (Some service) = plan service
+or_nowhere plan None = nowhere

@@ -1,12 +1,14 @@
-//! A step at which no environment stands.
+//! A step that a service has not.
 
 ghost use Rattle.std.specs.Prelude.{◌≡◌};
 
 use crate::ask::{Ask, Next};
 use crate::driving::Planned;
 use jos_base::{Called, SYS_GETENVID};
+use lib_os::SERVICES;
 
-/// A step that a service has not. It asks for something harmless, and is over.
+/// A step that the service has not, at which no environment stands. It asks for its id, since each step makes one call, and
+/// is over.
 #[derive(Clone, Copy, Debug, PartialEq, Eq)]
 pub struct Nowhere;
 
@@ -16,7 +18,7 @@ impl Planned for Nowhere {
     ghost plan = { λ it. nowhere };
 
     fn number(&self) -> u32 {
-        0
+        SERVICES
     }
 
     fn ask(&self) -> Ask {

@@ -1,4 +1,4 @@
--- The law of the services of this crate: each is one step of the abstract system.
+-- The law of the services of this crate: each is one step of the abstract system, and one call of the kernel.
 use Rattle.std.proofs.Common.{◌≡◌, ◌≤◌, ◌||◌, ℕ, Bool, true, false, not, List, [], ◌∷◌, Option, Some, None, Result, Ok, Err, refl, sym, ap, subst, arith}
 use Rattle.std.specs.Prelude.{nat_lt}
 use Rattle.std.proofs.lemmas.Bool.Decides.{nat_tests}
@@ -34,14 +34,13 @@ use Rattle.lib_stage.specs.Asks.{performed}
 use Rattle.lib_stage.specs.Nexts.{is_gone}
 use Rattle.lib_stage.specs.ServiceSteps.{Plan, PlanHolds, ServiceHolds}
 use Rattle.lib_stage.proofs.Laws.{Falls, IsAt, GoesOn, KeepsBy, FailsBy, is_plain, law_of}
-use Rattle.lib_mem.specs.declared.services.Mem.{Mem}
-use Rattle.lib_mem.specs.declared.services.Mem.TheVariants as mem
-use Rattle.lib_mem.specs.Own.{IsRefused, perm_of}
-use Rattle.lib_mem.specs.MemPlans.{service_in, number_in, is_refused, call_of, passed_on, plan_by, plan_of}
+use Rattle.lib_mem.specs.declared.services.MemoryService.{MemoryService}
+use Rattle.lib_mem.specs.declared.services.MemoryService.TheVariants as memory
+use Rattle.lib_mem.specs.MemoryPlans.{number_in, is_refused, perm_of, call_of, passed_on, plan_by, memory_plan}
 use Rattle.lib_mem.proofs.Asking.{getid_leads, yield_leads}
 use Rattle.lib_mem.proofs.Dropping as dropping
 use Rattle.lib_mem.proofs.Making as making
-use Rattle.lib_mem.proofs.Passing.{Leads, telling, ending}
+use Rattle.lib_mem.proofs.Passing.{Leads, ending, service_in, telling}
 use Rattle.lib_mem.proofs.Printing.{line, bytes_leads, fault_leads}
 use Rattle.lib_mem.proofs.Refusing.{refused_leads}
 
@@ -56,64 +55,52 @@ negated_off : (t : Bool) → not t ≡ false → t ≡ true
 negated_off true off = refl
 negated_off false off = absurd (let contradiction : true ≡ false = off in cc)
 
-refused_so : (m : Mem) → is_refused m ≡ true → IsRefused (service_in m)
-refused_so (mem.Cputs va len) is = is
-refused_so (mem.PageNew va flags) is = is
-refused_so (mem.PageDrop va) is = by_test (is_page_inside va) is
-  where
-    by_test : (t : Bool) → not t ≡ true → t ≡ false
-    by_test false on = refl
-    by_test true on = absurd (let contradiction : false ≡ true = on in cc)
-refused_so mem.Unknown is = tt
-refused_so mem.GetId is = absurd (let contradiction : false ≡ true = is in cc)
-refused_so mem.Yield is = absurd (let contradiction : false ≡ true = is in cc)
-
 module _ (s : KernelState) (n : ℕ) (step : Step) (live : is_live (slot_at s n) ≡ true) where
-  abbrev IsThere : Mem → Type 0
+  abbrev IsThere : MemoryService → Type 0
   IsThere m = place_of (slot_at s n) ≡ place.InService (service_in m) step
 
   abbrev none : List ℕ
   none = 0 ∷ 0 ∷ 0 ∷ 0 ∷ 0 ∷ []
 
-  numbered : (m : Mem) → number_in m ≡ number_of (service_in m)
-  numbered (mem.Cputs va len) = refl
-  numbered mem.GetId = refl
-  numbered mem.Yield = refl
-  numbered (mem.PageNew va flags) = refl
-  numbered (mem.PageDrop va) = refl
-  numbered mem.Unknown = refl
+  numbered : (m : MemoryService) → number_in m ≡ number_of (service_in m)
+  numbered (memory.Cputs va len) = refl
+  numbered memory.GetId = refl
+  numbered memory.Yield = refl
+  numbered (memory.PageNew va flags) = refl
+  numbered (memory.PageDrop va) = refl
+  numbered memory.Unknown = refl
 
-  no_pause : (m : Mem) → is_pausing (place.InService (service_in m) step) ≡ false
-  no_pause (mem.Cputs va len) = refl
-  no_pause mem.GetId = refl
-  no_pause mem.Yield = refl
-  no_pause (mem.PageNew va flags) = refl
-  no_pause (mem.PageDrop va) = refl
-  no_pause mem.Unknown = refl
+  no_pause : (m : MemoryService) → is_pausing (place.InService (service_in m) step) ≡ false
+  no_pause (memory.Cputs va len) = refl
+  no_pause memory.GetId = refl
+  no_pause memory.Yield = refl
+  no_pause (memory.PageNew va flags) = refl
+  no_pause (memory.PageDrop va) = refl
+  no_pause memory.Unknown = refl
 
-  falls : (m : Mem) (called : Called) → Falls (service_in m) step (passed_on called)
+  falls : (m : MemoryService) (called : Called) → Falls (service_in m) step (passed_on called)
   falls m (Answered word) = tt
   falls m Ended = tt
   falls m Blocked = tt
 
   -- ---- by what the call comes to
 
-  by_call : (m : Mem) (plan : Plan) → IsAt s n plan (service_in m) step → (z : Call Called) → performed s n plan.asks ≡ z → GoesOn s n plan z →
+  by_call : (m : MemoryService) (plan : Plan) → IsAt s n plan (service_in m) step → (z : Call Called) → performed s n plan.asks ≡ z → GoesOn s n plan z →
       (IsInOrder z.state → KeepsBy s n plan z) → FailsBy s n plan z → ServiceHolds s n plan
   by_call m plan at z is goes keeps fails =
       law_of s n plan (service_in m) step at (subst (λ (x : Call Called). GoesOn s n plan x) (sym is) goes)
       (subst (λ (x : Call Called). IsInOrder x.state → KeepsBy s n plan x) (sym is) keeps)
       (subst (λ (x : Call Called). FailsBy s n plan x) (sym is) fails)
 
-  abbrev passing : Mem → Ask → Plan
+  abbrev passing : MemoryService → Ask → Plan
   passing m asks = record { number = number_in m; asks = asks; next = passed_on }
 
-  passes_at : (m : Mem) (asks : Ask) → IsThere m → is_plain asks ≡ true → IsAt s n (passing m asks) (service_in m) step
+  passes_at : (m : MemoryService) (asks : Ask) → IsThere m → is_plain asks ≡ true → IsAt s n (passing m asks) (service_in m) step
   passes_at m asks there plain =
       record { stands = there; live = live; numbered = numbered m; plain = plain; goes_on = no_pause m; falls = falls m }
 
   -- a call that answers
-  told_holds : (m : Mem) (asks : Ask) → IsThere m → is_plain asks ≡ true → (state : KernelState) (word : ℕ) (written : List ℕ) →
+  told_holds : (m : MemoryService) (asks : Ask) → IsThere m → is_plain asks ≡ true → (state : KernelState) (word : ℕ) (written : List ℕ) →
       performed s n asks ≡ telling state word written → is_live (slot_at state n) ≡ true → (slot_at state n).registers ≡ (slot_at s n).registers →
       ((names : Names) (a : AbstractState) → StandsFor names s a → Leads s n written state (answered state n word) a) → ServiceHolds s n (passing m asks)
   told_holds m asks there plain state word written is lives kept leads =
@@ -128,7 +115,7 @@ module _ (s : KernelState) (n : ℕ) (step : Step) (live : is_live (slot_at s n)
   ended Ended is stays = let contradiction : true ≡ false = stays in absurd cc
   ended Blocked is stays = let contradiction : true ≡ false = stays in absurd cc
 
-  over_holds : (m : Mem) (asks : Ask) → IsThere m → is_plain asks ≡ true → (state : KernelState) (written : List ℕ) →
+  over_holds : (m : MemoryService) (asks : Ask) → IsThere m → is_plain asks ≡ true → (state : KernelState) (written : List ℕ) →
       performed s n asks ≡ ending state written →
       ((names : Names) (a : AbstractState) → StandsFor names s a → Leads s n written state state a) → ServiceHolds s n (passing m asks)
   over_holds m asks there plain state written is leads =
@@ -139,10 +126,10 @@ module _ (s : KernelState) (n : ℕ) (step : Step) (live : is_live (slot_at s n)
 
   -- ---- each
 
-  refused_holds : (m : Mem) → IsThere m → is_refused m ≡ true → ServiceHolds s n (plan_by true m)
+  refused_holds : (m : MemoryService) → IsThere m → is_refused m ≡ true → ServiceHolds s n (plan_by true m)
   unfolding performed
   refused_holds m there is =
-      let leads = refused_leads s n (service_in m) step none live there (refused_so m is) in
+      let leads = refused_leads s n m step there is in
       by_call m (plan_by true m)
       (record { stands = there; live = live; numbered = numbered m; plain = refl; goes_on = no_pause m; falls = λ called. tt })
       (telling s (slot_at s n).id []) (getenvid_is s n live none)
@@ -150,7 +137,7 @@ module _ (s : KernelState) (n : ℕ) (step : Step) (live : is_live (slot_at s n)
       (λ order a h quiet. let l = leads h.0 a h.1 in (l.0, l.1, l.2, l.3 order quiet))
       (λ may a h. let l = leads h.0 a h.1 in (l.0, l.1, l.2))
 
-  yield_holds : IsThere mem.Yield → ServiceHolds s n (passing mem.Yield (ask.System SYS_YIELD none))
+  yield_holds : IsThere memory.Yield → ServiceHolds s n (passing memory.Yield (ask.System SYS_YIELD none))
   unfolding performed
   yield_holds there =
       let ran = with_status s n Runnable in
@@ -158,9 +145,9 @@ module _ (s : KernelState) (n : ℕ) (step : Step) (live : is_live (slot_at s n)
       let is : system s n SYS_YIELD none ≡ telling ran 0 [] = yield_is s n live none in
       let rest : LeavesRest s ran = subst (λ (z : Call Called). LeavesRest s z.state) is (system_left s n SYS_YIELD none refl).rest in
       let used : KeepsUses n s ran = subst (λ (z : Call Called). KeepsUses n s z.state) is (λ order is_there each. system_found s n SYS_YIELD none order is_there each) in
-      subst (λ (z : Call Called). PlanHolds s n (passing mem.Yield (ask.System SYS_YIELD none)) z) (sym is) (record {
+      subst (λ (z : Call Called). PlanHolds s n (passing memory.Yield (ask.System SYS_YIELD none)) z) (sym is) (record {
         lives = λ called given stays. ap (λ (k : Slot). is_live k) put;
-        keeps = λ order a h quiet. let l = yield_leads s n step none live there h.0 a h.1 in (l.0, l.1, l.2, l.3 order quiet);
+        keeps = λ order a h quiet. let l = yield_leads s n step there h.0 a h.1 in (l.0, l.1, l.2, l.3 order quiet);
         fails = λ may a h. absurd (let contradiction : false ≡ true = may in cc);
         leaves = (
           record { last = rest.last; turns = rest.turns; frames = rest.frames; refused = rest.refused; told = rest.told },
@@ -171,65 +158,65 @@ module _ (s : KernelState) (n : ℕ) (step : Step) (live : is_live (slot_at s n)
         gives_up = gives_nothing_up (Ok progress.Finished) (slot_at s n) (slot_at (answered ran n 0) n) (ap is_pausing there);
       })
 
-  module _ (va len : ℕ) (there : IsThere (mem.Cputs va len)) (few : len ≤ CPUTS_MAX) (buffer : is_buffer va len ≡ true) where
+  module _ (va len : ℕ) (there : IsThere (memory.Cputs va len)) (few : len ≤ CPUTS_MAX) (buffer : is_buffer va len ≡ true) where
     abbrev rest : List ℕ
     rest = 0 ∷ 0 ∷ 0 ∷ []
 
-    cputs_holds : ServiceHolds s n (plan_by false (mem.Cputs va len))
+    cputs_holds : ServiceHolds s n (plan_by false (memory.Cputs va len))
     unfolding performed
     cputs_holds = by_read (user_bytes s n va len) refl
       where
-        by_read : (r : Result (List ℕ) PageFault) → user_bytes s n va len ≡ r → ServiceHolds s n (plan_by false (mem.Cputs va len))
+        by_read : (r : Result (List ℕ) PageFault) → user_bytes s n va len ≡ r → ServiceHolds s n (plan_by false (memory.Cputs va len))
         by_read (Ok bytes) is =
-            told_holds (mem.Cputs va len) (call_of (mem.Cputs va len)) there refl (with_bytes_reached s n va len) 0 bytes
+            told_holds (memory.Cputs va len) (call_of (memory.Cputs va len)) there refl (with_bytes_reached s n va len) 0 bytes
             (cputs_writes s n live va len rest few bytes is) live refl (bytes_leads s n va len step rest live there few buffer bytes is)
         by_read (Err fault) is =
-            over_holds (mem.Cputs va len) (call_of (mem.Cputs va len)) there refl (without_environment s n)
+            over_holds (memory.Cputs va len) (call_of (memory.Cputs va len)) there refl (without_environment s n)
             (line s n va len step rest live there few buffer fault is)
             (cputs_ends s n live va len rest few fault is) (fault_leads s n va len step rest live there few buffer fault is)
 
-  module _ (va flags : ℕ) (there : IsThere (mem.PageNew va flags)) (few : flags ≤ 3) (inside : is_page_inside va ≡ true) where
+  module _ (va flags : ℕ) (there : IsThere (memory.PageNew va flags)) (few : flags ≤ 3) (inside : is_page_inside va ≡ true) where
     abbrev tail : List ℕ
     tail = 0 ∷ 0 ∷ []
 
     abbrev found : Option (ℕ × SpacesState)
     found = making.found s n va flags (perm_of flags) step tail live there few inside refl
 
-    page_new_holds : ServiceHolds s n (plan_by false (mem.PageNew va flags))
+    page_new_holds : ServiceHolds s n (plan_by false (memory.PageNew va flags))
     unfolding performed
     page_new_holds = by_found found refl
       where
-        by_found : (o : Option (ℕ × SpacesState)) → found ≡ o → ServiceHolds s n (plan_by false (mem.PageNew va flags))
+        by_found : (o : Option (ℕ × SpacesState)) → found ≡ o → ServiceHolds s n (plan_by false (memory.PageNew va flags))
         by_found None is =
-            told_holds (mem.PageNew va flags) (call_of (mem.PageNew va flags)) there refl (with_refusal s) (negated E_NO_MEM) []
+            told_holds (memory.PageNew va flags) (call_of (memory.PageNew va flags)) there refl (with_refusal s) (negated E_NO_MEM) []
             (making.none_is s n va flags (perm_of flags) step tail live there few inside refl is) live refl
             (making.none_leads s n va flags (perm_of flags) step tail live there few inside refl is)
         by_found (Some pair) is =
-            told_holds (mem.PageNew va flags) (call_of (mem.PageNew va flags)) there refl (with_spaces s pair.1) 0 []
+            told_holds (memory.PageNew va flags) (call_of (memory.PageNew va flags)) there refl (with_spaces s pair.1) 0 []
             (making.some_is s n va flags (perm_of flags) step tail live there few inside refl pair.0 pair.1 is) live refl
             (making.some_leads s n va flags (perm_of flags) step tail live there few inside refl pair.0 pair.1 is)
 
-  passed_holds : (m : Mem) → IsThere m → is_refused m ≡ false → ServiceHolds s n (plan_by false m)
+  passed_holds : (m : MemoryService) → IsThere m → is_refused m ≡ false → ServiceHolds s n (plan_by false m)
   unfolding performed
-  passed_holds (mem.Cputs va len) there off =
+  passed_holds (memory.Cputs va len) there off =
       let tests = either_off (nat_lt CPUTS_MAX len) (is_buffer va len) off in
       let e = tests.0 in cputs_holds va len there (grind (arith, nat_tests)) (tests.1)
-  passed_holds mem.GetId there off =
-      told_holds mem.GetId (ask.System SYS_GETENVID none) there refl s (slot_at s n).id [] (getenvid_is s n live none) live refl
-      (getid_leads s n step none live there)
-  passed_holds mem.Yield there off = yield_holds there
-  passed_holds (mem.PageNew va flags) there off =
+  passed_holds memory.GetId there off =
+      told_holds memory.GetId (ask.System SYS_GETENVID none) there refl s (slot_at s n).id [] (getenvid_is s n live none) live refl
+      (getid_leads s n step there)
+  passed_holds memory.Yield there off = yield_holds there
+  passed_holds (memory.PageNew va flags) there off =
       let tests = either_off (nat_lt 3 flags) (is_page_inside va) off in
       let e = tests.0 in page_new_holds va flags there (grind (arith, nat_tests)) (tests.1)
-  passed_holds (mem.PageDrop va) there off =
+  passed_holds (memory.PageDrop va) there off =
       let inside = negated_off (is_page_inside va) off in
       let rest = 0 ∷ 0 ∷ 0 ∷ [] in
-      told_holds (mem.PageDrop va) (call_of (mem.PageDrop va)) there refl (with_spaces s (dropping.spaces s n va step rest live there inside)) 0 []
+      told_holds (memory.PageDrop va) (call_of (memory.PageDrop va)) there refl (with_spaces s (dropping.spaces s n va step rest live there inside)) 0 []
       (dropping.asked_is s n va step rest live there inside) live refl (dropping.drop_leads s n va step rest live there inside)
-  passed_holds mem.Unknown there off = absurd (let contradiction : true ≡ false = off in cc)
+  passed_holds memory.Unknown there off = absurd (let contradiction : true ≡ false = off in cc)
 
-  pub mem_holds : (m : Mem) → IsThere m → ServiceHolds s n (plan_of m)
-  mem_holds m there = by_test (is_refused m) refl
+  pub memory_holds : (m : MemoryService) → IsThere m → ServiceHolds s n (memory_plan m)
+  memory_holds m there = by_test (is_refused m) refl
     where
       by_test : (t : Bool) → is_refused m ≡ t → ServiceHolds s n (plan_by t m)
       by_test true is = refused_holds m there is

@@ -1,0 +1,28 @@
+-- What the services that are built ask, and what they do next by the reply, each as its own crate says.
+use Rattle.std.specs.Prelude.{ℕ}
+use Rattle.lib_os.specs.declared.place.Step.{Step}
+use Rattle.lib_os.specs.declared.service.Service.{Service}
+use Rattle.lib_os.specs.declared.service.Service.TheVariants as service
+use Rattle.lib_stage.specs.ServiceSteps.{Plan, nowhere, or_nowhere}
+use Rattle.lib_mem.specs.MemoryPlans.{memory_plan, memory_service}
+use Rattle.lib_msg.specs.ReceiveStages.{receive_at, receiving}
+use Rattle.lib_msg.specs.SendStages.{send_at, sending}
+use Rattle.lib_spawn.specs.EndStages.{exiting, wait_at, waiting}
+use Rattle.jos_run.specs.declared.services.ServiceStage.{ServiceStage}
+use Rattle.jos_run.specs.declared.services.ServiceStage.TheVariants as stage
+
+abbrev pub plan_of : ServiceStage → Plan
+plan_of (stage.Exit it) = exiting
+plan_of (stage.Wait it) = waiting it
+plan_of (stage.Send it) = sending it
+plan_of (stage.Receive it) = receiving it
+plan_of (stage.Memory it) = memory_plan it
+plan_of (stage.Nowhere it) = nowhere
+
+-- a service at a step
+abbrev pub plan_at : Service → Step → Plan
+plan_at service.Exit step = exiting
+plan_at (service.Wait id) step = or_nowhere waiting (wait_at id step)
+plan_at (service.Send id value va) step = or_nowhere sending (send_at id value va step)
+plan_at (service.Receive va from) step = or_nowhere receiving (receive_at va from step)
+plan_at other step = or_nowhere memory_plan (memory_service other)

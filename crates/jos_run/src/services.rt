@@ -1,0 +1,87 @@
+//! The services that are built, each by its own crate.
+
+ghost use Rattle.std.specs.Prelude.{◌≡◌};
+ghost use Rattle.jos_run.specs.Plans.{plan_at, plan_of};
+
+use jos_base::Called;
+use lib_mem::MemoryService;
+use lib_msg::{Receive, Send};
+use lib_os::{Service, Step};
+use lib_spawn::{Exit, Wait};
+use lib_stage::{Ask, Next, Nowhere, Planned};
+
+/// A service at a stage.
+#[derive(Clone, Copy, Debug, PartialEq, Eq)]
+pub(crate) enum ServiceStage {
+    Exit(Exit),
+    Wait(Wait),
+    Send(Send),
+    Receive(Receive),
+    Memory(MemoryService),
+    /// The service has not this step.
+    Nowhere(Nowhere),
+}
+
+/// The service as it stands at a step.
+pub(crate) fn stage_of(service: Service, step: Step) -> ServiceStage
+    ensures { plan_of result ≡ plan_at service step }
+{
+    match service {
+        Service::Exit => ServiceStage::Exit(Exit),
+        Service::Wait { id } => match Wait::at_step(id, step) {
+            Some(wait) => ServiceStage::Wait(wait),
+            None => ServiceStage::Nowhere(Nowhere),
+        },
+        Service::Send { id, value, va } => match Send::at_step(id, value, va, step) {
+            Some(send) => ServiceStage::Send(send),
+            None => ServiceStage::Nowhere(Nowhere),
+        },
+        Service::Receive { va, from } => match Receive::at_step(va, from, step) {
+            Some(receive) => ServiceStage::Receive(receive),
+            None => ServiceStage::Nowhere(Nowhere),
+        },
+        _ => match MemoryService::of(service) {
+            Some(memory) => ServiceStage::Memory(memory),
+            None => ServiceStage::Nowhere(Nowhere),
+        },
+    }
+}
+
+impl Planned for ServiceStage {
+    ghost use Rattle.jos_run.specs.Plans.{plan_of};
+
+    ghost plan = { plan_of };
+
+    fn number(&self) -> u32 {
+        match self {
+            ServiceStage::Exit(exit) => exit.number(),
+            ServiceStage::Wait(wait) => wait.number(),
+            ServiceStage::Send(send) => send.number(),
+            ServiceStage::Receive(receive) => receive.number(),
+            ServiceStage::Memory(memory) => memory.number(),
+            ServiceStage::Nowhere(nowhere) => nowhere.number(),
+        }
+    }
+
+    fn ask(&self) -> Ask {
+        match self {
+            ServiceStage::Exit(exit) => exit.ask(),
+            ServiceStage::Wait(wait) => wait.ask(),
+            ServiceStage::Send(send) => send.ask(),
+            ServiceStage::Receive(receive) => receive.ask(),
+            ServiceStage::Memory(memory) => memory.ask(),
+            ServiceStage::Nowhere(nowhere) => nowhere.ask(),
+        }
+    }
+
+    fn next(&self, called: Called) -> Next {
+        match self {
+            ServiceStage::Exit(exit) => exit.next(called),
+            ServiceStage::Wait(wait) => wait.next(called),
+            ServiceStage::Send(send) => send.next(called),
+            ServiceStage::Receive(receive) => receive.next(called),
+            ServiceStage::Memory(memory) => memory.next(called),
+            ServiceStage::Nowhere(nowhere) => nowhere.next(called),
+        }
+    }
+}
