@@ -74,7 +74,7 @@ fn file_of(alloc: Global, code: &[u8]) -> anyhow::Result<Vec<u8>>
 /// Boots two images that have the codes, with no input, in 64 frames.
 fn boot(alloc: Global, plan: Plan) -> anyhow::Result<Kernel>
     ensures holds { IfOk result Holds }
-    ensures steps { IfOk result (λ kernel. kernel.steps ≡ 0) }
+    ensures steps { IfOk result (λ kernel. kernel.book.steps ≡ 0) }
 {
     let first = file_of(alloc, plan.codes.0)?;
     let second = file_of(alloc, plan.codes.1)?;

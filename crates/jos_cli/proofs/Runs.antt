@@ -21,29 +21,29 @@ use Rattle.jos_kernel.specs.declared.kernel.BootFault.{BootFault}
 use Rattle.jos_kernel.specs.declared.kernel.BootFault.TheVariants as boot_fault
 use Rattle.jos_kernel.proofs.ToldBytes.{part_of_first, gains_none}
 
-module _ (old new : Kernel) (steps kept : ℕ) (counts : Counts old (record nothing { kept = kept })) (fresh : old.steps ≡ 0) where
+module _ (old new : Kernel) (steps kept : ℕ) (counts : Counts old (record nothing { kept = kept })) (fresh : old.book.steps ≡ 0) where
   abbrev whole : Ran
-  whole = run_from old.schedule steps (progress_of old nothing)
+  whole = run_from old.book.schedule steps (progress_of old nothing)
 
-  all_left : steps - old.steps ≡ steps
+  all_left : steps - old.book.steps ≡ steps
   all_left = omega (arith, fresh)
 
   pub on_ended : (end : End) (report : Reported) (trace : List TrapLine) (first now : Option (List ℕ)) →
-      IsRun (Ok end) (steps - old.steps) (from_to old new) (from_to first now) → report ≡ report_of (progress_of new nothing) end →
+      IsRun (Ok end) (steps - old.book.steps) (from_to old new) (from_to first now) → report ≡ report_of (progress_of new nothing) end →
       ((told : Told) → Counts new told → trace ≡ keep_last told.kept told.traps) →
       AnswersBy (expected_of_run kept (Some whole)) (answered (ran report trace)) (from_to first now)
   on_ended end report trace first now h told last =
       let end_is = h.2 (record nothing { kept = kept }) counts in
       subst (λ (r : Ran). AnswersBy (expected_of_run kept (Some r)) (answered (ran report trace)) (from_to first now))
-      (sym (ap (λ n. run_from old.schedule n (progress_of old nothing)) (sym all_left) ∙ end_is.1))
+      (sym (ap (λ n. run_from old.book.schedule n (progress_of old nothing)) (sym all_left) ∙ end_is.1))
       (λ i. ran (told i) (last (and_told (record nothing { kept = kept }) h.0 end_is.0) end_is.2 i), h.1)
 
-  pub on_failed : (failed : Failed) (stopped : CutOff) (first now : Option (List ℕ)) → IsRun (Err failed) (steps - old.steps) (from_to old new) (from_to first now) →
+  pub on_failed : (failed : Failed) (stopped : CutOff) (first now : Option (List ℕ)) → IsRun (Err failed) (steps - old.book.steps) (from_to old new) (from_to first now) →
       AnswersBy (expected_of_run kept (Some whole)) (cut_off stopped) (from_to first now)
   on_failed failed stopped first now h =
       let more = h.2 (record nothing { kept = kept }) counts in
       subst (λ (bytes : List ℕ). GainsPart (from_to first now) bytes)
-      (sym (ap (λ n. (run_from old.schedule n (progress_of old nothing)).progress.console) (sym all_left) ∙ more.1))
+      (sym (ap (λ n. (run_from old.book.schedule n (progress_of old nothing)).progress.console) (sym all_left) ∙ more.1))
       (part_of_first first now h.0 h.0 more.0 refl h.1)
 
 -- the run of images that were booted

@@ -170,8 +170,8 @@ enum KernelEnd {
 fn run_kernel<H: Host>(mut kernel: Kernel, settings: Settings, host: &mut H) -> KernelEnd
     requires holds { Holds kernel }
     requires counts { Counts kernel (record nothing { kept = settings.trace }) }
-    requires first { kernel.steps ≡ 0 }
-    ensures told { Answers (expected_of_run settings.trace (Some (run_from kernel.schedule settings.steps (progress_of kernel nothing))))
+    requires first { kernel.book.steps ≡ 0 }
+    ensures told { Answers (expected_of_run settings.trace (Some (run_from kernel.book.schedule settings.steps (progress_of kernel nothing))))
         (outcome_of_end result) (around H.console host.old host.new) }
     ensures rest { Unchanged H.files H.input H.asked H.notes host.old host.new }
     ensures cause { HasOutcomeCause (around H.faults host.old host.new) (outcome_of_end result) }

@@ -1,10 +1,10 @@
 -- A burst of the machine, with what comes of its last step and the count of its steps, is as many steps of the run.
 use Rattle.std.proofs.Common.{◌≡◌, ℕ, ◌+◌, ◌-◌, ◌<◌, ◌≤◌, ◌==◌, ◌^◌, Bool, Option, None, Some, Ok, suc, true, false}
-use Rattle.std.proofs.Common.{List, [], ◌∷◌, ◌++◌, length, drop, drop-drop, min, vec_len, refl, sym, ap, subst, ◌∙◌, arith, if◌then◌else◌}
+use Rattle.std.proofs.Common.{List, [], ◌∷◌, ◌++◌, length, min, vec_len, refl, sym, ap, subst, ◌∙◌, arith, if◌then◌else◌}
 use Rattle.std.specs.Prelude.{not, nat_eq, unwrap_or}
 use Rattle.std.specs.Option.{ForSome}
 use Rattle.std.proofs.lemmas.Bool.Decides.{nat_tests}
-use Rattle.std.proofs.lemmas.List.{length-append, length-drop, drop-append-le}
+use Rattle.std.proofs.lemmas.List.{length-append}
 use Rattle.jos_host.specs.Frames.{from_to}
 use Rattle.jos_host.specs.Gains.{Gains, GainsPart}
 use Rattle.jos_base.specs.declared.registers.Regs.{Regs}
@@ -17,18 +17,17 @@ use Rattle.jos_cpu.specs.declared.events.Event.{Event}
 use Rattle.jos_cpu.specs.declared.events.Gates.TheVariants.{Exo}
 use Rattle.jos_cpu.specs.Bursts.{IsBurst}
 use Rattle.jos_kernel.specs.declared.kernel.Kernel.{Kernel}
-use Rattle.jos_kernel.specs.declared.report.Refusal.{Refusal}
 use Rattle.jos_kernel.specs.Running.{Running, user_memory}
 use Rattle.circular_buffer.specs.Buffer.{buffer, keep_last}
 use Rattle.jos_kernel.specs.declared.trace.TrapLine.{TrapLine}
 use Rattle.jos_kernel.specs.Steps.{EnvStep, after_event, env_step}
-use Rattle.jos_kernel.specs.ExoRun.{Progress, Ran, current, counted, turn_of, next_slot, in_turn, turn_goes_on, end_of}
-use Rattle.jos_kernel.specs.ExoRun.{first_refusal}
-use Rattle.jos_kernel.specs.ExoRun.{traps_after, progressed, run_from}
+use Rattle.jos_kernel.specs.Books.{turn_of, turn_goes_on, noted, traced, made}
+use Rattle.jos_kernel.specs.ExoRun.{Ran, current, current_runs, counted, next_slot, in_turn, end_of, traps_after, progressed, run_from}
 use Rattle.jos_kernel.specs.Kernel.{Told, nothing, and_told, state_of, progress_of, Counts, FailsIn, Advances}
-use Rattle.jos_kernel.specs.Kernel.{refusal_after, goes_on_after, Counted, traced}
+use Rattle.jos_kernel.specs.Kernel.{goes_on_after, Counted}
 use Rattle.jos_kernel.proofs.KeepsRest.{going_keeps, burst_keeps, directory_is, slot_is, state_is}
 use Rattle.jos_kernel.proofs.EnvSteps.{env_step_is}
+use Rattle.jos_kernel.proofs.TrapsKept.{traced_more}
 use Rattle.jos_kernel.proofs.Turns.{running_live, InTurn, further, many}
 use Rattle.jos_kernel.proofs.FirstStates.{SameTurns}
 use Rattle.jos_kernel.proofs.TurnsKept.{event_same}
@@ -55,27 +54,21 @@ unfolding end_of
 end-told kernel told spent = refl
 
 -- what is counted of bytes, and of more
-counted-more : (a b : List ℕ) → min (counted a + length b) (2 ^ 64 - 1) ≡ counted (a ++ b)
+pub counted-more : (a b : List ℕ) → min (counted a + length b) (2 ^ 64 - 1) ≡ counted (a ++ b)
 counted-more a b =
     let long : length (a ++ b) ≡ length a + length b = length-append a b in
     omega (arith, long)
 
--- the refusals told by numbers
-refusal-is : (kernel : Kernel) (p : Progress) (after : KernelState) (first : Option Refusal) → vec_len kernel.turns ≡ length p.turns →
-    kernel.written ≡ counted p.console →
-    refusal_after kernel (not (nat_eq after.refusals p.state.refusals)) first ≡ first_refusal p after first
-refusal-is kernel p after (Some refusal) turns written = refl
-refusal-is kernel p after None turns written = by_same (p.state.refusals == after.refusals) refl
+same_test : (a b : ℕ) → nat_eq a b ≡ nat_eq b a
+same_test a b = by_test (nat_eq b a) refl
   where
-    by_same : (c : Bool) → (p.state.refusals == after.refusals) ≡ c →
-        if◌then◌else◌ {A = Option Refusal} (not (nat_eq after.refusals p.state.refusals)) (Some (record { turn = vec_len kernel.turns; console_len = kernel.written })) None
-        ≡ if◌then◌else◌ {A = Option Refusal} c None (Some (record { turn = length p.turns; console_len = counted p.console }))
-    by_same true e =
-        let same : nat_eq after.refusals p.state.refusals ≡ true = grind (arith, nat_tests) in
-        rw same refl
-    by_same false e =
-        let other : nat_eq after.refusals p.state.refusals ≡ false = grind (arith, nat_tests) in
-        rw (other, turns, written) refl
+    by_test : (c : Bool) → nat_eq b a ≡ c → nat_eq a b ≡ c
+    by_test true e = grind (arith, nat_tests)
+    by_test false e = grind (arith, nat_tests)
+
+both_or_none : (c : Bool) (a b : ℕ) → (if c then a else 0) + (if c then b else 0) ≡ (if c then a + b else 0)
+both_or_none true a b = refl
+both_or_none false a b = refl
 
 -- an environment whose turn begins is RUNNING
 pub begun_running : (s : KernelState) (n : ℕ) → is_running (slot_at (turn_begun s n) n).status ≡ true
@@ -94,38 +87,20 @@ pub last_within : (last : Option ℕ) (slot : ℕ) → slot ≡ unwrap_or last 0
 last_within None slot e h = λ n k. absurd (cc)
 last_within (Some m) slot e h = λ n k. subst (λ x. x < NENV) (e ∙ ap (λ o. unwrap_or o 0) k) h
 
--- ---- traps that are kept
-
--- of the last of them and one more those are kept that are kept of all
-kept_more : {X : Type 0} (n : ℕ) (xs : List X) (x : X) → keep_last n (keep_last n xs ++ x ∷ []) ≡ keep_last n (xs ++ x ∷ [])
-kept_more n xs x =
-    let k = length xs - n in
-    let part : drop k xs ++ x ∷ [] ≡ drop k (xs ++ x ∷ []) = sym (drop-append-le k xs (x ∷ []) (omega arith)) in
-    let whole : length (xs ++ x ∷ []) ≡ length xs + 1 = length-append xs (x ∷ []) in
-    let left : length (drop k (xs ++ x ∷ [])) ≡ length (xs ++ x ∷ []) - k = length-drop k (xs ++ x ∷ []) in
-    let at : k + (length (drop k (xs ++ x ∷ [])) - n) ≡ length (xs ++ x ∷ []) - n = omega (arith, whole, left) in
-    ap (keep_last n) part
-    ∙ drop-drop (length (drop k (xs ++ x ∷ [])) - n) k (xs ++ x ∷ [])
-    ∙ ap (λ (j : ℕ). drop j (xs ++ x ∷ [])) at
-
-traced_more : (n : ℕ) (traps : List TrapLine) (raised : Option TrapLine) →
-    traced (buffer (keep_last n traps) n) raised ≡ buffer (keep_last n (traps_after traps raised)) n
-traced_more n traps None = refl
-traced_more n traps (Some trap) = ap (λ (kept : List TrapLine). buffer kept n) (kept_more n traps trap)
-
 -- ---- a burst
 
 -- a turn in which the environment in this slot makes a burst
 pub record Bursts (before : Kernel) (slot limit steps : ℕ) (event : Event) (m n : Running) (regs new : Regs) : Type 0 where
   pub goes_on : end_of (progress_of before nothing) false ≡ None
-  pub begun : in_turn (state_of before) before.made ≡ m.state
+  pub visible : before.book.hidden ≡ 0
+  pub begun : in_turn (state_of before) (made before.book) ≡ m.state
   pub registers : regs ≡ (slot_at m.state slot).registers
-  pub at : slot ≡ current (in_turn (state_of before) before.made)
+  pub at : slot ≡ current (in_turn (state_of before) (made before.book))
   pub within : slot < NENV
   pub runs : is_running (slot_at m.state slot).status ≡ true
   pub loaded : m.directory ≡ Some (slot_at m.state slot).directory
   pub burst : IsBurst user_memory Exo limit steps event (record { regs = regs; memory = m }) (record { regs = new; memory = n })
-  pub room : before.made + limit ≤ quantum before.schedule (length before.turns.items)
+  pub room : made before.book + limit ≤ quantum before.book.schedule (length before.book.turns.items)
 
 module _ {before : Kernel} {slot limit steps : ℕ} {event : Event} {m n : Running} {regs new : Regs}
     (h : Bursts before slot limit steps event m n regs new) where
@@ -133,7 +108,7 @@ module _ {before : Kernel} {slot limit steps : ℕ} {event : Event} {m n : Runni
   burst = h.burst
 
   refusals : (state_of before).refusals ≡ m.state.refusals
-  refusals = sym (in_turn-refusals (state_of before) before.made) ∙ ap (λ (s : KernelState). s.refusals) h.begun
+  refusals = sym (in_turn-refusals (state_of before) (made before.book)) ∙ ap (λ (s : KernelState). s.refusals) h.begun
 
   entered : (told : Told) → InTurn slot (progress_of before told) (record { regs = regs; memory = m })
   entered told = record {
@@ -157,16 +132,16 @@ module _ {before : Kernel} {slot limit steps : ℕ} {event : Event} {m n : Runni
       (directory_is k ∙ h.loaded ∙ (λ i. Some (sym (slot_is k slot) i).directory))
 
   pub burst_run : (told : Told) (later : ℕ) →
-      run_from before.schedule (steps + later) (progress_of before told)
-      ≡ run_from before.schedule later (progressed before.schedule (further before.schedule slot (progress_of before told) burst.going) last)
+      run_from before.book.schedule (steps + later) (progress_of before told)
+      ≡ run_from before.book.schedule later (progressed before.book.schedule (further before.book.schedule slot (progress_of before told) burst.going) last)
   burst_run told later =
       let count : steps ≡ burst.going + 1 = burst.count in
       let fits : steps ≤ limit = burst.within in
       let a : steps + later ≡ suc burst.going + later = omega arith in
-      ap (λ (x : ℕ). run_from before.schedule x (progress_of before told)) a
-      ∙ many before.schedule slot burst.going later (progress_of before told) (record { regs = regs; memory = m }) burst.reached (entered told)
+      ap (λ (x : ℕ). run_from before.book.schedule x (progress_of before told)) a
+      ∙ many before.book.schedule slot burst.going later (progress_of before told) (record { regs = regs; memory = m }) burst.reached (entered told)
       (omega (arith, count, fits, h.room)) burst.went
-      ∙ (λ i. run_from before.schedule later (progressed before.schedule (further before.schedule slot (progress_of before told) burst.going) (last_is i)))
+      ∙ (λ i. run_from before.book.schedule later (progressed before.book.schedule (further before.book.schedule slot (progress_of before told) burst.going) (last_is i)))
 
   state_kept : n.state.refusals ≡ (state_of before).refusals
   state_kept = (λ i. (state_is (burst_keeps burst) i).refusals) ∙ sym refusals
@@ -187,36 +162,32 @@ module _ {before : Kernel} {slot limit steps : ℕ} {event : Event} {m n : Runni
 
   -- the steps are counted
   module _ (mid after : Kernel) (written : ℕ) (raised : Option TrapLine)
-      (rest : record mid { machine = before.machine; decodings = before.decodings; trace = before.trace } ≡ before)
+      (book : mid.book ≡ record before.book { trace = traced before.book.trace raised }) (written_is : mid.written ≡ before.written)
       (state : state_of mid ≡ last.state) (bytes : written ≡ length last.written) (trap : raised ≡ last.trap)
-      (trace : mid.trace ≡ traced before.trace raised)
       (counts : Counted mid after slot steps written (not (nat_eq (state_of mid).refusals n.state.refusals))) where
-    schedule : mid.schedule ≡ before.schedule
-    schedule = ap (λ (k : Kernel). k.schedule) rest
+    all_made : made mid.book + steps ≡ (made before.book + burst.going) + 1
+    all_made =
+        let count : steps ≡ burst.going + 1 = burst.count in
+        let now : made mid.book ≡ made before.book = λ i. made (book i) in
+        omega (arith, count, now)
 
-    turns : mid.turns ≡ before.turns
-    turns = ap (λ (k : Kernel). k.turns) rest
+    all_visible : mid.book.visible + steps ≡ (made before.book + burst.going) + 1
+    all_visible =
+        let hidden : mid.book.hidden ≡ 0 = (λ i. (book i).hidden) ∙ h.visible in
+        omega (arith, all_made, hidden)
 
-    made : mid.made ≡ before.made
-    made = ap (λ (k : Kernel). k.made) rest
+    none_hidden : mid.book.hidden + 0 ≡ 0
+    none_hidden = let hidden : mid.book.hidden ≡ 0 = (λ i. (book i).hidden) ∙ h.visible in omega (arith, hidden)
 
-    steps_are : mid.steps ≡ before.steps
-    steps_are = ap (λ (k : Kernel). k.steps) rest
+    all_steps : after.book.steps ≡ (before.book.steps + burst.going) + 1
+    all_steps =
+        let count : steps ≡ burst.going + 1 = burst.count in
+        let before_is : mid.book.steps ≡ before.book.steps = λ i. (book i).steps in
+        omega (arith, count, counts.book.steps, before_is)
 
-    written_is : mid.written ≡ before.written
-    written_is = ap (λ (k : Kernel). k.written) rest
-
-    first : mid.first_refused ≡ before.first_refused
-    first = ap (λ (k : Kernel). k.first_refused) rest
-
-    all_made : mid.made + steps ≡ (before.made + burst.going) + 1
-    all_made = let count : steps ≡ burst.going + 1 = burst.count in omega (arith, count, made)
-
-    all_steps : after.steps ≡ (before.steps + burst.going) + 1
-    all_steps = let count : steps ≡ burst.going + 1 = burst.count in omega (arith, count, counts.steps_are, steps_are)
-
-    goes : goes_on_after mid steps ≡ turn_goes_on before.schedule last.state (length before.turns.items) ((before.made + burst.going) + 1)
-    goes = λ i. turn_goes_on (schedule i) (state i) (length (turns i).items) (all_made i)
+    goes : goes_on_after mid steps
+        ≡ turn_goes_on before.book.schedule (length before.book.turns.items) ((made before.book + burst.going) + 1) (current_runs last.state)
+    goes = λ i. turn_goes_on (book i).schedule (length (book i).turns.items) (all_made i) (current_runs (state i))
 
     slot_at_end : slot ≡ current last.state
     slot_at_end = sym last_there
@@ -226,21 +197,28 @@ module _ {before : Kernel} {slot limit steps : ℕ} {event : Event} {m n : Runni
 
     pub counted_is : (told : Told) → Counts before told →
         progress_of after (and_told told last.written (traps_told told))
-        ≡ progressed before.schedule (further before.schedule slot (progress_of before told) burst.going) last
+        ≡ progressed before.book.schedule (further before.book.schedule slot (progress_of before told) burst.going) last
     unfolding progressed
-    counted_is told c =
-        let p = further before.schedule slot (progress_of before told) burst.going in
-        λ i. record {
-          state = (counts.state ∙ (λ j. if goes j then state j else turn_ended (state j) (slot_at_end j))) i;
-          console = told.console ++ last.written;
-          steps = all_steps i;
-          turns = (counts.turns ∙ (λ j. if goes j then (turns j).items else (turns j).items ++ turn_of (slot_at_end j) (all_made j) ∷ [])) i;
-          made = (counts.made ∙ (λ j. if goes j then all_made j else 0)) i;
-          first_refused = (counts.first_refused
-              ∙ (λ j. refusal_after mid (not (nat_eq (state j).refusals (state_kept j))) (first j))
-              ∙ refusal-is mid p last.state before.first_refused (ap vec_len turns ∙ before.turns.ok.0) (written_is ∙ c.written)) i;
-          traps = traps_told told;
-        }
+    counted_is told c = λ i. record {
+      state = (counts.state ∙ (λ j. if goes j then state j else turn_ended (state j) (slot_at_end j))) i;
+      console = told.console ++ last.written;
+      steps = all_steps i;
+      turns = (counts.book.turns
+          ∙ (λ j. if goes j then (book j).turns.items
+          else (book j).turns.items ++ turn_of (slot_at_end j) (all_visible j) (none_hidden j) ∷ [])) i;
+      made = ((λ j. counts.book.visible_are j + counts.book.hidden_are j)
+          ∙ both_or_none (goes_on_after mid steps) (mid.book.visible + steps) (mid.book.hidden + 0)
+          ∙ (λ j. if goes j then all_counted j else 0)) i;
+      first_refused = (counts.book.first_refused
+          ∙ (λ j. noted (book j).first_refused (not (nat_eq (state j).refusals (state_kept j))) (vec_len (book j).turns)
+          ((written_is ∙ c.written) j))
+          ∙ (λ j. noted before.book.first_refused (not (same_test last.state.refusals (state_of before).refusals j))
+          (before.book.turns.ok.0 j) (counted told.console))) i;
+      traps = traps_told told;
+    }
+      where
+        all_counted : (mid.book.visible + steps) + (mid.book.hidden + 0) ≡ (made before.book + burst.going) + 1
+        all_counted = omega (arith, all_visible, none_hidden)
 
     pub counts_told : (told : Told) → Counts before told → Counts after (and_told told last.written (traps_told told))
     counts_told told c = record {
@@ -248,7 +226,7 @@ module _ {before : Kernel} {slot limit steps : ℕ} {event : Event} {m n : Runni
           counts.written_is
           ∙ (λ i. min ((written_is ∙ c.written) i + bytes i) (2 ^ 64 - 1))
           ∙ counted-more told.console last.written;
-      trace = counts.trace ∙ trace ∙ (λ i. traced (c.trace i) (trap i)) ∙ traced_more told.kept told.traps last.trap;
+      trace = counts.book.trace ∙ (λ i. (book i).trace) ∙ (λ i. traced (c.trace i) (trap i)) ∙ traced_more told.kept told.traps last.trap;
     }
 
     pub on_counted : (left : ℕ) (first_console now : Option (List ℕ)) → limit ≤ left → Gains (from_to first_console now) last.written →
@@ -261,11 +239,11 @@ module _ {before : Kernel} {slot limit steps : ℕ} {event : Event} {m n : Runni
           record {
             written = last.written;
             gains = gains;
-            steps = omega (arith, counts.steps_are, steps_are);
-            schedule = counts.schedule ∙ schedule;
+            steps = (let before_is : mid.book.steps ≡ before.book.steps = λ i. (book i).steps in omega (arith, counts.book.steps, before_is));
+            schedule = counts.book.schedule ∙ (λ i. (book i).schedule);
             traps = λ told c. traps_told told;
             counts = λ told c. counts_told told c;
-            run = λ told c later. burst_run told later ∙ ap (run_from before.schedule later) (sym (counted_is told c));
+            run = λ told c later. burst_run told later ∙ ap (run_from before.book.schedule later) (sym (counted_is told c));
           },
         )
 
@@ -278,10 +256,10 @@ module _ {before : Kernel} {slot limit steps : ℕ} {event : Event} {m n : Runni
         last.written,
         part,
         λ told c.
-            let more = run_from-console before.schedule (left - steps)
-            (progressed before.schedule (further before.schedule slot (progress_of before told) burst.going) last) in (
+            let more = run_from-console before.book.schedule (left - steps)
+            (progressed before.book.schedule (further before.book.schedule slot (progress_of before told) burst.going) last) in (
               more.0,
-              ap (λ (x : ℕ). (run_from before.schedule x (progress_of before told)).progress.console) e
+              ap (λ (x : ℕ). (run_from before.book.schedule x (progress_of before told)).progress.console) e
                   ∙ ap (λ (r : Ran). r.progress.console) (burst_run told (left - steps)) ∙ more.1,
             ),
       )

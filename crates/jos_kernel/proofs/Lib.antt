@@ -8,6 +8,7 @@ pub mod Choices
 pub mod FirstStates
 pub mod RunsOn
 pub mod TurnsKept
+pub mod TrapsKept
 pub mod Advancing
 pub mod ToldBytes
 pub mod Runs

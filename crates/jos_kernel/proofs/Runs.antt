@@ -43,8 +43,8 @@ none_yet kernel first = record {
   counts = λ told c. subst (λ (t : Told). Counts kernel t) (sym (told-nothing told)) c;
   run = λ told c later.
       let z : 0 + later ≡ later = omega arith in
-      ap (λ (k : ℕ). run_from kernel.schedule k (progress_of kernel told)) z
-      ∙ ap (λ (t : Told). run_from kernel.schedule later (progress_of kernel t)) (sym (told-nothing told));
+      ap (λ (k : ℕ). run_from kernel.book.schedule k (progress_of kernel told)) z
+      ∙ ap (λ (t : Told). run_from kernel.book.schedule later (progress_of kernel t)) (sym (told-nothing told));
 }
 
 module _ {a b : ℕ} {x y z : Kernel} {p q r : Option (List ℕ)} (v : Went a (from_to x y) (from_to p q)) (w : Went b (from_to y z) (from_to q r)) where
@@ -66,7 +66,7 @@ module _ {a b : ℕ} {x y z : Kernel} {p q r : Option (List ℕ)} (v : Went a (f
     run = λ told c later.
         let e : (a + b) + later ≡ a + (b + later) = omega arith in
         let m = and_told told v.written (v.traps told c) in
-        ap (λ (n : ℕ). run_from x.schedule n (progress_of x told)) e
+        ap (λ (n : ℕ). run_from x.book.schedule n (progress_of x told)) e
         ∙ v.run told c (b + later)
         ∙ (λ i. run_from (sym v.schedule i) (b + later) (progress_of y m))
         ∙ w.run m (v.counts told c) later
@@ -85,7 +85,7 @@ fails_further {a} {left} {x} {y} {p} {q} {r} v within f =
           let m = and_told told v.written (v.traps told c) in
           let rest = f.2 m (v.counts told c) in (
             rest.0,
-            ap (λ (n : ℕ). (run_from x.schedule n (progress_of x told)).progress.console) e
+            ap (λ (n : ℕ). (run_from x.book.schedule n (progress_of x told)).progress.console) e
                 ∙ ap (λ (ran : Ran). ran.progress.console) (v.run told c (left - a))
                 ∙ (λ i. (run_from (sym v.schedule i) (left - a) (progress_of y m)).progress.console)
                 ∙ rest.1
@@ -104,10 +104,10 @@ stepped {n} {x} {y} {p} {q} w some most goes_on =
       λ told c. (
         w.traps told c,
         sym (ap (λ (ran : Ran). ran.progress) (
-            ap (λ (k : ℕ). run_from x.schedule k (progress_of x told)) (sym e) ∙ w.run told c 0 ∙ run_from-zero x.schedule (progress_of y (and_told told w.written (w.traps told c)))))
-            ∙ ap (λ (ran : Ran). ran.progress) (run_from-suc x.schedule 0 (progress_of x told)
-            ∙ (λ i. after_test (progress_of x told) ((end-told x told false ∙ goes_on) i) (run_from x.schedule 0 (one_step x.schedule (progress_of x told))))
-            ∙ run_from-zero x.schedule (one_step x.schedule (progress_of x told))),
+            ap (λ (k : ℕ). run_from x.book.schedule k (progress_of x told)) (sym e) ∙ w.run told c 0 ∙ run_from-zero x.book.schedule (progress_of y (and_told told w.written (w.traps told c)))))
+            ∙ ap (λ (ran : Ran). ran.progress) (run_from-suc x.book.schedule 0 (progress_of x told)
+            ∙ (λ i. after_test (progress_of x told) ((end-told x told false ∙ goes_on) i) (run_from x.book.schedule 0 (one_step x.book.schedule (progress_of x told))))
+            ∙ run_from-zero x.book.schedule (one_step x.book.schedule (progress_of x told))),
         w.counts told c,
       ),
     )
@@ -124,10 +124,10 @@ module _ {a budget : ℕ} {x y : Kernel} {p q : Option (List ℕ)} (w : Went a (
     λ told c.
         let m = and_told told w.written (w.traps told c) in (
           w.traps told c,
-          ap (λ (k : ℕ). run_from x.schedule k (progress_of x told)) e
+          ap (λ (k : ℕ). run_from x.book.schedule k (progress_of x told)) e
               ∙ w.run told c (suc left)
-              ∙ run_from-suc x.schedule left (progress_of y m)
-              ∙ (λ i. after_test (progress_of y m) ((end-told y m false ∙ ends) i) (run_from x.schedule left (one_step x.schedule (progress_of y m)))),
+              ∙ run_from-suc x.book.schedule left (progress_of y m)
+              ∙ (λ i. after_test (progress_of y m) ((end-told y m false ∙ ends) i) (run_from x.book.schedule left (one_step x.book.schedule (progress_of y m)))),
           w.counts told c,
         ),
   )
@@ -142,9 +142,9 @@ module _ {a budget : ℕ} {x y : Kernel} {p q : Option (List ℕ)} (w : Went a (
         let m = and_told told w.written (w.traps told c) in
         let z : budget ≡ a + 0 = omega (arith, e) in (
           w.traps told c,
-          ap (λ (k : ℕ). run_from x.schedule k (progress_of x told)) z
+          ap (λ (k : ℕ). run_from x.book.schedule k (progress_of x told)) z
               ∙ w.run told c 0
-              ∙ run_from-zero x.schedule (progress_of y m)
+              ∙ run_from-zero x.book.schedule (progress_of y m)
               ∙ (λ i. record { end = (ap (λ o. unwrap_or o Budget) (end-told y m true) ∙ ends) i; progress = progress_of y m }),
           w.counts told c,
         ),

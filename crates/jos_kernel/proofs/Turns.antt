@@ -18,7 +18,8 @@ use Rattle.jos_cpu.specs.Bursts.{Machine, StepsTo, GoesOn}
 use Rattle.jos_kernel.specs.declared.report.Refusal.{Refusal}
 use Rattle.jos_kernel.specs.Running.{Running, user_memory}
 use Rattle.jos_kernel.specs.Steps.{EnvStep, env_step}
-use Rattle.jos_kernel.specs.ExoRun.{Progress, current, counted, turn_of, in_turn, turn_goes_on, end_of}
+use Rattle.jos_kernel.specs.Books.{turn_of, turn_goes_on, noted}
+use Rattle.jos_kernel.specs.ExoRun.{Progress, current, current_runs, counted, in_turn, end_of}
 use Rattle.jos_kernel.specs.ExoRun.{first_refusal, traps_after}
 use Rattle.jos_kernel.specs.ExoRun.{progressed_in, progressed, one_step, after_test, run_from}
 use Rattle.jos_kernel.proofs.KeepsRest.{KeepsRest, steps_keeps, directory_is, slot_is, state_is}
@@ -72,12 +73,15 @@ pub record InTurn (c : ℕ) (p : Progress) (m : Machine Running) : Type 0 where
 abbrev pub went : ℕ → Progress → Machine Running → Progress
 went c p m = record p { state = with_registers m.memory.state c m.regs; steps = p.steps + 1; made = p.made + 1 }
 
-refusal-same : (p : Progress) (after : KernelState) (first : Option Refusal) → p.state.refusals ≡ after.refusals →
-    first_refusal p after first ≡ first
-refusal-same p after (Some refusal) e = refl
-refusal-same p after None e =
+none_noted : (first : Option Refusal) (turn written : ℕ) → noted first false turn written ≡ first
+none_noted (Some refusal) turn written = refl
+none_noted None turn written = refl
+
+refusal-same : (p : Progress) (after : KernelState) → p.state.refusals ≡ after.refusals → first_refusal p after ≡ p.first_refused
+refusal-same p after e =
     let k : (p.state.refusals == after.refusals) ≡ true = grind (arith, nat_tests) in
-    rw k refl
+    ap (λ c. noted p.first_refused (not c) (length p.turns) (counted p.console)) k
+    ∙ none_noted p.first_refused (length p.turns) (counted p.console)
 
 slot-at : (s : KernelState) (c : ℕ) (regs : Regs) → slot_at (with_registers s c regs) c ≡ record (slot_at s c) { registers = regs }
 slot-at s c regs = upd-at s.environments.slots c (record (slot_at s c) { registers = regs })
@@ -88,17 +92,16 @@ with_first q s goes first = record {
   state = if goes then s.state else turn_ended s.state (current s.state);
   console = q.console ++ s.written;
   steps = q.steps + 1;
-  turns = if goes then q.turns else q.turns ++ turn_of (current s.state) (q.made + 1) ∷ [];
+  turns = if goes then q.turns else q.turns ++ turn_of (current s.state) (q.made + 1) 0 ∷ [];
   made = if goes then q.made + 1 else 0;
   first_refused = first;
   traps = traps_after q.traps s.trap;
 }
 
-refused_same : (state : KernelState) (q : Progress) (s : EnvStep) → state.refusals ≡ q.state.refusals → (goes : Bool) (first : Option Refusal) →
-    with_first q s goes (first_refusal (record q { state = state }) s.state first) ≡ with_first q s goes (first_refusal q s.state first)
-refused_same state q s r goes (Some refusal) = refl
-refused_same state q s r goes None =
-    λ i. with_first q s goes (if r i == s.state.refusals then None else Some (record { turn = length q.turns; console_len = counted q.console }))
+refused_same : (state : KernelState) (q : Progress) (s : EnvStep) → state.refusals ≡ q.state.refusals → (goes : Bool) →
+    with_first q s goes (first_refusal (record q { state = state }) s.state) ≡ with_first q s goes (first_refusal q s.state)
+refused_same state q s r goes =
+    λ i. with_first q s goes (noted q.first_refused (not (r i == s.state.refusals)) (length q.turns) (counted q.console))
 
 module _ (schedule : List ℕ) (c : ℕ) where
   -- what a run does next, where its turn stands so
@@ -118,9 +121,9 @@ module _ (schedule : List ℕ) (c : ℕ) where
   unfolding progressed
   progressed-went p s runs at below refusals =
       let lt : nat_lt (p.made + 1) (quantum schedule (length p.turns)) ≡ true = grind (arith, nat_tests) in
-      let goes : turn_goes_on schedule s (length p.turns) (p.made + 1) ≡ true =
+      let goes : turn_goes_on schedule (length p.turns) (p.made + 1) (current_runs s) ≡ true =
       (λ i. is_running (slot_at s (at i)).status && lt i) ∙ (λ i. runs i && true) in
-      rw (goes, append-nil p.console, refusal-same p s p.first_refused refusals) refl
+      rw (goes, append-nil p.console, refusal-same p s refusals) refl
 
   module _ (p : Progress) (before after : Machine Running) (t : InTurn c p before) (step : StepsTo user_memory Exo before Next after)
       (below : p.made + 1 < quantum schedule (length p.turns)) where
@@ -175,9 +178,9 @@ module _ (schedule : List ℕ) (c : ℕ) where
       progressed schedule p s ≡ progressed schedule q s
   unfolding progressed
   progressed-same p q s r a b k t f l =
-      (λ i. progressed_in (turn_goes_on schedule s.state (length (t i)) (b i + 1))
+      (λ i. progressed_in (turn_goes_on schedule (length (t i)) (b i + 1) (current_runs s.state))
       (record { state = p.state; console = k i; steps = a i; turns = t i; made = b i; first_refused = f i; traps = l i }) s)
-      ∙ refused_same p.state q s r (turn_goes_on schedule s.state (length q.turns) (q.made + 1)) q.first_refused
+      ∙ refused_same p.state q s r (turn_goes_on schedule (length q.turns) (q.made + 1) (current_runs s.state))
 
   -- so many steps that go on, and one more
   pub many : (n later : ℕ) (p : Progress) (before after : Machine Running) → InTurn c p before → p.made + n < quantum schedule (length p.turns) →

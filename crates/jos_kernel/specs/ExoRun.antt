@@ -1,19 +1,20 @@
 -- A run of the exokernel: the images are booted, and then step follows step, in turns, until an end test holds.
 -- (MIT 6.828, kern/env.c and kern/sched.c; turns of so many steps, the budget and the ends are this system's own.)
-use Rattle.std.specs.Prelude.{ℕ, ◌+◌, ◌-◌, ◌^◌, ◌==◌, ◌&&◌, min, nat_lt, nat_le, not, zero, suc, Bool, true, false, List, [], ◌∷◌, ◌++◌, length}
+use Rattle.std.specs.Prelude.{ℕ, ◌+◌, ◌-◌, ◌^◌, ◌==◌, ◌&&◌, min, nat_le, not, zero, suc, Bool, true, false, List, [], ◌∷◌, ◌++◌, length}
 use Rattle.std.specs.Prelude.{Option, Some, None, is_none, unwrap_or, if◌then◌else◌}
 use Rattle.jos_base.specs.declared.numbers.TheConstants.{TURN_MAX}
 use Rattle.jos_base.specs.Environments.{is_running}
 use Rattle.jos_base.specs.KernelState.{KernelState, slot_at, turn_begun, turn_ended}
 use Rattle.jos_envs.specs.Table.{any_live}
 use Rattle.jos_sched.specs.RoundRobin.{next}
-use Rattle.jos_sched.specs.Quantum.{quantum}
 use Rattle.jos_kernel.specs.declared.report.End.{End}
 use Rattle.jos_kernel.specs.declared.report.End.TheVariants.{Done, Stuck, Budget, TurnsFull}
 use Rattle.jos_kernel.specs.declared.report.Refusal.{Refusal}
 use Rattle.jos_kernel.specs.declared.report.Turn.{Turn}
 use Rattle.jos_kernel.specs.declared.trace.TrapLine.{TrapLine}
 use Rattle.jos_kernel.specs.Reports.{Reported}
+use Rattle.jos_kernel.specs.Books.{turn_of, turns_with_last, turn_goes_on, noted}
+use Rattle.jos_kernel.specs.Books as books
 use Rattle.jos_kernel.specs.Boot.{Loadable, booted}
 use Rattle.jos_kernel.specs.Steps.{EnvStep, env_step}
 
@@ -35,16 +36,17 @@ pub record Progress : Type 0 where
 
 -- ---- turns
 
-abbrev pub turn_of : ℕ → ℕ → Turn
-turn_of n made = record { slot = n; visible = made; hidden = 0 }
-
 -- the slot whose turn is under way
 abbrev pub current : KernelState → ℕ
 current s = unwrap_or s.last 0
 
+-- whether its environment is RUNNING
+abbrev pub current_runs : KernelState → Bool
+current_runs s = is_running (slot_at s (current s)).status
+
 -- The turn under way is listed too, once it has a step.
 abbrev pub turns_of : Progress → List Turn
-turns_of p = if p.made == 0 then p.turns else p.turns ++ turn_of (current p.state) p.made ∷ []
+turns_of p = turns_with_last p.turns (turn_of (current p.state) p.made 0)
 
 -- the slot of the next turn
 abbrev pub next_slot : KernelState → Option ℕ
@@ -53,10 +55,6 @@ next_slot s = next s.environments s.last
 -- the state as a step finds it: where no turn is under way, the next one begins
 abbrev pub in_turn : KernelState → ℕ → KernelState
 in_turn s made = if made == 0 then turn_begun s (unwrap_or (next_slot s) 0) else s
-
--- A turn goes on while its environment is RUNNING and it has steps left; `made` counts the last one.
-abbrev pub turn_goes_on : List ℕ → KernelState → ℕ → ℕ → Bool
-turn_goes_on schedule s turn made = is_running (slot_at s (current s)).status && nat_lt made (quantum schedule turn)
 
 -- ---- the end
 
@@ -77,11 +75,8 @@ abbrev pub counted : List ℕ → ℕ
 counted bytes = min (length bytes) (2 ^ 64 - 1)
 
 -- the refusal of a step that raised the count, where it is the first
-abbrev pub first_refusal : Progress → KernelState → Option Refusal → Option Refusal
-first_refusal p after (Some refusal) = Some refusal
-first_refusal p after None =
-    if p.state.refusals == after.refusals then None
-    else Some (record { turn = length p.turns; console_len = counted p.console })
+abbrev pub first_refusal : Progress → KernelState → Option Refusal
+first_refusal p after = noted p.first_refused (not (p.state.refusals == after.refusals)) (length p.turns) (counted p.console)
 
 abbrev pub traps_after : List TrapLine → Option TrapLine → List TrapLine
 traps_after traps None = traps
@@ -93,15 +88,15 @@ progressed_in goes_on p step = record {
   state = if goes_on then step.state else turn_ended step.state (current step.state);
   console = p.console ++ step.written;
   steps = p.steps + 1;
-  turns = if goes_on then p.turns else p.turns ++ turn_of (current step.state) (p.made + 1) ∷ [];
+  turns = if goes_on then p.turns else p.turns ++ turn_of (current step.state) (p.made + 1) 0 ∷ [];
   made = if goes_on then p.made + 1 else 0;
-  first_refused = first_refusal p step.state p.first_refused;
+  first_refused = first_refusal p step.state;
   traps = traps_after p.traps step.trap;
 }
 
 unfoldable pub progressed : List ℕ → Progress → EnvStep → Progress
 progressed schedule p step =
-    progressed_in (turn_goes_on schedule step.state (length p.turns) (p.made + 1)) p step
+    progressed_in (turn_goes_on schedule (length p.turns) (p.made + 1) (current_runs step.state)) p step
 
 -- one step of the environment whose turn it is
 unfoldable pub one_step : List ℕ → Progress → Progress
@@ -144,12 +139,4 @@ exo_run images input schedule frames budget = run_of schedule budget (booted ima
 
 -- what is told of a run that is over
 abbrev pub report_of : Progress → End → Reported
-report_of p end = record {
-  end = end;
-  steps = p.steps;
-  turns = turns_of p;
-  closing = 0;
-  refused = p.state.refusals;
-  first_refused = p.first_refused;
-  upcalls = p.state.upcalls;
-}
+report_of p end = books.report_of end p.steps (turns_of p) p.first_refused p.state.refusals p.state.upcalls

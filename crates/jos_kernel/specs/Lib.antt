@@ -1,4 +1,5 @@
 pub mod Reports
+pub mod Books
 pub mod Running
 pub mod Steps
 pub mod Boot

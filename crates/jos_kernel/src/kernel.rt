@@ -12,20 +12,20 @@ ghost use Rattle.jos_sched.specs.Quantum.{quantum};
 ghost use Rattle.jos_kernel.specs.Machine.{kernel_state, loaded};
 ghost use Rattle.jos_kernel.specs.Boot.{booted, loadables};
 ghost use Rattle.jos_kernel.specs.Loading.{IsRead};
+ghost use Rattle.jos_kernel.specs.Books.{made, HasRoom};
 ghost use Rattle.jos_kernel.specs.ExoRun.{current, in_turn, end_of, before_steps, report_of};
 ghost use Rattle.circular_buffer.specs.Buffer.{keep_last};
 ghost use Rattle.jos_kernel.specs.Kernel.{state_of, progress_of, Told, nothing, Counts, Holds, Counted, Advances, Steps, IsRun};
-ghost use Rattle.jos_kernel.specs.Kernel.{traced};
 ghost use Rattle.jos_kernel.specs.Ends.{result_of, IfEnded};
 ghost use Rattle.jos_kernel.specs.declared.report.End.TheVariants.{Budget};
 ghost use Rattle.jos_kernel.specs.declared.kernel.BootFault.TheVariants.{NoMemory};
 
+use crate::book::{Book, take_room};
 use crate::boot::boot_images;
 use crate::machine::Machine;
-use crate::report::{End, Refusal, Report, Stopped, Turn};
-use crate::trace::{Trace, TrapLine};
-use circular_buffer::HeapCircularBuffer;
-use jos_base::{NoMemory, TURN_MAX};
+use crate::report::{End, Report, Stopped};
+use crate::trace::Trace;
+use jos_base::NoMemory;
 use jos_cpu::{Decodings, Gates, make_burst};
 use jos_elf::Image;
 use jos_host::{Failed, Host};
@@ -69,20 +69,11 @@ pub enum ExoEnd {
 #[derive(Drop)]
 pub struct Kernel {
     machine: Machine,
-    schedule: Schedule,
     /// What was decoded.
     decodings: Decodings,
-    /// The turns that are over.
-    turns: Vec<Turn>,
-    /// The steps of the turn under way; 0 where none is.
-    made: u32,
-    /// All steps.
-    steps: u64,
+    book: Book,
     /// The bytes written to the console.
     written: u64,
-    first_refused: Option<Refusal>,
-    /// The last traps.
-    trace: Trace,
 }
 
 impl Kernel {
@@ -102,28 +93,22 @@ impl Kernel {
         requires most { frames ≤ FRAMES_MAX }
         ensures booted { IfOk result (λ kernel. booted (loadables images.now files.now) frames input.items ≡ Some (state_of kernel)) }
         ensures first { IfOk result (λ kernel. progress_of kernel nothing ≡ before_steps (state_of kernel)) }
-        ensures schedule { IfOk result (λ kernel. kernel.schedule ≡ schedule) }
+        ensures schedule { IfOk result (λ kernel. kernel.book.schedule ≡ schedule) }
         ensures pool { IfErr result (λ fault. fault ≡ BootFault.Pool → booted (loadables images.now files.now) frames input.items ≡ None) }
         ensures holds { IfOk result Holds }
         ensures counts { IfOk result (λ kernel. Counts kernel (record nothing { kept = trace })) }
     {
-        let turns = Vec::with_capacity(alloc, TURN_MAX)?;
+        let (turns, trace) = take_room(alloc, trace)?;
         let decodings = Decodings::new(alloc)?;
-        let trace = HeapCircularBuffer::with_capacity(alloc, trace as usize)?;
         let mut system = System::new(alloc, frames)?;
         if !boot_images(&mut system, images, files) {
             return Err(BootFault::Pool);
         }
         Ok(Kernel {
             machine: Machine::new(system, Input::new(input)),
-            schedule,
             decodings,
-            turns,
-            made: 0,
-            steps: 0,
+            book: Book::open(schedule, turns, trace),
             written: 0,
-            first_refused: None,
-            trace,
         })
     }
 
@@ -145,12 +130,12 @@ impl Kernel {
         requires { Holds self.now }
         ensures end { IfErr result (λ end. end_of (progress_of self.now nothing) false ≡ Some end) }
         ensures slot { IfOk result (λ slot. end_of (progress_of self.now nothing) false ≡ None) }
-        ensures turn { IfOk result (λ slot. slot ≡ current (in_turn (state_of self.now) self.now.made)) }
-        ensures room { OnOk result (vec_len self.now.turns < TURN_MAX) }
+        ensures turn { IfOk result (λ slot. slot ≡ current (in_turn (state_of self.now) (made self.now.book))) }
+        ensures room { OnOk result (vec_len self.now.book.turns < TURN_MAX) }
         ensures live { IfOk result (λ slot. is_live (slot_at (state_of self.now) slot) ≡ true) }
         ensures within { IfOk result (λ slot. slot < NENV) }
     {
-        if self.made > 0 {
+        if self.book.made() > 0 {
             return Ok(self.machine.current());
         }
         if self.machine.is_unused() {
@@ -159,7 +144,7 @@ impl Kernel {
         match self.machine.next_slot() {
             None => Err(End::Stuck),
             Some(slot) => {
-                if self.turns.len() >= TURN_MAX {
+                if self.book.is_full() {
                     Err(End::TurnsFull)
                 } else {
                     Ok(slot)
@@ -168,84 +153,48 @@ impl Kernel {
         }
     }
 
-    /// Counts the steps that the environment in a slot made, which wrote so many bytes, and ends its turn where that is
-    /// over. `refused` says whether the last of them was refused a frame or a slot.
-    fn count_steps(&mut self, slot: usize, steps: u32, written: u32, refused: bool)
-        requires holds { TURN_MAX ≤ vec_capacity self.old.turns }
-        requires place { vec_len self.old.turns < TURN_MAX }
+    /// Counts the steps that the environment in a slot made, which wrote so many bytes, in a turn of which so many were
+    /// left, and ends it where it is over. `refused` says whether the last step was refused a frame or a slot.
+    fn count_steps(&mut self, slot: usize, steps: u32, left: u32, written: u32, refused: bool)
+        requires room { HasRoom self.old.book }
+        requires place { vec_len self.old.book.turns < TURN_MAX }
+        requires visible { self.old.book.hidden ≡ 0 }
         requires slot { slot < NENV }
         requires current { slot ≡ current (state_of self.old) }
-        requires steps { self.old.steps + steps < 2 ^ 64 }
-        requires within { self.old.made + steps < 2 ^ 31 }
+        requires steps { self.old.book.steps + steps < 2 ^ 64 }
+        requires left { made self.old.book + left ≡ quantum self.old.book.schedule (length self.old.book.turns.items) }
+        requires small { made self.old.book + left < 2 ^ 31 }
+        requires within { steps ≤ left }
         requires some { 0 < steps }
         requires last { ForSome (state_of self.old).last (λ n. n < NENV) }
-        requires turns { (state_of self.old).turns ≤ vec_len self.old.turns + 1 }
+        requires turns { (state_of self.old).turns ≤ vec_len self.old.book.turns + 1 }
         ensures counted { Counted self.old self.new slot steps written refused }
-        ensures one { length self.new.turns.items ≤ length self.old.turns.items + 1 }
-        ensures under_way { 0 < self.new.made → self.new.turns.items ≡ self.old.turns.items }
+        ensures one { length self.new.book.turns.items ≤ length self.old.book.turns.items + 1 }
+        ensures under_way { 0 < made self.new.book → self.new.book.turns.items ≡ self.old.book.turns.items }
         ensures current { current (state_of self.new) ≡ slot }
         ensures holds { Holds self.new }
     {
-        if refused && self.first_refused.is_none() {
-            self.first_refused = Some(Refusal {
-                turn: self.turns.len() as u32,
-                console_len: self.written,
-            });
-        }
-        self.steps += steps as u64;
+        self.book.note_refusal(refused, self.written);
         self.written = self.written.saturating_add(written as u64);
-        let made = self.made + steps;
-        if self.machine.is_running(slot) && made < self.schedule.quantum(self.turns.len() as u32) {
-            self.made = made;
-            return;
+        let running = self.machine.is_running(slot);
+        if !self.book.count(slot, steps, 0, left, running) {
+            self.machine.end_turn(slot);
         }
-        self.turns
-            .push(Turn {
-                slot: slot as u16,
-                visible: made,
-                hidden: 0,
-            })
-            .unwrap();
-        self.made = 0;
-        self.machine.end_turn(slot);
-    }
-
-    /// Keeps a trap that was raised, if one was.
-    #[inline(always)]
-    fn keep_trap(&mut self, raised: Option<TrapLine>)
-        ensures trace { self.new.trace ≡ traced self.old.trace raised }
-        ensures rest { self.new ≡ record self.old { trace = self.new.trace } }
-    {
-        if let Some(trap) = raised {
-            self.trace.push_back(trap);
-        }
-    }
-
-    /// The steps that are left of the turn under way, or of the next.
-    #[inline(always)]
-    fn steps_of_turn(&self) -> u32
-        requires holds { Holds self.now }
-        requires place { vec_len self.now.turns < TURN_MAX }
-        ensures exact { self.now.made + result ≡ quantum self.now.schedule (length self.now.turns.items) }
-        ensures some { 0 < result }
-        ensures small { self.now.made + result < 2 ^ 31 }
-    {
-        self.schedule.quantum(self.turns.len() as u32) - self.made
     }
 
     /// Begins the turn of the environment in a slot, where none is under way.
     #[inline(always)]
     fn enter_turn(&mut self, slot: usize)
         requires holds { Holds self.old }
-        requires place { vec_len self.old.turns < TURN_MAX }
-        requires slot { slot ≡ current (in_turn (state_of self.old) self.old.made) }
+        requires place { vec_len self.old.book.turns < TURN_MAX }
+        requires slot { slot ≡ current (in_turn (state_of self.old) (made self.old.book)) }
         requires live { is_live (slot_at (state_of self.old) slot) ≡ true }
-        ensures state { state_of self.new ≡ in_turn (state_of self.old) self.old.made }
+        ensures state { state_of self.new ≡ in_turn (state_of self.old) (made self.old.book) }
         ensures rest { self.new ≡ record self.old { machine = self.new.machine } }
         ensures running { is_running (slot_at (state_of self.new) slot).status ≡ true }
-        ensures turns { (state_of self.new).turns ≤ vec_len self.new.turns + 1 }
+        ensures turns { (state_of self.new).turns ≤ vec_len self.new.book.turns + 1 }
     {
-        if self.made == 0 {
+        if self.book.made() == 0 {
             self.machine.begin_turn(slot);
         }
     }
@@ -256,21 +205,22 @@ impl Kernel {
     fn advance<H: Host>(&mut self, host: &mut H, slot: usize, left: u64) -> Result<u32, Failed>
         requires holds { Holds self.old }
         requires left { 0 < left }
-        requires steps { self.old.steps + left < 2 ^ 64 }
+        requires steps { self.old.book.steps + left < 2 ^ 64 }
         requires goes_on { end_of (progress_of self.old nothing) false ≡ None }
-        requires slot { slot ≡ current (in_turn (state_of self.old) self.old.made) }
+        requires slot { slot ≡ current (in_turn (state_of self.old) (made self.old.book)) }
         requires live { is_live (slot_at (state_of self.old) slot) ≡ true }
         requires within { slot < NENV }
-        requires place { vec_len self.old.turns < TURN_MAX }
+        requires place { vec_len self.old.book.turns < TURN_MAX }
         ensures told { Advances result left (from_to self.old self.new) (around H.console host.old host.new) }
-        ensures one { OnOk result (length self.new.turns.items ≤ length self.old.turns.items + 1) }
-        ensures under_way { OnOk result (0 < self.new.made → self.new.turns.items ≡ self.old.turns.items) }
+        ensures one { OnOk result (length self.new.book.turns.items ≤ length self.old.book.turns.items + 1) }
+        ensures under_way { OnOk result (0 < made self.new.book → self.new.book.turns.items ≡ self.old.book.turns.items) }
         ensures holds { OnOk result (Holds self.new) }
         ensures current { OnOk result (current (state_of self.new) ≡ slot) }
         ensures rest { Unchanged H.files H.input H.asked H.notes host.old host.new }
         ensures cause { HasCause (H.faults host.old) (H.faults host.new) result }
     {
-        let limit = (self.steps_of_turn() as u64).min(left) as u32;
+        let left_of_turn = self.book.steps_left();
+        let limit = (left_of_turn as u64).min(left) as u32;
         self.enter_turn(slot);
         let mut registers = self.machine.registers(slot);
         self.machine.load(slot, registers.eip);
@@ -285,8 +235,8 @@ impl Kernel {
         match self.machine.follow(host, slot, registers, burst.event) {
             Ok(followed) => {
                 let refused = self.machine.refused() != refusals;
-                self.keep_trap(followed.trap);
-                self.count_steps(slot, burst.steps, followed.written, refused);
+                self.book.keep_trap(followed.trap);
+                self.count_steps(slot, burst.steps, left_of_turn, followed.written, refused);
                 Ok(burst.steps)
             }
             Err(failed) => Err(failed),
@@ -297,16 +247,16 @@ impl Kernel {
     fn go_on<H: Host>(&mut self, host: &mut H, slot: usize, left: u64) -> Result<u64, Failed>
         requires holds { Holds self.old }
         requires left { 0 < left }
-        requires steps { self.old.steps + left < 2 ^ 64 }
+        requires steps { self.old.book.steps + left < 2 ^ 64 }
         requires goes_on { end_of (progress_of self.old nothing) false ≡ None }
-        requires slot { slot ≡ current (in_turn (state_of self.old) self.old.made) }
+        requires slot { slot ≡ current (in_turn (state_of self.old) (made self.old.book)) }
         requires live { is_live (slot_at (state_of self.old) slot) ≡ true }
         requires within { slot < NENV }
-        requires place { vec_len self.old.turns < TURN_MAX }
+        requires place { vec_len self.old.book.turns < TURN_MAX }
         ensures told { Advances result left (from_to self.old self.new) (around H.console host.old host.new) }
-        ensures whole { IfOk result (λ n. n < left → self.new.made ≡ 0) }
-        ensures one { OnOk result (length self.new.turns.items ≤ length self.old.turns.items + 1) }
-        ensures under_way { OnOk result (0 < self.new.made → self.new.turns.items ≡ self.old.turns.items) }
+        ensures whole { IfOk result (λ n. n < left → made self.new.book ≡ 0) }
+        ensures one { OnOk result (length self.new.book.turns.items ≤ length self.old.book.turns.items + 1) }
+        ensures under_way { OnOk result (0 < made self.new.book → self.new.book.turns.items ≡ self.old.book.turns.items) }
         ensures holds { OnOk result (Holds self.new) }
         ensures rest { Unchanged H.files H.input H.asked H.notes host.old host.new }
         ensures cause { HasCause (H.faults host.old) (H.faults host.new) result }
@@ -315,7 +265,7 @@ impl Kernel {
             Ok(steps) => steps as u64,
             Err(failed) => return Err(failed),
         };
-        while self.made > 0 && steps < left {
+        while self.book.made() > 0 && steps < left {
             match self.advance(host, slot, left - steps) {
                 Ok(more) => steps += more as u64,
                 Err(failed) => return Err(failed),
@@ -327,7 +277,7 @@ impl Kernel {
     /// Makes one step, in the turn under way or in the next. It takes no memory.
     pub fn step<H: Host>(&mut self, host: &mut H) -> Result<(), Failed>
         requires holds { Holds self.old }
-        requires steps { self.old.steps + 1 < 2 ^ 64 }
+        requires steps { self.old.book.steps + 1 < 2 ^ 64 }
         requires goes_on { end_of (progress_of self.old nothing) false ≡ None }
         ensures told { Steps result (from_to self.old self.new) (around H.console host.old host.new) }
         ensures holds { OnOk result (Holds self.new) }
@@ -348,15 +298,15 @@ impl Kernel {
     pub fn turn<H: Host>(&mut self, host: &mut H, left: u64) -> Result<u64, Failed>
         requires holds { Holds self.old }
         requires left { 0 < left }
-        requires steps { self.old.steps + left < 2 ^ 64 }
+        requires steps { self.old.book.steps + left < 2 ^ 64 }
         requires goes_on { end_of (progress_of self.old nothing) false ≡ None }
         ensures told { Advances result left (from_to self.old self.new) (around H.console host.old host.new) }
         // The turn is over, unless no step is left.
-        ensures whole { IfOk result (λ n. n < left → self.new.made ≡ 0) }
+        ensures whole { IfOk result (λ n. n < left → made self.new.book ≡ 0) }
         // No more than one turn ends,
-        ensures one { OnOk result (length self.new.turns.items ≤ length self.old.turns.items + 1) }
+        ensures one { OnOk result (length self.new.book.turns.items ≤ length self.old.book.turns.items + 1) }
         // and where one is under way then, none has ended.
-        ensures under_way { OnOk result (0 < self.new.made → self.new.turns.items ≡ self.old.turns.items) }
+        ensures under_way { OnOk result (0 < made self.new.book → self.new.book.turns.items ≡ self.old.book.turns.items) }
         ensures holds { OnOk result (Holds self.new) }
         ensures rest { Unchanged H.files H.input H.asked H.notes host.old host.new }
         ensures cause { HasCause (H.faults host.old) (H.faults host.new) result }
@@ -382,11 +332,18 @@ impl Kernel {
         }
     }
 
+    /// All steps that were made.
+    fn steps(&self) -> u64
+        ensures { result ≡ self.now.book.steps }
+    {
+        self.book.steps()
+    }
+
     /// Runs until an end test holds, with so many steps left.
     #[inline(never)]
     fn run<H: Host>(&mut self, host: &mut H, budget: u64) -> Result<End, Failed>
         requires holds { Holds self.old }
-        requires steps { self.old.steps + budget < 2 ^ 64 }
+        requires steps { self.old.book.steps + budget < 2 ^ 64 }
         ensures told { IsRun result budget (from_to self.old self.new) (around H.console host.old host.new) }
         ensures holds { OnOk result (Holds self.new) }
         ensures rest { Unchanged H.files H.input H.asked H.notes host.old host.new }
@@ -407,43 +364,25 @@ impl Kernel {
     }
 
     /// What is told of the run, with its turns, and the last of its traps.
-    pub fn finish(mut self, end: End) -> (Report, Trace)
+    pub fn finish(self, end: End) -> (Report, Trace)
         requires { Holds self }
         ensures report { result.0 ≡ report_of (progress_of self nothing) end }
         ensures trace { (told : Told) → Counts self told → result.1.items ≡ keep_last told.kept told.traps }
     {
-        if self.made > 0 {
-            let slot = self.machine.current();
-            self.turns
-                .push(Turn {
-                    slot: slot as u16,
-                    visible: self.made,
-                    hidden: 0,
-                })
-                .unwrap();
-        }
-        let report = Report {
+        self.book.finish(
+            self.machine.current(),
             end,
-            steps: self.steps,
-            turns: self.turns,
-            closing: 0,
-            refused: self.machine.refused(),
-            first_refused: self.first_refused,
-            upcalls: self.machine.upcalls(),
-        };
-        (report, self.trace)
+            self.machine.refused(),
+            self.machine.upcalls(),
+        )
     }
 
     /// What is told of a run where a call of the host failed: nothing.
-    pub fn cut_off(mut self) -> Stopped
+    pub fn cut_off(self) -> Stopped
         ensures turns { result.turns ≡ [] }
         ensures first_refused { result.first_refused ≡ None }
     {
-        self.turns.clear();
-        Stopped {
-            turns: self.turns,
-            first_refused: None,
-        }
+        self.book.tell_nothing()
     }
 }
 
@@ -452,13 +391,13 @@ impl Kernel {
 /// was counted and the turns.
 pub fn exo_run<H: Host>(kernel: &mut Kernel, host: &mut H, budget: u64) -> ExoEnd
     requires holds { Holds kernel.old }
-    requires steps { kernel.old.steps ≤ budget }
-    ensures told { IsRun (result_of result) (budget - kernel.old.steps) (from_to kernel.old kernel.new) (around H.console host.old host.new) }
+    requires steps { kernel.old.book.steps ≤ budget }
+    ensures told { IsRun (result_of result) (budget - kernel.old.book.steps) (from_to kernel.old kernel.new) (around H.console host.old host.new) }
     ensures holds { IfEnded result (Holds kernel.new) }
     ensures rest { Unchanged H.files H.input H.asked H.notes host.old host.new }
     ensures cause { HasCause (H.faults host.old) (H.faults host.new) (result_of result) }
 {
-    match kernel.run(host, budget - kernel.steps) {
+    match kernel.run(host, budget - kernel.steps()) {
         Ok(end) => ExoEnd::Ended(end),
         Err(_) => ExoEnd::HostFault,
     }

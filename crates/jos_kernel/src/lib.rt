@@ -6,12 +6,14 @@
 //! by `boot`; no call after it takes any.
 #![tactic(auto)]
 
+mod book;
 mod boot;
 mod kernel;
 mod machine;
 mod report;
 mod trace;
 
+pub use book::{Book, take_room};
 pub use boot::{boot_images, first_registers, load_pages, next_touched};
 pub use kernel::{BootFault, ExoEnd, Kernel, exo_run};
 pub use report::{End, Refusal, Report, Stopped, Turn};

@@ -13,7 +13,7 @@ use Rattle.jos_kernel.specs.declared.report.End.{End}
 use Rattle.jos_kernel.specs.declared.report.End.TheVariants.{Done, Stuck, Budget, TurnsFull}
 use Rattle.jos_kernel.specs.declared.report.Turn.{Turn}
 use Rattle.jos_kernel.specs.declared.trace.TrapLine.{TrapLine}
-use Rattle.jos_kernel.specs.Kernel.{traced}
+use Rattle.jos_kernel.specs.Books.{traced}
 use Rattle.lib_os.specs.declared.progress.Progress.{Progress}
 use Rattle.lib_os.proofs.Slots.{slot_put}
 use Rattle.jos_run.specs.LibraryRuns.{turn_of, seen_after, hidden_after, others_live, end_seen}

@@ -16,7 +16,7 @@ use Rattle.jos_kernel.specs.declared.report.Refusal.{Refusal}
 use Rattle.jos_kernel.specs.declared.report.Turn.{Turn}
 use Rattle.jos_kernel.specs.declared.trace.TrapLine.{TrapLine}
 use Rattle.jos_kernel.specs.ExoRun.{counted}
-use Rattle.jos_kernel.specs.Kernel.{traced}
+use Rattle.jos_kernel.specs.Books.{traced}
 use Rattle.jos_kernel.proofs.Turns.{running_live}
 use Rattle.lib_os.specs.declared.progress.Progress.{Progress}
 use Rattle.lib_os.specs.declared.progress.Progress.TheVariants as progress

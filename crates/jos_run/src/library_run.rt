@@ -9,7 +9,7 @@ ghost use Rattle.jos_base.specs.Environments.{is_running};
 ghost use Rattle.jos_base.specs.KernelState.{slot_at};
 ghost use Rattle.jos_sched.specs.Quantum.{quantum};
 ghost use Rattle.jos_sched.specs.RoundRobin.{next};
-ghost use Rattle.jos_kernel.specs.Kernel.{traced};
+ghost use Rattle.jos_kernel.specs.Books.{traced};
 ghost use Rattle.jos_kernel.specs.declared.report.End.TheVariants.{Budget};
 ghost use Rattle.lib_os.specs.AbstractState.{AbstractState};
 ghost use Rattle.lib_os.specs.LibrarySteps.{Stands};

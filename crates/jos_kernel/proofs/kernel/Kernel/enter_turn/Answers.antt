@@ -5,6 +5,6 @@ use Rattle.jos_kernel.specs.Kernel.{state_of}
 use Rattle.jos_kernel.proofs.Advancing.{begun_running}
 use Rattle.jos_kernel.proofs.kernel.Kernel.enter_turn.Goals as goal
 
-pub returns-then-self-eq0-clause-running : goal.returns-then-self-eq0-clause-running
-returns-then-self-eq0-clause-running c =
+pub returns-then-made-eq0-clause-running : goal.returns-then-made-eq0-clause-running
+returns-then-made-eq0-clause-running c =
     (λ i. is_running (slot_at (c.begin_turn.ensures i) c.args.slot).status) ∙ begun_running (state_of c.args.self.now) c.args.slot

@@ -3,7 +3,7 @@ use Rattle.std.specs.Prelude.{not}
 use Rattle.jos_base.specs.Environments.{is_running}
 use Rattle.jos_base.specs.KernelState.{slot_at}
 use Rattle.jos_sched.specs.Quantum.{quantum}
-use Rattle.jos_kernel.specs.Kernel.{traced}
+use Rattle.jos_kernel.specs.Books.{traced}
 use Rattle.lib_os.specs.AbstractState.{AbstractState}
 use Rattle.lib_os.specs.AbstractRun.{abs_step}
 use Rattle.lib_os.specs.LibrarySteps.{Stands, Keeps, KeepsTurn, KeepsUses, LeavesRest}
