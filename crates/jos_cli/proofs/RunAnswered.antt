@@ -10,12 +10,12 @@ use Rattle.jos_elf.specs.Parsed.{Layout, parsed}
 use Rattle.jos_words.specs.Commands.{Run}
 use Rattle.jos_kernel.specs.declared.report.Refusal.{Refusal}
 use Rattle.jos_kernel.specs.declared.report.Turn.{Turn}
+use Rattle.jos_kernel.specs.Books.{turn_of}
 use Rattle.jos_kernel.specs.Boot.{Loadable}
 use Rattle.jos_kernel.specs.Reports.{Reported, CutOff}
 use Rattle.jos_kernel.proofs.ToldBytes.{gains_none}
 use Rattle.lib_os.specs.AbstractState.{AbstractState}
 use Rattle.jos_run.specs.AbstractTurns.{abs_run}
-use Rattle.jos_run.specs.LibraryRuns.{turn_of}
 use Rattle.jos_run.specs.RunReports.{ToldBy, CutOffBy}
 use Rattle.jos_run.specs.Boot.{booted_within}
 use Rattle.jos_run.specs.RunEnds.{Program, HasRun, IsCut}

@@ -10,6 +10,7 @@ use Rattle.jos_base.specs.KernelState.{KernelState, slot_at}
 use Rattle.jos_base.specs.KernelState as kernel
 use Rattle.jos_sched.specs.Quantum.{quantum}
 use Rattle.jos_kernel.specs.declared.report.Turn.{Turn}
+use Rattle.jos_kernel.specs.Books.{turn_of}
 use Rattle.lib_os.specs.declared.place.Place.{Place}
 use Rattle.lib_os.specs.declared.place.Place.TheVariants as place
 use Rattle.lib_os.specs.declared.place.Step.{Step}
@@ -24,7 +25,7 @@ use Rattle.lib_os.specs.Places.{place_of}
 use Rattle.lib_os.specs.StandsFor.{StandsFor, StandsAt, StandsAtStep, Names, Row, rows_of, RunsAs, WaitsOrHas, waits, has}
 use Rattle.lib_os.proofs.SlotsStand.{born_at}
 use Rattle.jos_run.specs.AbstractTurns.{turn_begun, may_end}
-use Rattle.jos_run.specs.LibraryRuns.{turn_of, IsBetween, IsInTurn, seen_after}
+use Rattle.jos_run.specs.LibraryRuns.{IsBetween, IsInTurn, visible_steps}
 use Rattle.jos_run.proofs.RunsKept.{step_hidden, step_visible, stopped_cannot, stopped_may_end, running_born}
 use Rattle.jos_run.proofs.RunsKept.{turn_ends_whole, turn_ends_early, waiting_may_end, pausing_waits, yielded_may_end}
 use Rattle.jos_run.proofs.RunsKept.{yielded_further, yield_tells}
@@ -108,13 +109,13 @@ comes : {schedule : List ℕ} {first : AbstractState} {turns : List Turn} {n vis
     (h : IsInTurn schedule first turns n visible s written) → (done : Progress) → Keeps done n s after bytes → NothingRefused s after →
     after.last ≡ Some n → is_running (slot_at s n).status ≡ true →
     (is_runnable (slot_at after n).status ≡ true → MayGiveUp done (place_of (slot_at s n))) → (hidden : ℕ) →
-    Comes schedule first turns n (seen_after done visible) hidden after (written ++ bytes)
+    Comes schedule first turns n (visible + visible_steps done) hidden after (written ++ bytes)
 unfolding step_hidden step_visible
 comes {n = n} {visible = visible} bytes h progress.Hidden keeps none_refused last runs gives hidden =
     let stays = keeps h.now h.stands none_refused in
     let only = only_runs stays.1.1 n last in
     comes_by (step_hidden bytes h stays only)
-    (λ ready. waiting_may_end h.before h.now (turn_of n visible hidden) (pausing_waits h.stands.1 n runs (gives ready)))
+    (λ ready. waiting_may_end h.before h.now (turn_of n (visible + 0) hidden) (pausing_waits h.stands.1 n runs (gives ready)))
 comes {n = n} bytes h progress.Waited keeps none_refused last runs gives hidden =
     let stays = (keeps h.now h.stands none_refused).0 in
     comes_by (step_hidden bytes h stays (only_runs stays.1.1 n last)) (λ ready. absurd (gives ready))
@@ -136,7 +137,7 @@ pub stepped : {schedule : List ℕ} {first : AbstractState} {turns : List Turn} 
     {written : List ℕ} (bytes : List ℕ) →
     IsInTurn schedule first turns n visible s written → (done : Progress) → Keeps done n s after bytes → NothingRefused s after →
     after.last ≡ Some n → is_running (slot_at s n).status ≡ true → KeepsTurn done (slot_at s n) (slot_at after n) → (hidden : ℕ) →
-    Comes schedule first turns n (seen_after done visible) hidden after (written ++ bytes)
+    Comes schedule first turns n (visible + visible_steps done) hidden after (written ++ bytes)
 stepped {n = n} bytes h done keeps none_refused last runs turn hidden =
     comes bytes h done keeps none_refused last runs (turn runs (running_silent h.stands.1 n runs)) hidden
 

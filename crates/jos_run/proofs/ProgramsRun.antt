@@ -11,6 +11,7 @@ use Rattle.jos_elf.specs.declared.fault.ElfFault.{ElfFault}
 use Rattle.jos_elf.specs.Parsed.{Layout}
 use Rattle.jos_kernel.specs.declared.report.End.{End}
 use Rattle.jos_kernel.specs.declared.trace.TrapLine.{TrapLine}
+use Rattle.jos_kernel.specs.Books.{HasRoom}
 use Rattle.jos_kernel.specs.Reports.{Reported, CutOff}
 use Rattle.lib_os.specs.AbstractState.{AbstractState}
 use Rattle.jos_run.specs.declared.library_run.LibraryRun.{LibraryRun}
@@ -20,13 +21,13 @@ use Rattle.jos_run.specs.RunEnds.{AnswersBy, HasEndCause, Ran, RunsFrom, end_of_
 use Rattle.jos_run.specs.Start.{start}
 use Rattle.jos_run.specs.RunReports.{IsTold, IsToldCutOff}
 use Rattle.jos_run.specs.RunSteps.{HasGone}
-use Rattle.jos_run.specs.Running.{state_of, turns_so_far, HasRoom, Holds, Runs, HasRun, report_of, cut_off_of}
+use Rattle.jos_run.specs.Running.{state_of, turns_so_far, Holds, Runs, HasRun, report_of, cut_off_of}
 use Rattle.jos_run.proofs.RunEnds.{told_whole, told_cut_off}
 
 pub ended_told : {budget : ℕ} {r t : LibraryRun} {a b : Option (List ℕ)} (end : End) (report : Reported) (schedule : List ℕ) (most : ℕ)
     (s : KernelState) (traps : List TrapLine) →
-    HasRun budget (Ok end) (from_to r t) (from_to a b) → r.steps ≡ 0 → r.trace ≡ buffer [] most → turns_so_far r ≡ [] → Holds t → r.schedule ≡ schedule →
-    report ≡ report_of t end → traps ≡ t.trace.items → state_of r ≡ s →
+    HasRun budget (Ok end) (from_to r t) (from_to a b) → r.book.steps ≡ 0 → r.book.trace ≡ buffer [] most → turns_so_far r ≡ [] → Holds t → r.book.schedule ≡ schedule →
+    report ≡ report_of t end → traps ≡ t.book.trace.items → state_of r ≡ s →
     (first : AbstractState) (frames : ℕ) → Runs first frames r [] →
     (printed : List ℕ) × Gains (from_to a b) printed × IsTold schedule first frames budget report printed
     × HasGone s budget most report traps printed
@@ -35,18 +36,18 @@ ended_told {budget = budget} {r = r} {t = t} end report schedule most s traps ra
       told.0,
       told.1,
       subst (λ (numbers : List ℕ). IsTold numbers first frames budget report told.0) scheduled
-          (subst (λ (x : Reported). IsTold r.schedule first frames budget x told.0) (sym reported) told.2),
+          (subst (λ (x : Reported). IsTold r.book.schedule first frames budget x told.0) (sym reported) told.2),
       subst (λ (k : KernelState). HasGone k budget most report traps told.0) begun
           (subst (λ (l : List TrapLine). HasGone (state_of r) budget most report l told.0) (sym kept)
-          (subst (λ (x : Reported). HasGone (state_of r) budget most x t.trace.items told.0) (sym reported) told.3)),
+          (subst (λ (x : Reported). HasGone (state_of r) budget most x t.book.trace.items told.0) (sym reported) told.3)),
     )
 
 pub failed_told : {r t : LibraryRun} {a b : Option (List ℕ)} (budget : ℕ) (failed : Failed) (cut : CutOff) (schedule : List ℕ) →
-    HasRun budget (Err failed) (from_to r t) (from_to a b) → HasRoom t → r.schedule ≡ schedule → cut ≡ cut_off_of t →
+    HasRun budget (Err failed) (from_to r t) (from_to a b) → HasRoom t.book → r.book.schedule ≡ schedule → cut ≡ cut_off_of t →
     (first : AbstractState) (frames : ℕ) → Runs first frames r [] → IsToldCutOff schedule first frames cut (from_to a b)
 failed_told {r = r} {a = a} {b = b} budget failed cut schedule ran room scheduled cut_is first frames h =
     subst (λ (numbers : List ℕ). IsToldCutOff numbers first frames cut (from_to a b)) scheduled
-    (subst (λ (x : CutOff). IsToldCutOff r.schedule first frames x (from_to a b)) (sym cut_is) (told_cut_off ran room first frames h))
+    (subst (λ (x : CutOff). IsToldCutOff r.book.schedule first frames x (from_to a b)) (sym cut_is) (told_cut_off ran room first frames h))
 
 -- so `run` answers what it has to
 pub booted_answers : (setup : Setup) (file : List ℕ) (words : List (List ℕ)) (image : Layout) (ran : Ran) (console : Around (Option (List ℕ))) →

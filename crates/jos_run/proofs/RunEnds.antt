@@ -21,6 +21,7 @@ use Rattle.jos_kernel.specs.declared.report.End.TheVariants.{Done, Stuck, Budget
 use Rattle.jos_kernel.specs.declared.report.Refusal.{Refusal}
 use Rattle.jos_kernel.specs.declared.report.Turn.{Turn}
 use Rattle.jos_kernel.specs.declared.trace.TrapLine.{TrapLine}
+use Rattle.jos_kernel.specs.Books.{turn_of, made, HasRoom}
 use Rattle.jos_kernel.proofs.ToldBytes.{gains_none, gains_more}
 use Rattle.lib_os.specs.AbstractState.{AbstractState, Slot, can_run}
 use Rattle.lib_os.specs.LibrarySteps.{Stands}
@@ -30,10 +31,10 @@ use Rattle.lib_os.proofs.StatesStand.{turn_ended_stands}
 use Rattle.jos_run.specs.Begun.{IsNew}
 use Rattle.jos_run.specs.declared.library_run.LibraryRun.{LibraryRun}
 use Rattle.jos_run.specs.AbstractTurns.{next_slot, is_client, any_live, end_of}
-use Rattle.jos_run.specs.LibraryRuns.{others_live, end_seen, turn_of, IsBetween, IsInTurn}
+use Rattle.jos_run.specs.LibraryRuns.{others_live, end_seen, IsBetween, IsInTurn}
 use Rattle.jos_run.specs.RunReports.{HasEnded, CutOffBy, ToldBy, IsTold, IsToldCutOff}
 use Rattle.jos_run.specs.RunSteps.{traps_of, turns_with, end_at, HasGone}
-use Rattle.jos_run.specs.Running.{state_of, made, turns_so_far, HasRoom, Holds, StandsBy, RunsBy, Runs, IsChosen, Went, HasFailed}
+use Rattle.jos_run.specs.Running.{state_of, turns_so_far, Holds, StandsBy, RunsBy, Runs, IsChosen, Went, HasFailed}
 use Rattle.jos_run.specs.Running.{EndsBy, HasRun, report_of, cut_off_of}
 use Rattle.jos_run.proofs.Advancing.{awake_running}
 use Rattle.jos_run.proofs.Choices.{end_stands, ended_none, next_stands, runs_stand, only_first_serves}
@@ -107,9 +108,9 @@ fails_further {r = r} {s = s} {t = t} {a = a} {b = b} {c = c} v f = record {
   printed = v.printed ++ f.printed;
   gains = gains_more a b c v.printed f.printed v.gains f.gains;
   cut_off = λ first frames before h.
-      subst (λ (schedule : List ℕ). CutOffBy t.first_refused schedule first frames (turns_so_far t)
+      subst (λ (schedule : List ℕ). CutOffBy t.book.first_refused schedule first frames (turns_so_far t)
       (before ++ (v.printed ++ f.printed))) v.schedule
-      (subst (λ (l : List ℕ). CutOffBy t.first_refused s.schedule first frames (turns_so_far t) l)
+      (subst (λ (l : List ℕ). CutOffBy t.book.first_refused s.book.schedule first frames (turns_so_far t) l)
       (append_assoc before v.printed f.printed)
       (f.cut_off first frames (before ++ v.printed) (v.runs first frames before h)));
 }
@@ -117,32 +118,32 @@ fails_further {r = r} {s = s} {t = t} {a = a} {b = b} {c = c} v f = record {
 -- ---- the end
 
 -- Between two turns the end tests tell it.
-between_end : (r : LibraryRun) (spent : Bool) (end : End) → made r ≡ 0 → end_seen (state_of r) (vec_len r.turns) spent ≡ Some end →
+between_end : (r : LibraryRun) (spent : Bool) (end : End) → made r.book ≡ 0 → end_seen (state_of r) (vec_len r.book.turns) spent ≡ Some end →
     (first : AbstractState) (frames : ℕ) (printed : List ℕ) → Runs first frames r printed →
-    EndsBy r.first_refused first spent r printed end
-between_end r spent end none seen first frames printed = by_first r.first_refused
+    EndsBy r.book.first_refused first spent r printed end
+between_end r spent end none seen first frames printed = by_first r.book.first_refused
   where
-    test : true ≡ (made r == 0)
+    test : true ≡ (made r.book == 0)
     test = grind (arith, nat_tests)
 
-    told : IsBetween r.schedule first r.turns.items (state_of r) printed →
-        HasEnded r.schedule first r.turns.items printed spent end
+    told : IsBetween r.book.schedule first r.book.turns.items (state_of r) printed →
+        HasEnded r.book.schedule first r.book.turns.items printed spent end
     told h = record {
       now = h.now;
       taken = record { ran = h.ran; fit = between_fits h; console = h.console };
       whole = λ other. h.fit;
-      over = ap (λ (k : ℕ). end_of h.now k spent) (sym r.turns.ok.0)
-          ∙ end_stands h.stands.1 h.none (only_first_serves h.stands.1) (vec_len r.turns) spent ∙ seen;
+      over = ap (λ (k : ℕ). end_of h.now k spent) (sym r.book.turns.ok.0)
+          ∙ end_stands h.stands.1 h.none (only_first_serves h.stands.1) (vec_len r.book.turns) spent ∙ seen;
     }
 
-    by_made : (c : Bool) → true ≡ c → StandsBy c r.schedule first r printed →
-        HasEnded r.schedule first (if c then r.turns.items else r.turns.items ++ turn_of r.served.slot r.visible r.hidden ∷ [])
+    by_made : (c : Bool) → true ≡ c → StandsBy c r.book.schedule first r printed →
+        HasEnded r.book.schedule first (if c then r.book.turns.items else r.book.turns.items ++ turn_of r.served.slot r.book.visible r.book.hidden ∷ [])
         printed spent end
     by_made true is h = told h
     by_made false is h = absurd (let contradiction : true ≡ false = is in cc)
 
     by_first : (o : Option Refusal) → RunsBy o first frames r printed → EndsBy o first spent r printed end
-    by_first None h = by_made (made r == 0) test h.stands
+    by_first None h = by_made (made r.book == 0) test h.stands
     by_first (Some refusal) h = tt
 
 -- An environment that is RUNNING may have a turn after this one.
@@ -189,69 +190,69 @@ spent_end a turns live ready =
     ∙ ap (λ (c : Bool). if c then Some Stuck else Some Budget) ready
 
 -- Where the steps are used up in a turn, it is the budget that ends the run.
-in_turn_end : (r : LibraryRun) → Holds r → 0 < made r →
+in_turn_end : (r : LibraryRun) → Holds r → 0 < made r.book →
     (first : AbstractState) (frames : ℕ) (printed : List ℕ) → Runs first frames r printed →
-    EndsBy r.first_refused first true r printed Budget
-in_turn_end r holds some first frames printed = by_first r.first_refused
+    EndsBy r.book.first_refused first true r printed Budget
+in_turn_end r holds some first frames printed = by_first r.book.first_refused
   where
-    test : false ≡ (made r == 0)
+    test : false ≡ (made r.book == 0)
     test = grind (arith, nat_tests)
 
-    told : IsInTurn r.schedule first r.turns.items r.served.slot r.visible (state_of r) printed →
-        HasEnded r.schedule first (r.turns.items ++ turn_of r.served.slot r.visible r.hidden ∷ []) printed true Budget
+    told : IsInTurn r.book.schedule first r.book.turns.items r.served.slot r.book.visible (state_of r) printed →
+        HasEnded r.book.schedule first (r.book.turns.items ++ turn_of r.served.slot r.book.visible r.book.hidden ∷ []) printed true Budget
     told h =
-        let left : made r < quantum r.schedule (length r.turns.items) = holds.left some in
+        let left : made r.book < quantum r.book.schedule (length r.book.turns.items) = holds.left some in
         let within : r.served.slot < NENV = holds.last r.served.slot (holds.current some) in
         let runs = holds.running some in
         record {
           now = h.now;
-          taken = record { ran = in_turn_ran h r.hidden; fit = in_turn_fits h r.hidden some (omega arith); console = h.console };
+          taken = record { ran = in_turn_ran h r.book.hidden; fit = in_turn_fits h r.book.hidden some (omega arith); console = h.console };
           whole = λ other. absurd (other refl);
-          over = spent_end h.now (length (r.turns.items ++ turn_of r.served.slot r.visible r.hidden ∷ []))
+          over = spent_end h.now (length (r.book.turns.items ++ turn_of r.served.slot r.book.visible r.book.hidden ∷ []))
               (running_client h.stands.1 r.served.slot within runs)
               (goes_on_next h.stands.1 r.served.slot within holds.last h.only runs);
         }
 
-    by_made : (c : Bool) → false ≡ c → StandsBy c r.schedule first r printed →
-        HasEnded r.schedule first (if c then r.turns.items else r.turns.items ++ turn_of r.served.slot r.visible r.hidden ∷ [])
+    by_made : (c : Bool) → false ≡ c → StandsBy c r.book.schedule first r printed →
+        HasEnded r.book.schedule first (if c then r.book.turns.items else r.book.turns.items ++ turn_of r.served.slot r.book.visible r.book.hidden ∷ [])
         printed true Budget
     by_made true is h = absurd (let contradiction : false ≡ true = is in cc)
     by_made false is h = told h
 
     by_first : (o : Option Refusal) → RunsBy o first frames r printed → EndsBy o first true r printed Budget
-    by_first None h = by_made (made r == 0) test h.stands
+    by_first None h = by_made (made r.book == 0) test h.stands
     by_first (Some refusal) h = tt
 
 -- how many turns are told
-turns_are : (r : LibraryRun) → length (turns_so_far r) ≡ (if made r == 0 then vec_len r.turns else vec_len r.turns + 1)
-turns_are r = by_test (made r == 0)
+turns_are : (r : LibraryRun) → length (turns_so_far r) ≡ (if made r.book == 0 then vec_len r.book.turns else vec_len r.book.turns + 1)
+turns_are r = by_test (made r.book == 0)
   where
-    by_test : (c : Bool) → length (if c then r.turns.items else r.turns.items ++ turn_of r.served.slot r.visible r.hidden ∷ [])
-        ≡ (if c then vec_len r.turns else vec_len r.turns + 1)
-    by_test true = sym r.turns.ok.0
+    by_test : (c : Bool) → length (if c then r.book.turns.items else r.book.turns.items ++ turn_of r.served.slot r.book.visible r.book.hidden ∷ [])
+        ≡ (if c then vec_len r.book.turns else vec_len r.book.turns + 1)
+    by_test true = sym r.book.turns.ok.0
     by_test false =
-        length-append r.turns.items (turn_of r.served.slot r.visible r.hidden ∷ []) ∙ ap (λ (n : ℕ). n + 1) (sym r.turns.ok.0)
+        length-append r.book.turns.items (turn_of r.served.slot r.book.visible r.book.hidden ∷ []) ∙ ap (λ (n : ℕ). n + 1) (sym r.book.turns.ok.0)
 
-stops_between : (r : LibraryRun) → Holds r → (spent : Bool) (end : End) → made r ≡ 0 →
-    end_seen (state_of r) (vec_len r.turns) spent ≡ Some end → end_at (state_of r) (length (turns_so_far r)) spent ≡ Some end
+stops_between : (r : LibraryRun) → Holds r → (spent : Bool) (end : End) → made r.book ≡ 0 →
+    end_seen (state_of r) (vec_len r.book.turns) spent ≡ Some end → end_at (state_of r) (length (turns_so_far r)) spent ≡ Some end
 stops_between r holds spent end none seen =
-    let test : (made r == 0) ≡ true = grind (arith, nat_tests) in
-    let told : length (turns_so_far r) ≡ vec_len r.turns =
-    turns_are r ∙ ap (λ (c : Bool). if c then vec_len r.turns else vec_len r.turns + 1) test in
+    let test : (made r.book == 0) ≡ true = grind (arith, nat_tests) in
+    let told : length (turns_so_far r) ≡ vec_len r.book.turns =
+    turns_are r ∙ ap (λ (c : Bool). if c then vec_len r.book.turns else vec_len r.book.turns + 1) test in
     end_between (state_of r) (length (turns_so_far r)) spent (holds.between none)
     ∙ ap (λ (k : ℕ). end_seen (state_of r) k spent) told ∙ seen
 
 -- An end test holds while steps are left.
 pub on_end : {budget left : ℕ} {r t : LibraryRun} {a b : Option (List ℕ)} → Went (budget - left) (from_to r t) (from_to a b) →
     0 < left → left ≤ budget → Holds t →
-    (end : End) → made t ≡ 0 → end_seen (state_of t) (vec_len t.turns) false ≡ Some end →
+    (end : End) → made t.book ≡ 0 → end_seen (state_of t) (vec_len t.book.turns) false ≡ Some end →
     HasRun budget (Ok end) (from_to r t) (from_to a b)
 on_end {budget = budget} {left = left} {t = t} went some within holds end none seen =
     let test : false ≡ (budget - left == budget) = grind (arith, nat_tests) in (
       budget - left,
       omega arith,
       went,
-      λ first frames before h. subst (λ (spent : Bool). EndsBy t.first_refused first spent t (before ++ went.printed) end) test
+      λ first frames before h. subst (λ (spent : Bool). EndsBy t.book.first_refused first spent t (before ++ went.printed) end) test
           (between_end t false end none seen first frames (before ++ went.printed) (went.runs first frames before h)),
       subst (λ (spent : Bool). end_at (state_of t) (length (turns_so_far t)) spent ≡ Some end) test
           (stops_between t holds false end none seen),
@@ -260,43 +261,43 @@ on_end {budget = budget} {left = left} {t = t} went some within holds end none s
 -- The steps are used up.
 pub on_budget : {budget left : ℕ} {r t : LibraryRun} {a b : Option (List ℕ)} → Went (budget - left) (from_to r t) (from_to a b) →
     left ≡ 0 →
-    Holds t → (end : End) → (made t ≡ 0 → end_seen (state_of t) (vec_len t.turns) true ≡ Some end) → (0 < made t → end ≡ Budget) →
+    Holds t → (end : End) → (made t.book ≡ 0 → end_seen (state_of t) (vec_len t.book.turns) true ≡ Some end) → (0 < made t.book → end ≡ Budget) →
     HasRun budget (Ok end) (from_to r t) (from_to a b)
 on_budget {budget = budget} {left = left} {t = t} went none holds end between in_turn =
     let test : true ≡ (budget - left == budget) = grind (arith, nat_tests) in (
       budget - left,
       omega arith,
       went,
-      λ first frames before h. subst (λ (spent : Bool). EndsBy t.first_refused first spent t (before ++ went.printed) end) test
-          (by_made (made t == 0) refl first frames (before ++ went.printed) (went.runs first frames before h)),
-      subst (λ (spent : Bool). end_at (state_of t) (length (turns_so_far t)) spent ≡ Some end) test (stops (made t == 0) refl),
+      λ first frames before h. subst (λ (spent : Bool). EndsBy t.book.first_refused first spent t (before ++ went.printed) end) test
+          (by_made (made t.book == 0) refl first frames (before ++ went.printed) (went.runs first frames before h)),
+      subst (λ (spent : Bool). end_at (state_of t) (length (turns_so_far t)) spent ≡ Some end) test (stops (made t.book == 0) refl),
     )
   where
-    stops : (c : Bool) → (made t == 0) ≡ c → end_at (state_of t) (length (turns_so_far t)) true ≡ Some end
+    stops : (c : Bool) → (made t.book == 0) ≡ c → end_at (state_of t) (length (turns_so_far t)) true ≡ Some end
     stops true is = stops_between t holds true end (none_made t is) (between (none_made t is))
     stops false is =
         end_in_turn (state_of t) (length (turns_so_far t)) t.served.slot (holds.current (some_made t is)) (holds.running (some_made t is))
         ∙ ap (λ (e : End). Some e) (sym (in_turn (some_made t is)))
 
-    by_made : (c : Bool) → (made t == 0) ≡ c → (first : AbstractState) (frames : ℕ) (printed : List ℕ) → Runs first frames t printed →
-        EndsBy t.first_refused first true t printed end
+    by_made : (c : Bool) → (made t.book == 0) ≡ c → (first : AbstractState) (frames : ℕ) (printed : List ℕ) → Runs first frames t printed →
+        EndsBy t.book.first_refused first true t printed end
     by_made true is first frames printed h =
         between_end t true end (none_made t is) (between (none_made t is)) first frames printed h
     by_made false is first frames printed h =
-        subst (λ (e : End). EndsBy t.first_refused first true t printed e) (sym (in_turn (some_made t is)))
+        subst (λ (e : End). EndsBy t.book.first_refused first true t printed e) (sym (in_turn (some_made t is)))
         (in_turn_end t holds (some_made t is) first frames printed h)
 
 -- ---- what is told
 
 -- A run has not begun to make steps.
-pub begins : (r : LibraryRun) → r.turns.items ≡ [] → made r ≡ 0 → r.first_refused ≡ None → r.served.written ≡ 0 →
+pub begins : (r : LibraryRun) → r.book.turns.items ≡ [] → made r.book ≡ 0 → r.book.first_refused ≡ None → r.served.written ≡ 0 →
     (first : AbstractState) (frames : ℕ) → Stands (state_of r) first → IsNew (state_of r) frames → Runs first frames r []
 begins r empty none quiet written first frames stands h =
-    let test : true ≡ (made r == 0) = grind (arith, nat_tests) in
+    let test : true ≡ (made r.book == 0) = grind (arith, nat_tests) in
     subst (λ (o : Option Refusal). RunsBy o first frames r []) (sym quiet) (record {
-      stands = subst (λ (c : Bool). StandsBy c r.schedule first r []) test
-          (subst (λ (turns : List Turn). IsBetween r.schedule first turns (state_of r) []) (sym empty)
-          (run_begins r.schedule first (state_of r) stands h.none_runs));
+      stands = subst (λ (c : Bool). StandsBy c r.book.schedule first r []) test
+          (subst (λ (turns : List Turn). IsBetween r.book.schedule first turns (state_of r) []) (sym empty)
+          (run_begins r.book.schedule first (state_of r) stands h.none_runs));
       quiet = h.refusals;
       frames_are = h.frames_are;
       used = h.used;
@@ -304,20 +305,20 @@ begins r empty none quiet written first frames stands h =
     })
 
 -- No more turns are told than a run may have.
-turns_within : (r : LibraryRun) → HasRoom r → length (turns_so_far r) ≤ TURN_MAX
-turns_within r h = subst (λ (n : ℕ). n ≤ TURN_MAX) (sym (turns_are r)) (by_test (made r == 0) refl)
+turns_within : (r : LibraryRun) → HasRoom r.book → length (turns_so_far r) ≤ TURN_MAX
+turns_within r h = subst (λ (n : ℕ). n ≤ TURN_MAX) (sym (turns_are r)) (by_test (made r.book == 0) refl)
   where
-    by_test : (c : Bool) → (made r == 0) ≡ c → (if c then vec_len r.turns else vec_len r.turns + 1) ≤ TURN_MAX
+    by_test : (c : Bool) → (made r.book == 0) ≡ c → (if c then vec_len r.book.turns else vec_len r.book.turns + 1) ≤ TURN_MAX
     by_test true is = h.most
-    by_test false is = let below : vec_len r.turns < TURN_MAX = h.place (some_made r is) in omega (arith, below)
+    by_test false is = let below : vec_len r.book.turns < TURN_MAX = h.place (some_made r is) in omega (arith, below)
 
 -- What the kernel has gone through.
 gone_whole : {budget : ℕ} {r t : LibraryRun} {a b : Option (List ℕ)} (end : End) (most : ℕ) →
-    (ran : HasRun budget (Ok end) (from_to r t) (from_to a b)) → r.steps ≡ 0 → r.trace ≡ buffer [] most → turns_so_far r ≡ [] → Holds t →
-    HasGone (state_of r) budget most (report_of t end) t.trace.items ran.2.printed
+    (ran : HasRun budget (Ok end) (from_to r t) (from_to a b)) → r.book.steps ≡ 0 → r.book.trace ≡ buffer [] most → turns_so_far r ≡ [] → Holds t →
+    HasGone (state_of r) budget most (report_of t end) t.book.trace.items ran.2.printed
 gone_whole {budget = budget} {r = r} {t = t} end most ran none empty no_turns holds =
     let went = ran.2 in
-    let steps : t.steps ≡ ran.0 = (let all : t.steps ≡ r.steps + ran.0 = went.steps_are in omega arith) in
+    let steps : t.book.steps ≡ ran.0 = (let all : t.book.steps ≡ r.book.steps + ran.0 = went.steps_are in omega arith) in
     record {
       steps = went.steps_made;
       now = state_of t;
@@ -335,14 +336,14 @@ gone_whole {budget = budget} {r = r} {t = t} end most ran none empty no_turns ho
 
 -- The report of a run that has ended by itself.
 pub told_whole : {budget : ℕ} {r t : LibraryRun} {a b : Option (List ℕ)} (end : End) (most : ℕ) →
-    HasRun budget (Ok end) (from_to r t) (from_to a b) → r.steps ≡ 0 → r.trace ≡ buffer [] most → turns_so_far r ≡ [] → Holds t →
+    HasRun budget (Ok end) (from_to r t) (from_to a b) → r.book.steps ≡ 0 → r.book.trace ≡ buffer [] most → turns_so_far r ≡ [] → Holds t →
     (first : AbstractState) (frames : ℕ) → Runs first frames r [] →
-    (printed : List ℕ) × Gains (from_to a b) printed × IsTold r.schedule first frames budget (report_of t end) printed
-    × HasGone (state_of r) budget most (report_of t end) t.trace.items printed
+    (printed : List ℕ) × Gains (from_to a b) printed × IsTold r.book.schedule first frames budget (report_of t end) printed
+    × HasGone (state_of r) budget most (report_of t end) t.book.trace.items printed
 told_whole {budget = budget} {r = r} {t = t} end most ran none empty no_turns holds first frames h =
     let went = ran.2 in
     let within : ran.0 ≤ budget = ran.1 in
-    let steps : t.steps ≡ ran.0 = (let all : t.steps ≡ r.steps + ran.0 = went.steps_are in omega arith) in (
+    let steps : t.book.steps ≡ ran.0 = (let all : t.book.steps ≡ r.book.steps + ran.0 = went.steps_are in omega arith) in (
       went.printed,
       went.gains,
       record {
@@ -352,37 +353,37 @@ told_whole {budget = budget} {r = r} {t = t} end most ran none empty no_turns ho
             (ran.4 ∙ ap (λ (e : End). Some e) is));
         most = turns_within t holds.has_room;
         closing = refl;
-        by_refusal = subst (λ (schedule : List ℕ). ToldBy t.first_refused schedule first frames budget (report_of t end)
+        by_refusal = subst (λ (schedule : List ℕ). ToldBy t.book.first_refused schedule first frames budget (report_of t end)
             went.printed) went.schedule
-            (by_first steps t.first_refused (went.runs first frames [] h) (ran.3 first frames [] h));
+            (by_first steps t.book.first_refused (went.runs first frames [] h) (ran.3 first frames [] h));
       },
       gone_whole end most ran none empty no_turns holds,
     )
   where
-    spent_all : t.steps ≡ ran.0 → (ran.0 == budget) ≡ true → t.steps ≡ budget
+    spent_all : t.book.steps ≡ ran.0 → (ran.0 == budget) ≡ true → t.book.steps ≡ budget
     spent_all steps spent = grind (arith, nat_tests)
 
-    by_first : t.steps ≡ ran.0 → (o : Option Refusal) → RunsBy o first frames t ran.2.printed →
+    by_first : t.book.steps ≡ ran.0 → (o : Option Refusal) → RunsBy o first frames t ran.2.printed →
         EndsBy o first (ran.0 == budget) t ran.2.printed end →
-        ToldBy o t.schedule first frames budget (report_of t end) ran.2.printed
+        ToldBy o t.book.schedule first frames budget (report_of t end) ran.2.printed
     by_first steps None runs ends =
-        (runs.quiet, subst (λ (n : ℕ). HasEnded t.schedule first (turns_so_far t) ran.2.printed (n == budget) end) (sym steps) ends)
+        (runs.quiet, subst (λ (n : ℕ). HasEnded t.book.schedule first (turns_so_far t) ran.2.printed (n == budget) end) (sym steps) ends)
     by_first steps (Some refusal) runs ends = runs
 
 -- What is told of one that was cut off.
-pub told_cut_off : {r t : LibraryRun} {a b : Option (List ℕ)} → HasFailed (from_to r t) (from_to a b) → HasRoom t →
-    (first : AbstractState) (frames : ℕ) → Runs first frames r [] → IsToldCutOff r.schedule first frames (cut_off_of t) (from_to a b)
+pub told_cut_off : {r t : LibraryRun} {a b : Option (List ℕ)} → HasFailed (from_to r t) (from_to a b) → HasRoom t.book →
+    (first : AbstractState) (frames : ℕ) → Runs first frames r [] → IsToldCutOff r.book.schedule first frames (cut_off_of t) (from_to a b)
 told_cut_off {t = t} failed room first frames h =
     (failed.printed, failed.gains, failed.cut_off first frames [] h, turns_within t room)
 
 -- ---- the next step
 
 -- between two turns, where no end test holds
-pub chosen_next : (r : LibraryRun) (n : ℕ) → made r ≡ 0 → next (state_of r).environments (state_of r).last ≡ Some n →
-    others_live (state_of r) ≡ true → vec_len r.turns < TURN_MAX → IsChosen r n
+pub chosen_next : (r : LibraryRun) (n : ℕ) → made r.book ≡ 0 → next (state_of r).environments (state_of r).last ≡ Some n →
+    others_live (state_of r) ≡ true → vec_len r.book.turns < TURN_MAX → IsChosen r n
 chosen_next r n none is live room =
     let there = next_live (state_of r) n is in
-    let full : nat_le TURN_MAX (vec_len r.turns) ≡ false = grind (arith, nat_tests) in
+    let full : nat_le TURN_MAX (vec_len r.book.turns) ≡ false = grind (arith, nat_tests) in
     record {
       turn = λ some. absurd (omega (arith, none, some));
       next_is = λ empty. is;
@@ -393,9 +394,9 @@ chosen_next r n none is live room =
     }
   where
     end_none : others_live (state_of r) ≡ true → next (state_of r).environments (state_of r).last ≡ Some n →
-        nat_le TURN_MAX (vec_len r.turns) ≡ false → end_seen (state_of r) (vec_len r.turns) false ≡ None
+        nat_le TURN_MAX (vec_len r.book.turns) ≡ false → end_seen (state_of r) (vec_len r.book.turns) false ≡ None
     end_none live is full =
         ap (λ (c : Bool). if not c then Some Done else if is_none (next (state_of r).environments (state_of r).last) then Some Stuck
-        else if nat_le TURN_MAX (vec_len r.turns) then Some TurnsFull else None) live
-        ∙ ap (λ (o : Option ℕ). if is_none o then Some Stuck else if nat_le TURN_MAX (vec_len r.turns) then Some TurnsFull else None) is
+        else if nat_le TURN_MAX (vec_len r.book.turns) then Some TurnsFull else None) live
+        ∙ ap (λ (o : Option ℕ). if is_none o then Some Stuck else if nat_le TURN_MAX (vec_len r.book.turns) then Some TurnsFull else None) is
         ∙ ap (λ (c : Bool). if c then Some TurnsFull else None) full

@@ -1,8 +1,8 @@
 -- Steps of a run one behind the other, the traps that are kept of them, and the end that the kernel's state tells.
-use Rattle.std.proofs.Common.{◌≡◌, ◌∙◌, ℕ, zero, suc, ◌+◌, ◌-◌, Bool, true, false, List, [], ◌∷◌, ◌++◌, length, drop, drop-drop}
+use Rattle.std.proofs.Common.{◌≡◌, ◌∙◌, ℕ, zero, suc, ◌+◌, ◌-◌, Bool, true, false, List, [], ◌∷◌, ◌++◌, length, drop}
 use Rattle.std.proofs.Common.{Option, Some, None, refl, sym, ap, subst, arith, append_assoc, if◌then◌else◌}
 use Rattle.std.specs.Prelude.{nat_le, not, is_none}
-use Rattle.std.proofs.lemmas.List.{append-nil, length-append, length-drop, drop-append-le}
+use Rattle.std.proofs.lemmas.List.{append-nil}
 use Rattle.circular_buffer.specs.Buffer.{buffer, keep_last}
 use Rattle.jos_base.specs.declared.environment.Status.TheVariants.{Runnable}
 use Rattle.jos_base.specs.declared.numbers.TheConstants.{TURN_MAX}
@@ -13,10 +13,11 @@ use Rattle.jos_kernel.specs.declared.report.End.{End}
 use Rattle.jos_kernel.specs.declared.report.End.TheVariants.{Done, Stuck, Budget, TurnsFull}
 use Rattle.jos_kernel.specs.declared.report.Turn.{Turn}
 use Rattle.jos_kernel.specs.declared.trace.TrapLine.{TrapLine}
-use Rattle.jos_kernel.specs.Books.{traced}
+use Rattle.jos_kernel.specs.Books.{turn_of, traced}
 use Rattle.lib_os.specs.declared.progress.Progress.{Progress}
+use Rattle.jos_kernel.proofs.TrapsKept.{kept_more}
 use Rattle.lib_os.proofs.Slots.{slot_put}
-use Rattle.jos_run.specs.LibraryRuns.{turn_of, seen_after, hidden_after, others_live, end_seen}
+use Rattle.jos_run.specs.LibraryRuns.{visible_steps, hidden_steps, others_live, end_seen}
 use Rattle.jos_run.specs.RunSteps.{StepMade, passed, IsMade, LeadTo, one_if, traps_of, written_in, with_step, with_last_step, counted_in, turns_with, is_in_turn, end_at}
 
 -- ---- one behind the other
@@ -50,18 +51,6 @@ traps_further [] more = refl
 traps_further (step ∷ rest) more =
     ap (λ (l : List TrapLine). one_if step.trap ++ l) (traps_further rest more)
     ∙ sym (append_assoc (one_if step.trap) (traps_of rest) (traps_of more))
-
--- of the last of them and one more those are kept that are kept of all
-kept_more : {X : Type 0} (n : ℕ) (xs : List X) (x : X) → keep_last n (keep_last n xs ++ x ∷ []) ≡ keep_last n (xs ++ x ∷ [])
-kept_more n xs x =
-    let k = length xs - n in
-    let part : drop k xs ++ x ∷ [] ≡ drop k (xs ++ x ∷ []) = sym (drop-append-le k xs (x ∷ []) (omega arith)) in
-    let whole : length (xs ++ x ∷ []) ≡ length xs + 1 = length-append xs (x ∷ []) in
-    let left : length (drop k (xs ++ x ∷ [])) ≡ length (xs ++ x ∷ []) - k = length-drop k (xs ++ x ∷ []) in
-    let at : k + (length (drop k (xs ++ x ∷ [])) - n) ≡ length (xs ++ x ∷ []) - n = omega (arith, whole, left) in
-    ap (keep_last n) part
-    ∙ drop-drop (length (drop k (xs ++ x ∷ [])) - n) k (xs ++ x ∷ [])
-    ∙ ap (λ (j : ℕ). drop j (xs ++ x ∷ [])) at
 
 traced_more : (most : ℕ) (traps : List TrapLine) (raised : Option TrapLine) →
     traced (buffer (keep_last most traps) most) raised ≡ buffer (keep_last most (traps ++ one_if raised)) most
@@ -122,13 +111,13 @@ with_last (first ∷ next ∷ rest) turn progress = ap (λ (l : List Turn). firs
 pub turn_longer : (begins : Bool) (turns : List Turn) (step : StepMade) (slot visible hidden : ℕ) → step.begins ≡ begins →
     (begins ≡ true → (slot ≡ step.slot) × (visible ≡ 0) × (hidden ≡ 0)) →
     turns_with (if begins then turns else turns ++ turn_of slot visible hidden ∷ []) (step ∷ [])
-    ≡ turns ++ turn_of slot (seen_after step.progress visible) (hidden_after step.progress hidden) ∷ []
+    ≡ turns ++ turn_of slot (visible + visible_steps step.progress) (hidden + hidden_steps step.progress) ∷ []
 unfolding turns_with
 turn_longer true turns step slot visible hidden is begun =
     let new = begun refl in
     ap (λ (c : Bool). with_last_step (if c then turns ++ turn_of step.slot 0 0 ∷ [] else turns) step.progress) is
     ∙ with_last turns (turn_of step.slot 0 0) step.progress
-    ∙ (λ i. turns ++ turn_of (sym new.0 i) (seen_after step.progress (sym new.1 i)) (hidden_after step.progress (sym new.2 i)) ∷ [])
+    ∙ (λ i. turns ++ turn_of (sym new.0 i) (sym new.1 i + visible_steps step.progress) (sym new.2 i + hidden_steps step.progress) ∷ [])
 turn_longer false turns step slot visible hidden is begun =
     let all = turns ++ turn_of slot visible hidden ∷ [] in
     ap (λ (c : Bool). with_last_step (if c then all ++ turn_of step.slot 0 0 ∷ [] else all) step.progress) is

@@ -15,6 +15,7 @@ use Rattle.jos_sched.specs.Quantum.{quantum}
 use Rattle.jos_sched.specs.RoundRobin.{next}
 use Rattle.jos_sched.proofs.RoundRobin.{next_runs}
 use Rattle.jos_kernel.specs.declared.report.Turn.{Turn}
+use Rattle.jos_kernel.specs.Books.{turn_of}
 use Rattle.lib_os.specs.declared.place.Place.{Place}
 use Rattle.lib_os.specs.declared.place.Place.TheVariants as place
 use Rattle.lib_os.specs.declared.place.Step.{Step}
@@ -32,7 +33,7 @@ use Rattle.lib_os.proofs.SlotsStand.{born_at}
 use Rattle.lib_os.proofs.StatesStand.{turn_begun_stands, turn_ended_stands}
 use Rattle.jos_run.specs.AbstractTurns.{turn_begun, steps_taken, abs_run, waits_in, stands_waiting}
 use Rattle.jos_run.specs.AbstractTurns.{yields_in, is_yielding, has_yielded, has_yielded_after, may_end, turn_fits, fits, all_fit}
-use Rattle.jos_run.specs.LibraryRuns.{NoneRuns, OnlyRuns, turn_of, IsBetween, IsInTurn, seen_after}
+use Rattle.jos_run.specs.LibraryRuns.{NoneRuns, OnlyRuns, IsBetween, IsInTurn, visible_steps}
 use Rattle.jos_run.proofs.Choices.{runs_stand, next_stands, begun_only, ended_none}
 use Rattle.jos_run.proofs.TurnsTaken.{run_with_turn, taken_is, no_steps, one_more_step, all_fit_append, fits_append, all_fit_fits}
 use Rattle.std.proofs.Math.Bool.{or-true}
@@ -94,13 +95,13 @@ turn_begins {s = s} h n chosen =
 -- one that nobody sees
 unfoldable pub step_hidden : {schedule : List ℕ} {first : AbstractState} {turns : List Turn} {n visible : ℕ} {s after : KernelState}
     {written : List ℕ} (bytes : List ℕ) → (h : IsInTurn schedule first turns n visible s written) → Stays after h.now bytes → OnlyRuns after n →
-    IsInTurn schedule first turns n visible after (written ++ bytes)
-step_hidden {first = first} {written = written} bytes h stays only = record {
+    IsInTurn schedule first turns n (visible + 0) after (written ++ bytes)
+step_hidden {first = first} {n = n} {visible = visible} {written = written} bytes h stays only = record {
   before = h.before;
   ran = h.ran;
   chosen = h.chosen;
   now = h.now;
-  taken = h.taken;
+  taken = (let same : visible + 0 ≡ visible = omega arith in ap (λ (k : ℕ). steps_taken (turn_begun h.before n) n k) same ∙ h.taken);
   stands = stays.1;
   console = h.console ∙ ap (λ (l : List ℕ). first.console ++ l) (sym (append-nil written) ∙ ap (λ (l : List ℕ). written ++ l) (sym stays.0));
   only = only;
@@ -127,7 +128,7 @@ step_visible {first = first} {n = n} {visible = visible} {written = written} byt
 pub step_kept : {schedule : List ℕ} {first : AbstractState} {turns : List Turn} {n visible : ℕ} {s after : KernelState}
     {written : List ℕ} (bytes : List ℕ) → IsInTurn schedule first turns n visible s written → (progress : Progress) →
     Keeps progress n s after bytes → NothingRefused s after → OnlyRuns after n →
-    IsInTurn schedule first turns n (seen_after progress visible) after (written ++ bytes)
+    IsInTurn schedule first turns n (visible + visible_steps progress) after (written ++ bytes)
 step_kept bytes h progress.Hidden keeps none_refused only = step_hidden bytes h (keeps h.now h.stands none_refused) only
 step_kept bytes h progress.Waited keeps none_refused only = step_hidden bytes h (keeps h.now h.stands none_refused).0 only
 step_kept bytes h progress.Visible keeps none_refused only = step_visible bytes h (keeps h.now h.stands none_refused) only

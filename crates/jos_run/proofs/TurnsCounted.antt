@@ -11,15 +11,16 @@ use Rattle.jos_base.specs.Environments.{is_running}
 use Rattle.jos_base.specs.KernelState.{KernelState, slot_at, with_status, turn_ended}
 use Rattle.jos_sched.specs.Quantum.{quantum}
 use Rattle.jos_kernel.specs.declared.report.Turn.{Turn}
+use Rattle.jos_kernel.specs.Books.{turn_of, made, HasRoom, HasStepsLeft}
 use Rattle.lib_os.specs.declared.progress.Progress.{Progress}
 use Rattle.jos_run.specs.declared.library_run.LibraryRun.{LibraryRun}
-use Rattle.jos_run.specs.LibraryRuns.{turn_of}
+use Rattle.jos_run.specs.LibraryRuns.{visible_steps, hidden_steps}
 use Rattle.jos_run.specs.RunReports.{steps_of}
 use Rattle.jos_run.specs.RunSteps.{is_in_turn}
-use Rattle.jos_run.specs.Running.{state_of, made, turns_so_far, Holds, made_after, goes_on_after, turn_after, CountedBy, Counted}
+use Rattle.jos_run.specs.Running.{state_of, turns_so_far, Holds, goes_on_after, turn_after, CountedBy}
 use Rattle.jos_run.proofs.Refusals.{steps_append, no_steps_yet}
 use Rattle.jos_run.proofs.RunSteps.{ended_idle}
-use Rattle.jos_run.proofs.StepsMade.{none_made, more_made, told_turns, entered_last, entered_turns, Makes}
+use Rattle.jos_run.proofs.StepsMade.{none_made, told_turns, entered_last, entered_turns, Makes, CountsStep, some_step}
 use Rattle.std.proofs.lemmas.Bool.{and_parts}
 
 -- ---- the beginning
@@ -31,16 +32,16 @@ some_last n o is within m at =
 no_last : (o : Option ℕ) → o ≡ None → ForSome o (λ m. m < NENV)
 no_last o is m at = absurd (let contradiction : ◌≡◌ {A = Option ℕ} None (Some m) = sym is ∙ at in cc)
 
-pub begun_holds : (r : LibraryRun) → TURN_MAX ≤ vec_capacity r.turns → r.turns.items ≡ [] → made r ≡ 0 → (state_of r).turns ≡ 0 →
-    (state_of r).last ≡ None → r.steps ≡ 0 → Holds r
+pub begun_holds : (r : LibraryRun) → HasRoom r.book → r.book.turns.items ≡ [] → made r.book ≡ 0 → (state_of r).turns ≡ 0 →
+    (state_of r).last ≡ None → r.book.steps ≡ 0 → Holds r
 begun_holds r room empty none turns last steps =
-    let test : true ≡ (made r == 0) = grind (arith, nat_tests) in
-    let long : vec_len r.turns ≡ 0 = r.turns.ok.0 ∙ ap (λ (l : List Turn). length l) empty in
-    let told : turns_so_far r ≡ r.turns.items =
-    ap (λ (c : Bool). if c then r.turns.items else r.turns.items ++ turn_of r.served.slot r.visible r.hidden ∷ []) (sym test) in
+    let test : true ≡ (made r.book == 0) = grind (arith, nat_tests) in
+    let long : vec_len r.book.turns ≡ 0 = r.book.turns.ok.0 ∙ ap (λ (l : List Turn). length l) empty in
+    let told : turns_so_far r ≡ r.book.turns.items =
+    ap (λ (c : Bool). if c then r.book.turns.items else r.book.turns.items ++ turn_of r.served.slot r.book.visible r.book.hidden ∷ []) (sym test) in
     record {
-      has_room = record { room = room; most = omega (arith, long); place = λ some. absurd (omega (arith, none, some)); small = omega (arith, none) };
-      turns = subst (λ (c : Bool). (state_of r).turns ≡ (if c then vec_len r.turns else vec_len r.turns + 1)) test (turns ∙ sym long);
+      has_room = room;
+      turns = subst (λ (c : Bool). (state_of r).turns ≡ (if c then vec_len r.book.turns else vec_len r.book.turns + 1)) test (turns ∙ sym long);
       left = λ some. absurd (omega (arith, none, some));
       running = λ some. absurd (omega (arith, none, some));
       current = λ some. absurd (omega (arith, none, some));
@@ -61,89 +62,80 @@ ended_turns s n = by_test (is_running (slot_at s n).status)
 
 -- what a turn keeps in which a step is counted
 pub record InTurn (r : LibraryRun) : Type 0 where
-  pub turns : (state_of r).turns ≡ vec_len r.turns + 1
+  pub turns : (state_of r).turns ≡ vec_len r.book.turns + 1
   pub last : (state_of r).last ≡ Some r.served.slot
   pub within : r.served.slot < NENV
-  pub place : vec_len r.turns < TURN_MAX
-  pub small : quantum r.schedule (length r.turns.items) < 2 ^ 31
-  pub steps : r.steps ≡ steps_of r.turns.items + made r
+  pub steps : r.book.steps ≡ steps_of r.book.turns.items + made r.book
 
-pub counted_holds : (c : Bool) (old new : LibraryRun) (done : Progress) → CountedBy c old new done → goes_on_after old done ≡ c →
-    InTurn old →
-    TURN_MAX ≤ vec_capacity new.turns → Holds new
-counted_holds true old new done k goes_on t room =
-    let grown : made_after old done ≡ made old + 1 = more_made done old.visible old.hidden in
-    let now_made : made new ≡ made_after old done = λ i. k.visible i + k.hidden i in
-    let test : false ≡ (made new == 0) = grind (arith, nat_tests) in
-    let long : vec_len new.turns ≡ vec_len old.turns =
-    new.turns.ok.0 ∙ ap (λ (l : List Turn). length l) k.turns ∙ sym old.turns.ok.0 in
+pub counted_holds : (c : Bool) (old new : LibraryRun) (visible hidden : ℕ) → 0 < visible + hidden → CountedBy c old new visible hidden →
+    goes_on_after old (visible + hidden) ≡ c → InTurn old → HasRoom new.book → HasStepsLeft new.book → Holds new
+counted_holds true old new visible hidden more k goes_on t room left =
+    let now_made : made new.book ≡ (old.book.visible + visible) + (old.book.hidden + hidden) =
+    (λ i. k.book.visible_are i + k.book.hidden_are i) in
+    let test : false ≡ (made new.book == 0) = grind (arith, nat_tests) in
+    let long : vec_len new.book.turns ≡ vec_len old.book.turns =
+    new.book.turns.ok.0 ∙ ap (λ (l : List Turn). length l) k.book.turns ∙ sym old.book.turns.ok.0 in
     let parts = and_parts (is_running (slot_at (state_of old) old.served.slot).status)
-    (nat_lt (made_after old done) (quantum old.schedule (length old.turns.items)))
+    (nat_lt (made old.book + (visible + hidden)) (quantum old.book.schedule (length old.book.turns.items)))
     goes_on in
-    let below : made_after old done < quantum old.schedule (length old.turns.items) = (let is = parts.1 in grind (arith, nat_tests)) in
-    let limit : quantum new.schedule (length new.turns.items) ≡ quantum old.schedule (length old.turns.items) =
-    λ i. quantum (k.schedule i) (length (k.turns i)) in
-    let told : steps_of (turns_so_far new) ≡ steps_of old.turns.items + made_after old done =
-    ap (λ (l : List Turn). steps_of l) (told_turns true old new done k) ∙ steps_append old.turns.items (turn_after old done) in
-    let all : new.steps ≡ old.steps + 1 = k.steps_are in
-    let before : old.steps ≡ steps_of old.turns.items + made old = t.steps in
+    let told : steps_of (turns_so_far new) ≡ steps_of old.book.turns.items + ((old.book.visible + visible) + (old.book.hidden + hidden)) =
+    ap (λ (l : List Turn). steps_of l) (told_turns true old new visible hidden more k)
+    ∙ steps_append old.book.turns.items (turn_after old visible hidden) in
+    let all : new.book.steps ≡ old.book.steps + (visible + hidden) = k.book.steps in
+    let before : old.book.steps ≡ steps_of old.book.turns.items + made old.book = t.steps in
     record {
-      has_room = record { room = room; most = omega (arith, long, t.place); place = λ some. omega (arith, long, t.place); small = omega (arith, now_made, below, t.small) };
-      turns = subst (λ (b : Bool). (state_of new).turns ≡ (if b then vec_len new.turns else vec_len new.turns + 1)) test
+      has_room = room;
+      left = left;
+      turns = subst (λ (b : Bool). (state_of new).turns ≡ (if b then vec_len new.book.turns else vec_len new.book.turns + 1)) test
           ((λ i. (k.state i).turns) ∙ t.turns ∙ ap (λ (n : ℕ). n + 1) (sym long));
-      left = λ some. omega (arith, now_made, below, limit);
       running = λ some. (λ i. is_running (slot_at (k.state i) (k.slot i)).status) ∙ parts.0;
       current = λ some. (λ i. (k.state i).last) ∙ t.last ∙ ap (λ (n : ℕ). Some n) (sym k.slot);
       last = some_last old.served.slot (state_of new).last ((λ i. (k.state i).last) ∙ t.last) t.within;
-      between = λ so. absurd (omega (arith, now_made, grown, so));
-      steps = omega (arith, told, all, before, grown);
+      between = λ so. absurd (omega (arith, now_made, more, so));
+      steps = omega (arith, told, all, before);
     }
-counted_holds false old new done k goes_on t room =
-    let grown : made_after old done ≡ made old + 1 = more_made done old.visible old.hidden in
-    let none : made new ≡ 0 = λ i. k.visible i + k.hidden i in
-    let test : true ≡ (made new == 0) = grind (arith, nat_tests) in
+counted_holds false old new visible hidden more k goes_on t room left =
+    let none : made new.book ≡ 0 = (λ i. k.book.visible_are i + k.book.hidden_are i) in
+    let test : true ≡ (made new.book == 0) = grind (arith, nat_tests) in
     let ended = ended_turns (state_of old) old.served.slot in
-    let long : vec_len new.turns ≡ vec_len old.turns + 1 =
-    new.turns.ok.0 ∙ ap (λ (l : List Turn). length l) k.turns ∙ length-append old.turns.items (turn_after old done ∷ [])
-    ∙ ap (λ (n : ℕ). n + 1) (sym old.turns.ok.0) in
-    let told : steps_of (turns_so_far new) ≡ steps_of old.turns.items + made_after old done =
-    ap (λ (l : List Turn). steps_of l) (told_turns false old new done k) ∙ steps_append old.turns.items (turn_after old done) in
-    let all : new.steps ≡ old.steps + 1 = k.steps_are in
-    let before : old.steps ≡ steps_of old.turns.items + made old = t.steps in
+    let long : vec_len new.book.turns ≡ vec_len old.book.turns + 1 =
+    new.book.turns.ok.0 ∙ ap (λ (l : List Turn). length l) k.book.turns
+    ∙ length-append old.book.turns.items (turn_after old visible hidden ∷ [])
+    ∙ ap (λ (n : ℕ). n + 1) (sym old.book.turns.ok.0) in
+    let told : steps_of (turns_so_far new) ≡ steps_of old.book.turns.items + ((old.book.visible + visible) + (old.book.hidden + hidden)) =
+    ap (λ (l : List Turn). steps_of l) (told_turns false old new visible hidden more k)
+    ∙ steps_append old.book.turns.items (turn_after old visible hidden) in
+    let all : new.book.steps ≡ old.book.steps + (visible + hidden) = k.book.steps in
+    let before : old.book.steps ≡ steps_of old.book.turns.items + made old.book = t.steps in
     record {
-      has_room = record { room = room; most = omega (arith, long, t.place); place = λ some. absurd (omega (arith, none, some)); small = omega (arith, none) };
-      turns = subst (λ (b : Bool). (state_of new).turns ≡ (if b then vec_len new.turns else vec_len new.turns + 1)) test
+      has_room = room;
+      left = left;
+      turns = subst (λ (b : Bool). (state_of new).turns ≡ (if b then vec_len new.book.turns else vec_len new.book.turns + 1)) test
           ((λ i. (k.state i).turns) ∙ ended.0 ∙ t.turns ∙ sym long);
-      left = λ some. absurd (omega (arith, none, some));
       running = λ some. absurd (omega (arith, none, some));
       current = λ some. absurd (omega (arith, none, some));
       last = some_last old.served.slot (state_of new).last ((λ i. (k.state i).last) ∙ ended.1 ∙ t.last) t.within;
       between = λ so. (λ i. is_in_turn (k.state i) (k.state i).last) ∙ ended_idle (state_of old) old.served.slot t.last;
-      steps = omega (arith, told, all, before, grown);
+      steps = omega (arith, told, all, before);
     }
 
 -- the steps that are told, with those of the turn under way
-steps_told : (r : LibraryRun) → steps_of (turns_so_far r) ≡ steps_of r.turns.items + made r
-steps_told r = by_test (made r == 0) refl
+steps_told : (r : LibraryRun) → steps_of (turns_so_far r) ≡ steps_of r.book.turns.items + made r.book
+steps_told r = by_test (made r.book == 0) refl
   where
-    by_test : (c : Bool) → (made r == 0) ≡ c →
-        steps_of (if c then r.turns.items else r.turns.items ++ turn_of r.served.slot r.visible r.hidden ∷ []) ≡ steps_of
-        r.turns.items + made r
-    by_test true is = let none : made r ≡ 0 = none_made r is in omega arith
-    by_test false is = steps_append r.turns.items (turn_of r.served.slot r.visible r.hidden)
+    by_test : (c : Bool) → (made r.book == 0) ≡ c →
+        steps_of (if c then r.book.turns.items else r.book.turns.items ++ turn_of r.served.slot r.book.visible r.book.hidden ∷ []) ≡ steps_of
+        r.book.turns.items + made r.book
+    by_test true is = let none : made r.book ≡ 0 = none_made r is in omega arith
+    by_test false is = steps_append r.book.turns.items (turn_of r.served.slot r.book.visible r.book.hidden)
 
 pub step_holds : (r m after : LibraryRun) (n : ℕ) (done : Progress) (bytes : List ℕ) → Makes r m n done bytes →
-    quantum r.schedule (length r.turns.items) < 2 ^ 31 → Counted m after done → TURN_MAX ≤ vec_capacity after.turns → Holds after
-step_holds r m after n done bytes k small counts room =
-    let told : r.steps ≡ steps_of r.turns.items + made r = k.holds.steps ∙ steps_told r in
-    counted_holds (goes_on_after m done) m after done counts refl (record {
-      turns = k.rest.turns ∙ entered_turns r n k.holds ∙ (λ i. vec_len (sym k.turns i) + 1);
+    CountsStep m after done → HasRoom after.book → HasStepsLeft after.book → Holds after
+step_holds r m after n done bytes k counts room left =
+    let told : r.book.steps ≡ steps_of r.book.turns.items + made r.book = k.holds.steps ∙ steps_told r in
+    counted_holds _ m after (visible_steps done) (hidden_steps done) (some_step done) counts refl (record {
+      turns = k.rest.turns ∙ entered_turns r n k.holds ∙ (λ i. vec_len (sym k.book i).turns + 1);
       last = k.rest.last ∙ entered_last r n k.holds k.chosen ∙ ap (λ (x : ℕ). Some x) (sym k.slot);
       within = subst (λ (x : ℕ). x < NENV) (sym k.slot) k.chosen.within;
-      place = less_by (λ i. vec_len (k.turns i)) k.chosen.room;
-      small = less_by (λ i. quantum (k.schedule i) (length (k.turns i).items)) small;
-      steps = k.steps ∙ told ∙ (λ i. steps_of (sym k.turns i).items + (sym k.visible i + sym k.hidden i));
-    }) room
-  where
-    less_by : {x y bound : ℕ} → x ≡ y → y < bound → x < bound
-    less_by {bound = bound} same below = subst (λ (z : ℕ). z < bound) (sym same) below
+      steps = (λ i. (k.book i).steps) ∙ told ∙ (λ i. steps_of (sym k.book i).turns.items + made (sym k.book i));
+    }) room left

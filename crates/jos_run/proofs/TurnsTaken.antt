@@ -6,11 +6,11 @@ use Rattle.std.specs.Prelude.{nat_le, nat_lt, unwrap_or}
 use Rattle.std.proofs.lemmas.Bool.Decides.{nat_tests}
 use Rattle.jos_sched.specs.Quantum.{quantum}
 use Rattle.jos_kernel.specs.declared.report.Turn.{Turn}
+use Rattle.jos_kernel.specs.Books.{turn_of}
 use Rattle.lib_os.specs.AbstractState.{AbstractState}
 use Rattle.lib_os.specs.AbstractRun.{abs_step}
 use Rattle.jos_run.specs.AbstractTurns.{next_slot, turn_begun, and_then, steps_taken, is_chosen, turn_taken, abs_run}
 use Rattle.jos_run.specs.AbstractTurns.{may_end, turn_fits, is_empty, holds_of, fits, all_fit}
-use Rattle.jos_run.specs.LibraryRuns.{turn_of}
 use Rattle.std.proofs.lemmas.Bool.{and_parts, and_from}
 
 -- ---- one behind the other

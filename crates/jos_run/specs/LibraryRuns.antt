@@ -1,6 +1,6 @@
 -- Where a run of the library's programs stands, between two turns and in one: the abstract system has made the turns so far,
 -- with the visible steps of the turn under way, and the kernel's state stands for where it has come to.
-use Rattle.std.specs.Prelude.{◌≡◌, ◌≢◌, ℕ, ◌+◌, ◌==◌, ◌&&◌, nat_le, not, Bool, true, false, List, ◌++◌}
+use Rattle.std.specs.Prelude.{◌≡◌, ◌≢◌, ℕ, ◌==◌, ◌&&◌, nat_le, not, Bool, true, false, List, ◌++◌}
 use Rattle.std.specs.Prelude.{Option, Some, None, is_none, if◌then◌else◌}
 use Rattle.jos_base.specs.declared.environment.EnvType.{EnvType}
 use Rattle.jos_base.specs.declared.environment.EnvType.TheVariants.{User, FileServer}
@@ -36,11 +36,6 @@ is_user FileServer = false
 abbrev pub OnlyFirstServes : KernelState → Type 0
 OnlyFirstServes s = (n : ℕ) → n ≢ 0 → is_user (slot_at s n).env_type ≡ true
 
--- ---- turns
-
-abbrev pub turn_of : ℕ → ℕ → ℕ → Turn
-turn_of n visible hidden = record { slot = n; visible = visible; hidden = hidden }
-
 -- ---- where a run stands
 
 -- After these turns, and in none: these bytes were written.
@@ -66,21 +61,21 @@ pub record IsInTurn (schedule : List ℕ) (first : AbstractState) (turns : List 
 
 -- ---- steps
 
--- the visible steps of a turn after one that has come to this
-abbrev pub seen_after : Progress → ℕ → ℕ
-seen_after progress.Hidden visible = visible
-seen_after progress.Waited visible = visible
-seen_after progress.Visible visible = visible + 1
-seen_after progress.Finished visible = visible + 1
-seen_after progress.Ended visible = visible + 1
+-- A step that has come to this is a visible one or a hidden one: how many visible steps it is,
+abbrev pub visible_steps : Progress → ℕ
+visible_steps progress.Hidden = 0
+visible_steps progress.Waited = 0
+visible_steps progress.Visible = 1
+visible_steps progress.Finished = 1
+visible_steps progress.Ended = 1
 
--- and the others
-abbrev pub hidden_after : Progress → ℕ → ℕ
-hidden_after progress.Hidden hidden = hidden + 1
-hidden_after progress.Waited hidden = hidden + 1
-hidden_after progress.Visible hidden = hidden
-hidden_after progress.Finished hidden = hidden
-hidden_after progress.Ended hidden = hidden
+-- and how many hidden ones
+abbrev pub hidden_steps : Progress → ℕ
+hidden_steps progress.Hidden = 1
+hidden_steps progress.Waited = 1
+hidden_steps progress.Visible = 0
+hidden_steps progress.Finished = 0
+hidden_steps progress.Ended = 0
 
 -- ---- the end
 

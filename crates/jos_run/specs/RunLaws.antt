@@ -1,15 +1,16 @@
 -- What turns of the kernel are to the abstract system: the same slot is chosen, the same end test holds, and a run goes on
 -- from turn to turn and from step to step as the abstract run does.
-use Rattle.std.specs.Prelude.{◌≡◌, ℕ, true, Bool, List, [], ◌∷◌, ◌++◌, length, false, Some}
+use Rattle.std.specs.Prelude.{◌≡◌, ℕ, ◌+◌, true, Bool, List, [], ◌∷◌, ◌++◌, length, false, Some}
 use Rattle.jos_base.specs.KernelState.{KernelState, turn_begun, turn_ended}
 use Rattle.jos_sched.specs.RoundRobin.{next}
 use Rattle.jos_kernel.specs.declared.report.Turn.{Turn}
+use Rattle.jos_kernel.specs.Books.{turn_of}
 use Rattle.lib_os.specs.declared.progress.Progress.{Progress}
 use Rattle.lib_os.specs.AbstractState.{AbstractState}
 use Rattle.lib_os.specs.LibrarySteps.{Stands, Keeps, NothingRefused}
 use Rattle.lib_os.specs.StandsFor.{StandsFor, Names}
 use Rattle.jos_run.specs.AbstractTurns.{next_slot, end_of, turn_fits, fits}
-use Rattle.jos_run.specs.LibraryRuns.{NoneRuns, OnlyRuns, OnlyFirstServes, turn_of, IsBetween, IsInTurn, seen_after, end_seen}
+use Rattle.jos_run.specs.LibraryRuns.{NoneRuns, OnlyRuns, OnlyFirstServes, IsBetween, IsInTurn, visible_steps, end_seen}
 
 -- Between two turns the kernel chooses the slot that the abstract system chooses.
 abbrev pub ChoicesAgree : Type 0
@@ -37,7 +38,7 @@ abbrev pub StepsLeadOn : Type 0
 StepsLeadOn = (schedule : List ℕ) (first : AbstractState) (turns : List Turn) (n visible : ℕ) (s after : KernelState)
     (written bytes : List ℕ) → IsInTurn schedule first turns n visible s written → (progress : Progress) →
     Keeps progress n s after bytes → NothingRefused s after → OnlyRuns after n →
-    IsInTurn schedule first turns n (seen_after progress visible) after (written ++ bytes)
+    IsInTurn schedule first turns n (visible + visible_steps progress) after (written ++ bytes)
 
 -- A turn that fits ends.
 abbrev pub TurnsEnd : Type 0

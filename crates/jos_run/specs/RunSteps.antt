@@ -1,5 +1,5 @@
 -- A run as the states of the kernel tell it: the steps that were made, the traps that programs raised in them, and the end.
-use Rattle.std.specs.Prelude.{◌≡◌, ℕ, ◌==◌, ◌++◌, Bool, true, false, List, [], ◌∷◌, length, Option, Some, None, Ok, if◌then◌else◌}
+use Rattle.std.specs.Prelude.{◌≡◌, ℕ, ◌+◌, ◌==◌, ◌++◌, Bool, true, false, List, [], ◌∷◌, length, Option, Some, None, Ok, if◌then◌else◌}
 use Rattle.circular_buffer.specs.Buffer.{keep_last}
 use Rattle.jos_base.specs.Environments.{is_running}
 use Rattle.jos_base.specs.KernelState.{KernelState, slot_at, turn_begun, turn_ended}
@@ -8,11 +8,12 @@ use Rattle.jos_kernel.specs.declared.report.End.{End}
 use Rattle.jos_kernel.specs.declared.report.End.TheVariants.{Budget}
 use Rattle.jos_kernel.specs.declared.report.Turn.{Turn}
 use Rattle.jos_kernel.specs.declared.trace.TrapLine.{TrapLine}
+use Rattle.jos_kernel.specs.Books.{turn_of}
 use Rattle.jos_kernel.specs.Reports.{Reported}
 use Rattle.lib_os.specs.declared.progress.Progress.{Progress}
 use Rattle.lib_os.specs.LibrarySteps.{Keeps, Leaves}
 use Rattle.lib_os.specs.Places.{place_of}
-use Rattle.jos_run.specs.LibraryRuns.{turn_of, seen_after, hidden_after, end_seen}
+use Rattle.jos_run.specs.LibraryRuns.{visible_steps, hidden_steps, end_seen}
 use Rattle.jos_run.specs.Steps.{Raises}
 
 -- ---- steps
@@ -68,7 +69,7 @@ written_in (step ∷ rest) = step.written ++ written_in rest
 -- a turn with one more step
 abbrev pub with_step : Turn → Progress → Turn
 with_step turn progress =
-    turn_of turn.slot (seen_after progress turn.visible) (hidden_after progress turn.hidden)
+    turn_of turn.slot (turn.visible + visible_steps progress) (turn.hidden + hidden_steps progress)
 
 -- the same of the last turn of a list
 unfoldable pub with_last_step : List Turn → Progress → List Turn

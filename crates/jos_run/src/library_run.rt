@@ -1,7 +1,7 @@
 //! A run of the library's programs: steps and turns.
 
-ghost use Rattle.std.specs.Prelude.{◌≡◌, ◌<◌, ◌≤◌, ◌+◌, ◌-◌, ◌^◌, ◌==◌, ◌++◌, ◌∷◌, ℕ, List, [], Some, None, IfOk, IfErr, OnOk, OnErr};
-ghost use Rattle.std.specs.Prelude.{true, false, not, length, vec_len, vec_capacity};
+ghost use Rattle.std.specs.Prelude.{◌≡◌, ◌<◌, ◌≤◌, ◌+◌, ◌-◌, ◌^◌, ℕ, List, [], Some, None, IfOk, IfErr, OnOk, OnErr};
+ghost use Rattle.std.specs.Prelude.{true, false, length, vec_len, vec_capacity};
 ghost use Rattle.jos_host.specs.Told.{HasCause};
 ghost use Rattle.jos_host.specs.Frames.{Unchanged, around, from_to};
 ghost use Rattle.jos_base.specs.declared.numbers.TheConstants.{TURN_MAX, NENV};
@@ -9,21 +9,19 @@ ghost use Rattle.jos_base.specs.Environments.{is_running};
 ghost use Rattle.jos_base.specs.KernelState.{slot_at};
 ghost use Rattle.jos_sched.specs.Quantum.{quantum};
 ghost use Rattle.jos_sched.specs.RoundRobin.{next};
-ghost use Rattle.jos_kernel.specs.Books.{traced};
+ghost use Rattle.jos_kernel.specs.Books.{made, HasRoom, HasStepsLeft};
 ghost use Rattle.jos_kernel.specs.declared.report.End.TheVariants.{Budget};
 ghost use Rattle.lib_os.specs.AbstractState.{AbstractState};
 ghost use Rattle.lib_os.specs.LibrarySteps.{Stands};
 ghost use Rattle.jos_run.specs.Begun.{IsNew};
-ghost use Rattle.jos_run.specs.LibraryRuns.{turn_of, others_live, end_seen, seen_after, hidden_after};
+ghost use Rattle.jos_run.specs.LibraryRuns.{others_live, end_seen, visible_steps, hidden_steps};
 ghost use Rattle.jos_run.specs.Served.{kernel_state};
-ghost use Rattle.jos_run.specs.RunReports.{steps_of};
-ghost use Rattle.jos_run.specs.Running.{state_of, made, HasRoom, Holds, Runs, IsChosen, entered, noted, Counted};
+ghost use Rattle.jos_run.specs.Running.{state_of, Holds, Runs, IsChosen, entered, Counted};
 ghost use Rattle.jos_run.specs.Running.{Advances, HasRun, turns_so_far, report_of, cut_off_of};
 
 use crate::served::Served;
-use jos_base::TURN_MAX;
 use jos_host::{Failed, Host};
-use jos_kernel::{End, Refusal, Report, Stopped, Trace, TrapLine, Turn};
+use jos_kernel::{Book, End, Report, Stopped, Trace, Turn};
 use jos_sched::Schedule;
 use lib_os::Progress;
 
@@ -31,38 +29,27 @@ use lib_os::Progress;
 #[derive(Drop)]
 pub(crate) struct LibraryRun {
     served: Served,
-    schedule: Schedule,
-    /// The turns that are over.
-    turns: Vec<Turn>,
-    /// The steps of the turn under way that the abstract system makes too, and the others; 0 where none is.
-    visible: u32,
-    hidden: u32,
-    /// All steps.
-    steps: u64,
-    first_refused: Option<Refusal>,
-    /// The last traps.
-    trace: Trace,
+    /// The turn under way is that of the environment that is served.
+    book: Book,
 }
 
-/// The steps of a turn that the abstract system makes too, with one that has come to this.
-fn seen_after(progress: Progress, visible: u32) -> u32
-    requires { visible < 2 ^ 31 }
-    ensures { result ≡ seen_after progress visible }
+/// How many visible steps a step is that has come to this: one, or none.
+fn visible_steps(progress: Progress) -> u32
+    ensures { result ≡ visible_steps progress }
 {
     match progress {
-        Progress::Hidden | Progress::Waited => visible,
-        Progress::Visible | Progress::Finished | Progress::Ended => visible + 1,
+        Progress::Hidden | Progress::Waited => 0,
+        Progress::Visible | Progress::Finished | Progress::Ended => 1,
     }
 }
 
-/// The others of its steps.
-fn hidden_after(progress: Progress, hidden: u32) -> u32
-    requires { hidden < 2 ^ 31 }
-    ensures { result ≡ hidden_after progress hidden }
+/// How many hidden ones.
+fn hidden_steps(progress: Progress) -> u32
+    ensures { result ≡ hidden_steps progress }
 {
     match progress {
-        Progress::Hidden | Progress::Waited => hidden + 1,
-        Progress::Visible | Progress::Finished | Progress::Ended => hidden,
+        Progress::Hidden | Progress::Waited => 1,
+        Progress::Visible | Progress::Finished | Progress::Ended => 0,
     }
 }
 
@@ -80,23 +67,17 @@ impl LibraryRun {
         requires last { (kernel_state served).last ≡ None }
         requires written { served.written ≡ 0 }
         ensures state { state_of result ≡ kernel_state served }
-        ensures schedule { result.schedule ≡ schedule }
-        ensures steps { result.steps ≡ 0 }
+        ensures schedule { result.book.schedule ≡ schedule }
+        ensures steps { result.book.steps ≡ 0 }
         ensures told { turns_so_far result ≡ [] }
-        ensures trace { result.trace ≡ trace }
+        ensures trace { result.book.trace ≡ trace }
         ensures holds { Holds result }
         ensures runs { (first : AbstractState) (frames : ℕ) → Stands (kernel_state served) first → IsNew (kernel_state served) frames →
             Runs first frames result [] }
     {
         LibraryRun {
             served,
-            schedule,
-            turns,
-            visible: 0,
-            hidden: 0,
-            steps: 0,
-            first_refused: None,
-            trace,
+            book: Book::open(schedule, turns, trace),
         }
     }
 
@@ -116,10 +97,10 @@ impl LibraryRun {
     fn chosen(&self) -> Result<usize, End>
         requires { Holds self.now }
         ensures slot { IfOk result (IsChosen self.now) }
-        ensures over { IfErr result (λ end. made self.now ≡ 0) }
-        ensures end { IfErr result (λ end. end_seen (state_of self.now) (vec_len self.now.turns) false ≡ Some end) }
+        ensures over { IfErr result (λ end. made self.now.book ≡ 0) }
+        ensures end { IfErr result (λ end. end_seen (state_of self.now) (vec_len self.now.book.turns) false ≡ Some end) }
     {
-        if self.visible + self.hidden > 0 {
+        if self.book.made() > 0 {
             return Ok(self.served.slot());
         }
         let next = self.served.next_slot();
@@ -129,7 +110,7 @@ impl LibraryRun {
         match next {
             None => Err(End::Stuck),
             Some(slot) => {
-                if self.turns.len() >= TURN_MAX {
+                if self.book.is_full() {
                     Err(End::TurnsFull)
                 } else {
                     Ok(slot)
@@ -150,75 +131,29 @@ impl LibraryRun {
         ensures rest { self.new ≡ record self.old { served = self.new.served } }
     {
         self.served.serve(slot);
-        if self.visible + self.hidden == 0 {
+        if self.book.made() == 0 {
             self.served.begin_turn(slot);
         }
     }
 
-    /// Tells where something was refused first, if it was.
-    fn note_refusal(&mut self, refused: bool, printed: u64)
-        requires { vec_len self.old.turns < TURN_MAX }
-        ensures { self.new ≡ record self.old { first_refused = noted self.old.first_refused refused (vec_len self.old.turns) printed } }
+    /// Counts steps of the environment that is served, those that the abstract system makes too and the others, in a turn
+    /// of which so many were left, and ends it where it is over.
+    fn count_steps(&mut self, visible: u32, hidden: u32, left: u32)
+        requires room { HasRoom self.old.book }
+        requires place { vec_len self.old.book.turns < TURN_MAX }
+        requires steps { self.old.book.steps + (visible + hidden) < 2 ^ 64 }
+        requires left { made self.old.book + left ≡ quantum self.old.book.schedule (length self.old.book.turns.items) }
+        requires small { made self.old.book + left < 2 ^ 31 }
+        requires within { visible + hidden ≤ left }
+        ensures counted { Counted self.old self.new visible hidden }
+        ensures room { HasRoom self.new.book }
+        ensures left { HasStepsLeft self.new.book }
     {
-        if refused && self.first_refused.is_none() {
-            self.first_refused = Some(Refusal {
-                turn: self.turns.len() as u32,
-                console_len: printed,
-            });
-        }
-    }
-
-    /// Keeps a trap that was raised, if one was.
-    fn keep_trap(&mut self, raised: Option<TrapLine>)
-        ensures trace { self.new.trace ≡ traced self.old.trace raised }
-        ensures rest { self.new ≡ record self.old { trace = self.new.trace } }
-    {
-        if let Some(trap) = raised {
-            self.trace.push_back(trap);
-        }
-    }
-
-    /// Tells a turn of the environment that is served, with so many steps, as the last of those that are over.
-    fn tell_turn(&mut self, visible: u32, hidden: u32)
-        requires room { TURN_MAX ≤ vec_capacity self.old.turns }
-        requires place { vec_len self.old.turns < TURN_MAX }
-        ensures turns { self.new.turns.items ≡ self.old.turns.items ++ turn_of self.old.served.slot visible hidden ∷ [] }
-        ensures room { TURN_MAX ≤ vec_capacity self.new.turns }
-        ensures rest { self.new ≡ record self.old { turns = self.new.turns } }
-    {
-        self.turns
-            .push(Turn {
-                slot: self.served.slot() as u16,
-                visible,
-                hidden,
-            })
-            .unwrap();
-    }
-
-    /// Counts a step, which has come to this, in a turn of so many steps, and ends the turn where it is over.
-    fn count_step(&mut self, progress: Progress, limit: u32)
-        requires room { TURN_MAX ≤ vec_capacity self.old.turns }
-        requires place { vec_len self.old.turns < TURN_MAX }
-        requires limit { limit ≡ quantum self.old.schedule (length self.old.turns.items) }
-        requires left { made self.old < limit }
-        requires small { limit < 2 ^ 31 }
-        requires steps { self.old.steps + 1 < 2 ^ 64 }
-        ensures counted { Counted self.old self.new progress }
-        ensures room { TURN_MAX ≤ vec_capacity self.new.turns }
-    {
-        let visible = seen_after(progress, self.visible);
-        let hidden = hidden_after(progress, self.hidden);
-        self.steps += 1;
         let slot = self.served.slot();
-        if self.served.is_running_in(slot) && visible + hidden < limit {
-            self.visible = visible;
-            self.hidden = hidden;
-            return;
+        let running = self.served.is_running_in(slot);
+        if !self.book.count(slot, visible, hidden, left, running) {
+            self.served.end_turn(slot);
         }
-        self.tell_turn(visible, hidden);
-        self.visible = 0;
-        self.hidden = 0;
-        self.served.end_turn(slot);
     }
 
     /// Makes the next step of the environment in a slot, in the turn under way or in one that begins.
@@ -227,28 +162,30 @@ impl LibraryRun {
     /// A call of the host failed while the step wrote to the console.
     fn advance<H: Host>(&mut self, host: &mut H, slot: usize) -> Result<(), Failed>
         requires holds { Holds self.old }
-        requires steps { self.old.steps + 1 < 2 ^ 64 }
+        requires steps { self.old.book.steps + 1 < 2 ^ 64 }
         requires chosen { IsChosen self.old slot }
         ensures told { Advances 1 result (from_to self.old self.new) (around H.console host.old host.new) }
         ensures holds { OnOk result (Holds self.new) }
-        ensures room { OnErr result (HasRoom self.new) }
+        ensures room { OnErr result (HasRoom self.new.book) }
         ensures rest { Unchanged H.files H.input H.asked H.notes host.old host.new }
         ensures cause { HasCause (H.faults host.old) (H.faults host.new) result }
     {
-        let limit = self.schedule.quantum(self.turns.len() as u32);
+        let left = self.book.steps_left();
         self.enter_turn(slot);
         let refusals = self.served.refused();
         let printed = self.served.written();
         match self.served.step(host) {
             Ok(stepped) => {
                 let refused = self.served.refused() != refusals;
-                self.note_refusal(refused, printed);
-                self.keep_trap(stepped.trap);
-                self.count_step(stepped.progress, limit);
+                self.book.note_refusal(refused, printed);
+                self.book.keep_trap(stepped.trap);
+                let visible = visible_steps(stepped.progress);
+                let hidden = hidden_steps(stepped.progress);
+                self.count_steps(visible, hidden, left);
                 Ok(())
             }
             Err(failed) => {
-                self.visible += 1;
+                self.book.tell_failed_step();
                 Err(failed)
             }
         }
@@ -257,8 +194,8 @@ impl LibraryRun {
     /// The end of a run whose steps are used up.
     fn end_of_steps(&self) -> End
         requires { Holds self.now }
-        ensures between { made self.now ≡ 0 → end_seen (state_of self.now) (vec_len self.now.turns) true ≡ Some result }
-        ensures in_turn { 0 < made self.now → result ≡ Budget }
+        ensures between { made self.now.book ≡ 0 → end_seen (state_of self.now) (vec_len self.now.book.turns) true ≡ Some result }
+        ensures in_turn { 0 < made self.now.book → result ≡ Budget }
     {
         match self.chosen() {
             Ok(_) => End::Budget,
@@ -276,10 +213,10 @@ impl LibraryRun {
     /// A call of the host failed.
     pub(crate) fn go<H: Host>(&mut self, host: &mut H, budget: u64) -> Result<End, Failed>
         requires holds { Holds self.old }
-        requires steps { self.old.steps + budget < 2 ^ 64 }
+        requires steps { self.old.book.steps + budget < 2 ^ 64 }
         ensures told { HasRun budget result (from_to self.old self.new) (around H.console host.old host.new) }
         ensures holds { OnOk result (Holds self.new) }
-        ensures room { OnErr result (HasRoom self.new) }
+        ensures room { OnErr result (HasRoom self.new.book) }
         ensures rest { Unchanged H.files H.input H.asked H.notes host.old host.new }
         ensures cause { HasCause (H.faults host.old) (H.faults host.new) result }
     {
@@ -297,45 +234,25 @@ impl LibraryRun {
         Ok(self.end_of_steps())
     }
 
-    /// Tells the turn under way as one that is over.
-    fn close_turn(&mut self)
-        requires { HasRoom self.old }
-        ensures turns { self.new.turns.items ≡ turns_so_far self.old }
-        ensures rest { self.new ≡ record self.old { turns = self.new.turns } }
-    {
-        if self.visible + self.hidden > 0 {
-            self.tell_turn(self.visible, self.hidden);
-        }
-    }
-
     /// What is told of the run, with its turns, and the last of its traps.
-    pub(crate) fn finish(mut self, end: End) -> (Report, Trace)
-        requires { HasRoom self }
+    pub(crate) fn finish(self, end: End) -> (Report, Trace)
+        requires { HasRoom self.book }
         ensures report { result.0 ≡ report_of self end }
-        ensures trace { result.1 ≡ self.trace }
+        ensures trace { result.1 ≡ self.book.trace }
     {
-        self.close_turn();
-        let report = Report {
+        self.book.finish(
+            self.served.slot(),
             end,
-            steps: self.steps,
-            turns: self.turns,
-            closing: 0,
-            refused: self.served.refused(),
-            first_refused: self.first_refused,
-            upcalls: self.served.upcalls(),
-        };
-        (report, self.trace)
+            self.served.refused(),
+            self.served.upcalls(),
+        )
     }
 
     /// What is told of a run that a failed call of the host cut off.
-    pub(crate) fn cut_off(mut self) -> Stopped
-        requires { HasRoom self }
+    pub(crate) fn cut_off(self) -> Stopped
+        requires { HasRoom self.book }
         ensures { result ≡ cut_off_of self }
     {
-        self.close_turn();
-        Stopped {
-            turns: self.turns,
-            first_refused: self.first_refused,
-        }
+        self.book.cut_off(self.served.slot())
     }
 }

@@ -1,6 +1,6 @@
 //! A program is run under the library.
 
-ghost use Rattle.std.specs.Prelude.{◌≡◌, ◌<◌, ◌≤◌, ◌^◌, [], Ok, true, length, vec_capacity, IfOk};
+ghost use Rattle.std.specs.Prelude.{◌≡◌, ◌<◌, ◌≤◌, ◌^◌, [], Ok, true, length, vec_capacity};
 ghost use Rattle.circular_buffer.specs.Buffer.{buffer};
 ghost use Rattle.jos_host.specs.Frames.{Unchanged, around};
 ghost use Rattle.jos_host.specs.Told.{HasCause};
@@ -16,14 +16,12 @@ ghost use Rattle.jos_run.specs.RunEnds.{AnswersBy, HasEndCause, RunsFrom, end_of
 use crate::boot::boot_program;
 use crate::library_run::LibraryRun;
 use crate::served::Served;
-use circular_buffer::HeapCircularBuffer;
-use jos_base::TURN_MAX;
 use jos_elf::{ElfFault, Image, parse};
 use jos_host::Host;
-use jos_kernel::{BootFault, Report, Stopped, Trace, Turn};
+use jos_kernel::{BootFault, Report, Stopped, Trace, Turn, take_room};
 use jos_sched::Schedule;
 use jos_sys::{Input, System};
-use std::alloc::{AllocError, Global};
+use std::alloc::Global;
 
 /// What a run is given.
 #[derive(Drop)]
@@ -52,17 +50,6 @@ pub enum RunEnd {
     HostFault(Stopped),
     /// There was no memory to begin with.
     NoMemory,
-}
-
-/// Room for each turn of a run, and for the last of its traps.
-fn take_room(alloc: Global, trace: u32) -> Result<(Vec<Turn>, Trace), AllocError>
-    ensures room { IfOk result (λ taken. TURN_MAX ≤ vec_capacity taken.0) }
-    ensures empty { IfOk result (λ taken. taken.0.items ≡ []) }
-    ensures trace { IfOk result (λ taken. taken.1 ≡ buffer [] trace) }
-{
-    let turns = Vec::with_capacity(alloc, TURN_MAX)?;
-    let trace = HeapCircularBuffer::with_capacity(alloc, trace as usize)?;
-    Ok((turns, trace))
 }
 
 /// Runs a program that was booted. Nothing more is asked of an allocator, so the run ends by itself, unless a call of the

@@ -11,7 +11,7 @@ use lib_spawn::{Exit, Wait};
 use lib_stage::{Ask, Next, Nowhere, Planned};
 
 /// A service at a stage.
-#[derive(Clone, Copy, Debug, PartialEq, Eq)]
+#[derive(Clone, Copy)]
 pub(crate) enum ServiceStage {
     Exit(Exit),
     Wait(Wait),

@@ -3,98 +3,109 @@ use Rattle.std.specs.Prelude.{not}
 use Rattle.jos_base.specs.Environments.{is_running}
 use Rattle.jos_base.specs.KernelState.{slot_at}
 use Rattle.jos_sched.specs.Quantum.{quantum}
-use Rattle.jos_kernel.specs.Books.{traced}
+use Rattle.jos_kernel.specs.Books.{noted, traced, made}
+use Rattle.lib_os.specs.declared.progress.Progress.{Progress}
 use Rattle.lib_os.specs.AbstractState.{AbstractState}
 use Rattle.lib_os.specs.AbstractRun.{abs_step}
 use Rattle.lib_os.specs.LibrarySteps.{Stands, Keeps, KeepsTurn, KeepsUses, LeavesRest}
 use Rattle.lib_os.specs.Places.{place_of}
-use Rattle.jos_run.specs.declared.library_run.LibraryRun.{LibraryRun}
-use Rattle.jos_run.specs.Running.{state_of, entered, noted}
-use Rattle.jos_run.specs.Served.{kernel_state}
-use Rattle.jos_run.specs.Steps.{Raises}
 use Rattle.lib_os.proofs.NeedReached.{need_is_reached}
-use Rattle.jos_run.proofs.StepsMade.{Makes, moved, went_one, failed_one}
+use Rattle.jos_run.specs.declared.library_run.LibraryRun.{LibraryRun}
+use Rattle.jos_run.specs.LibraryRuns.{visible_steps, hidden_steps}
+use Rattle.jos_run.specs.Running.{state_of, entered, Counted}
+use Rattle.jos_run.specs.Steps.{Raises}
+use Rattle.jos_run.proofs.StepsMade.{Makes, CountsStep, one_step, moved, went_one, failed_one}
 use Rattle.jos_run.proofs.TurnsCounted.{step_holds}
 use Rattle.jos_run.proofs.library_run.LibraryRun.advance.Given as given
 use Rattle.jos_run.proofs.library_run.LibraryRun.advance.Goals as goal
 
--- the steps that the turn may have
-limit_is : (r : LibraryRun) (limit turns : ℕ) → limit ≡ quantum r.schedule turns → turns ≡ vec_len r.turns →
-    limit ≡ quantum r.schedule (length r.turns.items)
-limit_is r limit turns is so = is ∙ ap (λ (k : ℕ). quantum r.schedule k) (so ∙ r.turns.ok.0)
+-- the run whose step is counted
+abbrev behind : (g : given.Over) (c : goal.After-count_steps g) → LibraryRun
+behind g c = record { served = c.step.new.self; book = c.keep_trap.new.self }
 
--- the state behind the step
-behind : (g : given.Over) (c : goal.After-count_step g) → kernel_state c.step.new.self ≡ state_of c.keep_trap.new.self
-behind g c = sym ((λ i. state_of (c.keep_trap.ensures.rest i)) ∙ (λ i. state_of (c.note_refusal.ensures i)))
+-- the turn has a step left
+one_left : (r : LibraryRun) (left : ℕ) → made r.book + left ≡ quantum r.book.schedule (length r.book.turns.items) → 0 < left →
+    1 ≤ quantum r.book.schedule (length r.book.turns.items)
+one_left r left all some = omega (arith, all, some)
 
-makes : (g : given.Over) (c : goal.After-count_step g) →
-    Makes c.args.self.now c.keep_trap.new.self c.args.slot c.in-Ok.stepped.progress c.in-Ok.ensures.step.0
+makes : (g : given.Over) (c : goal.After-count_steps g) →
+    Makes c.args.self.now (behind g c) c.args.slot c.in-Ok.stepped.progress c.in-Ok.ensures.step.0
 makes g c =
     let done = c.in-Ok.stepped.progress in
     let bytes = c.in-Ok.ensures.step.0 in
+    let trap = c.in-Ok.stepped.trap in
+    let after = state_of (behind g c) in
     let before = c.enter_turn.ensures in
     let printed : c.written-printed.result ≡ c.args.self.now.served.written = c.written-printed.ensures ∙ before.written in
-    let now : c.refused.result ≡ (state_of c.keep_trap.new.self).refusals = c.refused.ensures ∙ (λ i. (behind g c i).refusals) in
+    let now : c.refused.result ≡ (state_of (behind g c)).refusals = c.refused.ensures in
     let stood : c.refused-refusals.result ≡ (entered c.args.self.now c.args.slot).refusals =
     c.refused-refusals.ensures ∙ (λ i. (before.state i).refusals) in
-    let limit = limit_is c.args.self.now _ _ c.quantum-limit.ensures.quantum c.len.ensures in
     record {
       holds = c.requires.holds;
       chosen = c.requires.chosen;
-      least = subst (λ (x : ℕ). 1 ≤ x) limit c.quantum-limit.ensures.least;
+      least = one_left c.args.self.now _ c.steps_left-left.ensures.exact c.steps_left-left.ensures.some;
       running = (λ i. is_running (slot_at (sym before.state i) c.args.slot).status) ∙ before.running;
-      keeps = moved (λ n s t. Keeps done n s t bytes) before.slot before.state (behind g c) c.in-Ok.ensures.step.2;
-      rest = moved (λ n s t. LeavesRest s t) before.slot before.state (behind g c) c.in-Ok.ensures.leaves.0;
-      turn = moved (λ n s t. KeepsTurn done (slot_at s n) (slot_at t n)) before.slot before.state (behind g c) c.in-Ok.ensures.leaves.1;
-      uses = moved (λ n s t. KeepsUses n s t) before.slot before.state (behind g c) c.in-Ok.ensures.leaves.2;
-      trap = c.in-Ok.stepped.trap;
-      raises = moved (λ n s t. Raises (place_of (slot_at s n)) n s c.in-Ok.stepped.trap t) before.slot before.state (behind g c)
-          c.in-Ok.ensures.raises;
-      traced_is = c.keep_trap.ensures.trace ∙ (λ i. traced (c.note_refusal.ensures i).trace c.in-Ok.stepped.trap)
-          ∙ (λ i. traced (before.rest i).trace c.in-Ok.stepped.trap);
-      slot = (λ i. (c.keep_trap.ensures.rest i).served.slot) ∙ (λ i. (c.note_refusal.ensures i).served.slot) ∙ c.in-Ok.ensures.slot
-          ∙ before.slot;
-      turns = (λ i. (c.keep_trap.ensures.rest i).turns) ∙ (λ i. (c.note_refusal.ensures i).turns) ∙ (λ i. (before.rest i).turns);
-      visible = (λ i. (c.keep_trap.ensures.rest i).visible) ∙ (λ i. (c.note_refusal.ensures i).visible) ∙ (λ i. (before.rest i).visible);
-      hidden = (λ i. (c.keep_trap.ensures.rest i).hidden) ∙ (λ i. (c.note_refusal.ensures i).hidden) ∙ (λ i. (before.rest i).hidden);
-      steps = (λ i. (c.keep_trap.ensures.rest i).steps) ∙ (λ i. (c.note_refusal.ensures i).steps) ∙ (λ i. (before.rest i).steps);
-      schedule = (λ i. (c.keep_trap.ensures.rest i).schedule) ∙ (λ i. (c.note_refusal.ensures i).schedule)
-          ∙ (λ i. (before.rest i).schedule);
-      written = (λ i. (c.keep_trap.ensures.rest i).served.written) ∙ (λ i. (c.note_refusal.ensures i).served.written)
-          ∙ c.in-Ok.ensures.step.1.counted ∙ (λ i. min (before.written i + length bytes) (2 ^ 64 - 1));
-      noted_is = (λ i. (c.keep_trap.ensures.rest i).first_refused) ∙ (λ i. (c.note_refusal.ensures i).first_refused)
-          ∙ (λ i. noted (before.rest i).first_refused (not (now i == stood i)) (vec_len (before.rest i).turns) (printed i));
+      keeps = moved (λ n s. Keeps done n s after bytes) before.slot before.state c.in-Ok.ensures.step.2;
+      rest = moved (λ n s. LeavesRest s after) before.slot before.state c.in-Ok.ensures.leaves.0;
+      turn = moved (λ n s. KeepsTurn done (slot_at s n) (slot_at after n)) before.slot before.state c.in-Ok.ensures.leaves.1;
+      uses = moved (λ n s. KeepsUses n s after) before.slot before.state c.in-Ok.ensures.leaves.2;
+      trap = trap;
+      raises = moved (λ n s. Raises (place_of (slot_at s n)) n s trap after) before.slot before.state c.in-Ok.ensures.raises;
+      slot = c.in-Ok.ensures.slot ∙ before.slot;
+      written = c.in-Ok.ensures.step.1.counted ∙ (λ i. min (before.written i + length bytes) (2 ^ 64 - 1));
+      book = c.keep_trap.ensures
+          ∙ (λ i. record (c.note_refusal.ensures i) { trace = traced (c.note_refusal.ensures i).trace trap })
+          ∙ (λ i. record (before.rest i).book {
+            trace = traced (before.rest i).book.trace trap;
+            first_refused = noted (before.rest i).book.first_refused (not (now i == stood i)) (vec_len (before.rest i).book.turns) (printed i);
+          });
     }
+
+counts : (g : given.Over) (c : goal.After-count_steps g) → CountsStep (behind g c) c.count_steps.new.self c.in-Ok.stepped.progress
+counts g c =
+    subst (λ (n : ℕ). Counted (behind g c) c.count_steps.new.self (visible_steps c.in-Ok.stepped.progress) n)
+    c.hidden_steps-hidden.ensures
+    (subst (λ (n : ℕ). Counted (behind g c) c.count_steps.new.self n c.hidden_steps-hidden.result) c.visible_steps-visible.ensures
+    c.count_steps.ensures.counted)
+
+-- it is one step that is counted
+one_counted : (done : Progress) (visible hidden : ℕ) → visible ≡ visible_steps done → hidden ≡ hidden_steps done → visible + hidden ≡ 1
+one_counted done visible hidden v h = (λ i. v i + h i) ∙ one_step done
+
+pub count_steps-requires-clause-steps : goal.count_steps-requires-clause-steps
+count_steps-requires-clause-steps g c =
+    let one = one_counted _ _ _ c.visible_steps-visible.ensures c.hidden_steps-hidden.ensures in
+    let steps : c.keep_trap.new.self.steps ≡ c.args.self.now.book.steps =
+    (λ i. (c.keep_trap.ensures i).steps) ∙ (λ i. (c.note_refusal.ensures i).steps) ∙ (λ i. (c.enter_turn.ensures.rest i).book.steps) in
+    omega (arith, one, steps, c.requires.steps)
+
+pub count_steps-requires-clause-within : goal.count_steps-requires-clause-within
+count_steps-requires-clause-within g c =
+    let one = one_counted _ _ _ c.visible_steps-visible.ensures c.hidden_steps-hidden.ensures in
+    omega (arith, one, c.steps_left-left.ensures.some)
 
 pub returns-in-Ok-clause-told : goal.returns-in-Ok-clause-told
 returns-in-Ok-clause-told g c =
-    went_one need_is_reached c.args.self.now c.keep_trap.new.self c.count_step.new.self c.args.slot c.in-Ok.stepped.progress
+    went_one need_is_reached c.args.self.now (behind g c) c.count_steps.new.self c.args.slot c.in-Ok.stepped.progress
     c.in-Ok.ensures.step.0 _
-    (makes g c) c.count_step.ensures.counted c.in-Ok.ensures.step.1.gains
+    (makes g c) (counts g c) c.in-Ok.ensures.step.1.gains
 
 pub returns-in-Ok-clause-holds : goal.returns-in-Ok-clause-holds
 returns-in-Ok-clause-holds g c =
-    let limit = limit_is c.args.self.now _ _ c.quantum-limit.ensures.quantum c.len.ensures in
-    let small : quantum c.args.self.now.schedule (length c.args.self.now.turns.items) < 2 ^ 31 =
-    omega (arith, limit, c.quantum-limit.ensures.most) in
-    step_holds c.args.self.now c.keep_trap.new.self c.count_step.new.self c.args.slot c.in-Ok.stepped.progress c.in-Ok.ensures.step.0
-    (makes g c) small c.count_step.ensures.counted c.count_step.ensures.room
+    step_holds c.args.self.now (behind g c) c.count_steps.new.self c.args.slot c.in-Ok.stepped.progress c.in-Ok.ensures.step.0
+    (makes g c) (counts g c) c.count_steps.ensures.room c.count_steps.ensures.left
 
 pub returns-in-Err-clause-told : goal.returns-in-Err-clause-told
 returns-in-Err-clause-told g c =
     let before = c.enter_turn.ensures in
     let bytes = c.in-Err.ensures.step.0 in
-    let limit = limit_is c.args.self.now _ _ c.quantum-limit.ensures.quantum c.len.ensures in
     failed_one c.args.self.now _ c.args.slot bytes _ (record {
       holds = c.requires.holds;
       chosen = c.requires.chosen;
-      least = subst (λ (x : ℕ). 1 ≤ x) limit c.quantum-limit.ensures.least;
-      would = moved (λ n s t. (a : AbstractState) → Stands s a →
+      least = one_left c.args.self.now _ c.steps_left-left.ensures.exact c.steps_left-left.ensures.some;
+      would = moved (λ n s. (a : AbstractState) → Stands s a →
           (b : AbstractState) × (abs_step a n ≡ Some b) × (b.console ≡ a.console ++ bytes))
-          before.slot before.state before.state c.in-Err.ensures.step.2;
+          before.slot before.state c.in-Err.ensures.step.2;
       slot = c.in-Err.ensures.slot ∙ before.slot;
-      turns = λ i. (before.rest i).turns;
-      visible = λ i. (before.rest i).visible + 1;
-      hidden = λ i. (before.rest i).hidden;
-      first_refused = λ i. (before.rest i).first_refused;
+      book = c.tell_failed_step.ensures ∙ (λ i. record (before.rest i).book { visible = (before.rest i).book.visible + 1 });
     }) c.in-Err.ensures.step.1

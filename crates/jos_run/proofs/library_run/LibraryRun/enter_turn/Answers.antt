@@ -5,7 +5,7 @@ use Rattle.jos_kernel.proofs.Advancing.{begun_running}
 use Rattle.jos_run.specs.Served.{kernel_state}
 use Rattle.jos_run.proofs.library_run.LibraryRun.enter_turn.Goals as goal
 
-pub returns-then-self-eq0-clause-running : goal.returns-then-self-eq0-clause-running
-returns-then-self-eq0-clause-running c =
+pub returns-then-made-eq0-clause-running : goal.returns-then-made-eq0-clause-running
+returns-then-made-eq0-clause-running c =
     (λ i. is_running (slot_at (c.begin_turn.ensures.state i) c.args.slot).status)
     ∙ begun_running (kernel_state c.serve.new.self) c.args.slot
