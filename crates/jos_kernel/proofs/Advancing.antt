@@ -18,7 +18,6 @@ use Rattle.jos_cpu.specs.declared.events.Gates.TheVariants.{Exo}
 use Rattle.jos_cpu.specs.Bursts.{IsBurst}
 use Rattle.jos_kernel.specs.declared.kernel.Kernel.{Kernel}
 use Rattle.jos_kernel.specs.Running.{Running, user_memory}
-use Rattle.circular_buffer.specs.Buffer.{buffer, keep_last}
 use Rattle.jos_kernel.specs.declared.trace.TrapLine.{TrapLine}
 use Rattle.jos_kernel.specs.Steps.{EnvStep, after_event, env_step}
 use Rattle.jos_kernel.specs.Books.{turn_of, turn_goes_on, noted, traced, made}

@@ -1,15 +1,14 @@
 //! The kernel in its run: steps and turns.
 
-ghost use Rattle.std.specs.Prelude.{◌≡◌, ◌<◌, ◌≤◌, ◌+◌, ◌-◌, ◌^◌, ℕ, List, [], Some, None, Ok, Err, IfOk, IfErr, OnOk};
-ghost use Rattle.std.specs.Prelude.{All, true, false, length, vec_len, vec_capacity, unwrap_or};
+ghost use Rattle.std.specs.Prelude.{◌≡◌, ◌<◌, ◌≤◌, ◌+◌, ◌-◌, ◌^◌, [], Some, None, Ok, Err, IfOk, IfErr, OnOk};
+ghost use Rattle.std.specs.Prelude.{All, true, false, length, vec_len, unwrap_or};
 ghost use Rattle.std.specs.Option.{ForSome};
 ghost use Rattle.jos_host.specs.Told.{HasCause};
 ghost use Rattle.jos_host.specs.Frames.{Unchanged, around, from_to};
-ghost use Rattle.jos_base.specs.declared.numbers.TheConstants.{TURN_MAX, CPUTS_MAX, FRAMES_MIN, FRAMES_MAX, NENV};
+ghost use Rattle.jos_base.specs.declared.numbers.TheConstants.{TURN_MAX, FRAMES_MIN, FRAMES_MAX, NENV};
 ghost use Rattle.jos_base.specs.Environments.{is_live, is_running};
 ghost use Rattle.jos_base.specs.KernelState.{slot_at};
 ghost use Rattle.jos_sched.specs.Quantum.{quantum};
-ghost use Rattle.jos_kernel.specs.Machine.{kernel_state, loaded};
 ghost use Rattle.jos_kernel.specs.Boot.{booted, loadables};
 ghost use Rattle.jos_kernel.specs.Loading.{IsRead};
 ghost use Rattle.jos_kernel.specs.Books.{made, HasRoom};

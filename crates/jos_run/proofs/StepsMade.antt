@@ -15,7 +15,6 @@ use Rattle.jos_sched.specs.Quantum.{quantum}
 use Rattle.jos_kernel.specs.declared.report.Refusal.{Refusal}
 use Rattle.jos_kernel.specs.declared.report.Turn.{Turn}
 use Rattle.jos_kernel.specs.declared.trace.TrapLine.{TrapLine}
-use Rattle.jos_kernel.specs.ExoRun.{counted}
 use Rattle.jos_kernel.specs.Books.{turn_of, noted, traced, made}
 use Rattle.jos_kernel.proofs.Advancing.{counted-more}
 use Rattle.jos_kernel.proofs.Turns.{running_live}

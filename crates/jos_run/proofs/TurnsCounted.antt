@@ -1,12 +1,12 @@
 -- What a run keeps between two steps: at its beginning, and where a step was counted.
-use Rattle.std.proofs.Common.{◌≡◌, ◌∙◌, ℕ, ◌+◌, ◌^◌, ◌<◌, ◌≤◌, ◌==◌, Bool, true, false, List, [], ◌∷◌, ◌++◌, length}
-use Rattle.std.proofs.Common.{Option, Some, None, refl, sym, ap, subst, arith, if◌then◌else◌, vec_len, vec_capacity}
+use Rattle.std.proofs.Common.{◌≡◌, ◌∙◌, ℕ, ◌+◌, ◌<◌, ◌==◌, Bool, true, false, List, [], ◌∷◌, ◌++◌, length}
+use Rattle.std.proofs.Common.{Option, Some, None, refl, sym, ap, subst, arith, if◌then◌else◌, vec_len}
 use Rattle.std.specs.Prelude.{nat_lt, unwrap_or}
 use Rattle.std.specs.Option.{ForSome}
 use Rattle.std.proofs.lemmas.Bool.Decides.{nat_tests}
 use Rattle.std.proofs.lemmas.List.{length-append}
 use Rattle.jos_base.specs.declared.environment.Status.TheVariants.{Runnable}
-use Rattle.jos_base.specs.declared.numbers.TheConstants.{NENV, TURN_MAX}
+use Rattle.jos_base.specs.declared.numbers.TheConstants.{NENV}
 use Rattle.jos_base.specs.Environments.{is_running}
 use Rattle.jos_base.specs.KernelState.{KernelState, slot_at, with_status, turn_ended}
 use Rattle.jos_sched.specs.Quantum.{quantum}

@@ -1,10 +1,10 @@
 //! A run of the library's programs: steps and turns.
 
-ghost use Rattle.std.specs.Prelude.{◌≡◌, ◌<◌, ◌≤◌, ◌+◌, ◌-◌, ◌^◌, ℕ, List, [], Some, None, IfOk, IfErr, OnOk, OnErr};
+ghost use Rattle.std.specs.Prelude.{◌≡◌, ◌<◌, ◌≤◌, ◌+◌, ◌-◌, ◌^◌, ℕ, [], Some, None, IfOk, IfErr, OnOk, OnErr};
 ghost use Rattle.std.specs.Prelude.{true, false, length, vec_len, vec_capacity};
 ghost use Rattle.jos_host.specs.Told.{HasCause};
 ghost use Rattle.jos_host.specs.Frames.{Unchanged, around, from_to};
-ghost use Rattle.jos_base.specs.declared.numbers.TheConstants.{TURN_MAX, NENV};
+ghost use Rattle.jos_base.specs.declared.numbers.TheConstants.{TURN_MAX};
 ghost use Rattle.jos_base.specs.Environments.{is_running};
 ghost use Rattle.jos_base.specs.KernelState.{slot_at};
 ghost use Rattle.jos_sched.specs.Quantum.{quantum};

@@ -1,5 +1,4 @@
-use Rattle.std.proofs.Common.{◌≡◌, ◌∙◌, ℕ, List, [], refl}
-use Rattle.jos_kernel.specs.declared.report.Turn.{Turn}
+use Rattle.std.proofs.Common.{◌≡◌, ◌∙◌, []}
 use Rattle.jos_kernel.specs.Books.{made}
 use Rattle.jos_run.proofs.RunEnds.{begins}
 use Rattle.jos_run.proofs.TurnsCounted.{begun_holds}
