@@ -4,6 +4,8 @@
 //! `booted` of the images, and `step`, `turn` and `exo_run` lead from one to the next as `one_step` and `run_from` say.
 //! The `Machine` in it is the processor's memory, through the directory of the environment that runs. All memory is taken
 //! by `boot`; no call after it takes any.
+//!
+//! The `Book` in it is what is kept of a run and told of it. It knows no kernel, and a run under the library keeps one too.
 #![tactic(auto)]
 
 mod book;

@@ -2,7 +2,8 @@
 //!
 //! `Served` is the kernel as the library has it while it serves one environment: each call of `UserOs` (`lib_os`) is the step
 //! of the kernel's state that `UserCalls.antt` says, and `step_guest` makes the step of its program that `GuestSteps.antt` says.
-//! `boot_program` makes the state in which a run begins, as `Boot.antt` says it.
+//! `boot_program` makes the state in which a run begins, as `Boot.antt` says it. `run` boots a program and makes its turns, which
+//! stand in the `Book` of jos_kernel.
 #![tactic(auto)]
 
 mod boot;
