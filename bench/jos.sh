@@ -53,6 +53,13 @@ image_of() {
     } >"$folder/$name"
 }
 
+# compile NAME LEVEL: the program programs/NAME.c as a file, of one segment in one page
+compile() {
+    gcc -m32 -march=i386 "$2" -ffreestanding -fno-pic -no-pie -nostdlib -static -fno-stack-protector \
+        -fno-asynchronous-unwind-tables -fcf-protection=none -mno-sse -Wl,-T,"$here/bench/programs/one-page.ld" \
+        -Wl,--build-id=none,-z,noexecstack,--no-warn-rwx-segments -o "$folder/$1" "$here/bench/programs/$1.c"
+}
+
 now() {
     date +%s.%N
 }

@@ -12,12 +12,6 @@ if ! command -v gcc >/dev/null; then
 fi
 . "$(dirname -- "$0")/jos.sh"
 
-compile() {
-    gcc -m32 -march=i386 "$2" -ffreestanding -fno-pic -no-pie -nostdlib -static -fno-stack-protector \
-        -fno-asynchronous-unwind-tables -fcf-protection=none -mno-sse -Wl,-T,"$here/bench/programs/one-page.ld" \
-        -Wl,--build-id=none,-z,noexecstack,--no-warn-rwx-segments -o "$folder/$1" "$here/bench/programs/$1.c"
-}
-
 counted() {
     valgrind --tool=callgrind --callgrind-out-file=/dev/null "$program" exo --steps 1000000 "$folder/$1" 2>&1 >/dev/null </dev/null |
         awk '/Collected :/ { print $4 }'

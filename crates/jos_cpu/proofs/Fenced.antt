@@ -1,10 +1,11 @@
 -- A fence around some addresses of a memory: a step with the fence is stopped by it, or is the step without it.
-use Rattle.std.proofs.Common.{◌≡◌, ℕ, zero, suc, Bool, true, false, List, [], ◌∷◌, Option, None, Some, refl, ap, ◌∙◌}
+use Rattle.std.proofs.Common.{◌≡◌, ℕ, ◌+◌, ◌%◌, ◌^◌, ◌<◌, zero, suc, Bool, true, false, List, [], ◌∷◌, length, Option, None, Some}
+use Rattle.std.proofs.Common.{refl, sym, ap, subst, ◌∙◌, arith}
 use Rattle.std.proofs.Common.{◌⊎◌, inl, inr, if◌then◌else◌}
-use Rattle.std.specs.Prelude.{◌&&◌}
+use Rattle.std.specs.Prelude.{◌&&◌, slice_index}
 use Rattle.jos_base.specs.declared.registers.Regs.{Regs}
 use Rattle.jos_base.specs.declared.memory.Access.{Access}
-use Rattle.jos_base.specs.declared.memory.Access.TheVariants.{Read}
+use Rattle.jos_base.specs.declared.memory.Access.TheVariants.{Read, Write}
 use Rattle.jos_base.specs.declared.numbers.TheConstants.{INSTRUCTION_MAX}
 use Rattle.jos_isa.specs.declared.instruction.Insn.{Insn}
 use Rattle.jos_isa.specs.declared.decoder.Decoded.{Decoded}
@@ -19,23 +20,16 @@ use Rattle.jos_cpu.specs.declared.accesses.Accesses.{Accesses}
 use Rattle.jos_cpu.specs.declared.accesses.Accesses.TheVariants as reach
 use Rattle.jos_cpu.specs.declared.fetching.Fetched.{Fetched}
 use Rattle.jos_cpu.specs.declared.fetching.Fetched.TheVariants.{Instruction, Fault, Unknown}
-use Rattle.jos_cpu.specs.Memory.{Memory, Probed, after, probed}
-use Rattle.jos_cpu.specs.Accesses.{is_read}
+use Rattle.jos_cpu.specs.Memory.{Memory, Probed, IsStill, StandAt, fenced, after, probed}
+use Rattle.jos_cpu.specs.AtHand.{IsPut}
+use Rattle.jos_cpu.specs.Accesses.{is_read, length_of}
 use Rattle.jos_cpu.specs.Probes.{Probe, probed_all, on_refusal}
 use Rattle.jos_cpu.specs.Transfers.{Number, number_at, input_of, popped_words, inputs_of, stored_number, stored_all}
 use Rattle.jos_cpu.specs.Fetch.{FetchedFrom, byte_reached, read_after, judged, with_byte, on_byte, next_address}
 use Rattle.jos_cpu.specs.Fetch.{fetched_from, fetched_at}
+use Rattle.jos_cpu.proofs.Agreement.{Agrees}
+use Rattle.std.proofs.lemmas.Bool.{and_parts}
 use Rattle.jos_cpu.specs.Steps.{Stepped, probes, accesses, fault_event, after_probes, executed, after_fetch, step_of}
-
--- the same memory, of which these addresses alone may be reached; the others have one fault
-abbrev pub fenced : {M : Type 0} → (ℕ → Bool) → MemFault → Memory M → Memory M
-fenced within stop t = record {
-  byte = t.byte;
-  allowed = λ m va access. within va && t.allowed m va access;
-  fault = λ m va access. if within va then t.fault m va access else stop;
-  reached = t.reached;
-  stored = t.stored;
-}
 
 -- A step stays within some addresses: a fence around them does not stop it. The fault of the fence has to be one that
 -- the step has for no other cause, as that of a page at address 2^32.
@@ -173,3 +167,51 @@ module _ {M : Type 0} (within : ℕ → Bool) (stop : MemFault) (t : Memory M) w
     | inl e ↦ absurd (stays e)
     | inr e ↦ e
   ]
+
+  -- ---- what is at hand inside the fence
+
+  pub stand_within : (m : M) (va : ℕ) (bytes : List ℕ) → ((i : ℕ) → i < length bytes → within ((va + i) % 2 ^ 32) ≡ true) →
+      StandAt t m va bytes → StandAt (fenced within stop t) m va bytes
+  stand_within m va bytes inside stand i below =
+      let s : IsStill t m ((va + i) % 2 ^ 32) (slice_index bytes i) = stand i below in
+      record { allowed = rw (inside i below, s.allowed) refl; reached = s.reached; byte_is = s.byte_is }
+
+  probe_within : (len : ℕ) (m : M) (va : ℕ) (access : Access) → va < 2 ^ 32 → ((i : ℕ) → i < len → within ((va + i) % 2 ^ 32) ≡ true) →
+      probed (fenced within stop t) m va len access ≡ probed t m va len access
+  unfolding probed
+  probe_within zero m va access small inside = refl
+  probe_within (suc len) m va access small inside =
+      let here : (va + 0) % 2 ^ 32 ≡ va = omega (arith, small) in
+      let at : within va ≡ true = subst (λ (q : ℕ). within q ≡ true) here (inside 0 (omega arith)) in
+      rw at (λ j. if t.allowed m va access then probe_within len (t.reached m va access) (after va) access (omega arith) (onward_within len va inside) j
+      else record { memory = m; refusal = Some (t.fault m va access) })
+    where
+      onward_within : (len va : ℕ) → ((i : ℕ) → i < suc len → within ((va + i) % 2 ^ 32) ≡ true) →
+          (i : ℕ) → i < len → within ((after va + i) % 2 ^ 32) ≡ true
+      onward_within len va inside i below =
+          let e : (va + suc i) % 2 ^ 32 ≡ (after va + i) % 2 ^ 32 = omega arith in
+          subst (λ (q : ℕ). within q ≡ true) e (inside (suc i) (omega (arith, below)))
+
+  pub put_within : (width : Width) (old new : M) (va value : ℕ) → va < 2 ^ 32 →
+      ((i : ℕ) → i < length_of width → within ((va + i) % 2 ^ 32) ≡ true) →
+      IsPut t old width va value new → IsPut (fenced within stop t) old width va value new
+  put_within width old new va value small inside put = record {
+    reached = probe_within (length_of width) old va Write small inside ∙ put.reached;
+    stored = put.stored ∙ sym (store old width va value);
+  }
+
+-- Tables whose words agree through a map agree inside a fence.
+module _ {M N : Type 0} (within : ℕ → Bool) (stop : MemFault) {t : Memory M} {u : Memory N} {f : M → N} {Holds : M → Type 0} (a : Agrees t u f Holds) where
+  fault_within : (m : M) → Holds m → (va : ℕ) (access : Access) (inside : Bool) → (inside && t.allowed m va access) ≡ false →
+      (if inside then u.fault (f m) va access else stop) ≡ (if inside then t.fault m va access else stop)
+  fault_within m h va access true off = a.fault m h va access off
+  fault_within m h va access false off = refl
+
+  pub agrees_within : Agrees (fenced within stop t) (fenced within stop u) f Holds
+  agrees_within = record {
+    byte = a.byte;
+    allowed = λ m h va access. ap (λ (on : Bool). within va && on) (a.allowed m h va access);
+    fault = λ m h va access off. fault_within m h va access (within va) off;
+    reached = λ m h va access on. a.reached m h va access (and_parts (within va) (t.allowed m va access) on).1;
+    stored = a.stored;
+  }

@@ -1,5 +1,5 @@
 -- Steps that go on, and one more of them; and a step by what was decoded before.
-use Rattle.std.proofs.Common.{◌≡◌, ℕ, ◌+◌, ◌<◌, zero, suc, List, take, refl, sym, subst, arith}
+use Rattle.std.proofs.Common.{◌≡◌, ℕ, ◌+◌, ◌<◌, zero, suc, Bool, true, List, take, refl, sym, subst, arith}
 use Rattle.jos_base.specs.declared.registers.Regs.{Regs}
 use Rattle.jos_isa.specs.declared.instruction.Insn.{Insn}
 use Rattle.jos_isa.specs.declared.decoder.Decoded.TheVariants.{Found}
@@ -20,21 +20,23 @@ pub step_of-known : {M : Type 0} (t : Memory M) (gates : Gates) (regs : Regs) (m
 unfolding step_of
 step_of-known t gates regs m insn len whole stand known done = rw (fetched_known t m regs.eip insn whole len 16 stand known) done
 
-module _ {M : Type 0} (t : Memory M) (gates : Gates) where
-  pub one_more : (n : ℕ) (old at new : Machine M) → GoesOn t gates n old at → StepsTo t gates at Next new → GoesOn t gates (suc n) old new
-  one_more zero old at new h s = (new, subst (λ (x : Machine M). StepsTo t gates x Next new) h s, refl)
-  one_more (suc n) old at new h s = (h.0, h.1, one_more n h.0 at new h.2 s)
+module _ {M : Type 0} (t : Memory M) (stands : ℕ → Bool) (gates : Gates) where
+  pub one_more : (n : ℕ) (old at new : Machine M) → GoesOn t stands gates n old at → StepsTo t gates at Next new → stands new.regs.esp ≡ true →
+      GoesOn t stands gates (suc n) old new
+  one_more zero old at new h s stand = (new, subst (λ (x : Machine M). StepsTo t gates x Next new) h s, stand, refl)
+  one_more (suc n) old at new h s stand = (h.0, h.1, h.2, one_more n h.0 at new h.3 s stand)
 
-  pub on_step : (n : ℕ) (old at new : Machine M) → GoesOn t gates n old at → StepsTo t gates at Next new → GoesOn t gates (n + 1) old new
-  on_step n old at new h s =
+  pub on_step : (n : ℕ) (old at new : Machine M) → GoesOn t stands gates n old at → StepsTo t gates at Next new → stands new.regs.esp ≡ true →
+      GoesOn t stands gates (n + 1) old new
+  on_step n old at new h s stand =
       let e : suc n ≡ n + 1 = omega arith in
-      subst (λ (k : ℕ). GoesOn t gates k old new) e (one_more n old at new h s)
+      subst (λ (k : ℕ). GoesOn t stands gates k old new) e (one_more n old at new h s stand)
 
-  -- an event ends the burst
-  pub on_event : (limit n : ℕ) (event : Event) (old at new : Machine M) → GoesOn t gates n old at → n < limit →
-      StepsTo t gates at event new → IfRaised event (new.regs ≡ at.regs) → (event ≡ Next → ⊥) →
-      IsBurst t gates limit (n + 1) event old new
-  on_event limit n event old at new h below s kept other = record {
+  -- an event ends the burst, or a stack pointer that may not stand
+  pub on_end : (limit n ip : ℕ) (event : Event) (old at new : Machine M) → GoesOn t stands gates n old at → n < limit →
+      StepsTo t gates at event new → IfRaised event (new.regs ≡ at.regs) → (event ≡ Next → stands new.regs.esp ≡ true → ⊥) →
+      ip ≡ at.regs.eip → IsBurst t stands gates limit (n + 1) ip event old new
+  on_end limit n ip event old at new h below s kept ends begun = record {
     going = n;
     count = refl;
     reached = at;
@@ -43,21 +45,23 @@ module _ {M : Type 0} (t : Memory M) (gates : Gates) where
     kept = kept;
     untouched = step_untouched t gates at.regs at.memory s;
     within = omega arith;
-    whole = λ e. absurd (other e);
+    whole = λ e stand. absurd (ends e stand);
+    at = λ _. begun;
   }
 
   -- the last of steps that go on
-  last_of : (n : ℕ) (old new : Machine M) → GoesOn t gates (suc n) old new →
-      (at : Machine M) × GoesOn t gates n old at × StepsTo t gates at Next new
-  last_of zero old new h = (old, refl, subst (λ (x : Machine M). StepsTo t gates old Next x) (sym h.2) h.1)
+  last_of : (n : ℕ) (old new : Machine M) → GoesOn t stands gates (suc n) old new →
+      (at : Machine M) × GoesOn t stands gates n old at × StepsTo t gates at Next new × (stands new.regs.esp ≡ true)
+  last_of zero old new h =
+      (old, refl, subst (λ (x : Machine M). StepsTo t gates old Next x) (sym h.3) h.1, subst (λ (x : Machine M). stands x.regs.esp ≡ true) (sym h.3) h.2)
   last_of (suc n) old new h =
-      let l = last_of n h.0 new h.2 in
-      (l.0, (h.0, h.1, l.1), l.2)
+      let l = last_of n h.0 new h.3 in
+      (l.0, (h.0, h.1, h.2, l.1), l.2, l.3)
 
   -- as many steps as the limit says
-  pub at_limit : (limit : ℕ) (old new : Machine M) → 0 < limit → GoesOn t gates limit old new → IsBurst t gates limit limit Next old new
-  at_limit zero old new some h = absurd (omega arith)
-  at_limit (suc n) old new some h =
+  pub at_limit : (limit ip : ℕ) (old new : Machine M) → 0 < limit → GoesOn t stands gates limit old new → IsBurst t stands gates limit limit ip Next old new
+  at_limit zero ip old new some h = absurd (omega arith)
+  at_limit (suc n) ip old new some h =
       let l = last_of n old new h in
       record {
         going = n;
@@ -68,5 +72,6 @@ module _ {M : Type 0} (t : Memory M) (gates : Gates) where
         kept = tt;
         untouched = tt;
         within = omega arith;
-        whole = λ _. refl;
+        whole = λ _ _. refl;
+        at = λ ends. absurd (ends refl l.3);
       }

@@ -7,11 +7,11 @@ use Rattle.jos_base.specs.declared.memory.Access.{Access}
 use Rattle.jos_cpu.specs.declared.memory.MemFault.{MemFault}
 use Rattle.jos_cpu.specs.declared.memory.MemFault.TheVariants.{Fence}
 use Rattle.jos_cpu.specs.declared.events.Gates.{Gates}
-use Rattle.jos_cpu.specs.Memory.{Memory, IsLawful, IsSteady}
+use Rattle.jos_cpu.specs.Memory.{Memory, IsLawful, IsSteady, fenced}
 use Rattle.jos_cpu.specs.Steps.{step_of}
 use Rattle.jos_cpu.proofs.Agreement.{Rights, AgreesReading, AgreesWriting, SameStep}
 use Rattle.jos_cpu.proofs.Related.{same_numbers, same_step}
-use Rattle.jos_cpu.proofs.Fenced.{fenced, StaysWithin, step_within}
+use Rattle.jos_cpu.proofs.Fenced.{StaysWithin, step_within}
 use Rattle.std.proofs.lemmas.Bool.{and_parts}
 
 -- Two memories are the same within some addresses: what may be reached there, the bytes that may be, and the faults

@@ -25,23 +25,25 @@ abbrev pub StepsTo : {M : Type 0} → Memory M → Gates → Machine M → Event
 StepsTo t gates before event after =
     step_of t before.regs before.memory gates ≡ record { regs = after.regs; memory = after.memory; event = event }
 
--- So many steps, after each of which the program goes on.
-abbrev pub GoesOn : {M : Type 0} → Memory M → Gates → ℕ → Machine M → Machine M → Type 0
-GoesOn t gates zero before after = after ≡ before
-GoesOn {M} t gates (suc n) before after =
-    (next : Machine M) × StepsTo t gates before Next next × GoesOn t gates n next after
+-- So many steps, after each of which the program goes on, with its stack pointer where it may stand.
+abbrev pub GoesOn : {M : Type 0} → Memory M → (ℕ → Bool) → Gates → ℕ → Machine M → Machine M → Type 0
+GoesOn t stands gates zero before after = after ≡ before
+GoesOn {M} t stands gates (suc n) before after =
+    (next : Machine M) × StepsTo t gates before Next next × (stands next.regs.esp ≡ true) × GoesOn t stands gates n next after
 
--- A burst: steps up to the first that raises or calls something, and no more than a limit says. All but the last
--- go on; the last has this event. Where no event ends the burst, as many steps are made as the limit says.
-pub record IsBurst {M : Type 0} (t : Memory M) (gates : Gates) (limit steps : ℕ) (event : Event) (before after : Machine M) : Type 0 where
+-- A burst: steps up to the first that raises or calls something, or leaves the stack pointer where it may not stand, and no
+-- more than a limit says. All but the last go on; the last has this event. Where the program could go on behind it, as many
+-- steps are made as the limit says; else the last instruction stands at this address.
+pub record IsBurst {M : Type 0} (t : Memory M) (stands : ℕ → Bool) (gates : Gates) (limit steps ip : ℕ) (event : Event) (before after : Machine M) : Type 0 where
   -- the steps that go on, and where the last begins
   pub going : ℕ
   pub count : steps ≡ going + 1
   pub reached : Machine M
-  pub went : GoesOn t gates going before reached
+  pub went : GoesOn t stands gates going before reached
   pub last : StepsTo t gates reached event after
   -- a trap changes no register, and of memory only what probes set
   pub kept : IfRaised event (after.regs ≡ reached.regs)
   pub untouched : IfRaised event (after.memory ≡ probes_left t reached.regs reached.memory)
   pub within : steps ≤ limit
-  pub whole : event ≡ Next → steps ≡ limit
+  pub whole : event ≡ Next → stands after.regs.esp ≡ true → steps ≡ limit
+  pub at : (event ≡ Next → stands after.regs.esp ≡ true → ⊥) → ip ≡ reached.regs.eip

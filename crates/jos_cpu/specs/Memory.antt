@@ -35,6 +35,16 @@ abbrev pub IsSteady : {M : Type 0} → (ℕ → Bool) → Memory M → Type 0
 IsSteady {M = M} within t =
     (m : M) (va q : ℕ) (access : Access) → within q ≡ true → t.byte (t.reached m va access) q ≡ t.byte m q
 
+-- the same memory, of which these addresses alone may be reached; the others have one fault
+abbrev pub fenced : {M : Type 0} → (ℕ → Bool) → MemFault → Memory M → Memory M
+fenced within stop t = record {
+  byte = t.byte;
+  allowed = λ m va access. within va && t.allowed m va access;
+  fault = λ m va access. if within va then t.fault m va access else stop;
+  reached = t.reached;
+  stored = t.stored;
+}
+
 abbrev pub after : ℕ → ℕ
 after va = (va + 1) % 2 ^ 32
 
@@ -59,6 +69,10 @@ probed t m va (suc n) access =
 unfoldable pub all_allowed : (ℕ → Access → Bool) → ℕ → ℕ → Access → Bool
 all_allowed allowed va zero access = true
 all_allowed allowed va (suc n) access = allowed va access && all_allowed allowed (after va) n access
+
+-- A stack pointer lets the program go on wherever it points.
+abbrev pub anywhere : ℕ → Bool
+anywhere esp = true
 
 -- A byte that may be read, and that nothing changes when it is reached.
 pub record IsStill {M : Type 0} (t : Memory M) (m : M) (va : ℕ) (byte : ℕ) : Type 0 where

@@ -17,6 +17,8 @@ use jos_base::Regs;
 #[derive(Clone, Copy, Debug, PartialEq, Eq)]
 pub struct Burst {
     pub steps: u32,
+    /// Where the last instruction stands, if that has ended the burst.
+    pub ip: u32,
     pub event: Event,
 }
 
@@ -50,8 +52,8 @@ fn step_and_learn<M: Mem>(
     step(regs, mem, gates)
 }
 
-/// Makes steps up to the first of which more comes than the next one, and as many as `limit` at most. Each of them
-/// is a `step`.
+/// Makes steps up to the first of which more comes than the next one, or which leaves the stack pointer where it may not
+/// stand, and as many as `limit` at most. Each of them is a `step`.
 ///
 /// What was decoded before is kept in `decodings`, which changes nothing but the time that a step takes.
 #[inline(never)]
@@ -63,37 +65,49 @@ pub fn make_burst<M: Mem>(
     limit: u32,
 ) -> Burst
     requires { 0 < limit }
-    ensures { IsBurst M.table gates limit result.steps result.event (record { regs = regs.old; memory = M.seen mem.old }) (record { regs = regs.new; memory = M.seen mem.new }) }
+    ensures { IsBurst M.table M.stands gates limit result.steps result.ip result.event (record { regs = regs.old; memory = M.seen mem.old }) (record { regs = regs.new; memory = M.seen mem.new }) }
 {
     for before in 0..limit {
-        match decodings.find(regs.eip, mem.window(regs.eip)) {
+        let ip = regs.eip;
+        match decodings.find(ip, mem.window(ip)) {
             Some(known) => {
-                if execute_quickly(&known.insn, known.len, regs, mem, gates) {
-                    continue;
-                }
-                match execute_known(known, regs, mem, gates) {
-                    Event::Next => continue,
-                    event => {
-                        return Burst {
-                            steps: before + 1,
-                            event,
-                        };
+                if !execute_quickly(&known.insn, known.len, regs, mem, gates) {
+                    // read again, so that it is not kept while an instruction is executed quickly
+                    let ip = regs.eip;
+                    match execute_known(known, regs, mem, gates) {
+                        Event::Next => {}
+                        event => {
+                            return Burst {
+                                steps: before + 1,
+                                ip,
+                                event,
+                            };
+                        }
                     }
                 }
             }
             None => match step_and_learn(decodings, regs, mem, gates) {
-                Event::Next => continue,
+                Event::Next => {}
                 event => {
                     return Burst {
                         steps: before + 1,
+                        ip,
                         event,
                     };
                 }
             },
         }
+        if !mem.may_stand(regs.esp) {
+            return Burst {
+                steps: before + 1,
+                ip,
+                event: Event::Next,
+            };
+        }
     }
     Burst {
         steps: limit,
+        ip: regs.eip,
         event: Event::Next,
     }
 }

@@ -1,6 +1,6 @@
 //! Memory as the processor sees it.
 
-ghost use Rattle.std.specs.Prelude.{◌≡◌, true, false, OnOk, IfSome, is_ok};
+ghost use Rattle.std.specs.Prelude.{◌≡◌, ℕ, Bool, true, false, OnOk, IfSome, is_ok};
 ghost use Rattle.jos_base.specs.declared.memory.Access.TheVariants.{Read, Write};
 ghost use Rattle.jos_cpu.specs.Memory.{Memory, IsLawful, Probed, refusal_of, probed, all_allowed, StandAt};
 ghost use Rattle.jos_cpu.specs.AtHand.{IsAtHand, IsPut};
@@ -25,6 +25,8 @@ pub trait Mem {
     ghost seen: { Self → State };
     /// What is in a memory that is seen so, and what an access makes of it.
     ghost table: { Memory State };
+    /// Where a stack pointer lets the program go on.
+    ghost stands: { ℕ → Bool };
 
     /// Reaches for so many bytes from an address on, in rising order, up to the first that may not be reached.
     fn probe(&mut self, va: u32, len: u32, access: Access) -> Result<(), MemFault>
@@ -38,6 +40,10 @@ pub trait Mem {
     fn get(&self, va: u32) -> u8
         requires { table.allowed (seen self.now) va Read ≡ true }
         ensures { result ≡ table.byte (seen self.now) va };
+
+    /// Whether a stack pointer lets the program go on.
+    fn may_stand(&self, esp: u32) -> bool
+        ensures { result ≡ stands esp };
 
     /// Bytes that stand from an address on, and that nothing changes when they are reached. There may be none anywhere.
     fn window(&self, va: u32) -> &[u8]

@@ -15,6 +15,7 @@ use Rattle.jos_base.specs.KernelState.{KernelState, slot_at, with_registers, tur
 use Rattle.jos_sched.specs.Quantum.{quantum}
 use Rattle.jos_cpu.specs.declared.events.Event.{Event}
 use Rattle.jos_cpu.specs.declared.events.Gates.TheVariants.{Exo}
+use Rattle.jos_cpu.specs.Memory.{anywhere}
 use Rattle.jos_cpu.specs.Bursts.{IsBurst}
 use Rattle.jos_kernel.specs.declared.kernel.Kernel.{Kernel}
 use Rattle.jos_kernel.specs.Running.{Running, user_memory}
@@ -98,12 +99,13 @@ pub record Bursts (before : Kernel) (slot limit steps : ℕ) (event : Event) (m 
   pub within : slot < NENV
   pub runs : is_running (slot_at m.state slot).status ≡ true
   pub loaded : m.directory ≡ Some (slot_at m.state slot).directory
-  pub burst : IsBurst user_memory Exo limit steps event (record { regs = regs; memory = m }) (record { regs = new; memory = n })
+  pub ip : ℕ
+  pub burst : IsBurst user_memory anywhere Exo limit steps ip event (record { regs = regs; memory = m }) (record { regs = new; memory = n })
   pub room : made before.book + limit ≤ quantum before.book.schedule (length before.book.turns.items)
 
 module _ {before : Kernel} {slot limit steps : ℕ} {event : Event} {m n : Running} {regs new : Regs}
     (h : Bursts before slot limit steps event m n regs new) where
-  abbrev burst : IsBurst user_memory Exo limit steps event (record { regs = regs; memory = m }) (record { regs = new; memory = n })
+  abbrev burst : IsBurst user_memory anywhere Exo limit steps h.ip event (record { regs = regs; memory = m }) (record { regs = new; memory = n })
   burst = h.burst
 
   refusals : (state_of before).refusals ≡ m.state.refusals
@@ -126,7 +128,7 @@ module _ {before : Kernel} {slot limit steps : ℕ} {event : Event} {m n : Runni
 
   last_is : env_step (with_registers burst.reached.memory.state slot burst.reached.regs) slot ≡ last
   last_is =
-      let k = going_keeps Exo burst.going (record { regs = regs; memory = m }) burst.reached burst.went in
+      let k = going_keeps anywhere anywhere Exo burst.going (record { regs = regs; memory = m }) burst.reached burst.went in
       env_step_is slot burst.reached (record { regs = new; memory = n }) burst.last
       (directory_is k ∙ h.loaded ∙ (λ i. Some (sym (slot_is k slot) i).directory))
 
@@ -143,15 +145,15 @@ module _ {before : Kernel} {slot limit steps : ℕ} {event : Event} {m n : Runni
       ∙ (λ i. run_from before.book.schedule later (progressed before.book.schedule (further before.book.schedule slot (progress_of before told) burst.going) (last_is i)))
 
   state_kept : n.state.refusals ≡ (state_of before).refusals
-  state_kept = (λ i. (state_is (burst_keeps burst) i).refusals) ∙ sym refusals
+  state_kept = (λ i. (state_is (burst_keeps anywhere anywhere burst) i).refusals) ∙ sym refusals
 
   pub live_after : is_live (slot_at n.state slot) ≡ true
-  live_after = running_live (slot_at n.state slot) ((λ i. is_running (slot_is (burst_keeps burst) slot i).status) ∙ h.runs)
+  live_after = running_live (slot_at n.state slot) ((λ i. is_running (slot_is (burst_keeps anywhere anywhere burst) slot i).status) ∙ h.runs)
 
   pub last_same : SameTurns m.state last.state
   last_same =
       let k = event_same (with_registers n.state slot new) slot event in
-      let b = state_is (burst_keeps burst) in record {
+      let b = state_is (burst_keeps anywhere anywhere burst) in record {
         last = k.last ∙ (λ i. (b i).last);
         turns = k.turns ∙ (λ i. (b i).turns);
       }

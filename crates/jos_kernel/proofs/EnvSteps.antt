@@ -13,17 +13,19 @@ use Rattle.jos_base.specs.UserMemory.{byte_at}
 use Rattle.jos_cpu.specs.declared.events.Event.{Event}
 use Rattle.jos_cpu.specs.declared.events.Gates.{Gates}
 use Rattle.jos_cpu.specs.declared.events.Gates.TheVariants.{Exo}
-use Rattle.jos_cpu.specs.declared.memory.MemFault.TheVariants.{Page}
+use Rattle.jos_cpu.specs.declared.memory.MemFault.TheVariants.{Page, Fence}
+use Rattle.jos_cpu.specs.Memory.{anywhere}
 use Rattle.jos_cpu.specs.Steps.{step_of}
 use Rattle.jos_cpu.specs.Bursts.{Machine, StepsTo}
 use Rattle.jos_cpu.proofs.Agreement.{Agrees, through}
+use Rattle.jos_cpu.proofs.Fenced.{agrees_within}
 use Rattle.jos_cpu.proofs.Through.{step_through}
-use Rattle.jos_kernel.specs.Running.{Running, user_memory, byte_in, allowed_in, fault_in, touched_in, stored_in}
+use Rattle.jos_kernel.specs.Running.{Running, user_memory, memory_inside, byte_in, allowed_in, fault_in, touched_in, stored_in}
 use Rattle.jos_kernel.specs.Steps.{after_event, after_instruction, env_step}
 use Rattle.jos_base.proofs.Maps.{upd-at, upd-twice}
 
 -- the memory with other registers in a slot
-abbrev with_registers_in : ℕ → Regs → Running → Running
+abbrev pub with_registers_in : ℕ → Regs → Running → Running
 with_registers_in n regs m = record { state = with_registers m.state n regs; directory = m.directory }
 
 -- what a user reads of the slots tells of no registers
@@ -71,12 +73,13 @@ module _ (n : ℕ) (regs : Regs) where
     stored = λ m h va byte small. (tt, λ i. record { state = same_stored n regs m.state m.directory va byte i; directory = m.directory });
   }
 
-  pub step_with_registers : (now : Regs) (m : Running) (gates : Gates) →
-      step_of user_memory now (with_registers_in n regs m) gates ≡ through (with_registers_in n regs) (step_of user_memory now m gates)
-  step_with_registers now m gates = (step_through agrees now m gates tt).1
+  pub step_with_registers : (inside : ℕ → Bool) (now : Regs) (m : Running) (gates : Gates) →
+      step_of (memory_inside inside) now (with_registers_in n regs m) gates
+      ≡ through (with_registers_in n regs) (step_of (memory_inside inside) now m gates)
+  step_with_registers inside now m gates = (step_through (agrees_within inside Fence agrees) now m gates tt).1
 
 -- registers that are set twice
-registers_twice : (s : KernelState) (n : ℕ) (regs new : Regs) → with_registers (with_registers s n regs) n new ≡ with_registers s n new
+pub registers_twice : (s : KernelState) (n : ℕ) (regs new : Regs) → with_registers (with_registers s n regs) n new ≡ with_registers s n new
 registers_twice s n regs new =
     let slots = s.environments.slots in
     let first : Slot = record (slots n) { registers = regs } in
@@ -95,6 +98,6 @@ env_step_is n {event} before after step loaded =
     upd-at s.environments.slots n (record (slot_at s n) { registers = before.regs }) in
     (λ i. after_instruction n (step_of user_memory (slot_is i).registers (record { state = entered; directory = Some (slot_is i).directory }) Exo))
     ∙ (λ i. after_instruction n (step_of user_memory before.regs (record { state = entered; directory = sym loaded i }) Exo))
-    ∙ ap (after_instruction n) (step_with_registers n before.regs before.regs before.memory Exo)
+    ∙ ap (after_instruction n) (step_with_registers n before.regs anywhere before.regs before.memory Exo)
     ∙ (λ i. after_instruction n (through (with_registers_in n before.regs) (step i)))
     ∙ (λ i. after_event (registers_twice after.memory.state n before.regs after.regs i) n event)

@@ -1,5 +1,5 @@
 -- What comes of an instruction is what its system call or its trap has done.
-use Rattle.std.proofs.Common.{◌≡◌, ◌≢◌, ◌==◌, ℕ, false, List, [], length, Option, Some, None, Result, Ok, Err}
+use Rattle.std.proofs.Common.{true, ◌≡◌, ◌≢◌, ◌==◌, ℕ, false, List, [], length, Option, Some, None, Result, Ok, Err}
 use Rattle.std.proofs.Common.{refl, sym, ap, subst, ◌∙◌, arith}
 use Rattle.std.proofs.lemmas.Bool.Decides.{nat_tests}
 use Rattle.std.proofs.lemmas.List.{append-nil}
@@ -9,7 +9,9 @@ use Rattle.jos_host.specs.Gains.{Gains, GainsPart}
 use Rattle.jos_base.specs.declared.line.Line.{Line}
 use Rattle.jos_base.specs.declared.line.Line.TheVariants as line
 use Rattle.jos_base.specs.declared.numbers.TheConstants.{T_BRKPT, T_PGFLT, T_SYSCALL}
-use Rattle.jos_base.specs.KernelState.{KernelState, slot_at}
+use Rattle.jos_base.specs.declared.registers.Regs.{Regs}
+use Rattle.jos_base.specs.Environments.{Slot, is_live}
+use Rattle.jos_base.specs.KernelState.{KernelState, slot_at, with_registers}
 use Rattle.jos_base.specs.SystemCalls.{Did, trapped_by, system_call, handled, killed}
 use Rattle.jos_cpu.specs.declared.events.Event.TheVariants.{Soft}
 use Rattle.jos_sys.specs.declared.system.Answer.{Answer}
@@ -17,6 +19,7 @@ use Rattle.jos_sys.specs.System.{Does}
 use Rattle.jos_kernel.specs.Machine.{Follows}
 use Rattle.jos_kernel.specs.declared.machine.Followed.{Followed}
 use Rattle.jos_kernel.specs.declared.trace.TrapLine.{TrapLine}
+use Rattle.jos_base.proofs.Maps.{upd-at}
 use Rattle.jos_kernel.specs.Steps.{EnvStep, trapped, after_call, after_event, after_trap}
 
 -- ---- what is done, and what a step leaves
@@ -57,13 +60,22 @@ pub upcall_made : (s t : KernelState) (n trap error va ip : ℕ) → trap ≡ T_
 upcall_made s t n trap error va ip e h = rw (e, h) refl
 
 -- a trap's own line
-pub fault_line : (s : KernelState) (n trap error va ip : ℕ) (told : Line) → trap ≡ T_PGFLT → handled s n (record { va = va; error = error }) ≡ None →
-    ip ≡ (slot_at s n).registers.eip → told ≡ line.UserFault va ip →
-    trapped s n trap error va (slot_at s n).registers.eip ≡ trapped_by (killed s n told)
-fault_line s n trap error va ip told e h at is = rw (e, h, is, at) refl
+pub fault_line : (s : KernelState) (n trap error va ip eip : ℕ) (told : Line) → trap ≡ T_PGFLT → handled s n (record { va = va; error = error }) ≡ None →
+    eip ≡ (slot_at s n).registers.eip → told ≡ line.UserFault va eip → trapped s n trap error va ip ≡ trapped_by (killed s n told)
+fault_line s n trap error va ip eip told e h at is = rw (e, h, is, at) refl
 
-pub trap_line : (s : KernelState) (n trap error va ip : ℕ) (told : Line) → trap ≢ T_PGFLT → ip ≡ (slot_at s n).registers.eip →
-    told ≡ line.Trap trap error ip → trapped s n trap error va (slot_at s n).registers.eip ≡ trapped_by (killed s n told)
-trap_line s n trap error va ip told ne at is =
+pub trap_line : (s : KernelState) (n trap error va ip : ℕ) (told : Line) → trap ≢ T_PGFLT → told ≡ line.Trap trap error ip →
+    trapped s n trap error va ip ≡ trapped_by (killed s n told)
+trap_line s n trap error va ip told ne is =
     let other : (trap == T_PGFLT) ≡ false = grind (arith, nat_tests) in
-    rw (other, is, at) refl
+    rw (other, is) refl
+
+-- the registers that were put into a slot stand there
+pub registers_there : (s t : KernelState) (n : ℕ) (regs : Regs) → s ≡ with_registers t n regs → (slot_at s n).registers ≡ regs
+registers_there s t n regs e =
+    (λ i. (slot_at (e i) n).registers) ∙ ap (λ (slot : Slot). slot.registers) (upd-at t.environments.slots n (record (slot_at t n) { registers = regs }))
+
+-- and the environment is as live as it was
+pub live_there : (s t : KernelState) (n : ℕ) (regs : Regs) → s ≡ with_registers t n regs → is_live (slot_at t n) ≡ true → is_live (slot_at s n) ≡ true
+live_there s t n regs e live =
+    (λ i. is_live (slot_at (e i) n)) ∙ ap is_live (upd-at t.environments.slots n (record (slot_at t n) { registers = regs })) ∙ live

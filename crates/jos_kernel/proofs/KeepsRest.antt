@@ -1,19 +1,21 @@
--- A step of the processor changes address spaces alone: the directory that is loaded stays loaded, and environments,
+-- A step of the processor changes address spaces alone, also inside a fence: the directory that is loaded stays loaded, and environments,
 -- input, turns and refusals stay.
-use Rattle.std.proofs.Common.{◌≡◌, ℕ, suc, zero, Option, Some, None, refl, sym, ap, ◌∙◌}
+use Rattle.std.proofs.Common.{◌≡◌, ℕ, suc, zero, Bool, Option, Some, None, refl, sym, ap, ◌∙◌}
 use Rattle.jos_base.specs.declared.memory.Access.{Access}
 use Rattle.jos_base.specs.declared.registers.Regs.{Regs}
 use Rattle.jos_base.specs.SpacesState.{SpacesState}
 use Rattle.jos_base.specs.KernelState.{KernelState, slot_at, with_spaces}
 use Rattle.jos_base.specs.UserMemory.{touched, stored_byte}
+use Rattle.jos_cpu.specs.declared.memory.MemFault.TheVariants.{Fence}
 use Rattle.jos_cpu.specs.declared.events.Event.{Event}
 use Rattle.jos_cpu.specs.declared.events.Event.TheVariants.{Next}
 use Rattle.jos_cpu.specs.declared.events.Gates.{Gates}
 use Rattle.jos_cpu.specs.Steps.{Stepped, step_of}
 use Rattle.jos_cpu.specs.Bursts.{Machine, StepsTo, GoesOn, IsBurst}
 use Rattle.jos_cpu.proofs.Agreement.{Agrees}
+use Rattle.jos_cpu.proofs.Fenced.{agrees_within}
 use Rattle.jos_cpu.proofs.Through.{step_through}
-use Rattle.jos_kernel.specs.Running.{Running, user_memory, touched_in, stored_in}
+use Rattle.jos_kernel.specs.Running.{Running, user_memory, memory_inside, touched_in, stored_in}
 
 -- the memory with other address spaces
 abbrev pub with_other_spaces : Running → SpacesState → Running
@@ -64,23 +66,23 @@ module _ (before : Running) where
   }
 
   -- a step keeps all but the spaces
-  pub step_keeps : (regs : Regs) (gates : Gates) → KeepsRest before (step_of user_memory regs before gates).memory
-  step_keeps regs gates = (step_through agrees regs before gates (same before)).0
+  pub step_keeps : (inside : ℕ → Bool) (regs : Regs) (gates : Gates) → KeepsRest before (step_of (memory_inside inside) regs before gates).memory
+  step_keeps inside regs gates = (step_through (agrees_within inside Fence agrees) regs before gates (same before)).0
 
-pub steps_keeps : (gates : Gates) (event : Event) (before after : Machine Running) → StepsTo user_memory gates before event after →
-    KeepsRest before.memory after.memory
-steps_keeps gates event before after e =
-    let k = step_keeps before.memory before.regs gates in
+pub steps_keeps : (inside : ℕ → Bool) (gates : Gates) (event : Event) (before after : Machine Running) →
+    StepsTo (memory_inside inside) gates before event after → KeepsRest before.memory after.memory
+steps_keeps inside gates event before after e =
+    let k = step_keeps before.memory inside before.regs gates in
     record { spaces = k.spaces; memory_is = sym (ap (λ (s : Stepped Running). s.memory) e) ∙ k.memory_is }
 
-pub going_keeps : (gates : Gates) (n : ℕ) (before after : Machine Running) → GoesOn user_memory gates n before after →
-    KeepsRest before.memory after.memory
-going_keeps gates zero before after e =
+pub going_keeps : (inside stands : ℕ → Bool) (gates : Gates) (n : ℕ) (before after : Machine Running) →
+    GoesOn (memory_inside inside) stands gates n before after → KeepsRest before.memory after.memory
+going_keeps inside stands gates zero before after e =
     record { spaces = before.memory.state.spaces; memory_is = ap (λ (m : Machine Running). m.memory) e }
-going_keeps gates (suc n) before after g =
-    both (steps_keeps gates Next before g.0 g.1) (going_keeps gates n g.0 after g.2)
+going_keeps inside stands gates (suc n) before after g =
+    both (steps_keeps inside gates Next before g.0 g.1) (going_keeps inside stands gates n g.0 after g.3)
 
-pub burst_keeps : {gates : Gates} {limit steps : ℕ} {event : Event} {before after : Machine Running} →
-    IsBurst user_memory gates limit steps event before after → KeepsRest before.memory after.memory
-burst_keeps {gates} {limit} {steps} {event} {before} {after} b =
-    both (going_keeps gates b.going before b.reached b.went) (steps_keeps gates event b.reached after b.last)
+pub burst_keeps : (inside stands : ℕ → Bool) {gates : Gates} {limit steps ip : ℕ} {event : Event} {before after : Machine Running} →
+    IsBurst (memory_inside inside) stands gates limit steps ip event before after → KeepsRest before.memory after.memory
+burst_keeps inside stands {gates = gates} {event = event} {before = before} {after = after} b =
+    both (going_keeps inside stands gates b.going before b.reached b.went) (steps_keeps inside gates event b.reached after b.last)

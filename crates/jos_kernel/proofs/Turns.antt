@@ -14,6 +14,7 @@ use Rattle.jos_envs.specs.Table.{any_live, any_live_below}
 use Rattle.jos_sched.specs.Quantum.{quantum}
 use Rattle.jos_cpu.specs.declared.events.Event.TheVariants.{Next}
 use Rattle.jos_cpu.specs.declared.events.Gates.TheVariants.{Exo}
+use Rattle.jos_cpu.specs.Memory.{anywhere}
 use Rattle.jos_cpu.specs.Bursts.{Machine, StepsTo, GoesOn}
 use Rattle.jos_kernel.specs.declared.report.Refusal.{Refusal}
 use Rattle.jos_kernel.specs.Running.{Running, user_memory}
@@ -128,7 +129,7 @@ module _ (schedule : List ℕ) (c : ℕ) where
   module _ (p : Progress) (before after : Machine Running) (t : InTurn c p before) (step : StepsTo user_memory Exo before Next after)
       (below : p.made + 1 < quantum schedule (length p.turns)) where
     kept : KeepsRest before.memory after.memory
-    kept = steps_keeps Exo Next before after step
+    kept = steps_keeps anywhere Exo Next before after step
 
     slot : slot_at after.memory.state c ≡ slot_at before.memory.state c
     slot = slot_is kept c
@@ -184,7 +185,7 @@ module _ (schedule : List ℕ) (c : ℕ) where
 
   -- so many steps that go on, and one more
   pub many : (n later : ℕ) (p : Progress) (before after : Machine Running) → InTurn c p before → p.made + n < quantum schedule (length p.turns) →
-      GoesOn user_memory Exo n before after →
+      GoesOn user_memory anywhere Exo n before after →
       run_from schedule (suc n + later) p
       ≡ run_from schedule later (progressed schedule (further p n) (env_step (with_registers after.memory.state c after.regs) c))
   many zero later p before after t below g =
@@ -199,6 +200,6 @@ module _ (schedule : List ℕ) (c : ℕ) where
       let q = went c p g.0 in
       ap (λ (x : ℕ). run_from schedule x p) a
       ∙ run_from-went p before g.0 t g.1 first (suc n + later)
-      ∙ many n later q g.0 after (turn-went p before g.0 t g.1 first) (omega (arith, below)) g.2
+      ∙ many n later q g.0 after (turn-went p before g.0 t g.1 first) (omega (arith, below)) g.3
       ∙ ap (run_from schedule later) (progressed-same (further q n) (further p (suc n)) _
       (sym (refusals p before g.0 t g.1 first)) (omega arith) (omega arith) refl refl refl refl)

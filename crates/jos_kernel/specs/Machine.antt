@@ -1,10 +1,11 @@
 -- What the machine means: the kernel's state, and the memory of the environment that runs.
-use Rattle.std.specs.Prelude.{◌≡◌, ℕ, List, true, length, Option, Some, None, Result, Ok, Err}
+use Rattle.std.specs.Prelude.{◌≡◌, ℕ, ◌*◌, Bool, List, true, length, Option, Some, None, Result, Ok, Err}
 use Rattle.std.specs.Option.{option_map}
 use Rattle.jos_host.specs.declared.host.Failed.{Failed}
 use Rattle.jos_host.specs.Frames.{Around}
 use Rattle.jos_host.specs.Gains.{Gains, GainsPart}
 use Rattle.jos_base.specs.declared.line.Line.{Line}
+use Rattle.jos_base.specs.declared.numbers.TheConstants.{PGSIZE}
 use Rattle.jos_base.specs.declared.line.Line.TheVariants.{UserFault}
 use Rattle.jos_base.specs.KernelState.{KernelState}
 use Rattle.jos_space.specs.declared.spaces.Space.{Space}
@@ -29,15 +30,17 @@ abbrev pub InUse : System → Option Space → Type 0
 InUse system None = Unit {0}
 InUse system (Some space) = in_use system space.directory.0 ≡ true
 
--- the page that is known to be at hand is one of the space that is loaded, and is at hand
-abbrev pub KnowsCode : System → Option Space → Option PageAtHand → Type 0
-KnowsCode system space None = Unit {0}
-KnowsCode system space (Some page) = (space ≡ Some page.space) × IsPageAtHand (spaces_of system) page
+-- the page that is known to be at hand is one of the space that is loaded, is at hand, and lies inside the fence
+abbrev pub KnowsCode : (ℕ → Bool) → System → Option Space → Option PageAtHand → Type 0
+KnowsCode inside system space None = Unit {0}
+KnowsCode inside system space (Some page) =
+    (space ≡ Some page.space) × IsPageAtHand (spaces_of system) page × (inside (page.number * PGSIZE) ≡ true)
 
-pub record Lawful (m : Parts) : Type 0 where
+-- what a machine with a fence keeps of them
+pub record Lawful (inside : ℕ → Bool) (m : Parts) : Type 0 where
   pub system : Keeps m.system
   pub space : InUse m.system m.space
-  pub code : KnowsCode m.system m.space m.code
+  pub code : KnowsCode inside m.system m.space m.code
 
 abbrev pub kernel_state : Parts → KernelState
 kernel_state m = state_of m.system (left_of m.input)

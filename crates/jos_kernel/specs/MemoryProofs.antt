@@ -1,4 +1,4 @@
--- The memory of the environment that runs is lawful: reaching for a byte sets bits that no right hangs on, and putting
+-- The memory of the environment that runs is lawful, inside a fence too: reaching for a byte sets bits that no right hangs on, and putting
 -- one changes one page's bytes. This is a proof and no definition, to be passed over when reading: `lawful` of the
 -- machine can import it from here alone.
 use Rattle.std.specs.Prelude.{◌≡◌, ◌⊎◌, ℕ, ◌/◌, ◌%◌, ◌==◌, nat_lt, Bool, true, false, List, Option, Some, None, Result, Ok, Err}
@@ -22,10 +22,10 @@ use Rattle.jos_base.specs.KernelState.{KernelState}
 use Rattle.jos_base.specs.UserMemory.{reach_in, fault_or, access_bits, region_accessed, entry_marked}
 use Rattle.jos_base.specs.UserMemory.{with_page_bits, with_region_bit, with_bits, touched, touched_by}
 use Rattle.jos_base.specs.UserMemory.{byte_at, byte_of, byte_or_zero, stored_byte, with_byte_at}
-use Rattle.jos_cpu.specs.declared.memory.MemFault.TheVariants.{Page}
+use Rattle.jos_cpu.specs.declared.memory.MemFault.TheVariants.{Page, Fence}
 use Rattle.jos_cpu.specs.Memory.{IsLawful}
-use Rattle.jos_cpu.specs.MemoryProofs.{set_or_same}
-use Rattle.jos_kernel.specs.Running.{user_memory, byte_in, allowed_in, fault_in, touched_in, stored_in}
+use Rattle.jos_cpu.specs.MemoryProofs.{set_or_same, fenced_is_lawful}
+use Rattle.jos_kernel.specs.Running.{user_memory, memory_inside, byte_in, allowed_in, fault_in, touched_in, stored_in}
 
 -- ---- rights by the bits of an entry
 
@@ -210,3 +210,6 @@ user_memory_is_lawful = record {
   stored_rights = λ m va byte. stored_rights m.state m.directory va byte;
   stored_faults = λ m va byte. λ i q b. Page (stored_faults m.state m.directory va byte i q b);
 }
+
+pub memory_inside_is_lawful : (inside : ℕ → Bool) → IsLawful (memory_inside inside)
+memory_inside_is_lawful inside = fenced_is_lawful inside Fence user_memory_is_lawful

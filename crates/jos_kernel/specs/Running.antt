@@ -7,8 +7,8 @@ use Rattle.jos_base.specs.Reach.{reach_entry}
 use Rattle.jos_base.specs.Environments.{records_of}
 use Rattle.jos_base.specs.KernelState.{KernelState, with_spaces}
 use Rattle.jos_base.specs.UserMemory.{is_allowed, fault_at, fault_or, touched, byte_at, stored_byte}
-use Rattle.jos_cpu.specs.declared.memory.MemFault.TheVariants.{Page}
-use Rattle.jos_cpu.specs.Memory.{Memory}
+use Rattle.jos_cpu.specs.declared.memory.MemFault.TheVariants.{Page, Fence}
+use Rattle.jos_cpu.specs.Memory.{Memory, fenced}
 
 pub record Running : Type 0 where
   pub state : KernelState
@@ -55,3 +55,7 @@ user_memory = record {
   reached = λ m va access. with_state m (touched_in m.state m.directory va access);
   stored = λ m va byte. with_state m (stored_in m.state m.directory va byte);
 }
+
+-- the same inside a fence, which is looked at before the page
+abbrev pub memory_inside : (ℕ → Bool) → Memory Running
+memory_inside inside = fenced inside Fence user_memory

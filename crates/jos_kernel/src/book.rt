@@ -184,12 +184,13 @@ impl Book {
         false
     }
 
-    /// Tells one visible step more of the turn, in which a call of the host failed. It is counted nowhere else.
-    pub fn tell_failed_step(&mut self)
-        requires { made self.old + 1 < 2 ^ 31 }
-        ensures { self.new ≡ record self.old { visible = self.old.visible + 1 } }
+    /// Tells so many visible steps more of the turn, in the last of which a call of the host failed. They are counted nowhere
+    /// else.
+    pub fn tell_failed_steps(&mut self, steps: u32)
+        requires { made self.old + steps < 2 ^ 31 }
+        ensures { self.new ≡ record self.old { visible = self.old.visible + steps } }
     {
-        self.visible += 1;
+        self.visible += steps;
     }
 
     /// Lists the turn under way, that of a slot, as one that is over.

@@ -21,6 +21,7 @@ ghost use Rattle.jos_kernel.specs.declared.kernel.BootFault.TheVariants.{NoMemor
 
 use crate::book::{Book, take_room};
 use crate::boot::boot_images;
+use crate::fence::Open;
 use crate::machine::Machine;
 use crate::report::{End, Report, Stopped};
 use crate::trace::Trace;
@@ -67,7 +68,7 @@ pub enum ExoEnd {
 /// The kernel in its run.
 #[derive(Drop)]
 pub struct Kernel {
-    machine: Machine,
+    machine: Machine<Open>,
     /// What was decoded.
     decodings: Decodings,
     book: Book,

@@ -10,6 +10,7 @@
 
 mod book;
 mod boot;
+mod fence;
 mod kernel;
 mod machine;
 mod report;
@@ -17,6 +18,8 @@ mod trace;
 
 pub use book::{Book, take_room};
 pub use boot::{boot_images, first_registers, load_pages, next_touched};
+pub use fence::{Fence, Open};
 pub use kernel::{BootFault, ExoEnd, Kernel, exo_run};
+pub use machine::{Followed, Machine};
 pub use report::{End, Refusal, Report, Stopped, Turn};
 pub use trace::{Trace, TrapLine};

@@ -16,7 +16,7 @@ use Rattle.jos_base.specs.Environments.{Slot as KernelSlot, free_slot, records_o
 use Rattle.jos_base.specs.KernelState.{KernelState, slot_at, with_slot_at, with_registers, with_extra, with_spaces}
 use Rattle.jos_base.specs.Lines.{line_text}
 use Rattle.jos_base.specs.Reach.{Entry}
-use Rattle.jos_base.specs.SpacesState.{SpacesState, page, directory, destroyed}
+use Rattle.jos_base.specs.SpacesState.{SpacesState, destroyed}
 use Rattle.jos_base.specs.SystemCalls.{Did, Trapped, handled, delivered_to, deliver_fault, trapped_by, killed, without_environment}
 use Rattle.jos_base.specs.UserMemory.{is_allowed, fault_at, byte_at, touched, stored_byte}
 use Rattle.jos_base.specs.Words.{page_number, upd}

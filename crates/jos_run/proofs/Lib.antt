@@ -1,3 +1,4 @@
+pub mod Looked
 pub mod Accesses
 pub mod Answers
 pub mod Choices
@@ -26,7 +27,10 @@ pub mod StartStands
 pub mod EnoughFrames
 pub mod Refusals
 pub mod Advancing
+pub mod QuietSteps
 pub mod RunSteps
+pub mod StepsAtOnce
+pub mod GuestBursts
 pub mod StepsMade
 pub mod RunEnds
 pub mod TurnsCounted

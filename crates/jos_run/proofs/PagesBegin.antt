@@ -13,7 +13,7 @@ use Rattle.jos_base.specs.Counting.{frame_limit, page_limit}
 use Rattle.jos_base.specs.Environments.{Environments, no_extra}
 use Rattle.jos_base.specs.KernelState.{KernelState, HasSpaces, slot_at, with_spaces}
 use Rattle.jos_base.specs.Reach.{Entry}
-use Rattle.jos_base.specs.SpacesState.{SpacesState, free, directory, is_directory, allocated}
+use Rattle.jos_base.specs.SpacesState.{SpacesState, directory, is_directory, allocated}
 use Rattle.jos_base.specs.SpacesState.{with_page_bytes}
 use Rattle.jos_base.specs.SystemCalls.{has_write, is_page_perm}
 use Rattle.jos_base.specs.Words.{upd}

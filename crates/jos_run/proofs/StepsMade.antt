@@ -1,12 +1,14 @@
--- A run after one more step: what the calls of a step have done to it tells where it has come to.
+-- A run after more steps: what the calls of steps that are made at once have done to it tells where it has come to.
 use Rattle.std.proofs.Common.{◌≡◌, ◌∙◌, ℕ, ◌+◌, ◌-◌, ◌^◌, ◌<◌, ◌≤◌, ◌==◌, ◌&&◌, Bool, true, false, List, [], ◌∷◌, ◌++◌, length, min}
-use Rattle.std.proofs.Common.{Option, Some, None, refl, sym, ap, subst, arith, if◌then◌else◌, take, drop, vec_len}
+use Rattle.std.proofs.Common.{Option, Some, None, Result, refl, sym, ap, subst, arith, if◌then◌else◌, take, drop, vec_len}
 use Rattle.std.specs.Prelude.{nat_lt, nat_le, not}
 use Rattle.std.proofs.lemmas.Bool.Decides.{nat_tests}
 use Rattle.std.proofs.lemmas.List.{take-append-drop}
 use Rattle.circular_buffer.specs.Buffer.{Buffer, buffer, keep_last}
+use Rattle.jos_host.specs.declared.host.Failed.{Failed}
 use Rattle.jos_host.specs.Frames.{Around, from_to}
 use Rattle.jos_host.specs.Gains.{Gains, GainsPart}
+use Rattle.jos_base.specs.declared.environment.Status.{Status}
 use Rattle.jos_base.specs.declared.environment.Status.TheVariants.{Runnable}
 use Rattle.jos_base.specs.Environments.{is_running}
 use Rattle.jos_base.specs.KernelState.{KernelState, slot_at, with_status, turn_begun, turn_ended}
@@ -18,6 +20,7 @@ use Rattle.jos_kernel.specs.declared.trace.TrapLine.{TrapLine}
 use Rattle.jos_kernel.specs.Books.{turn_of, noted, traced, made}
 use Rattle.jos_kernel.proofs.Advancing.{counted-more}
 use Rattle.jos_kernel.proofs.Turns.{running_live}
+use Rattle.lib_os.specs.declared.place.Place.TheVariants as place
 use Rattle.lib_os.specs.declared.progress.Progress.{Progress}
 use Rattle.lib_os.specs.declared.progress.Progress.TheVariants as progress
 use Rattle.lib_os.specs.AbstractState.{AbstractState}
@@ -25,19 +28,24 @@ use Rattle.lib_os.specs.AbstractRun.{abs_step}
 use Rattle.lib_os.specs.LibrarySteps.{Stands, Keeps, NothingRefused, KeepsTurn, KeepsUses, LeavesRest}
 use Rattle.lib_os.specs.Need.{EachHasUse, NeedIsReached, need}
 use Rattle.lib_os.specs.Places.{place_of}
+use Rattle.lib_os.specs.UserCalls.{Output}
 use Rattle.jos_run.specs.declared.library_run.LibraryRun.{LibraryRun}
+use Rattle.jos_run.specs.declared.steps.Stepped.{Stepped}
 use Rattle.jos_run.specs.AbstractTurns.{steps_taken}
 use Rattle.jos_run.specs.AbstractTurns.{turn_begun as begun_at}
 use Rattle.jos_run.specs.LibraryRuns.{IsBetween, IsInTurn, visible_steps, hidden_steps}
 use Rattle.jos_run.specs.RunReports.{IsRefused, IsCutOff, CutOffBy}
 use Rattle.jos_run.specs.RunSteps.{StepMade, LeadTo, traps_of, written_in, turns_with}
 use Rattle.jos_run.specs.Steps.{Raises}
+use Rattle.jos_run.specs.StepsAtOnce.{GuestGoesOn, MakesSteps}
 use Rattle.jos_run.specs.Running.{state_of, turns_so_far, Holds, StandsBy, StandsSo, RunsBy, Runs, IsChosen, entered}
 use Rattle.jos_run.specs.Running.{goes_on_after, turn_after, CountedBy, Counted, Went, HasFailed}
 use Rattle.jos_run.proofs.Advancing.{Comes, stepped, turn_over}
-use Rattle.jos_run.proofs.RunSteps.{lead_one, kept_one, written_one, turn_longer}
+use Rattle.jos_run.proofs.QuietSteps.{GoneQuietly, gone_quietly, quiet_in_turn, quiet_each}
+use Rattle.jos_run.proofs.RunSteps.{kept_one, written_one}
 use Rattle.jos_run.proofs.Refusals.{refused_further, refused_longer}
 use Rattle.jos_run.proofs.RunsKept.{turn_begins, in_turn_ran, step_failed, failed_fits}
+use Rattle.jos_run.proofs.StepsAtOnce.{made_step, steps_with, steps_long, steps_lead, steps_traps, steps_written, steps_turns}
 
 -- ---- the turn under way, or the next
 
@@ -84,15 +92,6 @@ entered_turns r n holds = by_test (made r.book == 0) refl holds.turns
     by_test true is h = ap (λ (k : ℕ). k + 1) h
     by_test false is h = h
 
--- a turn of so many steps has one left
-pub one_left : (r : LibraryRun) → Holds r → 1 ≤ quantum r.book.schedule (length r.book.turns.items) →
-    made r.book < quantum r.book.schedule (length r.book.turns.items)
-one_left r holds least = by_test (made r.book == 0) refl
-  where
-    by_test : (c : Bool) → (made r.book == 0) ≡ c → made r.book < quantum r.book.schedule (length r.book.turns.items)
-    by_test true is = let none : made r.book ≡ 0 = none_made r is in omega arith
-    by_test false is = holds.left (some_made r is)
-
 in_turn_of : (first : AbstractState) (r : LibraryRun) (n : ℕ) (printed : List ℕ) → IsChosen r n →
     StandsBy (made r.book == 0) r.book.schedule first r printed →
     IsInTurn r.book.schedule first r.book.turns.items n r.book.visible (entered r n) printed
@@ -107,24 +106,44 @@ in_turn_of first r n printed chosen stands = by_test (made r.book == 0) refl sta
     by_test false is h =
         subst (λ (m : ℕ). IsInTurn r.book.schedule first r.book.turns.items m r.book.visible (state_of r) printed) (sym (chosen.turn (some_made r is))) h
 
--- ---- one step
+-- ---- steps
 
 -- what holds of a slot and of a state holds of the same in other words
 pub moved : {n n' : ℕ} {s s' : KernelState} (holds : ℕ → KernelState → Type 0) → n ≡ n' → s ≡ s' → holds n s → holds n' s'
 moved {n' = n'} {s = s} holds a b h = subst (λ (x : KernelState). holds n' x) b (subst (λ (x : ℕ). holds x s) a h)
 
--- what the calls of a step have done before it is counted
-pub record Makes (r m : LibraryRun) (n : ℕ) (done : Progress) (bytes : List ℕ) : Type 0 where
+-- so many steps went on in the turn, and the last begins
+pub record Reaches (r : LibraryRun) (n going : ℕ) : Type 0 where
   pub holds : Holds r
   pub chosen : IsChosen r n
-  pub least : 1 ≤ quantum r.book.schedule (length r.book.turns.items)
+  pub left : made r.book + going < quantum r.book.schedule (length r.book.turns.items)
   pub running : is_running (slot_at (entered r n) n).status ≡ true
-  pub keeps : Keeps done n (entered r n) (state_of m) bytes
-  pub rest : LeavesRest (entered r n) (state_of m)
-  pub turn : KeepsTurn done (slot_at (entered r n) n) (slot_at (state_of m) n)
+  pub is_guest : 0 < going → place_of (slot_at (entered r n) n) ≡ place.Guest
+  pub reached : KernelState
+  pub went : GuestGoesOn n going (entered r n) reached
+
+abbrev pub reaches : {r : LibraryRun} {n going : ℕ} {last : Result Stepped Failed} {after : KernelState} {output : Output} → Holds r → IsChosen r n →
+    made r.book + going < quantum r.book.schedule (length r.book.turns.items) → is_running (slot_at (entered r n) n).status ≡ true →
+    MakesSteps n going last (entered r n) after output → Reaches r n going
+reaches holds chosen left running b = record {
+  holds = holds;
+  chosen = chosen;
+  left = left;
+  running = running;
+  is_guest = b.is_guest;
+  reached = b.reached;
+  went = b.went;
+}
+
+-- what the calls of steps have done before they are counted
+pub record Makes (r m : LibraryRun) (n going : ℕ) (done : Progress) (bytes : List ℕ) : Type 0 where
+  pub before : Reaches r n going
+  pub keeps : Keeps done n before.reached (state_of m) bytes
+  pub rest : LeavesRest before.reached (state_of m)
+  pub turn : KeepsTurn done (slot_at before.reached n) (slot_at (state_of m) n)
   pub trap : Option TrapLine
-  pub raises : Raises (place_of (slot_at (entered r n) n)) n (entered r n) trap (state_of m)
-  pub uses : KeepsUses n (entered r n) (state_of m)
+  pub raises : Raises (place_of (slot_at before.reached n)) n before.reached trap (state_of m)
+  pub uses : KeepsUses n before.reached (state_of m)
   pub slot : m.served.slot ≡ n
   pub written : m.served.written ≡ min (r.served.written + length bytes) (2 ^ 64 - 1)
   pub book : m.book ≡ record r.book {
@@ -140,16 +159,26 @@ one_step progress.Visible = refl
 one_step progress.Finished = refl
 one_step progress.Ended = refl
 
-pub some_step : (done : Progress) → 0 < visible_steps done + hidden_steps done
-some_step done = let one : visible_steps done + hidden_steps done ≡ 1 = one_step done in omega (arith, one)
+-- and behind so many that go on there is one more in all
+abbrev pub seen_with : ℕ → Progress → ℕ
+seen_with going done = going + visible_steps done
 
--- the turn under way with the step
-abbrev turn_with : LibraryRun → Progress → Turn
-turn_with m done = turn_after m (visible_steps done) (hidden_steps done)
+pub all_steps : (going : ℕ) (done : Progress) → seen_with going done + hidden_steps done ≡ going + 1
+all_steps going done = let one : visible_steps done + hidden_steps done ≡ 1 = one_step done in omega (arith, one)
 
--- what is counted of it
-abbrev pub CountsStep : LibraryRun → LibraryRun → Progress → Type 0
-CountsStep old new done = Counted old new (visible_steps done) (hidden_steps done)
+pub some_steps : (going : ℕ) (done : Progress) → 0 < seen_with going done + hidden_steps done
+some_steps going done = let all : seen_with going done + hidden_steps done ≡ going + 1 = all_steps going done in omega (arith, all)
+
+-- the turn under way with the steps
+abbrev turn_with : LibraryRun → ℕ → Progress → Turn
+turn_with m going done = turn_after m (seen_with going done) (hidden_steps done)
+
+-- what is counted of them
+abbrev pub CountsSteps : LibraryRun → LibraryRun → ℕ → Progress → Type 0
+CountsSteps old new going done = Counted old new (seen_with going done) (hidden_steps done)
+
+abbrev turn_goes_on : LibraryRun → ℕ → Progress → Bool
+turn_goes_on m going done = goes_on_after m (seen_with going done + hidden_steps done)
 
 -- the turns that are told behind steps that were counted
 pub told_turns : (c : Bool) (m after : LibraryRun) (visible hidden : ℕ) → 0 < visible + hidden → CountedBy c m after visible hidden →
@@ -212,115 +241,12 @@ stands_after false schedule first m after visible hidden printed goes_on k by mo
     subst (λ (b : Bool). StandsBy b after.book.schedule first after printed) none
     (between_is (sym (k.book.schedule ∙ by)) (sym k.book.turns) (sym k.state) (turn_over h (omega (arith, more)) (omega (arith, within)) over))
 
--- What holds of the run's turn behind the step, told by what was so before.
-within_turn : (r m : LibraryRun) (n : ℕ) (done : Progress) (bytes : List ℕ) → Makes r m n done bytes →
-    made m.book + (visible_steps done + hidden_steps done) ≤ quantum r.book.schedule (length m.book.turns.items)
-within_turn r m n done bytes k =
-    let same : made m.book ≡ made r.book = λ i. made (k.book i) in
-    let turns : quantum r.book.schedule (length m.book.turns.items) ≡ quantum r.book.schedule (length r.book.turns.items) =
-    λ i. quantum r.book.schedule (length (k.book i).turns.items) in
-    let left : made r.book < quantum r.book.schedule (length r.book.turns.items) = one_left r k.holds k.least in
-    let one : visible_steps done + hidden_steps done ≡ 1 = one_step done in
-    omega (arith, same, turns, left, one)
-
--- The abstract system has come so far with the step, where nothing was refused.
-comes_with : (first : AbstractState) (r m : LibraryRun) (n : ℕ) (done : Progress) (bytes printed : List ℕ) → Makes r m n done bytes →
-    StandsBy (made r.book == 0) r.book.schedule first r printed → NothingRefused (entered r n) (state_of m) →
-    Comes r.book.schedule first m.book.turns.items m.served.slot (m.book.visible + visible_steps done) (m.book.hidden + hidden_steps done)
-    (state_of m) (printed ++ bytes)
-comes_with first r m n done bytes printed k stands none_refused =
-    comes_is (λ i. (sym k.book i).turns.items) (sym k.slot) (λ i. (sym k.book i).visible + visible_steps done)
-    (λ i. (sym k.book i).hidden + hidden_steps done)
-    (stepped bytes (in_turn_of first r n printed k.chosen stands) done k.keeps none_refused
-    (k.rest.last ∙ entered_last r n k.holds k.chosen) k.running k.turn (r.book.hidden + hidden_steps done))
-  where
-    comes_is : {turns turns' : List Turn} {n n' visible visible' hidden hidden' : ℕ} → turns ≡ turns' → n ≡ n' → visible ≡ visible' →
-        hidden ≡ hidden' → Comes r.book.schedule first turns n visible hidden (state_of m) (printed ++ bytes) →
-        Comes r.book.schedule first turns' n' visible' hidden' (state_of m) (printed ++ bytes)
-    comes_is {turns = turns} {turns' = turns'} {n = n} {n' = n'} {visible = visible} {visible' = visible'} {hidden = hidden} a b c d h =
-        subst (λ (x : ℕ). Comes r.book.schedule first turns' n' visible' x (state_of m) (printed ++ bytes)) d
-        (subst (λ (x : ℕ). Comes r.book.schedule first turns' n' x hidden (state_of m) (printed ++ bytes)) c
-        (subst (λ (x : ℕ). Comes r.book.schedule first turns' x visible hidden (state_of m) (printed ++ bytes)) b
-        (subst (λ (x : List Turn). Comes r.book.schedule first x n visible hidden (state_of m) (printed ++ bytes)) a h)))
-
--- the step adds to the visible ones, or does not
-seen_more : (r m : LibraryRun) (n : ℕ) (done : Progress) (bytes : List ℕ) → Makes r m n done bytes →
-    r.book.visible ≤ m.book.visible + visible_steps done
-seen_more r m n done bytes k = let same : m.book.visible ≡ r.book.visible = (λ i. (k.book i).visible) in omega (arith, same)
-
 -- counting leaves the frames and the refusals
 counted_rest : (c : Bool) (m after : LibraryRun) (visible hidden : ℕ) → CountedBy c m after visible hidden →
     ((state_of after).spaces ≡ (state_of m).spaces) × ((state_of after).refusals ≡ (state_of m).refusals)
 counted_rest true m after visible hidden k = ((λ i. (k.state i).spaces), (λ i. (k.state i).refusals))
 counted_rest false m after visible hidden k =
     let rest = ended_rest (state_of m) m.served.slot in ((λ i. (k.state i).spaces) ∙ rest.0, (λ i. (k.state i).refusals) ∙ rest.1)
-
-quiet_further : (first : AbstractState) (frames : ℕ) (r m after : LibraryRun) (n : ℕ) (done : Progress) (bytes printed : List ℕ) →
-    Makes r m n done bytes → CountsStep m after done → (state_of m).refusals ≡ (entered r n).refusals →
-    StandsSo first frames r printed → StandsSo first frames after (printed ++ bytes)
-quiet_further first frames r m after n done bytes printed k counts same h =
-    let kept = entered_rest r n in
-    let rest = counted_rest _ m after (visible_steps done) (hidden_steps done) counts in
-    let before : (entered r n).refusals ≡ 0 = kept.1 ∙ h.quiet in
-    let t = in_turn_of first r n printed k.chosen h.stands in
-    let none_refused : NothingRefused (entered r n) (state_of m) = record { stays = same; could = omega arith } in
-    record {
-      stands = stands_after (goes_on_after m (visible_steps done + hidden_steps done)) r.book.schedule first m after (visible_steps done)
-          (hidden_steps done) (printed ++ bytes) refl counts (λ i. (k.book i).schedule) (some_step done) (within_turn r m n done bytes k)
-          (comes_with first r m n done bytes printed k h.stands none_refused);
-      quiet = rest.1 ∙ same ∙ before;
-      frames_are = (λ i. (rest.0 i).frames) ∙ k.rest.frames ∙ (λ i. (kept.0 i).frames) ∙ h.frames_are;
-      used = subst (λ (x : SpacesState). EachHasUse x) (sym rest.0)
-          (k.uses t.stands.1.in_order (running_live (slot_at (entered r n) n) k.running)
-          (subst (λ (x : SpacesState). EachHasUse x) (sym kept.0) h.used));
-      counted_so = counts.written ∙ k.written ∙ (λ i. min (h.counted_so i + length bytes) (2 ^ 64 - 1)) ∙ counted-more printed bytes;
-    }
-
--- ---- something was refused first
-
-refused_first : NeedIsReached → (first : AbstractState) (frames : ℕ) (r m : LibraryRun) (n : ℕ) (done : Progress)
-    (bytes printed : List ℕ) →
-    Makes r m n done bytes → ((state_of m).refusals == (entered r n).refusals) ≡ false → StandsSo first frames r printed →
-    IsRefused r.book.schedule first frames (m.book.turns.items ++ turn_with m done ∷ [])
-    (record { turn = vec_len r.book.turns; console_len = r.served.written })
-    (printed ++ bytes)
-refused_first reached first frames r m n done bytes printed k rose h =
-    let t = in_turn_of first r n printed k.chosen h.stands in
-    let kept = entered_rest r n in
-    let few : length (entered r n).spaces.free ≤ 1 = by_free (nat_le 2 (length (entered r n).spaces.free)) refl in
-    let used : EachHasUse (entered r n).spaces = subst (λ (x : SpacesState). EachHasUse x) (sym kept.0) h.used in
-    let all : (entered r n).spaces.frames ≡ frames = (λ i. (kept.0 i).frames) ∙ h.frames_are in
-    record {
-      before = r.book.turns.items;
-      turn = turn_with m done;
-      later = [];
-      turns_are = λ i. (k.book i).turns.items ++ turn_with m done ∷ [];
-      place = r.book.turns.ok.0;
-      begun = t.before;
-      ran = t.ran;
-      fit = t.fit;
-      chosen = t.chosen ∙ ap (λ (x : ℕ). Some x) (sym k.slot);
-      visible = r.book.visible;
-      within = seen_more r m n done bytes k;
-      now = t.now;
-      taken = subst (λ (x : ℕ). steps_taken (begun_at t.before x) x r.book.visible ≡ Some t.now) (sym k.slot) t.taken;
-      told = printed;
-      rest = bytes;
-      printed_is = refl;
-      console = t.console;
-      console_len = h.counted_so;
-      needed = subst (λ (x : ℕ). x - reserved_frames x ≤ need t.now) all (reached t.stands.0 (entered r n) t.now t.stands.1 used few);
-    }
-  where
-    by_free : (c : Bool) → nat_le 2 (length (entered r n).spaces.free) ≡ c → length (entered r n).spaces.free ≤ 1
-    by_free true is =
-        let some : 2 ≤ length (entered r n).spaces.free = grind (arith, nat_tests) in
-        let same : (state_of m).refusals ≡ (entered r n).refusals = k.rest.refused some in
-        let test : ((state_of m).refusals == (entered r n).refusals) ≡ true = grind (arith, nat_tests) in
-        absurd (let contradiction : true ≡ false = sym test ∙ rose in cc)
-    by_free false is = grind (arith, nat_tests)
-
--- ---- it was told before
 
 -- What is told of the refusal stays so with the step.
 still_refused : (first : AbstractState) (frames : ℕ) (refusal : Refusal) (r : LibraryRun) (next : Turn) (more printed : List ℕ) →
@@ -337,213 +263,351 @@ still_refused first frames refusal r next more printed slot visible h = by_test 
     by_test false is h =
         refused_further r.book.turns.items (turn_of r.served.slot r.book.visible r.book.hidden) next more h (slot (some_made r is)) visible
 
--- ---- the step
+-- ---- the steps that went on
 
--- The run after the step.
-pub runs_further : NeedIsReached → (r m after : LibraryRun) (n : ℕ) (done : Progress) (bytes : List ℕ) → Makes r m n done bytes →
-    CountsStep m after done →
-    (first : AbstractState) (frames : ℕ) (printed : List ℕ) → Runs first frames r printed → Runs first frames after (printed ++ bytes)
-runs_further reached r m after n done bytes k counts first frames printed = by_first r.book.first_refused refl
-  where
-    refusal_by : Bool → Option Refusal → Option Refusal
-    refusal_by rose o = noted o rose (vec_len r.book.turns) r.served.written
+module _ {r : LibraryRun} {n going : ℕ} (k : Reaches r n going) where
+  -- what they leave
+  gone : GoneQuietly n (entered r n) k.reached
+  gone = gone_quietly n going (entered r n) k.reached k.went
 
-    -- where what is told of the refusal is known, with the turns as they are told
-    refused_so : (refusal : Refusal) → after.book.first_refused ≡ Some refusal → 0 < (state_of m).refusals →
-        IsRefused r.book.schedule first frames (m.book.turns.items ++ turn_with m done ∷ []) refusal (printed ++ bytes) →
-        Runs first frames after (printed ++ bytes)
-    refused_so refusal is some h =
-        subst (λ (o : Option Refusal). RunsBy o first frames after (printed ++ bytes)) (sym is) (
-          subst (λ (x : ℕ). 0 < x) (sym (counted_rest _ m after (visible_steps done) (hidden_steps done) counts).1) some,
-          subst (λ (x : List ℕ). IsRefused x first frames (turns_so_far after) refusal (printed ++ bytes))
-              (sym (counts.book.schedule ∙ (λ i. (k.book i).schedule)))
-              (subst (λ (x : List Turn). IsRefused r.book.schedule first frames x refusal (printed ++ bytes))
-              (sym (told_turns _ m after (visible_steps done) (hidden_steps done) (some_step done) counts)) h),
-        )
+  -- nothing was refused in them
+  before_last : k.reached.refusals ≡ (state_of r).refusals
+  before_last = gone.refusals ∙ (entered_rest r n).1
 
-    by_rose : (c : Bool) → ((state_of m).refusals == (entered r n).refusals) ≡ c → r.book.first_refused ≡ None →
-        StandsSo first frames r printed →
-        Runs first frames after (printed ++ bytes)
-    by_rose true test is h =
-        let same : (state_of m).refusals ≡ (entered r n).refusals = grind (arith, nat_tests) in
-        let quiet : after.book.first_refused ≡ None =
-        counts.book.first_refused ∙ (λ i. (k.book i).first_refused) ∙ ap (λ (b : Bool). refusal_by (not b) r.book.first_refused) test
-        ∙ ap (λ (o : Option Refusal). refusal_by false o) is in
-        subst (λ (o : Option Refusal). RunsBy o first frames after (printed ++ bytes)) (sym quiet)
-        (quiet_further first frames r m after n done bytes printed k counts same h)
-    by_rose false test is h =
-        let told : after.book.first_refused ≡ Some (record { turn = vec_len r.book.turns; console_len = r.served.written }) =
-        counts.book.first_refused ∙ (λ i. (k.book i).first_refused) ∙ ap (λ (b : Bool). refusal_by (not b) r.book.first_refused) test
-        ∙ ap (λ (o : Option Refusal). refusal_by true o) is in
-        let stood : (entered r n).refusals ≡ 0 = (entered_rest r n).1 ∙ h.quiet in
-        let some : 0 < (state_of m).refusals = grind (arith, nat_tests) in
-        refused_so (record { turn = vec_len r.book.turns; console_len = r.served.written }) told some
-        (refused_first reached first frames r m n done bytes printed k test h)
+  still_runs : is_running (slot_at k.reached n).status ≡ true
+  still_runs = ap (λ (x : Status). is_running x) gone.status ∙ k.running
 
-    by_first : (o : Option Refusal) → r.book.first_refused ≡ o → RunsBy o first frames r printed → Runs first frames after (printed ++ bytes)
-    by_first None is h = by_rose ((state_of m).refusals == (entered r n).refusals) refl is h
-    by_first (Some refusal) is h =
-        let told : after.book.first_refused ≡ Some refusal =
-        counts.book.first_refused ∙ (λ i. (k.book i).first_refused)
-        ∙ ap (λ (o : Option Refusal). refusal_by (not ((state_of m).refusals == (entered r n).refusals)) o) is in
-        refused_so refusal told (k.rest.told (subst (λ (x : ℕ). 0 < x) (sym (entered_rest r n).1) h.0))
-        (subst (λ (x : List Turn). IsRefused r.book.schedule first frames (x ++ turn_with m done ∷ []) refusal (printed ++ bytes))
-        (λ i. (sym k.book i).turns.items)
-        (still_refused first frames refusal r (turn_with m done) bytes printed (λ some. k.slot ∙ k.chosen.turn some)
-        (seen_more r m n done bytes k) h.1))
+  pub last_is : k.reached.last ≡ Some n
+  last_is = gone.last ∙ entered_last r n k.holds k.chosen
 
--- the step itself
-step_of : (r m : LibraryRun) (n : ℕ) (done : Progress) (bytes : List ℕ) → Makes r m n done bytes → StepMade
-step_of r m n done bytes k = record {
-  slot = n;
-  begins = made r.book == 0;
-  goes_on = goes_on_after m (visible_steps done + hidden_steps done);
-  progress = done;
-  written = bytes;
-  trap = k.trap;
-  left = state_of m;
-}
+  pub turns_are : k.reached.turns ≡ vec_len r.book.turns + 1
+  turns_are = gone.turns ∙ entered_turns r n k.holds
 
-leads_on : (r m after : LibraryRun) (n : ℕ) (done : Progress) (bytes : List ℕ) (k : Makes r m n done bytes) → CountsStep m after done →
-    LeadTo (step_of r m n done bytes k ∷ []) (state_of r) (state_of after)
-unfolding step_of
-leads_on r m after n done bytes k counts =
-    lead_one (step_of r m n done bytes k) (record {
-      chosen = λ is. k.chosen.next_is (none_made r is);
-      running = k.running;
-      raises = k.raises;
-      keeps = k.keeps;
-      leaves = (k.rest, k.turn, k.uses);
-    }) ((λ i. if goes_on_after m (visible_steps done + hidden_steps done) then state_of m else turn_ended (state_of m) (sym k.slot i)) ∙ sym counts.state)
+  -- The abstract system has come so far with them, where nothing was refused yet.
+  before_stands : (first : AbstractState) (printed : List ℕ) → StandsBy (made r.book == 0) r.book.schedule first r printed →
+      (state_of r).refusals ≡ 0 → IsInTurn r.book.schedule first r.book.turns.items n (r.book.visible + going) k.reached printed
+  before_stands first printed stands quiet =
+      let few : (entered r n).refusals ≡ 0 = (entered_rest r n).1 ∙ quiet in
+      quiet_in_turn going r.book.visible (entered r n) k.reached k.went (in_turn_of first r n printed k.chosen stands) k.is_guest k.running
+      (entered_last r n k.holds k.chosen) (omega (arith, few))
 
-keeps_traps : (r m after : LibraryRun) (n : ℕ) (done : Progress) (bytes : List ℕ) (k : Makes r m n done bytes) → CountsStep m after done →
-    (most : ℕ) (traps : List TrapLine) → r.book.trace ≡ buffer (keep_last most traps) most →
-    after.book.trace ≡ buffer (keep_last most (traps ++ traps_of (step_of r m n done bytes k ∷ []))) most
-unfolding step_of
-keeps_traps r m after n done bytes k counts most traps is =
-    counts.book.trace ∙ (λ i. (k.book i).trace) ∙ ap (λ (b : Buffer TrapLine). traced b k.trap) is ∙ kept_one most traps (step_of r m n done bytes k)
+  -- each frame that is handed out has a use
+  before_used : (first : AbstractState) (printed : List ℕ) → StandsBy (made r.book == 0) r.book.schedule first r printed →
+      EachHasUse (state_of r).spaces → EachHasUse k.reached.spaces
+  before_used first printed stands used =
+      let begun = in_turn_of first r n printed k.chosen stands in
+      quiet_each n going (entered r n) k.reached k.went begun.stands.1.in_order (running_live (slot_at (entered r n) n) k.running)
+      (subst (λ (x : SpacesState). EachHasUse x) (sym (entered_rest r n).0) used)
 
-writes : (r m : LibraryRun) (n : ℕ) (done : Progress) (bytes : List ℕ) (k : Makes r m n done bytes) →
-    bytes ≡ written_in (step_of r m n done bytes k ∷ [])
-unfolding step_of
-writes r m n done bytes k = sym (written_one (step_of r m n done bytes k))
+-- ---- the steps
 
--- the turns with it
-turns_on : (r m after : LibraryRun) (n : ℕ) (done : Progress) (bytes : List ℕ) (k : Makes r m n done bytes) → CountsStep m after done →
-    turns_so_far after ≡ turns_with (turns_so_far r) (step_of r m n done bytes k ∷ [])
-unfolding step_of
-turns_on r m after n done bytes k counts =
-    told_turns _ m after (visible_steps done) (hidden_steps done) (some_step done) counts
-    ∙ (λ i. (k.book i).turns.items
-    ++ turn_of (whose i) ((k.book i).visible + visible_steps done) ((k.book i).hidden + hidden_steps done) ∷ [])
-    ∙ sym (by_begins (made r.book == 0) refl)
-  where
-    -- the slot whose turn it is, where one is under way
-    whose : m.served.slot ≡ (if made r.book == 0 then n else r.served.slot)
-    whose = k.slot ∙ by_test (made r.book == 0) refl
-      where
-        by_test : (c : Bool) → (made r.book == 0) ≡ c → n ≡ (if c then n else r.served.slot)
-        by_test true is = refl
-        by_test false is = k.chosen.turn (some_made r is)
+module _ {r m : LibraryRun} {n going : ℕ} {done : Progress} {bytes : List ℕ} (k : Makes r m n going done bytes) where
+  abbrev reached : KernelState
+  reached = k.before.reached
 
-    by_begins : (c : Bool) → (made r.book == 0) ≡ c →
-        turns_with (if c then r.book.turns.items else r.book.turns.items ++ turn_of r.served.slot r.book.visible r.book.hidden ∷ [])
-        (step_of r m n done bytes k ∷ [])
-        ≡ r.book.turns.items ++ turn_of (if c then n else r.served.slot) (r.book.visible + visible_steps done) (r.book.hidden + hidden_steps done) ∷ []
-    by_begins true is =
-        let none : made r.book ≡ 0 = none_made r is in
-        turn_longer true r.book.turns.items (step_of r m n done bytes k) n r.book.visible r.book.hidden is
-        (λ so. (refl, omega (arith, none), omega (arith, none)))
-    by_begins false is =
-        turn_longer false r.book.turns.items (step_of r m n done bytes k) r.served.slot r.book.visible r.book.hidden is
-        (λ so. absurd (let contradiction : false ≡ true = so in cc))
+  -- the steps are within the turn
+  within_turn : made m.book + (seen_with going done + hidden_steps done) ≤ quantum r.book.schedule (length m.book.turns.items)
+  within_turn =
+      let same : made m.book ≡ made r.book = λ i. made (k.book i) in
+      let turns : quantum r.book.schedule (length m.book.turns.items) ≡ quantum r.book.schedule (length r.book.turns.items) =
+      λ i. quantum r.book.schedule (length (k.book i).turns.items) in
+      let left : made r.book + going < quantum r.book.schedule (length r.book.turns.items) = k.before.left in
+      let all : seen_with going done + hidden_steps done ≡ going + 1 = all_steps going done in
+      omega (arith, same, turns, left, all)
 
--- one step more was made
-pub went_one : NeedIsReached → (r m after : LibraryRun) (n : ℕ) (done : Progress) (bytes : List ℕ) (console : Around (Option (List ℕ))) →
-    Makes r m n done bytes → CountsStep m after done → Gains console bytes → Went 1 (from_to r after) console
-went_one reached r m after n done bytes console k counts gains = record {
-  printed = bytes;
-  gains = gains;
-  steps_are = counts.book.steps ∙ (λ i. (k.book i).steps + one_step done i);
-  schedule = counts.book.schedule ∙ (λ i. (k.book i).schedule);
-  steps_made = step_of r m n done bytes k ∷ [];
-  long = refl;
-  lead = leads_on r m after n done bytes k counts;
-  printed_are = writes r m n done bytes k;
-  turns = turns_on r m after n done bytes k counts;
-  kept = keeps_traps r m after n done bytes k counts;
-  runs = runs_further reached r m after n done bytes k counts;
-}
+  -- the visible ones with them
+  seen_is : (r.book.visible + going) + visible_steps done ≡ m.book.visible + seen_with going done
+  seen_is = let same : m.book.visible ≡ r.book.visible = (λ i. (k.book i).visible) in omega (arith, same)
+
+  seen_grown : r.book.visible + going ≤ m.book.visible + seen_with going done
+  seen_grown = let is : (r.book.visible + going) + visible_steps done ≡ m.book.visible + seen_with going done = seen_is in omega (arith, is)
+
+  -- the abstract system has come so far, where nothing was refused
+  comes_with : {first : AbstractState} {printed : List ℕ} →
+      IsInTurn r.book.schedule first r.book.turns.items n (r.book.visible + going) reached printed → NothingRefused reached (state_of m) →
+      Comes r.book.schedule first m.book.turns.items m.served.slot (m.book.visible + seen_with going done) (m.book.hidden + hidden_steps done)
+      (state_of m) (printed ++ bytes)
+  comes_with {first = first} {printed = printed} t none_refused =
+      comes_is (λ i. (sym k.book i).turns.items) (sym k.slot) seen_is (λ i. (sym k.book i).hidden + hidden_steps done)
+      (stepped bytes t done k.keeps none_refused (k.rest.last ∙ last_is k.before)
+      (still_runs k.before) k.turn (r.book.hidden + hidden_steps done))
+    where
+      comes_is : {turns turns' : List Turn} {n n' visible visible' hidden hidden' : ℕ} → turns ≡ turns' → n ≡ n' → visible ≡ visible' →
+          hidden ≡ hidden' → Comes r.book.schedule first turns n visible hidden (state_of m) (printed ++ bytes) →
+          Comes r.book.schedule first turns' n' visible' hidden' (state_of m) (printed ++ bytes)
+      comes_is {turns = turns} {turns' = turns'} {n = n} {n' = n'} {visible = visible} {visible' = visible'} {hidden = hidden} a b c d h =
+          subst (λ (x : ℕ). Comes r.book.schedule first turns' n' visible' x (state_of m) (printed ++ bytes)) d
+          (subst (λ (x : ℕ). Comes r.book.schedule first turns' n' x hidden (state_of m) (printed ++ bytes)) c
+          (subst (λ (x : ℕ). Comes r.book.schedule first turns' x visible hidden (state_of m) (printed ++ bytes)) b
+          (subst (λ (x : List Turn). Comes r.book.schedule first x n visible hidden (state_of m) (printed ++ bytes)) a h)))
+
+  quiet_further : (after : LibraryRun) → CountsSteps m after going done → (state_of m).refusals ≡ (entered r n).refusals →
+      (first : AbstractState) (frames : ℕ) (printed : List ℕ) → StandsSo first frames r printed →
+      StandsSo first frames after (printed ++ bytes)
+  quiet_further after counts same first frames printed h =
+      let kept = entered_rest r n in
+      let rest = counted_rest (turn_goes_on m going done) m after (seen_with going done) (hidden_steps done) counts in
+      let t = before_stands k.before first printed h.stands h.quiet in
+      let none : reached.refusals ≡ 0 = before_last k.before ∙ h.quiet in
+      let none_refused : NothingRefused reached (state_of m) =
+      record { stays = same ∙ sym (gone k.before).refusals; could = omega (arith, none) } in
+      record {
+        stands = stands_after (turn_goes_on m going done) r.book.schedule first m after (seen_with going done) (hidden_steps done)
+            (printed ++ bytes) refl counts (λ i. (k.book i).schedule) (some_steps going done) within_turn (comes_with t none_refused);
+        quiet = rest.1 ∙ same ∙ kept.1 ∙ h.quiet;
+        frames_are = (λ i. (rest.0 i).frames) ∙ k.rest.frames ∙ (gone k.before).frames ∙ (λ i. (kept.0 i).frames) ∙ h.frames_are;
+        used = subst (λ (x : SpacesState). EachHasUse x) (sym rest.0)
+            (k.uses t.stands.1.in_order (running_live (slot_at reached n) (still_runs k.before))
+            (before_used k.before first printed h.stands h.used));
+        counted_so = counts.written ∙ k.written ∙ (λ i. min (h.counted_so i + length bytes) (2 ^ 64 - 1)) ∙ counted-more printed bytes;
+      }
+
+  -- the last was refused something, which was the first refusal
+  refused_first : NeedIsReached → ((state_of m).refusals == (entered r n).refusals) ≡ false → (first : AbstractState) (frames : ℕ)
+      (printed : List ℕ) → StandsSo first frames r printed →
+      IsRefused r.book.schedule first frames (m.book.turns.items ++ turn_with m going done ∷ [])
+      (record { turn = vec_len r.book.turns; console_len = r.served.written })
+      (printed ++ bytes)
+  refused_first needs rose first frames printed h =
+      let t = before_stands k.before first printed h.stands h.quiet in
+      let few : length reached.spaces.free ≤ 1 = by_free (nat_le 2 (length reached.spaces.free)) refl in
+      let used : EachHasUse reached.spaces = before_used k.before first printed h.stands h.used in
+      let all : reached.spaces.frames ≡ frames = (gone k.before).frames ∙ (λ i. ((entered_rest r n).0 i).frames) ∙ h.frames_are in
+      record {
+        before = r.book.turns.items;
+        turn = turn_with m going done;
+        later = [];
+        turns_are = λ i. (k.book i).turns.items ++ turn_with m going done ∷ [];
+        place = r.book.turns.ok.0;
+        begun = t.before;
+        ran = t.ran;
+        fit = t.fit;
+        chosen = t.chosen ∙ ap (λ (x : ℕ). Some x) (sym k.slot);
+        visible = r.book.visible + going;
+        within = seen_grown;
+        now = t.now;
+        taken = subst (λ (x : ℕ). steps_taken (begun_at t.before x) x (r.book.visible + going) ≡ Some t.now) (sym k.slot) t.taken;
+        told = printed;
+        rest = bytes;
+        printed_is = refl;
+        console = t.console;
+        console_len = h.counted_so;
+        needed = subst (λ (x : ℕ). x - reserved_frames x ≤ need t.now) all (needs t.stands.0 reached t.now t.stands.1 used few);
+      }
+    where
+      by_free : (c : Bool) → nat_le 2 (length reached.spaces.free) ≡ c → length reached.spaces.free ≤ 1
+      by_free true is =
+          let some : 2 ≤ length reached.spaces.free = grind (arith, nat_tests) in
+          let same : (state_of m).refusals ≡ (entered r n).refusals = k.rest.refused some ∙ (gone k.before).refusals in
+          let test : ((state_of m).refusals == (entered r n).refusals) ≡ true = grind (arith, nat_tests) in
+          absurd (let contradiction : true ≡ false = sym test ∙ rose in cc)
+      by_free false is = grind (arith, nat_tests)
+
+  turn_grown : r.book.visible ≤ m.book.visible + seen_with going done
+  turn_grown =
+      let more : r.book.visible + going ≤ m.book.visible + seen_with going done = seen_grown in omega (arith, more)
+
+  -- The run after the steps.
+  runs_further : NeedIsReached → (after : LibraryRun) → CountsSteps m after going done → (first : AbstractState) (frames : ℕ)
+      (printed : List ℕ) → Runs first frames r printed → Runs first frames after (printed ++ bytes)
+  runs_further needs after counts first frames printed = by_first r.book.first_refused refl
+    where
+      refusal_by : Bool → Option Refusal → Option Refusal
+      refusal_by rose o = noted o rose (vec_len r.book.turns) r.served.written
+
+      -- where what is told of the refusal is known, with the turns as they are told
+      refused_so : (refusal : Refusal) → after.book.first_refused ≡ Some refusal → 0 < (state_of m).refusals →
+          IsRefused r.book.schedule first frames (m.book.turns.items ++ turn_with m going done ∷ []) refusal (printed ++ bytes) →
+          Runs first frames after (printed ++ bytes)
+      refused_so refusal is some h =
+          subst (λ (o : Option Refusal). RunsBy o first frames after (printed ++ bytes)) (sym is) (
+            subst (λ (x : ℕ). 0 < x) (sym (counted_rest (turn_goes_on m going done) m after (seen_with going done) (hidden_steps done) counts).1) some,
+            subst (λ (x : List ℕ). IsRefused x first frames (turns_so_far after) refusal (printed ++ bytes))
+                (sym (counts.book.schedule ∙ (λ i. (k.book i).schedule)))
+                (subst (λ (x : List Turn). IsRefused r.book.schedule first frames x refusal (printed ++ bytes))
+                (sym (told_turns (turn_goes_on m going done) m after (seen_with going done) (hidden_steps done) (some_steps going done) counts)) h),
+          )
+
+      by_rose : (c : Bool) → ((state_of m).refusals == (entered r n).refusals) ≡ c → r.book.first_refused ≡ None →
+          StandsSo first frames r printed →
+          Runs first frames after (printed ++ bytes)
+      by_rose true test is h =
+          let same : (state_of m).refusals ≡ (entered r n).refusals = grind (arith, nat_tests) in
+          let quiet : after.book.first_refused ≡ None =
+          counts.book.first_refused ∙ (λ i. (k.book i).first_refused) ∙ ap (λ (b : Bool). refusal_by (not b) r.book.first_refused) test
+          ∙ ap (λ (o : Option Refusal). refusal_by false o) is in
+          subst (λ (o : Option Refusal). RunsBy o first frames after (printed ++ bytes)) (sym quiet)
+          (quiet_further after counts same first frames printed h)
+      by_rose false test is h =
+          let told : after.book.first_refused ≡ Some (record { turn = vec_len r.book.turns; console_len = r.served.written }) =
+          counts.book.first_refused ∙ (λ i. (k.book i).first_refused) ∙ ap (λ (b : Bool). refusal_by (not b) r.book.first_refused) test
+          ∙ ap (λ (o : Option Refusal). refusal_by true o) is in
+          let stood : (entered r n).refusals ≡ 0 = (entered_rest r n).1 ∙ h.quiet in
+          let some : 0 < (state_of m).refusals = grind (arith, nat_tests) in
+          refused_so (record { turn = vec_len r.book.turns; console_len = r.served.written }) told some
+          (refused_first needs test first frames printed h)
+
+      by_first : (o : Option Refusal) → r.book.first_refused ≡ o → RunsBy o first frames r printed → Runs first frames after (printed ++ bytes)
+      by_first None is h = by_rose ((state_of m).refusals == (entered r n).refusals) refl is h
+      by_first (Some refusal) is h =
+          let told : after.book.first_refused ≡ Some refusal =
+          counts.book.first_refused ∙ (λ i. (k.book i).first_refused)
+          ∙ ap (λ (o : Option Refusal). refusal_by (not ((state_of m).refusals == (entered r n).refusals)) o) is in
+          refused_so refusal told (k.rest.told (subst (λ (x : ℕ). 0 < x) (sym (before_last k.before)) h.0))
+          (subst (λ (x : List Turn). IsRefused r.book.schedule first frames (x ++ turn_with m going done ∷ []) refusal (printed ++ bytes))
+          (λ i. (sym k.book i).turns.items)
+          (still_refused first frames refusal r (turn_with m going done) bytes printed (λ some. k.slot ∙ k.before.chosen.turn some)
+          turn_grown h.1))
+
+  -- the steps themselves
+  abbrev last_made : Bool → StepMade
+  last_made begins = made_step n begins (turn_goes_on m going done) done bytes k.trap (state_of m)
+
+  made_all : List StepMade
+  made_all = steps_with (made r.book == 0) n going (entered r n) reached k.before.went last_made
+
+  made_long : length made_all ≡ going + 1
+  unfolding made_all
+  made_long =
+      steps_long n (turn_goes_on m going done) done bytes k.trap (state_of m) (made r.book == 0) going (entered r n) reached k.before.went
+
+  leads_on : (after : LibraryRun) → CountsSteps m after going done → LeadTo made_all (state_of r) (state_of after)
+  unfolding made_all
+  leads_on after counts =
+      steps_lead n (turn_goes_on m going done) done bytes k.trap (state_of m) reached (state_of after) k.raises k.keeps
+      (k.rest, k.turn, k.uses)
+      ((λ i. if turn_goes_on m going done then state_of m else turn_ended (state_of m) (sym k.slot i)) ∙ sym counts.state)
+      (made r.book == 0) going (entered r n) (state_of r) k.before.went refl (λ is. k.before.chosen.next_is (none_made r is)) k.before.running
+      k.before.is_guest
+
+  keeps_traps : (after : LibraryRun) → CountsSteps m after going done → (most : ℕ) (traps : List TrapLine) →
+      r.book.trace ≡ buffer (keep_last most traps) most → after.book.trace ≡ buffer (keep_last most (traps ++ traps_of made_all)) most
+  unfolding made_all
+  keeps_traps after counts most traps is =
+      let one = steps_traps n (turn_goes_on m going done) done bytes k.trap (state_of m) (made r.book == 0) going (entered r n) reached k.before.went in
+      counts.book.trace ∙ (λ i. (k.book i).trace) ∙ ap (λ (b : Buffer TrapLine). traced b k.trap) is
+      ∙ kept_one most traps (last_made (made r.book == 0))
+      ∙ ap (λ (l : List TrapLine). buffer (keep_last most (traps ++ l)) most) (sym one)
+
+  writes : bytes ≡ written_in made_all
+  unfolding made_all
+  writes =
+      sym (steps_written n (turn_goes_on m going done) done bytes k.trap (state_of m) (made r.book == 0) going (entered r n) reached k.before.went
+      ∙ written_one (last_made (made r.book == 0)))
+
+  -- the turns with them
+  turns_on : (after : LibraryRun) → CountsSteps m after going done → turns_so_far after ≡ turns_with (turns_so_far r) made_all
+  unfolding made_all
+  turns_on after counts =
+      told_turns (turn_goes_on m going done) m after (seen_with going done) (hidden_steps done) (some_steps going done) counts
+      ∙ (λ i. (k.book i).turns.items
+      ++ turn_of (whose i) ((k.book i).visible + seen_with going done) ((k.book i).hidden + hidden_steps done) ∷ [])
+      ∙ sym (by_begins (made r.book == 0) refl)
+    where
+      -- the slot whose turn it is, where one is under way
+      whose : m.served.slot ≡ (if made r.book == 0 then n else r.served.slot)
+      whose = k.slot ∙ by_test (made r.book == 0) refl
+        where
+          by_test : (c : Bool) → (made r.book == 0) ≡ c → n ≡ (if c then n else r.served.slot)
+          by_test true is = refl
+          by_test false is = k.before.chosen.turn (some_made r is)
+
+      by_begins : (c : Bool) → (made r.book == 0) ≡ c →
+          turns_with (if c then r.book.turns.items else r.book.turns.items ++ turn_of r.served.slot r.book.visible r.book.hidden ∷ [])
+          (steps_with c n going (entered r n) reached k.before.went last_made)
+          ≡ r.book.turns.items
+          ++ turn_of (if c then n else r.served.slot) (r.book.visible + seen_with going done) (r.book.hidden + hidden_steps done) ∷ []
+      by_begins true is =
+          let none : made r.book ≡ 0 = none_made r is in
+          steps_turns n (turn_goes_on m going done) done bytes k.trap (state_of m) true going (entered r n) reached k.before.went
+          r.book.turns.items n r.book.visible r.book.hidden (λ so. (refl, omega (arith, none), omega (arith, none)))
+      by_begins false is =
+          steps_turns n (turn_goes_on m going done) done bytes k.trap (state_of m) false going (entered r n) reached k.before.went
+          r.book.turns.items r.served.slot r.book.visible r.book.hidden (λ so. absurd (let contradiction : false ≡ true = so in cc))
+
+  -- so many steps more were made
+  pub went_all : NeedIsReached → (after : LibraryRun) (console : Around (Option (List ℕ))) → CountsSteps m after going done →
+      Gains console bytes → Went (going + 1) (from_to r after) console
+  went_all needs after console counts gains = record {
+    printed = bytes;
+    gains = gains;
+    steps_are = counts.book.steps ∙ (λ i. (k.book i).steps + all_steps going done i);
+    schedule = counts.book.schedule ∙ (λ i. (k.book i).schedule);
+    steps_made = made_all;
+    long = made_long;
+    lead = leads_on after counts;
+    printed_are = writes;
+    turns = turns_on after counts;
+    kept = keeps_traps after counts;
+    runs = runs_further needs after counts;
+  }
 
 -- ---- the host failed
 
--- what the calls of a step have done in which the host failed
-pub record Fails (r m : LibraryRun) (n : ℕ) (bytes : List ℕ) : Type 0 where
-  pub holds : Holds r
-  pub chosen : IsChosen r n
-  pub least : 1 ≤ quantum r.book.schedule (length r.book.turns.items)
-  pub would : (a : AbstractState) → Stands (entered r n) a →
+-- what the calls of steps have done, in the last of which the host failed
+pub record Fails (r m : LibraryRun) (n going : ℕ) (bytes : List ℕ) : Type 0 where
+  pub before : Reaches r n going
+  pub would : (a : AbstractState) → Stands before.reached a →
       (b : AbstractState) × (abs_step a n ≡ Some b) × (b.console ≡ a.console ++ bytes)
   pub slot : m.served.slot ≡ n
-  pub book : m.book ≡ record r.book { visible = r.book.visible + 1 }
+  pub book : m.book ≡ record r.book { visible = r.book.visible + (going + 1) }
 
-failed_turns : (r m : LibraryRun) (n : ℕ) (bytes : List ℕ) → Fails r m n bytes →
-    turns_so_far m ≡ r.book.turns.items ++ turn_of n (r.book.visible + 1) r.book.hidden ∷ []
-failed_turns r m n bytes k =
-    let some : (made m.book == 0) ≡ false =
-    (let all : made m.book ≡ r.book.visible + 1 + r.book.hidden = (λ i. made (k.book i)) in grind (arith, nat_tests)) in
-    ap (λ (b : Bool). if b then m.book.turns.items else m.book.turns.items ++ turn_of m.served.slot m.book.visible m.book.hidden ∷ []) some
-    ∙ (λ i. (k.book i).turns.items ++ turn_of (k.slot i) (k.book i).visible (k.book i).hidden ∷ [])
+module _ {r m : LibraryRun} {n going : ℕ} {bytes : List ℕ} (k : Fails r m n going bytes) where
+  failed_turns : turns_so_far m ≡ r.book.turns.items ++ turn_of n (r.book.visible + going + 1) r.book.hidden ∷ []
+  failed_turns =
+      let some : (made m.book == 0) ≡ false =
+      (let all : made m.book ≡ r.book.visible + (going + 1) + r.book.hidden = (λ i. made (k.book i)) in grind (arith, nat_tests)) in
+      ap (λ (b : Bool). if b then m.book.turns.items else m.book.turns.items ++ turn_of m.served.slot m.book.visible m.book.hidden ∷ []) some
+      ∙ (λ i. (k.book i).turns.items ++ turn_of (k.slot i) (k.book i).visible (k.book i).hidden ∷ [])
+      ∙ (let all : r.book.visible + (going + 1) ≡ r.book.visible + going + 1 = omega arith in
+      (λ i. r.book.turns.items ++ turn_of n (all i) r.book.hidden ∷ []))
 
-cut_off_in : (first : AbstractState) (frames : ℕ) (r m : LibraryRun) (n part : ℕ) (bytes printed : List ℕ) → Fails r m n bytes →
-    StandsSo first frames r printed →
-    IsCutOff r.book.schedule first (r.book.turns.items ++ turn_of n (r.book.visible + 1) r.book.hidden ∷ []) (printed ++ take part bytes)
-cut_off_in first frames r m n part bytes printed k h =
-    let t = in_turn_of first r n printed k.chosen h.stands in
-    let b = step_failed bytes t r.book.hidden k.would in
-    let left : made r.book < quantum r.book.schedule (length r.book.turns.items) = one_left r k.holds k.least in
-    record {
-      before = r.book.turns.items;
-      slot = n;
-      visible = r.book.visible;
-      hidden = r.book.hidden;
-      turns_are = refl;
-      fit = t.fit;
-      begun = t.now;
-      told = printed;
-      ran = in_turn_ran t r.book.hidden;
-      console = t.console;
-      now = b.0;
-      whole = bytes;
-      would = record { ran = b.1; fit = failed_fits t r.book.hidden k.would (omega arith) (omega arith); console = b.2 };
-      part = take part bytes;
-      rest = drop part bytes;
-      whole_is = sym (take-append-drop part bytes);
-      printed_is = refl;
-    }
+  cut_off_in : (first : AbstractState) (frames part : ℕ) (printed : List ℕ) → StandsSo first frames r printed →
+      IsCutOff r.book.schedule first (r.book.turns.items ++ turn_of n (r.book.visible + going + 1) r.book.hidden ∷ [])
+      (printed ++ take part bytes)
+  cut_off_in first frames part printed h =
+      let t = before_stands k.before first printed h.stands h.quiet in
+      let b = step_failed bytes t r.book.hidden k.would in
+      let left : made r.book + going < quantum r.book.schedule (length r.book.turns.items) = k.before.left in
+      record {
+        before = r.book.turns.items;
+        slot = n;
+        visible = r.book.visible + going;
+        hidden = r.book.hidden;
+        turns_are = refl;
+        fit = t.fit;
+        begun = t.now;
+        told = printed;
+        ran = in_turn_ran t r.book.hidden;
+        console = t.console;
+        now = b.0;
+        whole = bytes;
+        would = record { ran = b.1; fit = failed_fits t r.book.hidden k.would (omega arith) (omega arith); console = b.2 };
+        part = take part bytes;
+        rest = drop part bytes;
+        whole_is = sym (take-append-drop part bytes);
+        printed_is = refl;
+      }
 
--- What is told of the run that the failed call has cut off.
-pub failed_one : (r m : LibraryRun) (n : ℕ) (bytes : List ℕ) (console : Around (Option (List ℕ))) → Fails r m n bytes →
-    GainsPart console bytes →
-    HasFailed (from_to r m) console
-failed_one r m n bytes console k gains = record {
-  printed = take gains.0 bytes;
-  gains = gains.2;
-  cut_off = λ first frames printed. by_first first frames printed r.book.first_refused refl;
-}
-  where
-    by_first : (first : AbstractState) (frames : ℕ) (printed : List ℕ) (o : Option Refusal) → r.book.first_refused ≡ o →
-        RunsBy o first frames r printed →
-        CutOffBy m.book.first_refused r.book.schedule first frames (turns_so_far m) (printed ++ take gains.0 bytes)
-    by_first first frames printed None is h =
-        subst (λ (o : Option Refusal). CutOffBy o r.book.schedule first frames (turns_so_far m) (printed ++ take gains.0 bytes))
-        (sym ((λ i. (k.book i).first_refused) ∙ is))
-        (subst (λ (x : List Turn). IsCutOff r.book.schedule first x (printed ++ take gains.0 bytes)) (sym (failed_turns r m n bytes k))
-        (cut_off_in first frames r m n gains.0 bytes printed k h))
-    by_first first frames printed (Some refusal) is h =
-        subst (λ (o : Option Refusal). CutOffBy o r.book.schedule first frames (turns_so_far m) (printed ++ take gains.0 bytes))
-        (sym ((λ i. (k.book i).first_refused) ∙ is))
-        (subst (λ (x : List Turn). IsRefused r.book.schedule first frames x refusal (printed ++ take gains.0 bytes))
-        (sym (failed_turns r m n bytes k))
-        (still_refused first frames refusal r (turn_of n (r.book.visible + 1) r.book.hidden) (take gains.0 bytes) printed k.chosen.turn
-        (omega arith) h.1))
+  -- What is told of the run that the failed call has cut off.
+  pub failed_last : (console : Around (Option (List ℕ))) → GainsPart console bytes → HasFailed (from_to r m) console
+  failed_last console gains = record {
+    printed = take gains.0 bytes;
+    gains = gains.2;
+    cut_off = λ first frames printed. by_first first frames printed r.book.first_refused refl;
+  }
+    where
+      by_first : (first : AbstractState) (frames : ℕ) (printed : List ℕ) (o : Option Refusal) → r.book.first_refused ≡ o →
+          RunsBy o first frames r printed →
+          CutOffBy m.book.first_refused r.book.schedule first frames (turns_so_far m) (printed ++ take gains.0 bytes)
+      by_first first frames printed None is h =
+          subst (λ (o : Option Refusal). CutOffBy o r.book.schedule first frames (turns_so_far m) (printed ++ take gains.0 bytes))
+          (sym ((λ i. (k.book i).first_refused) ∙ is))
+          (subst (λ (x : List Turn). IsCutOff r.book.schedule first x (printed ++ take gains.0 bytes)) (sym failed_turns)
+          (cut_off_in first frames gains.0 printed h))
+      by_first first frames printed (Some refusal) is h =
+          subst (λ (o : Option Refusal). CutOffBy o r.book.schedule first frames (turns_so_far m) (printed ++ take gains.0 bytes))
+          (sym ((λ i. (k.book i).first_refused) ∙ is))
+          (subst (λ (x : List Turn). IsRefused r.book.schedule first frames x refusal (printed ++ take gains.0 bytes)) (sym failed_turns)
+          (still_refused first frames refusal r (turn_of n (r.book.visible + going + 1) r.book.hidden) (take gains.0 bytes) printed
+          k.before.chosen.turn (omega arith) h.1))

@@ -14,13 +14,13 @@ use Rattle.jos_kernel.specs.declared.report.Turn.{Turn}
 use Rattle.jos_kernel.specs.Books.{turn_of, made, HasRoom, HasStepsLeft}
 use Rattle.lib_os.specs.declared.progress.Progress.{Progress}
 use Rattle.jos_run.specs.declared.library_run.LibraryRun.{LibraryRun}
-use Rattle.jos_run.specs.LibraryRuns.{visible_steps, hidden_steps}
+use Rattle.jos_run.specs.LibraryRuns.{hidden_steps}
 use Rattle.jos_run.specs.RunReports.{steps_of}
 use Rattle.jos_run.specs.RunSteps.{is_in_turn}
 use Rattle.jos_run.specs.Running.{state_of, turns_so_far, Holds, goes_on_after, turn_after, CountedBy}
 use Rattle.jos_run.proofs.Refusals.{steps_append, no_steps_yet}
 use Rattle.jos_run.proofs.RunSteps.{ended_idle}
-use Rattle.jos_run.proofs.StepsMade.{none_made, told_turns, entered_last, entered_turns, Makes, CountsStep, some_step}
+use Rattle.jos_run.proofs.StepsMade.{none_made, told_turns, Makes, CountsSteps, seen_with, some_steps, last_is, turns_are}
 use Rattle.std.proofs.lemmas.Bool.{and_parts}
 
 -- ---- the beginning
@@ -129,13 +129,13 @@ steps_told r = by_test (made r.book == 0) refl
     by_test true is = let none : made r.book ≡ 0 = none_made r is in omega arith
     by_test false is = steps_append r.book.turns.items (turn_of r.served.slot r.book.visible r.book.hidden)
 
-pub step_holds : (r m after : LibraryRun) (n : ℕ) (done : Progress) (bytes : List ℕ) → Makes r m n done bytes →
-    CountsStep m after done → HasRoom after.book → HasStepsLeft after.book → Holds after
-step_holds r m after n done bytes k counts room left =
-    let told : r.book.steps ≡ steps_of r.book.turns.items + made r.book = k.holds.steps ∙ steps_told r in
-    counted_holds _ m after (visible_steps done) (hidden_steps done) (some_step done) counts refl (record {
-      turns = k.rest.turns ∙ entered_turns r n k.holds ∙ (λ i. vec_len (sym k.book i).turns + 1);
-      last = k.rest.last ∙ entered_last r n k.holds k.chosen ∙ ap (λ (x : ℕ). Some x) (sym k.slot);
-      within = subst (λ (x : ℕ). x < NENV) (sym k.slot) k.chosen.within;
+pub steps_hold : {r m : LibraryRun} {n going : ℕ} {done : Progress} {bytes : List ℕ} (k : Makes r m n going done bytes) (after : LibraryRun) →
+    CountsSteps m after going done → HasRoom after.book → HasStepsLeft after.book → Holds after
+steps_hold {r = r} {m = m} {going = going} {done = done} k after counts room left =
+    let told : r.book.steps ≡ steps_of r.book.turns.items + made r.book = k.before.holds.steps ∙ steps_told r in
+    counted_holds _ m after (seen_with going done) (hidden_steps done) (some_steps going done) counts refl (record {
+      turns = k.rest.turns ∙ turns_are k.before ∙ (λ i. vec_len (sym k.book i).turns + 1);
+      last = k.rest.last ∙ last_is k.before ∙ ap (λ (x : ℕ). Some x) (sym k.slot);
+      within = subst (λ (x : ℕ). x < NENV) (sym k.slot) k.before.chosen.within;
       steps = (λ i. (k.book i).steps) ∙ told ∙ (λ i. steps_of (sym k.book i).turns.items + made (sym k.book i));
     }) room left

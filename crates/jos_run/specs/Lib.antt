@@ -6,6 +6,7 @@ pub mod GuestSteps
 pub mod Guest
 pub mod MemoryProofs
 pub mod Steps
+pub mod StepsAtOnce
 pub mod RunLaws
 pub mod Boot
 pub mod Start

@@ -130,10 +130,10 @@ pub record HasFailed (run : Around LibraryRun) (console : Around (Option (List �
   pub cut_off : (first : AbstractState) (frames : ℕ) (before : List ℕ) → Runs first frames run.before before →
       CutOffBy run.after.book.first_refused run.before.book.schedule first frames (turns_so_far run.after) (before ++ printed)
 
--- so many steps, or the host failed
-abbrev pub Advances : ℕ → Result (Unit {0}) Failed → Around LibraryRun → Around (Option (List ℕ)) → Type 0
-Advances steps (Ok _) run console = Went steps run console
-Advances steps (Err _) run console = HasFailed run console
+-- the next steps, one at least and as many as are left at most; or the host failed
+abbrev pub Advances : ℕ → Result ℕ Failed → Around LibraryRun → Around (Option (List ℕ)) → Type 0
+Advances left (Ok steps) run console = (0 < steps) × (steps ≤ left) × Went steps run console
+Advances left (Err _) run console = HasFailed run console
 
 -- ---- the end
 

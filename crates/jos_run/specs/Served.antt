@@ -5,26 +5,22 @@ use Rattle.jos_base.specs.declared.memory.PageFault.{PageFault}
 use Rattle.jos_base.specs.declared.numbers.TheConstants.{NENV}
 use Rattle.jos_base.specs.KernelState.{KernelState, slot_at}
 use Rattle.jos_base.specs.SystemCalls.{handled, killed}
-use Rattle.jos_sys.specs.declared.input.Input.{Input}
-use Rattle.jos_sys.specs.declared.system.System.{System}
-use Rattle.jos_sys.specs.System.{state_of, left_of, Keeps}
+use Rattle.jos_kernel.specs.Machine as kernel
 use Rattle.lib_os.specs.declared.user_os.Stop.{Stop}
 use Rattle.lib_os.specs.declared.user_os.Stop.TheVariants.{Upcall, Ended, Failed}
 use Rattle.lib_os.specs.UserCalls.{Output, Prints, PrintsPart}
 
 -- what is kept of it
 pub record Parts : Type 0 where
-  pub system : System
-  pub input : Input
+  pub machine : kernel.Parts
   pub slot : ℕ
   pub calls : ℕ
   pub written : ℕ
 
 abbrev pub kernel_state : Parts → KernelState
-kernel_state s = state_of s.system (left_of s.input)
+kernel_state s = kernel.kernel_state s.machine
 
 pub record Lawful (s : Parts) : Type 0 where
-  pub system : Keeps s.system
   pub slot : s.slot < NENV
   pub written : s.written < 2 ^ 64
 

@@ -1,12 +1,13 @@
 //! The library's programs over the kernel.
 //!
 //! `Served` is the kernel as the library has it while it serves one environment: each call of `UserOs` (`lib_os`) is the step
-//! of the kernel's state that `UserCalls.antt` says, and `step_guest` makes the step of its program that `GuestSteps.antt` says.
+//! of the kernel's state that `UserCalls.antt` says, and `make_steps` makes the steps of its program that `GuestSteps.antt` says.
 //! `boot_program` makes the state in which a run begins, as `Boot.antt` says it. `run` boots a program and makes its turns, which
 //! stand in the `Book` of jos_kernel.
 #![tactic(auto)]
 
 mod boot;
+mod fence;
 mod guest;
 mod laws;
 mod library_run;
@@ -20,4 +21,4 @@ pub use boot::{FRAMES_BESIDE, boot_frames, boot_program, programs_begin};
 pub use laws::{runs_go_on_alike, turns_are_chosen_alike};
 pub use programs::{RunEnd, Setup, run};
 pub use served::Served;
-pub use steps::Stepped;
+pub use steps::{Stepped, Steps};

@@ -20,6 +20,7 @@ ghost use Rattle.jos_run.specs.Running.{state_of, Holds, Runs, IsChosen, entered
 ghost use Rattle.jos_run.specs.Running.{Advances, HasRun, turns_so_far, report_of, cut_off_of};
 
 use crate::served::Served;
+use jos_cpu::Decodings;
 use jos_host::{Failed, Host};
 use jos_kernel::{Book, End, Report, Stopped, Trace, Turn};
 use jos_sched::Schedule;
@@ -29,6 +30,8 @@ use lib_os::Progress;
 #[derive(Drop)]
 pub(crate) struct LibraryRun {
     served: Served,
+    /// What was decoded.
+    decodings: Decodings,
     /// The turn under way is that of the environment that is served.
     book: Book,
 }
@@ -58,6 +61,7 @@ impl LibraryRun {
     pub(crate) fn begin(
         served: Served,
         schedule: Schedule,
+        decodings: Decodings,
         turns: Vec<Turn>,
         trace: Trace,
     ) -> LibraryRun
@@ -77,6 +81,7 @@ impl LibraryRun {
     {
         LibraryRun {
             served,
+            decodings,
             book: Book::open(schedule, turns, trace),
         }
     }
@@ -156,36 +161,41 @@ impl LibraryRun {
         }
     }
 
-    /// Makes the next step of the environment in a slot, in the turn under way or in one that begins.
+    /// Makes the next steps of the environment in a slot, in the turn under way or in one that begins: instructions of its
+    /// program up to the end of the turn or to the first that calls or raises something, or one step of a service, and as many
+    /// as are left at most. The result is their number.
     ///
     /// # Errors
-    /// A call of the host failed while the step wrote to the console.
-    fn advance<H: Host>(&mut self, host: &mut H, slot: usize) -> Result<(), Failed>
+    /// A call of the host failed while the last step wrote to the console.
+    fn advance<H: Host>(&mut self, host: &mut H, slot: usize, left: u64) -> Result<u32, Failed>
         requires holds { Holds self.old }
-        requires steps { self.old.book.steps + 1 < 2 ^ 64 }
+        requires left { 0 < left }
+        requires steps { self.old.book.steps + left < 2 ^ 64 }
         requires chosen { IsChosen self.old slot }
-        ensures told { Advances 1 result (from_to self.old self.new) (around H.console host.old host.new) }
+        ensures told { Advances left result (from_to self.old self.new) (around H.console host.old host.new) }
         ensures holds { OnOk result (Holds self.new) }
         ensures room { OnErr result (HasRoom self.new.book) }
         ensures rest { Unchanged H.files H.input H.asked H.notes host.old host.new }
         ensures cause { HasCause (H.faults host.old) (H.faults host.new) result }
     {
-        let left = self.book.steps_left();
+        let left_of_turn = self.book.steps_left();
+        let most = (left_of_turn as u64).min(left) as u32;
         self.enter_turn(slot);
         let refusals = self.served.refused();
         let printed = self.served.written();
-        match self.served.step(host) {
+        let made = self.served.make_steps(host, &mut self.decodings, most);
+        match made.last {
             Ok(stepped) => {
                 let refused = self.served.refused() != refusals;
                 self.book.note_refusal(refused, printed);
                 self.book.keep_trap(stepped.trap);
-                let visible = visible_steps(stepped.progress);
+                let visible = made.going + visible_steps(stepped.progress);
                 let hidden = hidden_steps(stepped.progress);
-                self.count_steps(visible, hidden, left);
-                Ok(())
+                self.count_steps(visible, hidden, left_of_turn);
+                Ok(made.going + 1)
             }
             Err(failed) => {
-                self.book.tell_failed_step();
+                self.book.tell_failed_steps(made.going + 1);
                 Err(failed)
             }
         }
@@ -226,8 +236,8 @@ impl LibraryRun {
                 Ok(slot) => slot,
                 Err(end) => return Ok(end),
             };
-            match self.advance(host, slot) {
-                Ok(()) => left -= 1,
+            match self.advance(host, slot, left) {
+                Ok(steps) => left -= steps as u64,
                 Err(failed) => return Err(failed),
             }
         }

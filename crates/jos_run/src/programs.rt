@@ -16,6 +16,7 @@ ghost use Rattle.jos_run.specs.RunEnds.{AnswersBy, HasEndCause, RunsFrom, end_of
 use crate::boot::boot_program;
 use crate::library_run::LibraryRun;
 use crate::served::Served;
+use jos_cpu::Decodings;
 use jos_elf::{ElfFault, Image, parse};
 use jos_host::Host;
 use jos_kernel::{BootFault, Report, Stopped, Trace, Turn, take_room};
@@ -57,6 +58,7 @@ pub enum RunEnd {
 fn run_booted<H: Host>(
     system: System,
     turns: Vec<Turn>,
+    decodings: Decodings,
     trace: Trace,
     host: &mut H,
     setup: Setup,
@@ -72,7 +74,7 @@ fn run_booted<H: Host>(
     ensures cause { HasCause (H.faults host.old) (H.faults host.new) result }
 {
     let served = Served::new(system, Input::new(setup.input));
-    let mut run = LibraryRun::begin(served, setup.schedule, turns, trace);
+    let mut run = LibraryRun::begin(served, setup.schedule, decodings, turns, trace);
     match run.go(host, setup.budget) {
         Ok(end) => Ok(run.finish(end)),
         Err(_) => Err(run.cut_off()),
@@ -110,8 +112,12 @@ fn run_image<H: Host>(
         Ok(taken) => taken,
         Err(_) => return RunEnd::NoMemory,
     };
+    let decodings = match Decodings::new(alloc) {
+        Ok(decodings) => decodings,
+        Err(_) => return RunEnd::NoMemory,
+    };
     match boot_program(alloc, image, file, words, setup.frames) {
-        Ok(system) => end_of_run(run_booted(system, turns, trace, host, setup)),
+        Ok(system) => end_of_run(run_booted(system, turns, decodings, trace, host, setup)),
         Err(BootFault::Pool) => RunEnd::Pool,
         Err(BootFault::NoMemory) => RunEnd::NoMemory,
     }

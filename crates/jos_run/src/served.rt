@@ -8,30 +8,30 @@ ghost use Rattle.jos_base.specs.Environments.{is_live};
 ghost use Rattle.jos_base.specs.KernelState.{slot_at, with_spaces};
 ghost use Rattle.jos_base.specs.TrapFrames.{words_of_bytes};
 ghost use Rattle.jos_base.specs.UserMemory.{is_allowed, fault_at, touched};
-ghost use Rattle.jos_sys.specs.System.{state_of, left_of, Keeps, in_use};
+ghost use Rattle.jos_sys.specs.System.{state_of, left_of, Keeps};
 ghost use Rattle.lib_os.specs.InOrder.{IsInOrder};
 ghost use Rattle.lib_os.specs.UserCalls.{user_byte, user_word, with_user_byte, with_user_word};
 ghost use Rattle.lib_os.specs.UserCalls.{asking, sets_own, taken_back, HasStopCause, Prints, output};
 ghost use Rattle.jos_run.specs.Served.{kernel_state, IsRaised};
 
+use crate::fence::LibraryFence;
 use byteorder::{ByteOrder, LittleEndian};
 use jos_base::{
     Access, Called, EnvId, Extra, Line, NENV, PageFault, Regs, SYS_ENV_SET_TRAPFRAME,
     UTRAPFRAME_WORDS,
 };
 use jos_host::{Failed, Host};
-use jos_space::Space;
+use jos_kernel::Machine;
 use jos_sys::{Faulted, Input, System};
 use jos_trap::{FRAME_SIZE, from_frame};
 use lib_os::{Stop, UserOs};
 use std::marker::Model;
 
-/// The system with the console's input, an environment of it that the library serves, how many calls it has made for it, and
-/// how many bytes were printed in all.
+/// The machine, an environment of it that the library serves, how many calls it has made for it, and how many bytes were
+/// printed in all.
 #[derive(Drop)]
 pub struct Served {
-    pub(crate) system: System,
-    input: Input,
+    pub(crate) machine: Machine<LibraryFence>,
     pub(crate) slot: usize,
     calls: u32,
     pub(crate) written: u64,
@@ -42,9 +42,9 @@ impl Model for Served {
 
     ghost Value = { Parts };
 
-    ghost view = { λ s. record { system = s.system; input = s.input; slot = s.slot; calls = s.calls; written = s.written } };
+    ghost view = { λ s. record { machine = s.machine; slot = s.slot; calls = s.calls; written = s.written } };
 
-    ghost invariant = { λ s. Lawful (record { system = s.system; input = s.input; slot = s.slot; calls = s.calls; written = s.written }) };
+    ghost invariant = { λ s. Lawful (record { machine = s.machine; slot = s.slot; calls = s.calls; written = s.written }) };
 }
 
 /// The registers with which a system call with this number is made, given these words.
@@ -83,8 +83,7 @@ impl Served {
         ensures written { result.written ≡ 0 }
     {
         Served {
-            system,
-            input,
+            machine: Machine::new(system, input),
             slot: 0,
             calls: 0,
             written: 0,
@@ -108,7 +107,7 @@ impl Served {
         ensures keeps { Keeps result.0 }
         ensures state { state_of result.0 (left_of result.1) ≡ kernel_state self }
     {
-        (self.system, self.input)
+        self.machine.into_parts()
     }
 
     /// Tells that the kernel's state is in order. Nothing is done.
@@ -116,7 +115,7 @@ impl Served {
     pub(crate) fn keep_in_order(&self)
         ensures { IsInOrder (kernel_state self.now) }
     {
-        self.system.keep_sound();
+        self.machine.system().keep_sound();
     }
 
     /// Counts bytes that were printed. The count stands still at the end of its type.
@@ -139,12 +138,12 @@ impl Served {
         ensures rest { Unchanged H.files H.input H.asked H.notes host.old host.new }
         ensures cause { HasStopCause {X = Unit {0}} (around H.faults host.old host.new) (Err result) }
     {
-        match self.system.fault(self.slot, fault) {
+        match self.machine.fault(self.slot, fault) {
             Faulted::Upcall => Stop::Upcall,
             Faulted::Killed => {
-                let ip = self.system.registers(self.slot).eip;
+                let ip = self.machine.registers(self.slot).eip;
                 match self
-                    .system
+                    .machine
                     .kill(host, self.slot, Line::UserFault { va: fault.va, ip })
                 {
                     Ok(answer) => {
@@ -155,15 +154,6 @@ impl Served {
                 }
             }
         }
-    }
-
-    /// The environment's space.
-    pub(crate) fn space(&self) -> Space
-        requires { is_live (slot_at (kernel_state self.now) self.now.slot) ≡ true }
-        ensures directory { result.directory.0 ≡ (slot_at (kernel_state self.now) self.now.slot).directory }
-        ensures in_use { in_use self.now.system result.directory.0 ≡ true }
-    {
-        self.system.space(self.slot)
     }
 
     /// Counts a call, and reaches for a byte as the environment does.
@@ -184,9 +174,8 @@ impl Served {
         ensures rest { Unchanged H.files H.input H.asked H.notes host.old host.new }
         ensures cause { HasStopCause (around H.faults host.old host.new) result }
     {
-        let space = self.space();
         self.calls += 1;
-        match self.system.reach(space, va, access) {
+        match self.machine.reach(self.slot, va, access) {
             Ok(()) => {
                 self.keep_in_order();
                 Ok(())
@@ -204,7 +193,8 @@ impl Served {
         requires { is_live (slot_at (kernel_state self.now) self.now.slot) ≡ true }
         ensures { result ≡ user_byte (kernel_state self.now) self.now.slot va }
     {
-        self.system.byte_at(self.space(), va)
+        let system = self.machine.system();
+        system.byte_at(system.space(self.slot), va)
     }
 
     /// The word that it reads at a multiple of four.
@@ -231,8 +221,7 @@ impl Served {
         ensures written { self.new.written ≡ self.old.written }
         ensures in_order { IsInOrder (kernel_state self.new) }
     {
-        let space = self.space();
-        self.system.store_byte(space, va, byte);
+        self.machine.store_byte(self.slot, va, byte);
         self.keep_in_order();
     }
 
@@ -269,7 +258,12 @@ impl Served {
         if number != SYS_ENV_SET_TRAPFRAME {
             return false;
         }
-        match self.system.table().find(EnvId(args[0]), self.slot, true) {
+        match self
+            .machine
+            .system()
+            .table()
+            .find(EnvId(args[0]), self.slot, true)
+        {
             Some(target) => target == self.slot,
             None => false,
         }
@@ -283,7 +277,7 @@ impl Served {
         ensures written { self.new.written ≡ self.old.written }
     {
         if self.is_live() && !own {
-            self.system.set_registers(self.slot, registers);
+            self.machine.set_registers(self.slot, registers);
         }
     }
 }
@@ -351,9 +345,9 @@ impl UserOs for Served {
         let own = self.sets_own(number, args);
         let registers = self.registers();
         self.calls += 1;
-        self.system
+        self.machine
             .set_registers(self.slot, asking(registers, number, args));
-        match self.system.call(host, &mut self.input, self.slot) {
+        match self.machine.call(host, self.slot) {
             Ok(answer) => {
                 self.count(answer.written);
                 self.take_back(own, registers);
@@ -370,10 +364,10 @@ impl UserOs for Served {
     fn restore_frame<H: Host>(&mut self, host: &mut H) -> Result<(), Stop> {
         let esp = self.registers().esp;
         self.calls += 1;
-        match self.system.read_user(self.slot, esp, FRAME_SIZE as u32) {
+        match self.machine.read_user(self.slot, esp, FRAME_SIZE as u32) {
             Ok(bytes) => {
                 let words = words_of_frame(bytes.as_slice());
-                self.system.set_registers(self.slot, from_frame(&words));
+                self.machine.set_registers(self.slot, from_frame(&words));
                 self.keep_in_order();
                 Ok(())
             }
@@ -386,20 +380,20 @@ impl UserOs for Served {
     }
 
     fn registers(&self) -> Regs {
-        self.system.registers(self.slot)
+        self.machine.registers(self.slot)
     }
 
     fn set_registers(&mut self, registers: Regs) {
-        self.system.set_registers(self.slot, registers);
+        self.machine.set_registers(self.slot, registers);
         self.keep_in_order();
     }
 
     fn extra(&self) -> Extra {
-        self.system.environment(self.slot).extra
+        self.machine.system().environment(self.slot).extra
     }
 
     fn set_extra(&mut self, extra: Extra) {
-        self.system.set_extra(self.slot, extra);
+        self.machine.set_extra(self.slot, extra);
         self.keep_in_order();
     }
 }

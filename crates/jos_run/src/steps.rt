@@ -1,21 +1,21 @@
-//! One step of an environment that the library serves.
+//! Steps of an environment that the library serves.
 
 ghost use Rattle.std.specs.Prelude.{◌≡◌, ◌+◌, ◌-◌, ◌<◌, ◌≤◌, ◌^◌, true, None, IfOk};
 ghost use Rattle.jos_host.specs.Told.{HasCause};
 ghost use Rattle.jos_host.specs.Frames.{Unchanged, from_to};
 ghost use Rattle.jos_base.specs.Environments.{is_live, is_runnable, is_running};
 ghost use Rattle.jos_base.specs.KernelState.{slot_at};
-ghost use Rattle.lib_os.specs.InOrder.{IsInOrder};
-ghost use Rattle.lib_os.specs.LibrarySteps.{IsLibraryStep, Leaves, Lowers, GivesUp};
 ghost use Rattle.lib_os.specs.Places.{place_of};
 ghost use Rattle.lib_os.specs.UserCalls.{output};
 ghost use Rattle.lib_os.specs.declared.place.Place.TheVariants as place;
 ghost use Rattle.jos_run.specs.Served.{kernel_state};
-ghost use Rattle.jos_run.specs.Steps.{is_awake, progress_of, Raises};
+ghost use Rattle.jos_run.specs.Steps.{is_awake, progress_of};
+ghost use Rattle.jos_run.specs.StepsAtOnce.{came_to, MakesSteps};
 
 use crate::served::Served;
 use crate::services::stage_of;
 use jos_base::Status;
+use jos_cpu::{Decodings, Gates, make_burst};
 use jos_host::{Failed, Host};
 use jos_kernel::TrapLine;
 use lib_os::{Place, Progress, UserOs, find_place};
@@ -26,6 +26,31 @@ use lib_stage::drive;
 pub struct Stepped {
     pub progress: Progress,
     pub trap: Option<TrapLine>,
+}
+
+/// Steps that were made: how many of a program went on before the last, and what the last has come to.
+#[derive(Clone, Copy, Debug, PartialEq, Eq)]
+pub struct Steps {
+    pub going: u32,
+    pub last: Result<Stepped, Failed>,
+}
+
+/// What the last instruction of a program has come to, by whether its environment is live, and the trap that it raised, if it
+/// raised one.
+fn came_to(live: bool, followed: Result<Option<TrapLine>, Failed>) -> Result<Stepped, Failed>
+    ensures { result ≡ came_to live followed }
+{
+    match followed {
+        Ok(trap) => {
+            let progress = if live {
+                Progress::Visible
+            } else {
+                Progress::Ended
+            };
+            Ok(Stepped { progress, trap })
+        }
+        Err(failed) => Err(failed),
+    }
 }
 
 /// A step of a service raises no trap.
@@ -47,7 +72,10 @@ impl Served {
     fn is_runnable(&self) -> bool
         ensures { result ≡ is_runnable (slot_at (kernel_state self.now) self.now.slot).status }
     {
-        matches!(self.system.environment(self.slot).status, Status::Runnable)
+        matches!(
+            self.machine.system().environment(self.slot).status,
+            Status::Runnable
+        )
     }
 
     /// Whether it is its turn.
@@ -64,58 +92,68 @@ impl Served {
         self.is_runnable() || self.is_running()
     }
 
-    /// Makes one step of the program: an instruction, with what comes of it.
-    fn step_program<H: Host>(&mut self, host: &mut H) -> Result<Stepped, Failed>
+    /// Makes instructions of the program: up to the first that raises or calls something, or that leaves the stack pointer
+    /// among the library's stacks, and so many at most.
+    fn run_program<H: Host>(&mut self, host: &mut H, decodings: &mut Decodings, limit: u32) -> Steps
         requires live { is_live (slot_at (kernel_state self.old) self.old.slot) ≡ true }
         requires awake { is_awake (slot_at (kernel_state self.old) self.old.slot).status ≡ true }
         requires at { place_of (slot_at (kernel_state self.old) self.old.slot) ≡ place.Guest }
-        ensures step { IsLibraryStep (progress_of result) self.old.slot (kernel_state self.old) (kernel_state self.new) (output H.console (λ s. s.written) (from_to host.old host.new) (from_to self.old self.new)) }
-        ensures leaves { Leaves (progress_of result) self.old.slot (kernel_state self.old) (kernel_state self.new) }
-        ensures lowers { Lowers (progress_of result) (place_of (slot_at (kernel_state self.old) self.old.slot)) (place_of (slot_at (kernel_state self.new) self.new.slot)) }
-        ensures raises { IfOk result (λ stepped. Raises (place_of (slot_at (kernel_state self.old) self.old.slot)) self.old.slot (kernel_state self.old) stepped.trap (kernel_state self.new)) }
+        requires limit { 0 < limit }
+        ensures made { MakesSteps self.old.slot result.going result.last (kernel_state self.old) (kernel_state self.new) (output H.console (λ s. s.written) (from_to host.old host.new) (from_to self.old self.new)) }
+        ensures within { result.going < limit }
         ensures slot { self.new.slot ≡ self.old.slot }
         ensures calls { self.new.calls ≡ self.old.calls }
         ensures rest { Unchanged H.files H.input H.asked H.notes host.old host.new }
-        ensures cause { HasCause (H.faults host.old) (H.faults host.new) result }
+        ensures cause { HasCause (H.faults host.old) (H.faults host.new) result.last }
     {
-        match self.step_guest(host) {
-            Ok(trap) => {
-                let progress = if self.is_live() {
-                    Progress::Visible
-                } else {
-                    Progress::Ended
-                };
-                Ok(Stepped { progress, trap })
-            }
-            Err(failed) => Err(failed),
+        let mut registers = self.registers();
+        self.machine.load(self.slot, registers.eip);
+        let burst = make_burst(
+            decodings,
+            &mut registers,
+            &mut self.machine,
+            Gates::Run,
+            limit,
+        );
+        self.machine.set_registers(self.slot, registers);
+        let followed = self.follow_guest(host, burst.ip, burst.event);
+        self.keep_in_order();
+        Steps {
+            going: burst.steps - 1,
+            last: came_to(self.is_live(), followed),
         }
     }
 
-    /// Makes one step of the environment that is served: of its program, or of the service that it is in.
+    /// Makes steps of the environment that is served: instructions of its program, so many at most, or one step of the
+    /// service that it is in.
     ///
     /// # Errors
-    /// A call of the host failed while the step wrote to the console.
-    pub fn step<H: Host>(&mut self, host: &mut H) -> Result<Stepped, Failed>
+    /// A call of the host failed while the last step wrote to the console.
+    pub fn make_steps<H: Host>(
+        &mut self,
+        host: &mut H,
+        decodings: &mut Decodings,
+        limit: u32,
+    ) -> Steps
         requires live { is_live (slot_at (kernel_state self.old) self.old.slot) ≡ true }
         requires awake { is_awake (slot_at (kernel_state self.old) self.old.slot).status ≡ true }
         requires few { self.old.calls < 2 ^ 32 - 1 }
-        ensures step { IsLibraryStep (progress_of result) self.old.slot (kernel_state self.old) (kernel_state self.new) (output H.console (λ s. s.written) (from_to host.old host.new) (from_to self.old self.new)) }
-        ensures leaves { Leaves (progress_of result) self.old.slot (kernel_state self.old) (kernel_state self.new) }
-        ensures lowers { Lowers (progress_of result) (place_of (slot_at (kernel_state self.old) self.old.slot)) (place_of (slot_at (kernel_state self.new) self.new.slot)) }
-        ensures gives_up { GivesUp (progress_of result) (slot_at (kernel_state self.old) self.old.slot) (slot_at (kernel_state self.new) self.new.slot) }
-        ensures raises { IfOk result (λ stepped. Raises (place_of (slot_at (kernel_state self.old) self.old.slot)) self.old.slot (kernel_state self.old) stepped.trap (kernel_state self.new)) }
+        requires limit { 0 < limit }
+        ensures made { MakesSteps self.old.slot result.going result.last (kernel_state self.old) (kernel_state self.new) (output H.console (λ s. s.written) (from_to host.old host.new) (from_to self.old self.new)) }
+        ensures within { result.going < limit }
         ensures slot { self.new.slot ≡ self.old.slot }
         ensures calls { self.new.calls ≤ self.old.calls + 1 }
         ensures rest { Unchanged H.files H.input H.asked H.notes host.old host.new }
-        ensures cause { HasCause (H.faults host.old) (H.faults host.new) result }
+        ensures cause { HasCause (H.faults host.old) (H.faults host.new) result.last }
     {
         let registers = self.registers();
         let words = self.extra();
         match find_place(&registers, &words) {
-            Place::Guest => self.step_program(host),
-            Place::InService { service, step } => {
-                served_quietly(drive(&stage_of(service, step), self, host))
-            }
+            Place::Guest => self.run_program(host, decodings, limit),
+            Place::InService { service, step } => Steps {
+                going: 0,
+                last: served_quietly(drive(&stage_of(service, step), self, host)),
+            },
         }
     }
 }

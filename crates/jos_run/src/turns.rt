@@ -11,7 +11,6 @@ ghost use Rattle.jos_run.specs.Served.{kernel_state};
 
 use crate::served::Served;
 use jos_base::{NENV, Status};
-use jos_sched::next;
 
 impl Served {
     /// Whether there is an environment in a slot.
@@ -19,7 +18,7 @@ impl Served {
         requires { slot < NENV }
         ensures { result ≡ is_live (slot_at (kernel_state self.now) slot) }
     {
-        !matches!(self.system.environment(slot).status, Status::Free)
+        !matches!(self.machine.system().environment(slot).status, Status::Free)
     }
 
     /// Whether it is the turn of the environment in a slot.
@@ -27,7 +26,10 @@ impl Served {
         requires { slot < NENV }
         ensures { result ≡ is_running (slot_at (kernel_state self.now) slot).status }
     {
-        matches!(self.system.environment(slot).status, Status::Running)
+        matches!(
+            self.machine.system().environment(slot).status,
+            Status::Running
+        )
     }
 
     /// Whether there is an environment in another slot than the first, where the file server stands.
@@ -47,21 +49,21 @@ impl Served {
         requires { ForSome (kernel_state self.now).last (λ n. n < NENV) }
         ensures { result ≡ next (kernel_state self.now).environments (kernel_state self.now).last }
     {
-        next(self.system.table(), self.system.last())
+        self.machine.next_slot()
     }
 
     /// How many page faults were handed to their handlers.
     pub(crate) fn upcalls(&self) -> u64
         ensures { result ≡ (kernel_state self.now).upcalls }
     {
-        self.system.upcalls()
+        self.machine.upcalls()
     }
 
     /// How often frames or slots were asked for and there was none.
     pub(crate) fn refused(&self) -> u64
         ensures { result ≡ (kernel_state self.now).refusals }
     {
-        self.system.refused()
+        self.machine.refused()
     }
 
     /// The slot whose environment is served.
@@ -88,7 +90,7 @@ impl Served {
         ensures calls { self.new.calls ≡ self.old.calls }
         ensures written { self.new.written ≡ self.old.written }
     {
-        self.system.begin_turn(slot);
+        self.machine.begin_turn(slot);
     }
 
     /// Ends a turn: an environment that is running waits for the next.
@@ -99,6 +101,6 @@ impl Served {
         ensures calls { self.new.calls ≡ self.old.calls }
         ensures written { self.new.written ≡ self.old.written }
     {
-        self.system.end_turn(slot);
+        self.machine.end_turn(slot);
     }
 }

@@ -30,7 +30,7 @@ use jos_space::{Space, Spaces};
 use jos_trap::{RECORD_SIZE, from_record, words_of_record};
 
 /// The room for the bytes of one `cputs`.
-const BUFFER_LEN: usize = CPUTS_MAX as usize;
+pub const BUFFER_LEN: usize = CPUTS_MAX as usize;
 
 /// The bytes at `len` addresses from `va` on, or the fault of the first that can't be read. Nothing is set.
 fn read_bytes(

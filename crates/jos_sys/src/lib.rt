@@ -15,6 +15,7 @@ mod messages;
 mod pages;
 mod system;
 
+pub use calls::BUFFER_LEN;
 pub use faults::Faulted;
 pub use input::Input;
 pub use system::{Answer, System};

@@ -71,6 +71,10 @@ impl Mem for TestMemory {
 
     ghost table = { test_memory_table };
 
+    ghost use Rattle.jos_cpu.specs.Memory.{anywhere};
+
+    ghost stands = { anywhere };
+
     fn probe(&mut self, va: u32, len: u32, access: Access) -> Result<(), MemFault> {
         let mut at = va;
         for _ in 0..len {
@@ -85,6 +89,10 @@ impl Mem for TestMemory {
 
     fn get(&self, va: u32) -> u8 {
         self.bytes[self.offset(va) as usize]
+    }
+
+    fn may_stand(&self, _esp: u32) -> bool {
+        true
     }
 
     fn window(&self, va: u32) -> &[u8] {

@@ -6,6 +6,7 @@ ghost use Rattle.jos_base.specs.declared.numbers.TheConstants.{NENV};
 
 use crate::telling::{quoted, tell_numbers};
 use jos_base::{Called, Extra};
+use jos_cpu::Decodings;
 use jos_host::MemHost;
 use jos_run::Served;
 use lib_os::{Stop, UserOs};
@@ -119,12 +120,14 @@ impl Bench {
 
     /// Makes so many steps of the environment, and tells what comes of them.
     pub(crate) fn go(&mut self, alloc: Global, steps: u32) -> Result<String, AllocError> {
+        let mut decodings = Decodings::new(alloc)?;
         for _ in 0..steps {
             self.served.serve(self.slot);
             if !self.served.is_live() || !self.served.is_awake() {
                 break;
             }
-            if self.served.step(&mut self.host).is_err() {
+            let made = self.served.make_steps(&mut self.host, &mut decodings, 1);
+            if made.last.is_err() {
                 return String::from_str(alloc, "the host failed");
             }
         }

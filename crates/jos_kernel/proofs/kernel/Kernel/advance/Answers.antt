@@ -25,6 +25,7 @@ bursts g c = record {
   within = c.requires.within;
   runs = (λ i. is_running (slot_at (c.load.ensures.state i) c.args.slot).status) ∙ c.enter_turn.ensures.running;
   loaded = c.load.ensures.loaded ∙ (λ i. Some (slot_at (sym c.load.ensures.state i) c.args.slot).directory);
+  ip = c.make_burst-burst.result.ip;
   burst = c.make_burst-burst.ensures;
   room = omega (arith, c.min-limit.ensures, c.steps_left-left_of_turn.ensures.exact);
 }

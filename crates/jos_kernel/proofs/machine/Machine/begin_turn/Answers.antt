@@ -5,8 +5,8 @@ use Rattle.jos_kernel.proofs.Machines.{spaces_lawful}
 use Rattle.jos_kernel.proofs.machine.Machine.begin_turn.Goals as goal
 
 pub invariant_of-self : goal.invariant_of-self
-invariant_of-self c =
+invariant_of-self g c =
     spaces_lawful _ _ _ _ _ c.begin_turn.ensures.spaces c.self.invariant (ap (λ (s : KernelState). s.spaces) (c.begin_turn.ensures.state []))
 
 pub returns : goal.returns
-returns c = rw (← c.self.view_is) (c.begin_turn.ensures.state (left_of c.self.inside.input))
+returns g c = rw (← c.self.view_is) (c.begin_turn.ensures.state (left_of c.self.inside.input))

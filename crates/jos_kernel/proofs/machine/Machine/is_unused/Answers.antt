@@ -4,4 +4,4 @@ use Rattle.jos_envs.specs.Table.{any_live}
 use Rattle.jos_kernel.proofs.machine.Machine.is_unused.Goals as goal
 
 pub returns : goal.returns
-returns c = rw (← c.self.view_is) (c.is_unused.ensures ∙ ap (λ (e : Environments). not (any_live e)) (c.table.ensures []))
+returns g c = rw (← c.self.view_is) (c.is_unused.ensures ∙ ap (λ (e : Environments). not (any_live e)) (c.table.ensures []))

@@ -1,4 +1,4 @@
-use Rattle.std.proofs.Common.{◌≡◌, ◌∙◌, ℕ, ◌+◌, ◌-◌, refl, subst, arith}
+use Rattle.std.proofs.Common.{◌≡◌, ◌∙◌, ◌≤◌, ℕ, ◌+◌, ◌-◌, refl, subst, arith}
 use Rattle.jos_host.specs.Frames.{from_to}
 use Rattle.jos_run.specs.Running.{Went}
 use Rattle.jos_run.proofs.RunEnds.{none_yet, went_further, fails_further, on_end, on_budget}
@@ -20,12 +20,14 @@ loop-left-init g c =
 
 pub loop-left-preserved : goal.loop-left-preserved
 loop-left-preserved g c =
-    let e : (c.args.budget - c.loop-left.left) + 1 ≡ c.args.budget - (c.loop-left.left - 1) =
-    omega (arith, c.loop-left.invariant.within, c.loop-left-test.true) in
+    let told = c.in-Ok-advance.ensures.told in
+    let more : c.in-Ok-advance.steps ≤ c.loop-left.left = told.1 in
+    let e : (c.args.budget - c.loop-left.left) + c.in-Ok-advance.steps ≡ c.args.budget - (c.loop-left.left - c.in-Ok-advance.steps) =
+    omega (arith, c.loop-left.invariant.within, more) in
     record {
       went = subst (λ (n : ℕ). Went n (from_to c.args.self.now c.advance.new.self)
           (from_to (g.H.Host.console c.args.host.now) (g.H.Host.console c.advance.new.host)))
-          e (went_further c.loop-left.invariant.went c.in-Ok-advance.ensures.told);
+          e (went_further c.loop-left.invariant.went told.2);
       within = omega (arith, c.loop-left.invariant.within);
       holds = c.in-Ok-advance.ensures.holds;
       rest = still c.loop-left.invariant.rest c.in-Ok-advance.ensures.rest;

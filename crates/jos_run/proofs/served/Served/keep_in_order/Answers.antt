@@ -3,4 +3,6 @@ use Rattle.jos_run.proofs.InOrder.{in_order}
 use Rattle.jos_run.proofs.served.Served.keep_in_order.Goals as goal
 
 pub returns : goal.returns
-returns c = rw (← c.self.view_is) (in_order c.self.inside.system (left_of c.self.inside.input) c.keep_sound.ensures c.self.invariant.system)
+returns c =
+    rw (← c.self.view_is, ← c.system.ensures.system)
+    (in_order _ (left_of c.self.inside.machine.input) c.keep_sound.ensures c.system.ensures.keeps)

@@ -1,0 +1,163 @@
+-- A burst of the processor inside the fence, with the registers put back into the slot behind it, is as many instructions of
+-- the program: those that go on, and the last, with what comes of it.
+use Rattle.std.proofs.Common.{◌≡◌, ◌∙◌, ◌==◌, ℕ, zero, suc, Bool, true, false, Some, refl, sym, ap, subst, if◌then◌else◌}
+use Rattle.std.specs.Prelude.{not}
+use Rattle.std.proofs.lemmas.Bool.{false≢true}
+use Rattle.jos_base.specs.declared.registers.Regs.{Regs}
+use Rattle.jos_base.specs.Environments.{Slot, is_live}
+use Rattle.jos_base.specs.KernelState.{KernelState, slot_at, with_registers}
+use Rattle.jos_base.proofs.Maps.{upd-at}
+use Rattle.jos_cpu.specs.declared.events.Event.{Event}
+use Rattle.jos_cpu.specs.declared.events.Event.TheVariants.{Next, Soft, Raised}
+use Rattle.jos_cpu.specs.declared.events.Gates.TheVariants.{Run}
+use Rattle.jos_cpu.specs.Bursts.{Machine, StepsTo, GoesOn, IsBurst}
+use Rattle.jos_cpu.specs.Steps.{step_of}
+use Rattle.jos_cpu.proofs.Agreement.{through}
+use Rattle.jos_kernel.specs.Running.{Running, memory_inside, loaded_in}
+use Rattle.jos_kernel.proofs.EnvSteps.{with_registers_in, registers_twice, step_with_registers}
+use Rattle.jos_kernel.proofs.KeepsRest.{KeepsRest, directory_is, slot_is, steps_keeps, going_keeps, burst_keeps}
+use Rattle.lib_os.specs.declared.place.Place.{Place}
+use Rattle.lib_os.specs.declared.place.Place.TheVariants as place
+use Rattle.lib_os.specs.Fence.{is_inside, is_resident}
+use Rattle.lib_os.specs.Places.{place_in, place_of, service_word}
+use Rattle.lib_os.proofs.Slots as slots
+use Rattle.jos_run.specs.FencedMemory.{fenced_memory, may_stand}
+use Rattle.jos_run.specs.GuestSteps.{quietly, after_event, after_instruction, guest_instruction}
+use Rattle.jos_run.specs.StepsAtOnce.{GuestGoesOn}
+use Rattle.jos_run.proofs.StepsAtOnce.{IsGuestBurst}
+
+-- ---- the program's steps
+
+abbrev is_program : Place → Bool
+is_program place.Guest = true
+is_program _ = false
+
+module _ (n : ℕ) where
+  -- the kernel's state with the registers in the slot
+  abbrev pub put_back : Machine Running → KernelState
+  put_back m = with_registers m.memory.state n m.regs
+
+  slot_back : (m : Machine Running) → slot_at (put_back m) n ≡ record (slot_at m.memory.state n) { registers = m.regs }
+  slot_back m = upd-at m.memory.state.environments.slots n (record (slot_at m.memory.state n) { registers = m.regs })
+
+  abbrev pub IsLoaded : Machine Running → Type 0
+  IsLoaded m = m.memory.directory ≡ Some (slot_at m.memory.state n).directory
+
+  abbrev pub IsAtGuest : Machine Running → Type 0
+  IsAtGuest m = place_of (slot_at (put_back m) n) ≡ place.Guest
+
+  -- A step of the processor, with what comes of it, is the program's.
+  instruction_is : {event : Event} (before after : Machine Running) → StepsTo (memory_inside is_inside) Run before event after → IsLoaded before →
+      guest_instruction (put_back before) n ≡ after_event (put_back after) n before.regs.eip event
+  unfolding guest_instruction fenced_memory
+  instruction_is {event = event} before after step loaded =
+      let entered = put_back before in
+      let ip = before.regs.eip in
+      (λ i. after_instruction n (slot_back before i).registers.eip (step_of (memory_inside is_inside) (slot_back before i).registers
+      (record { state = entered; directory = Some (slot_back before i).directory }) Run))
+      ∙ (λ i. after_instruction n ip (step_of (memory_inside is_inside) before.regs (record { state = entered; directory = sym loaded i }) Run))
+      ∙ ap (after_instruction n ip) (step_with_registers n before.regs is_inside before.regs before.memory Run)
+      ∙ (λ i. after_instruction n ip (through (with_registers_in n before.regs) (step i)))
+      ∙ (λ i. after_event (registers_twice after.memory.state n before.regs after.regs i) n ip event)
+
+  resident_is : (m : Machine Running) → is_resident (slot_at (put_back m) n).registers.esp ≡ is_resident m.regs.esp
+  resident_is m = ap (λ (slot : Slot). is_resident slot.registers.esp) (slot_back m)
+
+  not_resident : (m : Machine Running) → may_stand m.regs.esp ≡ true → is_resident (slot_at (put_back m) n).registers.esp ≡ false
+  not_resident m may = resident_is m ∙ by_test (is_resident m.regs.esp) may
+    where
+      by_test : (c : Bool) → not c ≡ true → c ≡ false
+      by_test true is = absurd (false≢true is)
+      by_test false is = refl
+
+  -- one that goes on is told nothing
+  goes_quietly : (m : Machine Running) (ip : ℕ) → may_stand m.regs.esp ≡ true → after_event (put_back m) n ip Next ≡ quietly (put_back m)
+  goes_quietly m ip may = rw (not_resident m may) refl
+
+  loaded_still : (before after : Machine Running) → KeepsRest before.memory after.memory → IsLoaded before → IsLoaded after
+  loaded_still before after k loaded = directory_is k ∙ loaded ∙ (λ i. Some (sym (slot_is k n) i).directory)
+
+  -- where an environment stands at its program, it does so with any registers
+  guest_still : (before after : Machine Running) → KeepsRest before.memory after.memory → IsAtGuest before → IsAtGuest after
+  unfolding place_in
+  guest_still before after k is =
+      (λ i. place_of (slot_back after i)) ∙ (λ i. place_in after.regs (slot_is k n i).extra)
+      ∙ by_word (service_word (slot_at before.memory.state n).extra == 0) _ _ refl ((λ i. place_of (sym (slot_back before) i)) ∙ is)
+    where
+      by_word : (c : Bool) (p q : Place) → is_program p ≡ false → (if c then place.Guest else p) ≡ place.Guest →
+          (if c then place.Guest else q) ≡ place.Guest
+      by_word true p q none is = refl
+      by_word false p q none is = absurd (false≢true (sym none ∙ ap is_program is))
+
+  pub goes_on : (k : ℕ) (before after : Machine Running) → GoesOn (memory_inside is_inside) may_stand Run k before after → IsLoaded before →
+      IsAtGuest before → GuestGoesOn n k (put_back before) (put_back after)
+  goes_on zero before after e loaded guest = ap put_back e
+  goes_on (suc k) before after g loaded guest =
+      let next = g.0 in
+      let kept = steps_keeps is_inside Run Next before next g.1 in
+      let guest_next = guest_still before next kept guest in (
+        put_back next,
+        instruction_is before next g.1 loaded ∙ goes_quietly next before.regs.eip g.2,
+        guest_next,
+        goes_on k next after g.3 (loaded_still before next kept loaded) guest_next,
+      )
+
+  -- what comes of an instruction hangs on its address where that ends a burst, but for an interrupt
+  address_told : (after : Machine Running) (a b : ℕ) (event : Event) →
+      ((event ≡ Next → may_stand after.regs.esp ≡ true → ⊥) → a ≡ b) →
+      after_event (put_back after) n a event ≡ after_event (put_back after) n b event
+  address_told after a b Next same = by_test (is_resident after.regs.esp) refl
+    where
+      by_test : (c : Bool) → is_resident after.regs.esp ≡ c →
+          after_event (put_back after) n a Next ≡ after_event (put_back after) n b Next
+      by_test true is =
+          let there = same (λ e may. absurd (false≢true (sym (ap not is) ∙ may))) in
+          ap (λ (ip : ℕ). after_event (put_back after) n ip Next) there
+      by_test false is =
+          let may : may_stand after.regs.esp ≡ true = ap not is in goes_quietly after a may ∙ sym (goes_quietly after b may)
+  address_told after a b (Soft vector) same = refl
+  address_told after a b (Raised trap error va) same =
+      ap (λ (ip : ℕ). after_event (put_back after) n ip (Raised trap error va))
+      (same (λ e may. absurd (let contradiction : Raised trap error va ≡ Next = e in cc)))
+
+-- steps of the processor, begun with the registers of the slot
+pub guest_burst : (n going ip : ℕ) {event : Event} (s : KernelState) (before reached after : Machine Running) →
+    GoesOn (memory_inside is_inside) may_stand Run going before reached → StepsTo (memory_inside is_inside) Run reached event after →
+    ((event ≡ Next → may_stand after.regs.esp ≡ true → ⊥) → ip ≡ reached.regs.eip) → s ≡ put_back n before → IsLoaded n before →
+    place_of (slot_at s n) ≡ place.Guest → IsGuestBurst n going s (put_back n after) ip event
+guest_burst n going ip {event = event} s before reached after went last at begun loaded guest =
+    let guest_before : IsAtGuest n before = (λ i. place_of (slot_at (sym begun i) n)) ∙ guest in
+    let kept = going_keeps is_inside may_stand Run going before reached went in
+    record {
+      reached = put_back n reached;
+      went = subst (λ (x : KernelState). GuestGoesOn n going x (put_back n reached)) (sym begun)
+          (goes_on n going before reached went loaded guest_before);
+      is_guest = guest_still n before reached kept guest_before;
+      last = instruction_is n reached after last (loaded_still n before reached kept loaded)
+          ∙ address_told n after reached.regs.eip ip event (λ ends. sym (at ends));
+    }
+
+-- A burst was made: its environment is live still, and it is one of the program.
+pub record HasBurst (s : KernelState) (n going ip : ℕ) (new : Regs) (after : KernelState) (event : Event) : Type 0 where
+  pub live : is_live (slot_at after n) ≡ true
+  pub burst : IsGuestBurst n going s (with_registers after n new) ip event
+
+module _ (s : KernelState) (n : ℕ) {limit steps ip : ℕ} {event : Event} (regs new : Regs) (before after : Running)
+    (before_is : before ≡ loaded_in s (slot_at s n).directory) (regs_are : regs ≡ (slot_at s n).registers)
+    (live : is_live (slot_at s n) ≡ true) (guest : place_of (slot_at s n) ≡ place.Guest)
+    (b : IsBurst (memory_inside is_inside) may_stand Run limit steps ip event (record { regs = regs; memory = before })
+    (record { regs = new; memory = after })) where
+  begun : s ≡ with_registers before.state n regs
+  begun =
+      sym (slots.slot_back s n (record (slot_at s n) { registers = regs }) (λ i. record (slot_at s n) { registers = regs_are i }))
+      ∙ (λ i. with_registers (sym before_is i).state n regs)
+
+  loaded : before.directory ≡ Some (slot_at before.state n).directory
+  loaded = (λ i. (before_is i).directory) ∙ (λ i. Some (slot_at (sym before_is i).state n).directory)
+
+  pub has_burst : HasBurst s n b.going ip new after.state event
+  has_burst = record {
+    live = (λ i. is_live (slot_is (burst_keeps is_inside may_stand b) n i)) ∙ (λ i. is_live (slot_at (before_is i).state n)) ∙ live;
+    burst = guest_burst n b.going ip s (record { regs = regs; memory = before }) b.reached (record { regs = new; memory = after })
+        b.went b.last b.at begun loaded guest;
+  }

@@ -1,0 +1,217 @@
+-- Steps of a run that are made at once: instructions of a program that go on, and one more step, which may be a service's.
+use Rattle.std.proofs.Common.{◌≡◌, ◌∙◌, ℕ, ◌+◌, ◌<◌, zero, suc, Bool, true, false, List, [], ◌∷◌, ◌++◌, length, Option, Some, None, Ok}
+use Rattle.std.proofs.Common.{Result, Err, refl, sym, ap, subst, arith, if◌then◌else◌}
+use Rattle.std.specs.Prelude.{IfOk}
+use Rattle.jos_host.specs.declared.host.Failed.{Failed}
+use Rattle.jos_base.specs.declared.environment.Status.{Status}
+use Rattle.jos_base.specs.Environments.{is_running}
+use Rattle.jos_base.specs.KernelState.{KernelState, slot_at, turn_begun, turn_ended}
+use Rattle.jos_cpu.specs.declared.events.Event.{Event}
+use Rattle.jos_sched.specs.RoundRobin.{next}
+use Rattle.jos_kernel.specs.declared.report.Turn.{Turn}
+use Rattle.jos_kernel.specs.declared.trace.TrapLine.{TrapLine}
+use Rattle.jos_kernel.specs.Books.{turn_of}
+use Rattle.jos_kernel.specs.Steps.{EnvStep}
+use Rattle.lib_os.specs.declared.place.Place.{Place}
+use Rattle.lib_os.specs.declared.place.Place.TheVariants as place
+use Rattle.lib_os.specs.declared.place.Step.{Step}
+use Rattle.lib_os.specs.declared.service.Service.{Service}
+use Rattle.lib_os.specs.declared.progress.Progress.{Progress}
+use Rattle.lib_os.specs.declared.progress.Progress.TheVariants as progress
+use Rattle.lib_os.specs.LibrarySteps.{Keeps, IsLibraryStep, Leaves, Lowers, GivesUp, is_pausing}
+use Rattle.lib_os.specs.InOrder.{IsInOrder}
+use Rattle.lib_os.specs.Places.{place_of}
+use Rattle.lib_os.specs.UserCalls.{Output}
+use Rattle.lib_os.proofs.GoingOn.{gives_nothing_up}
+use Rattle.jos_run.specs.declared.steps.Stepped.{Stepped}
+use Rattle.jos_run.specs.Guest.{Follows}
+use Rattle.jos_run.specs.GuestSteps.{quietly, after_event, guest_instruction}
+use Rattle.jos_run.specs.LibraryRuns.{visible_steps, hidden_steps}
+use Rattle.jos_run.specs.RunSteps.{StepMade, IsMade, LeadTo, traps_of, written_in, turns_with}
+use Rattle.jos_run.specs.Steps.{is_awake, progress_of, Raises}
+use Rattle.jos_run.specs.StepsAtOnce.{GuestGoesOn, came_to, MakesSteps}
+use Rattle.jos_run.proofs.GuestLeaves.{guest_leaves}
+use Rattle.jos_run.proofs.ProgramSteps.{program_goes_on, program_ends, program_fails, guest_raises}
+use Rattle.jos_run.proofs.QuietSteps.{gone_quietly, quiet_calm, quiet_keeps, running_awake}
+use Rattle.jos_run.proofs.RunSteps.{turns_further, turn_longer}
+
+-- ---- a program
+
+-- The burst of the program in slot n: those of its instructions that go on, where the last begins, and what comes of that.
+pub record IsGuestBurst (n going : ℕ) (s after : KernelState) (ip : ℕ) (event : Event) : Type 0 where
+  pub reached : KernelState
+  pub went : GuestGoesOn n going s reached
+  pub is_guest : place_of (slot_at reached n) ≡ place.Guest
+  pub last : guest_instruction reached n ≡ after_event after n ip event
+
+-- so it is as many steps of its environment
+module _ {n going ip : ℕ} {event : Event} (s mid after : KernelState) (output : Output) (b : IsGuestBurst n going s mid ip event)
+    (awake : is_awake (slot_at s n).status ≡ true) (guest : place_of (slot_at s n) ≡ place.Guest) (order : IsInOrder after) where
+  still_awake : is_awake (slot_at b.reached n).status ≡ true
+  still_awake = ap (λ (x : Status). is_awake x) (gone_quietly n going s b.reached b.went).status ∙ awake
+
+  makes : (last : Result Stepped Failed) → IsLibraryStep (progress_of last) n b.reached after output → Leaves (progress_of last) n b.reached after →
+      Lowers (progress_of last) (place_of (slot_at b.reached n)) (place_of (slot_at after n)) →
+      IfOk last (λ stepped. Raises (place_of (slot_at b.reached n)) n b.reached stepped.trap after) → MakesSteps n going last s after output
+  makes last step leaves lowers raises = record {
+    reached = b.reached;
+    went = b.went;
+    is_guest = λ some. guest;
+    step = step;
+    leaves = leaves;
+    lowers = lowers;
+    gives_up = gives_nothing_up (progress_of last) (slot_at b.reached n) (slot_at after n) (ap is_pausing b.is_guest);
+    raises = raises;
+  }
+
+  by_followed : (live : Bool) (followed : Result (Option TrapLine) Failed) → Follows followed (guest_instruction b.reached n) after output →
+      MakesSteps n going (came_to live followed) s after output
+  by_followed true (Ok trap) told =
+      makes (Ok (record { progress = progress.Visible; trap = trap }))
+      (program_goes_on b.reached after n output still_awake b.is_guest order trap told)
+      (guest_leaves b.reached after n progress.Visible told.0) tt (guest_raises b.reached after n trap b.is_guest told.0 told.1)
+  by_followed false (Ok trap) told =
+      makes (Ok (record { progress = progress.Ended; trap = trap }))
+      (program_ends b.reached after n output still_awake b.is_guest order trap told)
+      (guest_leaves b.reached after n progress.Ended told.0) tt (guest_raises b.reached after n trap b.is_guest told.0 told.1)
+  by_followed live (Err failed) told =
+      makes (Err failed) (program_fails b.reached after n output still_awake b.is_guest order failed told) tt tt tt
+
+  pub program_made : (live : Bool) (followed : Result (Option TrapLine) Failed) → Follows followed (after_event mid n ip event) after output →
+      MakesSteps n going (came_to live followed) s after output
+  program_made live followed told =
+      by_followed live followed (subst (λ (step : EnvStep). Follows followed step after output) (sym b.last) told)
+
+-- ---- a service
+
+-- One step of a service, with no instruction before it. It raises no trap.
+module _ (s after : KernelState) (n : ℕ) (output : Output) (service : Service) (step : Step)
+    (is : place_of (slot_at s n) ≡ place.InService service step) (did : Result Progress Failed) where
+  raises_none : (last : Result Stepped Failed) → IfOk last (λ stepped. stepped.trap ≡ None) →
+      IfOk last (λ stepped. Raises (place_of (slot_at s n)) n s stepped.trap after)
+  raises_none (Ok stepped) none = subst (λ (p : Place). Raises p n s stepped.trap after) (sym is) none
+  raises_none (Err failed) none = tt
+
+  pub service_made : (last : Result Stepped Failed) → progress_of last ≡ did → IfOk last (λ stepped. stepped.trap ≡ None) →
+      IsLibraryStep did n s after output → Leaves did n s after → Lowers did (place_of (slot_at s n)) (place_of (slot_at after n)) →
+      GivesUp did (slot_at s n) (slot_at after n) → MakesSteps n 0 last s after output
+  service_made last told none library leaves lowers gives_up = record {
+    reached = s;
+    went = refl;
+    is_guest = λ some. absurd (omega (arith, some));
+    step = subst (λ (r : Result Progress Failed). IsLibraryStep r n s after output) (sym told) library;
+    leaves = subst (λ (r : Result Progress Failed). Leaves r n s after) (sym told) leaves;
+    lowers = subst (λ (r : Result Progress Failed). Lowers r (place_of (slot_at s n)) (place_of (slot_at after n))) (sym told) lowers;
+    gives_up = subst (λ (r : Result Progress Failed). GivesUp r (slot_at s n) (slot_at after n)) (sym told) gives_up;
+    raises = raises_none last none;
+  }
+
+-- ---- steps of a run
+
+-- a step of the environment in slot n
+abbrev pub made_step : ℕ → Bool → Bool → Progress → List ℕ → Option TrapLine → KernelState → StepMade
+made_step n begins goes_on done bytes trap left = record {
+  slot = n;
+  begins = begins;
+  goes_on = goes_on;
+  progress = done;
+  written = bytes;
+  trap = trap;
+  left = left;
+}
+
+-- an instruction that goes on
+abbrev quiet_step : ℕ → Bool → KernelState → StepMade
+quiet_step n begins left = made_step n begins true progress.Visible [] None left
+
+-- So many of them, and the last step, given whether it is the first of its turn.
+pub steps_with : (begins : Bool) (n k : ℕ) (s t : KernelState) → GuestGoesOn n k s t → (Bool → StepMade) → List StepMade
+steps_with begins n zero s t g last = last begins ∷ []
+steps_with begins n (suc k) s t g last = quiet_step n begins g.0 ∷ steps_with false n k g.0 t g.3 last
+
+-- ---- one that goes on
+
+-- whether it is the first of its turn or not
+quiet_made : (begins : Bool) (n : ℕ) (s u after : KernelState) → guest_instruction s n ≡ quietly after →
+    place_of (slot_at s n) ≡ place.Guest → is_running (slot_at s n).status ≡ true → (if begins then turn_begun u n else u) ≡ s →
+    (begins ≡ true → next u.environments u.last ≡ Some n) → IsMade u (quiet_step n begins after)
+quiet_made begins n s u after g guest runs is chosen = record {
+  chosen = chosen;
+  running = (λ i. is_running (slot_at (is i) n).status) ∙ runs;
+  raises = subst (λ (x : KernelState). Raises (place_of (slot_at x n)) n x None after) (sym is)
+      (guest_raises s after n None guest (ap (λ (step : EnvStep). step.state) (sym g)) (ap (λ (step : EnvStep). step.trap) (sym g)));
+  keeps = subst (λ (x : KernelState). Keeps progress.Visible n x after []) (sym is)
+      (quiet_keeps s after n g (running_awake (slot_at s n).status runs) guest);
+  leaves = subst (λ (x : KernelState). Leaves (Ok progress.Visible) n x after) (sym is)
+      (guest_leaves s after n progress.Visible (ap (λ (step : EnvStep). step.state) (sym g)));
+}
+
+-- ---- all of them
+
+module _ (n : ℕ) (goes_on : Bool) (done : Progress) (bytes : List ℕ) (trap : Option TrapLine) (left : KernelState) where
+  abbrev last : Bool → StepMade
+  last begins = made_step n begins goes_on done bytes trap left
+
+  pub steps_long : (begins : Bool) (k : ℕ) (s t : KernelState) (g : GuestGoesOn n k s t) →
+      length (steps_with begins n k s t g last) ≡ k + 1
+  unfolding steps_with
+  steps_long begins zero s t g = refl
+  steps_long begins (suc k) s t g =
+      let rest : length (steps_with false n k g.0 t g.3 last) ≡ k + 1 = steps_long false k g.0 t g.3 in omega arith
+
+  -- they lead on to where the last one leads
+  module _ (t v : KernelState) (raises : Raises (place_of (slot_at t n)) n t trap left) (keeps : Keeps done n t left bytes)
+      (leaves : Leaves (Ok done) n t left) (passed_is : (if goes_on then left else turn_ended left n) ≡ v) where
+    pub steps_lead : (begins : Bool) (k : ℕ) (s u : KernelState) (g : GuestGoesOn n k s t) → (if begins then turn_begun u n else u) ≡ s →
+        (begins ≡ true → next u.environments u.last ≡ Some n) → is_running (slot_at s n).status ≡ true →
+        (0 < k → place_of (slot_at s n) ≡ place.Guest) → LeadTo (steps_with begins n k s t g last) u v
+    unfolding steps_with LeadTo
+    steps_lead begins zero s u g is chosen runs guest =
+        let at_last : (if begins then turn_begun u n else u) ≡ t = is ∙ sym g in (
+          record {
+            chosen = chosen;
+            running = (λ i. is_running (slot_at (is i) n).status) ∙ runs;
+            raises = subst (λ (x : KernelState). Raises (place_of (slot_at x n)) n x trap left) (sym at_last) raises;
+            keeps = subst (λ (x : KernelState). Keeps done n x left bytes) (sym at_last) keeps;
+            leaves = subst (λ (x : KernelState). Leaves (Ok done) n x left) (sym at_last) leaves;
+          },
+          passed_is,
+        )
+    steps_lead begins (suc k) s u g is chosen runs guest = (
+      quiet_made begins n s u g.0 g.1 (guest (omega arith)) runs is chosen,
+      steps_lead false k g.0 g.0 g.3 refl (λ so. absurd (let contradiction : false ≡ true = so in cc))
+          (ap (λ (x : Status). is_running x) (quiet_calm s g.0 n g.1).status ∙ runs) (λ some. g.2),
+    )
+
+  -- none of those that go on raises a trap or writes
+  pub steps_traps : (begins : Bool) (k : ℕ) (s t : KernelState) (g : GuestGoesOn n k s t) →
+      traps_of (steps_with begins n k s t g last) ≡ traps_of (last begins ∷ [])
+  unfolding steps_with traps_of
+  steps_traps begins zero s t g = refl
+  steps_traps begins (suc k) s t g = steps_traps false k g.0 t g.3
+
+  pub steps_written : (begins : Bool) (k : ℕ) (s t : KernelState) (g : GuestGoesOn n k s t) →
+      written_in (steps_with begins n k s t g last) ≡ written_in (last begins ∷ [])
+  unfolding steps_with written_in
+  steps_written begins zero s t g = refl
+  steps_written begins (suc k) s t g = steps_written false k g.0 t g.3
+
+  -- the turn with them
+  pub steps_turns : (begins : Bool) (k : ℕ) (s t : KernelState) (g : GuestGoesOn n k s t) (turns : List Turn) (slot visible hidden : ℕ) →
+      (begins ≡ true → (slot ≡ n) × (visible ≡ 0) × (hidden ≡ 0)) →
+      turns_with (if begins then turns else turns ++ turn_of slot visible hidden ∷ []) (steps_with begins n k s t g last)
+      ≡ turns ++ turn_of slot (visible + (k + visible_steps done)) (hidden + hidden_steps done) ∷ []
+  unfolding steps_with
+  steps_turns begins zero s t g turns slot visible hidden begun =
+      let none : visible + visible_steps done ≡ visible + (0 + visible_steps done) = omega arith in
+      turn_longer begins turns (last begins) slot visible hidden refl begun
+      ∙ (λ i. turns ++ turn_of slot (none i) (hidden + hidden_steps done) ∷ [])
+  steps_turns begins (suc k) s t g turns slot visible hidden begun =
+      let first = quiet_step n begins g.0 in
+      let none : hidden + 0 ≡ hidden = omega arith in
+      let all : (visible + 1) + (k + visible_steps done) ≡ visible + (suc k + visible_steps done) = omega arith in
+      turns_further (if begins then turns else turns ++ turn_of slot visible hidden ∷ []) (first ∷ []) (steps_with false n k g.0 t g.3 last)
+      ∙ ap (λ (l : List Turn). turns_with l (steps_with false n k g.0 t g.3 last))
+      (turn_longer begins turns first slot visible hidden refl begun ∙ (λ i. turns ++ turn_of slot (visible + 1) (none i) ∷ []))
+      ∙ steps_turns false k g.0 t g.3 turns slot (visible + 1) hidden (λ so. absurd (let contradiction : false ≡ true = so in cc))
+      ∙ (λ i. turns ++ turn_of slot (all i) (hidden + hidden_steps done) ∷ [])

@@ -1,0 +1,37 @@
+use Rattle.std.proofs.Common.{◌≡◌, ◌∙◌, ℕ, sym, subst, arith}
+use Rattle.jos_host.specs.Frames.{around}
+use Rattle.jos_base.specs.KernelState.{slot_at}
+use Rattle.lib_os.specs.declared.place.Place.TheVariants as place
+use Rattle.lib_os.specs.LibrarySteps.{Lowers, GivesUp}
+use Rattle.lib_os.specs.Places.{place_of}
+use Rattle.jos_run.specs.Served.{kernel_state}
+use Rattle.jos_run.proofs.Printed.{printed}
+use Rattle.jos_run.proofs.ServicesHold.{services_hold}
+use Rattle.jos_run.proofs.StepsAtOnce.{service_made}
+use Rattle.jos_run.proofs.served.Served.make_steps.Goals as goal
+
+pub run_program-requires-clause-at : goal.run_program-requires-clause-at
+run_program-requires-clause-at g c =
+    rw (← c.registers-registers.ensures, ← c.extra-words.ensures) (sym c.find_place.ensures ∙ c.in-Guest.is)
+
+pub drive-requires-clause-holds : goal.drive-requires-clause-holds
+drive-requires-clause-holds g c =
+    let slot = slot_at (kernel_state c.args.self.now) c.args.self.now.slot in
+    let is : place_of slot ≡ place.InService c.in-InService.service c.in-InService.step =
+    rw (← c.registers-registers.ensures, ← c.extra-words.ensures) (sym c.find_place.ensures ∙ c.in-InService.is) in
+    rw c.stage_of.ensures (services_hold (kernel_state c.args.self.now) c.args.self.now.slot c.requires.live c.requires.awake
+    (rw (← c.registers-registers.ensures) (omega arith)) c.in-InService.step c.in-InService.service is)
+
+pub returns-in-InService-clause-made : goal.returns-in-InService-clause-made
+returns-in-InService-clause-made g c =
+    let n = c.args.self.now.slot in
+    let s = kernel_state c.args.self.now in
+    let after = kernel_state c.drive.new.os in
+    let output = printed (around g.H.Host.console c.args.host.now c.drive.new.host) c.args.self.now.written c.drive.new.os.written in
+    let is : place_of (slot_at s n) ≡ place.InService c.in-InService.service c.in-InService.step =
+    rw (← c.registers-registers.ensures, ← c.extra-words.ensures) (sym c.find_place.ensures ∙ c.in-InService.is) in
+    let same : c.drive.new.os.slot ≡ n = c.drive.ensures.one.same in
+    service_made s after n output c.in-InService.service c.in-InService.step is c.drive.result c.served_quietly.result
+    c.served_quietly.ensures.answer c.served_quietly.ensures.quiet c.drive.ensures.step c.drive.ensures.leaves
+    (subst (λ (m : ℕ). Lowers c.drive.result (place_of (slot_at s n)) (place_of (slot_at after m))) same c.drive.ensures.lowers)
+    (subst (λ (m : ℕ). GivesUp c.drive.result (slot_at s n) (slot_at after m)) same c.drive.ensures.gives_up)

@@ -1,0 +1,73 @@
+use Rattle.std.proofs.Common.{◌≡◌, true, ◌∙◌, ◌+◌, ◌-◌, ℕ, Result, ap, sym, subst, arith}
+use Rattle.jos_host.specs.declared.host.Failed.{Failed}
+use Rattle.jos_host.specs.Frames.{around}
+use Rattle.jos_base.specs.Environments.{Slot, is_live}
+use Rattle.jos_base.specs.KernelState.{KernelState, slot_at, with_registers}
+use Rattle.jos_kernel.specs.Machine as kernel
+use Rattle.lib_os.proofs.Slots.{slot_put}
+use Rattle.lib_os.specs.declared.place.Place.TheVariants as place
+use Rattle.lib_os.specs.Places.{place_of}
+use Rattle.jos_run.specs.declared.steps.Stepped.{Stepped}
+use Rattle.jos_run.specs.Guest.{Follows}
+use Rattle.jos_run.specs.GuestSteps.{after_event}
+use Rattle.jos_run.specs.Served.{Parts, kernel_state}
+use Rattle.jos_run.specs.Steps.{is_awake}
+use Rattle.jos_run.specs.StepsAtOnce.{came_to, MakesSteps}
+use Rattle.jos_run.proofs.Printed.{printed}
+use Rattle.jos_run.proofs.GuestBursts.{HasBurst, has_burst}
+use Rattle.jos_run.proofs.StepsAtOnce.{program_made}
+use Rattle.jos_run.proofs.served.Served.run_program.Given as given
+use Rattle.jos_run.proofs.served.Served.run_program.Goals as goal
+use Rattle.jos_run.proofs.served.Served.run_program.Goals.{After-make_burst-burst}
+
+-- what the processor has done
+done : (g : given.Over) (c : goal.After-make_burst-burst g) →
+    HasBurst (kernel.kernel_state c.self.inside.machine) c.self.inside.slot c.make_burst-burst.ensures.going c.make_burst-burst.result.ip
+    c.make_burst-burst.new.regs (kernel.kernel_state c.make_burst-burst.new.mem) c.make_burst-burst.result.event
+done g c =
+    let s = kernel.kernel_state c.self.inside.machine in
+    let n = c.self.inside.slot in
+    has_burst s n c.registers-registers.result c.make_burst-burst.new.regs (kernel.running_of c.load.new.self)
+    (kernel.running_of c.make_burst-burst.new.mem) (λ i. record { state = c.load.ensures.state i; directory = c.load.ensures.loaded i })
+    (subst (λ (m : Parts). c.registers-registers.result ≡ (slot_at (kernel_state m) m.slot).registers) (sym c.self.view_is) c.registers-registers.ensures)
+    (subst (λ (m : Parts). is_live (slot_at (kernel_state m) m.slot) ≡ true) (sym c.self.view_is) c.requires.live)
+    (subst (λ (m : Parts). place_of (slot_at (kernel_state m) m.slot) ≡ place.Guest) (sym c.self.view_is) c.requires.at)
+    c.make_burst-burst.ensures
+
+pub set_registers-requires : goal.set_registers-requires
+set_registers-requires g c = (done g (goal.at.set_registers-requires g c).After-make_burst-burst).live
+
+pub follow_guest-followed-requires : goal.follow_guest-followed-requires
+follow_guest-followed-requires g c =
+    let t = kernel.kernel_state c.make_burst-burst.new.mem in
+    let n = c.self.inside.slot in
+    let set : Slot = record (slot_at t n) { registers = c.make_burst-burst.new.regs } in
+    (λ i. is_live (slot_at (c.set_registers.ensures i) n)) ∙ ap is_live (slot_put t n set)
+    ∙ (done g (goal.at.follow_guest-followed-requires g c).After-make_burst-burst).live
+
+pub returns-clause-made : goal.returns-clause-made
+returns-clause-made g c =
+    let n = c.self.inside.slot in
+    let s = kernel.kernel_state c.self.inside.machine in
+    let t = kernel.kernel_state c.make_burst-burst.new.mem in
+    let burst = c.make_burst-burst in
+    let d = done g (goal.at.returns-clause-made g c).After-make_burst-burst in
+    let after = c.follow_guest-followed.new.self in
+    let output = printed (around g.H.Host.console c.args.host.now c.follow_guest-followed.new.host) c.self.inside.written after.written in
+    let mid : KernelState = with_registers t n burst.new.regs in
+    let told = subst (λ (k : KernelState). Follows c.follow_guest-followed.result (after_event k n burst.result.ip burst.result.event) (kernel_state after) output)
+    c.set_registers.ensures c.follow_guest-followed.ensures.told in
+    let awake = subst (λ (m : Parts). is_awake (slot_at (kernel_state m) m.slot).status ≡ true) (sym c.self.view_is) c.requires.awake in
+    let guest = subst (λ (m : Parts). place_of (slot_at (kernel_state m) m.slot) ≡ place.Guest) (sym c.self.view_is) c.requires.at in
+    let made = program_made s mid (kernel_state after) output d.burst awake guest c.keep_in_order.ensures c.is_live.result
+    c.follow_guest-followed.result told in
+    let count : burst.result.steps ≡ burst.ensures.going + 1 = burst.ensures.count in
+    let going_is : burst.ensures.going ≡ burst.result.steps - 1 = omega (arith, count) in
+    rw (← c.self.view_is)
+    (subst (λ (last : Result Stepped Failed). MakesSteps n (burst.result.steps - 1) last s (kernel_state after) output) (sym c.came_to.ensures)
+    (subst (λ (k : ℕ). MakesSteps n k (came_to c.is_live.result c.follow_guest-followed.result) s (kernel_state after) output) going_is made))
+
+pub returns-clause-within : goal.returns-clause-within
+returns-clause-within g c =
+    let count : c.make_burst-burst.result.steps ≡ c.make_burst-burst.ensures.going + 1 = c.make_burst-burst.ensures.count in
+    omega (arith, count, c.make_burst-burst.ensures.within)
