@@ -1,13 +1,13 @@
 -- Which outcomes there can be where nothing stands in the way.
-use Rattle.std.proofs.Common.{◌≡◌, ℕ, List, [], ◌∷◌, length, map, Option, Some, None, Result, Ok, Err, refl, ap, subst, ◌∙◌}
+use Rattle.std.proofs.Common.{◌≡◌, ℕ, ◌≤◌, List, [], ◌∷◌, length, map, Option, Some, None, Result, Ok, Err, refl, ap, subst, ◌∙◌}
 use Rattle.std.specs.Prelude.{IsOk, IsSome}
 use Rattle.jos_host.specs.Files.{Files}
 use Rattle.jos_host.specs.Told.{Rose}
 use Rattle.jos_host.specs.Frames.{Around}
+use Rattle.jos_base.specs.declared.numbers.TheConstants.{INPUT_MAX}
 use Rattle.jos_base.specs.KernelState.{KernelState}
 use Rattle.jos_words.specs.Arguments.{Word}
 use Rattle.jos_words.specs.Commands.{Command, Exo, Run, Mkfs, Ls, Cat, exo, run, mkfs, ls, cat}
-use Rattle.jos_host.specs.MemHost.{Named}
 use Rattle.fs_image.specs.DiskHeld.{Held, held_of}
 use Rattle.fs_layout.specs.DiskImage.{ImageFault}
 use Rattle.fs_contents.specs.Contents.{Told, listed_at, read_at}
@@ -19,22 +19,24 @@ use Rattle.jos_kernel.specs.Boot.{Loadable, booted}
 use Rattle.jos_kernel.specs.ExoRun.{Ran, exo_run, run_of}
 use Rattle.jos_cli.specs.declared.outcome.Outcome.{Outcome}
 use Rattle.jos_cli.specs.declared.outcome.Outcome.TheVariants as outcome
-use Rattle.jos_cli.specs.Limits.{numbers_of_exo, limit_of_run, frames_of, steps_of, trace_of}
-use Rattle.jos_cli.specs.Found.{FileAt, file_at, Found, found_in}
-use Rattle.jos_cli.specs.Answer.{Judged, within, schedule_of, image_of, images_of, input_of, Expected, expected_if, expected_of_run, expected_of_exo}
-use Rattle.jos_cli.specs.Answer.{and_then, made, refused}
-use Rattle.jos_cli.specs.Making.{named_files, made_unless, disk_made, expected_of_disk, expected_of_named, expected_of_mkfs}
+use Rattle.jos_cli.specs.Limits.{numbers_of_exo, limit_of_words, limit_of_run, frames_of, steps_of, trace_of}
+use Rattle.jos_cli.specs.Found.{FileAt, file_at, Found, found_in, run_found_in}
+use Rattle.jos_cli.specs.Answer.{Judged, ◌>>=◌, schedule_of, images_of, Gathered, gathered, Expected, expected_if, expected_of_run, expected_of_images, expected_of_exo}
+use Rattle.jos_cli.specs.Answer.{made, expected_of_writing}
+use Rattle.jos_cli.specs.Making.{named_files, made_unless, disk_made, expected_of_mkfs}
 use Rattle.jos_cli.specs.Disks.{held_at, checked, checked_by, disk_of, tree_of, if_there, path_of, listing, printed}
 use Rattle.jos_cli.specs.Disks.{expected_of_listing, expected_of_bytes, expected_of_ls, expected_of_cat}
 use Rattle.jos_cli.specs.Kinds.{Kind, kind_of, Answers}
 use Rattle.jos_run.specs.RunEnds.{Program, CanBegin}
+use Rattle.jos_cli.specs.declared.outcome.Which.{Which}
 use Rattle.jos_cli.specs.declared.outcome.Which.TheVariants as which
-use Rattle.jos_cli.specs.RunAnswers.{RunFound, run_found_in, program_of, RunsAs, AnswersInput, AnswersImage, AnswersFiles, AnswersRun}
+use Rattle.jos_cli.specs.RunAnswers.{program_of, RunsAs, AnswersRun}
 use Rattle.jos_cli.specs.Outcomes.{AnswersCommand, HasOutcomeCause, HasRunCauseOf, HasCommandCause, CanRun, CanRunProgram, IsRunCase, CanMake, CanList, CanPrint, IsMadeCase}
 use Rattle.jos_cli.specs.Stages.{AreFilesAt}
 use Rattle.jos_cli.proofs.InputRead.{within_limit}
-use Rattle.jos_cli.proofs.RunAnswered.{then_of}
-use Rattle.jos_cli.proofs.NamedRead.{named_are}
+use Rattle.jos_cli.proofs.Gathering.{all_read}
+use Rattle.jos_cli.proofs.RunAnswered.{program_runs}
+use Rattle.jos_cli.proofs.NamedRead.{named_are, files_named}
 
 is_ok : {X E : Type 0} (r : Result X E) → IsOk r → (x : X) × (r ≡ Ok x)
 is_ok (Ok x) h = (x, refl)
@@ -46,20 +48,20 @@ run_of-some : (schedule : List ℕ) (steps : ℕ) (state : Option KernelState) �
 run_of-some schedule steps (Some state) h = (_, refl)
 run_of-some schedule steps None h = absurd (let e = h in cc)
 
+-- what is read is there
+reads : (passed : Option Which) (found : Found) (input : List ℕ) (schedule : List ℕ) (images : List Loadable) → passed ≡ None → schedule_of found.schedule ≡ Ok schedule →
+    images_of found.images ≡ Ok images → length input ≤ INPUT_MAX → gathered passed found input ≡ Ok (record { schedule = schedule; images = images; input = input })
+reads passed found input schedule images none s i short =
+    ap (λ (p : Option Which). gathered p found input) none ∙ all_read found input schedule s images i input (within_limit input short)
+
 runs : (e : Exo) (found : Found) (input : List ℕ) → CanRun e found input → (r : Ran) × (expected_of_exo e found input ≡ expected_of_run (trace_of (numbers_of_exo e)) (Some r))
 unfolding expected_of_exo exo_run
 runs e found input can =
     let numbers = is_ok (schedule_of found.schedule) can.schedule in
     let run = run_of-some numbers.0 (steps_of (numbers_of_exo e)) (booted can.images (frames_of (numbers_of_exo e)) input) can.frames in (
       run.0,
-      ap (λ (l : Judged (Unit {0})). expected_if l (λ _. expected_if (schedule_of found.schedule) (λ n. expected_if (images_of found.images) (λ images.
-          expected_if (input_of input) (λ bytes. expected_of_run (trace_of (numbers_of_exo e)) (exo_run images bytes n (frames_of (numbers_of_exo e)) (steps_of (numbers_of_exo e)))))))) (ap within can.words)
-          ∙ ap (λ (n : Judged (List ℕ)). expected_if n (λ n. expected_if (images_of found.images) (λ images.
-          expected_if (input_of input) (λ bytes. expected_of_run (trace_of (numbers_of_exo e)) (exo_run images bytes n (frames_of (numbers_of_exo e)) (steps_of (numbers_of_exo e))))))) numbers.1
-          ∙ ap (λ (i : Judged (List Loadable)). expected_if i (λ images.
-          expected_if (input_of input) (λ bytes. expected_of_run (trace_of (numbers_of_exo e)) (exo_run images bytes numbers.0 (frames_of (numbers_of_exo e)) (steps_of (numbers_of_exo e)))))) can.read
-          ∙ ap (λ (b : Judged (List ℕ)). expected_if b (λ bytes. expected_of_run (trace_of (numbers_of_exo e)) (exo_run can.images bytes numbers.0 (frames_of (numbers_of_exo e)) (steps_of (numbers_of_exo e)))))
-          (within_limit input can.short)
+      ap (λ (j : Judged Gathered). expected_if j (expected_of_images (numbers_of_exo e)))
+          (reads (limit_of_words e) found input numbers.0 can.images can.words numbers.1 can.read can.short)
           ∙ ap (expected_of_run (trace_of (numbers_of_exo e))) run.1,
     )
 
@@ -123,16 +125,14 @@ program_case p faults (outcome.NotThere errno) console h can cause calm = absurd
 program_case p faults (outcome.BadMake fault) console h can cause calm = absurd h
 
 -- what is answered where a program can be run
-runs_program : (r : Run) (found : RunFound) (input : List ℕ) (kind : Kind) (console : Around (Option (List ℕ))) (can : CanRunProgram r found input) →
+runs_program : (r : Run) (found : Found) (input : List ℕ) (kind : Kind) (console : Around (Option (List ℕ))) (can : CanRunProgram r found input) →
     AnswersRun r found input kind console → (p : Program) × CanBegin p × RunsAs p kind console
 runs_program r found input kind console can h =
     let schedule = is_ok (schedule_of found.schedule) can.schedule in
-    let files = then_of (within (limit_of_run r)) (λ _. AnswersFiles r found input) tt kind console (ap within can.words) h in
-    let image = then_of (schedule_of found.schedule) (λ s. AnswersImage r s found.image input) schedule.0 kind console schedule.1 files in
-    let read = then_of (image_of found.image) (λ loadable. AnswersInput r schedule.0 loadable input) can.image kind console can.read image in (
-      program_of r schedule.0 can.image input,
+    let read : Gathered = record { schedule = schedule.0; images = can.image ∷ []; input = input } in (
+      program_of r read,
       can.frames,
-      then_of (input_of input) (λ bytes. RunsAs (program_of r schedule.0 can.image bytes)) input kind console (within_limit input can.short) read,
+      program_runs r found input kind console read (reads (limit_of_run r) found input schedule.0 (can.image ∷ []) can.words schedule.1 can.read can.short) h,
     )
 
 -- a program is run where it can be
@@ -144,7 +144,7 @@ is_run_program told told_input command faults own console h cause files input r 
     (subst (λ (o : Option (List ℕ)). AnswersCommand (Some files) o command own console) i
     (subst (λ (o : Option Files). AnswersCommand o told_input command own console) f h)) in
     let same = subst (λ (x : List ℕ). AnswersRun r (run_found_in files r) x (kind_of own) console) answers.3
-    (subst (λ (x : RunFound). AnswersRun r x answers.1 (kind_of own) console) answers.2 answers.4) in
+    (subst (λ (x : Found). AnswersRun r x answers.1 (kind_of own) console) answers.2 answers.4) in
     let runs = runs_program r (run_found_in files r) input (kind_of own) console can same in
     program_case runs.0 faults own console runs.2 runs.1 (subst (λ (o : Option Command). HasCommandCause o faults own) c cause) calm
 
@@ -172,18 +172,17 @@ are_at files (word ∷ words) = (refl, are_at files words)
 
 -- a disk is made
 makes : (m : Mkfs) (files : Files) → CanMake m files → (n : ℕ) × ((expected_of_mkfs m (map (file_at files) m.files)).answer ≡ made n)
-unfolding expected_of_mkfs disk_made
+unfolding disk_made
 makes m files can =
     let found = map (file_at files) m.files in
-    let l = is_ok (named_files m.files found) can.read in
+    let l = is_ok (named_files found) can.read in
     let disk = made_image m.blocks.value l.0 in
     let good : make_fault m.blocks.value l.0 ≡ None =
     ap (make_fault m.blocks.value) (named_are files m.files found l.0 (are_at files m.files) l.1) ∙ can.no_fault in (
       length disk,
       ap (λ (e : Expected). e.answer)
-          (ap (λ (w : Judged (Unit {0})). expected_if w (λ _. expected_of_named m found)) (ap within can.blocks)
-          ∙ ap (λ (j : Judged (List Named)). expected_if j (expected_of_disk m.blocks.value)) l.1
-          ∙ ap (λ (f : Option MakeFault). expected_if (made_unless f disk) (λ bytes. refused (made (length bytes)))) good),
+          (ap (λ (j : Judged (List ℕ)). expected_if j expected_of_writing) (files_named m found can.blocks l.0 l.1)
+          ∙ ap (λ (f : Option MakeFault). expected_if (made_unless f disk) expected_of_writing) good),
     )
 
 -- a disk is there
@@ -191,7 +190,7 @@ there : (file : FileAt) (bytes : List ℕ) (fault : Option ImageFault) → file.
     disk_of file ≡ Ok (held_of bytes)
 unfolding disk_of
 there file bytes fault stands same none =
-    ap (λ (s : Option (List ℕ)). and_then (held_at file.place s) checked) stands ∙ same ∙ ap (λ (f : Option ImageFault). checked_by f (held_of bytes)) none
+    ap (λ (s : Option (List ℕ)). held_at file.word.place s >>= checked) stands ∙ same ∙ ap (λ (f : Option ImageFault). checked_by f (held_of bytes)) none
 
 -- a directory is printed
 lists : (l : Ls) (files : Files) → CanList l files → (n : ℕ) × ((expected_of_ls l (file_at files l.disk)).answer ≡ made n)

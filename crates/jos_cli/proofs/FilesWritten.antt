@@ -98,6 +98,24 @@ leaves_no_memory (Some (mkfs m)) old new h = h
 leaves_no_memory (Some (ls l)) old new h = h
 leaves_no_memory (Some (cat c)) old new h = h
 
+pub keeps_files : (command : Option Command) (told : Option Files) → Leaves command outcome.NoMemory (from_to told told)
+keeps_files None told = refl
+keeps_files (Some (exo e)) told = refl
+keeps_files (Some (run r)) told = refl
+keeps_files (Some (demo d)) told = refl
+keeps_files (Some (mkfs m)) told = refl
+keeps_files (Some (ls l)) told = refl
+keeps_files (Some (cat c)) told = refl
+
+pub no_disk : (command : Option Command) (told : Around (Option Files)) → LeavesGoodDisk command outcome.NoMemory told
+no_disk None told = tt
+no_disk (Some (exo e)) told = tt
+no_disk (Some (run r)) told = tt
+no_disk (Some (demo d)) told = tt
+no_disk (Some (mkfs m)) told = tt
+no_disk (Some (ls l)) told = tt
+no_disk (Some (cat c)) told = tt
+
 -- a failed call of the host tells of no disk
 pub no_good_disk : (command : Option Command) (stopped : Stopped) (told : Around (Option Files)) → LeavesGoodDisk command (outcome.HostFault stopped) told
 no_good_disk None stopped told = tt

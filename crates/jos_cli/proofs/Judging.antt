@@ -1,16 +1,14 @@
 -- From what is judged to what is expected.
-use Rattle.std.proofs.Common.{◌≡◌, ℕ, List, length, Option, Some, None, Ok, refl, sym, ap, subst, ◌∙◌, arith}
+use Rattle.std.proofs.Common.{◌≡◌, ℕ, List, length, Option, Ok, refl, sym, subst, ◌∙◌, arith}
 use Rattle.std.proofs.Math.Seq.{take-length}
 use Rattle.jos_host.specs.Frames.{Around}
 use Rattle.jos_host.specs.Gains.{Gains, GainsPart}
 use Rattle.jos_words.specs.Commands.{Exo}
-use Rattle.jos_cli.specs.declared.outcome.Which.{Which}
-use Rattle.jos_cli.specs.declared.limits.Settings.{Settings}
 use Rattle.jos_cli.specs.Limits.{numbers_of_exo, limit_of_words}
 use Rattle.jos_cli.specs.Found.{Found}
-use Rattle.jos_cli.specs.Answer.{limit, within, Judged, Expected, expected_if, expected_of_exo}
+use Rattle.jos_cli.specs.Answer.{Judged, Gathered, gathered, Expected, expected_if, expected_of_images, expected_of_exo}
 use Rattle.jos_cli.specs.Kinds.{Kind, answered, cut_off, no_memory, AnswersBy}
-use Rattle.jos_cli.specs.Stages.{RefusesBy, settings_of, expected_of_files}
+use Rattle.jos_cli.specs.Stages.{RefusesBy}
 use Rattle.jos_kernel.proofs.ToldBytes.{gains_none}
 
 -- ---- a part of what is expected
@@ -40,17 +38,14 @@ pub goes_on : {X : Type 0} (judged : Judged X) (next : X → Expected) (x : X) (
 goes_on {X = X} judged next x kind console h answer =
     subst (λ (j : Judged X). AnswersBy (expected_if j next) kind console) (sym h) answer
 
--- ---- the limits of the words
+-- ---- the images of `exo`
 
-pub words_refused : (e : Exo) (found : Found) (input : List ℕ) (which : Which) (console : Around (Option (List ℕ))) → limit_of_words e ≡ Some which →
-    console.after ≡ console.before → AnswersBy (expected_of_exo e found input) (answered (limit which)) console
-unfolding expected_of_exo
-words_refused e found input which console h same =
-    refuses (within (limit_of_words e)) (λ _. expected_of_files (settings_of (numbers_of_exo e)) input found) (answered (limit which)) console (ap within h) same
+module _ (e : Exo) (found : Found) (input : List ℕ) (kind : Kind) (console : Around (Option (List ℕ))) where
+  pub exo_refused : RefusesBy (gathered (limit_of_words e) found input) kind → console.after ≡ console.before → AnswersBy (expected_of_exo e found input) kind console
+  unfolding expected_of_exo
+  exo_refused h same = refuses (gathered (limit_of_words e) found input) (expected_of_images (numbers_of_exo e)) kind console h same
 
-pub words_within : (e : Exo) (found : Found) (input : List ℕ) (kind : Kind) (console : Around (Option (List ℕ))) (settings : Settings) → limit_of_words e ≡ None →
-    settings ≡ settings_of (numbers_of_exo e) → AnswersBy (expected_of_files settings input found) kind console → AnswersBy (expected_of_exo e found input) kind console
-unfolding expected_of_exo
-words_within e found input kind console settings h same answer =
-    goes_on (within (limit_of_words e)) (λ _. expected_of_files (settings_of (numbers_of_exo e)) input found) tt kind console (ap within h)
-    (subst (λ (n : Settings). AnswersBy (expected_of_files n input found) kind console) same answer)
+  pub exo_goes_on : (read : Gathered) → gathered (limit_of_words e) found input ≡ Ok read → AnswersBy (expected_of_images (numbers_of_exo e) read) kind console →
+      AnswersBy (expected_of_exo e found input) kind console
+  unfolding expected_of_exo
+  exo_goes_on read h answer = goes_on (gathered (limit_of_words e) found input) (expected_of_images (numbers_of_exo e)) read kind console h answer

@@ -4,6 +4,8 @@ pub mod Asking
 pub mod Finding
 pub mod Judging
 pub mod Reading
+pub mod AllRead
+pub mod Gathering
 pub mod RunAnswered
 pub mod WordsRead
 pub mod ImagesRead
@@ -16,3 +18,4 @@ pub mod InputRead
 pub mod TextsRead
 pub mod Tops
 pub mod Cases
+pub mod Doing

@@ -1,5 +1,5 @@
 -- What was read, as it is judged.
-use Rattle.std.proofs.Common.{◌≡◌, ◌≢◌, ℕ, ◌<◌, ◌≤◌, nat_lt, suc, true, false, List, [], ◌∷◌, ◌++◌, length, Option, Some, None, Ok, Err}
+use Rattle.std.proofs.Common.{◌≡◌, ◌≢◌, ℕ, ◌<◌, ◌≤◌, nat_lt, suc, true, false, List, length, Option, Some, None, Ok, Err}
 use Rattle.std.proofs.Common.{Result, refl, sym, ap, subst, ◌∙◌, arith}
 use Rattle.std.proofs.lemmas.Bool.Decides.{nat_tests}
 use Rattle.std.specs.Prelude.{⊤, MatchOption}
@@ -17,7 +17,7 @@ use Rattle.jos_cli.specs.declared.outcome.Which.TheVariants.{Image}
 use Rattle.jos_cli.specs.declared.files.FileFault.TheVariants as fault
 use Rattle.jos_cli.specs.Found.{FileAt, file_at, IsFileAt}
 use Rattle.jos_cli.specs.FilesRead.{IsFile, IsFileFault}
-use Rattle.jos_cli.specs.Answer.{absent, limit, Judged, and_then, bytes_of, text_of, numbers_of, schedule_of, loadable_of, image_of}
+use Rattle.jos_cli.specs.Answer.{absent, limit, Judged, ◌>>=◌, bytes_of, text_of, numbers_of, schedule_of, loadable_of, image_of}
 use Rattle.jos_kernel.specs.Reports.{CutOff}
 use Rattle.jos_cli.specs.declared.outcome.Outcome.{Outcome}
 use Rattle.jos_cli.specs.declared.outcome.Outcome.TheVariants.{HostFault}
@@ -40,78 +40,66 @@ module _ (most : ℕ) (which : Which) (word : Word) where
   is_read place None bytes h = absurd h
 
   pub file_read : (told : Option Files) (bytes : List ℕ) → MatchOption told ⊤ (λ files. IsFile most (files word.text) bytes) → length bytes ≤ most →
-      (file : FileAt) × IsFileAt told word file × (bytes_of most which file.place file.bytes ≡ Ok bytes)
+      (file : FileAt) × IsFileAt told word file × (bytes_of most which file.word.place file.bytes ≡ Ok bytes)
   file_read (Some files) bytes h small = (file_at files word, refl, is_read word.place (files word.text) bytes h)
-  file_read None bytes h small = (record { place = word.place; bytes = Some bytes }, refl, within most which word.place bytes small)
+  file_read None bytes h small = (record { word = word; bytes = Some bytes }, refl, within most which word.place bytes small)
 
   is_absent : (place : ℕ) (stands : Option (List ℕ)) → IsFileFault most stands fault.Absent → bytes_of most which place stands ≡ Err (absent place)
   is_absent place (Some file) h = absurd h
   is_absent place None h = refl
 
   pub file_absent : (told : Option Files) → MatchOption told ⊤ (λ files. IsFileFault most (files word.text) fault.Absent) →
-      (file : FileAt) × IsFileAt told word file × (bytes_of most which file.place file.bytes ≡ Err (absent word.place))
+      (file : FileAt) × IsFileAt told word file × (bytes_of most which file.word.place file.bytes ≡ Err (absent word.place))
   file_absent (Some files) h = (file_at files word, refl, is_absent word.place (files word.text) h)
-  file_absent None h = (record { place = word.place; bytes = None }, refl, refl)
+  file_absent None h = (record { word = word; bytes = None }, refl, refl)
 
   is_too_long : (place : ℕ) (stands : Option (List ℕ)) → IsFileFault most stands fault.TooLong → bytes_of most which place stands ≡ Err (limit which)
   is_too_long place (Some file) h = past most which place file h
   is_too_long place None h = absurd h
 
   pub file_too_long : (told : Option Files) → MatchOption told ⊤ (λ files. IsFileFault most (files word.text) fault.TooLong) →
-      (file : FileAt) × IsFileAt told word file × (bytes_of most which file.place file.bytes ≡ Err (limit which))
+      (file : FileAt) × IsFileAt told word file × (bytes_of most which file.word.place file.bytes ≡ Err (limit which))
   file_too_long (Some files) h = (file_at files word, refl, is_too_long word.place (files word.text) h)
   file_too_long None h =
       let e : length (zeros (suc most)) ≡ suc most = length-zeros (suc most) in
-      (record { place = word.place; bytes = Some (zeros (suc most)) }, refl, past most which word.place (zeros (suc most)) (omega arith))
+      (record { word = word; bytes = Some (zeros (suc most)) }, refl, past most which word.place (zeros (suc most)) (omega arith))
 
 -- ---- what it is read as
 
 -- what is refused before is refused
-pub refused_then : {X Y : Type 0} (judged : Judged X) (next : X → Judged Y) (kind : Kind) → RefusesBy judged kind → RefusesBy (and_then judged next) kind
-refused_then {X = X} judged next (answered answer) h = ap (λ (j : Judged X). and_then j next) h
+pub refused_then : {X Y : Type 0} (judged : Judged X) (next : X → Judged Y) (kind : Kind) → RefusesBy judged kind → RefusesBy (judged >>= next) kind
+refused_then {X = X} judged next (answered answer) h = ap (λ (j : Judged X). j >>= next) h
 refused_then judged next (cut_off stopped) h = tt
 refused_then judged next no_memory h = tt
 
--- two lists, the first of which is judged before the second
-unfoldable pub joined : {X : Type 0} → Judged (List X) → Judged (List X) → Judged (List X)
-joined first second = and_then first (λ l. and_then second (λ more. Ok (l ++ more)))
-
-pub joined_none : {X : Type 0} (m : Judged (List X)) → m ≡ joined (Ok []) m
-unfolding joined
-joined_none (Ok l) = refl
-joined_none (Err answer) = refl
-
-pub joined_more : {X : Type 0} (a : Judged X) (b m : Judged (List X)) →
-    and_then a (λ first. and_then (joined b m) (λ l. Ok (first ∷ l))) ≡ joined (and_then a (λ first. and_then b (λ l. Ok (first ∷ l)))) m
-unfolding joined
-joined_more (Err answer) b m = refl
-joined_more (Ok x) (Err answer) m = refl
-joined_more (Ok x) (Ok l) (Err answer) = refl
-joined_more (Ok x) (Ok l) (Ok more) = refl
+-- and what is refused behind what is there
+pub refused_behind : {X Y : Type 0} (judged : Judged X) (next : X → Judged Y) (x : X) (kind : Kind) → judged ≡ Ok x → RefusesBy (next x) kind →
+    RefusesBy (judged >>= next) kind
+refused_behind {X = X} judged next x kind is h = subst (λ (j : Judged X). RefusesBy (j >>= next) kind) (sym is) h
 
 pub schedule_parsed : (file : Option FileAt) (text : List ℕ) (read : Result (List ℕ) ScheduleFault) → text_of file ≡ Ok text → schedule.parsed text ≡ read →
     schedule_of file ≡ numbers_of read
 unfolding schedule_of
-schedule_parsed file text read h e = ap (λ (j : Judged (List ℕ)). and_then j (λ t. numbers_of (schedule.parsed t))) h ∙ ap numbers_of e
+schedule_parsed file text read h e = ap (λ (j : Judged (List ℕ)). j >>= (λ t. numbers_of (schedule.parsed t))) h ∙ ap numbers_of e
 
 pub schedule_refused : (file : Option FileAt) (kind : Kind) → RefusesBy (text_of file) kind → RefusesBy (schedule_of file) kind
 unfolding schedule_of
 schedule_refused file kind h = refused_then (text_of file) (λ t. numbers_of (schedule.parsed t)) kind h
 
-pub image_parsed : (file : FileAt) (bytes : List ℕ) (read : Result Layout ElfFault) → bytes_of IMAGE_MAX Image file.place file.bytes ≡ Ok bytes → read ≡ image.parsed bytes →
-    image_of file ≡ loadable_of file.place bytes read
+pub image_parsed : (file : FileAt) (bytes : List ℕ) (read : Result Layout ElfFault) → bytes_of IMAGE_MAX Image file.word.place file.bytes ≡ Ok bytes → read ≡ image.parsed bytes →
+    image_of file ≡ loadable_of file.word.place bytes read
 unfolding image_of
 image_parsed file bytes read h e =
-    ap (λ (j : Judged (List ℕ)). and_then j (λ b. loadable_of file.place b (image.parsed b))) h ∙ ap (loadable_of file.place bytes) (sym e)
+    ap (λ (j : Judged (List ℕ)). j >>= (λ b. loadable_of file.word.place b (image.parsed b))) h ∙ ap (loadable_of file.word.place bytes) (sym e)
 
-pub image_refused : (file : FileAt) (kind : Kind) → RefusesBy (bytes_of IMAGE_MAX Image file.place file.bytes) kind → RefusesBy (image_of file) kind
+pub image_refused : (file : FileAt) (kind : Kind) → RefusesBy (bytes_of IMAGE_MAX Image file.word.place file.bytes) kind → RefusesBy (image_of file) kind
 unfolding image_of
-image_refused file kind h = refused_then (bytes_of IMAGE_MAX Image file.place file.bytes) (λ b. loadable_of file.place b (image.parsed b)) kind h
+image_refused file kind h = refused_then (bytes_of IMAGE_MAX Image file.word.place file.bytes) (λ b. loadable_of file.word.place b (image.parsed b)) kind h
 
--- the place of what is found is that of its word
-pub place_is : (told : Option Files) (word : Word) (file : FileAt) → IsFileAt told word file → file.place ≡ word.place
-place_is (Some files) word file h = ap (λ f. f.place) h
-place_is None word file h = h
+-- the word of what is found
+pub word_is : (told : Option Files) (word : Word) (file : FileAt) → IsFileAt told word file → file.word ≡ word
+word_is (Some files) word file h = ap (λ f. f.word) h
+word_is None word file h = h
 
 -- the answer of a call that failed
 pub cut_off-refuses : {X : Type 0} (judged : Judged X) (outcome : Outcome) (stopped : CutOff) → outcome ≡ HostFault stopped → RefusesBy judged (kind_of outcome)

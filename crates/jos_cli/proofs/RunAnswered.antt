@@ -1,40 +1,46 @@
 -- What `run` answers, stage by stage.
 use Rattle.std.proofs.Common.{◌≡◌, ℕ, nat_lt, Bool, true, false, cond, List, [], ◌∷◌, ◌++◌, length, Option, Some, None, Result, Ok, Err, refl, sym, ap, subst, ◌∙◌, arith}
+use Rattle.std.proofs.Common.{get_or, Vec, Global}
 use mathlib.Core.Logic.{inl, inr}
-use Rattle.std.specs.Prelude.{unwrap_or, ◌⊎◌, ◌+◌}
+use Rattle.std.specs.Prelude.{All, unwrap_or, ◌⊎◌, ◌+◌}
 use Rattle.std.specs.Option.{option_map}
 use Rattle.std.proofs.lemmas.List.{length-append}
 use Rattle.jos_host.specs.Frames.{Around}
 use Rattle.jos_elf.specs.declared.fault.ElfFault.{ElfFault}
 use Rattle.jos_elf.specs.Parsed.{Layout, parsed}
 use Rattle.jos_words.specs.Commands.{Run}
+use Rattle.jos_kernel.specs.declared.kernel.BootFault.{BootFault}
+use Rattle.jos_kernel.specs.declared.kernel.BootFault.TheVariants as boot_fault
 use Rattle.jos_kernel.specs.declared.report.Refusal.{Refusal}
 use Rattle.jos_kernel.specs.declared.report.Turn.{Turn}
 use Rattle.jos_kernel.specs.Books.{turn_of}
-use Rattle.jos_kernel.specs.Boot.{Loadable}
+use Rattle.jos_kernel.specs.Boot.{loadables}
+use Rattle.jos_kernel.specs.Loading.{IsRead}
 use Rattle.jos_kernel.specs.Reports.{Reported, CutOff}
 use Rattle.jos_kernel.proofs.ToldBytes.{gains_none}
 use Rattle.lib_os.specs.AbstractState.{AbstractState}
 use Rattle.jos_run.specs.AbstractTurns.{abs_run}
 use Rattle.jos_run.specs.RunReports.{ToldBy, CutOffBy}
-use Rattle.jos_run.specs.Boot.{booted_within}
-use Rattle.jos_run.specs.RunEnds.{Program, HasRun, IsCut}
+use Rattle.jos_run.specs.declared.programs.RunEnd.{RunEnd}
+use Rattle.jos_run.specs.declared.programs.RunEnd.TheVariants as end
+use Rattle.jos_run.specs.RunEnds.{Program, HasRun, IsCut, AnswersFor, HasRunCause}
 use Rattle.jos_kernel.specs.declared.trace.TrapLine.{TrapLine}
 use Rattle.jos_cli.specs.declared.limits.Settings.{Settings}
 use Rattle.jos_cli.specs.Commands.{texts_of}
 use Rattle.jos_cli.specs.declared.outcome.Which.TheVariants as which
 use Rattle.jos_cli.specs.Limits.{numbers_of_run, limit_of_run}
-use Rattle.jos_cli.specs.Found.{FileAt}
+use Rattle.jos_cli.specs.Found.{FileAt, Found}
 use Rattle.jos_cli.specs.Answer.{Judged, Answer, usage, absent, limit, bad_schedule, bad_image, ran, made, bad_disk, not_there, bad_make}
-use Rattle.jos_cli.specs.Answer.{and_then, within, bytes_of, numbers_of, text_of, schedule_of, loadable_of, image_of, input_of}
+use Rattle.jos_cli.specs.Answer.{◌>>=◌, all_judged, within, bytes_of, numbers_of, text_of, schedule_of, loadable_of, image_of, images_of, input_of, Gathered, gathered}
 use Rattle.jos_base.specs.declared.numbers.TheConstants.{SCHEDULE_TEXT_MAX, IMAGE_MAX, INPUT_MAX}
 use Rattle.jos_sched.specs.declared.fault.ScheduleFault.{ScheduleFault}
 use Rattle.jos_sched.specs.Schedule as schedule
 use Rattle.jos_cli.specs.declared.outcome.Which.{Which}
-use Rattle.jos_cli.specs.Kinds.{Kind, answered, cut_off, no_memory}
-use Rattle.jos_cli.specs.RunAnswers.{RunFound, program_of, IsCutBehind, IsCutBy, IsRefusal, AnswersAs, RunsAs, Then, AnswersInput, AnswersImage, AnswersFiles, AnswersRun}
-use Rattle.jos_cli.specs.Outcomes.{HasCauseOf}
-use Rattle.jos_cli.specs.Stages.{RefusesBy, settings_of, nothing_done, cut_of}
+use Rattle.jos_cli.specs.Kinds.{Kind, answered, cut_off, no_memory, kind_of}
+use Rattle.jos_cli.specs.RunAnswers.{program_of, IsCutBehind, IsCutBy, IsRefusal, AnswersAs, RunsAs, Then, AnswersRun}
+use Rattle.jos_cli.specs.Outcomes.{HasCauseOf, HasRunCauseOf}
+use Rattle.jos_cli.specs.Stages.{RefusesBy, settings_of, outcome_of_run, nothing_done, cut_of}
+use Rattle.jos_cli.proofs.Gathering.{read_all, from_input, from_images, from_schedule}
 
 -- ---- a run that took no turn has written nothing
 
@@ -122,7 +128,7 @@ TellsNoTurn : {X : Type 0} → Judged X → Type 0
 TellsNoTurn (Ok x) = Unit {0}
 TellsNoTurn (Err refusal) = cut_of (answered refusal) ≡ nothing_done
 
-both_tell_none : {X Y : Type 0} (judged : Judged X) (next : X → Judged Y) → TellsNoTurn judged → ((x : X) → TellsNoTurn (next x)) → TellsNoTurn (and_then judged next)
+both_tell_none : {X Y : Type 0} (judged : Judged X) (next : X → Judged Y) → TellsNoTurn judged → ((x : X) → TellsNoTurn (next x)) → TellsNoTurn (judged >>= next)
 unfolding TellsNoTurn
 both_tell_none (Ok x) next h more = more x
 both_tell_none (Err refusal) next h more = h
@@ -150,7 +156,7 @@ numbers_tell_none (Err fault) = refl
 text_tells_none : (file : Option FileAt) → TellsNoTurn (text_of file)
 unfolding TellsNoTurn
 text_tells_none None = tt
-text_tells_none (Some file) = bytes_tell_none SCHEDULE_TEXT_MAX which.Schedule file.place file.bytes
+text_tells_none (Some file) = bytes_tell_none SCHEDULE_TEXT_MAX which.Schedule file.word.place file.bytes
 
 schedule_tells_none : (file : Option FileAt) → TellsNoTurn (schedule_of file)
 unfolding schedule_of
@@ -164,13 +170,28 @@ layout_tells_none place bytes (Err fault) = refl
 image_tells_none : (file : FileAt) → TellsNoTurn (image_of file)
 unfolding image_of
 image_tells_none file =
-    both_tell_none (bytes_of IMAGE_MAX which.Image file.place file.bytes) (λ bytes. loadable_of file.place bytes (parsed bytes))
-    (bytes_tell_none IMAGE_MAX which.Image file.place file.bytes) (λ bytes. layout_tells_none file.place bytes (parsed bytes))
+    both_tell_none (bytes_of IMAGE_MAX which.Image file.word.place file.bytes) (λ bytes. loadable_of file.word.place bytes (parsed bytes))
+    (bytes_tell_none IMAGE_MAX which.Image file.word.place file.bytes) (λ bytes. layout_tells_none file.word.place bytes (parsed bytes))
+
+images_tell_none : (files : List FileAt) → TellsNoTurn (images_of files)
+unfolding TellsNoTurn all_judged
+images_tell_none [] = tt
+images_tell_none (file ∷ files) =
+    both_tell_none (image_of file) (λ first. images_of files >>= (λ others. Ok (first ∷ others))) (image_tells_none file)
+    (λ first. both_tell_none (images_of files) (λ others. Ok (first ∷ others)) (images_tell_none files) (λ others. tt))
 
 input_tells_none : (input : List ℕ) → TellsNoTurn (input_of input)
 input_tells_none input = limit_tells_none (nat_lt INPUT_MAX (length input)) which.Input input
 
--- ---- what holds of each stage
+all_tell_none : (passed : Option Which) (found : Found) (input : List ℕ) → TellsNoTurn (gathered passed found input)
+unfolding TellsNoTurn gathered
+all_tell_none passed found input =
+    both_tell_none (within passed) (λ _. from_schedule found input) (within_tells_none passed) (λ _.
+    both_tell_none (schedule_of found.schedule) (from_images found input) (schedule_tells_none found.schedule) (λ schedule.
+    both_tell_none (images_of found.images) (from_input found input schedule) (images_tell_none found.images) (λ images.
+    both_tell_none (input_of input) (read_all found input schedule images) (input_tells_none input) (λ bytes. tt))))
+
+-- ---- what holds of each answer
 
 pub record IsStage (answers : Kind → Around (Option (List ℕ)) → Type 0) : Type 0 where
   -- it may be cut off before anything is written
@@ -212,78 +233,79 @@ then_stage (Ok x) next none stage = let s = stage x in record { cut = s.cut; mem
 then_stage (Err refusal) next none stage =
     let s = refusal_stage refusal none in record { cut = s.cut; memory = s.memory; unwritten = s.unwritten; behind = s.behind }
 
-pub input_stage : (r : Run) (schedule : List ℕ) (loadable : Loadable) (input : List ℕ) → IsStage (AnswersInput r schedule loadable input)
-input_stage r schedule loadable input =
-    then_stage (input_of input) (λ bytes. RunsAs (program_of r schedule loadable bytes)) (input_tells_none input) (λ bytes. run_stage (program_of r schedule loadable bytes))
-
-pub image_stage : (r : Run) (schedule : List ℕ) (image : FileAt) (input : List ℕ) → IsStage (AnswersImage r schedule image input)
-image_stage r schedule image input =
-    then_stage (image_of image) (λ loadable. AnswersInput r schedule loadable input) (image_tells_none image) (λ loadable. input_stage r schedule loadable input)
-
-pub files_stage : (r : Run) (found : RunFound) (input : List ℕ) → IsStage (AnswersFiles r found input)
-files_stage r found input =
-    then_stage (schedule_of found.schedule) (λ schedule. AnswersImage r schedule found.image input) (schedule_tells_none found.schedule)
-    (λ schedule. image_stage r schedule found.image input)
-
-pub words_stage : (r : Run) (found : RunFound) (input : List ℕ) → IsStage (AnswersRun r found input)
+pub words_stage : (r : Run) (found : Found) (input : List ℕ) → IsStage (AnswersRun r found input)
 words_stage r found input =
-    then_stage (within (limit_of_run r)) (λ _. AnswersFiles r found input) (within_tells_none (limit_of_run r)) (λ _. files_stage r found input)
+    then_stage (gathered (limit_of_run r) found input) (λ read. RunsAs (program_of r read)) (all_tell_none (limit_of_run r) found input)
+    (λ read. run_stage (program_of r read))
 
--- ---- from one stage to the next
+-- ---- the program of `run`
 
-module _ {X : Type 0} (judged : Judged X) (next : X → Kind → Around (Option (List ℕ)) → Type 0) where
+module _ (r : Run) (found : Found) (input : List ℕ) (kind : Kind) (console : Around (Option (List ℕ))) where
   -- it is refused, and nothing was written
-  pub then_refused : IsStage (Then judged next) → (faults : Around ℕ) (kind : Kind) (console : Around (Option (List ℕ))) → RefusesBy judged kind →
-      HasCauseOf faults kind → console.after ≡ console.before → Then judged next kind console
-  then_refused stage faults (answered answer) console h cause same =
-      subst (λ (j : Judged X). Then j next (answered answer) console) (sym h) (refl, same)
-  then_refused stage faults (cut_off c) console h cause same = stage.cut c console cause.1 cause.2 same
-  then_refused stage faults no_memory console h cause same = stage.memory console same
+  pub run_refused : (faults : Around ℕ) → RefusesBy (gathered (limit_of_run r) found input) kind → HasCauseOf faults kind → console.after ≡ console.before →
+      AnswersRun r found input kind console
+  run_refused faults h cause same = by_kind kind h cause
+    where
+      by_kind : (k : Kind) → RefusesBy (gathered (limit_of_run r) found input) k → HasCauseOf faults k → AnswersRun r found input k console
+      by_kind (answered answer) h cause =
+          subst (λ (j : Judged Gathered). Then j (λ read. RunsAs (program_of r read)) (answered answer) console) (sym h) (refl, same)
+      by_kind (cut_off c) h cause = (words_stage r found input).cut c console cause.1 cause.2 same
+      by_kind no_memory h cause = (words_stage r found input).memory console same
 
-  -- it is there, and the rest is answered
-  pub then_on : (x : X) (kind : Kind) (console : Around (Option (List ℕ))) → judged ≡ Ok x → next x kind console → Then judged next kind console
-  then_on x kind console h answer = subst (λ (j : Judged X). Then j next kind console) (sym h) answer
+  -- it is run
+  pub run_goes_on : (read : Gathered) → gathered (limit_of_run r) found input ≡ Ok read → RunsAs (program_of r read) kind console → AnswersRun r found input kind console
+  run_goes_on read h answer = subst (λ (j : Judged Gathered). Then j (λ read. RunsAs (program_of r read)) kind console) (sym h) answer
 
   -- the same backwards
-  pub then_of : (x : X) (kind : Kind) (console : Around (Option (List ℕ))) → judged ≡ Ok x → Then judged next kind console → next x kind console
-  then_of x kind console h answer = subst (λ (j : Judged X). Then j next kind console) h answer
+  pub program_runs : (read : Gathered) → gathered (limit_of_run r) found input ≡ Ok read → AnswersRun r found input kind console → RunsAs (program_of r read) kind console
+  program_runs read h answer = subst (λ (j : Judged Gathered). Then j (λ read. RunsAs (program_of r read)) kind console) h answer
 
--- ---- how a run has ended
+-- what `jos_run` answers
+pub runs_as : (p : Program) (run : Result RunEnd BootFault) (console : Around (Option (List ℕ))) → AnswersFor p run console → RunsAs p (kind_of (outcome_of_run run)) console
+runs_as p (Ok (end.Ended report trace)) console h = h
+runs_as p (Ok (end.HostFault stopped)) console h = in_turn p stopped console h
+runs_as p (Err boot_fault.Pool) console h = h
+runs_as p (Err boot_fault.NoMemory) console h = h
 
-abbrev ok_or : Layout → Result Layout ElfFault → Layout
-ok_or other (Ok layout) = layout
-ok_or other (Err fault) = other
+pub ran_cause : (run : Result RunEnd BootFault) (faults : Around ℕ) → HasRunCause faults run → HasRunCauseOf faults (kind_of (outcome_of_run run))
+ran_cause (Ok (end.Ended report trace)) faults h = h
+ran_cause (Ok (end.HostFault stopped)) faults h = h
+ran_cause (Err boot_fault.Pool) faults h = h
+ran_cause (Err boot_fault.NoMemory) faults h = h
 
-module _ (r : Run) (schedule input : List ℕ) (image : Layout) (file bytes : List ℕ) (words : List (List ℕ)) (settings : Settings) (same : bytes ≡ file)
-    (are : words ≡ texts_of r) (is : settings ≡ settings_of (numbers_of_run r)) (read : parsed file ≡ Ok image) where
+-- its program is the one image that was read
+module _ (r : Run) (schedule input : List ℕ) (words : List (List ℕ)) (settings : Settings) (are : words ≡ texts_of r) (is : settings ≡ settings_of (numbers_of_run r)) where
   -- the program as the run is given it
-  abbrev given : Layout → Program
-  given layout = record { image = layout; file = bytes; words = words; frames = settings.frames; schedule = schedule; input = input; steps = settings.steps; trace = settings.trace }
+  abbrev given : Layout → List ℕ → Program
+  given image file = record {
+    image = image;
+    file = file;
+    words = words;
+    frames = settings.frames;
+    schedule = schedule;
+    input = input;
+    steps = settings.steps;
+    trace = settings.trace;
+  }
 
-  abbrev whole : Program
-  whole = program_of r schedule (record { image = image; file = file }) input
+  abbrev whole : List Layout → List (Vec ℕ Global) → Program
+  whole images files = program_of r (record { schedule = schedule; images = loadables images files; input = input })
 
-  given_is : given image ≡ whole
-  given_is = λ i. record { image = image; file = same i; words = are i; frames = (is i).frames; schedule = schedule; input = input; steps = (is i).steps; trace = (is i).trace }
+  pub given_is : (images : List Layout) (files : List (Vec ℕ Global)) (image : Layout) (file : Vec ℕ Global) (bytes : List ℕ) → length images ≡ 1 →
+      length images ≡ length files → image ≡ get_or images 0 image → file ≡ get_or files 0 file → bytes ≡ file.items → given image bytes ≡ whole images files
+  given_is [] files image file bytes one pairs first first_file are_bytes = absurd (omega (arith, one))
+  given_is (i ∷ images) [] image file bytes one pairs first first_file are_bytes = absurd (omega (arith, pairs))
+  given_is (i ∷ images) (f ∷ files) image file bytes one pairs first first_file are_bytes =
+      let its_bytes : bytes ≡ f.items = are_bytes ∙ ap (λ (v : Vec ℕ Global). v.items) first_file in
+      λ k. record { image = first k; file = its_bytes k; words = are k; frames = (is k).frames; schedule = schedule; input = input; steps = (is k).steps; trace = (is k).trace }
 
-  layout_is : (layout : Layout) → parsed bytes ≡ Ok layout → layout ≡ image
-  layout_is layout e = ap (ok_or layout) (sym e ∙ ap parsed same ∙ read)
-
-  pub on_ended : (report : Reported) (traps : List TrapLine) (console : Around (Option (List ℕ))) →
-      (layout : Layout) × (parsed bytes ≡ Ok layout) × HasRun (given layout) report traps console → RunsAs whole (answered (ran report traps)) console
-  on_ended report traps console h = subst (λ (p : Program). HasRun p report traps console) (ap given (layout_is h.0 h.1) ∙ given_is) h.2
-
-  pub on_cut : (cut : CutOff) (console : Around (Option (List ℕ))) →
-      (layout : Layout) × (parsed bytes ≡ Ok layout) × IsCut (given layout) cut console → RunsAs whole (cut_off cut) console
-  on_cut cut console h = in_turn whole cut console (subst (λ (p : Program). IsCut p cut console) (ap given (layout_is h.0 h.1) ∙ given_is) h.2)
-
-  pub on_pool : (console : Around (Option (List ℕ))) →
-      ((layout : Layout) × (parsed bytes ≡ Ok layout)
-      × (booted_within layout (given layout).file (given layout).words (given layout).frames (given layout).input ≡ None))
-      × (console.after ≡ console.before) → RunsAs whole (answered (limit which.Boot)) console
-  on_pool console h =
-      let none = h.0 in
-      (subst (λ (p : Program). booted_within p.image p.file p.words p.frames p.input ≡ None) (ap given (layout_is none.0 none.1) ∙ given_is) none.2, h.1)
-
-  pub no_fault : (fault : ElfFault) → parsed bytes ≡ Err fault → ⊥
-  no_fault fault e = let same_read = sym e ∙ ap parsed same ∙ read in cc
+-- and its bytes are read as it
+pub first_is_read : (images : List Layout) (files : List (Vec ℕ Global)) (image : Layout) (file : Vec ℕ Global) (bytes : List ℕ) → length images ≡ 1 →
+    length images ≡ length files → All IsRead (loadables images files) → image ≡ get_or images 0 image → file ≡ get_or files 0 file → bytes ≡ file.items →
+    parsed bytes ≡ Ok image
+first_is_read [] files image file bytes one pairs read first first_file are_bytes = absurd (omega (arith, one))
+first_is_read (i ∷ images) [] image file bytes one pairs read first first_file are_bytes = absurd (omega (arith, pairs))
+first_is_read (i ∷ images) (f ∷ files) image file bytes one pairs read first first_file are_bytes =
+    let its_bytes : bytes ≡ f.items = are_bytes ∙ ap (λ (v : Vec ℕ Global). v.items) first_file in
+    let is : parsed f.items ≡ Ok i = read 0 (record { image = i; file = f.items }) (omega arith) in
+    ap parsed its_bytes ∙ is ∙ ap (λ (l : Layout). Ok l) (sym first)

@@ -1,6 +1,6 @@
 -- What the program answers, where nothing fails, as a function of its words, of the files that they name and of the
 -- console's input. Refusals are tried in the order in which they stand. (This system's own.)
-use Rattle.std.specs.Prelude.{ℕ, nat_lt, List, [], ◌∷◌, length, Option, Some, None, Result, Ok, Err, if◌then◌else◌}
+use Rattle.std.specs.Prelude.{ℕ, nat_lt, List, [], ◌∷◌, length, map, Option, Some, None, Result, Ok, Err, if◌then◌else◌}
 use Rattle.jos_base.specs.declared.numbers.TheConstants.{SCHEDULE_TEXT_MAX, IMAGE_MAX, INPUT_MAX}
 use Rattle.jos_words.specs.Commands.{Exo}
 use Rattle.jos_sched.specs.declared.fault.ScheduleFault.{ScheduleFault}
@@ -19,6 +19,7 @@ use Rattle.jos_kernel.specs.ExoRun.{Ran, exo_run, report_of}
 use Rattle.jos_cli.specs.declared.outcome.Which.{Which}
 use Rattle.jos_cli.specs.declared.outcome.Which.TheVariants.{Schedule, Image, Input, Boot}
 use Rattle.jos_cli.specs.Commands.{program_file}
+use Rattle.jos_cli.specs.declared.limits.Numbers.{Numbers}
 use Rattle.jos_cli.specs.Limits.{numbers_of_exo, limit_of_words, frames_of, steps_of, trace_of}
 use Rattle.jos_cli.specs.Found.{FileAt, Found}
 
@@ -55,9 +56,19 @@ refused answer = record { answer = answer; console = [] }
 abbrev pub Judged : Type 0 → Type 0
 Judged X = Result X Answer
 
-abbrev pub and_then : {X Y : Type 0} → Judged X → (X → Judged Y) → Judged Y
-and_then (Ok x) next = next x
-and_then (Err answer) next = Err answer
+-- the second where the first is there
+infixl 10 ◌>>=◌
+abbrev pub ◌>>=◌ : {X Y : Type 0} → Judged X → (X → Judged Y) → Judged Y
+(Ok x) >>= next = next x
+(Err answer) >>= next = Err answer
+
+-- Each is judged before the next is looked at.
+unfoldable pub all_judged : {X : Type 0} → List (Judged X) → Judged (List X)
+all_judged [] = Ok []
+all_judged (first ∷ rest) = do
+  x ← first
+  others ← all_judged rest
+  Ok (x ∷ others)
 
 abbrev pub within : Option Which → Judged (Unit {0})
 within None = Ok tt
@@ -75,25 +86,43 @@ numbers_of (Err fault) = Err (bad_schedule fault)
 -- the text of a schedule, which is empty where no file is named
 abbrev pub text_of : Option FileAt → Judged (List ℕ)
 text_of None = Ok []
-text_of (Some file) = bytes_of SCHEDULE_TEXT_MAX Schedule file.place file.bytes
+text_of (Some file) = bytes_of SCHEDULE_TEXT_MAX Schedule file.word.place file.bytes
 
 unfoldable pub schedule_of : Option FileAt → Judged (List ℕ)
-schedule_of file = and_then (text_of file) (λ text. numbers_of (schedule.parsed text))
+schedule_of file = do
+  text ← text_of file
+  numbers_of (schedule.parsed text)
 
 abbrev pub loadable_of : ℕ → List ℕ → Result Layout ElfFault → Judged Loadable
 loadable_of place bytes (Ok layout) = Ok (record { image = layout; file = bytes })
 loadable_of place bytes (Err fault) = Err (bad_image place fault)
 
 unfoldable pub image_of : FileAt → Judged Loadable
-image_of file = and_then (bytes_of IMAGE_MAX Image file.place file.bytes) (λ bytes. loadable_of file.place bytes (image.parsed bytes))
+image_of file = do
+  bytes ← bytes_of IMAGE_MAX Image file.word.place file.bytes
+  loadable_of file.word.place bytes (image.parsed bytes)
 
--- Each image is read before the next is looked at.
-unfoldable pub images_of : List FileAt → Judged (List Loadable)
-images_of [] = Ok []
-images_of (file ∷ files) = and_then (image_of file) (λ first. and_then (images_of files) (λ others. Ok (first ∷ others)))
+abbrev pub images_of : List FileAt → Judged (List Loadable)
+images_of files = all_judged (map image_of files)
 
 abbrev pub input_of : List ℕ → Judged (List ℕ)
 input_of input = if nat_lt INPUT_MAX (length input) then Err (limit Input) else Ok input
+
+-- what is read for a run
+pub record Gathered : Type 0 where
+  -- its numbers
+  pub schedule : List ℕ
+  pub images : List Loadable
+  pub input : List ℕ
+
+-- All of it is read in this order, once the words are within their limits.
+unfoldable pub gathered : Option Which → Found → List ℕ → Judged Gathered
+gathered passed found input = do
+  _ ← within passed
+  schedule ← schedule_of found.schedule
+  images ← images_of found.images
+  bytes ← input_of input
+  Ok (record { schedule = schedule; images = images; input = bytes })
 
 -- ---- what is expected
 
@@ -109,16 +138,19 @@ expected_of_run trace (Some r) = record {
   console = r.progress.console;
 }
 
+-- of the images that are read, by these numbers
+abbrev pub expected_of_images : Numbers → Gathered → Expected
+expected_of_images numbers read =
+    expected_of_run (trace_of numbers) (exo_run read.images read.input read.schedule (frames_of numbers) (steps_of numbers))
+
 -- of `exo`, for the files that are found and the input
 unfoldable pub expected_of_exo : Exo → Found → List ℕ → Expected
-expected_of_exo e found input =
-    expected_if (within (limit_of_words e)) (λ _.
-    expected_if (schedule_of found.schedule) (λ numbers.
-    expected_if (images_of found.images) (λ images.
-    expected_if (input_of input) (λ bytes.
-    expected_of_run (trace_of (numbers_of_exo e))
-    (exo_run images bytes numbers (frames_of (numbers_of_exo e)) (steps_of (numbers_of_exo e)))))))
+expected_of_exo e found input = expected_if (gathered (limit_of_words e) found input) (expected_of_images (numbers_of_exo e))
+
+-- these bytes are written to a file
+abbrev pub expected_of_writing : List ℕ → Expected
+expected_of_writing bytes = refused (made (length bytes))
 
 -- of `demo`, for the name of a program
 abbrev pub expected_of_demo : List ℕ → Expected
-expected_of_demo program = refused (made (length (program_file program)))
+expected_of_demo program = expected_of_writing (program_file program)

@@ -10,7 +10,7 @@ use Rattle.fs_layout.specs.DiskFiles.{files_of}
 use Rattle.fs_image.specs.DiskHeld.{Held, held_of, fault_in}
 use Rattle.fs_contents.specs.Contents.{Told, listed_at, read_at}
 use Rattle.jos_cli.specs.Found.{FileAt}
-use Rattle.jos_cli.specs.Answer.{Judged, and_then, absent, bad_disk, not_there, made, Expected, expected_if}
+use Rattle.jos_cli.specs.Answer.{Judged, ◌>>=◌, absent, bad_disk, not_there, made, Expected, expected_if}
 
 -- ---- the disk
 
@@ -27,7 +27,7 @@ abbrev pub checked : Held → Judged Held
 checked held = checked_by (fault_in held) held
 
 unfoldable pub disk_of : FileAt → Judged Held
-disk_of file = and_then (held_at file.place file.bytes) checked
+disk_of file = held_at file.word.place file.bytes >>= checked
 
 abbrev pub tree_of : Held → FileSystem
 tree_of held = files_of (slice_index held.bytes)

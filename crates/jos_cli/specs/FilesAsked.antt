@@ -5,8 +5,8 @@ use Rattle.jos_host.specs.Asked.{Asked, and_asked}
 use Rattle.jos_host.specs.Frames.{Around, from_to}
 use Rattle.fs_image.specs.DiskHeld.{IsReadInPieces}
 use Rattle.jos_words.specs.Arguments.{Word}
-use Rattle.jos_cli.specs.Commands.{image_word}
-use Rattle.jos_words.specs.Commands.{Command, Exo, Run, Mkfs, exo, run, demo, mkfs, ls, cat}
+use Rattle.jos_words.specs.Commands.{Command, Mkfs, exo, run, demo, mkfs, ls, cat}
+use Rattle.jos_cli.specs.Found.{Sources, sources_of_exo, sources_of_run}
 
 -- a file is asked for its size, and read whole by one call
 abbrev pub read_calls : List ℕ → List Asked
@@ -24,11 +24,9 @@ files_calls (word ∷ words) = read_calls word.text ++ files_calls words
 abbrev pub write_calls : List ℕ → List Asked
 write_calls file = record { call = Create; name = file } ∷ record { call = Write; name = file } ∷ []
 
-abbrev pub exo_calls : Exo → List Asked
-exo_calls e = schedule_calls e.schedule ++ files_calls e.images
-
-abbrev pub run_calls : Run → List Asked
-run_calls r = schedule_calls r.schedule ++ read_calls (image_word r.words).text
+-- the files of a run
+abbrev pub source_calls : Sources → List Asked
+source_calls sources = schedule_calls sources.schedule ++ files_calls sources.images
 
 abbrev pub mkfs_calls : Mkfs → List Asked
 mkfs_calls m = files_calls m.files ++ write_calls m.disk.text
@@ -46,8 +44,8 @@ AsksAll (c ∷ rest) log = AsksAll rest (from_to (and_asked log.before c.call c.
 -- the calls on files of a command; `ls` and `cat` read the disk in pieces
 abbrev pub AsksFiles : Option Command → Around (Option (List Asked)) → Type 0
 AsksFiles None log = AsksFor [] log
-AsksFiles (Some (exo e)) log = AsksFor (exo_calls e) log
-AsksFiles (Some (run r)) log = AsksFor (run_calls r) log
+AsksFiles (Some (exo e)) log = AsksFor (source_calls (sources_of_exo e)) log
+AsksFiles (Some (run r)) log = AsksFor (source_calls (sources_of_run r)) log
 AsksFiles (Some (demo d)) log = AsksFor (write_calls d.file.text) log
 AsksFiles (Some (mkfs m)) log = AsksFor (mkfs_calls m) log
 AsksFiles (Some (ls l)) log = IsReadInPieces l.disk.text log

@@ -1,46 +1,68 @@
--- The files that the words name, as they are found. (This system's own.)
-use Rattle.std.specs.Prelude.{◌≡◌, ℕ, List, map, Option, Some, None, option_map}
+-- The files that the words name, and the input, as they are found. (This system's own.)
+use Rattle.std.specs.Prelude.{◌≡◌, ℕ, List, [], ◌∷◌, map, Option, Some, None, option_map}
 use Rattle.jos_host.specs.Files.{Files}
 use Rattle.jos_words.specs.Arguments.{Word}
-use Rattle.jos_words.specs.Commands.{Exo}
+use Rattle.jos_words.specs.Commands.{Exo, Run}
+use Rattle.jos_cli.specs.Commands.{image_word}
 
--- what stands under a name, and the place of the word that has the name
+-- what stands under the name that a word has
 pub record FileAt : Type 0 where
-  pub place : ℕ
+  pub word : Word
   -- None where the name is absent
   pub bytes : Option (List ℕ)
 
 abbrev pub file_at : Files → Word → FileAt
-file_at files word = record { place = word.place; bytes = files word.text }
+file_at files word = record { word = word; bytes = files word.text }
 
 -- This stands under the name, where the host tells its files. Where it does not, anything may.
 abbrev pub IsFileAt : Option Files → Word → FileAt → Type 0
 IsFileAt (Some files) word file = file ≡ file_at files word
-IsFileAt None word file = file.place ≡ word.place
+IsFileAt None word file = file.word ≡ word
 
 -- The same under each name.
 abbrev pub AreFound : Option Files → List Word → List FileAt → Type 0
 AreFound (Some files) words found = found ≡ map (file_at files) words
-AreFound None words found = map (λ file. file.place) found ≡ map (λ word. word.place) words
+AreFound None words found = map (λ file. file.word) found ≡ words
 
--- the files of `exo`
-pub record Found : Type 0 where
+-- ---- the files of a run
+
+-- the words that name them
+pub record Sources : Type 0 where
   -- None where no schedule is named
+  pub schedule : Option Word
+  pub images : List Word
+
+abbrev pub sources_of_exo : Exo → Sources
+sources_of_exo e = record { schedule = e.schedule; images = e.images }
+
+-- `run` has one image
+abbrev pub sources_of_run : Run → Sources
+sources_of_run r = record { schedule = r.schedule; images = image_word r.words ∷ [] }
+
+pub record Found : Type 0 where
   pub schedule : Option FileAt
   pub images : List FileAt
 
+abbrev pub all_in : Files → Sources → Found
+all_in files sources = record { schedule = option_map (file_at files) sources.schedule; images = map (file_at files) sources.images }
+
 abbrev pub found_in : Files → Exo → Found
-found_in files e = record { schedule = option_map (file_at files) e.schedule; images = map (file_at files) e.images }
+found_in files e = all_in files (sources_of_exo e)
+
+abbrev pub run_found_in : Files → Run → Found
+run_found_in files r = all_in files (sources_of_run r)
 
 -- something for each name
-pub record HasNames (e : Exo) (found : Found) : Type 0 where
-  pub schedule : option_map (λ file. file.place) found.schedule ≡ option_map (λ word. word.place) e.schedule
-  pub images : map (λ file. file.place) found.images ≡ map (λ word. word.place) e.images
+pub record HasNames (sources : Sources) (found : Found) : Type 0 where
+  pub schedule : option_map (λ file. file.word) found.schedule ≡ sources.schedule
+  pub images : map (λ file. file.word) found.images ≡ sources.images
 
 -- These are the files, where the host tells them. Where it does not, any may be found.
-abbrev pub IsFound : Option Files → Exo → Found → Type 0
-IsFound (Some files) e found = found ≡ found_in files e
-IsFound None e found = HasNames e found
+abbrev pub IsFound : Option Files → Sources → Found → Type 0
+IsFound (Some files) sources found = found ≡ all_in files sources
+IsFound None sources found = HasNames sources found
+
+-- ---- the input
 
 -- This is the console's input, where the host tells it.
 abbrev pub IsInput : Option (List ℕ) → List ℕ → Type 0

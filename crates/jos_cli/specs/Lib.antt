@@ -15,3 +15,5 @@ pub mod FilesLeft
 pub mod Notes
 pub mod FaultNotes
 pub mod Stages
+pub mod Outside
+pub mod Effects

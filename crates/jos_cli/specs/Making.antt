@@ -1,5 +1,5 @@
 -- What `mkfs` makes of the files that its words name. (This system's own.)
-use Rattle.std.specs.Prelude.{ℕ, List, [], ◌∷◌, length, map, Option, Some, None, Ok, Err, if◌then◌else◌}
+use Rattle.std.specs.Prelude.{ℕ, List, [], ◌∷◌, map, Option, Some, None, Ok, Err, if◌then◌else◌}
 use Rattle.jos_host.specs.Files as host
 use Rattle.jos_host.specs.MemHost.{Named}
 use Rattle.jos_base.specs.declared.numbers.TheConstants.{FILE_MAX}
@@ -12,7 +12,7 @@ use Rattle.fs_make.specs.MadeImage.{made_image}
 use Rattle.jos_cli.specs.declared.outcome.Which.TheVariants.{File}
 use Rattle.jos_cli.specs.Limits.{limit_of_blocks}
 use Rattle.jos_cli.specs.Found.{FileAt}
-use Rattle.jos_cli.specs.Answer.{Judged, and_then, within, bytes_of, bad_make, made, Expected, expected_if, refused}
+use Rattle.jos_cli.specs.Answer.{Judged, ◌>>=◌, all_judged, within, bytes_of, bad_make, Expected, expected_if, expected_of_writing}
 
 -- ---- the files
 
@@ -28,14 +28,13 @@ file_name text = behind_last_slash text text
 abbrev pub named_with : Word → List ℕ → Named
 named_with word bytes = record { name = file_name word.text; bytes = bytes }
 
-unfoldable pub named_file : Word → FileAt → Judged Named
-named_file word file = and_then (bytes_of FILE_MAX File file.place file.bytes) (λ bytes. Ok (named_with word bytes))
+unfoldable pub named_file : FileAt → Judged Named
+named_file file = do
+  bytes ← bytes_of FILE_MAX File file.word.place file.bytes
+  Ok (named_with file.word bytes)
 
--- Each file is read before the next is looked at.
-unfoldable pub named_files : List Word → List FileAt → Judged (List Named)
-named_files (word ∷ words) (file ∷ files) =
-    and_then (named_file word file) (λ first. and_then (named_files words files) (λ others. Ok (first ∷ others)))
-named_files _ _ = Ok []
+abbrev pub named_files : List FileAt → Judged (List Named)
+named_files files = all_judged (map named_file files)
 
 -- ---- the disk
 
@@ -46,15 +45,16 @@ made_unless (Some fault) disk = Err (bad_make fault)
 unfoldable pub disk_made : ℕ → List Named → Judged (List ℕ)
 disk_made blocks files = made_unless (make_fault blocks files) (made_image blocks files)
 
-abbrev pub expected_of_disk : ℕ → List Named → Expected
-expected_of_disk blocks files = expected_if (disk_made blocks files) (λ disk. refused (made (length disk)))
-
-abbrev pub expected_of_named : Mkfs → List FileAt → Expected
-expected_of_named m found = expected_if (named_files m.files found) (expected_of_disk m.blocks.value)
+-- the disk that the words ask for, once its number of blocks is within the limits
+unfoldable pub disk_asked : Mkfs → List FileAt → Judged (List ℕ)
+disk_asked m found = do
+  _ ← within (limit_of_blocks m.blocks)
+  files ← named_files found
+  disk_made m.blocks.value files
 
 -- of `mkfs`, for the files that are found
-unfoldable pub expected_of_mkfs : Mkfs → List FileAt → Expected
-expected_of_mkfs m found = expected_if (within (limit_of_blocks m.blocks)) (λ _. expected_of_named m found)
+abbrev pub expected_of_mkfs : Mkfs → List FileAt → Expected
+expected_of_mkfs m found = expected_if (disk_asked m found) expected_of_writing
 
 -- ---- of a host that tells its files
 

@@ -1,5 +1,5 @@
 -- What an outcome of the program says of the answer that is expected, and when it may come. (This system's own.)
-use Rattle.std.specs.Prelude.{◌≡◌, ◌≢◌, ◌≤◌, ℕ, ◌+◌, List, [], length, drop, map, Option, Some, None, IsOk, IsSome, option_map}
+use Rattle.std.specs.Prelude.{◌≡◌, ◌≢◌, ◌≤◌, ℕ, ◌+◌, List, [], ◌∷◌, length, drop, map, Option, Some, None, IsOk, IsSome, option_map}
 use Rattle.std.specs.Prelude.{Ok}
 use Rattle.jos_host.specs.Files.{Files}
 use Rattle.jos_host.specs.Told.{Rose}
@@ -19,14 +19,14 @@ use Rattle.jos_cli.specs.declared.outcome.Outcome.TheVariants.{Ran, Usage, Absen
 use Rattle.jos_cli.specs.declared.outcome.Outcome.TheVariants.{HostFault, NoMemory, Made, BadDisk, NotThere, BadMake}
 use Rattle.jos_cli.specs.Commands.{texts_of}
 use Rattle.jos_cli.specs.Limits.{numbers_of_exo, numbers_of_run, limit_of_words, limit_of_run, frames_of, limit_of_blocks}
-use Rattle.jos_cli.specs.Found.{Found, IsFound, IsInput, FileAt, file_at, IsFileAt, AreFound}
+use Rattle.jos_cli.specs.Found.{FileAt, file_at, IsFileAt, AreFound, sources_of_exo, sources_of_run, Found, IsFound, IsInput}
 use Rattle.jos_cli.specs.InputTaken.{HasLost}
 use Rattle.jos_cli.specs.Answer.{Answer, usage, limit, ran, refused}
-use Rattle.jos_cli.specs.Answer.{schedule_of, image_of, images_of, expected_of_exo, expected_of_demo}
+use Rattle.jos_cli.specs.Answer.{schedule_of, images_of, expected_of_exo, expected_of_demo}
 use Rattle.jos_cli.specs.Making.{named_files, named_in, expected_of_mkfs}
 use Rattle.jos_cli.specs.Disks.{tree_of, path_of, expected_of_ls, expected_of_cat}
 use Rattle.jos_cli.specs.Kinds.{Kind, answered, cut_off, no_memory, kind_of, Answers}
-use Rattle.jos_cli.specs.RunAnswers.{RunFound, IsRunFound, AnswersRun}
+use Rattle.jos_cli.specs.RunAnswers.{AnswersRun}
 
 -- ---- the answer
 
@@ -36,10 +36,10 @@ abbrev pub AnswersCommand : Option Files → Option (List ℕ) → Option Comman
 AnswersCommand told told_input None outcome console = Answers (refused usage) outcome console
 AnswersCommand told told_input (Some (demo d)) outcome console = Answers (expected_of_demo d.name.text) outcome console
 AnswersCommand told told_input (Some (exo e)) outcome console =
-    (found : Found) × (input : List ℕ) × IsFound told e found × IsInput told_input input
+    (found : Found) × (input : List ℕ) × IsFound told (sources_of_exo e) found × IsInput told_input input
     × Answers (expected_of_exo e found input) outcome console
 AnswersCommand told told_input (Some (run r)) outcome console =
-    (found : RunFound) × (input : List ℕ) × IsRunFound told r found × IsInput told_input input
+    (found : Found) × (input : List ℕ) × IsFound told (sources_of_run r) found × IsInput told_input input
     × AnswersRun r found input (kind_of outcome) console
 AnswersCommand told told_input (Some (mkfs m)) outcome console =
     (found : List FileAt) × AreFound told m.files found × Answers (expected_of_mkfs m found) outcome console
@@ -54,8 +54,7 @@ IsUsageCase None Usage = Unit {0}
 IsUsageCase None (HostFault stopped) = Unit {0}
 IsUsageCase None NoMemory = Unit {0}
 IsUsageCase None _ = ⊥
-IsUsageCase (Some command) Usage = ⊥
-IsUsageCase (Some command) _ = Unit {0}
+IsUsageCase (Some command) outcome = outcome ≢ Usage
 
 -- ---- the causes
 
@@ -95,18 +94,18 @@ pub record CanRun (e : Exo) (found : Found) (input : List ℕ) : Type 0 where
   pub frames : IsSome (booted images (frames_of (numbers_of_exo e)) input)
 
 -- the same of a run under the library
-pub record CanRunProgram (r : Run) (found : RunFound) (input : List ℕ) : Type 0 where
+pub record CanRunProgram (r : Run) (found : Found) (input : List ℕ) : Type 0 where
   pub words : limit_of_run r ≡ None
   pub schedule : IsOk (schedule_of found.schedule)
   pub image : Loadable
-  pub read : image_of found.image ≡ Ok image
+  pub read : images_of found.images ≡ Ok (image ∷ [])
   pub short : length input ≤ INPUT_MAX
   pub frames : IsSome (booted_within image.image image.file (texts_of r) (frames_of (numbers_of_run r)) input)
 
 -- the number, the files and the room of a disk that can be made
 pub record CanMake (m : Mkfs) (files : Files) : Type 0 where
   pub blocks : limit_of_blocks m.blocks ≡ None
-  pub read : IsOk (named_files m.files (map (file_at files) m.files))
+  pub read : IsOk (named_files (map (file_at files) m.files))
   pub no_fault : make_fault m.blocks.value (map (named_in files) m.files) ≡ None
 
 -- a disk without a fault, and a path that leads to a directory of it

@@ -1,27 +1,29 @@
 -- What is found, judged and expected in the parts of the commands, one after another.
-use Rattle.std.specs.Prelude.{◌≡◌, ℕ, Bool, true, false, List, [], ◌∷◌, Option, Some, None, Result, Ok, Err}
+use Rattle.std.specs.Prelude.{◌≡◌, ℕ, Bool, true, false, List, [], ◌∷◌, map, Option, Some, None, option_map, Result, Ok, Err}
 use Rattle.jos_host.specs.Files.{Files}
-use Rattle.jos_words.specs.Arguments.{Word}
+use Rattle.jos_words.specs.declared.words.WordAt.{WordAt}
+use Rattle.jos_words.specs.Arguments.{Word, word_in_bytes}
 use Rattle.jos_words.specs.Commands.{Command, Run, exo, run, demo, mkfs, ls, cat}
 use Rattle.jos_sched.specs.declared.fault.ScheduleFault.{ScheduleFault}
 use Rattle.jos_sched.specs.declared.fault.ScheduleFault.TheVariants as schedule
-use Rattle.jos_kernel.specs.Boot.{Loadable}
-use Rattle.jos_kernel.specs.ExoRun.{exo_run}
+use Rattle.jos_kernel.specs.Boot.{loadables}
 use Rattle.jos_kernel.specs.Reports.{CutOff}
 use Rattle.jos_kernel.specs.declared.kernel.BootFault.{BootFault}
 use Rattle.jos_kernel.specs.declared.kernel.BootFault.TheVariants as boot_fault
 use Rattle.lib_spawn.specs.StackPage.{fits_stack}
 use Rattle.jos_cli.specs.declared.outcome.Outcome.{Outcome}
 use Rattle.jos_cli.specs.declared.outcome.Outcome.TheVariants.{Ran, Usage, Absent, Limit, BadSchedule, BadImage, HostFault, NoMemory, Made}
-use Rattle.jos_cli.specs.declared.outcome.Which.TheVariants.{Schedule, Image, Boot, File}
-use Rattle.jos_cli.specs.declared.answer.KernelEnd.{KernelEnd}
-use Rattle.jos_cli.specs.declared.answer.KernelEnd.TheVariants as kernel_end
+use Rattle.jos_cli.specs.declared.outcome.Which.{Which}
+use Rattle.jos_cli.specs.declared.outcome.Which.TheVariants.{Frames, Steps, Trace, Images, Schedule, Image, Boot, File, Args}
+use Rattle.jos_run.specs.declared.programs.RunEnd.{RunEnd}
+use Rattle.jos_run.specs.declared.programs.RunEnd.TheVariants as end
+use Rattle.jos_cli.specs.declared.loading.Gathered.{Gathered as ReadForRun}
 use Rattle.jos_cli.specs.declared.limits.Numbers.{Numbers}
 use Rattle.jos_cli.specs.declared.limits.Settings.{Settings}
 use Rattle.jos_cli.specs.Commands.{texts_of}
 use Rattle.jos_cli.specs.Limits.{frames_of, steps_of, trace_of, numbers_of_run, AreWithin}
-use Rattle.jos_cli.specs.Found.{FileAt, IsFileAt, Found}
-use Rattle.jos_cli.specs.Answer.{Judged, ran, schedule_of, images_of, input_of, Expected, expected_if, expected_of_run}
+use Rattle.jos_cli.specs.Found.{FileAt, IsFileAt, Sources}
+use Rattle.jos_cli.specs.Answer.{Judged, ran, Gathered}
 use Rattle.jos_cli.specs.Kinds.{Kind, answered, cut_off, no_memory, kind_of}
 
 -- ---- what is found
@@ -53,23 +55,32 @@ abbrev pub refusal_of : ScheduleFault → Outcome
 refusal_of schedule.NoMemory = NoMemory
 refusal_of fault = BadSchedule fault
 
--- ---- what is expected from then on
+-- ---- what is read
 
 -- the numbers that the words give or leave
 abbrev pub settings_of : Numbers → Settings
 settings_of numbers = record { frames = frames_of numbers; steps = steps_of numbers; trace = trace_of numbers }
 
-abbrev pub expected_of_input : List Loadable → List ℕ → Settings → List ℕ → Expected
-expected_of_input images schedule settings input =
-    expected_if (input_of input) (λ bytes. expected_of_run settings.trace (exo_run images bytes schedule settings.frames settings.steps))
+-- the limits that the words of a run can pass
+abbrev pub IsOfWords : Which → Type 0
+IsOfWords Frames = Unit {0}
+IsOfWords Steps = Unit {0}
+IsOfWords Trace = Unit {0}
+IsOfWords Images = Unit {0}
+IsOfWords Args = Unit {0}
+IsOfWords _ = ⊥
 
-abbrev pub expected_of_images : List ℕ → Settings → List ℕ → List FileAt → Expected
-expected_of_images schedule settings input files =
-    expected_if (images_of files) (λ images. expected_of_input images schedule settings input)
+-- words that name files, as bytes
+abbrev pub sources_in : Option WordAt → List WordAt → Sources
+sources_in schedule images = record { schedule = option_map word_in_bytes schedule; images = map word_in_bytes images }
 
-abbrev pub expected_of_files : Settings → List ℕ → Found → Expected
-expected_of_files settings input found =
-    expected_if (schedule_of found.schedule) (λ schedule. expected_of_images schedule settings input found.images)
+-- what was read for a run, as it is defined
+abbrev pub gathered_of : ReadForRun → Gathered
+gathered_of read = record {
+  schedule = read.schedule;
+  images = loadables read.images.images.items read.images.files.items;
+  input = read.input.items;
+}
 
 -- the outcome where a file that the words name was not read
 abbrev pub IsUnread : Outcome → Type 0
@@ -94,26 +105,18 @@ abbrev pub IfMade : Outcome → Type 0 → Type 0
 IfMade (Made bytes) P = P
 IfMade _ P = Unit {0}
 
--- what is answered where the run of a kernel has ended
-abbrev pub outcome_of_end : KernelEnd → Outcome
-outcome_of_end (kernel_end.Ended report trace) = Ran report trace
-outcome_of_end (kernel_end.HostFault stopped) = HostFault stopped
+-- ---- a run
 
--- and where there may have been no kernel to run
-abbrev pub outcome_of_run : Result KernelEnd BootFault → Outcome
-outcome_of_run (Ok end) = outcome_of_end end
+-- what is answered where a run has ended
+abbrev pub outcome_of_end : RunEnd → Outcome
+outcome_of_end (end.Ended report trace) = Ran report trace
+outcome_of_end (end.HostFault stopped) = HostFault stopped
+
+-- and where there may have been none
+abbrev pub outcome_of_run : Result RunEnd BootFault → Outcome
+outcome_of_run (Ok ended) = outcome_of_end ended
 outcome_of_run (Err boot_fault.Pool) = Limit Boot
 outcome_of_run (Err boot_fault.NoMemory) = NoMemory
-
--- the outcome of images that were read, with their input
-abbrev pub IsBooted : Outcome → Type 0
-IsBooted (Ran report trace) = Unit {0}
-IsBooted (Limit Boot) = Unit {0}
-IsBooted (HostFault stopped) = Unit {0}
-IsBooted NoMemory = Unit {0}
-IsBooted _ = ⊥
-
--- ---- a run under the library
 
 -- the words of a program that may be run
 pub record MayRun (r : Run) (words : List (List ℕ)) : Type 0 where

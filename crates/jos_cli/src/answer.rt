@@ -1,47 +1,46 @@
 //! The top call.
 
-ghost use Rattle.std.specs.Prelude.{◌≡◌, ◌≢◌, ℕ, ◌≤◌, [], ◌++◌, List, All, length, map, Some, IsSome, OnErr};
+ghost use Rattle.std.specs.Prelude.{◌≡◌, ℕ, List, All, map, Some, IsSome, OnErr};
 ghost use Rattle.jos_host.specs.Files.{Files};
 ghost use Rattle.jos_host.specs.Told.{Rose};
 ghost use Rattle.jos_host.specs.Frames.{Unchanged, around};
-ghost use Rattle.jos_base.specs.declared.numbers.TheConstants.{FRAMES_MIN, FRAMES_MAX, STEPS_MAX};
-ghost use Rattle.jos_words.specs.Arguments.{word_in_bytes};
+ghost use Rattle.jos_words.specs.Arguments.{texts};
 ghost use Rattle.jos_words.specs.Commands.{Exo, Run, Demo, Mkfs, Ls, Cat, exo, run, demo, mkfs, ls, cat};
 ghost use Rattle.jos_words.specs.Commands.{exo_in_bytes, demo_in_bytes};
 ghost use Rattle.jos_demo.specs.Programs.{file_of};
 ghost use Rattle.jos_kernel.specs.Boot.{loadables};
 ghost use Rattle.jos_kernel.specs.Loading.{IsRead};
-ghost use Rattle.jos_kernel.specs.ExoRun.{run_from, exo_run};
+ghost use Rattle.jos_kernel.specs.ExoRun.{run_from};
 ghost use Rattle.jos_kernel.specs.Kernel.{progress_of, nothing, Counts, Holds};
-ghost use Rattle.jos_cli.specs.Commands.{known, command_of};
-ghost use Rattle.jos_cli.specs.Found.{FileAt, Found, found_in, IsFound, IsInput};
-ghost use Rattle.jos_cli.specs.Answer.{expected_of_run, expected_of_exo, expected_of_demo};
-ghost use Rattle.jos_cli.specs.Kinds.{kind_of, Answers};
+ghost use Rattle.jos_cli.specs.Commands.{known, command_of, program_file};
+ghost use Rattle.jos_cli.specs.Limits.{AreWithin};
+ghost use Rattle.jos_cli.specs.Found.{found_in, run_found_in};
+ghost use Rattle.jos_cli.specs.Answer.{expected_of_run, expected_of_images, expected_of_demo};
+ghost use Rattle.jos_cli.specs.Kinds.{Answers};
 ghost use Rattle.jos_cli.specs.Outcomes.{AnswersCommand, HasOutcomeCause, HasCommandCause, IsUsageCase};
 ghost use Rattle.jos_cli.specs.Outcomes.{CanRun, CanRunProgram, CanMake, CanList, CanPrint};
-ghost use Rattle.jos_cli.specs.Outcomes.{IsRunCase, IsMadeCase, IsMemoryCase, LeavesInputBy, LeavesInput};
-ghost use Rattle.jos_cli.specs.RunAnswers.{run_found_in};
-ghost use Rattle.jos_cli.specs.Stages.{AreFilesAt, IsBooted, outcome_of_end, outcome_of_run, expected_of_input, expected_of_images};
-ghost use Rattle.jos_cli.specs.Stages.{expected_of_files, cut_if, cut_behind};
-ghost use Rattle.jos_cli.specs.FilesAsked.{AsksFor, files_calls, write_calls, exo_calls, AsksFiles, AsksNote, AsksOnly};
-ghost use Rattle.jos_cli.specs.FilesLeft.{LeavesProgram, Leaves, LeavesGoodDisk};
+ghost use Rattle.jos_cli.specs.Outcomes.{IsRunCase, IsMadeCase, IsMemoryCase, LeavesInput};
+ghost use Rattle.jos_cli.specs.Stages.{gathered_of, outcome_of_end, outcome_of_run, cut_if, cut_behind};
+ghost use Rattle.jos_cli.specs.FilesAsked.{AsksNote, AsksOnly};
+ghost use Rattle.jos_cli.specs.FilesLeft.{Leaves, LeavesGoodDisk};
 ghost use Rattle.jos_cli.specs.Notes.{IsNoted};
 ghost use Rattle.jos_cli.specs.FaultNotes.{IfHostFault, FaultIsNoted};
+ghost use Rattle.jos_cli.specs.Outside.{outside};
+ghost use Rattle.jos_cli.specs.Effects.{DoesCommand, WritesFile};
 
 use crate::disks::{answer_cat, answer_ls};
 use crate::files::{host_fault, write_made};
-use crate::input::read_input;
-use crate::limits::{Settings, limit_of_words, numbers_of_exo, settings_of};
-use crate::loading::{Images, read_images, read_schedule};
+use crate::limits::{Numbers, Settings, limit_of_words, numbers_of_exo, settings_of};
+use crate::loading::{Gathered, gather};
 use crate::making::answer_mkfs;
 use crate::notes::write_note;
-use crate::outcome::{Outcome, Report, Stopped, Trace, Which};
-use crate::running::answer_run;
+use crate::outcome::{Outcome, Report, Stopped};
+use crate::running::{answer_run, outcome_of_run};
 use jos_demo::{is_program, program};
 use jos_host::Host;
 use jos_kernel::{BootFault, ExoEnd, Kernel, exo_run};
-use jos_sched::Schedule;
-use jos_words::{Command, DemoWords, ExoWords, WordAt, WordsFault, read_words};
+use jos_run::RunEnd;
+use jos_words::{Command, DemoWords, ExoWords, WordsFault, read_words};
 use std::alloc::Global;
 
 /// Does what the words ask: `exo [--frames N] [--steps N] [--schedule FILE] [--trace N] IMAGE..` runs the images,
@@ -156,18 +155,9 @@ pub(crate) fn refuse_words<H: Host>(alloc: Global, host: &mut H) -> Outcome
     }
 }
 
-/// How the run of a kernel that was booted ends. None ends for want of memory.
-#[derive(Drop)]
-enum KernelEnd {
-    /// It ended by itself, with the last of its traps.
-    Ended(Report, Trace),
-    /// A call of the host failed.
-    HostFault(Stopped),
-}
-
 /// Runs the kernel that was booted. Nothing more is asked of an allocator, so the run ends as it is defined to end,
 /// unless a call of the host fails.
-fn run_kernel<H: Host>(mut kernel: Kernel, settings: Settings, host: &mut H) -> KernelEnd
+fn run_kernel<H: Host>(mut kernel: Kernel, settings: Settings, host: &mut H) -> RunEnd
     requires holds { Holds kernel }
     requires counts { Counts kernel (record nothing { kept = settings.trace }) }
     requires first { kernel.book.steps ≡ 0 }
@@ -179,35 +169,37 @@ fn run_kernel<H: Host>(mut kernel: Kernel, settings: Settings, host: &mut H) -> 
     match exo_run(&mut kernel, host, settings.steps) {
         ExoEnd::Ended(end) => {
             let (report, trace) = kernel.finish(end);
-            KernelEnd::Ended(report, trace)
+            RunEnd::Ended(report, trace)
         }
-        ExoEnd::HostFault => KernelEnd::HostFault(kernel.cut_off()),
+        ExoEnd::HostFault => RunEnd::HostFault(kernel.cut_off()),
     }
 }
 
 /// Boots the images and runs them, if they can be booted.
 fn run_loaded<H: Host>(
     alloc: Global,
-    read: &Images,
-    input: Vec<u8>,
-    schedule: Schedule,
-    settings: Settings,
+    read: Gathered,
+    numbers: Numbers,
     host: &mut H,
-) -> Result<KernelEnd, BootFault>
-    requires read { All IsRead (loadables read.now.images.items read.now.files.items) }
-    requires least { FRAMES_MIN ≤ settings.frames }
-    requires most { settings.frames ≤ FRAMES_MAX }
-    ensures told { Answers (expected_of_run settings.trace (exo_run (loadables read.now.images.items read.now.files.items)
-        input.items schedule settings.frames settings.steps)) (outcome_of_run result) (around H.console host.old host.new) }
+) -> Result<RunEnd, BootFault>
+    requires read { All IsRead (loadables read.images.images.items read.images.files.items) }
+    requires within { AreWithin numbers }
+    ensures told { Answers (expected_of_images numbers (gathered_of read)) (outcome_of_run result) (around H.console host.old host.new) }
     ensures rest { Unchanged H.files H.input H.asked H.notes host.old host.new }
     ensures cause { HasOutcomeCause (around H.faults host.old host.new) (outcome_of_run result) }
     // Where no kernel is booted, nothing is asked of the host.
     ensures unasked { OnErr result (host.new ≡ host.old) }
 {
+    let settings = settings_of(numbers);
+    let Gathered {
+        schedule,
+        images,
+        input,
+    } = read;
     match Kernel::boot(
         alloc,
-        &read.images,
-        &read.files,
+        &images.images,
+        &images.files,
         settings.frames,
         input,
         schedule,
@@ -218,120 +210,26 @@ fn run_loaded<H: Host>(
     }
 }
 
-/// The answer where the images were booted, and where they were not: want of memory comes before the run alone.
-fn outcome_of_run(run: Result<KernelEnd, BootFault>) -> Outcome
-    ensures outcome { result ≡ outcome_of_run run }
-    ensures kind { IsBooted result }
-{
-    match run {
-        Ok(KernelEnd::Ended(report, trace)) => Outcome::Ran(report, trace),
-        Ok(KernelEnd::HostFault(stopped)) => Outcome::HostFault(stopped),
-        Err(BootFault::Pool) => Outcome::Limit(Which::Boot),
-        Err(BootFault::NoMemory) => Outcome::NoMemory,
-    }
-}
-
-/// Runs the images that were read, with the console's input.
-fn run_images<H: Host>(
-    alloc: Global,
-    read: &Images,
-    schedule: Schedule,
-    settings: Settings,
-    host: &mut H,
-) -> Outcome
-    requires read { All IsRead (loadables read.now.images.items read.now.files.items) }
-    requires least { FRAMES_MIN ≤ settings.frames }
-    requires most { settings.frames ≤ FRAMES_MAX }
-    ensures told { (input : List ℕ) × IsInput (H.input host.old) input
-        × Answers (expected_of_input (loadables read.now.images.items read.now.files.items) schedule settings input)
-        result (around H.console host.old host.new) }
-    ensures files { H.files host.new ≡ H.files host.old }
-    ensures notes { H.notes host.new ≡ H.notes host.old }
-    ensures asked { H.asked host.new ≡ H.asked host.old }
-    ensures input { LeavesInputBy (kind_of result) (around H.input host.old host.new) }
-    ensures cause { HasOutcomeCause (around H.faults host.old host.new) result }
-    ensures no_usage { result ≢ Outcome.Usage }
-{
-    match read_input(alloc, host) {
-        Ok(input) => outcome_of_run(run_loaded(alloc, read, input, schedule, settings, host)),
-        Err(outcome) => outcome,
-    }
-}
-
-/// Runs the images that words name.
-fn run_named<'a, H: Host>(
-    alloc: Global,
-    words: &[WordAt<'a>],
-    schedule: Schedule,
-    settings: Settings,
-    host: &mut H,
-) -> Outcome
-    requires least { FRAMES_MIN ≤ settings.frames }
-    requires most { settings.frames ≤ FRAMES_MAX }
-    ensures told { (files : List FileAt) × (input : List ℕ) × AreFilesAt (H.files host.old) (map word_in_bytes words.now) files
-        × IsInput (H.input host.old) input
-        × Answers (expected_of_images schedule settings input files) result (around H.console host.old host.new) }
-    ensures files { H.files host.new ≡ H.files host.old }
-    ensures notes { H.notes host.new ≡ H.notes host.old }
-    ensures input { LeavesInputBy (kind_of result) (around H.input host.old host.new) }
-    ensures asked { AsksFor (files_calls (map word_in_bytes words.now)) (around H.asked host.old host.new) }
-    ensures cause { HasOutcomeCause (around H.faults host.old host.new) result }
-    ensures no_usage { result ≢ Outcome.Usage }
-{
-    match read_images(alloc, words, host) {
-        Ok(read) => run_images(alloc, &read, schedule, settings, host),
-        Err(outcome) => outcome,
-    }
-}
-
-/// Runs what the words of `exo` ask, within their limits.
-fn run_within<H: Host>(alloc: Global, words: &ExoWords, settings: Settings, host: &mut H) -> Outcome
-    requires least { FRAMES_MIN ≤ settings.frames }
-    requires most { settings.frames ≤ FRAMES_MAX }
-    ensures told { (found : Found) × (input : List ℕ) × IsFound (H.files host.old) (exo_in_bytes words.now) found
-        × IsInput (H.input host.old) input
-        × Answers (expected_of_files settings input found) result (around H.console host.old host.new) }
-    ensures files { H.files host.new ≡ H.files host.old }
-    ensures notes { H.notes host.new ≡ H.notes host.old }
-    ensures input { LeavesInputBy (kind_of result) (around H.input host.old host.new) }
-    ensures asked { AsksFor (exo_calls (exo_in_bytes words.now)) (around H.asked host.old host.new) }
-    ensures cause { HasOutcomeCause (around H.faults host.old host.new) result }
-    ensures no_usage { result ≢ Outcome.Usage }
-{
-    match read_schedule(alloc, words.schedule, host) {
-        Ok(schedule) => run_named(alloc, &words.images, schedule, settings, host),
-        Err(outcome) => outcome,
-    }
-}
-
 /// Does what the words of `exo` ask, but for the note.
 fn answer_exo<H: Host>(alloc: Global, words: &ExoWords, host: &mut H) -> Outcome
-    ensures told { (found : Found) × (input : List ℕ) × IsFound (H.files host.old) (exo_in_bytes words.now) found
-        × IsInput (H.input host.old) input
-        × Answers (expected_of_exo (exo_in_bytes words.now) found input) result (around H.console host.old host.new) }
-    ensures files { H.files host.new ≡ H.files host.old }
-    ensures notes { H.notes host.new ≡ H.notes host.old }
-    ensures input { LeavesInputBy (kind_of result) (around H.input host.old host.new) }
-    ensures asked { AsksFor (exo_calls (exo_in_bytes words.now)) (around H.asked host.old host.new) }
-    ensures cause { HasOutcomeCause (around H.faults host.old host.new) result }
-    ensures no_usage { result ≢ Outcome.Usage }
+    ensures did { DoesCommand (Some (exo (exo_in_bytes words.now))) result (outside H.Host host.old host.new) }
 {
-    match limit_of_words(words) {
-        Some(which) => Outcome::Limit(which),
-        None => run_within(alloc, words, settings_of(numbers_of_exo(words)), host),
+    match gather(
+        alloc,
+        limit_of_words(words),
+        words.schedule,
+        &words.images,
+        host,
+    ) {
+        Ok(read) => outcome_of_run(run_loaded(alloc, read, numbers_of_exo(words), host)),
+        Err(outcome) => outcome,
     }
 }
 
 /// Writes the file of an example program.
 fn write_program<H: Host>(alloc: Global, name: &str, file: &str, host: &mut H) -> Outcome
     requires { IsSome (file_of name.now) }
-    ensures told { Answers (expected_of_demo name.now) result (around H.console host.old host.new) }
-    ensures files { LeavesProgram name.now file.now result (around H.files host.old host.new) }
-    ensures input { H.input host.new ≡ H.input host.old }
-    ensures asked { AsksFor (write_calls file.now) (around H.asked host.old host.new) }
-    ensures notes { H.notes host.new ≡ H.notes host.old }
-    ensures cause { HasOutcomeCause (around H.faults host.old host.new) result }
-    ensures no_usage { result ≢ Outcome.Usage }
+    ensures did { WritesFile (expected_of_demo name.now) file.now (program_file name.now) result (outside H.Host host.old host.new) }
 {
     match program(alloc, name) {
         Ok(Some(bytes)) => write_made(alloc, file, &bytes, host),
@@ -342,14 +240,7 @@ fn write_program<H: Host>(alloc: Global, name: &str, file: &str, host: &mut H) -
 
 /// Does what the words of `demo` ask, but for the note.
 fn answer_demo<'a, H: Host>(alloc: Global, words: DemoWords<'a>, host: &mut H) -> Outcome
-    ensures told { AnswersCommand (H.files host.old) (H.input host.old) (known (Some (demo (demo_in_bytes words.entry)))) result
-        (around H.console host.old host.new) }
-    ensures usage { IsUsageCase (known (Some (demo (demo_in_bytes words.entry)))) result }
-    ensures files { Leaves (known (Some (demo (demo_in_bytes words.entry)))) result (around H.files host.old host.new) }
-    ensures input { H.input host.new ≡ H.input host.old }
-    ensures asked { AsksFiles (known (Some (demo (demo_in_bytes words.entry)))) (around H.asked host.old host.new) }
-    ensures notes { H.notes host.new ≡ H.notes host.old }
-    ensures cause { HasOutcomeCause (around H.faults host.old host.new) result }
+    ensures did { DoesCommand (known (Some (demo (demo_in_bytes words.entry)))) result (outside H.Host host.old host.new) }
 {
     if is_program(words.name.text) {
         write_program(alloc, words.name.text, words.file.text, host)
@@ -360,16 +251,8 @@ fn answer_demo<'a, H: Host>(alloc: Global, words: DemoWords<'a>, host: &mut H) -
 
 /// Does what the words ask, but for the note, and says whether that was to run a program under the library.
 fn answer_words<'a, H: Host>(alloc: Global, words: &'a [&'a str], host: &mut H) -> (Outcome, bool)
-    ensures told { AnswersCommand (H.files host.old) (H.input host.old) (command_of (map (λ w. w.now) words.now)) result.0
-        (around H.console host.old host.new) }
-    ensures usage { IsUsageCase (command_of (map (λ w. w.now) words.now)) result.0 }
-    ensures files { Leaves (command_of (map (λ w. w.now) words.now)) result.0 (around H.files host.old host.new) }
-    ensures input { LeavesInput (command_of (map (λ w. w.now) words.now)) result.0 (around H.input host.old host.new) }
-    ensures asked { AsksFiles (command_of (map (λ w. w.now) words.now)) (around H.asked host.old host.new) }
-    ensures disk { LeavesGoodDisk (command_of (map (λ w. w.now) words.now)) result.0 (around H.files host.old host.new) }
-    ensures notes { H.notes host.new ≡ H.notes host.old }
-    ensures cause { HasCommandCause (command_of (map (λ w. w.now) words.now)) (around H.faults host.old host.new) result.0 }
-    ensures cut { cut_if result.1 result.0 ≡ cut_behind (command_of (map (λ w. w.now) words.now)) result.0 }
+    ensures did { DoesCommand (command_of (texts words.now)) result.0 (outside H.Host host.old host.new) }
+    ensures cut { cut_if result.1 result.0 ≡ cut_behind (command_of (texts words.now)) result.0 }
 {
     match read_words(alloc, words) {
         Ok(Command::Exo(words)) => (answer_exo(alloc, &words, host), false),

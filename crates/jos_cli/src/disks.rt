@@ -1,22 +1,23 @@
 //! What is told of a disk: the records of a directory, and the bytes of a file.
 
-ghost use Rattle.std.specs.Prelude.{◌≡◌, ◌≢◌, ℕ, ◌+◌, ◌*◌, ◌++◌, ◌<◌, ◌≤◌, ◌==◌, [], IfSome, position, Some, IfOk, IfErr, length, map, slice_index, MatchResult};
+ghost use Rattle.std.specs.Prelude.{◌≡◌, ◌≢◌, ℕ, ◌+◌, ◌*◌, ◌++◌, ◌<◌, ◌≤◌, ◌==◌, [], IfSome, position, Some, IfOk, IfErr, length, map, slice_index};
 ghost use Rattle.std.specs.Prelude.{vec_capacity};
+ghost use Rattle.std.specs.Option.{option_map};
+ghost use Rattle.std.specs.Result.{result_err};
+ghost use Rattle.jos_host.specs.Frames.{from_to};
 ghost use Rattle.jos_base.specs.declared.lines.TheConstants.{LINE_MAX};
 ghost use Rattle.fs_layout.specs.declared.numbers.TheConstants.{MAXNAMELEN};
-ghost use Rattle.jos_cli.specs.declared.disks.TheConstants.{RECORD_LINE_MAX};
-ghost use Rattle.std.specs.Option.{option_map};
-ghost use Rattle.jos_host.specs.Frames.{Unchanged, around, from_to};
 ghost use Rattle.fs_layout.specs.DiskFiles.{IsDiskImage};
-ghost use Rattle.fs_image.specs.DiskHeld.{IsReadInPieces};
 ghost use Rattle.fs_contents.specs.Contents.{told_of_entry};
 ghost use Rattle.jos_words.specs.Arguments.{word_in_bytes};
 ghost use Rattle.jos_words.specs.Commands.{ls, cat, ls_in_bytes, cat_in_bytes};
+ghost use Rattle.jos_cli.specs.declared.disks.TheConstants.{RECORD_LINE_MAX};
 ghost use Rattle.jos_cli.specs.Found.{FileAt, IsFileAt};
 ghost use Rattle.jos_cli.specs.Disks.{checked, disk_of, size_text, record_line, listing, path_of, printed, expected_of_listing, expected_of_bytes};
-ghost use Rattle.jos_cli.specs.Kinds.{Answers};
-ghost use Rattle.jos_cli.specs.Outcomes.{AnswersCommand, HasOutcomeCause};
+ghost use Rattle.jos_cli.specs.Outcomes.{HasOutcomeCause};
 ghost use Rattle.jos_cli.specs.Stages.{Judges};
+ghost use Rattle.jos_cli.specs.Outside.{outside};
+ghost use Rattle.jos_cli.specs.Effects.{DoesCommand, ReadsDisk, PrintsAnswer};
 
 use crate::files::host_fault;
 use crate::outcome::Outcome;
@@ -51,10 +52,7 @@ fn read_checked<'a, H: Host>(
     ensures told { (file : FileAt) × IsFileAt (H.files host.old) (word_in_bytes word.entry) file
         × Judges (disk_of file) (λ disk. disk) result }
     ensures disk { IfOk result (λ disk. IsDiskImage (length disk.bytes) (slice_index disk.bytes)) }
-    ensures rest { Unchanged H.files H.input H.console H.notes host.old host.new }
-    ensures asked { IsReadInPieces word.entry.text.now (around H.asked host.old host.new) }
-    ensures cause { MatchResult result (λ _. H.faults host.new ≡ H.faults host.old) (HasOutcomeCause (around H.faults host.old host.new)) }
-    ensures no_usage { IfErr result (λ outcome. outcome ≢ Outcome.Usage) }
+    ensures did { ReadsDisk word.entry.text.now (result_err result) (outside H.Host host.old host.new) }
 {
     match read_disk(alloc, word.text, host) {
         Ok(disk) => checked(alloc, disk),
@@ -138,10 +136,7 @@ fn listing(mut text: Vec<u8>, entries: &[Entry]) -> Vec<u8>
 
 /// Writes bytes to the console.
 fn print<H: Host>(alloc: Global, bytes: &[u8], host: &mut H) -> Outcome
-    ensures told { Answers (printed bytes.now) result (around H.console host.old host.new) }
-    ensures rest { Unchanged H.files H.input H.asked H.notes host.old host.new }
-    ensures cause { HasOutcomeCause (around H.faults host.old host.new) result }
-    ensures no_usage { result ≢ Outcome.Usage }
+    ensures did { PrintsAnswer (printed bytes.now) result (outside H.Host host.old host.new) }
 {
     match host.console_write(bytes) {
         Ok(()) => Outcome::Made(bytes.len() as u64),
@@ -151,10 +146,7 @@ fn print<H: Host>(alloc: Global, bytes: &[u8], host: &mut H) -> Outcome
 
 /// Prints the lines of records.
 fn print_listing<H: Host>(alloc: Global, entries: &[Entry], host: &mut H) -> Outcome
-    ensures told { Answers (printed (listing (map told_of_entry entries.now))) result (around H.console host.old host.new) }
-    ensures rest { Unchanged H.files H.input H.asked H.notes host.old host.new }
-    ensures cause { HasOutcomeCause (around H.faults host.old host.new) result }
-    ensures no_usage { result ≢ Outcome.Usage }
+    ensures did { PrintsAnswer (printed (listing (map told_of_entry entries.now))) result (outside H.Host host.old host.new) }
 {
     match room_for_lines(alloc, entries.len()) {
         Ok(text) => print(alloc, &listing(text, entries), host),
@@ -165,10 +157,7 @@ fn print_listing<H: Host>(alloc: Global, entries: &[Entry], host: &mut H) -> Out
 /// Prints the records of the directory that a path names.
 fn print_directory<H: Host>(alloc: Global, disk: &DiskBytes, path: &str, host: &mut H) -> Outcome
     requires { IsDiskImage (length disk.now.bytes) (slice_index disk.now.bytes) }
-    ensures told { Answers (expected_of_listing path.now disk.now) result (around H.console host.old host.new) }
-    ensures rest { Unchanged H.files H.input H.asked H.notes host.old host.new }
-    ensures cause { HasOutcomeCause (around H.faults host.old host.new) result }
-    ensures no_usage { result ≢ Outcome.Usage }
+    ensures did { PrintsAnswer (expected_of_listing path.now disk.now) result (outside H.Host host.old host.new) }
 {
     match list(alloc, disk.bytes(), path.as_bytes()) {
         Ok(entries) => print_listing(alloc, &entries, host),
@@ -180,10 +169,7 @@ fn print_directory<H: Host>(alloc: Global, disk: &DiskBytes, path: &str, host: &
 /// Prints the bytes of the file that a path names.
 fn print_file<H: Host>(alloc: Global, disk: &DiskBytes, path: &str, host: &mut H) -> Outcome
     requires { IsDiskImage (length disk.now.bytes) (slice_index disk.now.bytes) }
-    ensures told { Answers (expected_of_bytes path.now disk.now) result (around H.console host.old host.new) }
-    ensures rest { Unchanged H.files H.input H.asked H.notes host.old host.new }
-    ensures cause { HasOutcomeCause (around H.faults host.old host.new) result }
-    ensures no_usage { result ≢ Outcome.Usage }
+    ensures did { PrintsAnswer (expected_of_bytes path.now disk.now) result (outside H.Host host.old host.new) }
 {
     match read_file(alloc, disk.bytes(), path.as_bytes()) {
         Ok(bytes) => print(alloc, &bytes, host),
@@ -204,14 +190,7 @@ fn path_of<'a>(path: Option<WordAt<'a>>) -> &'a str
 
 /// Does what the words of `ls` ask, but for the note.
 pub(crate) fn answer_ls<'a, H: Host>(alloc: Global, words: LsWords<'a>, host: &mut H) -> Outcome
-    ensures told { AnswersCommand (H.files host.old) (H.input host.old) (Some (ls (ls_in_bytes words.entry))) result
-        (around H.console host.old host.new) }
-    ensures files { H.files host.new ≡ H.files host.old }
-    ensures input { H.input host.new ≡ H.input host.old }
-    ensures notes { H.notes host.new ≡ H.notes host.old }
-    ensures asked { IsReadInPieces words.entry.disk.text.now (around H.asked host.old host.new) }
-    ensures cause { HasOutcomeCause (around H.faults host.old host.new) result }
-    ensures no_usage { result ≢ Outcome.Usage }
+    ensures did { DoesCommand (Some (ls (ls_in_bytes words.entry))) result (outside H.Host host.old host.new) }
 {
     match read_checked(alloc, words.disk, host) {
         Ok(disk) => print_directory(alloc, &disk, path_of(words.path), host),
@@ -221,14 +200,7 @@ pub(crate) fn answer_ls<'a, H: Host>(alloc: Global, words: LsWords<'a>, host: &m
 
 /// Does what the words of `cat` ask, but for the note.
 pub(crate) fn answer_cat<'a, H: Host>(alloc: Global, words: CatWords<'a>, host: &mut H) -> Outcome
-    ensures told { AnswersCommand (H.files host.old) (H.input host.old) (Some (cat (cat_in_bytes words.entry))) result
-        (around H.console host.old host.new) }
-    ensures files { H.files host.new ≡ H.files host.old }
-    ensures input { H.input host.new ≡ H.input host.old }
-    ensures notes { H.notes host.new ≡ H.notes host.old }
-    ensures asked { IsReadInPieces words.entry.disk.text.now (around H.asked host.old host.new) }
-    ensures cause { HasOutcomeCause (around H.faults host.old host.new) result }
-    ensures no_usage { result ≢ Outcome.Usage }
+    ensures did { DoesCommand (Some (cat (cat_in_bytes words.entry))) result (outside H.Host host.old host.new) }
 {
     match read_checked(alloc, words.disk, host) {
         Ok(disk) => print_file(alloc, &disk, words.path.text, host),

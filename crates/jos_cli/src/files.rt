@@ -1,17 +1,18 @@
 //! Files as a whole: one is read, and one is written.
 
-ghost use Rattle.std.specs.Prelude.{◌≡◌, ◌≢◌, ◌≤◌, ⊤, [], None, IfOk, IfErr, OnOk, OnErr, length, MatchOption, MatchResult};
+ghost use Rattle.std.specs.Prelude.{◌≡◌, ◌≤◌, ⊤, [], None, IfOk, OnOk, OnErr, length, MatchOption, MatchResult};
+ghost use Rattle.std.specs.Result.{result_err};
 ghost use Rattle.jos_host.specs.Told.{HasCause};
 ghost use Rattle.jos_host.specs.Frames.{Unchanged, around};
 ghost use Rattle.jos_words.specs.Arguments.{word_in_bytes};
 ghost use Rattle.jos_cli.specs.Found.{FileAt, IsFileAt};
-ghost use Rattle.jos_cli.specs.Answer.{bytes_of, made, refused};
-ghost use Rattle.jos_cli.specs.Kinds.{Answers};
-ghost use Rattle.jos_cli.specs.Outcomes.{HasOutcomeCause};
+ghost use Rattle.jos_cli.specs.Answer.{bytes_of, expected_of_writing};
 ghost use Rattle.jos_cli.specs.Stages.{Judges, IsUnread};
 ghost use Rattle.jos_cli.specs.FilesRead.{IsFile, IsFileFault, HasFileCause};
-ghost use Rattle.jos_cli.specs.FilesLeft.{KeepsOthers, told_with, LeavesBy};
+ghost use Rattle.jos_cli.specs.FilesLeft.{KeepsOthers, told_with};
 ghost use Rattle.jos_cli.specs.FilesAsked.{AsksFor, AsksAll, read_calls, write_calls};
+ghost use Rattle.jos_cli.specs.Outside.{outside};
+ghost use Rattle.jos_cli.specs.Effects.{ReadsFiles, WritesFile};
 
 use crate::outcome::{Outcome, Stopped, Which};
 use jos_host::{Failed, Host};
@@ -81,13 +82,9 @@ pub(crate) fn read_file<'a, H: Host>(
 ) -> Result<Vec<u8>, Outcome>
     requires { IsUnread (Outcome.Limit which) }
     ensures told { (file : FileAt) × IsFileAt (H.files host.old) (word_in_bytes word.entry) file
-        × Judges (bytes_of most which file.place file.bytes) (λ bytes. bytes.items) result }
+        × Judges (bytes_of most which file.word.place file.bytes) (λ bytes. bytes.items) result }
     ensures small { IfOk result (λ bytes. length bytes.items ≤ most) }
-    ensures kind { IfErr result IsUnread }
-    ensures cause { MatchResult result (λ _. H.faults host.new ≡ H.faults host.old) (HasOutcomeCause (around H.faults host.old host.new)) }
-    ensures rest { Unchanged H.files H.input H.console H.notes host.old host.new }
-    ensures asked { MatchResult result (λ _. AsksAll (read_calls word.entry.text.now) (around H.asked host.old host.new))
-        (λ _. AsksFor (read_calls word.entry.text.now) (around H.asked host.old host.new)) }
+    ensures did { ReadsFiles (read_calls word.entry.text.now) (result_err result) (outside H.Host host.old host.new) }
 {
     match read_bytes(alloc, word.text, most, host) {
         Ok(bytes) => Ok(bytes),
@@ -116,13 +113,7 @@ pub(crate) fn write_file<H: Host>(name: &str, bytes: &[u8], host: &mut H) -> Res
 
 /// Writes a file that was made.
 pub(crate) fn write_made<H: Host>(alloc: Global, name: &str, bytes: &[u8], host: &mut H) -> Outcome
-    ensures told { Answers (refused (made (length bytes.now))) result (around H.console host.old host.new) }
-    ensures files { LeavesBy name.now (told_with (H.files host.old) name.now bytes.now) result (around H.files host.old host.new) }
-    ensures input { H.input host.new ≡ H.input host.old }
-    ensures asked { AsksFor (write_calls name.now) (around H.asked host.old host.new) }
-    ensures notes { H.notes host.new ≡ H.notes host.old }
-    ensures cause { HasOutcomeCause (around H.faults host.old host.new) result }
-    ensures no_usage { result ≢ Outcome.Usage }
+    ensures did { WritesFile (expected_of_writing bytes.now) name.now bytes.now result (outside H.Host host.old host.new) }
 {
     match write_file(name, bytes, host) {
         Ok(()) => Outcome::Made(bytes.len() as u64),

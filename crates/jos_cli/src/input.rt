@@ -1,14 +1,15 @@
 //! The console's input as a whole.
 
-ghost use Rattle.std.specs.Prelude.{◌≡◌, ◌≢◌, ℕ, ◌<◌, ◌≤◌, [], List, IfOk, IfErr, OnErr, MatchResult, length, option_map};
+ghost use Rattle.std.specs.Prelude.{◌≡◌, ℕ, ◌<◌, ◌≤◌, [], List, IfOk, OnErr, length};
+ghost use Rattle.std.specs.Result.{result_err};
 ghost use Rattle.jos_host.specs.Told.{HasCause};
-ghost use Rattle.jos_host.specs.Frames.{Unchanged, around};
+ghost use Rattle.jos_host.specs.Frames.{Unchanged};
 ghost use Rattle.jos_cli.specs.InputTaken.{HasTaken, HasEnded, HasLost};
 ghost use Rattle.jos_cli.specs.Found.{IsInput};
 ghost use Rattle.jos_cli.specs.Answer.{input_of};
-ghost use Rattle.jos_cli.specs.Kinds.{kind_of};
-ghost use Rattle.jos_cli.specs.Outcomes.{HasOutcomeCause, LeavesInputBy};
 ghost use Rattle.jos_cli.specs.Stages.{Judges};
+ghost use Rattle.jos_cli.specs.Outside.{outside};
+ghost use Rattle.jos_cli.specs.Effects.{Gathers};
 
 use crate::files::host_fault;
 use crate::outcome::{Outcome, Which};
@@ -47,11 +48,7 @@ fn take_input<H: Host>(host: &mut H, buf: &mut [u8]) -> Result<usize, Failed>
 /// Reads the console's input, up to its end or to the first byte past the limit.
 pub(crate) fn read_input<H: Host>(alloc: Global, host: &mut H) -> Result<Vec<u8>, Outcome>
     ensures told { (input : List ℕ) × IsInput (H.input host.old) input × Judges (input_of input) (λ bytes. bytes.items) result }
-    ensures left { MatchResult result (λ _. H.input host.new ≡ option_map (λ _. []) (H.input host.old))
-        (λ outcome. LeavesInputBy (kind_of outcome) (around H.input host.old host.new)) }
-    ensures no_usage { IfErr result (λ outcome. outcome ≢ Outcome.Usage) }
-    ensures cause { MatchResult result (λ _. H.faults host.new ≡ H.faults host.old) (HasOutcomeCause (around H.faults host.old host.new)) }
-    ensures rest { Unchanged H.files H.asked H.console H.notes host.old host.new }
+    ensures did { Gathers [] (result_err result) (outside H.Host host.old host.new) }
 {
     let mut bytes = match buffer(alloc, INPUT_MAX + 1) {
         Ok(bytes) => bytes,

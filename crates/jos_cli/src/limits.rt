@@ -1,13 +1,14 @@
 //! The numbers that the words of commands give, and the limits of these words.
 
-ghost use Rattle.std.specs.Prelude.{◌≡◌, ◌≤◌, None, map};
+ghost use Rattle.std.specs.Prelude.{◌≡◌, ◌≤◌, None, IfSome};
 ghost use Rattle.jos_base.specs.declared.numbers.TheConstants.{FRAMES_MIN, FRAMES_MAX};
 ghost use Rattle.fs_layout.specs.declared.numbers.TheConstants.{MAXBLOCKS};
+ghost use Rattle.jos_words.specs.Arguments.{texts};
 ghost use Rattle.jos_words.specs.Commands.{exo_in_bytes, run_in_bytes};
 ghost use Rattle.jos_cli.specs.Commands.{texts_of};
 ghost use Rattle.jos_cli.specs.Limits.{place_out, out_of, earlier, numbers_of_exo, numbers_of_run, numbers_out, AreWithin};
 ghost use Rattle.jos_cli.specs.Limits.{limit_of_words, limit_of_run, limit_of_blocks};
-ghost use Rattle.jos_cli.specs.Stages.{settings_of, MayRun};
+ghost use Rattle.jos_cli.specs.Stages.{settings_of, IsOfWords, MayRun};
 
 use crate::outcome::Which;
 use fs_layout::{MAXBLOCKS, MINBLOCKS};
@@ -61,7 +62,8 @@ fn place_out(least: u64, most: u64, number: Option<NumberAt>) -> Option<usize>
 
 /// The number that is out of its range, by its place.
 fn out_of(which: Which, least: u64, most: u64, number: Option<NumberAt>) -> Option<(usize, Which)>
-    ensures { result ≡ out_of which least most number }
+    ensures out { result ≡ out_of which least most number }
+    ensures which { IfSome result (λ out. out.1 ≡ which) }
 {
     match place_out(least, most, number) {
         None => None,
@@ -71,7 +73,8 @@ fn out_of(which: Which, least: u64, most: u64, number: Option<NumberAt>) -> Opti
 
 /// Of two numbers that are out of range, the one that stands first.
 fn earlier(a: Option<(usize, Which)>, b: Option<(usize, Which)>) -> Option<(usize, Which)>
-    ensures { result ≡ earlier a b }
+    ensures earlier { result ≡ earlier a b }
+    ensures of_words { IfSome a (λ out. IsOfWords out.1) → IfSome b (λ out. IsOfWords out.1) → IfSome result (λ out. IsOfWords out.1) }
 {
     match (a, b) {
         (None, b) => b,
@@ -83,6 +86,7 @@ fn earlier(a: Option<(usize, Which)>, b: Option<(usize, Which)>) -> Option<(usiz
 /// The first number that is out of its range, by its place.
 fn numbers_out(numbers: Numbers) -> Option<(usize, Which)>
     ensures out { result ≡ numbers_out numbers }
+    ensures of_words { IfSome result (λ out. IsOfWords out.1) }
     ensures within { result ≡ None → AreWithin numbers }
 {
     let frames = out_of(
@@ -100,6 +104,7 @@ fn numbers_out(numbers: Numbers) -> Option<(usize, Which)>
 #[tactic(auto, unfolding(crate::specs::Limits::limit_of_words))]
 pub(crate) fn limit_of_words(words: &ExoWords) -> Option<Which>
     ensures limit { result ≡ limit_of_words (exo_in_bytes words.now) }
+    ensures of_words { IfSome result IsOfWords }
     ensures within { result ≡ None → AreWithin (numbers_of_exo (exo_in_bytes words.now)) }
 {
     match numbers_out(numbers_of_exo(words)) {
@@ -116,15 +121,16 @@ pub(crate) fn limit_of_words(words: &ExoWords) -> Option<Which>
 
 /// The first limit that the words of `run` pass, of which these are the texts.
 #[tactic(auto, unfolding(crate::specs::Limits::limit_of_run))]
-pub(crate) fn limit_of_run(words: &RunWords, texts: &[&str]) -> Option<Which>
-    requires texts { map (λ w. w.now) texts.now ≡ texts_of (run_in_bytes words.now) }
+pub(crate) fn limit_of_run(words: &RunWords, arguments: &[&str]) -> Option<Which>
+    requires texts { texts arguments.now ≡ texts_of (run_in_bytes words.now) }
     ensures limit { result ≡ limit_of_run (run_in_bytes words.now) }
-    ensures within { result ≡ None → MayRun (run_in_bytes words.now) (map (λ w. w.now) texts.now) }
+    ensures of_words { IfSome result IsOfWords }
+    ensures within { result ≡ None → MayRun (run_in_bytes words.now) (texts arguments.now) }
 {
     match numbers_out(numbers_of_run(words)) {
         Some((_, which)) => Some(which),
         None => {
-            if fits_stack(texts) {
+            if fits_stack(arguments) {
                 None
             } else {
                 Some(Which::Args)

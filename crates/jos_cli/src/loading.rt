@@ -1,20 +1,24 @@
-//! The schedule and the images, read from their files.
+//! The schedule and the images, read from their files, and all that a run is given.
 
-ghost use Rattle.std.specs.Prelude.{◌≡◌, ◌≢◌, ◌≤◌, ◌∷◌, [], ◌++◌, ℕ, Ok, List, Option, All, IfOk, IfErr, OnOk};
-ghost use Rattle.std.specs.Prelude.{MatchResult, length, map, option_map};
-ghost use Rattle.jos_host.specs.Frames.{Unchanged, around, from_to};
+ghost use Rattle.std.specs.Prelude.{◌≡◌, ◌≤◌, ◌∷◌, [], ◌++◌, ℕ, Ok, None, List, Option, All, IfOk, IfErr, IfSome, OnOk};
+ghost use Rattle.std.specs.Prelude.{length, map, option_map};
+ghost use Rattle.std.specs.Result.{result_err};
+ghost use Rattle.jos_host.specs.Frames.{from_to};
 ghost use Rattle.jos_words.specs.Arguments.{word_in_bytes};
 ghost use Rattle.jos_elf.specs.Parsed.{parsed};
 ghost use Rattle.jos_base.specs.declared.numbers.TheConstants.{IMAGE_MAX, SCHEDULE_TEXT_MAX};
 ghost use Rattle.jos_kernel.specs.Boot.{loadables};
 ghost use Rattle.jos_kernel.specs.Loading.{IsRead};
-ghost use Rattle.jos_cli.specs.Found.{FileAt, IsFileAt};
-ghost use Rattle.jos_cli.specs.Answer.{text_of, schedule_of, image_of, images_of};
+ghost use Rattle.jos_cli.specs.Found.{FileAt, IsFileAt, Found, IsFound, IsInput};
+ghost use Rattle.jos_cli.specs.Answer.{text_of, schedule_of, image_of, images_of, gathered};
 ghost use Rattle.jos_cli.specs.Outcomes.{HasOutcomeCause};
-ghost use Rattle.jos_cli.specs.Stages.{IsScheduleAt, AreFilesAt, Judges, refusal_of, IsUnread};
-ghost use Rattle.jos_cli.specs.FilesAsked.{AsksFor, AsksAll, read_calls, schedule_calls, files_calls};
+ghost use Rattle.jos_cli.specs.Stages.{IsScheduleAt, AreFilesAt, Judges, refusal_of, sources_in, gathered_of, IsOfWords, IsUnread};
+ghost use Rattle.jos_cli.specs.FilesAsked.{read_calls, schedule_calls, files_calls, source_calls};
+ghost use Rattle.jos_cli.specs.Outside.{outside};
+ghost use Rattle.jos_cli.specs.Effects.{ReadsFiles, Gathers};
 
 use crate::files::read_file;
+use crate::input::read_input;
 use crate::outcome::{Outcome, Which};
 use jos_base::{IMAGE_MAX, SCHEDULE_TEXT_MAX};
 use jos_elf::{Image, parse};
@@ -32,12 +36,7 @@ fn read_text<'a, H: Host>(
     ensures told { (file : Option FileAt) × IsScheduleAt (H.files host.old) (option_map word_in_bytes word.entry) file
         × Judges (text_of file) (λ text. text.items) result }
     ensures small { IfOk result (λ text. length text.items ≤ SCHEDULE_TEXT_MAX) }
-    ensures kind { IfErr result IsUnread }
-    ensures cause { MatchResult result (λ _. H.faults host.new ≡ H.faults host.old) (HasOutcomeCause (around H.faults host.old host.new)) }
-    ensures rest { Unchanged H.files H.input H.console H.notes host.old host.new }
-    ensures asked { MatchResult result
-        (λ _. AsksAll (schedule_calls (option_map word_in_bytes word.entry)) (around H.asked host.old host.new))
-        (λ _. AsksFor (schedule_calls (option_map word_in_bytes word.entry)) (around H.asked host.old host.new)) }
+    ensures did { ReadsFiles (schedule_calls (option_map word_in_bytes word.entry)) (result_err result) (outside H.Host host.old host.new) }
 {
     match word {
         None => Ok(Vec::new(alloc)),
@@ -65,12 +64,7 @@ pub(crate) fn read_schedule<'a, H: Host>(
 ) -> Result<Schedule, Outcome>
     ensures told { (file : Option FileAt) × IsScheduleAt (H.files host.old) (option_map word_in_bytes word.entry) file
         × Judges (schedule_of file) (λ schedule. schedule) result }
-    ensures kind { IfErr result IsUnread }
-    ensures cause { MatchResult result (λ _. H.faults host.new ≡ H.faults host.old) (HasOutcomeCause (around H.faults host.old host.new)) }
-    ensures rest { Unchanged H.files H.input H.console H.notes host.old host.new }
-    ensures asked { MatchResult result
-        (λ _. AsksAll (schedule_calls (option_map word_in_bytes word.entry)) (around H.asked host.old host.new))
-        (λ _. AsksFor (schedule_calls (option_map word_in_bytes word.entry)) (around H.asked host.old host.new)) }
+    ensures did { ReadsFiles (schedule_calls (option_map word_in_bytes word.entry)) (result_err result) (outside H.Host host.old host.new) }
 {
     let text = match read_text(alloc, word, host) {
         Ok(text) => text,
@@ -92,11 +86,7 @@ pub(crate) fn read_image<'a, H: Host>(
         × Judges (image_of file) (λ read. record { image = read.0; file = read.1.items }) result }
     ensures read { IfOk result (λ read. parsed read.1.items ≡ Ok read.0) }
     ensures small { IfOk result (λ read. length read.1.items ≤ IMAGE_MAX) }
-    ensures kind { IfErr result IsUnread }
-    ensures cause { MatchResult result (λ _. H.faults host.new ≡ H.faults host.old) (HasOutcomeCause (around H.faults host.old host.new)) }
-    ensures rest { Unchanged H.files H.input H.console H.notes host.old host.new }
-    ensures asked { MatchResult result (λ _. AsksAll (read_calls word.entry.text.now) (around H.asked host.old host.new))
-        (λ _. AsksFor (read_calls word.entry.text.now) (around H.asked host.old host.new)) }
+    ensures did { ReadsFiles (read_calls word.entry.text.now) (result_err result) (outside H.Host host.old host.new) }
 {
     let file = match read_file(alloc, word, IMAGE_MAX, Which::Image, host) {
         Ok(file) => file,
@@ -134,14 +124,10 @@ pub(crate) fn read_images<'a, H: Host>(
 ) -> Result<Images, Outcome>
     ensures told { (files : List FileAt) × AreFilesAt (H.files host.old) (map word_in_bytes words.now) files
         × Judges (images_of files) (λ read. loadables read.images.items read.files.items) result }
-    ensures count { IfOk result (λ read. length read.images.items ≡ length read.files.items) }
+    ensures count { IfOk result (λ read. length read.images.items ≡ length words.now) }
+    ensures pairs { IfOk result (λ read. length read.images.items ≡ length read.files.items) }
     ensures read { IfOk result (λ read. All IsRead (loadables read.images.items read.files.items)) }
-    ensures kind { IfErr result IsUnread }
-    ensures cause { MatchResult result (λ _. H.faults host.new ≡ H.faults host.old) (HasOutcomeCause (around H.faults host.old host.new)) }
-    ensures rest { Unchanged H.files H.input H.console H.notes host.old host.new }
-    ensures asked { MatchResult result
-        (λ _. AsksAll (files_calls (map word_in_bytes words.now)) (around H.asked host.old host.new))
-        (λ _. AsksFor (files_calls (map word_in_bytes words.now)) (around H.asked host.old host.new)) }
+    ensures did { ReadsFiles (files_calls (map word_in_bytes words.now)) (result_err result) (outside H.Host host.old host.new) }
 {
     let mut read = Images {
         images: Vec::new(alloc),
@@ -157,4 +143,52 @@ pub(crate) fn read_images<'a, H: Host>(
         }
     }
     Ok(read)
+}
+
+/// What a run is given, beside its numbers.
+#[derive(Drop)]
+pub(crate) struct Gathered {
+    pub(crate) schedule: Schedule,
+    pub(crate) images: Images,
+    /// The console's input.
+    pub(crate) input: Vec<u8>,
+}
+
+/// Gathers what a run is given: the schedule, the images and then the input, if its words pass no limit.
+pub(crate) fn gather<'a, H: Host>(
+    alloc: Global,
+    passed: Option<Which>,
+    schedule: Option<WordAt<'a>>,
+    images: &[WordAt<'a>],
+    host: &mut H,
+) -> Result<Gathered, Outcome>
+    requires { IfSome passed IsOfWords }
+    ensures told { (found : Found) × (input : List ℕ)
+        × IsFound (H.files host.old) (sources_in schedule.entry images.now) found × IsInput (H.input host.old) input
+        × Judges (gathered passed found input) gathered_of result }
+    ensures within { IfOk result (λ _. passed ≡ None) }
+    ensures count { IfOk result (λ read. length read.images.images.items ≡ length images.now) }
+    ensures pairs { IfOk result (λ read. length read.images.images.items ≡ length read.images.files.items) }
+    ensures read { IfOk result (λ read. All IsRead (loadables read.images.images.items read.images.files.items)) }
+    ensures did { Gathers (source_calls (sources_in schedule.entry images.now)) (result_err result) (outside H.Host host.old host.new) }
+{
+    if let Some(which) = passed {
+        return Err(Outcome::Limit(which));
+    }
+    let schedule = match read_schedule(alloc, schedule, host) {
+        Ok(schedule) => schedule,
+        Err(outcome) => return Err(outcome),
+    };
+    let images = match read_images(alloc, images, host) {
+        Ok(images) => images,
+        Err(outcome) => return Err(outcome),
+    };
+    match read_input(alloc, host) {
+        Ok(input) => Ok(Gathered {
+            schedule,
+            images,
+            input,
+        }),
+        Err(outcome) => Err(outcome),
+    }
 }

@@ -1,18 +1,21 @@
 //! A disk that is made of files.
 
-ghost use Rattle.std.specs.Prelude.{◌≡◌, ◌≢◌, ◌<◌, ◌≤◌, ◌^◌, ℕ, Some, List, IfOk, IfErr, length, map, MatchResult};
-ghost use Rattle.jos_host.specs.Frames.{Unchanged, around, from_to};
+ghost use Rattle.std.specs.Prelude.{◌≡◌, ◌<◌, ◌≤◌, ◌^◌, ℕ, Some, List, IfOk, IfErr, length, map};
+ghost use Rattle.std.specs.Result.{result_err};
+ghost use Rattle.jos_host.specs.Frames.{from_to};
 ghost use Rattle.fs_layout.specs.declared.numbers.TheConstants.{MAXBLOCKS};
 ghost use Rattle.fs_make.specs.MadeImage.{made_image};
 ghost use Rattle.jos_words.specs.Arguments.{word_in_bytes};
 ghost use Rattle.jos_words.specs.Commands.{mkfs, mkfs_in_bytes};
 ghost use Rattle.jos_cli.specs.Found.{FileAt, IsFileAt};
-ghost use Rattle.jos_cli.specs.Making.{file_name, named_file, named_files, disk_made, expected_of_disk, expected_of_named};
-ghost use Rattle.jos_cli.specs.Kinds.{Answers};
-ghost use Rattle.jos_cli.specs.Outcomes.{AnswersCommand, HasOutcomeCause};
-ghost use Rattle.jos_cli.specs.Stages.{AreFilesAt, Judges, IsUnread, IsUnmade, IfMade};
-ghost use Rattle.jos_cli.specs.FilesAsked.{AsksFor, AsksAll, read_calls, files_calls, write_calls, mkfs_calls};
-ghost use Rattle.jos_cli.specs.FilesLeft.{told_with, LeavesBy, LeavesDisk, IsDiskWith, HoldsDisk};
+ghost use Rattle.jos_cli.specs.Answer.{expected_if, expected_of_writing};
+ghost use Rattle.jos_cli.specs.Making.{file_name, named_file, named_files, disk_made};
+ghost use Rattle.jos_cli.specs.Outcomes.{HasOutcomeCause};
+ghost use Rattle.jos_cli.specs.Stages.{AreFilesAt, Judges, IsUnmade, IfMade};
+ghost use Rattle.jos_cli.specs.FilesAsked.{read_calls, files_calls};
+ghost use Rattle.jos_cli.specs.FilesLeft.{IsDiskWith};
+ghost use Rattle.jos_cli.specs.Outside.{outside};
+ghost use Rattle.jos_cli.specs.Effects.{DoesCommand, ReadsFiles, WritesFile};
 
 use crate::files::{read_file, write_made};
 use crate::limits::limit_of_blocks;
@@ -40,12 +43,8 @@ fn read_named_file<'a, H: Host>(
     host: &mut H,
 ) -> Result<NamedBytes, Outcome>
     ensures told { (file : FileAt) × IsFileAt (H.files host.old) (word_in_bytes word.entry) file
-        × Judges (named_file (word_in_bytes word.entry) file) (λ named. named) result }
-    ensures kind { IfErr result IsUnread }
-    ensures cause { MatchResult result (λ _. H.faults host.new ≡ H.faults host.old) (HasOutcomeCause (around H.faults host.old host.new)) }
-    ensures rest { Unchanged H.files H.input H.console H.notes host.old host.new }
-    ensures asked { MatchResult result (λ _. AsksAll (read_calls word.entry.text.now) (around H.asked host.old host.new))
-        (λ _. AsksFor (read_calls word.entry.text.now) (around H.asked host.old host.new)) }
+        × Judges (named_file file) (λ named. named) result }
+    ensures did { ReadsFiles (read_calls word.entry.text.now) (result_err result) (outside H.Host host.old host.new) }
 {
     let bytes = match read_file(alloc, word, FILE_MAX, Which::File, host) {
         Ok(bytes) => bytes,
@@ -64,14 +63,9 @@ fn read_named_files<'a, H: Host>(
     host: &mut H,
 ) -> Result<Vec<NamedBytes>, Outcome>
     ensures told { (found : List FileAt) × AreFilesAt (H.files host.old) (map word_in_bytes words.now) found
-        × Judges (named_files (map word_in_bytes words.now) found) (λ files. files.items) result }
+        × Judges (named_files found) (λ files. files.items) result }
     ensures count { IfOk result (λ files. length files.items ≡ length words.now) }
-    ensures kind { IfErr result IsUnread }
-    ensures cause { MatchResult result (λ _. H.faults host.new ≡ H.faults host.old) (HasOutcomeCause (around H.faults host.old host.new)) }
-    ensures rest { Unchanged H.files H.input H.console H.notes host.old host.new }
-    ensures asked { MatchResult result
-        (λ _. AsksAll (files_calls (map word_in_bytes words.now)) (around H.asked host.old host.new))
-        (λ _. AsksFor (files_calls (map word_in_bytes words.now)) (around H.asked host.old host.new)) }
+    ensures did { ReadsFiles (files_calls (map word_in_bytes words.now)) (result_err result) (outside H.Host host.old host.new) }
 {
     let mut files = Vec::new(alloc);
     for word in words {
@@ -112,15 +106,9 @@ fn make_of_files<H: Host>(
     host: &mut H,
 ) -> Outcome
     requires few { length files.now < 2 ^ 32 }
-    ensures told { Answers (expected_of_disk blocks files.now) result (around H.console host.old host.new) }
-    ensures files { LeavesBy name.now (told_with (H.files host.old) name.now (made_image blocks files.now)) result
-        (around H.files host.old host.new) }
+    ensures did { WritesFile (expected_if (disk_made blocks files.now) expected_of_writing) name.now (made_image blocks files.now) result
+        (outside H.Host host.old host.new) }
     ensures disk { IfMade result (IsDiskWith blocks files.now (made_image blocks files.now)) }
-    ensures input { H.input host.new ≡ H.input host.old }
-    ensures asked { AsksFor (write_calls name.now) (around H.asked host.old host.new) }
-    ensures notes { H.notes host.new ≡ H.notes host.old }
-    ensures cause { HasOutcomeCause (around H.faults host.old host.new) result }
-    ensures no_usage { result ≢ Outcome.Usage }
 {
     match make_disk(alloc, blocks, files) {
         Ok(disk) => write_made(alloc, name, &disk, host),
@@ -128,51 +116,28 @@ fn make_of_files<H: Host>(
     }
 }
 
-/// Makes a disk of the files that words name. For so many files that 32 bits do not count them there is no memory.
-fn make_of_words<'a, H: Host>(
-    alloc: Global,
-    words: &MkfsWords<'a>,
-    blocks: u32,
-    host: &mut H,
-) -> Outcome
-    requires { blocks ≡ words.now.blocks.value }
-    ensures told { (found : List FileAt) × AreFilesAt (H.files host.old) (mkfs_in_bytes words.now).files found
-        × Answers (expected_of_named (mkfs_in_bytes words.now) found) result (around H.console host.old host.new) }
-    ensures files { LeavesDisk (mkfs_in_bytes words.now) result (around H.files host.old host.new) }
-    ensures disk { HoldsDisk (mkfs_in_bytes words.now) result (around H.files host.old host.new) }
-    ensures input { H.input host.new ≡ H.input host.old }
-    ensures asked { AsksFor (mkfs_calls (mkfs_in_bytes words.now)) (around H.asked host.old host.new) }
-    ensures notes { H.notes host.new ≡ H.notes host.old }
-    ensures cause { HasOutcomeCause (around H.faults host.old host.new) result }
-    ensures no_usage { result ≢ Outcome.Usage }
-{
-    if words.files.len() > u32::MAX as usize {
-        return Outcome::NoMemory;
-    }
-    match read_named_files(alloc, &words.files, host) {
-        Ok(files) => make_of_files(alloc, words.disk.text, blocks, &files, host),
-        Err(outcome) => outcome,
-    }
-}
-
-/// Does what the words of `mkfs` ask, but for the note.
+/// Does what the words of `mkfs` ask, but for the note. For so many files that 32 bits do not count them there is no memory.
 pub(crate) fn answer_mkfs<'a, H: Host>(
     alloc: Global,
     words: &MkfsWords<'a>,
     host: &mut H,
 ) -> Outcome
-    ensures told { AnswersCommand (H.files host.old) (H.input host.old) (Some (mkfs (mkfs_in_bytes words.now))) result
-        (around H.console host.old host.new) }
-    ensures files { LeavesDisk (mkfs_in_bytes words.now) result (around H.files host.old host.new) }
-    ensures disk { HoldsDisk (mkfs_in_bytes words.now) result (around H.files host.old host.new) }
-    ensures input { H.input host.new ≡ H.input host.old }
-    ensures asked { AsksFor (mkfs_calls (mkfs_in_bytes words.now)) (around H.asked host.old host.new) }
-    ensures notes { H.notes host.new ≡ H.notes host.old }
-    ensures cause { HasOutcomeCause (around H.faults host.old host.new) result }
-    ensures no_usage { result ≢ Outcome.Usage }
+    ensures did { DoesCommand (Some (mkfs (mkfs_in_bytes words.now))) result (outside H.Host host.old host.new) }
 {
-    match limit_of_blocks(words.blocks) {
-        Some(which) => Outcome::Limit(which),
-        None => make_of_words(alloc, words, words.blocks.value as u32, host),
+    if let Some(which) = limit_of_blocks(words.blocks) {
+        return Outcome::Limit(which);
+    }
+    if words.files.len() > u32::MAX as usize {
+        return Outcome::NoMemory;
+    }
+    match read_named_files(alloc, &words.files, host) {
+        Ok(files) => make_of_files(
+            alloc,
+            words.disk.text,
+            words.blocks.value as u32,
+            &files,
+            host,
+        ),
+        Err(outcome) => outcome,
     }
 }

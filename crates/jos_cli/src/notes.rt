@@ -1,13 +1,16 @@
 //! The notes: the traps that are told, and the line that tells the answer.
 
-ghost use Rattle.std.specs.Prelude.{◌≡◌, ◌≤◌, [], ◌++◌, codes, decimal, length, slice_get, unwrap_or, MatchResult, map};
-ghost use Rattle.jos_host.specs.Told.{HasCause, Appends};
+ghost use Rattle.std.specs.Prelude.{◌≡◌, ◌≤◌, [], ◌++◌, codes, decimal, length, slice_get, unwrap_or, MatchResult};
+ghost use Rattle.jos_host.specs.Told.{Appends};
 ghost use Rattle.jos_host.specs.Frames.{around};
 ghost use Rattle.jos_host.specs.Gains.{Gains, GainsPart};
+ghost use Rattle.jos_words.specs.Arguments.{texts};
 ghost use Rattle.jos_cli.specs.Notes.{end_text, report_text, limit_text, bad_schedule_text, bad_image_text, made_text, note_text};
 ghost use Rattle.jos_cli.specs.Notes.{bad_disk_text, not_there_text, bad_make_text};
 ghost use Rattle.jos_cli.specs.Notes.{word_in_note, trace_text, traps_told, note_of};
-ghost use Rattle.jos_cli.specs.FilesAsked.{AsksSomeNotes, AsksNote};
+ghost use Rattle.jos_cli.specs.FilesAsked.{AsksNote};
+ghost use Rattle.jos_cli.specs.Outside.{outside};
+ghost use Rattle.jos_cli.specs.Effects.{WritesNotes};
 
 use crate::outcome::{End, Outcome, Report, Trace, Which};
 use fs_image::ImageFault;
@@ -167,7 +170,7 @@ fn note_text(outcome: &Outcome) -> LineText
 
 /// The word that begins the line, or nothing.
 fn word_in_note<'a>(words: &[&'a str], outcome: &Outcome) -> &'a str
-    ensures { result.now ≡ word_in_note (map (λ w. w.now) words.now) outcome.now }
+    ensures { result.now ≡ word_in_note (texts words.now) outcome.now }
 {
     match outcome {
         Outcome::Absent(word) | Outcome::BadImage(word, _) => word_at(words, *word),
@@ -177,7 +180,7 @@ fn word_in_note<'a>(words: &[&'a str], outcome: &Outcome) -> &'a str
 
 /// The word at a place, or nothing where there are fewer.
 fn word_at<'a>(words: &[&'a str], place: usize) -> &'a str
-    ensures { result.now ≡ unwrap_or (slice_get (map (λ w. w.now) words.now) place) [] }
+    ensures { result.now ≡ unwrap_or (slice_get (texts words.now) place) [] }
 {
     match words.get(place) {
         Some(text) => *text,
@@ -188,11 +191,7 @@ fn word_at<'a>(words: &[&'a str], place: usize) -> &'a str
 /// Writes some bytes to the notes, by no call where there are none.
 fn write_some<H: Host>(host: &mut H, bytes: &[u8]) -> Result<(), Failed>
     ensures told { Appends (H.notes host.old) bytes.now result (H.notes host.new) }
-    ensures files { H.files host.new ≡ H.files host.old }
-    ensures input { H.input host.new ≡ H.input host.old }
-    ensures console { H.console host.new ≡ H.console host.old }
-    ensures asked { MatchResult result (λ _. AsksSomeNotes (around H.asked host.old host.new)) (λ _. AsksNote (around H.asked host.old host.new)) }
-    ensures cause { HasCause (H.faults host.old) (H.faults host.new) result }
+    ensures did { WritesNotes result (outside H.Host host.old host.new) }
 {
     if bytes.is_empty() {
         return Ok(());
@@ -205,11 +204,7 @@ fn write_trace<H: Host>(trace: &Trace, host: &mut H) -> Result<(), Failed>
     ensures told { MatchResult result
         (λ _. Gains (around H.notes host.old host.new) (trace_text trace.now.items))
         (λ _. GainsPart (around H.notes host.old host.new) (trace_text trace.now.items)) }
-    ensures files { H.files host.new ≡ H.files host.old }
-    ensures input { H.input host.new ≡ H.input host.old }
-    ensures console { H.console host.new ≡ H.console host.old }
-    ensures asked { MatchResult result (λ _. AsksSomeNotes (around H.asked host.old host.new)) (λ _. AsksNote (around H.asked host.old host.new)) }
-    ensures cause { HasCause (H.faults host.old) (H.faults host.new) result }
+    ensures did { WritesNotes result (outside H.Host host.old host.new) }
 {
     for place in 0..trace.len() {
         if let Some(trap) = trace.get(place) {
@@ -228,11 +223,7 @@ fn write_traps<H: Host>(outcome: &Outcome, host: &mut H) -> Result<(), Failed>
     ensures told { MatchResult result
         (λ _. Gains (around H.notes host.old host.new) (traps_told outcome.now))
         (λ _. GainsPart (around H.notes host.old host.new) (traps_told outcome.now)) }
-    ensures files { H.files host.new ≡ H.files host.old }
-    ensures input { H.input host.new ≡ H.input host.old }
-    ensures console { H.console host.new ≡ H.console host.old }
-    ensures asked { MatchResult result (λ _. AsksSomeNotes (around H.asked host.old host.new)) (λ _. AsksNote (around H.asked host.old host.new)) }
-    ensures cause { HasCause (H.faults host.old) (H.faults host.new) result }
+    ensures did { WritesNotes result (outside H.Host host.old host.new) }
 {
     match outcome {
         Outcome::Ran(_, trace) => write_trace(trace, host),
@@ -247,14 +238,11 @@ pub(crate) fn write_note<H: Host>(
     host: &mut H,
 ) -> Result<(), Failed>
     ensures told { MatchResult result
-        (λ _. Gains (around H.notes host.old host.new) (note_of (map (λ w. w.now) words.now) outcome.now))
-        (λ _. GainsPart (around H.notes host.old host.new) (note_of (map (λ w. w.now) words.now) outcome.now)) }
-    ensures files { H.files host.new ≡ H.files host.old }
-    ensures input { H.input host.new ≡ H.input host.old }
-    ensures console { H.console host.new ≡ H.console host.old }
+        (λ _. Gains (around H.notes host.old host.new) (note_of (texts words.now) outcome.now))
+        (λ _. GainsPart (around H.notes host.old host.new) (note_of (texts words.now) outcome.now)) }
     // One call at least is made for it.
     ensures asked { AsksNote (around H.asked host.old host.new) }
-    ensures cause { HasCause (H.faults host.old) (H.faults host.new) result }
+    ensures did { WritesNotes result (outside H.Host host.old host.new) }
 {
     match write_some(host, word_in_note(words, outcome).as_bytes()) {
         Ok(()) => {}

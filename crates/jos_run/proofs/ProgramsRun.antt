@@ -1,14 +1,14 @@
 -- A program that is booted runs, and what is told of its run is so.
-use Rattle.std.proofs.Common.{◌≡◌, ℕ, List, [], Option, Some, Result, Ok, Err, refl, sym, subst}
+use Rattle.std.proofs.Common.{◌≡◌, ℕ, List, [], Option, Some, None, Ok, Err, refl, sym, subst}
 use Rattle.std.specs.Prelude.{IsSome}
 use Rattle.circular_buffer.specs.Buffer.{buffer}
 use Rattle.jos_host.specs.declared.host.Failed.{Failed}
 use Rattle.jos_host.specs.Frames.{Around, from_to}
 use Rattle.jos_host.specs.Gains.{Gains}
-use Rattle.jos_host.specs.Told.{HasCause}
 use Rattle.jos_base.specs.KernelState.{KernelState}
-use Rattle.jos_elf.specs.declared.fault.ElfFault.{ElfFault}
 use Rattle.jos_elf.specs.Parsed.{Layout}
+use Rattle.jos_kernel.specs.declared.kernel.BootFault.{BootFault}
+use Rattle.jos_kernel.specs.declared.kernel.BootFault.TheVariants.{Pool, NoMemory}
 use Rattle.jos_kernel.specs.declared.report.End.{End}
 use Rattle.jos_kernel.specs.declared.trace.TrapLine.{TrapLine}
 use Rattle.jos_kernel.specs.Books.{HasRoom}
@@ -17,7 +17,9 @@ use Rattle.lib_os.specs.AbstractState.{AbstractState}
 use Rattle.jos_run.specs.declared.library_run.LibraryRun.{LibraryRun}
 use Rattle.jos_run.specs.declared.programs.Setup.{Setup}
 use Rattle.jos_run.specs.Boot.{booted_within}
-use Rattle.jos_run.specs.RunEnds.{AnswersBy, HasEndCause, Ran, RunsFrom, end_of_run, program_of}
+use Rattle.jos_run.specs.declared.programs.RunEnd.{RunEnd}
+use Rattle.jos_run.specs.declared.programs.RunEnd.TheVariants.{Ended, HostFault}
+use Rattle.jos_run.specs.RunEnds.{Program, IsEndOf, AnswersFor, RunsFrom, begun, given_program}
 use Rattle.jos_run.specs.Start.{start}
 use Rattle.jos_run.specs.RunReports.{IsTold, IsToldCutOff}
 use Rattle.jos_run.specs.RunSteps.{HasGone}
@@ -50,15 +52,16 @@ failed_told {r = r} {a = a} {b = b} budget failed cut schedule ran room schedule
     (subst (λ (x : CutOff). IsToldCutOff r.book.schedule first frames x (from_to a b)) (sym cut_is) (told_cut_off ran room first frames h))
 
 -- so `run` answers what it has to
-pub booted_answers : (setup : Setup) (file : List ℕ) (words : List (List ℕ)) (image : Layout) (ran : Ran) (console : Around (Option (List ℕ))) →
+pub booted_answers : (setup : Setup) (image : Layout) (file : List ℕ) (words : List (List ℕ)) (end : RunEnd) (console : Around (Option (List ℕ))) →
     (s : KernelState) → booted_within image file words setup.frames setup.input.items ≡ Some s →
-    RunsFrom s (start image file words setup.input.items) setup ran console → (read : Result Layout ElfFault) → read ≡ Ok image →
-    AnswersBy read (program_of file words setup) (end_of_run ran) console
-booted_answers setup file words image (Ok over) console s booted runs read is =
-    (image, is, (subst (λ (o : Option KernelState). IsSome o) (sym booted) refl, (runs.0, runs.1, runs.2, (s, booted, runs.3))))
-booted_answers setup file words image (Err cut) console s booted runs read is =
-    (image, is, (subst (λ (o : Option KernelState). IsSome o) (sym booted) refl, runs))
+    RunsFrom s (start image file words setup.input.items) setup end console → IsEndOf (given_program image file words setup) end console
+booted_answers setup image file words (Ended report trace) console s booted runs =
+    (subst (λ (o : Option KernelState). IsSome o) (sym booted) refl, (runs.0, runs.1, runs.2, (s, booted, runs.3)))
+booted_answers setup image file words (HostFault cut) console s booted runs =
+    (subst (λ (o : Option KernelState). IsSome o) (sym booted) refl, runs)
 
-pub booted_cause : (ran : Ran) (before after : ℕ) → HasCause before after ran → HasEndCause (from_to before after) (end_of_run ran)
-booted_cause (Ok over) before after cause = cause.stayed
-booted_cause (Err cut) before after cause = cause.rose
+-- and where none was booted
+pub unbooted_answers : (p : Program) (fault : BootFault) (console : Option (List ℕ)) → (fault ≡ Pool → begun p ≡ None) →
+    AnswersFor p (Err fault) (from_to console console)
+unbooted_answers p Pool console none = (none refl, refl)
+unbooted_answers p NoMemory console none = refl

@@ -1,9 +1,8 @@
 //! A program is run under the library.
 
-ghost use Rattle.std.specs.Prelude.{◌≡◌, ◌<◌, ◌≤◌, ◌^◌, [], Ok, true, length, vec_capacity};
+ghost use Rattle.std.specs.Prelude.{◌≡◌, ◌≤◌, [], Ok, true, vec_capacity};
 ghost use Rattle.circular_buffer.specs.Buffer.{buffer};
 ghost use Rattle.jos_host.specs.Frames.{Unchanged, around};
-ghost use Rattle.jos_host.specs.Told.{HasCause};
 ghost use Rattle.jos_base.specs.declared.numbers.TheConstants.{FRAMES_MIN, FRAMES_MAX, TURN_MAX};
 ghost use Rattle.jos_elf.specs.Parsed.{parsed};
 ghost use Rattle.jos_sys.specs.System.{state_of, Keeps};
@@ -11,13 +10,13 @@ ghost use Rattle.lib_os.specs.AbstractState.{AbstractState};
 ghost use Rattle.lib_os.specs.LibrarySteps.{Stands};
 ghost use Rattle.lib_spawn.specs.StackPage.{fits_stack, texts};
 ghost use Rattle.jos_run.specs.Begun.{IsNew};
-ghost use Rattle.jos_run.specs.RunEnds.{AnswersBy, HasEndCause, RunsFrom, end_of_run, program_of};
+ghost use Rattle.jos_run.specs.RunEnds.{AnswersFor, HasEndCause, HasRunCause, RunsFrom, given_program};
 
 use crate::boot::boot_program;
 use crate::library_run::LibraryRun;
 use crate::served::Served;
 use jos_cpu::Decodings;
-use jos_elf::{ElfFault, Image, parse};
+use jos_elf::Image;
 use jos_host::Host;
 use jos_kernel::{BootFault, Report, Stopped, Trace, Turn, take_room};
 use jos_sched::Schedule;
@@ -38,23 +37,17 @@ pub struct Setup {
     pub trace: u32,
 }
 
-/// How a run ends.
+/// How a run that began has ended. None ends for want of memory, since all of it is taken before.
 #[derive(Drop)]
 pub enum RunEnd {
-    /// By itself. The last of its traps are told.
+    /// By itself, with the last of its traps.
     Ended(Report, Trace),
-    /// The bytes are no image, with the fault that they have.
-    BadImage(ElfFault),
-    /// There are too few frames to begin.
-    Pool,
     /// A call of the host failed.
     HostFault(Stopped),
-    /// There was no memory to begin with.
-    NoMemory,
 }
 
 /// Runs a program that was booted. Nothing more is asked of an allocator, so the run ends by itself, unless a call of the
-/// host fails: its type has no other way out, so want of memory can't come behind a run.
+/// host fails.
 fn run_booted<H: Host>(
     system: System,
     turns: Vec<Turn>,
@@ -62,7 +55,7 @@ fn run_booted<H: Host>(
     trace: Trace,
     host: &mut H,
     setup: Setup,
-) -> Result<(Report, Trace), Stopped>
+) -> RunEnd
     requires keeps { Keeps system }
     requires new { IsNew (state_of system setup.input.items) setup.frames }
     requires room { TURN_MAX ≤ vec_capacity turns }
@@ -71,77 +64,47 @@ fn run_booted<H: Host>(
     ensures runs { (first : AbstractState) → Stands (state_of system setup.input.items) first →
         RunsFrom (state_of system setup.input.items) first setup result (around H.console host.old host.new) }
     ensures rest { Unchanged H.files H.input H.asked H.notes host.old host.new }
-    ensures cause { HasCause (H.faults host.old) (H.faults host.new) result }
+    ensures cause { HasEndCause (around H.faults host.old host.new) result }
 {
     let served = Served::new(system, Input::new(setup.input));
     let mut run = LibraryRun::begin(served, setup.schedule, decodings, turns, trace);
     match run.go(host, setup.budget) {
-        Ok(end) => Ok(run.finish(end)),
-        Err(_) => Err(run.cut_off()),
+        Ok(end) => {
+            let (report, trace) = run.finish(end);
+            RunEnd::Ended(report, trace)
+        }
+        Err(_) => RunEnd::HostFault(run.cut_off()),
     }
 }
 
-/// What is answered for a run that has begun. That there was no memory is none of it.
-fn end_of_run(ran: Result<(Report, Trace), Stopped>) -> RunEnd
-    ensures { result ≡ end_of_run ran }
-{
-    match ran {
-        Ok((report, trace)) => RunEnd::Ended(report, trace),
-        Err(stopped) => RunEnd::HostFault(stopped),
-    }
-}
-
-/// Runs a program that was read as an image.
-fn run_image<H: Host>(
+/// Runs the program of an image that was read from a file, with these words as its arguments, the first of which is its name:
+/// as long as an environment but the file server can run, in turns of the schedule. All memory is taken before the first turn.
+pub fn run<H: Host>(
     alloc: Global,
     image: &Image,
     file: &[u8],
     words: &[&str],
     host: &mut H,
     setup: Setup,
-) -> RunEnd
+) -> Result<RunEnd, BootFault>
     requires read { parsed file.now ≡ Ok image.now }
     requires least { FRAMES_MIN ≤ setup.frames }
     requires most { setup.frames ≤ FRAMES_MAX }
     requires words { fits_stack (texts words.now) ≡ true }
-    ensures told { AnswersBy (parsed file.now) (program_of file.now (texts words.now) setup) result (around H.console host.old host.new) }
+    ensures told { AnswersFor (given_program image.now file.now (texts words.now) setup) result (around H.console host.old host.new) }
     ensures rest { Unchanged H.files H.input H.asked H.notes host.old host.new }
-    ensures cause { HasEndCause (around H.faults host.old host.new) result }
+    ensures cause { HasRunCause (around H.faults host.old host.new) result }
 {
     let (turns, trace) = match take_room(alloc, setup.trace) {
         Ok(taken) => taken,
-        Err(_) => return RunEnd::NoMemory,
+        Err(_) => return Err(BootFault::NoMemory),
     };
     let decodings = match Decodings::new(alloc) {
         Ok(decodings) => decodings,
-        Err(_) => return RunEnd::NoMemory,
+        Err(_) => return Err(BootFault::NoMemory),
     };
     match boot_program(alloc, image, file, words, setup.frames) {
-        Ok(system) => end_of_run(run_booted(system, turns, decodings, trace, host, setup)),
-        Err(BootFault::Pool) => RunEnd::Pool,
-        Err(BootFault::NoMemory) => RunEnd::NoMemory,
-    }
-}
-
-/// Runs the program of an image, with these words as its arguments, the first of which is its name: as long as an
-/// environment but the file server can run, in turns of the schedule. All memory is taken before the first turn.
-pub fn run<H: Host>(
-    alloc: Global,
-    image: &[u8],
-    words: &[&str],
-    host: &mut H,
-    setup: Setup,
-) -> RunEnd
-    requires least { FRAMES_MIN ≤ setup.frames }
-    requires most { setup.frames ≤ FRAMES_MAX }
-    requires words { fits_stack (texts words.now) ≡ true }
-    requires small { length image.now < 2 ^ 32 }
-    ensures told { AnswersBy (parsed image.now) (program_of image.now (texts words.now) setup) result (around H.console host.old host.new) }
-    ensures rest { Unchanged H.files H.input H.asked H.notes host.old host.new }
-    ensures cause { HasEndCause (around H.faults host.old host.new) result }
-{
-    match parse(image) {
-        Ok(layout) => run_image(alloc, &layout, image, words, host, setup),
-        Err(fault) => RunEnd::BadImage(fault),
+        Ok(system) => Ok(run_booted(system, turns, decodings, trace, host, setup)),
+        Err(fault) => Err(fault),
     }
 }

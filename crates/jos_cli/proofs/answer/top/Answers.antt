@@ -9,59 +9,59 @@ use Rattle.jos_cli.proofs.answer.top.Goals as goal
 
 pub returns-in-Ok-clause-notes : goal.returns-in-Ok-clause-notes
 returns-in-Ok-clause-notes g c =
-    is_noted _ c.answer_words-outcome.result.0 _ (rw c.answer_words-outcome.ensures.notes at c.in-Ok.ensures.told)
+    is_noted _ c.answer_words-outcome.result.0 _ (rw c.answer_words-outcome.ensures.did.notes at c.in-Ok.ensures.told)
 
 pub returns-in-Ok-clause-fault : goal.returns-in-Ok-clause-fault
 returns-in-Ok-clause-fault g c =
-    noted _ _ _ c.answer_words-outcome.result.0 _ _ _ (rw c.answer_words-outcome.ensures.notes at c.in-Ok.ensures.told)
+    noted _ _ _ c.answer_words-outcome.result.0 _ _ _ (rw c.answer_words-outcome.ensures.did.notes at c.in-Ok.ensures.told)
 
 pub returns-in-Ok-clause-complete : goal.returns-in-Ok-clause-complete
 returns-in-Ok-clause-complete g c files input e f i is can calm =
     let faults = g.H.Host.faults c.args.host.now in
     is_run _ _ _ (around g.H.Host.faults c.args.host.now c.answer_words-outcome.new.host) c.answer_words-outcome.result.0
-    (around g.H.Host.console c.args.host.now c.answer_words-outcome.new.host) c.answer_words-outcome.ensures.told c.answer_words-outcome.ensures.cause
-    files input e f i is can (λ rose. calm (subst (λ (n : ℕ). Rose faults n) (sym c.in-Ok.ensures.cause.stayed) rose))
+    (around g.H.Host.console c.args.host.now c.answer_words-outcome.new.host) c.answer_words-outcome.ensures.did.answer c.answer_words-outcome.ensures.did.cause
+    files input e f i is can (λ rose. calm (subst (λ (n : ℕ). Rose faults n) (sym c.in-Ok.ensures.did.cause.stayed) rose))
 
 pub returns-in-Err-clause-answer : goal.returns-in-Err-clause-answer
 returns-in-Err-clause-answer g c =
     rw (c.note_fault.ensures, c.answer_words-outcome.ensures.cut) (answers_behind _ _ _ c.answer_words-outcome.result.0
-    (around g.H.Host.console c.args.host.now c.answer_words-outcome.new.host) _ c.answer_words-outcome.ensures.told c.in-Err.ensures.console)
+    (around g.H.Host.console c.args.host.now c.answer_words-outcome.new.host) _ c.answer_words-outcome.ensures.did.answer c.in-Err.ensures.did.console)
 
 pub returns-in-Err-clause-fault : goal.returns-in-Err-clause-fault
 returns-in-Err-clause-fault g c =
     rw c.note_fault.ensures (not_noted _ _ _ (around g.H.Host.faults c.args.host.now c.answer_words-outcome.new.host) _
-    (around g.H.Host.console c.args.host.now c.answer_words-outcome.new.host) _ _ c.in-Err.ensures.cause.rose c.in-Err.ensures.console
-    c.answer_words-outcome.result.0 c.answer_words-outcome.ensures.cause c.answer_words-outcome.ensures.told
-    (rw c.answer_words-outcome.ensures.notes at c.in-Err.ensures.told))
+    (around g.H.Host.console c.args.host.now c.answer_words-outcome.new.host) _ _ c.in-Err.ensures.did.cause.rose c.in-Err.ensures.did.console
+    c.answer_words-outcome.result.0 c.answer_words-outcome.ensures.did.cause c.answer_words-outcome.ensures.did.answer
+    (rw c.answer_words-outcome.ensures.did.notes at c.in-Err.ensures.told))
 
 pub returns-in-Err-clause-files : goal.returns-in-Err-clause-files
 returns-in-Err-clause-files g c =
-    rw c.note_fault.ensures (leaves_fault _ _ _ _ c.answer_words-outcome.result.0 _ c.answer_words-outcome.ensures.files c.in-Err.ensures.files)
+    rw c.note_fault.ensures (leaves_fault _ _ _ _ c.answer_words-outcome.result.0 _ c.answer_words-outcome.ensures.did.files c.in-Err.ensures.did.files)
 
 pub returns-in-Err-clause-input : goal.returns-in-Err-clause-input
 returns-in-Err-clause-input g c =
-    rw c.note_fault.ensures (left_fault _ c.answer_words-outcome.result.0 _ _ _ _ c.answer_words-outcome.ensures.input c.in-Err.ensures.input)
+    rw c.note_fault.ensures (left_fault _ c.answer_words-outcome.result.0 _ _ _ _ c.answer_words-outcome.ensures.did.input c.in-Err.ensures.did.input)
 
 pub returns-in-Ok-clause-disk_made : goal.returns-in-Ok-clause-disk_made
 returns-in-Ok-clause-disk_made g c files one f is can calm =
     let faults = g.H.Host.faults c.args.host.now in
     is_made _ _ _ (around g.H.Host.faults c.args.host.now c.answer_words-outcome.new.host) c.answer_words-outcome.result.0
-    (around g.H.Host.console c.args.host.now c.answer_words-outcome.new.host) c.answer_words-outcome.ensures.told c.answer_words-outcome.ensures.cause
-    (λ rose. calm (subst (λ (n : ℕ). Rose faults n) (sym c.in-Ok.ensures.cause.stayed) rose)) files f one is can
+    (around g.H.Host.console c.args.host.now c.answer_words-outcome.new.host) c.answer_words-outcome.ensures.did.answer c.answer_words-outcome.ensures.did.cause
+    (λ rose. calm (subst (λ (n : ℕ). Rose faults n) (sym c.in-Ok.ensures.did.cause.stayed) rose)) files f one is can
 
 pub returns-in-Ok-clause-listed : goal.returns-in-Ok-clause-listed
 returns-in-Ok-clause-listed g c files one f is can calm =
     let faults = g.H.Host.faults c.args.host.now in
     is_listed _ _ _ (around g.H.Host.faults c.args.host.now c.answer_words-outcome.new.host) c.answer_words-outcome.result.0
-    (around g.H.Host.console c.args.host.now c.answer_words-outcome.new.host) c.answer_words-outcome.ensures.told c.answer_words-outcome.ensures.cause
-    (λ rose. calm (subst (λ (n : ℕ). Rose faults n) (sym c.in-Ok.ensures.cause.stayed) rose)) files f one is can
+    (around g.H.Host.console c.args.host.now c.answer_words-outcome.new.host) c.answer_words-outcome.ensures.did.answer c.answer_words-outcome.ensures.did.cause
+    (λ rose. calm (subst (λ (n : ℕ). Rose faults n) (sym c.in-Ok.ensures.did.cause.stayed) rose)) files f one is can
 
 pub returns-in-Ok-clause-printed : goal.returns-in-Ok-clause-printed
 returns-in-Ok-clause-printed g c files one f is can calm =
     let faults = g.H.Host.faults c.args.host.now in
     is_printed _ _ _ (around g.H.Host.faults c.args.host.now c.answer_words-outcome.new.host) c.answer_words-outcome.result.0
-    (around g.H.Host.console c.args.host.now c.answer_words-outcome.new.host) c.answer_words-outcome.ensures.told c.answer_words-outcome.ensures.cause
-    (λ rose. calm (subst (λ (n : ℕ). Rose faults n) (sym c.in-Ok.ensures.cause.stayed) rose)) files f one is can
+    (around g.H.Host.console c.args.host.now c.answer_words-outcome.new.host) c.answer_words-outcome.ensures.did.answer c.answer_words-outcome.ensures.did.cause
+    (λ rose. calm (subst (λ (n : ℕ). Rose faults n) (sym c.in-Ok.ensures.did.cause.stayed) rose)) files f one is can
 
 pub returns-in-Err-clause-disk : goal.returns-in-Err-clause-disk
 returns-in-Err-clause-disk g c = rw c.note_fault.ensures (no_good_disk _ _ _)
@@ -70,24 +70,24 @@ pub returns-in-Ok-clause-ran : goal.returns-in-Ok-clause-ran
 returns-in-Ok-clause-ran g c files input r f i is can calm =
     let faults = g.H.Host.faults c.args.host.now in
     is_run_program _ _ _ (around g.H.Host.faults c.args.host.now c.answer_words-outcome.new.host) c.answer_words-outcome.result.0
-    (around g.H.Host.console c.args.host.now c.answer_words-outcome.new.host) c.answer_words-outcome.ensures.told c.answer_words-outcome.ensures.cause
-    files input r f i is can (λ rose. calm (subst (λ (n : ℕ). Rose faults n) (sym c.in-Ok.ensures.cause.stayed) rose))
+    (around g.H.Host.console c.args.host.now c.answer_words-outcome.new.host) c.answer_words-outcome.ensures.did.answer c.answer_words-outcome.ensures.did.cause
+    files input r f i is can (λ rose. calm (subst (λ (n : ℕ). Rose faults n) (sym c.in-Ok.ensures.did.cause.stayed) rose))
 
 pub returns-in-Ok-clause-memory : goal.returns-in-Ok-clause-memory
 returns-in-Ok-clause-memory g c is = (
-  c.in-Ok.ensures.console ∙ unwritten _ _ _ (around g.H.Host.console c.args.host.now c.answer_words-outcome.new.host)
-      (rw is at c.answer_words-outcome.ensures.told),
-  c.in-Ok.ensures.files ∙ leaves_no_memory _ _ _ (rw is at c.answer_words-outcome.ensures.files),
+  c.in-Ok.ensures.did.console ∙ unwritten _ _ _ (around g.H.Host.console c.args.host.now c.answer_words-outcome.new.host)
+      (rw is at c.answer_words-outcome.ensures.did.answer),
+  c.in-Ok.ensures.did.files ∙ leaves_no_memory _ _ _ (rw is at c.answer_words-outcome.ensures.did.files),
 )
 
 pub returns-in-Err-clause-cause : goal.returns-in-Err-clause-cause
 returns-in-Err-clause-cause g c =
     rw (c.note_fault.ensures, c.answer_words-outcome.ensures.cut) (cause_behind _ c.answer_words-outcome.result.0 (g.H.Host.faults c.args.host.now)
-    (g.H.Host.faults c.answer_words-outcome.new.host) (g.H.Host.faults c.write_note.new.host) c.answer_words-outcome.ensures.cause c.in-Err.ensures.cause.rose
-    c.in-Err.ensures.cause.later (g.met.H.Host.faults_fit c.write_note.new.host))
+    (g.H.Host.faults c.answer_words-outcome.new.host) (g.H.Host.faults c.write_note.new.host) c.answer_words-outcome.ensures.did.cause c.in-Err.ensures.did.cause.rose
+    c.in-Err.ensures.did.cause.later (g.met.H.Host.faults_fit c.write_note.new.host))
 
 pub returns-in-Ok-clause-asked : goal.returns-in-Ok-clause-asked
-returns-in-Ok-clause-asked g c = (g.H.Host.asked c.answer_words-outcome.new.host, c.answer_words-outcome.ensures.asked, c.in-Ok.ensures.asked)
+returns-in-Ok-clause-asked g c = (g.H.Host.asked c.answer_words-outcome.new.host, c.answer_words-outcome.ensures.did.asked, c.in-Ok.ensures.asked)
 
 pub returns-in-Err-clause-asked : goal.returns-in-Err-clause-asked
-returns-in-Err-clause-asked g c = (g.H.Host.asked c.answer_words-outcome.new.host, c.answer_words-outcome.ensures.asked, c.in-Err.ensures.asked)
+returns-in-Err-clause-asked g c = (g.H.Host.asked c.answer_words-outcome.new.host, c.answer_words-outcome.ensures.did.asked, c.in-Err.ensures.asked)

@@ -16,6 +16,13 @@ pub returns-then-count-gt-INPUT_MAX-clause-told : goal.returns-then-count-gt-INP
 returns-then-count-gt-INPUT_MAX-clause-told g c =
     input_past _ _ _ _ c.if-count-gt-INPUT_MAX.true c.in-Ok-take_input.ensures.taken
 
-pub returns-then-count-gt-INPUT_MAX-clause-left : goal.returns-then-count-gt-INPUT_MAX-clause-left
-returns-then-count-gt-INPUT_MAX-clause-left g c =
-    left_past _ _ _ _ (omega (arith, c.if-count-gt-INPUT_MAX.true, c.in-Ok-take_input.ensures.within)) c.in-Ok-take_input.ensures.taken
+pub returns-then-count-gt-INPUT_MAX-clause-did : goal.returns-then-count-gt-INPUT_MAX-clause-did
+returns-then-count-gt-INPUT_MAX-clause-did g c = let took = c.in-Ok-take_input.ensures in record {
+  usage = λ e. cc;
+  files = took.rest.first;
+  input = left_past _ _ _ _ (omega (arith, c.if-count-gt-INPUT_MAX.true, took.within)) took.taken;
+  console = took.rest.third;
+  notes = took.rest.fourth;
+  asked = took.rest.second;
+  cause = took.cause.stayed;
+}

@@ -1,9 +1,9 @@
 use Rattle.std.proofs.Common.{Ok, Err, ap, ◌∙◌}
-use Rattle.jos_words.specs.Arguments.{word_in_bytes}
+use Rattle.jos_words.specs.Arguments.{Word, word_in_bytes}
 use Rattle.jos_elf.specs.Parsed.{parsed}
 use Rattle.jos_cli.specs.Answer.{bad_image}
 use Rattle.jos_cli.specs.Kinds.{kind_of}
-use Rattle.jos_cli.proofs.Reading.{image_parsed, image_refused, place_is}
+use Rattle.jos_cli.proofs.Reading.{image_parsed, image_refused, word_is}
 use Rattle.jos_cli.proofs.loading.read_image.Goals as goal
 
 pub returns-in-Err-clause-told : goal.returns-in-Err-clause-told
@@ -20,5 +20,5 @@ returns-in-Err-parse-clause-told g c =
       told.0,
       told.1,
       image_parsed told.0 c.in-Ok.file.items (Err c.in-Err-parse.fault) told.2 (c.in-Err-parse.ensures.exact ∙ ap parsed c.deref.ensures.value)
-          ∙ ap (λ place. Err (bad_image place c.in-Err-parse.fault)) (place_is (g.H.Host.files c.args.host.now) (word_in_bytes c.args.word) told.0 told.1),
+          ∙ ap (λ (word : Word). Err (bad_image word.place c.in-Err-parse.fault)) (word_is (g.H.Host.files c.args.host.now) (word_in_bytes c.args.word) told.0 told.1),
     )

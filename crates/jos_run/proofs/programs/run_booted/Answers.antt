@@ -10,9 +10,9 @@ pub returns-in-Ok-clause-runs : goal.returns-in-Ok-clause-runs
 returns-in-Ok-clause-runs g c first stands =
     let begun = c.new-served.ensures.state ∙ ap (state_of c.args.system) c.new.ensures in
     let same = sym begun in
-    ended_told c.in-Ok.end c.finish.result.0 c.args.setup.schedule c.args.setup.trace _ c.finish.result.1.items c.in-Ok.ensures.told
+    ended_told c.in-Ok.end c.finish-report.result.0 c.args.setup.schedule c.args.setup.trace _ c.finish-report.result.1.items c.in-Ok.ensures.told
     c.begin-run.ensures.steps (c.begin-run.ensures.trace ∙ c.requires.trace) c.begin-run.ensures.told c.in-Ok.ensures.holds c.begin-run.ensures.schedule
-    c.finish.ensures.report (λ i. (c.finish.ensures.trace i).items) (c.begin-run.ensures.state ∙ begun) first c.args.setup.frames
+    c.finish-report.ensures.report (λ i. (c.finish-report.ensures.trace i).items) (c.begin-run.ensures.state ∙ begun) first c.args.setup.frames
     (c.begin-run.ensures.runs first c.args.setup.frames (subst (λ (k : KernelState). Stands k first) same stands)
     (subst (λ (k : KernelState). IsNew k c.args.setup.frames) same c.requires.new))
 

@@ -4,7 +4,7 @@ use Rattle.std.specs.declared.alloc.AllocError.{AllocError}
 use Rattle.std.proofs.lemmas.Iterator.{YieldsList-from_slice, YieldsList-from_map_by}
 use Rattle.std.proofs.lemmas.Iterator.Consumers.{map_from_collect, YieldsList-at}
 use Rattle.jos_cli.proofs.TextsRead.{texts_in_words}
-use Rattle.jos_cli.proofs.running.texts_of.Goals as goal
+use Rattle.jos_cli.proofs.running.arguments_of.Goals as goal
 
 pub returns : goal.returns
 returns c =
