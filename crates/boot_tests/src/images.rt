@@ -10,7 +10,7 @@ use jos_kernel::boot_images;
 use jos_sys::System;
 use std::alloc::Global;
 use std::marker::Model;
-use test_cases::{Bench, Told, given, numbers};
+use test_cases::{Bench, Shown, given, numbers};
 
 /// A system in which an image was booted.
 #[derive(Drop)]
@@ -107,14 +107,14 @@ fn directories(alloc: Global, first: u32, second: u32) -> anyhow::Result<(u32, O
 }
 
 /// What comes of two images of so many pages.
-fn tell_directories(alloc: Global, words: &str) -> anyhow::Result<Told> {
+fn tell_directories(alloc: Global, words: &str) -> anyhow::Result<Shown> {
     let numbers = numbers(alloc, words)?;
     let (first, second) = (given(&numbers, 0), given(&numbers, 1));
     if first == 0 || first >= 100 || second == 0 || second >= 100 {
         bail!("{first} and {second} pages");
     }
     let directories = directories(alloc, first, second)?;
-    Ok(Told::Text(format!(in alloc; "{directories:?}")?))
+    Ok(Shown::Text(format!(in alloc; "{directories:?}")?))
 }
 
 impl ImageBench {
@@ -142,18 +142,18 @@ impl Bench for ImageBench {
         ImageBench::new(alloc, digits)
     }
 
-    fn answer(&mut self, alloc: Global, what: &str, words: &str) -> anyhow::Result<Told> {
+    fn answer(&mut self, alloc: Global, what: &str, words: &str) -> anyhow::Result<Shown> {
         let environment = self.system.environment(0);
         match what {
-            "status" => Ok(Told::Text(format!(in alloc; "{:?}", environment.status)?)),
-            "parent" => Ok(Told::Word(environment.parent.0)),
-            "eip" => Ok(Told::Word(environment.registers.eip)),
-            "esp" => Ok(Told::Word(environment.registers.esp)),
-            "eflags" => Ok(Told::Word(environment.registers.eflags)),
+            "status" => Ok(Shown::Text(format!(in alloc; "{:?}", environment.status)?)),
+            "parent" => Ok(Shown::Word(environment.parent.0)),
+            "eip" => Ok(Shown::Word(environment.registers.eip)),
+            "esp" => Ok(Shown::Word(environment.registers.esp)),
+            "eflags" => Ok(Shown::Word(environment.registers.eflags)),
             "directories" => tell_directories(alloc, words),
             "place" => {
                 let va = given(&numbers(alloc, words)?, 0);
-                Ok(Told::Text(format!(in alloc; "{:?}", place(&mut self.system, va))?))
+                Ok(Shown::Text(format!(in alloc; "{:?}", place(&mut self.system, va))?))
             }
             _ => bail!("{what} is not told of an image"),
         }

@@ -8,7 +8,7 @@ use std::alloc::{AllocError, Global};
 
 /// Words.
 #[derive(Drop)]
-struct Run {
+struct WordRow {
     /// Where the first one stands.
     place: usize,
     first: u32,
@@ -20,12 +20,12 @@ struct Run {
 }
 
 /// Reads words.
-fn read_run(text: &str) -> Option<Run> {
+fn read_run(text: &str) -> Option<WordRow> {
     let (place, words) = text.split_once(':')?;
     let (words, count) = words.split_once('*').unwrap_or((words, "1"));
     let (count, apart) = count.split_once('/').unwrap_or((count, "4"));
     let (first, step) = words.split_once('+').unwrap_or((words, "0"));
-    Some(Run {
+    Some(WordRow {
         place: place.parse().ok()?,
         first: u32::from_str_radix(first, 16).ok()?,
         count: count.parse().ok()?,

@@ -10,5 +10,5 @@ mod lines;
 mod words;
 
 pub use bytes::{changed, put_words, tell_words, told_bytes};
-pub use lines::{Answers, tell_cases};
+pub use lines::{AnswersCases, tell_cases};
 pub use words::{Words, bytes_of, named};

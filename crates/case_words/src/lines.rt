@@ -7,13 +7,13 @@ use std::io::Input;
 use test_cases::tell_lines;
 
 /// What answers the cases of a program.
-pub trait Answers: Sized {
+pub trait AnswersCases: Sized {
     /// Adds what comes of a case.
     fn answer(&mut self, alloc: Global, out: &mut String, words: Words) -> io::Result<()>;
 }
 
 /// Answers the cases of the input.
-pub fn tell_cases<A: Answers>(
+pub fn tell_cases<A: AnswersCases>(
     rt: &(impl Print + Input),
     alloc: Global,
     answers: &mut A,

@@ -2,7 +2,7 @@
 
 use jos_cli::answer_arguments;
 use jos_host::MemHost;
-use jos_words::{Command, NumberAt, WordAt, read_words};
+use jos_words::{CommandWords, NumberAt, WordAt, read_words};
 use std::alloc::{AllocError, Global};
 use std::env;
 use std::env::FillError;
@@ -24,9 +24,9 @@ fn add_number(line: &mut String, what: &str, number: Option<NumberAt>) -> Result
 }
 
 // The words of a command, each value with its place behind it.
-fn add_command(line: &mut String, command: &Command) -> Result<(), AllocError> {
+fn add_command(line: &mut String, command: &CommandWords) -> Result<(), AllocError> {
     match command {
-        Command::Exo(exo) => {
+        CommandWords::Exo(exo) => {
             line.push_str("exo")?;
             add_number(line, " frames ", exo.frames)?;
             add_number(line, " steps ", exo.steps)?;
@@ -37,7 +37,7 @@ fn add_command(line: &mut String, command: &Command) -> Result<(), AllocError> {
             }
             Ok(())
         }
-        Command::Run(run) => {
+        CommandWords::Run(run) => {
             line.push_str("run")?;
             add_number(line, " frames ", run.frames)?;
             add_number(line, " steps ", run.steps)?;
@@ -48,11 +48,11 @@ fn add_command(line: &mut String, command: &Command) -> Result<(), AllocError> {
             }
             Ok(())
         }
-        Command::Demo(demo) => {
+        CommandWords::Demo(demo) => {
             add_word(line, "demo ", Some(demo.name))?;
             add_word(line, " ", Some(demo.file))
         }
-        Command::Mkfs(mkfs) => {
+        CommandWords::Mkfs(mkfs) => {
             add_word(line, "mkfs ", Some(mkfs.disk))?;
             add_number(line, " blocks ", Some(mkfs.blocks))?;
             for file in &mkfs.files {
@@ -60,11 +60,11 @@ fn add_command(line: &mut String, command: &Command) -> Result<(), AllocError> {
             }
             Ok(())
         }
-        Command::Ls(ls) => {
+        CommandWords::Ls(ls) => {
             add_word(line, "ls ", Some(ls.disk))?;
             add_word(line, " path ", ls.path)
         }
-        Command::Cat(cat) => {
+        CommandWords::Cat(cat) => {
             add_word(line, "cat ", Some(cat.disk))?;
             add_word(line, " ", Some(cat.path))
         }

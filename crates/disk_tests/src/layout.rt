@@ -2,7 +2,7 @@
 
 use case_words::{put_words, tell_words};
 use fs_layout::{
-    BLKSIZE, Entry, RECORDSIZE, decode_entry, decode_super, encode_entry, encode_super, parts,
+    BLKSIZE, FileEntry, RECORDSIZE, decode_entry, decode_super, encode_entry, encode_super, parts,
 };
 use std::alloc::{AllocError, Global};
 
@@ -23,7 +23,7 @@ fn tell_name(text: &mut String, name: &[u8]) -> Result<(), AllocError> {
 }
 
 /// Adds what a record says.
-pub(crate) fn tell_entry(text: &mut String, entry: &Entry) -> Result<(), AllocError> {
+pub(crate) fn tell_entry(text: &mut String, entry: &FileEntry) -> Result<(), AllocError> {
     tell_name(text, &entry.name)?;
     let (kind, size, indirect) = (entry.kind, entry.size, entry.indirect);
     write!(text, " kind {kind} size {size} blocks")?;

@@ -11,20 +11,20 @@ use jos_host::MemHost;
 use jos_kernel::{End, ExoEnd, Kernel, Report, Trace, exo_run};
 use jos_sched::{Schedule, parse_schedule};
 use std::alloc::Global;
-use test_cases::{Bench, Told, number};
+use test_cases::{Bench, Shown, number};
 
 /// What is run: two codes, so many steps at most, by a schedule. So many traps are kept.
 #[derive(Drop)]
-struct Plan {
+struct TriedRun {
     codes: (&'static [u8], &'static [u8]),
     steps: u32,
     trace: u32,
     schedule: Schedule,
 }
 
-impl Plan {
+impl TriedRun {
     /// What words say: the names of two codes, two numbers, and behind a stroke the schedule.
-    fn of(alloc: Global, words: &str) -> anyhow::Result<Plan> {
+    fn of(alloc: Global, words: &str) -> anyhow::Result<TriedRun> {
         let (words, schedule) = words.split_once(" | ").context("no schedule")?;
         let mut words = words.split_whitespace();
         let first = words.next().and_then(code_of).context("no first code")?;
@@ -34,7 +34,7 @@ impl Plan {
         let schedule = schedule.as_bytes();
         ensure!(schedule.len() < 1 << 32, "a long schedule");
         match parse_schedule(alloc, schedule) {
-            Ok(schedule) => Ok(Plan {
+            Ok(schedule) => Ok(TriedRun {
                 codes: (first, second),
                 steps,
                 trace,
@@ -47,7 +47,7 @@ impl Plan {
 
 /// What a run has come to.
 #[derive(Drop)]
-struct Run {
+struct RunResult {
     report: Report,
     trace: Trace,
     console: Vec<u8>,
@@ -72,7 +72,7 @@ fn file_of(alloc: Global, code: &[u8]) -> anyhow::Result<Vec<u8>>
 }
 
 /// Boots two images that have the codes, with no input, in 64 frames.
-fn boot(alloc: Global, plan: Plan) -> anyhow::Result<Kernel>
+fn boot(alloc: Global, plan: TriedRun) -> anyhow::Result<Kernel>
     ensures holds { IfOk result Holds }
     ensures steps { IfOk result (λ kernel. kernel.book.steps ≡ 0) }
 {
@@ -106,14 +106,19 @@ fn silent_host(alloc: Global) -> MemHost {
     MemHost::new(alloc, Vec::new(alloc), Vec::new(alloc), Vec::new(alloc))
 }
 
-impl Run {
+impl RunResult {
     /// A run that is over, or whose steps are made.
-    fn finished(alloc: Global, kernel: Kernel, host: &MemHost, end: End) -> anyhow::Result<Run>
+    fn finished(
+        alloc: Global,
+        kernel: Kernel,
+        host: &MemHost,
+        end: End,
+    ) -> anyhow::Result<RunResult>
         requires { Holds kernel }
     {
         let console = Vec::from_slice(alloc, host.console())?;
         let (report, trace) = kernel.finish(end);
-        Ok(Run {
+        Ok(RunResult {
             report,
             trace,
             console,
@@ -121,27 +126,30 @@ impl Run {
     }
 
     /// Runs a plan to its end.
-    fn whole(alloc: Global, words: &str) -> anyhow::Result<Run> {
-        let plan = Plan::of(alloc, words)?;
+    fn whole(alloc: Global, words: &str) -> anyhow::Result<RunResult> {
+        let plan = TriedRun::of(alloc, words)?;
         let steps = plan.steps as u64;
         let mut host = silent_host(alloc);
         let mut kernel = boot(alloc, plan)?;
         ensure!(kernel.ended().is_none(), "no first step");
         match exo_run(&mut kernel, &mut host, steps) {
             ExoEnd::HostFault => bail!("the host failed"),
-            ExoEnd::Ended(end) => Run::finished(alloc, kernel, &host, end),
+            ExoEnd::Ended(end) => RunResult::finished(alloc, kernel, &host, end),
         }
     }
 
     /// Makes the first turn of a plan. The number of its steps is told too.
-    fn first_turn(alloc: Global, words: &str) -> anyhow::Result<(Run, u64)> {
-        let plan = Plan::of(alloc, words)?;
+    fn first_turn(alloc: Global, words: &str) -> anyhow::Result<(RunResult, u64)> {
+        let plan = TriedRun::of(alloc, words)?;
         let steps = plan.steps as u64;
         let mut host = silent_host(alloc);
         let mut kernel = boot(alloc, plan)?;
         match kernel.ended() {
             None if 0 < steps => match kernel.turn(&mut host, steps) {
-                Ok(made) => Ok((Run::finished(alloc, kernel, &host, End::Budget)?, made)),
+                Ok(made) => Ok((
+                    RunResult::finished(alloc, kernel, &host, End::Budget)?,
+                    made,
+                )),
                 Err(_) => bail!("the host failed"),
             },
             _ => bail!("no first turn"),
@@ -149,13 +157,13 @@ impl Run {
     }
 
     /// Makes the first step of a plan.
-    fn first_step(alloc: Global, words: &str) -> anyhow::Result<Run> {
-        let plan = Plan::of(alloc, words)?;
+    fn first_step(alloc: Global, words: &str) -> anyhow::Result<RunResult> {
+        let plan = TriedRun::of(alloc, words)?;
         let mut host = silent_host(alloc);
         let mut kernel = boot(alloc, plan)?;
         match kernel.ended() {
             None => match kernel.step(&mut host) {
-                Ok(()) => Run::finished(alloc, kernel, &host, End::Budget),
+                Ok(()) => RunResult::finished(alloc, kernel, &host, End::Budget),
                 Err(_) => bail!("the host failed"),
             },
             Some(end) => bail!("{end:?}"),
@@ -163,46 +171,46 @@ impl Run {
     }
 
     /// The slots of the turns.
-    fn slots(&self, alloc: Global) -> anyhow::Result<Told> {
+    fn slots(&self, alloc: Global) -> anyhow::Result<Shown> {
         let mut slots = Vec::new(alloc);
         for turn in &self.report.turns {
             slots.push(turn.slot as u32)?;
         }
-        Ok(Told::Words(slots))
+        Ok(Shown::Words(slots))
     }
 
     /// The steps of the turns that the abstract system makes too.
-    fn visible_steps(&self, alloc: Global) -> anyhow::Result<Told> {
+    fn visible_steps(&self, alloc: Global) -> anyhow::Result<Shown> {
         let mut steps = Vec::new(alloc);
         for turn in &self.report.turns {
             steps.push(turn.visible)?;
         }
-        Ok(Told::Words(steps))
+        Ok(Shown::Words(steps))
     }
 
     /// A trap's environment, number, error code, address and instruction.
-    fn trap(&self, alloc: Global, place: usize) -> anyhow::Result<Told> {
+    fn trap(&self, alloc: Global, place: usize) -> anyhow::Result<Shown> {
         match self.trace.get(place) {
             Some(line) => {
                 let words = [line.id, line.trap as u32, line.error, line.va, line.ip];
-                Ok(Told::words(alloc, &words)?)
+                Ok(Shown::words(alloc, &words)?)
             }
-            None => Ok(Told::Nothing),
+            None => Ok(Shown::Nothing),
         }
     }
 
     /// What is asked of a run.
-    fn answer(&self, alloc: Global, what: &str) -> anyhow::Result<Told> {
+    fn answer(&self, alloc: Global, what: &str) -> anyhow::Result<Shown> {
         match what {
-            "steps" => Ok(Told::Count(self.report.steps)),
-            "turns" => Ok(Told::Count(self.report.turns.len() as u64)),
+            "steps" => Ok(Shown::Count(self.report.steps)),
+            "turns" => Ok(Shown::Count(self.report.turns.len() as u64)),
             "slots" => self.slots(alloc),
             "visible_steps" => self.visible_steps(alloc),
-            "upcalls" => Ok(Told::Count(self.report.upcalls)),
-            "traps" => Ok(Told::Count(self.trace.len() as u64)),
+            "upcalls" => Ok(Shown::Count(self.report.upcalls)),
+            "traps" => Ok(Shown::Count(self.trace.len() as u64)),
             "first_trap" => self.trap(alloc, 0),
             "second_trap" => self.trap(alloc, 1),
-            "console" => Ok(Told::Text(format!(in alloc; "{:?}", self.console)?)),
+            "console" => Ok(Shown::Text(format!(in alloc; "{:?}", self.console)?)),
             _ => bail!("{what} is not told of a run"),
         }
     }
@@ -211,7 +219,7 @@ impl Run {
 /// The last run, if a plan was run.
 #[derive(Drop)]
 pub(crate) struct RunBench {
-    run: Option<Run>,
+    run: Option<RunResult>,
 }
 
 impl Bench for RunBench {
@@ -222,22 +230,22 @@ impl Bench for RunBench {
         }
     }
 
-    fn answer(&mut self, alloc: Global, what: &str, words: &str) -> anyhow::Result<Told> {
+    fn answer(&mut self, alloc: Global, what: &str, words: &str) -> anyhow::Result<Shown> {
         match what {
             "run" => {
-                let run = Run::whole(alloc, words)?;
+                let run = RunResult::whole(alloc, words)?;
                 let end = run.report.end;
                 self.run = Some(run);
-                Ok(Told::Text(format!(in alloc; "{end:?}")?))
+                Ok(Shown::Text(format!(in alloc; "{end:?}")?))
             }
             "turn" => {
-                let (run, made) = Run::first_turn(alloc, words)?;
+                let (run, made) = RunResult::first_turn(alloc, words)?;
                 self.run = Some(run);
-                Ok(Told::Count(made))
+                Ok(Shown::Count(made))
             }
             "step" => {
-                self.run = Some(Run::first_step(alloc, words)?);
-                Ok(Told::Nothing)
+                self.run = Some(RunResult::first_step(alloc, words)?);
+                Ok(Shown::Nothing)
             }
             _ => match &self.run {
                 Some(run) => run.answer(alloc, what),

@@ -2,7 +2,7 @@
 use Rattle.std.proofs.Common.{◌≡◌, ◌∙◌, ◌+◌, ◌*◌, ◌-◌, ◌/◌, ◌%◌, ◌<◌, ◌≤◌, ℕ, List, [], ◌++◌, min, length, take, drop}
 use Rattle.std.proofs.Common.{refl, sym, ap, arith}
 use Rattle.std.specs.Prelude.{slice_index}
-use Rattle.fs_layout.specs.DiskImage.{values_below, number_of, size_of}
+use Rattle.fs_layout.specs.DiskImage.{values_below, block_number_at, size_of}
 use Rattle.fs_layout.specs.DiskFiles.{file_byte, file_bytes}
 use Rattle.fs_contents.proofs.Below.{values-append, slice-values}
 use Rattle.fs_layout.proofs.Below.{values-same}
@@ -21,7 +21,7 @@ no-blocks byte place size xs none = none ∙ ap (λ n. values_below n (file_byte
     start = omega arith
 
 -- a byte of a file stands in the block of its place
-at-block : (byte : ℕ → ℕ) (place i k : ℕ) → k < 4096 → file_byte byte place (4096 * i + k) ≡ byte (4096 * number_of byte place i + k)
+at-block : (byte : ℕ → ℕ) (place i k : ℕ) → k < 4096 → file_byte byte place (4096 * i + k) ≡ byte (4096 * block_number_at byte place i + k)
 at-block byte place i k within =
     let block : (4096 * i + k) / 4096 ≡ i = omega arith in
     let rest : (4096 * i + k) % 4096 ≡ k = omega arith in
@@ -38,7 +38,7 @@ more-blocks size i within = omega arith
 -- one block more
 pub one-block : (xs image : List ℕ) (place size i number count : ℕ) →
     xs ≡ values_below (in_blocks size i) (file_byte (slice_index image) place) → i < (size + 4095) / 4096 →
-    number ≡ number_of (slice_index image) place i → count ≡ min (size - 4096 * i) 4096 → 4096 * number + count ≤ length image →
+    number ≡ block_number_at (slice_index image) place i → count ≡ min (size - 4096 * i) 4096 → 4096 * number + count ≤ length image →
     xs ++ take count (drop (4096 * number) image) ≡ values_below (in_blocks size (i + 1)) (file_byte (slice_index image) place)
 one-block xs image place size i number count e within is counted held =
     let byte : ℕ → ℕ = slice_index image in

@@ -10,9 +10,9 @@ use Rattle.fs_layout.specs.declared.paths.Span.{Span}
 use Rattle.fs_layout.specs.declared.numbers.TheConstants.{MAXPATHLEN}
 use Rattle.fs_layout.specs.FileTree.{Node, FileSystem}
 use Rattle.fs_layout.specs.FileActs.{look_from, look_up}
-use Rattle.fs_layout.specs.Paths.{spans_of, name_of, is_short, LiesIn, parts_of}
+use Rattle.fs_layout.specs.Paths.{name_spans, name_in_path, is_short, LiesIn, parts_of}
 use Rattle.fs_layout.specs.DiskImage.{block_count, root_place}
-use Rattle.fs_layout.specs.DiskFiles.{IsDiskImage, files_of}
+use Rattle.fs_layout.specs.DiskFiles.{IsDiskImage, file_system_of}
 use Rattle.fs_layout.proofs.PathParts.{names-stand, good-has_parts}
 use Rattle.fs_layout.proofs.DiskSound.{disks-sound}
 use Rattle.fs_contents.specs.Contents.{found_node}
@@ -32,32 +32,32 @@ some-is true xs ys e = some-of xs ys e
     some-of xs ys e = cc
 some-is false xs ys e = absurd (cc)
 
-spans-are : (path : List ℕ) (spans : List Span) → parts_of path ≡ Some spans → spans_of path ≡ spans
+spans-are : (path : List ℕ) (spans : List Span) → parts_of path ≡ Some spans → name_spans path ≡ spans
 unfolding parts_of
 spans-are path spans e =
-    some-is (nat_lt (length path) MAXPATHLEN && list_all is_short (spans_of path)) (spans_of path) spans e
+    some-is (nat_lt (length path) MAXPATHLEN && list_all is_short (name_spans path)) (name_spans path) spans e
 
 -- a path with parts leads along the names in them
 look-along : (s : FileSystem) (path : List ℕ) (spans : List Span) → parts_of path ≡ Some spans →
-    found_node (look_up s path) ≡ found_node (look_from (map (name_of path) spans) s.root)
+    found_node (look_up s path) ≡ found_node (look_from (map (name_in_path path) spans) s.root)
 unfolding look_up
 look-along s path spans e =
     let good = sym (good-has_parts path) ∙ ap is_some e in
-    let names = sym (names-stand path) ∙ ap (map (name_of path)) (spans-are path spans e) in
+    let names = sym (names-stand path) ∙ ap (map (name_in_path path)) (spans-are path spans e) in
     rw good (ap (λ ns. found_node (look_from ns s.root)) names)
 
 -- from the root on
 pub leads-first : (total : ℕ) (byte : ℕ → ℕ) (path : List ℕ) (spans : List Span) → IsDiskImage total byte →
-    parts_of path ≡ Some spans → LeadsOn byte (found_node (look_up (files_of byte) path)) (map (name_of path) spans) root_place
-unfolding files_of
+    parts_of path ≡ Some spans → LeadsOn byte (found_node (look_up (file_system_of byte) path)) (map (name_in_path path) spans) root_place
+unfolding file_system_of
 leads-first total byte path spans image e = record {
   depth = block_count byte;
   readable = (disks-sound total byte image).records;
-  found_is = look-along (files_of byte) path spans e;
+  found_is = look-along (file_system_of byte) path spans e;
 }
 
 -- no name is empty
-name-some : (path : List ℕ) (span : Span) → LiesIn (length path) span → 0 < length (name_of path span)
+name-some : (path : List ℕ) (span : Span) → LiesIn (length path) span → 0 < length (name_in_path path span)
 name-some path span lies =
     let some = lies.some in
     let within = lies.within in
@@ -68,25 +68,25 @@ name-some path span lies =
 -- one name further
 pub leads-more : (byte : ℕ → ℕ) (found : Result Node Errno) (path : List ℕ) (spans : List Span) (i : ℕ) (d : Span)
     (directory place : ℕ) → i < length spans → All (LiesIn (length path)) spans →
-    LeadsOn byte found (map (name_of path) (drop i spans)) directory →
-    IsFirstNamed byte directory (name_of path (get_or spans i d)) place →
-    LeadsOn byte found (map (name_of path) (drop (i + 1) spans)) place
+    LeadsOn byte found (map (name_in_path path) (drop i spans)) directory →
+    IsFirstNamed byte directory (name_in_path path (get_or spans i d)) place →
+    LeadsOn byte found (map (name_in_path path) (drop (i + 1) spans)) place
 leads-more byte found path spans i d directory place within lie leads named =
     let span : Span = get_or spans i d in
-    leads-on byte found (name_of path span) (map (name_of path) (drop (i + 1) spans)) directory place
+    leads-on byte found (name_in_path path span) (map (name_in_path path) (drop (i + 1) spans)) directory place
     (name-some path span (lie i d within))
-    (subst (λ ns. LeadsOn byte found ns directory) (ap (map (name_of path)) (drop_more spans i d within)) leads) named
+    (subst (λ ns. LeadsOn byte found ns directory) (ap (map (name_in_path path)) (drop_more spans i d within)) leads) named
 
 -- or no further
 pub leads-no_more : (byte : ℕ → ℕ) (found : Result Node Errno) (path : List ℕ) (spans : List Span) (i : ℕ) (d : Span)
-    (directory : ℕ) → i < length spans → LeadsOn byte found (map (name_of path) (drop i spans)) directory →
-    NoneIsNamed byte directory (name_of path (get_or spans i d)) → found ≡ Err NotFound
+    (directory : ℕ) → i < length spans → LeadsOn byte found (map (name_in_path path) (drop i spans)) directory →
+    NoneIsNamed byte directory (name_in_path path (get_or spans i d)) → found ≡ Err NotFound
 leads-no_more byte found path spans i d directory within leads none =
-    leads-nowhere byte found (name_of path (get_or spans i d)) (map (name_of path) (drop (i + 1) spans)) directory
-    (subst (λ ns. LeadsOn byte found ns directory) (ap (map (name_of path)) (drop_more spans i d within)) leads) none
+    leads-nowhere byte found (name_in_path path (get_or spans i d)) (map (name_in_path path) (drop (i + 1) spans)) directory
+    (subst (λ ns. LeadsOn byte found ns directory) (ap (map (name_in_path path)) (drop_more spans i d within)) leads) none
 
 -- behind the last name
 pub leads-last : (byte : ℕ → ℕ) (found : Result Node Errno) (path : List ℕ) (spans : List Span) (i place : ℕ) →
-    length spans ≤ i → LeadsOn byte found (map (name_of path) (drop i spans)) place → LeadsOn byte found [] place
+    length spans ≤ i → LeadsOn byte found (map (name_in_path path) (drop i spans)) place → LeadsOn byte found [] place
 leads-last byte found path spans i place past leads =
-    subst (λ ns. LeadsOn byte found ns place) (ap (map (name_of path)) (drop_all i spans past)) leads
+    subst (λ ns. LeadsOn byte found ns place) (ap (map (name_in_path path)) (drop_all i spans past)) leads

@@ -5,10 +5,10 @@ use Rattle.std.specs.Prelude.{slice_index, if◌then◌else◌}
 use Rattle.std.specs.List.{before_first}
 use Rattle.std.proofs.lemmas.List.{get_or-take, get_or-drop, map-append, append-nil}
 use Rattle.fs_layout.specs.declared.numbers.TheConstants.{RECORDSIZE, FTYPE_DIR}
-use Rattle.fs_layout.specs.declared.records.Entry.{Entry}
-use Rattle.fs_layout.specs.Layout.{entry_at, bytes_from, word_at}
-use Rattle.fs_layout.specs.FileTree.{Named, listed}
-use Rattle.fs_layout.specs.DiskImage.{values_below, size_of, name_of, is_empty_record, is_directory}
+use Rattle.fs_layout.specs.declared.records.FileEntry.{FileEntry}
+use Rattle.fs_layout.specs.Layout.{file_entry_at, bytes_from}
+use Rattle.fs_layout.specs.FileTree.{NamedNode, listed}
+use Rattle.fs_layout.specs.DiskImage.{values_below, size_of, name_of, is_empty_record, is_directory_at}
 use Rattle.fs_layout.specs.DiskImage.{slot_count, slot_place}
 use Rattle.fs_layout.specs.DiskFiles.{file_byte, file_bytes, node_of, named_of, records_at}
 use Rattle.fs_layout.specs.DiskLaws.{IsReadable, AreReadable}
@@ -19,12 +19,13 @@ use Rattle.fs_contents.proofs.Below.{range-values}
 use Rattle.fs_layout.proofs.Below.{length-values}
 use Rattle.fs_layout.proofs.FileTrees.{listed-records_from}
 use Rattle.std.proofs.lemmas.Bool.{ne_eqb, eq-eqb}
+use Rattle.jos_base.specs.Words.{word_at}
 
 -- ---- a record that was copied
 
 -- the copy says what the record says
 pub copied-entry : (xs record_bytes : List ℕ) (place count : ℕ) → record_bytes ≡ take count (drop place xs) → count ≡ RECORDSIZE →
-    entry_at (slice_index record_bytes) 0 ≡ entry_at (slice_index xs) place
+    file_entry_at (slice_index record_bytes) 0 ≡ file_entry_at (slice_index xs) place
 copied-entry xs record_bytes place count e is =
     entry-same (slice_index record_bytes) 0 (slice_index xs) place
     (λ k within.
@@ -36,7 +37,7 @@ copied-entry xs record_bytes place count e is =
 -- ---- records as a list
 
 -- what two lists tell, one behind the other
-told-append : (xs ys : List (Option Named)) → told_of_records (xs ++ ys) ≡ told_of_records xs ++ told_of_records ys
+told-append : (xs ys : List (Option NamedNode)) → told_of_records (xs ++ ys) ≡ told_of_records xs ++ told_of_records ys
 unfolding told_of_records
 told-append [] ys = refl
 told-append (None ∷ rest) ys = told-append rest ys
@@ -44,7 +45,7 @@ told-append (Some named ∷ rest) ys =
     ap (λ (l : List Told). told_of_node named.name named.node ∷ l) (told-append rest ys)
 
 -- how many records the directory at a place has in the tree
-pub directory-length : (byte : ℕ → ℕ) (depth place : ℕ) → AreReadable depth byte place → is_directory byte place ≡ true →
+pub directory-length : (byte : ℕ → ℕ) (depth place : ℕ) → AreReadable depth byte place → is_directory_at byte place ≡ true →
     length (listed (records_at depth byte place)) ≡ slot_count byte place
 unfolding AreReadable records_at listed
 directory-length byte zero place readable is = sym (readable.1 is)
@@ -81,17 +82,17 @@ told-is : (name other : List ℕ) (directory kind : Bool) (size count : ℕ) →
     ◌≡◌ {A = Told} (record { name = name; directory = directory; size = size }) (record { name = other; directory = kind; size = count })
 told-is name other directory kind size count e f g = λ i. record { name = e i; directory = f i; size = g i }
 
-entry-kind : (byte : ℕ → ℕ) (place : ℕ) → (word_at byte (place + 132) == FTYPE_DIR) ≡ is_directory byte place
+entry-kind : (byte : ℕ → ℕ) (place : ℕ) → (word_at byte (place + 132) == FTYPE_DIR) ≡ is_directory_at byte place
 entry-kind byte place = let at : place + 132 ≡ place + 128 + 4 = omega arith in ap (λ k. word_at byte k == 1) at
 
 -- a record tells what stands in the tree
 pub entry-told : (byte : ℕ → ℕ) (depth place : ℕ) → AreReadable depth byte place →
-    told_of_entry (entry_at byte place) ≡ told_of_node (name_of byte place) (node_of (records_at depth byte) byte place)
-unfolding entry_at
-entry-told byte depth place readable = by_kind (is_directory byte place) refl
+    told_of_entry (file_entry_at byte place) ≡ told_of_node (name_of byte place) (node_of (records_at depth byte) byte place)
+unfolding file_entry_at
+entry-told byte depth place readable = by_kind (is_directory_at byte place) refl
   where
-    by_kind : (directory : Bool) → is_directory byte place ≡ directory →
-        told_of_entry (entry_at byte place) ≡ told_of_node (name_of byte place) (node_of (records_at depth byte) byte place)
+    by_kind : (directory : Bool) → is_directory_at byte place ≡ directory →
+        told_of_entry (file_entry_at byte place) ≡ told_of_node (name_of byte place) (node_of (records_at depth byte) byte place)
     by_kind true is =
         rw is
         (told-is _ _ _ true _ _ (entry-name byte place) (entry-kind byte place ∙ is)
@@ -105,7 +106,7 @@ entry-told byte depth place readable = by_kind (is_directory byte place) refl
 named-told : (byte : ℕ → ℕ) (depth place : ℕ) (empty : Bool) → is_empty_record byte place ≡ empty →
     (is_empty_record byte place ≡ false → AreReadable depth byte place) →
     told_of_records (named_of (records_at depth byte) byte place ∷ [])
-    ≡ map told_of_entry (if is_empty_record byte place then [] else entry_at byte place ∷ [])
+    ≡ map told_of_entry (if is_empty_record byte place then [] else file_entry_at byte place ∷ [])
 unfolding told_of_records
 named-told byte depth place true is readable = rw is refl
 named-told byte depth place false is readable =
@@ -120,9 +121,9 @@ below-told : (byte : ℕ → ℕ) (depth directory n : ℕ) →
 unfolding values_below entries_below told_of_records
 below-told byte depth directory zero readable = refl
 below-told byte depth directory (suc n) readable =
-    let f : ℕ → Option Named = λ i. named_of (records_at depth byte) byte (slot_place byte directory i) in
+    let f : ℕ → Option NamedNode = λ i. named_of (records_at depth byte) byte (slot_place byte directory i) in
     let place : ℕ = slot_place byte directory n in
-    let last : List Entry = if is_empty_record byte place then [] else entry_at byte place ∷ [] in
+    let last : List FileEntry = if is_empty_record byte place then [] else file_entry_at byte place ∷ [] in
     told-append (values_below n f) (f n ∷ [])
     ∙ ap (λ (l : List Told). l ++ told_of_records (f n ∷ []))
     (below-told byte depth directory n (λ i within. readable i (omega arith)))
@@ -138,7 +139,7 @@ none-told byte directory (suc n) none = absurd (omega arith)
 
 -- so the tree tells of a directory what its entries tell
 pub directory-told : (byte : ℕ → ℕ) (depth directory : ℕ) → AreReadable depth byte directory →
-    is_directory byte directory ≡ true →
+    is_directory_at byte directory ≡ true →
     told_of_records (listed (records_at depth byte directory))
     ≡ map told_of_entry (entries_below byte directory (slot_count byte directory))
 unfolding AreReadable records_at listed
@@ -152,19 +153,19 @@ directory-told byte (suc depth) directory readable is =
 -- ---- one record after another
 
 -- one that is not empty
-pub entries-more : (byte : ℕ → ℕ) (directory n place : ℕ) (xs : List Entry) (entry : Entry) →
-    xs ≡ entries_below byte directory n → place ≡ slot_place byte directory n → byte place ≢ 0 → entry ≡ entry_at byte place →
+pub entries-more : (byte : ℕ → ℕ) (directory n place : ℕ) (xs : List FileEntry) (entry : FileEntry) →
+    xs ≡ entries_below byte directory n → place ≡ slot_place byte directory n → byte place ≢ 0 → entry ≡ file_entry_at byte place →
     xs ++ entry ∷ [] ≡ entries_below byte directory (n + 1)
 unfolding entries_below
 entries-more byte directory n place xs entry e at filled is =
     let read : byte (slot_place byte directory n) ≡ byte place = ap byte (sym at) in
     let tested = ap (λ b. b == 0) read ∙ ne_eqb (byte place) 0 filled in
     rw (add-one, entries_below, tested)
-    (ap (λ (l : List Entry). l ++ entry ∷ []) e
-    ∙ ap (λ (x : Entry). entries_below byte directory n ++ x ∷ []) (is ∙ ap (entry_at byte) at))
+    (ap (λ (l : List FileEntry). l ++ entry ∷ []) e
+    ∙ ap (λ (x : FileEntry). entries_below byte directory n ++ x ∷ []) (is ∙ ap (file_entry_at byte) at))
 
 -- one that is
-pub entries-passed : (byte : ℕ → ℕ) (directory n place : ℕ) (xs : List Entry) →
+pub entries-passed : (byte : ℕ → ℕ) (directory n place : ℕ) (xs : List FileEntry) →
     xs ≡ entries_below byte directory n → place ≡ slot_place byte directory n → byte place ≡ 0 →
     xs ≡ entries_below byte directory (n + 1)
 unfolding entries_below
@@ -174,6 +175,6 @@ entries-passed byte directory n place xs e at empty =
     rw (add-one, entries_below, tested) (e ∙ sym (append-nil (entries_below byte directory n)))
 
 -- at first there is none
-pub entries-none : (byte : ℕ → ℕ) (directory : ℕ) (xs : List Entry) → xs ≡ [] → xs ≡ entries_below byte directory 0
+pub entries-none : (byte : ℕ → ℕ) (directory : ℕ) (xs : List FileEntry) → xs ≡ [] → xs ≡ entries_below byte directory 0
 unfolding entries_below
 entries-none byte directory xs none = none

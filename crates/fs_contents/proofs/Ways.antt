@@ -7,10 +7,10 @@ use Rattle.std.proofs.lemmas.Bool.Decides.{nat_tests}
 use borrow.Author.Count.{below_more}
 use Rattle.jos_base.specs.declared.errno.Errno.{Errno}
 use Rattle.jos_base.specs.declared.errno.Errno.TheVariants.{NotFound}
-use Rattle.fs_layout.specs.FileTree.{Node, Records, a_file, a_directory, Named, listed}
+use Rattle.fs_layout.specs.FileTree.{Node, Records, a_file, a_directory, NamedNode, listed}
 use Rattle.fs_layout.specs.FileActs.{has_name, find_name, Looked, bad_path, nowhere, missing, there, seen_from_above}
 use Rattle.fs_layout.specs.FileActs.{looked_in, look_from}
-use Rattle.fs_layout.specs.DiskImage.{values_below, name_of, is_empty_record, is_directory, has_indirect, slot_count, slot_place}
+use Rattle.fs_layout.specs.DiskImage.{values_below, name_of, is_empty_record, is_directory_at, has_indirect, slot_count, slot_place}
 use Rattle.fs_layout.specs.DiskFiles.{file_bytes, node_of, named_of, records_at}
 use Rattle.fs_layout.specs.DiskLaws.{AreReadable}
 use Rattle.fs_contents.specs.Contents.{found_node}
@@ -40,7 +40,7 @@ none-more byte directory name n place result so_far at is other =
 -- ---- names in the list of a directory's records
 
 -- the first record with the name is found
-find-first : (name : List ℕ) (list : List (Option Named)) (i : ℕ) (named : Named) → i < length list →
+find-first : (name : List ℕ) (list : List (Option NamedNode)) (i : ℕ) (named : NamedNode) → i < length list →
     ((j : ℕ) → j < i → has_name name (get_or list j None) ≡ false) → has_name name (Some named) ≡ true →
     get_or list i None ≡ Some named → find_name name list ≡ Some (i, named.node)
 unfolding find_name
@@ -51,7 +51,7 @@ find-first name list i named within others is at =
     rw (place, below, at) refl
 
 -- where no record has the name, none is found
-find-none : (name : List ℕ) (list : List (Option Named)) →
+find-none : (name : List ℕ) (list : List (Option NamedNode)) →
     ((j : ℕ) → j < length list → has_name name (get_or list j None) ≡ false) → find_name name list ≡ None
 unfolding find_name
 find-none name list others =
@@ -102,11 +102,11 @@ unfolding look_from
 look-at-end node = refl
 
 -- the node of a directory, of a file, and of a record that is not empty
-pub directory-node : (records : ℕ → Records) (byte : ℕ → ℕ) (place : ℕ) → is_directory byte place ≡ true →
+pub directory-node : (records : ℕ → Records) (byte : ℕ → ℕ) (place : ℕ) → is_directory_at byte place ≡ true →
     node_of records byte place ≡ a_directory (records place) (has_indirect byte place)
 directory-node records byte place is = rw is refl
 
-pub file-node : (records : ℕ → Records) (byte : ℕ → ℕ) (place : ℕ) → is_directory byte place ≡ false →
+pub file-node : (records : ℕ → Records) (byte : ℕ → ℕ) (place : ℕ) → is_directory_at byte place ≡ false →
     node_of records byte place ≡ a_file (file_bytes byte place) (has_indirect byte place)
 file-node records byte place is = rw is refl
 
@@ -122,10 +122,10 @@ find-slot : (byte : ℕ → ℕ) (depth directory slot place : ℕ) (name : List
     find_name name (listed (records_at (suc depth) byte directory)) ≡ Some (slot, node_of (records_at depth byte) byte place)
 unfolding records_at
 find-slot byte depth directory slot place name within at filled named first =
-    let g : ℕ → Option Named = λ i. named_of (records_at depth byte) byte (slot_place byte directory i) in
+    let g : ℕ → Option NamedNode = λ i. named_of (records_at depth byte) byte (slot_place byte directory i) in
     let count : ℕ = slot_count byte directory in
     let long = length-values count g in
-    let here : Named = record { name = name_of byte place; node = node_of (records_at depth byte) byte place } in
+    let here : NamedNode = record { name = name_of byte place; node = node_of (records_at depth byte) byte place } in
     ap (find_name name) (listed-records_from (values_below count g))
     ∙ find-first name (values_below count g) slot here (omega arith)
     (λ j below.
@@ -141,7 +141,7 @@ find-no-slot : (byte : ℕ → ℕ) (depth directory : ℕ) (name : List ℕ) �
 unfolding records_at listed
 find-no-slot byte zero directory name none = find-none name [] (λ j below. absurd (omega arith))
 find-no-slot byte (suc depth) directory name none =
-    let g : ℕ → Option Named = λ i. named_of (records_at depth byte) byte (slot_place byte directory i) in
+    let g : ℕ → Option NamedNode = λ i. named_of (records_at depth byte) byte (slot_place byte directory i) in
     let count : ℕ = slot_count byte directory in
     let long = length-values count g in
     ap (find_name name) (listed-records_from (values_below count g))
@@ -153,14 +153,14 @@ find-no-slot byte (suc depth) directory name none =
     (none j within))
 
 -- directories of the last depth have no records
-none-at-end : (byte : ℕ → ℕ) (place slot : ℕ) → AreReadable zero byte place → is_directory byte place ≡ true →
+none-at-end : (byte : ℕ → ℕ) (place slot : ℕ) → AreReadable zero byte place → is_directory_at byte place ≡ true →
     slot < slot_count byte place → ⊥
 unfolding AreReadable
 none-at-end byte place slot readable is within = let none : slot_count byte place ≡ 0 = readable.1 is in omega arith
 
 -- the records of a readable directory are readable to a depth of one less
 below-readable : (byte : ℕ → ℕ) (depth directory slot : ℕ) → AreReadable (suc depth) byte directory →
-    is_directory byte directory ≡ true → slot < slot_count byte directory →
+    is_directory_at byte directory ≡ true → slot < slot_count byte directory →
     is_empty_record byte (slot_place byte directory slot) ≡ false → AreReadable depth byte (slot_place byte directory slot)
 unfolding AreReadable
 below-readable byte depth directory slot readable is within filled = readable.1 is slot within filled
@@ -194,9 +194,9 @@ leads-on byte found name rest directory place some leads is = by_depth leads.dep
 -- nowhere, where no record has it
 pub leads-nowhere : (byte : ℕ → ℕ) (found : Result Node Errno) (name : List ℕ) (rest : List (List ℕ)) (directory : ℕ) →
     LeadsOn byte found (name ∷ rest) directory → NoneIsNamed byte directory name → found ≡ Err NotFound
-leads-nowhere byte found name rest directory leads none = by_kind (is_directory byte directory) refl
+leads-nowhere byte found name rest directory leads none = by_kind (is_directory_at byte directory) refl
   where
-    by_kind : (kind : Bool) → is_directory byte directory ≡ kind → found ≡ Err NotFound
+    by_kind : (kind : Bool) → is_directory_at byte directory ≡ kind → found ≡ Err NotFound
     by_kind true is =
         leads.found_is
         ∙ ap (λ n. found_node (look_from (name ∷ rest) n)) (directory-node (records_at leads.depth byte) byte directory is)

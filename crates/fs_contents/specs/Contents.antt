@@ -4,9 +4,9 @@ use Rattle.std.specs.Prelude.{◌≡◌, ℕ, ◌==◌, Bool, true, false, List,
 use Rattle.std.specs.List.{before_first}
 use Rattle.jos_base.specs.declared.errno.Errno.{Errno}
 use Rattle.jos_base.specs.declared.errno.Errno.TheVariants.{Invalid, NotFound, BadPath}
-use Rattle.fs_layout.specs.declared.records.Entry.{Entry}
+use Rattle.fs_layout.specs.declared.records.FileEntry.{FileEntry}
 use Rattle.fs_layout.specs.declared.numbers.TheConstants.{FTYPE_DIR}
-use Rattle.fs_layout.specs.FileTree.{Node, a_file, a_directory, Named, FileSystem, listed, directory_size}
+use Rattle.fs_layout.specs.FileTree.{Node, a_file, a_directory, NamedNode, FileSystem, listed, directory_size}
 use Rattle.fs_layout.specs.FileActs.{Looked, bad_path, nowhere, missing, there, look_up}
 use Rattle.fs_contents.specs.declared.fault.ReadFault.{ReadFault}
 use Rattle.fs_contents.specs.declared.fault.ReadFault.TheVariants.{NotThere, NoMemory}
@@ -24,13 +24,13 @@ told_of_node name (a_directory records indirect) =
     record { name = name; directory = true; size = directory_size (listed records) }
 
 -- of all records that are not empty, in their order
-unfoldable pub told_of_records : List (Option Named) → List Told
+unfoldable pub told_of_records : List (Option NamedNode) → List Told
 told_of_records [] = []
 told_of_records (None ∷ rest) = told_of_records rest
 told_of_records (Some named ∷ rest) = told_of_node named.name named.node ∷ told_of_records rest
 
 -- of a record as it lies on the disk
-abbrev pub told_of_entry : Entry → Told
+abbrev pub told_of_entry : FileEntry → Told
 told_of_entry entry =
     record { name = before_first (λ byte. byte == 0) entry.name; directory = entry.kind == FTYPE_DIR; size = entry.size }
 

@@ -2,20 +2,17 @@
 
 ghost use Rattle.std.specs.Prelude.{◌≡◌, ◌<◌, ◌^◌, [], IfOk, IfErr, IfSome, IfNone, Err, bytes_eq, length, slice_index};
 ghost use Rattle.fs_layout.specs.DiskImage.{name_of};
-ghost use Rattle.fs_layout.specs.DiskFiles.{IsDiskImage, files_of};
+ghost use Rattle.fs_layout.specs.DiskFiles.{IsDiskImage, file_system_of};
 ghost use Rattle.fs_layout.specs.FileActs.{look_up};
 ghost use Rattle.fs_contents.specs.Contents.{found_node};
 ghost use Rattle.fs_contents.specs.Walks.{IsFirstNamed, NoneIsNamed, LeadsOn};
 
-use fs_image::{Memory, kind_of, size_of, slot_place};
-use fs_layout::{BLKSIZE, FTYPE_DIR, RECORDSIZE, parts};
+use fs_image::{MemoryDisk, ROOT_PLACE, kind_at, size_of, slot_place};
+use fs_layout::{FTYPE_DIR, RECORDSIZE, parts};
 use jos_base::Errno;
 
-/// The place of the root's record.
-const ROOT_PLACE: u64 = BLKSIZE as u64 + 8;
-
 /// Whether the record at a place has this name.
-fn has_name(disk: &Memory, place: u64, name: &[u8]) -> bool
+fn has_name(disk: &MemoryDisk, place: u64, name: &[u8]) -> bool
     requires { place < 2 ^ 50 }
     ensures { result ≡ bytes_eq (name_of (slice_index disk.now.bytes.now) place) name.now }
 {
@@ -23,13 +20,13 @@ fn has_name(disk: &Memory, place: u64, name: &[u8]) -> bool
 }
 
 /// The place of the first record in a directory that has this name.
-fn find_record(disk: &Memory, directory: u64, name: &[u8]) -> Option<u64>
+fn find_record(disk: &MemoryDisk, directory: u64, name: &[u8]) -> Option<u64>
     requires { directory < 2 ^ 50 }
     ensures found { IfSome result (IsFirstNamed (slice_index disk.now.bytes.now) directory name.now) }
     ensures small { IfSome result (λ place. place < 2 ^ 50) }
     ensures none { IfNone result (NoneIsNamed (slice_index disk.now.bytes.now) directory name.now) }
 {
-    if kind_of(disk, directory) != FTYPE_DIR {
+    if kind_at(disk, directory) != FTYPE_DIR {
         return None;
     }
     for i in 0..size_of(disk, directory) / RECORDSIZE {
@@ -45,15 +42,15 @@ fn find_record(disk: &Memory, directory: u64, name: &[u8]) -> Option<u64>
 pub(crate) fn place_of(image: &[u8], path: &[u8]) -> Result<u64, Errno>
     requires { IsDiskImage (length image.now) (slice_index image.now) }
     ensures found { IfOk result
-        (LeadsOn (slice_index image.now) (found_node (look_up (files_of (slice_index image.now)) path.now)) []) }
+        (LeadsOn (slice_index image.now) (found_node (look_up (file_system_of (slice_index image.now)) path.now)) []) }
     ensures small { IfOk result (λ place. place < 2 ^ 50) }
     ensures refused { IfErr result
-        (λ errno. found_node (look_up (files_of (slice_index image.now)) path.now) ≡ Err errno) }
+        (λ errno. found_node (look_up (file_system_of (slice_index image.now)) path.now) ≡ Err errno) }
 {
     let Ok(names) = parts(path) else {
         return Err(Errno::BadPath);
     };
-    let disk = Memory::new(image);
+    let disk = MemoryDisk::new(image);
     let mut place = ROOT_PLACE;
     for name in names.as_slice() {
         let name = &path[name.from as usize..name.to as usize];

@@ -5,30 +5,31 @@ use Rattle.std.proofs.lemmas.Bool.{leb-true, and_from, and_parts}
 use Rattle.std.proofs.lemmas.Bool.Decides.{leb_tells}
 use Rattle.std.proofs.lemmas.List.{get_or-replicate, length-replicate}
 use Rattle.jos_base.specs.Counting.{total}
+use Rattle.jos_base.specs.Environments.{bit_of}
 use Rattle.fs_layout.specs.declared.numbers.TheConstants.{BLKSIZE, FS_MAGIC, MAXBLOCKS, MINBLOCKS}
 use Rattle.fs_layout.specs.DiskImage as image
 use Rattle.fs_layout.specs.DiskImage.{none_named, in_turn}
-use Rattle.fs_layout.specs.DiskFiles.{IsDiskImage, one_where, free_blocks}
+use Rattle.fs_layout.specs.DiskFiles.{IsDiskImage, free_blocks}
 use Rattle.fs_image.specs.declared.checking.CheckFault.{CheckFault}
 use Rattle.fs_image.specs.declared.checking.CheckFault.TheVariants as check
 use Rattle.fs_image.specs.Answers.{blocks_in, fault_of}
-use Rattle.fs_image.specs.DiskHeld.{Held, fault_in, IsLongEnough, IsCheckFault}
+use Rattle.fs_image.specs.DiskHeld.{HeldDisk, fault_in, IsLongEnough, IsCheckFault}
 use Rattle.fs_image.specs.Walk.{Tells}
 use Rattle.fs_image.proofs.Image.{long, cleared, tree_2, image_1, image_2, super_1, super_2, super_3}
 
 -- ---- blocks that are free
 
 abbrev pub is_free_at : (ℕ → ℕ) → ℕ → ℕ
-is_free_at byte block = one_where (image.is_marked_free byte block)
+is_free_at byte block = bit_of (image.is_marked_free byte block)
 
 pub free_none : (byte : ℕ → ℕ) → 0 ≡ total 0 (is_free_at byte)
 unfolding total
 free_none byte = refl
 
-pub free_more : (byte : ℕ → ℕ) (n free now : ℕ) (marked : Bool) → free ≡ total n (is_free_at byte) → marked ≡ image.is_marked_free byte n → now ≡ free + one_where marked → now ≡ total (n + 1) (is_free_at byte)
+pub free_more : (byte : ℕ → ℕ) (n free now : ℕ) (marked : Bool) → free ≡ total n (is_free_at byte) → marked ≡ image.is_marked_free byte n → now ≡ free + bit_of marked → now ≡ total (n + 1) (is_free_at byte)
 unfolding total
 free_more byte n free now marked e m h =
-    rw (add-one, total) (h ∙ ap (λ f. f + one_where marked) e ∙ ap (λ b. total n (is_free_at byte) + one_where b) m)
+    rw (add-one, total) (h ∙ ap (λ f. f + bit_of marked) e ∙ ap (λ b. total n (is_free_at byte) + bit_of b) m)
 
 pub free_all : (byte : ℕ → ℕ) (n count free : ℕ) → n ≡ count → count ≡ image.block_count byte → free ≡ total n (is_free_at byte) → free ≡ free_blocks byte
 unfolding free_blocks
@@ -43,7 +44,7 @@ none_marked n =
 
 -- ---- what is held
 
-pub held_fault : (held : Held) (size : ℕ) (bytes : List ℕ) (fault : Option image.ImageFault) → size ≡ held.total → bytes ≡ held.bytes → image.image_fault size (slice_index bytes) ≡ fault → fault_in held ≡ fault
+pub held_fault : (held : HeldDisk) (size : ℕ) (bytes : List ℕ) (fault : Option image.ImageFault) → size ≡ held.total → bytes ≡ held.bytes → image.image_fault size (slice_index bytes) ≡ fault → fault_in held ≡ fault
 held_fault held size bytes fault e h k =
     ap (λ n. image.image_fault n (slice_index held.bytes)) (sym e) ∙ ap (λ b. image.image_fault size (slice_index b)) (sym h) ∙ k
 
@@ -73,7 +74,7 @@ unfolding image.image_fault image.image_tests image.super_tests
 same_fault size other byte e = rw e refl
 
 -- what is held is a disk by itself
-pub held_disk : (held : Held) → fault_in held ≡ None → IsLongEnough held.total held.bytes → IsDiskImage (length held.bytes) (slice_index held.bytes)
+pub held_disk : (held : HeldDisk) → fault_in held ≡ None → IsLongEnough held.total held.bytes → IsDiskImage (length held.bytes) (slice_index held.bytes)
 unfolding IsLongEnough
 held_disk held none enough =
     let byte = slice_index held.bytes in
@@ -90,12 +91,12 @@ held_disk held none enough =
 
 -- ---- the tests after the super block
 
-pub tree_fails : (held : Held) (size : ℕ) (bytes : List ℕ) (start : image.Blocks) (fault : CheckFault) (later : Result image.Blocks image.ImageFault) → size ≡ held.total → bytes ≡ held.bytes → start ≡ none_named → in_turn (image.super_tests size (slice_index bytes)) none_named ≡ Ok none_named → Tells (Err fault) (in_turn (image.tree_tests (slice_index bytes)) start) later → IsCheckFault held fault
+pub tree_fails : (held : HeldDisk) (size : ℕ) (bytes : List ℕ) (start : image.Blocks) (fault : CheckFault) (later : Result image.Blocks image.ImageFault) → size ≡ held.total → bytes ≡ held.bytes → start ≡ none_named → in_turn (image.super_tests size (slice_index bytes)) none_named ≡ Ok none_named → Tells (Err fault) (in_turn (image.tree_tests (slice_index bytes)) start) later → IsCheckFault held fault
 tree_fails held size bytes start (check.Bad fault) later e h s super tells =
     held_fault held size bytes _ e h (image_2 size (slice_index bytes) start none_named (Some fault) s super (sym tells))
 tree_fails held size bytes start check.NoMemory later e h s super tells = tt
 
-pub tree_passes : (held : Held) (size : ℕ) (bytes : List ℕ) (start now : image.Blocks) → size ≡ held.total → bytes ≡ held.bytes → start ≡ none_named → in_turn (image.super_tests size (slice_index bytes)) none_named ≡ Ok none_named → in_turn (image.tree_tests (slice_index bytes)) start ≡ Ok now → fault_in held ≡ None
+pub tree_passes : (held : HeldDisk) (size : ℕ) (bytes : List ℕ) (start now : image.Blocks) → size ≡ held.total → bytes ≡ held.bytes → start ≡ none_named → in_turn (image.super_tests size (slice_index bytes)) none_named ≡ Ok none_named → in_turn (image.tree_tests (slice_index bytes)) start ≡ Ok now → fault_in held ≡ None
 tree_passes held size bytes start now e h s super passed =
     held_fault held size bytes None e h (image_2 size (slice_index bytes) start now None s super (sym passed))
 

@@ -1,7 +1,7 @@
 -- What tests one after another give.
 use Rattle.std.proofs.Common.{◌≡◌, ℕ, zero, suc, ◌+◌, ◌<◌, inl, inr, Bool, false, Ok, Err, Result, refl, sym, ◌∙◌, ap, arith, add-one}
 use Rattle.std.specs.Prelude.{List, [], ◌∷◌, ◌++◌}
-use Rattle.fs_layout.specs.DiskImage.{Blocks, Test, ImageFault, after, in_turn, for_each_below, some_below}
+use Rattle.fs_layout.specs.DiskImage.{Blocks, Test, ImageFault, then_tested, in_turn, for_each_below, some_below}
 use Rattle.jos_base.proofs.Bounds.{below_or_last}
 
 pub each_none : (test : ℕ → Test) (named : Blocks) → for_each_below 0 test named ≡ Ok named
@@ -17,8 +17,8 @@ unfolding for_each_below
 each_failed test named now fault i zero h e f = absurd (omega arith)
 each_failed test named now fault i (suc n) h e f =
     elim (below_or_last i n h) [
-      | inl below ↦ ap (λ r. after r (test n)) (each_failed test named now fault i n below e f)
-      | inr same ↦ ap (λ r. after r (test n)) (ap (λ k. for_each_below k test named) (sym same) ∙ e) ∙ ap (λ k. test k now) (sym same) ∙ f
+      | inl below ↦ ap (λ r. then_tested r (test n)) (each_failed test named now fault i n below e f)
+      | inr same ↦ ap (λ r. then_tested r (test n)) (ap (λ k. for_each_below k test named) (sym same) ∙ e) ∙ ap (λ k. test k now) (sym same) ∙ f
     ]
 
 pub some_none : (passes : ℕ → Bool) → some_below 0 passes ≡ false
@@ -37,7 +37,7 @@ pub turn_passes : (test : Test) (tests : List Test) (named now : Blocks) → tes
 unfolding in_turn
 turn_passes test tests named now e = rw e refl
 
-after_last : (r : Result Blocks ImageFault) → after r (in_turn []) ≡ r
+after_last : (r : Result Blocks ImageFault) → then_tested r (in_turn []) ≡ r
 unfolding in_turn
 after_last (Ok named) = refl
 after_last (Err fault) = refl
@@ -46,17 +46,17 @@ pub turn_last : (test : Test) (named : Blocks) → in_turn (test ∷ []) named �
 unfolding in_turn
 turn_last test named = after_last (test named)
 
-after_after : (r : Result Blocks ImageFault) (whole first rest : Test) → ((named : Blocks) → whole named ≡ after (first named) rest) → after r whole ≡ after (after r first) rest
+after_after : (r : Result Blocks ImageFault) (whole first rest : Test) → ((named : Blocks) → whole named ≡ then_tested (first named) rest) → then_tested r whole ≡ then_tested (then_tested r first) rest
 after_after (Ok named) whole first rest h = h named
 after_after (Err fault) whole first rest h = refl
 
-pub turn_append : (xs ys : List Test) (named : Blocks) → in_turn (xs ++ ys) named ≡ after (in_turn xs named) (in_turn ys)
+pub turn_append : (xs ys : List Test) (named : Blocks) → in_turn (xs ++ ys) named ≡ then_tested (in_turn xs named) (in_turn ys)
 unfolding in_turn
 turn_append [] ys named = refl
 turn_append (test ∷ tests) ys named = after_after (test named) (in_turn (tests ++ ys)) (in_turn tests) (in_turn ys) (turn_append tests ys)
 
 pub append_fails : (xs ys : List Test) (named : Blocks) (fault : ImageFault) → in_turn xs named ≡ Err fault → in_turn (xs ++ ys) named ≡ Err fault
-append_fails xs ys named fault e = turn_append xs ys named ∙ ap (λ r. after r (in_turn ys)) e
+append_fails xs ys named fault e = turn_append xs ys named ∙ ap (λ r. then_tested r (in_turn ys)) e
 
 pub append_passes : (xs ys : List Test) (named now : Blocks) → in_turn xs named ≡ Ok now → in_turn (xs ++ ys) named ≡ in_turn ys now
-append_passes xs ys named now e = turn_append xs ys named ∙ ap (λ r. after r (in_turn ys)) e
+append_passes xs ys named now e = turn_append xs ys named ∙ ap (λ r. then_tested r (in_turn ys)) e

@@ -30,11 +30,11 @@ pub super_3 : (total : ℕ) (byte : ℕ → ℕ) (n : Blocks) → long total byt
 unfolding image.super_tests in_turn
 super_3 total byte n e h k = rw (e, h, k) refl
 
-pub super_4 : (total : ℕ) (byte : ℕ → ℕ) (n : Blocks) → long total byte ≡ true → (image.magic_of byte == FS_MAGIC) ≡ true → image.is_good_count (image.block_count byte) ≡ true → image.is_directory byte image.root_place ≡ false → in_turn (image.super_tests total byte) n ≡ Err image.RootKind
+pub super_4 : (total : ℕ) (byte : ℕ → ℕ) (n : Blocks) → long total byte ≡ true → (image.magic_of byte == FS_MAGIC) ≡ true → image.is_good_count (image.block_count byte) ≡ true → image.is_directory_at byte image.root_place ≡ false → in_turn (image.super_tests total byte) n ≡ Err image.RootKind
 unfolding image.super_tests in_turn
 super_4 total byte n e h k l = rw (e, h, k, l) refl
 
-pub super_5 : (total : ℕ) (byte : ℕ → ℕ) (n : Blocks) → long total byte ≡ true → (image.magic_of byte == FS_MAGIC) ≡ true → image.is_good_count (image.block_count byte) ≡ true → image.is_directory byte image.root_place ≡ true → in_turn (image.super_tests total byte) n ≡ Ok n
+pub super_5 : (total : ℕ) (byte : ℕ → ℕ) (n : Blocks) → long total byte ≡ true → (image.magic_of byte == FS_MAGIC) ≡ true → image.is_good_count (image.block_count byte) ≡ true → image.is_directory_at byte image.root_place ≡ true → in_turn (image.super_tests total byte) n ≡ Ok n
 unfolding image.super_tests in_turn
 super_5 total byte n e h k l = rw (e, h, k, l) refl
 

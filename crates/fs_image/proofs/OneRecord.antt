@@ -5,7 +5,7 @@ use Rattle.std.proofs.lemmas.Bool.Decides.{nat_tests}
 use Rattle.fs_layout.specs.declared.numbers.TheConstants.{NDIRECT, MAXFILESIZE}
 use Rattle.fs_layout.specs.DiskImage.{Blocks, Test, ImageFault, DirSize, TooLong, Stray, in_turn, demand, for_each_below, only_where}
 use Rattle.fs_layout.specs.DiskImage.{number_test, direct_of, number_in_indirect, indirect_test, blocks_needed, numbers_tests}
-use Rattle.fs_layout.specs.DiskImage.{record_tests, stray_tests, has_stray, has_indirect, has_stray_in_indirect, is_good_size, size_of, kind_of}
+use Rattle.fs_layout.specs.DiskImage.{record_tests, stray_tests, has_stray, has_indirect, has_stray_in_indirect, is_good_size, size_of, kind_at}
 use Rattle.fs_image.proofs.Each.{turn_fails, turn_passes, turn_last}
 use Rattle.fs_layout.proofs.OneTest.{demand_passes}
 
@@ -61,23 +61,23 @@ size_past a b e h = grind (arith, nat_tests)
 pub size_within : (a b : ℕ) → a ≡ b → a ≤ MAXFILESIZE → nat_le b MAXFILESIZE ≡ true
 size_within a b e h = grind (arith, nat_tests)
 
-pub record_1 : (byte : ℕ → ℕ) (place : ℕ) (n : Blocks) → is_good_size (kind_of byte place) (size_of byte place) ≡ false → in_turn (record_tests byte place) n ≡ Err (DirSize place)
+pub record_1 : (byte : ℕ → ℕ) (place : ℕ) (n : Blocks) → is_good_size (kind_at byte place) (size_of byte place) ≡ false → in_turn (record_tests byte place) n ≡ Err (DirSize place)
 unfolding record_tests in_turn
 record_1 byte place n e = rw e refl
 
-pub record_2 : (byte : ℕ → ℕ) (place : ℕ) (n : Blocks) → is_good_size (kind_of byte place) (size_of byte place) ≡ true → nat_le (size_of byte place) MAXFILESIZE ≡ false → in_turn (record_tests byte place) n ≡ Err (TooLong place)
+pub record_2 : (byte : ℕ → ℕ) (place : ℕ) (n : Blocks) → is_good_size (kind_at byte place) (size_of byte place) ≡ true → nat_le (size_of byte place) MAXFILESIZE ≡ false → in_turn (record_tests byte place) n ≡ Err (TooLong place)
 unfolding record_tests in_turn
 record_2 byte place n e h = rw (e, h) refl
 
-record_rest : (byte : ℕ → ℕ) (place : ℕ) (n : Blocks) → is_good_size (kind_of byte place) (size_of byte place) ≡ true → nat_le (size_of byte place) MAXFILESIZE ≡ true → in_turn (record_tests byte place) n ≡ in_turn (in_turn (numbers_tests byte place) ∷ in_turn (stray_tests byte place) ∷ []) n
+record_rest : (byte : ℕ → ℕ) (place : ℕ) (n : Blocks) → is_good_size (kind_at byte place) (size_of byte place) ≡ true → nat_le (size_of byte place) MAXFILESIZE ≡ true → in_turn (record_tests byte place) n ≡ in_turn (in_turn (numbers_tests byte place) ∷ in_turn (stray_tests byte place) ∷ []) n
 unfolding record_tests
 record_rest byte place n e h =
-    turn_passes (demand (is_good_size (kind_of byte place) (size_of byte place)) (DirSize place))
-    (demand (nat_le (size_of byte place) MAXFILESIZE) (TooLong place) ∷ in_turn (numbers_tests byte place) ∷ in_turn (stray_tests byte place) ∷ []) n n (demand_passes (is_good_size (kind_of byte place) (size_of byte place)) (DirSize place) n e)
+    turn_passes (demand (is_good_size (kind_at byte place) (size_of byte place)) (DirSize place))
+    (demand (nat_le (size_of byte place) MAXFILESIZE) (TooLong place) ∷ in_turn (numbers_tests byte place) ∷ in_turn (stray_tests byte place) ∷ []) n n (demand_passes (is_good_size (kind_at byte place) (size_of byte place)) (DirSize place) n e)
     ∙ turn_passes (demand (nat_le (size_of byte place) MAXFILESIZE) (TooLong place)) (in_turn (numbers_tests byte place) ∷ in_turn (stray_tests byte place) ∷ []) n n (demand_passes (nat_le (size_of byte place) MAXFILESIZE) (TooLong place) n h)
 
-pub record_3 : (byte : ℕ → ℕ) (place : ℕ) (n : Blocks) (f : ImageFault) → is_good_size (kind_of byte place) (size_of byte place) ≡ true → nat_le (size_of byte place) MAXFILESIZE ≡ true → in_turn (numbers_tests byte place) n ≡ Err f → in_turn (record_tests byte place) n ≡ Err f
+pub record_3 : (byte : ℕ → ℕ) (place : ℕ) (n : Blocks) (f : ImageFault) → is_good_size (kind_at byte place) (size_of byte place) ≡ true → nat_le (size_of byte place) MAXFILESIZE ≡ true → in_turn (numbers_tests byte place) n ≡ Err f → in_turn (record_tests byte place) n ≡ Err f
 record_3 byte place n f e h k = record_rest byte place n e h ∙ turn_fails (in_turn (numbers_tests byte place)) (in_turn (stray_tests byte place) ∷ []) n f k
 
-pub record_4 : (byte : ℕ → ℕ) (place : ℕ) (n m : Blocks) (r : Result Blocks ImageFault) → is_good_size (kind_of byte place) (size_of byte place) ≡ true → nat_le (size_of byte place) MAXFILESIZE ≡ true → in_turn (numbers_tests byte place) n ≡ Ok m → in_turn (stray_tests byte place) m ≡ r → in_turn (record_tests byte place) n ≡ r
+pub record_4 : (byte : ℕ → ℕ) (place : ℕ) (n m : Blocks) (r : Result Blocks ImageFault) → is_good_size (kind_at byte place) (size_of byte place) ≡ true → nat_le (size_of byte place) MAXFILESIZE ≡ true → in_turn (numbers_tests byte place) n ≡ Ok m → in_turn (stray_tests byte place) m ≡ r → in_turn (record_tests byte place) n ≡ r
 record_4 byte place n m r e h k l = record_rest byte place n e h ∙ turn_passes (in_turn (numbers_tests byte place)) (in_turn (stray_tests byte place) ∷ []) n m k ∙ turn_last (in_turn (stray_tests byte place)) m ∙ l

@@ -4,17 +4,17 @@ use Rattle.std.specs.Prelude.{slice_index}
 use Rattle.std.specs.Option.{option_map}
 use Rattle.std.proofs.lemmas.List.{append-nil, append_assoc, take_all, take-take, take_min, take_at, take-replicate, replicate-append-replicate, length-take, length-append, length-replicate, get_or-take}
 use Rattle.std.proofs.lemmas.Bool.Decides.{leb_tells}
+use Rattle.jos_base.specs.Words.{word_at}
 use Rattle.jos_host.specs.Files.{Files, bytes_of}
 use Rattle.jos_host.specs.Told.{Rose}
 use Rattle.jos_host.specs.Asked.{Asked, and_asked}
 use Rattle.jos_host.specs.Frames.{from_to}
 use Rattle.jos_host.specs.declared.host.HostCall.TheVariants.{Size, Read}
 use Rattle.fs_layout.specs.declared.numbers.TheConstants.{BLKSIZE, MAXBLOCKS}
-use Rattle.fs_layout.specs.Layout.{word_at}
 use Rattle.fs_layout.specs.DiskImage as disk
 use Rattle.fs_image.specs.declared.disk_bytes.DiskFault.{DiskFault}
 use Rattle.fs_image.specs.declared.disk_bytes.DiskFault.TheVariants.{Absent, Host, NoMemory}
-use Rattle.fs_image.specs.DiskHeld.{Held, held_of, blocks_held, IsLongEnough, IsUnder, IsHeld, IsDiskFault, HasDiskCause, IsReadInPieces}
+use Rattle.fs_image.specs.DiskHeld.{HeldDisk, held_of, blocks_held, IsLongEnough, IsUnder, IsHeld, IsDiskFault, HasDiskCause, IsReadInPieces}
 use Rattle.fs_image.specs.Pieces.{reads, IsReading, Comes, ReachesTo, Grows, HasSize}
 
 -- something stands under a name, whether the host tells it or not
@@ -176,13 +176,13 @@ pub whole_enough : (bytes : List ℕ) → IsLongEnough (length bytes) bytes
 unfolding IsLongEnough
 whole_enough bytes = omega arith
 
-pub whole_held : (bytes : List ℕ) → length bytes ≤ BLKSIZE * blocks_held bytes → (let held : Held = record { total = length bytes; bytes = bytes } in held) ≡ held_of bytes
+pub whole_held : (bytes : List ℕ) → length bytes ≤ BLKSIZE * blocks_held bytes → (let held : HeldDisk = record { total = length bytes; bytes = bytes } in held) ≡ held_of bytes
 unfolding held_of
-whole_held bytes within = ap (λ l. let held : Held = record { total = length bytes; bytes = l } in held) (sym (take_all (BLKSIZE * blocks_held bytes) bytes within))
+whole_held bytes within = ap (λ l. let held : HeldDisk = record { total = length bytes; bytes = l } in held) (sym (take_all (BLKSIZE * blocks_held bytes) bytes within))
 
 -- ---- what is told of the file
 
-abbrev pub IsTold : Option Files → List ℕ → Held → Type 0
+abbrev pub IsTold : Option Files → List ℕ → HeldDisk → Type 0
 IsTold files name held = (file : Option (List ℕ)) × IsUnder files name file × IsHeld file held
 
 taken : (file front : List ℕ) (n : ℕ) → front ≡ take n file → length front ≡ min n (length file)
@@ -219,14 +219,14 @@ held_blocks file bytes e all =
     ]
 
 -- these are the bytes of the file that are looked at
-held_front : (file bytes : List ℕ) (size : ℕ) → size ≡ length file → bytes ≡ take (length bytes) file → min size (BLKSIZE * blocks_held bytes) ≡ length bytes → (let held : Held = record { total = size; bytes = bytes } in held) ≡ held_of file
+held_front : (file bytes : List ℕ) (size : ℕ) → size ≡ length file → bytes ≡ take (length bytes) file → min size (BLKSIZE * blocks_held bytes) ≡ length bytes → (let held : HeldDisk = record { total = size; bytes = bytes } in held) ≡ held_of file
 unfolding held_of
 held_front file bytes size len e all =
     let counted : min (length file) (BLKSIZE * blocks_held bytes) ≡ length bytes = ap (λ n. min n (BLKSIZE * blocks_held bytes)) (sym len) ∙ all in
     let blocks = held_blocks file bytes e counted in
     let upto : length bytes ≡ min (BLKSIZE * blocks_held file) (length file) = omega (arith, blocks, counted) in
-    ap (λ n. let held : Held = record { total = n; bytes = bytes } in held) len
-    ∙ ap (λ l. let held : Held = record { total = length file; bytes = l } in held)
+    ap (λ n. let held : HeldDisk = record { total = n; bytes = bytes } in held) len
+    ∙ ap (λ l. let held : HeldDisk = record { total = length file; bytes = l } in held)
     (e ∙ ap (λ k. take k file) upto ∙ take_min (BLKSIZE * blocks_held file) file)
 
 pub told_all : (files : Option Files) (name front bytes : List ℕ) (size first end : ℕ) → HasSize files name size → first ≡ min size (2 * 4096) → first ≤ length front → end ≡ min size (BLKSIZE * blocks_held front) → Grows end front bytes → end ≤ length bytes → ReachesTo files name first [] front → ReachesTo files name end front bytes → IsTold files name (record { total = size; bytes = bytes })

@@ -30,14 +30,14 @@ abbrev pub told : Option ImageFault → disk.Blocks → Result disk.Blocks disk.
 told None named = Ok named
 told (Some fault) named = Err (fault_of fault)
 
-abbrev pub answered : Option ImageFault → List Bool → Result disk.Blocks disk.ImageFault
-answered fault named = told fault (blocks_in named)
+abbrev pub test_answer : Option ImageFault → List Bool → Result disk.Blocks disk.ImageFault
+test_answer fault named = told fault (blocks_in named)
 
 -- the tests of a directory's record, as `slot_tests` has them, but for what stands below it
 unfoldable pub own_tests : (ℕ → ℕ) → ℕ → ℕ → List disk.Test
 own_tests byte directory i =
     let place = disk.slot_place byte directory i in
-    disk.demand (disk.is_good_kind (disk.kind_of byte place)) (disk.Kind place)
+    disk.demand (disk.is_good_kind (disk.kind_at byte place)) (disk.Kind place)
     ∷ disk.demand (disk.is_good_name (disk.name_of byte place)) (disk.BadName place)
     ∷ disk.in_turn (disk.record_tests byte place)
     ∷ disk.demand (not (disk.has_taken_name byte directory i)) (disk.SameName place)

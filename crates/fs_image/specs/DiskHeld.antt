@@ -16,7 +16,7 @@ use Rattle.fs_image.specs.declared.checking.CheckFault.TheVariants as check
 use Rattle.fs_image.specs.Answers.{fault_of}
 
 -- how many bytes the file has, and those that are looked at
-pub record Held : Type 0 where
+pub record HeldDisk : Type 0 where
   pub total : ℕ
   pub bytes : List ℕ
 
@@ -24,7 +24,7 @@ pub record Held : Type 0 where
 abbrev pub blocks_held : List ℕ → ℕ
 blocks_held file = max 2 (min (disk.block_count (slice_index file)) MAXBLOCKS)
 
-unfoldable pub held_of : List ℕ → Held
+unfoldable pub held_of : List ℕ → HeldDisk
 held_of file = record { total = length file; bytes = take (BLKSIZE * blocks_held file) file }
 
 -- the bytes reach as far as they are looked at
@@ -32,7 +32,7 @@ unfoldable pub IsLongEnough : ℕ → List ℕ → Type 0
 IsLongEnough total bytes = min total (BLKSIZE * blocks_held bytes) ≤ length bytes
 
 -- why it is no disk
-abbrev pub fault_in : Held → Option disk.ImageFault
+abbrev pub fault_in : HeldDisk → Option disk.ImageFault
 fault_in held = disk.image_fault held.total (slice_index held.bytes)
 
 -- ---- reading
@@ -42,7 +42,7 @@ abbrev pub IsUnder : Option Files → List ℕ → Option (List ℕ) → Type 0
 IsUnder (Some files) name file = file ≡ files name
 IsUnder None name file = Unit {0}
 
-abbrev pub IsHeld : Option (List ℕ) → Held → Type 0
+abbrev pub IsHeld : Option (List ℕ) → HeldDisk → Type 0
 IsHeld (Some bytes) held = held ≡ held_of bytes
 IsHeld None held = ⊥
 
@@ -68,6 +68,6 @@ IsReadInPieces name log =
 -- ---- checking
 
 -- the fault is the first; want of memory says nothing
-abbrev pub IsCheckFault : Held → CheckFault → Type 0
+abbrev pub IsCheckFault : HeldDisk → CheckFault → Type 0
 IsCheckFault held (check.Bad fault) = fault_in held ≡ Some (fault_of fault)
 IsCheckFault held check.NoMemory = Unit {0}

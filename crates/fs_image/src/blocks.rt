@@ -1,16 +1,16 @@
 //! The tests of the blocks that a record names.
 
-ghost use Rattle.std.specs.Prelude.{◌≡◌, ◌+◌, ◌*◌, ◌<◌, ◌≤◌, ◌^◌, length, ◌&&◌, ◌==◌, not, nat_le, slice_index};
+ghost use Rattle.std.specs.Prelude.{◌≡◌, ◌+◌, ◌*◌, ◌<◌, ◌≤◌, length, ◌&&◌, ◌==◌, slice_index};
 ghost use Rattle.fs_layout.specs.DiskImage as image;
 ghost use Rattle.fs_layout.specs.DiskFiles.{free_blocks};
-ghost use Rattle.fs_image.specs.Answers.{answered, blocks_in};
+ghost use Rattle.fs_image.specs.Answers.{test_answer, blocks_in};
 
-use crate::disk::Memory;
+use crate::disk::MemoryDisk;
 use crate::fault::ImageFault;
 use fs_layout::{BLKBITSIZE, BLKSIZE};
 
 /// How many blocks the disk says that it has.
-pub(crate) fn block_count(disk: &Memory) -> u32
+pub(crate) fn block_count(disk: &MemoryDisk) -> u32
     ensures { result ≡ image.block_count (slice_index disk.now.bytes.now) }
 {
     disk.word(BLKSIZE as u64 + 4)
@@ -31,14 +31,14 @@ fn is_data_block(blocks: u32, block: u32) -> bool
 }
 
 /// Whether the bitmap says that the block is free.
-pub(crate) fn is_marked_free(disk: &Memory, block: u32) -> bool
+pub(crate) fn is_marked_free(disk: &MemoryDisk, block: u32) -> bool
     ensures { result ≡ image.is_marked_free (slice_index disk.now.bytes.now) block }
 {
     (disk.byte(2 * BLKSIZE as u64 + block as u64 / 8) >> (block % 8)) & 1 == 1
 }
 
 /// How many blocks the bitmap says are free.
-pub(crate) fn free_blocks(disk: &Memory) -> u32
+pub(crate) fn free_blocks(disk: &MemoryDisk) -> u32
     ensures { result ≡ free_blocks (slice_index disk.now.bytes.now) }
 {
     let mut free = 0;
@@ -52,9 +52,9 @@ pub(crate) fn free_blocks(disk: &Memory) -> u32
 
 /// A block that is named.
 #[tactic(auto, unfolding(fs_layout::specs::DiskImage::block_test, fs_layout::specs::DiskImage::in_turn))]
-pub(crate) fn block_test(disk: &Memory, named: &mut [bool], block: u32) -> Option<ImageFault>
+pub(crate) fn block_test(disk: &MemoryDisk, named: &mut [bool], block: u32) -> Option<ImageFault>
     requires { image.block_count (slice_index disk.now.bytes.now) ≤ length named.old }
-    ensures { answered result named.new ≡ image.block_test (slice_index disk.now.bytes.now) block (blocks_in named.old) }
+    ensures { test_answer result named.new ≡ image.block_test (slice_index disk.now.bytes.now) block (blocks_in named.old) }
 {
     if !is_data_block(block_count(disk), block) {
         return Some(ImageFault::Range(block));
@@ -72,13 +72,13 @@ pub(crate) fn block_test(disk: &Memory, named: &mut [bool], block: u32) -> Optio
 /// A block's number, of the record at a place, that may not be 0.
 #[tactic(auto, unfolding(fs_layout::specs::DiskImage::number_test, fs_layout::specs::DiskImage::in_turn))]
 pub(crate) fn number_test(
-    disk: &Memory,
+    disk: &MemoryDisk,
     named: &mut [bool],
     place: u64,
     number: u32,
 ) -> Option<ImageFault>
     requires { image.block_count (slice_index disk.now.bytes.now) ≤ length named.old }
-    ensures { answered result named.new ≡ image.number_test (slice_index disk.now.bytes.now) place number (blocks_in named.old) }
+    ensures { test_answer result named.new ≡ image.number_test (slice_index disk.now.bytes.now) place number (blocks_in named.old) }
 {
     if number == 0 {
         return Some(ImageFault::Hole(place));

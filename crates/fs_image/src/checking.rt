@@ -6,7 +6,7 @@ ghost use Rattle.fs_layout.specs.DiskFiles.{IsDiskImage, free_blocks};
 ghost use Rattle.fs_image.specs.DiskHeld.{fault_in, IsCheckFault};
 
 use crate::blocks::{block_count, free_blocks};
-use crate::disk::Memory;
+use crate::disk::MemoryDisk;
 use crate::disk_bytes::DiskBytes;
 use crate::fault::ImageFault;
 use crate::tree::{super_test, tree_test};
@@ -39,7 +39,7 @@ pub fn check(alloc: Global, disk: &DiskBytes) -> Result<DiskInfo, CheckFault>
     ensures blocks { IfOk result (λ info. info.blocks ≡ image.block_count (slice_index disk.now.bytes)) }
     ensures free { IfOk result (λ info. info.free ≡ free_blocks (slice_index disk.now.bytes)) }
 {
-    let bytes = Memory::new(disk.bytes());
+    let bytes = MemoryDisk::new(disk.bytes());
     if let Some(fault) = super_test(disk.total(), &bytes) {
         return Err(CheckFault::Bad(fault));
     }

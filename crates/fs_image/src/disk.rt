@@ -1,22 +1,22 @@
 //! What is read.
 
 ghost use Rattle.std.specs.Prelude.{◌≡◌, ◌+◌, ◌<◌, ◌≤◌, ◌^◌, length, take, drop, slice_index};
-ghost use Rattle.fs_layout.specs.Layout.{word_at};
+ghost use Rattle.jos_base.specs.Words.{word_at};
 ghost use Rattle.fs_layout.specs.DiskImage.{name_of};
 
 use fs_layout::MAXNAMELEN;
 
 /// Bytes in memory that may be a disk image. Each place has a byte, past the last too: there it is 0.
 #[derive(Clone, Copy)]
-pub struct Memory<'a> {
+pub struct MemoryDisk<'a> {
     bytes: &'a [u8],
 }
 
-impl<'a> Memory<'a> {
-    pub fn new(bytes: &'a [u8]) -> Memory<'a>
+impl<'a> MemoryDisk<'a> {
+    pub fn new(bytes: &'a [u8]) -> MemoryDisk<'a>
         ensures { result.bytes.now ≡ bytes.now }
     {
-        Memory { bytes }
+        MemoryDisk { bytes }
     }
 
     /// The byte at a place.

@@ -6,7 +6,7 @@ ghost use Rattle.fs_image.specs.DiskHeld.{IsUnder, IsHeld, IsDiskFault, HasDiskC
 ghost use Rattle.fs_image.specs.Pieces.{IsReading, Comes, ReachesTo, Grows, HasSize};
 
 use crate::blocks::block_count;
-use crate::disk::Memory;
+use crate::disk::MemoryDisk;
 use fs_layout::{BLKSIZE, MAXBLOCKS};
 use jos_host::Host;
 use std::alloc::Global;
@@ -22,9 +22,9 @@ pub struct DiskBytes {
 }
 
 impl Model for DiskBytes {
-    ghost use Rattle.fs_image.specs.DiskHeld.{Held, IsLongEnough};
+    ghost use Rattle.fs_image.specs.DiskHeld.{HeldDisk, IsLongEnough};
 
-    ghost Value = { Held };
+    ghost Value = { HeldDisk };
 
     ghost view = { λ d. record { total = d.total; bytes = d.bytes.items } };
 
@@ -72,7 +72,7 @@ const PIECE: usize = 16 * BLKSIZE as usize;
 fn blocks_held(first: &[u8]) -> u32
     ensures { result ≡ blocks_held first.now }
 {
-    block_count(&Memory::new(first))
+    block_count(&MemoryDisk::new(first))
         .min(MAXBLOCKS)
         .max(FIRST_BLOCKS)
 }

@@ -16,8 +16,9 @@ mod tree;
 mod walk;
 
 pub use checking::{CheckFault, DiskInfo, check};
-pub use disk::Memory;
+pub use disk::MemoryDisk;
 pub use disk_bytes::{DiskBytes, DiskFault, read_disk};
 pub use fault::{ImageFault, ImageFaultText};
 pub use names::slot_place;
-pub use records::{kind_of, number_of, size_of};
+pub use records::{block_number_at, kind_at, size_of};
+pub use tree::ROOT_PLACE;

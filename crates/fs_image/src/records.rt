@@ -2,15 +2,15 @@
 
 ghost use Rattle.std.specs.Prelude.{◌≡◌, ◌+◌, ◌-◌, ◌*◌, ◌<◌, ◌≤◌, ◌^◌, length, ◌&&◌, ◌||◌, ◌==◌, not, nat_le, min, slice_index};
 ghost use Rattle.fs_layout.specs.DiskImage as image;
-ghost use Rattle.fs_image.specs.Answers.{answered, blocks_in};
+ghost use Rattle.fs_image.specs.Answers.{test_answer, blocks_in};
 
 use crate::blocks::number_test;
-use crate::disk::Memory;
+use crate::disk::MemoryDisk;
 use crate::fault::ImageFault;
 use fs_layout::{BLKSIZE, FTYPE_DIR, MAXFILESIZE, MAXNAMELEN, NDIRECT, NINDIRECT};
 
 /// The record's size.
-pub fn size_of(disk: &Memory, place: u64) -> u32
+pub fn size_of(disk: &MemoryDisk, place: u64) -> u32
     requires { place < 2 ^ 50 }
     ensures { result ≡ image.size_of (slice_index disk.now.bytes.now) place }
 {
@@ -18,15 +18,15 @@ pub fn size_of(disk: &Memory, place: u64) -> u32
 }
 
 /// The record's kind.
-pub fn kind_of(disk: &Memory, place: u64) -> u32
+pub fn kind_at(disk: &MemoryDisk, place: u64) -> u32
     requires { place < 2 ^ 50 }
-    ensures { result ≡ image.kind_of (slice_index disk.now.bytes.now) place }
+    ensures { result ≡ image.kind_at (slice_index disk.now.bytes.now) place }
 {
     disk.word(place + MAXNAMELEN as u64 + 4)
 }
 
 /// One of the record's own block numbers.
-pub(crate) fn direct_of(disk: &Memory, place: u64, i: u32) -> u32
+pub(crate) fn direct_of(disk: &MemoryDisk, place: u64, i: u32) -> u32
     requires { place < 2 ^ 50 }
     ensures { result ≡ image.direct_of (slice_index disk.now.bytes.now) place i }
 {
@@ -34,7 +34,7 @@ pub(crate) fn direct_of(disk: &Memory, place: u64, i: u32) -> u32
 }
 
 /// The number of the record's indirect block.
-fn indirect_of(disk: &Memory, place: u64) -> u32
+fn indirect_of(disk: &MemoryDisk, place: u64) -> u32
     requires { place < 2 ^ 50 }
     ensures { result ≡ image.indirect_of (slice_index disk.now.bytes.now) place }
 {
@@ -42,7 +42,7 @@ fn indirect_of(disk: &Memory, place: u64) -> u32
 }
 
 /// A block number of the record's indirect block.
-pub(crate) fn number_in_indirect(disk: &Memory, place: u64, i: u32) -> u32
+pub(crate) fn number_in_indirect(disk: &MemoryDisk, place: u64, i: u32) -> u32
     requires { place < 2 ^ 50 }
     ensures { result ≡ image.number_in_indirect (slice_index disk.now.bytes.now) place i }
 {
@@ -50,9 +50,9 @@ pub(crate) fn number_in_indirect(disk: &Memory, place: u64, i: u32) -> u32
 }
 
 /// The number of one of the record's blocks.
-pub fn number_of(disk: &Memory, place: u64, i: u32) -> u32
+pub fn block_number_at(disk: &MemoryDisk, place: u64, i: u32) -> u32
     requires { place < 2 ^ 50 }
-    ensures { result ≡ image.number_of (slice_index disk.now.bytes.now) place i }
+    ensures { result ≡ image.block_number_at (slice_index disk.now.bytes.now) place i }
 {
     if i < NDIRECT {
         return direct_of(disk, place, i);
@@ -61,7 +61,7 @@ pub fn number_of(disk: &Memory, place: u64, i: u32) -> u32
 }
 
 /// How many blocks the record's size takes.
-fn blocks_needed(disk: &Memory, place: u64) -> u32
+fn blocks_needed(disk: &MemoryDisk, place: u64) -> u32
     requires { place < 2 ^ 50 }
     ensures { result ≡ image.blocks_needed (slice_index disk.now.bytes.now) place }
 {
@@ -69,10 +69,10 @@ fn blocks_needed(disk: &Memory, place: u64) -> u32
 }
 
 /// The first so many of the record's own numbers.
-fn directs_test(disk: &Memory, named: &mut [bool], place: u64, count: u32) -> Option<ImageFault>
+fn directs_test(disk: &MemoryDisk, named: &mut [bool], place: u64, count: u32) -> Option<ImageFault>
     requires room { image.block_count (slice_index disk.now.bytes.now) ≤ length named.old }
     requires place { place < 2 ^ 50 }
-    ensures { answered result named.new ≡ image.for_each_below count
+    ensures { test_answer result named.new ≡ image.for_each_below count
         (λ i. image.number_test (slice_index disk.now.bytes.now) place (image.direct_of (slice_index disk.now.bytes.now) place i)) (blocks_in named.old) }
 {
     for i in 0..count {
@@ -85,10 +85,10 @@ fn directs_test(disk: &Memory, named: &mut [bool], place: u64, count: u32) -> Op
 
 /// The indirect block.
 #[tactic(auto, unfolding(fs_layout::specs::DiskImage::indirect_test))]
-fn indirect_test(disk: &Memory, named: &mut [bool], place: u64) -> Option<ImageFault>
+fn indirect_test(disk: &MemoryDisk, named: &mut [bool], place: u64) -> Option<ImageFault>
     requires room { image.block_count (slice_index disk.now.bytes.now) ≤ length named.old }
     requires place { place < 2 ^ 50 }
-    ensures { answered result named.new ≡ image.indirect_test (slice_index disk.now.bytes.now) place (blocks_in named.old) }
+    ensures { test_answer result named.new ≡ image.indirect_test (slice_index disk.now.bytes.now) place (blocks_in named.old) }
 {
     let indirect = indirect_of(disk, place);
     if NDIRECT < blocks_needed(disk, place) || indirect != 0 {
@@ -98,10 +98,10 @@ fn indirect_test(disk: &Memory, named: &mut [bool], place: u64) -> Option<ImageF
 }
 
 /// The first so many of the numbers in the record's indirect block.
-fn others_test(disk: &Memory, named: &mut [bool], place: u64, count: u32) -> Option<ImageFault>
+fn others_test(disk: &MemoryDisk, named: &mut [bool], place: u64, count: u32) -> Option<ImageFault>
     requires room { image.block_count (slice_index disk.now.bytes.now) ≤ length named.old }
     requires place { place < 2 ^ 50 }
-    ensures { answered result named.new ≡ image.for_each_below count
+    ensures { test_answer result named.new ≡ image.for_each_below count
         (λ i. image.number_test (slice_index disk.now.bytes.now) place (image.number_in_indirect (slice_index disk.now.bytes.now) place i)) (blocks_in named.old) }
 {
     for i in 0..count {
@@ -113,10 +113,10 @@ fn others_test(disk: &Memory, named: &mut [bool], place: u64, count: u32) -> Opt
 }
 
 /// The blocks within the record's size, and its indirect block.
-fn numbers_test(disk: &Memory, named: &mut [bool], place: u64) -> Option<ImageFault>
+fn numbers_test(disk: &MemoryDisk, named: &mut [bool], place: u64) -> Option<ImageFault>
     requires room { image.block_count (slice_index disk.now.bytes.now) ≤ length named.old }
     requires place { place < 2 ^ 50 }
-    ensures { answered result named.new ≡ image.in_turn (image.numbers_tests (slice_index disk.now.bytes.now) place) (blocks_in named.old) }
+    ensures { test_answer result named.new ≡ image.in_turn (image.numbers_tests (slice_index disk.now.bytes.now) place) (blocks_in named.old) }
 {
     let needed = blocks_needed(disk, place);
     if let Some(fault) = directs_test(disk, named, place, needed.min(NDIRECT)) {
@@ -129,7 +129,7 @@ fn numbers_test(disk: &Memory, named: &mut [bool], place: u64) -> Option<ImageFa
 }
 
 /// Whether one of the record's own numbers is past the size and not 0.
-fn is_stray(disk: &Memory, place: u64, i: u32) -> bool
+fn is_stray(disk: &MemoryDisk, place: u64, i: u32) -> bool
     requires { place < 2 ^ 50 }
     ensures { result ≡ (nat_le (image.blocks_needed (slice_index disk.now.bytes.now) place) i && not (image.direct_of (slice_index disk.now.bytes.now) place i == 0)) }
 {
@@ -137,7 +137,7 @@ fn is_stray(disk: &Memory, place: u64, i: u32) -> bool
 }
 
 /// Whether a number in the record's indirect block is past the size and not 0.
-fn is_stray_in_indirect(disk: &Memory, place: u64, i: u32) -> bool
+fn is_stray_in_indirect(disk: &MemoryDisk, place: u64, i: u32) -> bool
     requires place { place < 2 ^ 50 }
     requires i { i < NINDIRECT }
     ensures { result ≡ (nat_le (image.blocks_needed (slice_index disk.now.bytes.now) place) (NDIRECT + i)
@@ -147,7 +147,7 @@ fn is_stray_in_indirect(disk: &Memory, place: u64, i: u32) -> bool
 }
 
 /// Whether the record names a block past its size by itself.
-fn has_stray(disk: &Memory, place: u64) -> bool
+fn has_stray(disk: &MemoryDisk, place: u64) -> bool
     requires { place < 2 ^ 50 }
     ensures { result ≡ image.has_stray (slice_index disk.now.bytes.now) place }
 {
@@ -160,7 +160,7 @@ fn has_stray(disk: &Memory, place: u64) -> bool
 }
 
 /// Whether its indirect block names one.
-fn has_stray_in_indirect(disk: &Memory, place: u64) -> bool
+fn has_stray_in_indirect(disk: &MemoryDisk, place: u64) -> bool
     requires { place < 2 ^ 50 }
     ensures { result ≡ image.has_stray_in_indirect (slice_index disk.now.bytes.now) place }
 {
@@ -173,7 +173,7 @@ fn has_stray_in_indirect(disk: &Memory, place: u64) -> bool
 }
 
 /// Whether it has an indirect block that names one.
-fn has_far_stray(disk: &Memory, place: u64) -> bool
+fn has_far_stray(disk: &MemoryDisk, place: u64) -> bool
     requires { place < 2 ^ 50 }
     ensures { result ≡ (image.has_indirect (slice_index disk.now.bytes.now) place && image.has_stray_in_indirect (slice_index disk.now.bytes.now) place) }
 {
@@ -188,13 +188,13 @@ fn is_good_size(kind: u32, size: u32) -> bool
 }
 
 /// The tests of a record that are the root's too.
-pub(crate) fn record_test(disk: &Memory, named: &mut [bool], place: u64) -> Option<ImageFault>
+pub(crate) fn record_test(disk: &MemoryDisk, named: &mut [bool], place: u64) -> Option<ImageFault>
     requires room { image.block_count (slice_index disk.now.bytes.now) ≤ length named.old }
     requires place { place < 2 ^ 50 }
-    ensures { answered result named.new ≡ image.in_turn (image.record_tests (slice_index disk.now.bytes.now) place) (blocks_in named.old) }
+    ensures { test_answer result named.new ≡ image.in_turn (image.record_tests (slice_index disk.now.bytes.now) place) (blocks_in named.old) }
 {
     let size = size_of(disk, place);
-    if !is_good_size(kind_of(disk, place), size) {
+    if !is_good_size(kind_at(disk, place), size) {
         return Some(ImageFault::DirSize(place));
     }
     if size > MAXFILESIZE {

@@ -7,16 +7,16 @@ ghost use Rattle.fs_image.specs.Answers.{blocks_in};
 ghost use Rattle.fs_image.specs.Walk.{rest_of_way, Tells, IsFrame, AreFrames, steps_left};
 
 use crate::checking::CheckFault;
-use crate::disk::Memory;
+use crate::disk::MemoryDisk;
 use crate::names::{first_taken, slot_place};
-use crate::records::{kind_of, size_of};
+use crate::records::{kind_at, size_of};
 use crate::slots::own_test;
 use fs_layout::{FTYPE_DIR, RECORDSIZE};
 use std::alloc::{AllocError, Global};
 
 /// A directory on the way down.
 #[derive(Clone, Copy)]
-struct Frame {
+struct WalkFrame {
     /// The place of its own record.
     directory: u64,
     /// How many records it holds.
@@ -28,7 +28,7 @@ struct Frame {
 }
 
 /// A directory of which no record was tested.
-fn enter(alloc: Global, disk: &Memory, directory: u64) -> Result<Frame, AllocError>
+fn enter(alloc: Global, disk: &MemoryDisk, directory: u64) -> Result<WalkFrame, AllocError>
     requires { directory < 2 ^ 50 }
     ensures frame { IfOk result (IsFrame (slice_index disk.now.bytes.now)) }
     ensures directory { IfOk result (λ frame. frame.directory ≡ directory) }
@@ -38,7 +38,7 @@ fn enter(alloc: Global, disk: &Memory, directory: u64) -> Result<Frame, AllocErr
 {
     let count = size_of(disk, directory) / RECORDSIZE;
     let taken = first_taken(alloc, disk, directory, count)?;
-    Ok(Frame {
+    Ok(WalkFrame {
         directory,
         count,
         taken,
@@ -50,11 +50,11 @@ fn enter(alloc: Global, disk: &Memory, directory: u64) -> Result<Frame, AllocErr
 /// all its records were tested it is left.
 fn step(
     alloc: Global,
-    disk: &Memory,
+    disk: &MemoryDisk,
     named: &mut [bool],
     depth: u32,
-    frame: Frame,
-    way: &mut Vec<Frame>,
+    frame: WalkFrame,
+    way: &mut Vec<WalkFrame>,
 ) -> Result<(), CheckFault>
     requires room { image.block_count (slice_index disk.now.bytes.now) ≤ length named.old }
     requires deep { length way.old.items < depth }
@@ -70,7 +70,7 @@ fn step(
     if frame.next == frame.count {
         return Ok(());
     }
-    if let Err(_) = way.push(Frame {
+    if let Err(_) = way.push(WalkFrame {
         next: frame.next + 1,
         ..frame
     }) {
@@ -84,7 +84,7 @@ fn step(
     if let Some(fault) = own_test(disk, named, frame.directory, frame.next, is_taken) {
         return Err(CheckFault::Bad(fault));
     }
-    if kind_of(disk, place) != FTYPE_DIR {
+    if kind_at(disk, place) != FTYPE_DIR {
         return Ok(());
     }
     if way.len() == depth as usize {
@@ -103,7 +103,7 @@ fn step(
 /// The records of a directory, each with all that stands below it before the next.
 pub(crate) fn contents_test(
     alloc: Global,
-    disk: &Memory,
+    disk: &MemoryDisk,
     named: &mut [bool],
     depth: u32,
     directory: u64,

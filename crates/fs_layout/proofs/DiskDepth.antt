@@ -4,10 +4,10 @@ use Rattle.std.proofs.Common.{◌≡◌, ◌∙◌, ◌+◌, ◌/◌, ◌<◌, �
 use Rattle.std.proofs.Common.{false, List, [], ◌∷◌, not, min, Result, Ok, Err, refl, sym, ap, arith}
 use Rattle.jos_base.specs.Words.{upd}
 use Rattle.fs_layout.specs.DiskImage.{ImageFault, Range, NamedTwice, MarkedFree, Blocks, none_named, Test, demand}
-use Rattle.fs_layout.specs.DiskImage.{only_where, after, in_turn, for_each_below, block_count, is_data_block}
+use Rattle.fs_layout.specs.DiskImage.{only_where, then_tested, in_turn, for_each_below, block_count, is_data_block}
 use Rattle.fs_layout.specs.DiskImage.{is_marked_free, slot_count, block_test, number_test, indirect_test}
 use Rattle.fs_layout.specs.DiskImage.{numbers_tests, stray_tests, record_tests, slot_tests, slot_test, slot_place}
-use Rattle.fs_layout.specs.DiskImage.{is_empty_record, is_directory, contents_test, root_place}
+use Rattle.fs_layout.specs.DiskImage.{is_empty_record, is_directory_at, contents_test, root_place}
 use Rattle.fs_layout.specs.DiskLaws.{DepthSuffices}
 use Rattle.std.proofs.lemmas.Bool.{cases_eq, not-true}
 use Rattle.jos_base.proofs.Maps.{upd-at, upd-other}
@@ -87,12 +87,12 @@ meets-map first then (Ok named) all met = all named met
 meets-map first then (Err fault) all met = tt
 
 meets-after : (first then : Blocks → Type 0) (result : Result Blocks ImageFault) (test : Test) → Meets first result →
-    ((named : Blocks) → first named → Meets then (test named)) → Meets then (after result test)
+    ((named : Blocks) → first named → Meets then (test named)) → Meets then (then_tested result test)
 meets-after first then (Ok named) test met all = all named met
 meets-after first then (Err fault) test met all = tt
 
 meets-demand : (holds : Blocks → Type 0) (passes : Bool) (fault : ImageFault) (named : Blocks) (rest : Test) →
-    (passes ≡ true → Meets holds (rest named)) → Meets holds (after (demand passes fault named) rest)
+    (passes ≡ true → Meets holds (rest named)) → Meets holds (then_tested (demand passes fault named) rest)
 meets-demand holds true fault named rest met = met refl
 meets-demand holds false fault named rest met = tt
 
@@ -103,7 +103,7 @@ meets-passed holds false fault named met = tt
 
 -- A test and one that agrees with it where this holds. `Meets` says that it holds when they are made.
 same-after : (holds : Blocks → Type 0) (result : Result Blocks ImageFault) (one other : Test) → Meets holds result →
-    ((named : Blocks) → holds named → one named ≡ other named) → after result one ≡ after result other
+    ((named : Blocks) → holds named → one named ≡ other named) → then_tested result one ≡ then_tested result other
 same-after holds (Ok named) one other met same = same named met
 same-after holds (Err fault) one other met same = refl
 
@@ -203,7 +203,7 @@ same-each byte bound zero one other keeps same named below = refl
 same-each byte bound (suc n) one other keeps same named below =
     same-after (λ then. unnamed byte then < bound) (for_each_below n one named) (one n) (other n)
     ((keeps-each byte n one keeps).keeps bound named below) (same n)
-    ∙ ap (λ (r : Result Blocks ImageFault). after r (other n)) (same-each byte bound n one other keeps same named below)
+    ∙ ap (λ (r : Result Blocks ImageFault). then_tested r (other n)) (same-each byte bound n one other keeps same named below)
 
 -- ---- the tests of a record
 
@@ -314,7 +314,7 @@ same-where false one other named same = refl
 same-last : (one other : Test) (named : Blocks) → one named ≡ other named →
     in_turn (one ∷ []) named ≡ in_turn (other ∷ []) named
 unfolding in_turn
-same-last one other named same = ap (λ (r : Result Blocks ImageFault). after r (in_turn [])) same
+same-last one other named same = ap (λ (r : Result Blocks ImageFault). then_tested r (in_turn [])) same
 
 -- one record, by what the walk below it gives
 same-slot_tests : (byte : ℕ → ℕ) (directory i depth : ℕ) (one other : ℕ → Test) →
@@ -330,7 +330,7 @@ same-slot_tests byte directory i depth one other same named enough =
     same-in_turn few _ _ _ n1 (meets-passed few _ _ n1 few1) (λ n2 few2.
     same-in_turn enough_below _ _ _ n2 (record-suffices byte place depth n2 (omega arith)) (λ n3 suffices.
     same-in_turn enough_below _ _ _ n3 (meets-passed enough_below _ _ n3 suffices) (λ n4 still.
-    same-last _ _ n4 (same-where (is_directory byte place) (one place) (other place) n4 (same place n4 still))))))
+    same-last _ _ n4 (same-where (is_directory_at byte place) (one place) (other place) n4 (same place n4 still))))))
 
 same-slot : (byte : ℕ → ℕ) (directory i depth : ℕ) (one other : ℕ → Test) →
     ((place : ℕ) (named : Blocks) → Suffices byte place depth named → one place named ≡ other place named) →

@@ -4,14 +4,14 @@ use Rattle.std.specs.Prelude.{replicate, true, false, refl, if◌then◌else◌}
 use Rattle.jos_base.specs.Words.{upd}
 use Rattle.jos_base.specs.Counting.{total}
 use Rattle.fs_layout.specs.declared.numbers.TheConstants.{FS_MAGIC, MAXFILESIZE}
-use Rattle.fs_layout.specs.FileTree.{Node, a_file, a_directory, Named, records_from, FileSystem, blocks_free, tree_blocks, listed}
+use Rattle.fs_layout.specs.FileTree.{Node, a_file, a_directory, NamedNode, records_from, FileSystem, blocks_free, tree_blocks, listed}
 use Rattle.fs_layout.specs.DiskImage.{ImageFault, TooShort, Magic, BlockCount, RootKind, Kind, BadName, DirSize, TooLong}
 use Rattle.fs_layout.specs.DiskImage.{Hole, Range, NamedTwice, MarkedFree, Stray, SameName}
 use Rattle.fs_layout.specs.DiskImage.{super_tests, in_turn, none_named, image_fault, image_tests, tree_tests, contents_test}
 use Rattle.fs_layout.specs.DiskImage.{slot_tests, record_tests, has_taken_name, stray_tests, has_stray, has_stray_in_indirect}
 use Rattle.fs_layout.specs.DiskImage.{numbers_tests, indirect_test, first_blocks_test, number_test, block_test}
 use Rattle.fs_layout.specs.DiskImage.{for_each_below, values_below, some_below, name_of}
-use Rattle.fs_layout.specs.DiskFiles.{files_of, unnamed_blocks, named_blocks, free_blocks, records_at, file_bytes}
+use Rattle.fs_layout.specs.DiskFiles.{file_system_of, unnamed_blocks, named_blocks, free_blocks, records_at, file_bytes}
 
 -- ---- images, as the words that are not 0
 
@@ -267,17 +267,17 @@ twelfth_named = refl
 
 -- the files of an image, and how many blocks are free by its bitmap
 files : (ℕ → ℕ) → FileSystem
-unfolding files_of unnamed_blocks named_blocks records_at file_bytes total tree_tests in_turn contents_test slot_tests
+unfolding file_system_of unnamed_blocks named_blocks records_at file_bytes total tree_tests in_turn contents_test slot_tests
     record_tests has_taken_name stray_tests has_stray has_stray_in_indirect numbers_tests indirect_test first_blocks_test
     number_test block_test for_each_below values_below some_below name_of upd records_from
-files byte = files_of byte
+files byte = file_system_of byte
 
 free : (ℕ → ℕ) → ℕ
 unfolding free_blocks total
 free byte = free_blocks byte
 
 -- the records of a block, of which the first ones are given
-abbrev named : List ℕ → Node → Option Named
+abbrev named : List ℕ → Node → Option NamedNode
 named name node = Some (record { name = name; node = node })
 
 abbrev hi : Node

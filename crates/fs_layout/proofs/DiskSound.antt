@@ -9,10 +9,10 @@ use Rattle.jos_base.specs.Words.{upd}
 use Rattle.fs_layout.specs.declared.numbers.TheConstants.{BLKSIZE, MAXFILESIZE, NDIRECT, FS_MAGIC}
 use Rattle.fs_layout.specs.FileTree.{Records, no_more, a_directory, records_from}
 use Rattle.fs_layout.specs.DiskImage.{ImageFault, Kind, BadName, DirSize, TooLong, Hole, Range, NamedTwice, MarkedFree, SameName}
-use Rattle.fs_layout.specs.DiskImage.{TooShort, Magic, BlockCount, RootKind, Blocks, none_named, Test, demand, only_where, after}
+use Rattle.fs_layout.specs.DiskImage.{TooShort, Magic, BlockCount, RootKind, Blocks, none_named, Test, demand, only_where, then_tested}
 use Rattle.fs_layout.specs.DiskImage.{in_turn, for_each_below, values_below, block_count, magic_of, is_good_count, is_data_block}
-use Rattle.fs_layout.specs.DiskImage.{is_marked_free, size_of, kind_of, direct_of, name_of, number_in_indirect, number_of}
-use Rattle.fs_layout.specs.DiskImage.{blocks_needed, slot_count, slot_place, is_empty_record, is_directory, has_indirect}
+use Rattle.fs_layout.specs.DiskImage.{is_marked_free, size_of, kind_at, direct_of, name_of, number_in_indirect, block_number_at}
+use Rattle.fs_layout.specs.DiskImage.{blocks_needed, slot_count, slot_place, is_empty_record, is_directory_at, has_indirect}
 use Rattle.fs_layout.specs.DiskImage.{is_good_kind, is_good_name, is_good_size, has_taken_name, block_test, number_test}
 use Rattle.fs_layout.specs.DiskImage.{indirect_test, numbers_tests, stray_tests, record_tests, slot_tests, slot_test}
 use Rattle.fs_layout.specs.DiskImage.{contents_test, root_place, super_tests, tree_tests, first_blocks_test, image_tests, image_fault}
@@ -37,7 +37,7 @@ err-not-ok : {X : Type 0} (fault : ImageFault) (now : Blocks) → Err fault ≡ 
 err-not-ok fault now e = cc
 
 -- both tests passed
-after-passed : (result : Result Blocks ImageFault) (test : Test) (now : Blocks) → after result test ≡ Ok now →
+after-passed : (result : Result Blocks ImageFault) (test : Test) (now : Blocks) → then_tested result test ≡ Ok now →
     Between result test now
 after-passed (Ok named) test now e = record { named = named; made = refl; rest_made = e }
 after-passed (Err fault) test now e = err-not-ok fault now e
@@ -109,7 +109,7 @@ number-data byte place number named now e =
 number-is-data : (byte : ℕ → ℕ) (place i : ℕ) (direct : Bool) → nat_lt i NDIRECT ≡ direct →
     (nat_lt i NDIRECT ≡ true → is_data_block (block_count byte) (direct_of byte place i) ≡ true) →
     (nat_lt i NDIRECT ≡ false → is_data_block (block_count byte) (number_in_indirect byte place (i - NDIRECT)) ≡ true) →
-    is_data_block (block_count byte) (number_of byte place i) ≡ true
+    is_data_block (block_count byte) (block_number_at byte place i) ≡ true
 number-is-data byte place i true is own far = rw is (own is)
 number-is-data byte place i false is own far = rw is (far is)
 
@@ -122,7 +122,7 @@ past_ten i n far within = grind (arith, nat_tests)
 
 -- each block within the size is a data block
 numbers-data : (byte : ℕ → ℕ) (place : ℕ) (named now : Blocks) → in_turn (numbers_tests byte place) named ≡ Ok now → (i : ℕ) →
-    i < blocks_needed byte place → is_data_block (block_count byte) (number_of byte place i) ≡ true
+    i < blocks_needed byte place → is_data_block (block_count byte) (block_number_at byte place i) ≡ true
 unfolding numbers_tests
 numbers-data byte place named now e i within =
     let own_test : ℕ → Test = λ k. number_test byte place (direct_of byte place k) in
@@ -162,13 +162,13 @@ record-readable byte place named now e =
     let numbers : Test = in_turn (numbers_tests byte place) in
     let strays : Test = in_turn (stray_tests byte place) in
     let size =
-    demand-turn (is_good_size (kind_of byte place) (size_of byte place)) (DirSize place)
+    demand-turn (is_good_size (kind_at byte place) (size_of byte place)) (DirSize place)
     (demand (nat_le (size_of byte place) MAXFILESIZE) (TooLong place) ∷ numbers ∷ strays ∷ []) named now e in
     let short =
     demand-turn (nat_le (size_of byte place) MAXFILESIZE) (TooLong place) (numbers ∷ strays ∷ []) named now size.1 in
     let parts = turn-passed numbers (strays ∷ []) named now short.1 in
     record {
-      whole = whole-if (is_directory byte place) (size_of byte place) size.0;
+      whole = whole-if (is_directory_at byte place) (size_of byte place) size.0;
       short = le-if (size_of byte place) MAXFILESIZE short.0;
       within = numbers-data byte place named parts.named parts.made;
     }
@@ -179,10 +179,10 @@ record-readable byte place named now e =
 record SlotMade (onward : ℕ → Test) (byte : ℕ → ℕ) (place : ℕ) (named now : Blocks) : Type 0 where
   behind : Blocks
   own : in_turn (record_tests byte place) named ≡ Ok behind
-  below : is_directory byte place ≡ true → onward place behind ≡ Ok now
+  below : is_directory_at byte place ≡ true → onward place behind ≡ Ok now
 
 -- a last test passed
-last-after : (result : Result Blocks ImageFault) (now : Blocks) → after result (in_turn []) ≡ Ok now → result ≡ Ok now
+last-after : (result : Result Blocks ImageFault) (now : Blocks) → then_tested result (in_turn []) ≡ Ok now → result ≡ Ok now
 unfolding in_turn
 last-after (Ok named) now e = e
 last-after (Err fault) now e = e
@@ -197,12 +197,12 @@ slot-passed : (onward : ℕ → Test) (byte : ℕ → ℕ) (directory i : ℕ) (
 unfolding slot_tests
 slot-passed onward byte directory i named now e =
     let place : ℕ = slot_place byte directory i in
-    let below : Test = only_where (is_directory byte place) (onward place) in
+    let below : Test = only_where (is_directory_at byte place) (onward place) in
     let apart : Test = demand (not (has_taken_name byte directory i)) (SameName place) in
     let own : Test = in_turn (record_tests byte place) in
     let name : Test = demand (is_good_name (name_of byte place)) (BadName place) in
     let kind =
-    demand-turn (is_good_kind (kind_of byte place)) (Kind place) (name ∷ own ∷ apart ∷ below ∷ []) named now e in
+    demand-turn (is_good_kind (kind_at byte place)) (Kind place) (name ∷ own ∷ apart ∷ below ∷ []) named now e in
     let named_well =
     demand-turn (is_good_name (name_of byte place)) (BadName place) (own ∷ apart ∷ below ∷ []) named now kind.1 in
     let parts = turn-passed own (apart ∷ below ∷ []) named now named_well.1 in
@@ -212,7 +212,7 @@ slot-passed onward byte directory i named now e =
       behind = parts.named;
       own = parts.made;
       below = λ is.
-          where-passed (is_directory byte place) (onward place) parts.named now is
+          where-passed (is_directory_at byte place) (onward place) parts.named now is
           (last-passed below parts.named now alone.1);
     }
 
@@ -233,7 +233,7 @@ none-if (suc n) left h = let impossible = h (omega arith) in absurd (omega arith
 
 -- a directory that passed can be read with all that stands below it
 contents-readable : (byte : ℕ → ℕ) (depth place : ℕ) (named now : Blocks) → IsReadable byte place →
-    Suffices byte place depth named → (is_directory byte place ≡ true → contents_test depth byte place named ≡ Ok now) →
+    Suffices byte place depth named → (is_directory_at byte place ≡ true → contents_test depth byte place named ≡ Ok now) →
     AreReadable depth byte place
 unfolding AreReadable contents_test
 contents-readable byte zero place named now readable suffices made =
@@ -281,11 +281,11 @@ disks-sound total byte e =
     let long : Bool = nat_le (3 * BLKSIZE) total && nat_le (BLKSIZE * block_count byte) total in
     let magic : Test = demand (magic_of byte == FS_MAGIC) Magic in
     let count : Test = demand (is_good_count (block_count byte)) BlockCount in
-    let root : Test = demand (is_directory byte root_place) RootKind in
+    let root : Test = demand (is_directory_at byte root_place) RootKind in
     let t1 = demand-turn long TooShort (magic ∷ count ∷ root ∷ tree) none_named passed.0 passed.1 in
     let t2 = demand-turn (magic_of byte == FS_MAGIC) Magic (count ∷ root ∷ tree) none_named passed.0 t1.1 in
     let t3 = demand-turn (is_good_count (block_count byte)) BlockCount (root ∷ tree) none_named passed.0 t2.1 in
-    let t4 = demand-turn (is_directory byte root_place) RootKind tree none_named passed.0 t3.1 in
+    let t4 = demand-turn (is_directory_at byte root_place) RootKind tree none_named passed.0 t3.1 in
     let contents : Test = contents_test (block_count byte) byte root_place in
     let first : Test = first_blocks_test byte in
     let own = turn-passed (in_turn (record_tests byte root_place)) (contents ∷ first ∷ []) none_named passed.0 t4.1 in
@@ -312,20 +312,20 @@ none-below zero f none = refl
 none-below (suc n) f none = absurd (omega arith)
 
 -- what a record names, by the records that stand below it
-node-same : (byte : ℕ → ℕ) (place : ℕ) (ones others : ℕ → Records) (directory : Bool) → is_directory byte place ≡ directory →
-    (is_directory byte place ≡ true → ones place ≡ others place) → node_of ones byte place ≡ node_of others byte place
+node-same : (byte : ℕ → ℕ) (place : ℕ) (ones others : ℕ → Records) (directory : Bool) → is_directory_at byte place ≡ directory →
+    (is_directory_at byte place ≡ true → ones place ≡ others place) → node_of ones byte place ≡ node_of others byte place
 node-same byte place ones others true is same = rw is (ap (λ r. a_directory r (has_indirect byte place)) (same is))
 node-same byte place ones others false is same = rw is refl
 
 -- the same of a record that may be empty
 named-same : (byte : ℕ → ℕ) (place : ℕ) (ones others : ℕ → Records) (empty : Bool) → is_empty_record byte place ≡ empty →
-    (is_empty_record byte place ≡ false → is_directory byte place ≡ true → ones place ≡ others place) →
+    (is_empty_record byte place ≡ false → is_directory_at byte place ≡ true → ones place ≡ others place) →
     named_of ones byte place ≡ named_of others byte place
 named-same byte place ones others true is same = rw is refl
 named-same byte place ones others false is same =
     rw is
     (ap (λ n. Some (record { name = name_of byte place; node = n }))
-    (node-same byte place ones others (is_directory byte place) refl (same is)))
+    (node-same byte place ones others (is_directory_at byte place) refl (same is)))
 
 -- no list gives no records
 no-records : records_from [] ≡ no_more
@@ -334,7 +334,7 @@ no-records = refl
 
 -- a greater bound gives the same records
 records-same : (byte : ℕ → ℕ) (depth more place : ℕ) → depth ≤ more → AreReadable depth byte place →
-    is_directory byte place ≡ true → records_at more byte place ≡ records_at depth byte place
+    is_directory_at byte place ≡ true → records_at more byte place ≡ records_at depth byte place
 unfolding records_at AreReadable
 records-same byte zero zero place le readable is = refl
 records-same byte zero (suc more) place le readable is =

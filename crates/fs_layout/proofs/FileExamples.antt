@@ -7,13 +7,13 @@ use Rattle.fs_layout.specs.declared.numbers.TheConstants.{MAXFILESIZE, O_CREAT, 
 use Rattle.fs_layout.specs.FileTree.{a_file, a_directory, no_more, empty_record, named_record, FileSystem, node_at}
 use Rattle.fs_layout.specs.FileTree.{needs_indirect, blocks_taken, bitmap_blocks, blocks_in_use, blocks_free}
 use Rattle.fs_layout.specs.FileTree.{listed, records_from, named_from, replaced, emptied, tree_blocks}
-use Rattle.fs_layout.specs.FileTree.{Act, open_path, read_file, write_file, set_file_size, stat_file, remove_path}
+use Rattle.fs_layout.specs.FileTree.{FileAct, open_path, read_file, write_file, set_file_size, stat_file, remove_path}
 use Rattle.fs_layout.specs.FileActs.{Acted, done, refused, names_in, is_good_path, find_name, look_from, look_up}
 use Rattle.fs_layout.specs.FileActs.{bytes_at, read_act, overwritten, write_act, resized, set_size_act, stat_bytes, stat_act}
 use Rattle.fs_layout.specs.FileActs.{with_room, with_new_file, new_file, open_act, remove_act, file_act, file_named}
 
 -- what a request gives where no file is open
-act : FileSystem → Act → Acted
+act : FileSystem → FileAct → Acted
 unfolding file_act open_act read_act write_act set_size_act stat_act remove_act
     look_up look_from find_name names_in is_good_path
     with_new_file with_room overwritten resized bytes_at stat_bytes bytes_of_words

@@ -12,7 +12,7 @@ use Rattle.std.proofs.lemmas.List.Folds.{list_all-append}
 use Rattle.fs_layout.specs.declared.paths.Span.{Span}
 use Rattle.fs_layout.specs.declared.numbers.TheConstants.{MAXNAMELEN, MAXPATHLEN}
 use Rattle.fs_layout.specs.FileActs.{is_slash}
-use Rattle.fs_layout.specs.Paths.{span_between, spans_from, spans_of, is_short, parts_of, LiesIn}
+use Rattle.fs_layout.specs.Paths.{span_between, spans_from, name_spans, is_short, parts_of, LiesIn}
 
 -- ---- one byte
 
@@ -68,14 +68,14 @@ pub parts-long_path : (path : List ℕ) → MAXPATHLEN ≤ length path → parts
 unfolding parts_of
 parts-long_path path long = rw (le-ltb (length path) MAXPATHLEN long) refl
 
-pub parts-long_name : (path : List ℕ) (names rest : List Span) (from to : ℕ) → names ++ (span_between from to ++ rest) ≡ spans_of path →
+pub parts-long_name : (path : List ℕ) (names rest : List Span) (from to : ℕ) → names ++ (span_between from to ++ rest) ≡ name_spans path →
     nat_lt (to - from) MAXNAMELEN ≡ false → parts_of path ≡ None
 unfolding parts_of
 parts-long_name path names rest from to whole h =
-    let long : list_all is_short (spans_of path) ≡ false = rw (← whole) (long-among names rest from to h) in
+    let long : list_all is_short (name_spans path) ≡ false = rw (← whole) (long-among names rest from to h) in
     rw (long, and-false (nat_lt (length path) MAXPATHLEN)) refl
 
-pub parts-passed : (path : List ℕ) (names : List Span) → length path < MAXPATHLEN → names ≡ spans_of path → list_all is_short names ≡ true →
+pub parts-passed : (path : List ℕ) (names : List Span) → length path < MAXPATHLEN → names ≡ name_spans path → list_all is_short names ≡ true →
     parts_of path ≡ Some names
 unfolding parts_of
 parts-passed path names fits whole short = rw (← whole, lt-ltb (length path) MAXPATHLEN fits, short) refl
@@ -105,7 +105,7 @@ spans-stay total (byte ∷ rest) from at ends =
       | false ↦ spans-stay total rest from (at + 1) (omega arith)
     ]
 
-pub parts-lie : (path : List ℕ) (names : List Span) → names ≡ spans_of path → list_all is_short names ≡ true → All (LiesIn (length path)) names
+pub parts-lie : (path : List ℕ) (names : List Span) → names ≡ name_spans path → list_all is_short names ≡ true → All (LiesIn (length path)) names
 parts-lie path names whole short k d within =
     let stay : All (Stays (length path)) names = rw whole (spans-stay (length path) path 0 0 (omega arith)) in
     let here = stay k d within in

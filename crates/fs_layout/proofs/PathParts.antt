@@ -12,7 +12,7 @@ use Rattle.std.proofs.lemmas.List.Splits.{slice_split-cons_yes, slice_split-cons
 use Rattle.fs_layout.specs.declared.paths.Span.{Span}
 use Rattle.fs_layout.specs.declared.numbers.TheConstants.{MAXNAMELEN, MAXPATHLEN}
 use Rattle.fs_layout.specs.FileActs.{is_slash, is_empty, names_in, is_good_path}
-use Rattle.fs_layout.specs.Paths.{span_between, spans_from, spans_of, is_short, name_of, parts_of}
+use Rattle.fs_layout.specs.Paths.{span_between, spans_from, name_spans, is_short, name_in_path, parts_of}
 
 -- the parts between slashes, the first with these bytes before it
 abbrev with_before : List ℕ → List (List ℕ) → List (List ℕ)
@@ -33,13 +33,13 @@ with_before-nothing [] = refl
 with_before-nothing (part ∷ parts) = refl
 
 -- the bytes between two places
-name-between : (front name rest : List ℕ) → name_of (front ++ (name ++ rest)) (record { from = length front; to = length front + length name }) ≡ name
+name-between : (front name rest : List ℕ) → name_in_path (front ++ (name ++ rest)) (record { from = length front; to = length front + length name }) ≡ name
 name-between front name rest =
     let wide : (length front + length name) - length front ≡ length name = omega arith in
     rw (wide, drop_at front (name ++ rest) (length front) refl) (take-append_seam name rest)
 
 -- one name, where there is one
-names-between : (front name rest : List ℕ) → map (name_of (front ++ (name ++ rest))) (span_between (length front) (length front + length name)) ≡ some_bytes (name ∷ [])
+names-between : (front name rest : List ℕ) → map (name_in_path (front ++ (name ++ rest))) (span_between (length front) (length front + length name)) ≡ some_bytes (name ∷ [])
 names-between front [] rest =
     let none : nat_lt (length front) (length front + 0) ≡ false = le-ltb (length front) (length front + 0) (omega arith) in
     rw none refl
@@ -49,17 +49,17 @@ names-between front (byte ∷ bytes) rest =
     rw (some, full) (ap {A = List ℕ} (λ l. l ∷ []) (name-between front (byte ∷ bytes) rest))
 
 names-at : (path front name rest : List ℕ) (from at : ℕ) → path ≡ front ++ (name ++ rest) → from ≡ length front → at ≡ from + length name →
-    map (name_of path) (span_between from at) ≡ some_bytes (name ∷ [])
+    map (name_in_path path) (span_between from at) ≡ some_bytes (name ∷ [])
 names-at path front name rest from at whole begins ends = rw (whole, ends, begins) (names-between front name rest)
 
 -- where a slash follows a name, the names from a place on are this one and those behind the slash
 names-slash : (path name rest : List ℕ) (byte from at : ℕ) → is_slash byte ≡ true →
-    map (name_of path) (span_between from at) ≡ some_bytes (name ∷ []) →
-    map (name_of path) (spans_from (at + 1) (at + 1) rest) ≡ some_bytes (with_before [] (slice_split is_slash rest)) →
-    map (name_of path) (span_between from at ++ spans_from (at + 1) (at + 1) rest) ≡ some_bytes (with_before name (slice_split is_slash (byte ∷ rest)))
+    map (name_in_path path) (span_between from at) ≡ some_bytes (name ∷ []) →
+    map (name_in_path path) (spans_from (at + 1) (at + 1) rest) ≡ some_bytes (with_before [] (slice_split is_slash rest)) →
+    map (name_in_path path) (span_between from at ++ spans_from (at + 1) (at + 1) rest) ≡ some_bytes (with_before name (slice_split is_slash (byte ∷ rest)))
 names-slash path name rest byte from at slash here behind =
-    map-append (name_of path) (span_between from at) (spans_from (at + 1) (at + 1) rest)
-    ∙ ap (λ (l : List (List ℕ)). l ++ map (name_of path) (spans_from (at + 1) (at + 1) rest)) here
+    map-append (name_in_path path) (span_between from at) (spans_from (at + 1) (at + 1) rest)
+    ∙ ap (λ (l : List (List ℕ)). l ++ map (name_in_path path) (spans_from (at + 1) (at + 1) rest)) here
     ∙ ap (λ (l : List (List ℕ)). some_bytes (name ∷ []) ++ l) (behind ∙ with_before-nothing (slice_split is_slash rest))
     ∙ sym (filter-append (λ name. not (is_empty name)) (name ∷ []) (slice_split is_slash rest))
     ∙ ap (λ (l : List ℕ). some_bytes (l ∷ slice_split is_slash rest)) (sym (append-nil name))
@@ -67,7 +67,7 @@ names-slash path name rest byte from at slash here behind =
 
 -- the names from a place on, where the bytes before it belong to the first
 names-from : (path front name rest : List ℕ) (from at : ℕ) → path ≡ front ++ (name ++ rest) → from ≡ length front → at ≡ from + length name →
-    map (name_of path) (spans_from from at rest) ≡ some_bytes (with_before name (slice_split is_slash rest))
+    map (name_in_path path) (spans_from from at rest) ≡ some_bytes (with_before name (slice_split is_slash rest))
 unfolding spans_from
 names-from path front name [] from at whole begins ends =
     names-at path front name [] from at whole begins ends ∙ ap (λ (l : List ℕ). some_bytes (l ∷ [])) (sym (append-nil name))
@@ -76,7 +76,7 @@ names-from path front name (byte ∷ rest) from at whole begins ends =
     let behind : path ≡ (front ++ (name ++ byte ∷ [])) ++ ([] ++ rest) = longer ∙ sym (append_assoc front (name ++ byte ∷ []) rest) in
     let begin : at + 1 ≡ length (front ++ (name ++ byte ∷ [])) = omega (arith, length-append front (name ++ byte ∷ []), length-append name (byte ∷ [])) in
     let end : at + 1 ≡ from + length (name ++ byte ∷ []) = omega (arith, length-append name (byte ∷ [])) in
-    elim (is_slash byte) as (λ (b : Bool). is_slash byte ≡ b → map (name_of path) (if b then span_between from at ++ spans_from (at + 1) (at + 1) rest else spans_from from (at + 1) rest) ≡ some_bytes (with_before name (slice_split is_slash (byte ∷ rest)))) [
+    elim (is_slash byte) as (λ (b : Bool). is_slash byte ≡ b → map (name_in_path path) (if b then span_between from at ++ spans_from (at + 1) (at + 1) rest else spans_from from (at + 1) rest) ≡ some_bytes (with_before name (slice_split is_slash (byte ∷ rest)))) [
       | true ↦ (λ slash. names-slash path name rest byte from at slash (names-at path front name (byte ∷ rest) from at whole begins ends)
           (names-from path (front ++ (name ++ byte ∷ [])) [] rest (at + 1) (at + 1) behind begin (omega arith)))
       | false ↦ (λ other. names-from path front (name ++ byte ∷ []) rest from (at + 1) longer begins end
@@ -85,7 +85,7 @@ names-from path front name (byte ∷ rest) from at whole begins ends =
     ]
     refl
 
-pub names-stand : (path : List ℕ) → map (name_of path) (spans_of path) ≡ names_in path
+pub names-stand : (path : List ℕ) → map (name_in_path path) (name_spans path) ≡ names_in path
 unfolding names_in
 names-stand path = names-from path [] [] path 0 0 refl refl refl ∙ with_before-nothing (slice_split is_slash path)
 
@@ -93,9 +93,9 @@ names-stand path = names-from path [] [] path 0 0 refl refl refl ∙ with_before
 
 -- whether the bytes of a name leave room
 abbrev leaves_room : List ℕ → Span → Bool
-leaves_room path span = nat_lt (length (name_of path span)) MAXNAMELEN
+leaves_room path span = nat_lt (length (name_in_path path span)) MAXNAMELEN
 
-length-name_of : (path : List ℕ) (from to : ℕ) → from ≤ to → to ≤ length path → length (name_of path (record { from = from; to = to })) ≡ to - from
+length-name_of : (path : List ℕ) (from to : ℕ) → from ≤ to → to ≤ length path → length (name_in_path path (record { from = from; to = to })) ≡ to - from
 length-name_of path from to order within = omega (arith, length-take (to - from) (drop from path), length-drop from path)
 
 room-between : (path : List ℕ) (from to : ℕ) → from ≤ to → to ≤ length path → list_all (leaves_room path) (span_between from to) ≡ list_all is_short (span_between from to)
@@ -125,8 +125,8 @@ is_some-if false names = refl
 pub good-has_parts : (path : List ℕ) → is_some (parts_of path) ≡ is_good_path path
 unfolding parts_of is_good_path
 good-has_parts path =
-    is_some-if (nat_lt (length path) MAXPATHLEN && list_all is_short (spans_of path)) (spans_of path)
+    is_some-if (nat_lt (length path) MAXPATHLEN && list_all is_short (name_spans path)) (name_spans path)
     ∙ ap (λ b. nat_lt (length path) MAXPATHLEN && b)
     (sym (room-from path path 0 0 (omega arith) (omega arith))
-    ∙ sym (list_all-map (λ name. nat_lt (length name) MAXNAMELEN) (name_of path) (spans_of path))
+    ∙ sym (list_all-map (λ name. nat_lt (length name) MAXNAMELEN) (name_in_path path) (name_spans path))
     ∙ ap (λ (l : List (List ℕ)). list_all (λ name. nat_lt (length name) MAXNAMELEN) l) (names-stand path))

@@ -3,9 +3,10 @@ use Rattle.std.proofs.Common.{◌≡◌, ℕ, ◌+◌, ◌*◌, ◌≤◌, [], �
 use Rattle.std.specs.Prelude.{◌==◌, if◌then◌else◌}
 use Rattle.std.specs.Int.{w32, from_le_bytes}
 use Rattle.std.proofs.lemmas.List.FromFn.{fill_by_all, length-map-range_with_len, get_or-map-range_with_len}
+use Rattle.jos_base.specs.Words.{word_at}
 use Rattle.fs_layout.specs.declared.numbers.TheConstants.{RECORDSIZE, MAXNAMELEN, NDIRECT, FS_MAGIC}
 use Rattle.fs_layout.specs.declared.numbers.TheConstants.{BLOCKS_AT, ROOT_AT, SIZE_AT, KIND_AT, DIRECT_AT, INDIRECT_AT}
-use Rattle.fs_layout.specs.Layout.{word_at, bytes_from, words_from, entry_at, super_at}
+use Rattle.fs_layout.specs.Layout.{bytes_from, words_from, file_entry_at, super_at}
 use Rattle.fs_layout.specs.LayoutLaws.{Same}
 
 -- some of the bytes
@@ -36,8 +37,8 @@ words-same n byte at other place same =
     (λ k within. get_or-map-range_with_len (λ k. word_at byte (at + 4 * k)) 0 n k k 0 within (omega arith)
     ∙ word-same byte (at + 4 * k) other (place + 4 * k) (further (4 * n) (4 * k) 4 byte at other place (omega arith) same))
 
-pub entry-same : (byte : ℕ → ℕ) (at : ℕ) (other : ℕ → ℕ) (place : ℕ) → Same RECORDSIZE byte at other place → entry_at byte at ≡ entry_at other place
-unfolding entry_at
+pub entry-same : (byte : ℕ → ℕ) (at : ℕ) (other : ℕ → ℕ) (place : ℕ) → Same RECORDSIZE byte at other place → file_entry_at byte at ≡ file_entry_at other place
+unfolding file_entry_at
 entry-same byte at other place same =
     let n = bytes-same MAXNAMELEN byte at other place (λ k lt. same k (omega arith)) in
     let s = word-same byte (at + SIZE_AT) other (place + SIZE_AT) (further RECORDSIZE SIZE_AT 4 byte at other place (omega arith) same) in

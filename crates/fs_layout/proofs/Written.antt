@@ -10,12 +10,13 @@ use Rattle.std.proofs.lemmas.List.{get_or-append-add}
 use Rattle.std.proofs.lemmas.List.FromFn.{fill_by_all}
 use Rattle.std.proofs.lemmas.List.{length-replicate}
 use Rattle.jos_base.specs.TrapFrames.{bytes_of_words}
-use Rattle.fs_layout.specs.declared.records.Entry.{Entry}
+use Rattle.fs_layout.specs.declared.records.FileEntry.{FileEntry}
 use Rattle.fs_layout.specs.declared.records.Super.{Super}
 use Rattle.fs_layout.specs.declared.numbers.TheConstants.{BLKSIZE, RECORDSIZE, MAXNAMELEN, NDIRECT, FS_MAGIC}
 use Rattle.fs_layout.specs.declared.numbers.TheConstants.{BLOCKS_AT, ROOT_AT, SIZE_AT, KIND_AT, DIRECT_AT, INDIRECT_AT, PADDING_AT}
-use Rattle.fs_layout.specs.Layout.{word_at, bytes_from, words_from, entry_at, super_at, zeros, entry_bytes, super_bytes, EntryFits}
+use Rattle.fs_layout.specs.Layout.{bytes_from, words_from, file_entry_at, super_at, zeros, entry_bytes, super_bytes, EntryFits}
 use Rattle.jos_base.proofs.WordBytes.{length-bytes_of_words, bytes_of_words-append, bytes_of_words-one}
+use Rattle.jos_base.specs.Words.{word_at}
 
 -- ---- writing
 
@@ -81,15 +82,15 @@ words-back byte at (word ∷ rest) fits all (suc k) within =
     let place : at + 4 * suc k ≡ at + 4 + 4 * k = omega arith in
     ap (word_at byte) place ∙ words-back byte (at + 4) rest (λ j. fits (suc j)) (stands-rest byte at (at + 4) (to_le_bytes w32 word) (bytes_of_words rest) refl all) k (omega arith)
 
-entries-same : (a b : Entry) → a.name ≡ b.name → a.size ≡ b.size → a.kind ≡ b.kind → a.direct ≡ b.direct → a.indirect ≡ b.indirect → a ≡ b
+entries-same : (a b : FileEntry) → a.name ≡ b.name → a.size ≡ b.size → a.kind ≡ b.kind → a.direct ≡ b.direct → a.indirect ≡ b.indirect → a ≡ b
 entries-same a b n s k d i = λ j. record { name = n j; size = s j; kind = k j; direct = d j; indirect = i j }
 
 kind-stands : (byte : ℕ → ℕ) (at next size kind : ℕ) → next ≡ at + 4 → Stands byte at (bytes_of_words (size ∷ kind ∷ [])) → Stands byte next (bytes_of_words (kind ∷ []))
 unfolding bytes_of_words
 kind-stands byte at next size kind behind all = stands-rest byte at next (to_le_bytes w32 size) (bytes_of_words (kind ∷ [])) behind all
 
-pub entry-back : (byte : ℕ → ℕ) (at : ℕ) (e : Entry) → EntryFits e → Stands byte at (entry_bytes e) → entry_at byte at ≡ e
-unfolding entry_at entry_bytes bytes_from words_from
+pub entry-back : (byte : ℕ → ℕ) (at : ℕ) (e : FileEntry) → EntryFits e → Stands byte at (entry_bytes e) → file_entry_at byte at ≡ e
+unfolding file_entry_at entry_bytes bytes_from words_from
 entry-back byte at e sized all =
     let last : List ℕ = zeros (RECORDSIZE - PADDING_AT) in
     let two : List ℕ = bytes_of_words (e.size ∷ e.kind ∷ []) in
@@ -107,7 +108,7 @@ entry-back byte at e sized all =
     (λ k within. sym (words-back byte (at + DIRECT_AT) e.direct sized.each (stands-first byte (at + DIRECT_AT) ten (one ++ last) from_direct) k (omega (arith, sized.direct))))))
     (word-back byte (at + INDIRECT_AT) e.indirect [] sized.indirect (stands-first byte (at + INDIRECT_AT) one last from_indirect))
 
-pub length-entry_bytes : (e : Entry) → EntryFits e → length (entry_bytes e) ≡ RECORDSIZE
+pub length-entry_bytes : (e : FileEntry) → EntryFits e → length (entry_bytes e) ≡ RECORDSIZE
 unfolding entry_bytes
 length-entry_bytes e sized =
     let last : List ℕ = zeros (RECORDSIZE - PADDING_AT) in

@@ -8,10 +8,9 @@ use Rattle.std.specs.Prelude.{List, [], ◌∷◌, ◌++◌, length, bytes_eq, O
 use Rattle.std.specs.List.{before_first, list_any}
 use Rattle.std.specs.Result.{result_err}
 use Rattle.std.specs.Int.{bit_at}
-use Rattle.jos_base.specs.Words.{upd}
+use Rattle.jos_base.specs.Words.{upd, word_at}
 use Rattle.fs_layout.specs.declared.numbers.TheConstants.{BLKSIZE, RECORDSIZE, BLKFILES, MAXNAMELEN, MAXFILESIZE, NDIRECT, NINDIRECT}
 use Rattle.fs_layout.specs.declared.numbers.TheConstants.{FTYPE_REG, FTYPE_DIR, FS_MAGIC, MINBLOCKS, MAXBLOCKS}
-use Rattle.fs_layout.specs.Layout.{word_at}
 use Rattle.fs_layout.specs.FileTree.{blocks_of, needs_indirect, bitmap_blocks}
 use Rattle.fs_layout.specs.FileActs.{is_slash}
 
@@ -57,8 +56,8 @@ is_data_block blocks block = nat_le (first_data_block blocks) block && nat_lt bl
 abbrev pub size_of : (ℕ → ℕ) → ℕ → ℕ
 size_of byte place = word_at byte (place + MAXNAMELEN)
 
-abbrev pub kind_of : (ℕ → ℕ) → ℕ → ℕ
-kind_of byte place = word_at byte (place + MAXNAMELEN + 4)
+abbrev pub kind_at : (ℕ → ℕ) → ℕ → ℕ
+kind_at byte place = word_at byte (place + MAXNAMELEN + 4)
 
 abbrev pub direct_of : (ℕ → ℕ) → ℕ → ℕ → ℕ
 direct_of byte place i = word_at byte (place + MAXNAMELEN + 8 + 4 * i)
@@ -74,8 +73,8 @@ name_of byte place = before_first (λ b. b == 0) (values_below MAXNAMELEN (λ k.
 abbrev pub is_empty_record : (ℕ → ℕ) → ℕ → Bool
 is_empty_record byte place = byte place == 0
 
-abbrev pub is_directory : (ℕ → ℕ) → ℕ → Bool
-is_directory byte place = kind_of byte place == FTYPE_DIR
+abbrev pub is_directory_at : (ℕ → ℕ) → ℕ → Bool
+is_directory_at byte place = kind_at byte place == FTYPE_DIR
 
 abbrev pub has_indirect : (ℕ → ℕ) → ℕ → Bool
 has_indirect byte place = not (indirect_of byte place == 0)
@@ -89,15 +88,15 @@ abbrev pub number_in_indirect : (ℕ → ℕ) → ℕ → ℕ → ℕ
 number_in_indirect byte place i = word_at byte (BLKSIZE * indirect_of byte place + 4 * i)
 
 -- the number of one of its blocks, which are counted from 0
-abbrev pub number_of : (ℕ → ℕ) → ℕ → ℕ → ℕ
-number_of byte place i = if nat_lt i NDIRECT then direct_of byte place i else number_in_indirect byte place (i - NDIRECT)
+abbrev pub block_number_at : (ℕ → ℕ) → ℕ → ℕ → ℕ
+block_number_at byte place i = if nat_lt i NDIRECT then direct_of byte place i else number_in_indirect byte place (i - NDIRECT)
 
 -- how many records a directory holds, and where each of them stands
 abbrev pub slot_count : (ℕ → ℕ) → ℕ → ℕ
 slot_count byte place = size_of byte place / RECORDSIZE
 
 abbrev pub slot_place : (ℕ → ℕ) → ℕ → ℕ → ℕ
-slot_place byte place i = BLKSIZE * number_of byte place (i / BLKFILES) + RECORDSIZE * (i % BLKFILES)
+slot_place byte place i = BLKSIZE * block_number_at byte place (i / BLKFILES) + RECORDSIZE * (i % BLKFILES)
 
 -- ---- faults and tests
 
@@ -154,19 +153,19 @@ only_where true test named = test named
 only_where false test named = Ok named
 
 -- a test after what the tests before it gave
-abbrev pub after : Result Blocks ImageFault → Test → Result Blocks ImageFault
-after (Ok named) test = test named
-after (Err fault) test = Err fault
+abbrev pub then_tested : Result Blocks ImageFault → Test → Result Blocks ImageFault
+then_tested (Ok named) test = test named
+then_tested (Err fault) test = Err fault
 
 -- tests one after another, up to the first fault
 unfoldable pub in_turn : List Test → Test
 in_turn [] named = Ok named
-in_turn (test ∷ tests) named = after (test named) (in_turn tests)
+in_turn (test ∷ tests) named = then_tested (test named) (in_turn tests)
 
 -- a test for each number below a count, in rising order, up to the first fault
 unfoldable pub for_each_below : ℕ → (ℕ → Test) → Test
 for_each_below zero test named = Ok named
-for_each_below (suc n) test named = after (for_each_below n test named) (test n)
+for_each_below (suc n) test named = then_tested (for_each_below n test named) (test n)
 
 -- ---- the blocks of a record
 
@@ -231,7 +230,7 @@ is_good_size kind size = not (kind == FTYPE_DIR) || (size % BLKSIZE == 0)
 -- the tests that are the root's too
 unfoldable pub record_tests : (ℕ → ℕ) → ℕ → List Test
 record_tests byte place =
-    demand (is_good_size (kind_of byte place) (size_of byte place)) (DirSize place)
+    demand (is_good_size (kind_at byte place) (size_of byte place)) (DirSize place)
     ∷ demand (nat_le (size_of byte place) MAXFILESIZE) (TooLong place)
     ∷ in_turn (numbers_tests byte place)
     ∷ in_turn (stray_tests byte place)
@@ -247,11 +246,11 @@ has_taken_name byte directory i =
 unfoldable pub slot_tests : (ℕ → Test) → (ℕ → ℕ) → ℕ → ℕ → List Test
 slot_tests onward byte directory i =
     let place = slot_place byte directory i in
-    demand (is_good_kind (kind_of byte place)) (Kind place)
+    demand (is_good_kind (kind_at byte place)) (Kind place)
     ∷ demand (is_good_name (name_of byte place)) (BadName place)
     ∷ in_turn (record_tests byte place)
     ∷ demand (not (has_taken_name byte directory i)) (SameName place)
-    ∷ only_where (is_directory byte place) (onward place)
+    ∷ only_where (is_directory_at byte place) (onward place)
     ∷ []
 
 -- an empty record is passed over
@@ -281,7 +280,7 @@ super_tests total byte =
     demand (nat_le (3 * BLKSIZE) total && nat_le (BLKSIZE * block_count byte) total) TooShort
     ∷ demand (magic_of byte == FS_MAGIC) Magic
     ∷ demand (is_good_count (block_count byte)) BlockCount
-    ∷ demand (is_directory byte root_place) RootKind
+    ∷ demand (is_directory_at byte root_place) RootKind
     ∷ []
 
 -- at the end the blocks that no record names and that are always in use

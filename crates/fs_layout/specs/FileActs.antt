@@ -6,17 +6,17 @@
 -- which doesn't fit changes nothing, and that an open file is not removed is this system's own.)
 use Rattle.std.specs.Prelude.{ℕ, ◌+◌, ◌-◌, ◌==◌, ◌&&◌, ◌||◌, nat_lt, nat_le, not, min, Bool, false}
 use Rattle.std.specs.Prelude.{List, [], ◌∷◌, ◌++◌, length, take, drop, replicate, filter, slice_set, slice_index_or, bytes_eq, position}
-use Rattle.std.specs.Prelude.{Option, Some, None, option_map, is_none, bit_and, if◌then◌else◌}
+use Rattle.std.specs.Prelude.{Option, Some, None, option_map, is_none, if◌then◌else◌}
 use Rattle.std.specs.List.{slice_split, list_all, position_or_len}
 use Rattle.jos_base.specs.declared.numbers.TheConstants.{E_INVAL, E_NO_DISK, E_NOT_FOUND, E_BAD_PATH, E_FILE_EXISTS}
-use Rattle.jos_base.specs.Words.{negated}
+use Rattle.jos_base.specs.Words.{negated, has_bit}
 use Rattle.jos_base.specs.TrapFrames.{bytes_of_words}
 use Rattle.fs_layout.specs.declared.numbers.TheConstants.{BLKSIZE, BLKFILES, MAXNAMELEN, MAXFILESIZE, MAXPATHLEN, FTYPE_REG}
 use Rattle.fs_layout.specs.declared.numbers.TheConstants.{O_CREAT, O_TRUNC, O_EXCL}
-use Rattle.fs_layout.specs.FileTree.{Node, a_file, a_directory, Named, FileSystem}
+use Rattle.fs_layout.specs.FileTree.{Node, a_file, a_directory, NamedNode, FileSystem}
 use Rattle.fs_layout.specs.FileTree.{listed, records_from, directory_size, needs_indirect, blocks_in_use, blocks_free}
 use Rattle.fs_layout.specs.FileTree.{named_at, node_at, with_node, without_node}
-use Rattle.fs_layout.specs.FileTree.{Act, open_path, read_file, write_file, set_file_size, stat_file, remove_path, sync_files}
+use Rattle.fs_layout.specs.FileTree.{FileAct, open_path, read_file, write_file, set_file_size, stat_file, remove_path, sync_files}
 
 -- ---- what an act gives
 
@@ -59,17 +59,17 @@ is_good_path path = nat_lt (length path) MAXPATHLEN && list_all (λ name. nat_lt
 
 -- ---- looking a path up
 
-abbrev pub has_name : List ℕ → Option Named → Bool
+abbrev pub has_name : List ℕ → Option NamedNode → Bool
 has_name name None = false
 has_name name (Some named) = bytes_eq named.name name
 
-abbrev pub found_at : List (Option Named) → Option ℕ → Option (ℕ × Node)
-found_at list None = None
-found_at list (Some place) = option_map (λ (named : Named). (place, named.node)) (slice_index_or list place None)
+abbrev pub found_record : List (Option NamedNode) → Option ℕ → Option (ℕ × Node)
+found_record list None = None
+found_record list (Some place) = option_map (λ (named : NamedNode). (place, named.node)) (slice_index_or list place None)
 
 -- the place of the record with a name, and the node that it names
-unfoldable pub find_name : List ℕ → List (Option Named) → Option (ℕ × Node)
-find_name name list = found_at list (position (has_name name) list)
+unfoldable pub find_name : List ℕ → List (Option NamedNode) → Option (ℕ × Node)
+find_name name list = found_record list (position (has_name name) list)
 
 -- where a path leads
 pub data Looked : Type 0 where
@@ -172,7 +172,7 @@ set_size_act s way size = on_file s (node_at s way) (set_size_to s way size)
 unfoldable pub stat_bytes : List ℕ → ℕ → ℕ → List ℕ
 stat_bytes name size kind = name ++ replicate (MAXNAMELEN - length name) 0 ++ bytes_of_words (size ∷ kind ∷ [])
 
-abbrev pub stat_of : FileSystem → Option Named → Acted
+abbrev pub stat_of : FileSystem → Option NamedNode → Acted
 stat_of s None = refused s E_INVAL
 stat_of s (Some named) =
     on_file s (Some named.node)
@@ -185,23 +185,23 @@ stat_act s way = stat_of s (named_at s way)
 -- ---- acts on a path
 
 -- the first place whose record is empty; where there is none, the first behind the records
-abbrev pub free_place : List (Option Named) → ℕ
+abbrev pub free_place : List (Option NamedNode) → ℕ
 free_place list = position_or_len is_none list
 
 -- the records with room for one more name: where none is empty, a block of empty ones follows them
-unfoldable pub with_room : List (Option Named) → List (Option Named)
+unfoldable pub with_room : List (Option NamedNode) → List (Option NamedNode)
 with_room list = if nat_lt (free_place list) (length list) then list else list ++ replicate BLKFILES None
 
 -- a new file has no bytes
-abbrev pub new_file : List ℕ → Named
+abbrev pub new_file : List ℕ → NamedNode
 new_file name = record { name = name; node = a_file [] false }
 
 -- the records with a new file's in the free place
-unfoldable pub with_new_file : List ℕ → List (Option Named) → List (Option Named)
+unfoldable pub with_new_file : List ℕ → List (Option NamedNode) → List (Option NamedNode)
 with_new_file name list = slice_set (with_room list) (free_place list) (Some (new_file name))
 
 -- A directory gets these records. Its indirect block stays, and comes where it is needed.
-abbrev pub directory_grown : FileSystem → List ℕ → Bool → List (Option Named) → Acted
+abbrev pub directory_grown : FileSystem → List ℕ → Bool → List (Option NamedNode) → Acted
 directory_grown s way indirect list =
     let size = directory_size list in
     if nat_lt MAXFILESIZE size then refused s E_NO_DISK
@@ -211,9 +211,6 @@ directory_grown s way indirect list =
 abbrev pub create_in : FileSystem → List ℕ → Node → List ℕ → Acted
 create_in s way (a_directory records indirect) name = directory_grown s way indirect (with_new_file name (listed records))
 create_in s way (a_file bytes indirect) name = refused s E_NOT_FOUND
-
-abbrev pub has_bit : ℕ → ℕ → Bool
-has_bit mode bit = bit_and mode bit == bit
 
 -- what is there is opened
 abbrev pub open_there : FileSystem → ℕ → List ℕ → Node → Acted
@@ -249,7 +246,7 @@ remove_act is_open s path = remove_looked is_open s (look_up s path)
 -- ---- every act
 
 -- What is asked for is done. After sync() all is on the disk too, which can't be seen here.
-unfoldable pub file_act : (List ℕ → Bool) → FileSystem → Act → Acted
+unfoldable pub file_act : (List ℕ → Bool) → FileSystem → FileAct → Acted
 file_act is_open s (open_path path mode) = open_act s path mode
 file_act is_open s (read_file way at n) = read_act s way at n
 file_act is_open s (write_file way at bytes) = write_act s way at bytes

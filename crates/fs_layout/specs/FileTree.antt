@@ -21,18 +21,18 @@ mutual
     named_record : List ℕ → Node → Records → Records
 
 -- what a record has that is not empty; the name is without its NUL
-pub record Named : Type 0 where
+pub record NamedNode : Type 0 where
   pub name : List ℕ
   pub node : Node
 
 -- the records as a list
-unfoldable pub listed : Records → List (Option Named)
+unfoldable pub listed : Records → List (Option NamedNode)
 listed no_more = []
 listed (empty_record rest) = None ∷ listed rest
 listed (named_record name node rest) = Some (record { name = name; node = node }) ∷ listed rest
 
 -- and a list as records
-unfoldable pub records_from : List (Option Named) → Records
+unfoldable pub records_from : List (Option NamedNode) → Records
 records_from [] = no_more
 records_from (None ∷ rest) = empty_record (records_from rest)
 records_from (Some named ∷ rest) = named_record named.name named.node (records_from rest)
@@ -50,47 +50,47 @@ pub record FileSystem : Type 0 where
 -- ---- one node
 
 -- a file has no records
-abbrev pub records_of : Node → List (Option Named)
-records_of (a_file bytes indirect) = []
-records_of (a_directory records indirect) = listed records
+abbrev pub records_in : Node → List (Option NamedNode)
+records_in (a_file bytes indirect) = []
+records_in (a_directory records indirect) = listed records
 
 -- a directory with other records
-abbrev pub with_records : Node → List (Option Named) → Node
+abbrev pub with_records : Node → List (Option NamedNode) → Node
 with_records (a_file bytes indirect) list = a_file bytes indirect
 with_records (a_directory records indirect) list = a_directory (records_from list) indirect
 
 -- the record at a place; past the end it is as an empty one
-abbrev pub record_at : Node → ℕ → Option Named
-record_at node place = slice_index_or (records_of node) place None
+abbrev pub record_at : Node → ℕ → Option NamedNode
+record_at node place = slice_index_or (records_in node) place None
 
 -- a directory with another record at a place
-abbrev pub with_record : Node → ℕ → Option Named → Node
-with_record node place entry = with_records node (slice_set (records_of node) place entry)
+abbrev pub with_record : Node → ℕ → Option NamedNode → Node
+with_record node place entry = with_records node (slice_set (records_in node) place entry)
 
 -- ---- ways
 
 -- A way names a node by the places of the records that lead to it from the root on. The root has the empty way.
 
 -- the root as though a record named it
-abbrev pub root_record : FileSystem → Named
+abbrev pub root_record : FileSystem → NamedNode
 root_record s = record { name = codes "/"; node = s.root }
 
 -- what stands at a way that begins here
-unfoldable pub named_from : List ℕ → Named → Option Named
+unfoldable pub named_from : List ℕ → NamedNode → Option NamedNode
 named_from [] here = Some here
 named_from (place ∷ way) here = option_and_then (named_from way) (record_at here.node place)
 
 -- the name and the node at a way
-abbrev pub named_at : FileSystem → List ℕ → Option Named
+abbrev pub named_at : FileSystem → List ℕ → Option NamedNode
 named_at s way = named_from way (root_record s)
 
 -- the node at a way
 abbrev pub node_at : FileSystem → List ℕ → Option Node
-node_at s way = option_map (λ (found : Named). found.node) (named_at s way)
+node_at s way = option_map (λ (found : NamedNode). found.node) (named_at s way)
 
 -- a record with its node changed; an empty one stays empty
-abbrev pub node_changed : (Node → Node) → Option Named → Option Named
-node_changed change entry = option_map (λ (named : Named). record named { node = change named.node }) entry
+abbrev pub node_changed : (Node → Node) → Option NamedNode → Option NamedNode
+node_changed change entry = option_map (λ (named : NamedNode). record named { node = change named.node }) entry
 
 -- the tree from here on, with another node at a way
 unfoldable pub replaced : List ℕ → Node → Node → Node
@@ -122,7 +122,7 @@ abbrev pub needs_indirect : ℕ → Bool
 needs_indirect size = nat_lt NDIRECT (blocks_of size)
 
 -- the bytes of a directory, in which empty records count
-abbrev pub directory_size : List (Option Named) → ℕ
+abbrev pub directory_size : List (Option NamedNode) → ℕ
 directory_size list = RECORDSIZE * length list
 
 -- the blocks for so many bytes, and the indirect block, where there is one
@@ -155,17 +155,17 @@ blocks_free s = s.blocks - blocks_in_use s
 -- ---- requests
 
 -- What the file server may be asked for. A path is a list of bytes, and a file is named by its way.
-pub data Act : Type 0 where
+pub data FileAct : Type 0 where
   -- the path, and the mode
-  open_path : List ℕ → ℕ → Act
+  open_path : List ℕ → ℕ → FileAct
   -- the file, the place of the first byte, and how many bytes
-  read_file : List ℕ → ℕ → ℕ → Act
+  read_file : List ℕ → ℕ → ℕ → FileAct
   -- the file, the place of the first byte, and the bytes
-  write_file : List ℕ → ℕ → List ℕ → Act
+  write_file : List ℕ → ℕ → List ℕ → FileAct
   -- the file, and the size that it is to have
-  set_file_size : List ℕ → ℕ → Act
+  set_file_size : List ℕ → ℕ → FileAct
   -- the file
-  stat_file : List ℕ → Act
+  stat_file : List ℕ → FileAct
   -- the path
-  remove_path : List ℕ → Act
-  sync_files : Act
+  remove_path : List ℕ → FileAct
+  sync_files : FileAct

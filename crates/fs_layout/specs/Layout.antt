@@ -4,19 +4,15 @@
 use Rattle.std.specs.Prelude.{◌≡◌, ℕ, ◌+◌, ◌-◌, ◌*◌, ◌^◌, ◌<◌, ◌==◌, List, [], ◌∷◌, ◌++◌, map, length, replicate, slice_index, if◌then◌else◌}
 use Rattle.std.specs.Prelude.{Option, Some, None}
 use Rattle.std.specs.List.{range_with_len}
-use Rattle.std.specs.Int.{w32, from_le_bytes}
 use Rattle.jos_base.specs.TrapFrames.{bytes_of_words}
-use Rattle.fs_layout.specs.declared.records.Entry.{Entry}
+use Rattle.jos_base.specs.Words.{word_at}
+use Rattle.fs_layout.specs.declared.records.FileEntry.{FileEntry}
 use Rattle.fs_layout.specs.declared.records.Super.{Super}
 use Rattle.fs_layout.specs.declared.numbers.TheConstants.{BLKSIZE, RECORDSIZE, MAXNAMELEN, NDIRECT, FS_MAGIC}
 use Rattle.fs_layout.specs.declared.numbers.TheConstants.{BLOCKS_AT, ROOT_AT}
 use Rattle.fs_layout.specs.declared.numbers.TheConstants.{SIZE_AT, KIND_AT, DIRECT_AT, INDIRECT_AT, PADDING_AT}
 
 -- ---- reading
-
--- the number in the four bytes at a place
-abbrev pub word_at : (ℕ → ℕ) → ℕ → ℕ
-word_at byte at = from_le_bytes w32 (byte at ∷ byte (at + 1) ∷ byte (at + 2) ∷ byte (at + 3) ∷ [])
 
 -- so many bytes, and so many numbers, from a place on
 unfoldable pub bytes_from : (ℕ → ℕ) → ℕ → ℕ → List ℕ
@@ -26,8 +22,8 @@ unfoldable pub words_from : (ℕ → ℕ) → ℕ → ℕ → List ℕ
 words_from byte at n = map (λ k. word_at byte (at + 4 * k)) (range_with_len 0 n)
 
 -- the record that begins at a place; its padding says nothing
-unfoldable pub entry_at : (ℕ → ℕ) → ℕ → Entry
-entry_at byte at = record {
+unfoldable pub file_entry_at : (ℕ → ℕ) → ℕ → FileEntry
+file_entry_at byte at = record {
   name = bytes_from byte at MAXNAMELEN;
   size = word_at byte (at + SIZE_AT);
   kind = word_at byte (at + KIND_AT);
@@ -39,7 +35,7 @@ entry_at byte at = record {
 unfoldable pub super_at : (ℕ → ℕ) → ℕ → Option Super
 super_at byte at =
     if word_at byte at == FS_MAGIC
-    then Some (record { blocks = word_at byte (at + BLOCKS_AT); root = entry_at byte (at + ROOT_AT) }) else None
+    then Some (record { blocks = word_at byte (at + BLOCKS_AT); root = file_entry_at byte (at + ROOT_AT) }) else None
 
 -- ---- writing
 
@@ -47,7 +43,7 @@ unfoldable pub zeros : ℕ → List ℕ
 zeros n = replicate n 0
 
 -- the name, the words, and zeros as padding
-unfoldable pub entry_bytes : Entry → List ℕ
+unfoldable pub entry_bytes : FileEntry → List ℕ
 entry_bytes e =
     e.name ++ (bytes_of_words (e.size ∷ e.kind ∷ []) ++ (bytes_of_words e.direct ++ (bytes_of_words (e.indirect ∷ []) ++ zeros (RECORDSIZE - PADDING_AT))))
 
@@ -56,7 +52,7 @@ unfoldable pub super_bytes : Super → List ℕ
 super_bytes s = bytes_of_words (FS_MAGIC ∷ s.blocks ∷ []) ++ (entry_bytes s.root ++ zeros (BLKSIZE - (ROOT_AT + RECORDSIZE)))
 
 -- what is known of a record by its type: how long its lists are, and that its numbers are words
-pub record EntryFits (e : Entry) : Type 0 where
+pub record EntryFits (e : FileEntry) : Type 0 where
   pub name : length e.name ≡ MAXNAMELEN
   pub size : e.size < 2 ^ 32
   pub kind : e.kind < 2 ^ 32

@@ -18,12 +18,12 @@ spans_from from at (byte ∷ rest) =
     if is_slash byte then span_between from at ++ spans_from (at + 1) (at + 1) rest else spans_from from (at + 1) rest
 
 -- the names in a path
-abbrev pub spans_of : List ℕ → List Span
-spans_of path = spans_from 0 0 path
+abbrev pub name_spans : List ℕ → List Span
+name_spans path = spans_from 0 0 path
 
 -- the bytes of a name in a path
-abbrev pub name_of : List ℕ → Span → List ℕ
-name_of path span = take (span.to - span.from) (drop span.from path)
+abbrev pub name_in_path : List ℕ → Span → List ℕ
+name_in_path path span = take (span.to - span.from) (drop span.from path)
 
 -- whether a name leaves room for a NUL
 abbrev pub is_short : Span → Bool
@@ -37,4 +37,4 @@ pub record LiesIn (total : ℕ) (span : Span) : Type 0 where
 
 -- the names in a path, if the path and each name leave room for a NUL
 unfoldable pub parts_of : List ℕ → Option (List Span)
-parts_of path = if nat_lt (length path) MAXPATHLEN && list_all is_short (spans_of path) then Some (spans_of path) else None
+parts_of path = if nat_lt (length path) MAXPATHLEN && list_all is_short (name_spans path) then Some (name_spans path) else None

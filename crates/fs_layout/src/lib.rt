@@ -28,5 +28,5 @@ pub use numbers::{
     MAXNAMELEN, MAXPATHLEN, MINBLOCKS, NDIRECT, NINDIRECT, O_CREAT, O_EXCL, O_TRUNC, RECORDSIZE,
 };
 pub use paths::{BadPath, NAMES_MAX, Span, parts};
-pub use records::{Entry, Super, decode_entry, decode_super};
+pub use records::{FileEntry, Super, decode_entry, decode_super};
 pub use writer::{encode_entry, encode_super};

@@ -1,7 +1,8 @@
 //! A record and the super block, read.
 
 ghost use Rattle.std.specs.Prelude.{◌≡◌, ◌+◌, ◌*◌, ◌≤◌, length, slice_index};
-ghost use Rattle.fs_layout.specs.Layout.{word_at, bytes_from, words_from, entry_at, super_at};
+ghost use Rattle.jos_base.specs.Words.{word_at};
+ghost use Rattle.fs_layout.specs.Layout.{bytes_from, words_from, file_entry_at, super_at};
 
 use crate::numbers::{
     BLKSIZE, BLOCKS_AT, DIRECT_AT, FS_MAGIC, INDIRECT_AT, KIND_AT, MAXNAMELEN, NDIRECT, RECORDSIZE,
@@ -14,12 +15,12 @@ pub struct Super {
     /// How many blocks the disk has.
     pub blocks: u32,
     /// The root's record.
-    pub root: Entry,
+    pub root: FileEntry,
 }
 
 /// A record of a directory. (MIT 6.828, inc/fs.h, `struct File`)
 #[derive(Clone, Copy, Debug, PartialEq, Eq)]
-pub struct Entry {
+pub struct FileEntry {
     /// The name, which ends at the first NUL.
     pub name: [u8; MAXNAMELEN as usize],
     /// How many bytes.
@@ -65,12 +66,12 @@ fn direct_at(bytes: &[u8], at: usize) -> [u32; NDIRECT as usize]
 }
 
 /// The record that begins at a place.
-#[tactic(auto, unfolding(crate::specs::Layout::entry_at))]
-fn entry_at(bytes: &[u8], at: usize) -> Entry
+#[tactic(auto, unfolding(crate::specs::Layout::file_entry_at))]
+fn file_entry_at(bytes: &[u8], at: usize) -> FileEntry
     requires { at + RECORDSIZE ≤ length bytes.now }
-    ensures { result ≡ entry_at (slice_index bytes.now) at }
+    ensures { result ≡ file_entry_at (slice_index bytes.now) at }
 {
-    Entry {
+    FileEntry {
         name: name_at(bytes, at),
         size: word_at(bytes, at + SIZE_AT),
         kind: word_at(bytes, at + KIND_AT),
@@ -80,10 +81,10 @@ fn entry_at(bytes: &[u8], at: usize) -> Entry
 }
 
 /// What a record says.
-pub fn decode_entry(bytes: &[u8; RECORDSIZE as usize]) -> Entry
-    ensures { result ≡ entry_at (slice_index bytes.now) 0 }
+pub fn decode_entry(bytes: &[u8; RECORDSIZE as usize]) -> FileEntry
+    ensures { result ≡ file_entry_at (slice_index bytes.now) 0 }
 {
-    entry_at(bytes, 0)
+    file_entry_at(bytes, 0)
 }
 
 /// What a super block says; None exactly where its first word is another than the magic.
@@ -96,6 +97,6 @@ pub fn decode_super(bytes: &[u8; BLKSIZE as usize]) -> Option<Super>
     }
     Some(Super {
         blocks: word_at(bytes, BLOCKS_AT),
-        root: entry_at(bytes, ROOT_AT),
+        root: file_entry_at(bytes, ROOT_AT),
     })
 }

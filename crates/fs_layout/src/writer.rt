@@ -4,12 +4,12 @@
 
 ghost use Rattle.std.specs.Prelude.{◌≡◌, ℕ, ◌+◌, ◌-◌, ◌*◌, ◌^◌, ◌<◌, ◌≤◌, ◌++◌, Some, length, take, slice_index};
 ghost use Rattle.jos_base.specs.TrapFrames.{bytes_of_words};
-ghost use Rattle.fs_layout.specs.Layout.{zeros, entry_bytes, super_bytes, entry_at, super_at, EntryFits};
+ghost use Rattle.fs_layout.specs.Layout.{zeros, entry_bytes, super_bytes, file_entry_at, super_at, EntryFits};
 
 use crate::numbers::{
     BLKSIZE, DIRECT_AT, FS_MAGIC, INDIRECT_AT, PADDING_AT, RECORDSIZE, ROOT_AT, SIZE_AT,
 };
-use crate::records::{Entry, Super};
+use crate::records::{FileEntry, Super};
 
 /// Puts bytes at a place.
 fn put_bytes(out: &mut [u8], at: usize, bytes: &[u8])
@@ -40,7 +40,7 @@ fn put_words(out: &mut [u8], at: usize, words: &[u32])
 }
 
 /// Puts a record at a place.
-fn put_entry(out: &mut [u8], at: usize, entry: &Entry)
+fn put_entry(out: &mut [u8], at: usize, entry: &FileEntry)
     requires { at + RECORDSIZE ≤ length out.old }
     ensures bytes { take (at + RECORDSIZE) out.new ≡ take at out.old ++ entry_bytes entry.now }
     ensures fits { EntryFits entry.now }
@@ -53,9 +53,9 @@ fn put_entry(out: &mut [u8], at: usize, entry: &Entry)
 }
 
 /// Writes a record, which is read back.
-pub fn encode_entry(entry: &Entry, out: &mut [u8; RECORDSIZE as usize])
+pub fn encode_entry(entry: &FileEntry, out: &mut [u8; RECORDSIZE as usize])
     ensures bytes { out.new ≡ entry_bytes entry.now }
-    ensures back { entry_at (slice_index out.new) 0 ≡ entry.now }
+    ensures back { file_entry_at (slice_index out.new) 0 ≡ entry.now }
 {
     put_entry(out, 0, entry);
 }

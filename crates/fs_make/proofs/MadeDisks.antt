@@ -8,9 +8,9 @@ use Rattle.std.proofs.lemmas.Bool.{or_right, cases_lt, eq-eqb}
 use Rattle.std.proofs.lemmas.Bool.Decides.{nat_tests}
 use Rattle.jos_host.specs.MemHost.{Named}
 use Rattle.fs_layout.specs.declared.numbers.TheConstants.{BLKSIZE, FTYPE_REG, FTYPE_DIR, FS_MAGIC}
-use Rattle.fs_layout.specs.DiskImage.{ImageFault, Blocks, none_named, Test, after, in_turn, for_each_below}
-use Rattle.fs_layout.specs.DiskImage.{block_count, magic_of, root_place, size_of, kind_of}
-use Rattle.fs_layout.specs.DiskImage.{is_empty_record, is_directory, is_data_block, is_good_kind, is_good_name, is_good_size}
+use Rattle.fs_layout.specs.DiskImage.{ImageFault, Blocks, none_named, Test, then_tested, in_turn, for_each_below}
+use Rattle.fs_layout.specs.DiskImage.{block_count, magic_of, root_place, size_of, kind_at}
+use Rattle.fs_layout.specs.DiskImage.{is_empty_record, is_directory_at, is_data_block, is_good_kind, is_good_name, is_good_size}
 use Rattle.fs_layout.specs.DiskImage.{slot_count, slot_place, first_data_block, has_taken_name, slot_tests}
 use Rattle.fs_layout.specs.DiskImage.{slot_test, contents_test, is_good_count, super_tests, first_blocks_test, tree_tests}
 use Rattle.fs_layout.specs.DiskImage.{image_tests, image_fault}
@@ -73,15 +73,15 @@ file-named byte blocks files onward i good says within =
     let among : from + span_of (length (file_at files i).bytes) ≤ one + spans_of files = starts-within one files i within in
     let next : to ≡ from + span_of (length (file_at files i).bytes) = starts-next one files i within in
     let span : span_at byte place ≡ span_of (length (file_at files i).bytes) = ap span_of file.size in
-    turn _ _ old old (Ok new) (demand_passes _ _ old (good_kind (kind_of byte place) file.kind))
+    turn _ _ old old (Ok new) (demand_passes _ _ old (good_kind (kind_at byte place) file.kind))
     (turn _ _ old old (Ok new)
     (demand_passes _ _ old (ap is_good_name file.name ∙ name-good (file_at files i).name (file-name (file_at files i).name (good.named i within))))
     (turn _ _ old new (Ok new)
     (record-named byte place first (blocks_used blocks files) from (blocks-used byte blocks files good says.root) (omega arith) file.laid (omega arith)
-    (good_size (kind_of byte place) (size_of byte place) file.kind)
+    (good_size (kind_at byte place) (size_of byte place) file.kind)
     ∙ ap (λ (b : ℕ). Ok (between first b)) (omega arith))
     (turn _ _ new new (Ok new) (demand_passes _ _ new (ap not (name-free byte blocks files good says i within)))
-    (turn _ _ new new (Ok new) (where_not (is_directory byte place) (onward place) new (no_directory (kind_of byte place) file.kind))
+    (turn _ _ new new (Ok new) (where_not (is_directory_at byte place) (onward place) new (no_directory (kind_at byte place) file.kind))
     (no_turn new)))))
   where
     good_kind : (kind : ℕ) → kind ≡ FTYPE_REG → is_good_kind kind ≡ true
@@ -136,7 +136,7 @@ each-passed : (n : ℕ) (test : ℕ → Test) (named : Blocks) → ((i : ℕ) �
 unfolding for_each_below
 each-passed zero test named passed = refl
 each-passed (suc n) test named passed =
-    ap (λ (r : Result Blocks ImageFault). after r (test n)) (each-passed n test named (λ i lt. passed i (omega arith)))
+    ap (λ (r : Result Blocks ImageFault). then_tested r (test n)) (each-passed n test named (λ i lt. passed i (omega arith)))
     ∙ passed n (omega arith)
 
 -- the blocks before the data blocks
@@ -176,7 +176,7 @@ tree-named byte blocks files good says =
     ap (in_turn (tree_tests byte)) (between-none first)
     ∙ turn _ _ none root (Ok all)
     (record-named byte root_place first (blocks_used blocks files) first (blocks-used byte blocks files good says.root) (omega arith) says.root.laid (omega arith)
-    (root-good_size (kind_of byte root_place) (size_of byte root_place) (length files) size)
+    (root-good_size (kind_at byte root_place) (size_of byte root_place) (length files) size)
     ∙ ap (λ (b : ℕ). Ok (between first b)) span)
     (turn _ _ root all (Ok all) (contents-named byte blocks files (block_count byte) good says (omega arith))
     (turn _ _ all all (Ok all) (first_blocks-passed byte blocks files all says.root) (no_turn all)))
@@ -194,7 +194,7 @@ says-disk total byte blocks files good says long =
     (turn _ _ none_named none_named (Ok all) (demand_passes _ _ none_named (long_enough (block_count byte) count least))
     (turn _ _ none_named none_named (Ok all) (demand_passes _ _ none_named (eq-eqb (magic_of byte) FS_MAGIC says.root.magic))
     (turn _ _ none_named none_named (Ok all) (demand_passes _ _ none_named (good_count (block_count byte) count least most))
-    (turn _ _ none_named none_named (Ok all) (demand_passes _ _ none_named (eq-eqb (kind_of byte root_place) FTYPE_DIR says.root.kind))
+    (turn _ _ none_named none_named (Ok all) (demand_passes _ _ none_named (eq-eqb (kind_at byte root_place) FTYPE_DIR says.root.kind))
     (tree-named byte blocks files good says)))))
   where
     long_enough : (n : ℕ) → n ≡ blocks → 4 ≤ blocks → (nat_le (3 * BLKSIZE) total && nat_le (BLKSIZE * n) total) ≡ true

@@ -6,11 +6,12 @@ use Rattle.std.proofs.lemmas.Bool.{cases_lt, cond-true, cond-false}
 use Rattle.std.proofs.lemmas.Bool.Decides.{nat_tests}
 use Rattle.std.proofs.lemmas.List.{get_or_past}
 use Rattle.std.proofs.lemmas.List.FromFn.{length-map-range_with_len, get_or-map-range_with_len}
-use Rattle.fs_layout.specs.declared.records.Entry.{Entry}
+use Rattle.jos_base.specs.Words.{word_at}
+use Rattle.fs_layout.specs.declared.records.FileEntry.{FileEntry}
 use Rattle.fs_layout.specs.declared.numbers.TheConstants.{BLKSIZE, MAXNAMELEN, NDIRECT, NINDIRECT, MAXFILESIZE, MAXBLOCKS}
-use Rattle.fs_layout.specs.Layout.{word_at, zeros, entry_at, entry_bytes, words_from, EntryFits}
+use Rattle.fs_layout.specs.Layout.{zeros, file_entry_at, entry_bytes, words_from, EntryFits}
 use Rattle.fs_layout.specs.FileTree.{blocks_of}
-use Rattle.fs_layout.specs.DiskImage.{size_of, kind_of, direct_of, indirect_of, number_in_indirect, number_of, blocks_needed}
+use Rattle.fs_layout.specs.DiskImage.{size_of, kind_at, direct_of, indirect_of, number_in_indirect, block_number_at, blocks_needed}
 use Rattle.fs_layout.specs.DiskFiles.{file_byte, file_bytes}
 use Rattle.fs_layout.proofs.Written.{Stands, entry-back, stands-first}
 use Rattle.fs_make.specs.MadeImage.{direct_numbers, indirect_number, made_entry}
@@ -28,7 +29,7 @@ direct_number first size i = if nat_lt i (blocks_of size) then first + i else 0
 -- what a record says of a node of this size whose blocks begin with this one
 pub record RecordSays (byte : ℕ → ℕ) (place size kind first : ℕ) : Type 0 where
   pub size_is : size_of byte place ≡ size
-  pub kind_is : kind_of byte place ≡ kind
+  pub kind_is : kind_at byte place ≡ kind
   pub direct : (i : ℕ) → i < NDIRECT → direct_of byte place i ≡ direct_number first size i
   pub indirect : indirect_of byte place ≡ indirect_number first size
 
@@ -83,18 +84,18 @@ entry-fits name size kind first range = record {
 -- and so where it stands it says so
 pub record-says : (byte : ℕ → ℕ) (place : ℕ) (name : List ℕ) (size kind first : ℕ) → InRange name size kind first →
     Stands byte place (entry_bytes (made_entry name size kind first)) → RecordSays byte place size kind first
-unfolding entry_at words_from made_entry
+unfolding file_entry_at words_from made_entry
 record-says byte place name size kind first range all =
     let back = entry-back byte place (made_entry name size kind first) (entry-fits name size kind first range) all in
     record {
-      size_is = ap (λ (e : Entry). e.size) back;
-      kind_is = ap (word_at byte) (kind_place place) ∙ ap (λ (e : Entry). e.kind) back;
+      size_is = ap (λ (e : FileEntry). e.size) back;
+      kind_is = ap (word_at byte) (kind_place place) ∙ ap (λ (e : FileEntry). e.kind) back;
       direct = λ i within.
           ap (word_at byte) (direct_place place i)
           ∙ sym (get_or-map-range_with_len (λ k. word_at byte (place + 136 + 4 * k)) 0 NDIRECT i i 0 within (start i))
-          ∙ ap (λ (e : Entry). get_or e.direct i 0) back
+          ∙ ap (λ (e : FileEntry). get_or e.direct i 0) back
           ∙ direct-at first size i within;
-      indirect = ap (word_at byte) (indirect_place place) ∙ ap (λ (e : Entry). e.indirect) back;
+      indirect = ap (word_at byte) (indirect_place place) ∙ ap (λ (e : FileEntry). e.indirect) back;
     }
   where
     kind_place : (p : ℕ) → p + MAXNAMELEN + 4 ≡ p + 132
@@ -163,13 +164,13 @@ entry-name byte place name size kind first all = stands-first byte place (name +
 
 -- the number of one of its blocks: of the first ten, and of those behind them
 number-direct : (byte : ℕ → ℕ) (place first i : ℕ) → LaidFrom byte place first → i < NDIRECT → i < blocks_needed byte place →
-    number_of byte place i ≡ first + i
+    block_number_at byte place i ≡ first + i
 number-direct byte place first i laid within lt =
     let test : nat_lt i NDIRECT ≡ true = grind (arith, nat_tests) in
     rw test (laid.direct i within lt)
 
 number-further : (byte : ℕ → ℕ) (place first i : ℕ) → LaidFrom byte place first → NDIRECT ≤ i → i < blocks_needed byte place →
-    number_of byte place i ≡ first + i + 1
+    block_number_at byte place i ≡ first + i + 1
 number-further byte place first i laid past lt =
     let test : nat_lt i NDIRECT ≡ false = grind (arith, nat_tests) in
     let more : NDIRECT < blocks_needed byte place = omega arith in

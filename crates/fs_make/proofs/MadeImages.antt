@@ -9,13 +9,13 @@ use Rattle.std.proofs.lemmas.List.FromFn.{length-map-range_with_len, get_or-map-
 use Rattle.std.proofs.lemmas.Nat.Bits.{bit_at_mask_inside, bit_at_mask_below}
 use Rattle.jos_base.specs.TrapFrames.{bytes_of_words}
 use Rattle.jos_host.specs.MemHost.{Named}
-use Rattle.fs_layout.specs.declared.records.Entry.{Entry}
+use Rattle.fs_layout.specs.declared.records.FileEntry.{FileEntry}
 use Rattle.fs_layout.specs.declared.numbers.TheConstants.{BLKSIZE, RECORDSIZE, BLKFILES, MAXFILESIZE, MAXBLOCKS}
 use Rattle.fs_layout.specs.declared.numbers.TheConstants.{FTYPE_REG, FTYPE_DIR, FS_MAGIC}
 use Rattle.fs_layout.specs.Layout.{zeros, entry_bytes, super_bytes}
 use Rattle.fs_layout.specs.FileTree.{bitmap_blocks}
 use Rattle.fs_layout.specs.DiskImage.{root_place, size_of}
-use Rattle.fs_layout.specs.DiskImage.{is_empty_record, number_of, slot_count, slot_place, first_data_block}
+use Rattle.fs_layout.specs.DiskImage.{is_empty_record, block_number_at, slot_count, slot_place, first_data_block}
 use Rattle.fs_layout.specs.DiskFiles.{file_byte}
 use Rattle.fs_layout.proofs.Written.{Stands, stands-whole, length-zeros, length-entry_bytes}
 use Rattle.fs_make.specs.MakeFaults.{root_size, span_of, spans_of, blocks_used}
@@ -32,7 +32,7 @@ use Rattle.jos_base.proofs.WordBytes.{length-bytes_of_words}
 -- ---- the records of the files
 
 -- the record of the file with a number
-file_entry : ℕ → List Named → ℕ → Entry
+file_entry : ℕ → List Named → ℕ → FileEntry
 file_entry first files i = made_entry (file_at files i).name (length (file_at files i).bytes) FTYPE_REG (starts_at first files i)
 
 -- each file fits a record
@@ -101,8 +101,8 @@ length-root_bytes first files all =
 -- a byte of a slot
 slot-byte : (byte : ℕ → ℕ) (directory i k : ℕ) → k < RECORDSIZE → byte (slot_place byte directory i + k) ≡ file_byte byte directory (RECORDSIZE * i + k)
 slot-byte byte directory i k within =
-    ap byte (place (number_of byte directory (i / BLKFILES)) i k within)
-    ∙ ap (λ (n : ℕ). byte (BLKSIZE * number_of byte directory n + (RECORDSIZE * i + k) % BLKSIZE)) (block i k within)
+    ap byte (place (block_number_at byte directory (i / BLKFILES)) i k within)
+    ∙ ap (λ (n : ℕ). byte (BLKSIZE * block_number_at byte directory n + (RECORDSIZE * i + k) % BLKSIZE)) (block i k within)
   where
     place : (n i k : ℕ) → k < RECORDSIZE → BLKSIZE * n + RECORDSIZE * (i % BLKFILES) + k ≡ BLKSIZE * n + (RECORDSIZE * i + k) % BLKSIZE
     place n i k within = omega arith
@@ -192,7 +192,7 @@ record Parts (byte : ℕ → ℕ) (blocks : ℕ) (files : List Named) : Type 0 w
 root_name : List ℕ
 root_name = codes "/"
 
-root_entry : ℕ → List Named → Entry
+root_entry : ℕ → List Named → FileEntry
 root_entry blocks files = made_entry root_name (root_size (length files)) FTYPE_DIR (first_data_block blocks)
 
 -- the super block by its parts

@@ -9,13 +9,14 @@ use Rattle.std.proofs.lemmas.List.{get_or-take, get_or-drop, length-take, length
 use Rattle.std.proofs.lemmas.List.FromFn.{length-map-range_with_len, get_or-map-range_with_len}
 use Rattle.jos_base.specs.TrapFrames.{bytes_of_words}
 use Rattle.fs_layout.specs.declared.numbers.TheConstants.{BLKSIZE, NDIRECT, NINDIRECT, MAXBLOCKS}
-use Rattle.fs_layout.specs.Layout.{word_at, zeros}
+use Rattle.fs_layout.specs.Layout.{zeros}
 use Rattle.fs_layout.specs.FileTree.{blocks_of, needs_indirect}
 use Rattle.fs_layout.proofs.Written.{Stands, length-zeros, stands-first, stands-rest}
 use Rattle.fs_make.specs.MakeFaults.{span_of}
 use Rattle.fs_make.specs.MadeImage.{padded, node_blocks}
 use Rattle.fs_make.proofs.Standing.{words-stand}
 use Rattle.jos_base.proofs.WordBytes.{length-bytes_of_words}
+use Rattle.jos_base.specs.Words.{word_at}
 
 -- ---- lists of numbers
 

@@ -4,7 +4,7 @@ use Rattle.std.proofs.Common.{◌≡◌, ◌+◌, ◌/◌, ◌<◌, ◌≤◌, �
 use Rattle.std.specs.Prelude.{bytes_eq}
 use Rattle.jos_host.specs.MemHost.{Named}
 use Rattle.fs_layout.specs.declared.numbers.TheConstants.{RECORDSIZE, MAXFILESIZE, MINBLOCKS, MAXBLOCKS, FTYPE_REG, FTYPE_DIR, FS_MAGIC}
-use Rattle.fs_layout.specs.DiskImage.{block_count, magic_of, root_place, is_marked_free, size_of, kind_of, name_of}
+use Rattle.fs_layout.specs.DiskImage.{block_count, magic_of, root_place, is_marked_free, size_of, kind_at, name_of}
 use Rattle.fs_layout.specs.DiskImage.{is_empty_record, slot_count, slot_place, first_data_block}
 use Rattle.fs_layout.specs.DiskFiles.{file_bytes}
 use Rattle.fs_make.specs.MakeFaults.{is_file_name, root_size, span_of, spans_of, blocks_used}
@@ -90,7 +90,7 @@ pub record SaysRoot (byte : ℕ → ℕ) (blocks : ℕ) (files : List Named) : T
   pub in_use : (b : ℕ) → b < blocks_used blocks files → is_marked_free byte b ≡ false
   pub free : (b : ℕ) → blocks_used blocks files ≤ b → b < blocks → is_marked_free byte b ≡ true
   pub size : size_of byte root_place ≡ root_size (length files)
-  pub kind : kind_of byte root_place ≡ FTYPE_DIR
+  pub kind : kind_at byte root_place ≡ FTYPE_DIR
   pub laid : LaidFrom byte root_place (first_data_block blocks)
 
 -- of the file with a number, by its record
@@ -98,7 +98,7 @@ pub record SaysFile (byte : ℕ → ℕ) (first : ℕ) (files : List Named) (i :
   pub some : is_empty_record byte (slot_place byte root_place i) ≡ false
   pub name : name_of byte (slot_place byte root_place i) ≡ (file_at files i).name
   pub size : size_of byte (slot_place byte root_place i) ≡ length (file_at files i).bytes
-  pub kind : kind_of byte (slot_place byte root_place i) ≡ FTYPE_REG
+  pub kind : kind_at byte (slot_place byte root_place i) ≡ FTYPE_REG
   pub laid : LaidFrom byte (slot_place byte root_place i) (starts_at first files i)
   pub bytes : file_bytes byte (slot_place byte root_place i) ≡ (file_at files i).bytes
 

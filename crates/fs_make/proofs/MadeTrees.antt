@@ -9,14 +9,14 @@ use Rattle.std.proofs.lemmas.List.{get_or_append_left, get_or-append_right, get_
 use Rattle.jos_host.specs.MemHost.{Named}
 use Rattle.fs_layout.specs.declared.numbers.TheConstants.{RECORDSIZE, NDIRECT, FTYPE_REG, FTYPE_DIR}
 use Rattle.fs_layout.specs.FileTree.{a_directory, Records, records_from, needs_indirect}
-use Rattle.fs_layout.specs.FileTree.{Named as NamedNode}
-use Rattle.fs_layout.specs.DiskImage.{block_count, is_marked_free, root_place, size_of, kind_of, has_indirect}
-use Rattle.fs_layout.specs.DiskImage.{name_of, blocks_needed, is_empty_record, is_directory, is_data_block, slot_count, slot_place}
+use Rattle.fs_layout.specs.FileTree.{NamedNode}
+use Rattle.fs_layout.specs.DiskImage.{block_count, is_marked_free, root_place, size_of, kind_at, has_indirect}
+use Rattle.fs_layout.specs.DiskImage.{name_of, blocks_needed, is_empty_record, is_directory_at, is_data_block, slot_count, slot_place}
 use Rattle.fs_layout.specs.DiskImage.{first_data_block, ImageFault, Blocks, none_named}
-use Rattle.fs_layout.specs.DiskFiles.{file_bytes, named_of, records_at, root_of, one_where, named_blocks, is_unnamed}
-use Rattle.fs_layout.specs.DiskFiles.{unnamed_blocks, files_of}
+use Rattle.fs_layout.specs.DiskFiles.{file_bytes, named_of, records_at, root_of, named_blocks, is_unnamed}
+use Rattle.fs_layout.specs.DiskFiles.{unnamed_blocks, file_system_of}
 use Rattle.fs_make.specs.MakeFaults.{root_size, blocks_used, make_fault}
-use Rattle.fs_make.specs.MadeImage.{made_image, named_file, made_files}
+use Rattle.fs_make.specs.MadeImage.{made_image, file_record, made_files}
 use Rattle.fs_make.proofs.Standing.{values_below-is}
 use Rattle.fs_make.proofs.Walks.{between, between-is, LaidFrom}
 use Rattle.fs_make.proofs.Faultless.{faultless}
@@ -24,6 +24,7 @@ use Rattle.fs_make.proofs.MadeImages.{made-says}
 use Rattle.fs_make.proofs.MadeRecords.{file_at, slots-enough, Faultless, Says}
 use Rattle.fs_make.proofs.MadeDisks.{tree-named}
 use Rattle.jos_base.proofs.Sums.{total-none}
+use Rattle.jos_base.specs.Environments.{bit_of}
 
 -- ---- the tree
 
@@ -36,8 +37,8 @@ indirect-needed byte place from laid = elim (cases_lt NDIRECT (blocks_needed byt
 
 -- what a record of a file names
 a_file-named : (records : ℕ → Records) (byte : ℕ → ℕ) (place : ℕ) (file : Named) → is_empty_record byte place ≡ false →
-    is_directory byte place ≡ false → name_of byte place ≡ file.name → file_bytes byte place ≡ file.bytes →
-    has_indirect byte place ≡ needs_indirect (length file.bytes) → named_of records byte place ≡ named_file file
+    is_directory_at byte place ≡ false → name_of byte place ≡ file.name → file_bytes byte place ≡ file.bytes →
+    has_indirect byte place ≡ needs_indirect (length file.bytes) → named_of records byte place ≡ file_record file
 a_file-named records byte place file some plain name bytes indirect =
     rw (some, plain, name, bytes, indirect) refl
 
@@ -45,7 +46,7 @@ a_file-named records byte place file some plain name bytes indirect =
 nothing-named : (records : ℕ → Records) (byte : ℕ → ℕ) (place : ℕ) → is_empty_record byte place ≡ true → named_of records byte place ≡ None
 nothing-named records byte place empty = rw empty refl
 
-get_or-named_files : (files : List Named) (i : ℕ) → i < length files → get_or (map named_file files) i None ≡ named_file (file_at files i)
+get_or-named_files : (files : List Named) (i : ℕ) → i < length files → get_or (map file_record files) i None ≡ file_record (file_at files i)
 unfolding file_at
 get_or-named_files [] i within = absurd (omega arith)
 get_or-named_files (file ∷ files) zero within = refl
@@ -53,27 +54,27 @@ get_or-named_files (file ∷ files) (suc i) within = get_or-named_files files i 
 
 -- the records of the root directory, in their order
 entries_of : List Named → ℕ → List (Option NamedNode)
-entries_of files n = map named_file files ++ replicate (n - length files) None
+entries_of files n = map file_record files ++ replicate (n - length files) None
 
 -- how many they are, and which stands at a place
 length-entries_of : (files : List Named) (n : ℕ) → length files ≤ n → length (entries_of files n) ≡ n
 unfolding entries_of
 length-entries_of files n enough =
-    let both = length-append (map named_file files) (replicate (n - length files) None) in
-    let first = length-map files named_file in
+    let both = length-append (map file_record files) (replicate (n - length files) None) in
+    let first = length-map files file_record in
     let rest = length-replicate {A = Option NamedNode} (n - length files) None in
     omega arith
 
-entry-here : (files : List Named) (n i : ℕ) → i < length files → get_or (entries_of files n) i None ≡ named_file (file_at files i)
+entry-here : (files : List Named) (n i : ℕ) → i < length files → get_or (entries_of files n) i None ≡ file_record (file_at files i)
 unfolding entries_of
 entry-here files n i within =
-    get_or_append_left (map named_file files) (replicate (n - length files) None) None i (omega (arith, length-map files named_file))
+    get_or_append_left (map file_record files) (replicate (n - length files) None) None i (omega (arith, length-map files file_record))
     ∙ get_or-named_files files i within
 
 entry-past : (files : List Named) (n i : ℕ) → length files ≤ i → i < n → get_or (entries_of files n) i None ≡ None
 unfolding entries_of
 entry-past files n i past within =
-    get_or-append_right (map named_file files) (replicate (n - length files) None) (length files) i None (length-map files named_file) past
+    get_or-append_right (map file_record files) (replicate (n - length files) None) (length files) i None (length-map files file_record) past
     ∙ get_or-replicate (n - length files) (i - length files) None None (omega arith)
 
 -- and what the image has there
@@ -83,7 +84,7 @@ slot-is byte blocks files records i says within = elim (cases_lt i (length files
   | inl lt ↦
       let file = says.file i lt in
       a_file-named records byte (slot_place byte root_place i) (file_at files i) file.some
-      (no_directory (kind_of byte (slot_place byte root_place i)) file.kind) file.name file.bytes
+      (no_directory (kind_at byte (slot_place byte root_place i)) file.kind) file.name file.bytes
       (indirect-needed byte (slot_place byte root_place i) _ file.laid ∙ ap needs_indirect file.size)
       ∙ sym (entry-here files (slot_count byte root_place) i lt)
   | inr past ↦
@@ -110,7 +111,7 @@ root-is : (byte : ℕ → ℕ) (blocks : ℕ) (files : List Named) (records : Re
     records_at (block_count byte) byte root_place ≡ records →
     root_of byte ≡ a_directory records (needs_indirect (root_size (length files)))
 root-is byte blocks files records says are =
-    let directory : is_directory byte root_place ≡ true = eq-eqb (kind_of byte root_place) FTYPE_DIR says.root.kind in
+    let directory : is_directory_at byte root_place ≡ true = eq-eqb (kind_at byte root_place) FTYPE_DIR says.root.kind in
     let indirect : has_indirect byte root_place ≡ needs_indirect (root_size (length files)) =
     indirect-needed byte root_place _ says.root.laid ∙ ap needs_indirect says.root.size in
     rw (directory, are, indirect) refl
@@ -150,7 +151,7 @@ all-named byte blocks files b good says within =
 none-unnamed : (byte : ℕ → ℕ) (blocks : ℕ) (files : List Named) → Faultless blocks files → Says byte blocks files → unnamed_blocks byte ≡ 0
 unfolding unnamed_blocks
 none-unnamed byte blocks files good says =
-    total-none (block_count byte) _ (λ b lt. ap one_where (all-named byte blocks files b good says (within b (block_count byte) says.root.count lt)))
+    total-none (block_count byte) _ (λ b lt. ap bit_of (all-named byte blocks files b good says (within b (block_count byte) says.root.count lt)))
   where
     within : (b n : ℕ) → n ≡ blocks → b < n → b < blocks
     within b n e lt = omega arith
@@ -159,8 +160,8 @@ none-unnamed byte blocks files good says =
 
 -- bytes that say what an image of files without a fault says
 pub says-files : (byte : ℕ → ℕ) (blocks : ℕ) (files : List Named) → Faultless blocks files → Says byte blocks files →
-    files_of byte ≡ made_files blocks files
-unfolding files_of made_files entries_of
+    file_system_of byte ≡ made_files blocks files
+unfolding file_system_of made_files entries_of
 says-files byte blocks files good says =
     let least = good.at_least in
     let count : block_count byte ≡ blocks = says.root.count in
@@ -174,7 +175,7 @@ says-files byte blocks files good says =
 
 -- Each image that is made has the files of which it is made.
 pub made_has_files : (blocks : ℕ) (files : List Named) → make_fault blocks files ≡ None →
-    files_of (slice_index (made_image blocks files)) ≡ made_files blocks files
+    file_system_of (slice_index (made_image blocks files)) ≡ made_files blocks files
 made_has_files blocks files none =
     let good = faultless blocks files none in
     says-files (slice_index (made_image blocks files)) blocks files good (made-says blocks files good)

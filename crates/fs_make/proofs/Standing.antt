@@ -6,7 +6,8 @@ use Rattle.std.specs.Int.{w32, to_le_bytes}
 use Rattle.std.proofs.lemmas.Bool.{cases_lt}
 use Rattle.std.proofs.lemmas.List.{get_or-replicate, get_or_past, length-replicate, ext_get_or}
 use Rattle.jos_base.specs.TrapFrames.{bytes_of_words}
-use Rattle.fs_layout.specs.Layout.{word_at, zeros}
+use Rattle.jos_base.specs.Words.{word_at}
+use Rattle.fs_layout.specs.Layout.{zeros}
 use Rattle.fs_layout.specs.DiskImage.{values_below}
 use Rattle.fs_layout.proofs.Written.{Stands, stands-rest, word-back}
 use Rattle.fs_layout.proofs.Below.{length-values, get_or-values}

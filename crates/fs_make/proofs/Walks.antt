@@ -8,8 +8,8 @@ use Rattle.jos_base.specs.Words.{upd}
 use Rattle.fs_layout.specs.declared.numbers.TheConstants.{NDIRECT, NINDIRECT, MAXFILESIZE}
 use Rattle.fs_layout.specs.FileTree.{needs_indirect, blocks_taken}
 use Rattle.fs_layout.specs.DiskImage.{ImageFault, Range, NamedTwice, MarkedFree, Stray, Blocks, none_named, Test, demand}
-use Rattle.fs_layout.specs.DiskImage.{only_where, after, in_turn, for_each_below, block_count, is_data_block}
-use Rattle.fs_layout.specs.DiskImage.{is_marked_free, size_of, kind_of, direct_of, indirect_of, number_in_indirect, has_indirect}
+use Rattle.fs_layout.specs.DiskImage.{only_where, then_tested, in_turn, for_each_below, block_count, is_data_block}
+use Rattle.fs_layout.specs.DiskImage.{is_marked_free, size_of, kind_at, direct_of, indirect_of, number_in_indirect, has_indirect}
 use Rattle.fs_layout.specs.DiskImage.{blocks_needed, block_test, number_test, indirect_test, numbers_tests, has_stray}
 use Rattle.fs_layout.specs.DiskImage.{has_stray_in_indirect, stray_tests, is_good_size, record_tests}
 use Rattle.fs_layout.proofs.OneTest.{demand_passes, where_not, where_so}
@@ -21,7 +21,7 @@ use Rattle.fs_layout.proofs.Below.{some_below-none}
 pub turn : (test : Test) (tests : List Test) (named then : Blocks) (last : Result Blocks ImageFault) → test named ≡ Ok then →
     in_turn tests then ≡ last → in_turn (test ∷ tests) named ≡ last
 unfolding in_turn
-turn test tests named then last first rest = ap (λ (r : Result Blocks ImageFault). after r (in_turn tests)) first ∙ rest
+turn test tests named then last first rest = ap (λ (r : Result Blocks ImageFault). then_tested r (in_turn tests)) first ∙ rest
 
 -- no test more
 pub no_turn : (named : Blocks) → in_turn [] named ≡ Ok named
@@ -68,7 +68,7 @@ pub each-names : (n : ℕ) (test : ℕ → Test) (first : ℕ) (at : ℕ → ℕ
 unfolding for_each_below
 each-names zero test first at names = refl
 each-names (suc n) test first at names =
-    ap (λ (r : Result Blocks ImageFault). after r (test n)) (each-names n test first at (λ i lt. names i (omega arith)))
+    ap (λ (r : Result Blocks ImageFault). then_tested r (test n)) (each-names n test first at (λ i lt. names i (omega arith)))
     ∙ names n (omega arith)
 
 -- The blocks from the first data block on and before this one are in use.
@@ -251,7 +251,7 @@ strays-passed byte place from named laid =
 
 -- after its tests its blocks are named
 pub record-named : (byte : ℕ → ℕ) (place first used from : ℕ) → Used byte first used → first ≤ from → LaidFrom byte place from →
-    from + span_at byte place ≤ used → is_good_size (kind_of byte place) (size_of byte place) ≡ true →
+    from + span_at byte place ≤ used → is_good_size (kind_at byte place) (size_of byte place) ≡ true →
     in_turn (record_tests byte place) (between first from) ≡ Ok (between first (from + span_at byte place))
 unfolding record_tests
 record-named byte place first used from use_is le laid within good =

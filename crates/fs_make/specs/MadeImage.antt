@@ -7,11 +7,11 @@ use Rattle.std.specs.Prelude.{Option, Some, None, if◌then◌else◌}
 use Rattle.std.specs.List.{range_with_len}
 use Rattle.jos_base.specs.TrapFrames.{bytes_of_words}
 use Rattle.jos_host.specs.MemHost.{Named}
-use Rattle.fs_layout.specs.declared.records.Entry.{Entry}
+use Rattle.fs_layout.specs.declared.records.FileEntry.{FileEntry}
 use Rattle.fs_layout.specs.declared.numbers.TheConstants.{BLKSIZE, RECORDSIZE, MAXNAMELEN, NDIRECT, NINDIRECT, FTYPE_REG, FTYPE_DIR}
 use Rattle.fs_layout.specs.Layout.{zeros, entry_bytes, super_bytes}
 use Rattle.fs_layout.specs.FileTree.{FileSystem, a_file, a_directory, records_from, blocks_of, needs_indirect, bitmap_blocks}
-use Rattle.fs_layout.specs.FileTree.{Named as NamedNode}
+use Rattle.fs_layout.specs.FileTree.{NamedNode}
 use Rattle.fs_layout.specs.DiskImage.{first_data_block}
 use Rattle.fs_make.specs.MakeFaults.{root_size, span_of, blocks_used}
 
@@ -33,7 +33,7 @@ abbrev pub further_numbers : ℕ → ℕ → List ℕ
 further_numbers first size =
     map (λ i. if nat_lt (NDIRECT + i) (blocks_of size) then first + NDIRECT + 1 + i else 0) (range_with_len 0 NINDIRECT)
 
-unfoldable pub made_entry : List ℕ → ℕ → ℕ → ℕ → Entry
+unfoldable pub made_entry : List ℕ → ℕ → ℕ → ℕ → FileEntry
 made_entry name size kind first = record {
   name = name ++ zeros (MAXNAMELEN - length name);
   size = size;
@@ -96,14 +96,14 @@ made_image blocks files =
 
 -- ---- the tree
 
-abbrev pub named_file : Named → Option NamedNode
-named_file file = Some (record { name = file.name; node = a_file file.bytes (needs_indirect (length file.bytes)) })
+abbrev pub file_record : Named → Option NamedNode
+file_record file = Some (record { name = file.name; node = a_file file.bytes (needs_indirect (length file.bytes)) })
 
 -- the files in the root directory, in their order, and empty records behind them
 unfoldable pub made_files : ℕ → List Named → FileSystem
 made_files blocks files = record {
   root = a_directory
-      (records_from (map named_file files ++ replicate (root_size (length files) / RECORDSIZE - length files) None))
+      (records_from (map file_record files ++ replicate (root_size (length files) / RECORDSIZE - length files) None))
       (needs_indirect (root_size (length files)));
   blocks = blocks;
   unnamed = 0;

@@ -1,7 +1,7 @@
 -- What is proved of the images that are made.
 use Rattle.std.specs.Prelude.{◌≡◌, ℕ, List, length, slice_index, None}
 use Rattle.jos_host.specs.MemHost.{Named}
-use Rattle.fs_layout.specs.DiskFiles.{IsDiskImage, files_of}
+use Rattle.fs_layout.specs.DiskFiles.{IsDiskImage, file_system_of}
 use Rattle.fs_make.specs.MakeFaults.{make_fault}
 use Rattle.fs_make.specs.MadeImage.{made_image, made_files}
 
@@ -13,4 +13,4 @@ MadeImagesAreDisks = (blocks : ℕ) (files : List Named) → make_fault blocks f
 -- And it has those files.
 abbrev pub MadeImagesHaveTheFiles : Type 0
 MadeImagesHaveTheFiles = (blocks : ℕ) (files : List Named) → make_fault blocks files ≡ None →
-    files_of (slice_index (made_image blocks files)) ≡ made_files blocks files
+    file_system_of (slice_index (made_image blocks files)) ≡ made_files blocks files

@@ -1,7 +1,7 @@
 //! Making an image.
 
 ghost use Rattle.std.specs.Prelude.{◌≡◌, ◌≢◌, ◌<◌, ◌^◌, Some, None, IfOk, IfErr, OnOk, length, slice_index};
-ghost use Rattle.fs_layout.specs.DiskFiles.{IsDiskImage, files_of};
+ghost use Rattle.fs_layout.specs.DiskFiles.{IsDiskImage, file_system_of};
 ghost use Rattle.fs_make.specs.MakeFaults.{make_fault};
 ghost use Rattle.fs_make.specs.MadeImage.{made_image, made_files};
 
@@ -20,7 +20,7 @@ pub fn make(alloc: Global, blocks: u32, files: &[NamedBytes]) -> Result<Vec<u8>,
     ensures no_fault { OnOk result (make_fault blocks files.now ≡ None) }
     // It is a disk, and has the files.
     ensures disk { IfOk result (λ image. IsDiskImage (length image.items) (slice_index image.items)) }
-    ensures files { IfOk result (λ image. files_of (slice_index image.items) ≡ made_files blocks files.now) }
+    ensures files { IfOk result (λ image. file_system_of (slice_index image.items) ≡ made_files blocks files.now) }
 {
     match make_fault(alloc, blocks, files) {
         Ok(None) => {}

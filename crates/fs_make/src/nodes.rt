@@ -8,8 +8,8 @@ ghost use Rattle.fs_make.specs.MadeImage.{padded, direct_numbers, indirect_numbe
 
 use crate::blocks::{blocks_of, file_size, needs_indirect, root_size, span_of};
 use fs_layout::{
-    BLKSIZE, Entry, FTYPE_REG, MAXBLOCKS, MAXFILESIZE, MAXNAMELEN, NDIRECT, NINDIRECT, RECORDSIZE,
-    encode_entry,
+    BLKSIZE, FTYPE_REG, FileEntry, MAXBLOCKS, MAXFILESIZE, MAXNAMELEN, NDIRECT, NINDIRECT,
+    RECORDSIZE, encode_entry,
 };
 use jos_host::NamedBytes;
 use std::alloc::{AllocError, Global};
@@ -76,12 +76,12 @@ fn pad_name(name: &[u8]) -> [u8; MAXNAMELEN as usize]
 
 /// The record of a file or directory whose blocks begin with `first`.
 #[tactic(auto, unfolding(crate::specs::MadeImage::made_entry))]
-pub(crate) fn make_entry(name: &[u8], size: u32, kind: u32, first: u32) -> Entry
+pub(crate) fn make_entry(name: &[u8], size: u32, kind: u32, first: u32) -> FileEntry
     requires name { length name.now ≤ MAXNAMELEN }
     requires blocks { first + span_of size ≤ MAXBLOCKS }
     ensures { result ≡ made_entry name.now size kind first }
 {
-    Entry {
+    FileEntry {
         name: pad_name(name),
         size,
         kind,

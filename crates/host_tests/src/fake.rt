@@ -12,7 +12,7 @@ use std::rt::Files;
 
 /// What a read or a write does: it moves so many bytes at most, or fails.
 #[derive(Clone, Copy)]
-pub(crate) enum Turn {
+pub(crate) enum Response {
     Moves(usize),
     Fails(ErrorKind),
 }
@@ -21,8 +21,8 @@ pub(crate) enum Turn {
 /// later call.
 #[derive(Drop)]
 pub(crate) struct Script {
-    turns: &'static [Turn],
-    last: Turn,
+    turns: &'static [Response],
+    last: Response,
     /// Whether a file may be opened.
     opens: bool,
     calls: Cell<usize>,
@@ -32,7 +32,7 @@ pub(crate) struct Script {
 
 impl Script {
     /// Of a system that has a file of five bytes.
-    pub(crate) fn open(alloc: Global, turns: &'static [Turn], last: Turn) -> Script {
+    pub(crate) fn open(alloc: Global, turns: &'static [Response], last: Response) -> Script {
         Script {
             turns,
             last,
@@ -47,7 +47,7 @@ impl Script {
     pub(crate) fn closed(alloc: Global, at_once: usize) -> Script {
         Script {
             opens: false,
-            ..Script::open(alloc, &[], Turn::Moves(at_once))
+            ..Script::open(alloc, &[], Response::Moves(at_once))
         }
     }
 
@@ -63,7 +63,7 @@ impl Script {
         }
     }
 
-    fn turn(&self) -> Turn {
+    fn turn(&self) -> Response {
         let calls = self.calls.get();
         self.calls.set(calls.saturating_add(1));
         self.turns.get(calls).copied().unwrap_or(self.last)
@@ -73,14 +73,14 @@ impl Script {
         ensures { IfOk result (λ n. n ≤ length buf.old) }
     {
         match self.turn() {
-            Turn::Moves(most) => {
+            Response::Moves(most) => {
                 let count = most.min(buf.len());
                 let mut unread = self.unread.get();
                 let done = unread.read(&mut buf[..count]);
                 self.unread.set(unread);
                 done
             }
-            Turn::Fails(kind) => Err(io::Error::from(kind)),
+            Response::Fails(kind) => Err(io::Error::from(kind)),
         }
     }
 
@@ -88,7 +88,7 @@ impl Script {
         ensures { IfOk result (λ n. n ≤ length bytes.now) }
     {
         match self.turn() {
-            Turn::Moves(most) => {
+            Response::Moves(most) => {
                 let count = most.min(bytes.len());
                 match self.written.try_borrow_mut() {
                     Ok(mut written) => {
@@ -98,7 +98,7 @@ impl Script {
                     Err(_) => denied(),
                 }
             }
-            Turn::Fails(kind) => Err(io::Error::from(kind)),
+            Response::Fails(kind) => Err(io::Error::from(kind)),
         }
     }
 }

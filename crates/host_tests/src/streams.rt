@@ -1,20 +1,26 @@
 //! A host over a system that fails, or moves few bytes at a time.
 
-use crate::fake::{Fake, Script, Turn};
+use crate::fake::{Fake, Response, Script};
 use crate::same::same;
 use crate::system::is_refused;
-use Turn::{Fails, Moves};
+use Response::{Fails, Moves};
 use jos_host::{Failed, Host, OsHost};
 use std::io::ErrorKind;
 use std::test::Fail;
 
-const STOPPED: Turn = Fails(ErrorKind::Interrupted);
+const STOPPED: Response = Fails(ErrorKind::Interrupted);
 
-const BROKEN: Turn = Fails(ErrorKind::BrokenPipe);
+const BROKEN: Response = Fails(ErrorKind::BrokenPipe);
 
 /// The turns of a system's reads or writes and the one of all later ones, the room for what is read, how many bytes come,
 /// and how often the system is called.
-type Reads = (&'static [Turn], Turn, usize, Result<usize, Failed>, usize);
+type Reads = (
+    &'static [Response],
+    Response,
+    usize,
+    Result<usize, Failed>,
+    usize,
+);
 
 #[rattlefmt::skip]
 const READS: [Reads; 7] = [
@@ -42,7 +48,13 @@ fn reads_until_all_is_there(rt: HostRuntime) {
 }
 
 /// The turns as there, whether all of five bytes are taken, how many are, and how often the system is called.
-type Writes = (&'static [Turn], Turn, Result<(), Failed>, usize, usize);
+type Writes = (
+    &'static [Response],
+    Response,
+    Result<(), Failed>,
+    usize,
+    usize,
+);
 
 #[rattlefmt::skip]
 const WRITES: [Writes; 6] = [

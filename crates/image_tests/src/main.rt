@@ -18,7 +18,7 @@
 mod images;
 mod programs;
 
-use case_words::{Answers, Words, tell_cases};
+use case_words::{AnswersCases, Words, tell_cases};
 use std::alloc::Global;
 use std::io;
 
@@ -26,7 +26,7 @@ use std::io;
 #[derive(Clone, Copy)]
 struct Tried;
 
-impl Answers for Tried {
+impl AnswersCases for Tried {
     fn answer(&mut self, alloc: Global, out: &mut String, mut words: Words) -> io::Result<()> {
         match words.word() {
             "elf" => images::answer(alloc, out, words),

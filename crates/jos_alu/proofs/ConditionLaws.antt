@@ -11,7 +11,7 @@ use Rattle.std.proofs.Math.Nat.{mod-eq_of_lt, mod-mod}
 use Rattle.jos_alu.specs.declared.width.Width.{Width}
 use Rattle.jos_alu.specs.declared.width.Width.TheVariants.{Bits8, Bits16, Bits32}
 use Rattle.jos_alu.specs.declared.flags.StatusFlags.{StatusFlags}
-use Rattle.jos_alu.specs.Flags.{modulus, sign_bit, flag, is_set, with_status, flags_of_difference, difference_of}
+use Rattle.jos_alu.specs.Flags.{modulus, sign_bit, flag, is_set, with_status_flags, flags_of_difference, difference_of}
 use Rattle.jos_alu.specs.Flags.{condition_holds}
 use Rattle.jos_alu.specs.Products.{signed_of}
 use Rattle.jos_alu.specs.Laws.{ComparesNumbers}
@@ -32,8 +32,8 @@ rest : (e n : ℕ) → bit_and 0xffff_f72a n ≡ 0 → bit_and e 0 ≡ 0 → bit
 rest e n h z = and_assoc n e 0xffff_f72a ∙ ap (bit_and e) h ∙ z
 
 module _ (e : ℕ) (f : StatusFlags) (z : bit_and e 0 ≡ 0) where
-  carry_is : is_set (with_status e f) 0x001 ≡ f.carry
-  unfolding with_status
+  carry_is : is_set (with_status_flags e f) 0x001 ≡ f.carry
+  unfolding with_status_flags
   carry_is =
       ap (λ n. not (n == 0)) (off _ 0x800 1 f.overflow refl refl ∙ off _ 0x080 1 f.sign refl refl ∙ off _ 0x040 1 f.zero refl refl
       ∙ off _ 0x010 1 f.auxiliary refl refl ∙ off _ 0x004 1 f.parity refl refl ∙ on _ 1 f.carry (rest e 1 refl z) refl)
@@ -43,8 +43,8 @@ module _ (e : ℕ) (f : StatusFlags) (z : bit_and e 0 ≡ 0) where
       shown true = refl
       shown false = refl
 
-  zero_is : is_set (with_status e f) 0x040 ≡ f.zero
-  unfolding with_status
+  zero_is : is_set (with_status_flags e f) 0x040 ≡ f.zero
+  unfolding with_status_flags
   zero_is =
       ap (λ n. not (n == 0)) (off _ 0x800 0x040 f.overflow refl refl ∙ off _ 0x080 0x040 f.sign refl refl
       ∙ on _ 0x040 f.zero (off _ 0x010 0x040 f.auxiliary refl refl ∙ off _ 0x004 0x040 f.parity refl refl ∙ off _ 0x001 0x040 f.carry refl refl
@@ -55,8 +55,8 @@ module _ (e : ℕ) (f : StatusFlags) (z : bit_and e 0 ≡ 0) where
       shown true = refl
       shown false = refl
 
-  sign_is : is_set (with_status e f) 0x080 ≡ f.sign
-  unfolding with_status
+  sign_is : is_set (with_status_flags e f) 0x080 ≡ f.sign
+  unfolding with_status_flags
   sign_is =
       ap (λ n. not (n == 0)) (off _ 0x800 0x080 f.overflow refl refl
       ∙ on _ 0x080 f.sign (off _ 0x040 0x080 f.zero refl refl ∙ off _ 0x010 0x080 f.auxiliary refl refl ∙ off _ 0x004 0x080 f.parity refl refl
@@ -67,8 +67,8 @@ module _ (e : ℕ) (f : StatusFlags) (z : bit_and e 0 ≡ 0) where
       shown true = refl
       shown false = refl
 
-  overflow_is : is_set (with_status e f) 0x800 ≡ f.overflow
-  unfolding with_status
+  overflow_is : is_set (with_status_flags e f) 0x800 ≡ f.overflow
+  unfolding with_status_flags
   overflow_is =
       ap (λ n. not (n == 0)) (on _ 0x800 f.overflow (off _ 0x080 0x800 f.sign refl refl ∙ off _ 0x040 0x800 f.zero refl refl
       ∙ off _ 0x010 0x800 f.auxiliary refl refl ∙ off _ 0x004 0x800 f.parity refl refl ∙ off _ 0x001 0x800 f.carry refl refl
@@ -166,7 +166,7 @@ compares width a b e ha hb =
     let d = difference_is width a b ha hb in
     let z : bit_and e 0 ≡ 0 = and_zero_r e in
     let is_zero = zero_is e f z ∙ zero_equal a b (modulus width) (difference_of width a b 0) ha hb d.0 d.1 in
-    let is_less : not (beq (is_set (with_status e f) 0x080) (is_set (with_status e f) 0x800)) ≡ int_lt (signed_of width a) (signed_of width b) =
+    let is_less : not (beq (is_set (with_status_flags e f) 0x080) (is_set (with_status_flags e f) 0x800)) ≡ int_lt (signed_of width a) (signed_of width b) =
     (λ i. not (beq (sign_is e f z i) (overflow_is e f z i))) ∙ signs_less width a b ha hb in
     record {
       below = carry_is e f z ∙ (let n : b + 0 ≡ b = omega arith in ap (λ x. nat_lt a x) n);

@@ -4,11 +4,12 @@ use Rattle.std.proofs.Common.{arith, if◌then◌else◌}
 use Rattle.std.specs.Prelude.{nat_le}
 use Rattle.std.proofs.lemmas.Bool.Decides.{nat_tests}
 use Rattle.std.proofs.Math.Nat.{mod-eq_of_lt, add-mod_right}
+use Rattle.jos_base.specs.Environments.{bit_of}
 use Rattle.jos_alu.specs.declared.width.Width.{Width}
 use Rattle.jos_alu.specs.declared.width.Width.TheVariants.{Bits8, Bits16, Bits32}
 use Rattle.jos_alu.specs.declared.shifts.Shift.TheVariants.{Rol, Ror}
 use Rattle.jos_alu.specs.declared.shifts.Shifting.{Shifting}
-use Rattle.jos_alu.specs.Flags.{modulus, is_negative, bit_of}
+use Rattle.jos_alu.specs.Flags.{modulus, is_negative}
 use Rattle.jos_alu.specs.Shifts.{is_odd, up, down, shift_once, shift_times}
 use Rattle.jos_alu.specs.Laws.{RotatesBack}
 use Rattle.jos_alu.proofs.ShiftTimes.{last}

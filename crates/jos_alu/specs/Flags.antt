@@ -5,6 +5,7 @@ use Rattle.std.specs.Prelude.{bit_or, bit_xor, if◌then◌else◌}
 use Rattle.std.specs.Int.RustNames.{count_ones}
 use Rattle.std.proofs.Math.Bool.{beq}
 use Rattle.jos_base.specs.declared.numbers.TheConstants.{FL_CF, FL_PF, FL_AF, FL_ZF, FL_SF, FL_OF}
+use Rattle.jos_base.specs.Environments.{bit_of}
 use Rattle.jos_alu.specs.declared.width.Width.{Width}
 use Rattle.jos_alu.specs.declared.width.Width.TheVariants.{Bits8, Bits16, Bits32}
 use Rattle.jos_alu.specs.declared.operation.Operation.{Operation}
@@ -29,10 +30,6 @@ sign_bit Bits32 = 2 ^ 31
 abbrev pub is_negative : Width → ℕ → Bool
 is_negative width n = nat_le (sign_bit width) (n % modulus width)
 
--- 1 for true
-abbrev pub bit_of : Bool → ℕ
-bit_of b = if b then 1 else 0
-
 -- ---- EFLAGS
 
 abbrev pub flag : Bool → ℕ → ℕ
@@ -53,8 +50,8 @@ status_flags_of eflags = record {
 }
 
 -- EFLAGS with these six flags, and all else as it was
-unfoldable pub with_status : ℕ → StatusFlags → ℕ
-with_status eflags f =
+unfoldable pub with_status_flags : ℕ → StatusFlags → ℕ
+with_status_flags eflags f =
     bit_or (bit_or (bit_or (bit_or (bit_or (bit_or (bit_and eflags 0xffff_f72a)
     (flag f.carry FL_CF)) (flag f.parity FL_PF)) (flag f.auxiliary FL_AF)) (flag f.zero FL_ZF)) (flag f.sign FL_SF)) (flag f.overflow FL_OF)
 
@@ -103,22 +100,22 @@ keeping_carry eflags f = record f { carry = is_set eflags FL_CF }
 
 abbrev pub added : Width → ℕ → ℕ → ℕ → ℕ → Computed
 added width a b carry eflags =
-    record { value = sum_of width a b carry; eflags = with_status eflags (flags_of_sum width a b carry) }
+    record { value = sum_of width a b carry; eflags = with_status_flags eflags (flags_of_sum width a b carry) }
 
 abbrev pub subtracted : Width → ℕ → ℕ → ℕ → ℕ → Computed
 subtracted width a b borrow eflags =
-    record { value = difference_of width a b borrow; eflags = with_status eflags (flags_of_difference width a b borrow) }
+    record { value = difference_of width a b borrow; eflags = with_status_flags eflags (flags_of_difference width a b borrow) }
 
 abbrev pub combined : Width → ℕ → ℕ → Computed
-combined width value eflags = record { value = value; eflags = with_status eflags (flags_of_logic width value eflags) }
+combined width value eflags = record { value = value; eflags = with_status_flags eflags (flags_of_logic width value eflags) }
 
 abbrev pub increased : Width → ℕ → ℕ → ℕ → Computed
 increased width a b eflags =
-    record { value = sum_of width a b 0; eflags = with_status eflags (keeping_carry eflags (flags_of_sum width a b 0)) }
+    record { value = sum_of width a b 0; eflags = with_status_flags eflags (keeping_carry eflags (flags_of_sum width a b 0)) }
 
 abbrev pub decreased : Width → ℕ → ℕ → ℕ → Computed
 decreased width a b eflags =
-    record { value = difference_of width a b 0; eflags = with_status eflags (keeping_carry eflags (flags_of_difference width a b 0)) }
+    record { value = difference_of width a b 0; eflags = with_status_flags eflags (keeping_carry eflags (flags_of_difference width a b 0)) }
 
 -- ADC adds CF too, and SBB takes CF away. CMP is SUB; that its difference is dropped is said where it is used.
 unfoldable pub operated : Operation → Width → ℕ → ℕ → ℕ → Computed

@@ -13,7 +13,7 @@ use Rattle.jos_alu.specs.declared.flags.StatusFlags.{StatusFlags}
 use Rattle.jos_alu.specs.declared.flags.Computed.{Computed}
 use Rattle.jos_alu.specs.declared.products.Halves.{Halves}
 use Rattle.jos_alu.specs.Registers.{with_register_at}
-use Rattle.jos_alu.specs.Flags.{modulus, status_flags_of, with_status}
+use Rattle.jos_alu.specs.Flags.{modulus, status_flags_of, with_status_flags}
 
 -- the signed number that the lowest bits stand for
 unfoldable pub signed_of : Width → ℕ → ℤ
@@ -64,7 +64,7 @@ abbrev pub product_status : Bool → StatusFlags → StatusFlags
 product_status long f = record f { carry = long; overflow = long }
 
 abbrev pub product_flags : ℕ → Bool → ℕ
-product_flags eflags long = with_status eflags (product_status long (status_flags_of eflags))
+product_flags eflags long = with_status_flags eflags (product_status long (status_flags_of eflags))
 
 -- The form of IMUL with two or three operands keeps the low half alone.
 abbrev pub multiplied : Width → ℕ → ℕ → ℕ → Computed

@@ -3,13 +3,14 @@
 -- Flags that it leaves undefined are kept.)
 use Rattle.std.specs.Prelude.{ℕ, ◌+◌, ◌*◌, ◌/◌, ◌%◌, ◌==◌, nat_le, not, zero, suc, Bool, false, if◌then◌else◌}
 use Rattle.std.proofs.Math.Bool.{beq}
+use Rattle.jos_base.specs.Environments.{bit_of}
 use Rattle.jos_alu.specs.declared.width.Width.{Width}
 use Rattle.jos_alu.specs.declared.shifts.Shift.{Shift}
 use Rattle.jos_alu.specs.declared.shifts.Shift.TheVariants.{Rol, Ror, Shl, Shr, Sar, Shld, Shrd}
 use Rattle.jos_alu.specs.declared.flags.StatusFlags.{StatusFlags}
 use Rattle.jos_alu.specs.declared.flags.Computed.{Computed}
 use Rattle.jos_alu.specs.declared.shifts.Shifting.{Shifting}
-use Rattle.jos_alu.specs.Flags.{modulus, sign_bit, is_negative, bit_of, status_flags_of, with_status, flags_of_result}
+use Rattle.jos_alu.specs.Flags.{modulus, sign_bit, is_negative, status_flags_of, with_status_flags, flags_of_result}
 
 abbrev pub is_odd : ℕ → Bool
 is_odd n = n % 2 == 1
@@ -72,7 +73,7 @@ shift_flags Shrd width old s count f = flags_of_result width s.value s.carry f.a
 
 abbrev pub shift_result : Shift → Width → ℕ → Shifting → ℕ → ℕ → Computed
 shift_result shift width old s count eflags =
-    record { value = s.value; eflags = with_status eflags (shift_flags shift width old s count (status_flags_of eflags)) }
+    record { value = s.value; eflags = with_status_flags eflags (shift_flags shift width old s count (status_flags_of eflags)) }
 
 abbrev pub shift_start : ℕ → ℕ → Shifting
 shift_start value other = record { value = value; other = other; carry = false }

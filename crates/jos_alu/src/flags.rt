@@ -1,8 +1,9 @@
 //! Sums, differences and logic at a width, the status flags of the processor, and the conditions on them.
 
-ghost use Rattle.std.specs.Prelude.{◌≡◌, ◌+◌, ◌%◌, ◌==◌, nat_le};
-ghost use Rattle.jos_alu.specs.Flags.{modulus, sign_bit, is_negative, bit_of, flag, is_set, status_flags_of};
-ghost use Rattle.jos_alu.specs.Flags.{with_status};
+ghost use Rattle.std.specs.Prelude.{◌≡◌, ◌+◌, ◌%◌, ◌==◌};
+ghost use Rattle.jos_base.specs.Environments.{bit_of};
+ghost use Rattle.jos_alu.specs.Flags.{modulus, sign_bit, is_negative, flag, is_set, status_flags_of};
+ghost use Rattle.jos_alu.specs.Flags.{with_status_flags};
 ghost use Rattle.jos_alu.specs.Flags.{flags_of_result, sum_of, flags_of_sum, difference_of, flags_of_difference};
 ghost use Rattle.jos_alu.specs.Flags.{flags_of_logic, keeping_carry, added, subtracted, combined, increased};
 ghost use Rattle.jos_alu.specs.Flags.{decreased, operated, is_less, condition_holds};
@@ -116,10 +117,10 @@ pub(crate) fn status_flags_of(eflags: u32) -> StatusFlags
 }
 
 /// EFLAGS with these flags, and all else as it was.
-#[tactic(auto, unfolding(crate::specs::Flags::with_status))]
+#[tactic(auto, unfolding(crate::specs::Flags::with_status_flags))]
 #[inline(always)]
-pub(crate) fn with_status(eflags: u32, flags: StatusFlags) -> u32
-    ensures { result ≡ with_status eflags flags }
+pub(crate) fn with_status_flags(eflags: u32, flags: StatusFlags) -> u32
+    ensures { result ≡ with_status_flags eflags flags }
 {
     eflags & OTHERS
         | flag(flags.carry, FL_CF)
@@ -222,7 +223,7 @@ fn add(width: Width, a: u32, b: u32, carry: u32, eflags: u32) -> Computed
 {
     Computed {
         value: sum_of(width, a, b, carry),
-        eflags: with_status(eflags, flags_of_sum(width, a, b, carry)),
+        eflags: with_status_flags(eflags, flags_of_sum(width, a, b, carry)),
     }
 }
 
@@ -233,7 +234,7 @@ pub fn subtract(width: Width, a: u32, b: u32, borrow: u32, eflags: u32) -> Compu
 {
     Computed {
         value: difference_of(width, a, b, borrow),
-        eflags: with_status(eflags, flags_of_difference(width, a, b, borrow)),
+        eflags: with_status_flags(eflags, flags_of_difference(width, a, b, borrow)),
     }
 }
 
@@ -244,7 +245,7 @@ pub fn combine(width: Width, value: u32, eflags: u32) -> Computed
 {
     Computed {
         value,
-        eflags: with_status(eflags, flags_of_logic(width, value, eflags)),
+        eflags: with_status_flags(eflags, flags_of_logic(width, value, eflags)),
     }
 }
 
@@ -256,7 +257,7 @@ pub fn increase(width: Width, a: u32, b: u32, eflags: u32) -> Computed
     let flags = keeping_carry(eflags, flags_of_sum(width, a, b, 0));
     Computed {
         value: sum_of(width, a, b, 0),
-        eflags: with_status(eflags, flags),
+        eflags: with_status_flags(eflags, flags),
     }
 }
 
@@ -268,7 +269,7 @@ pub fn decrease(width: Width, a: u32, b: u32, eflags: u32) -> Computed
     let flags = keeping_carry(eflags, flags_of_difference(width, a, b, 0));
     Computed {
         value: difference_of(width, a, b, 0),
-        eflags: with_status(eflags, flags),
+        eflags: with_status_flags(eflags, flags),
     }
 }
 

@@ -7,7 +7,7 @@ ghost use Rattle.jos_alu.specs.Products.{product_of, is_too_long, halves_of, pro
 ghost use Rattle.jos_alu.specs.Products.{multiplied, unsigned_quotient, fits_in, signed_quotient, signed_double};
 ghost use Rattle.jos_alu.specs.Products.{quotient_of};
 
-use crate::flags::{Computed, StatusFlags, lowest, modulus, status_flags_of, with_status};
+use crate::flags::{Computed, StatusFlags, lowest, modulus, status_flags_of, with_status_flags};
 use crate::registers::set_register_at;
 use crate::width::Width;
 use jos_base::Regs;
@@ -140,7 +140,7 @@ fn product_status(long: bool, flags: StatusFlags) -> StatusFlags
 pub fn product_flags(eflags: u32, long: bool) -> u32
     ensures { result ≡ product_flags eflags long }
 {
-    with_status(eflags, product_status(long, status_flags_of(eflags)))
+    with_status_flags(eflags, product_status(long, status_flags_of(eflags)))
 }
 
 /// The low half of a signed product, with the flags.

@@ -8,7 +8,7 @@ ghost use Rattle.jos_alu.specs.Shifts.{rotated_flags, shift_flags, shift_result,
 
 use crate::flags::{
     Computed, StatusFlags, flags_of_result, is_negative, lowest, modulus, status_flags_of,
-    with_status,
+    with_status_flags,
 };
 use crate::width::Width;
 
@@ -251,7 +251,7 @@ fn shift_result(
     let flags = shift_flags(shift, width, old, s, count, status_flags_of(eflags));
     Computed {
         value: s.value,
-        eflags: with_status(eflags, flags),
+        eflags: with_status_flags(eflags, flags),
     }
 }
 

@@ -4,6 +4,7 @@ use Rattle.std.proofs.Common.{sym, cond}
 use Rattle.std.specs.Prelude.{IsTrue, IsOkAnd}
 use Rattle.std.specs.Option.{option_map}
 use Rattle.std.proofs.lemmas.Bool.{lt-ltb, le-ltb}
+use Rattle.std.specs.Result.{result_err}
 use Rattle.jos_asm.specs.declared.limits.TheConstants.{CODE_MAX}
 use Rattle.jos_asm.specs.declared.fault.AsmFault.{AsmFault}
 use Rattle.jos_asm.specs.declared.fault.AsmFault.TheVariants.{TooLong, Twice, Unknown, Far, NoMemory}
@@ -11,18 +12,18 @@ use Rattle.jos_asm.specs.declared.item.Item.{Item}
 use Rattle.jos_asm.specs.Items.{is_item}
 use Rattle.jos_asm.specs.Program.{Program, length_of_all, place_in, known_place, first_twice, first_unknown}
 use Rattle.jos_asm.specs.Program.{first_far, spelled_from, unless, finished}
-use Rattle.jos_asm.specs.Calls.{IsFault, fault_in}
+use Rattle.jos_asm.specs.Calls.{IsFault}
 use Rattle.jos_asm.specs.Laid.{AreLaid}
 use Rattle.jos_asm.proofs.Laid.{all_laid}
 use Rattle.jos_asm.proofs.Passes.{spelled_len}
 
 -- a fault of the program is told as it is
-told : (p : Program) (fault : AsmFault) → finished p ≡ Err fault → IsFault fault (fault_in (finished p))
+told : (p : Program) (fault : AsmFault) → finished p ≡ Err fault → IsFault fault (result_err (finished p))
 told p NoMemory is = tt
-told p TooLong is = ap fault_in is
-told p (Twice name) is = ap fault_in is
-told p (Unknown name) is = ap fault_in is
-told p (Far name) is = ap fault_in is
+told p TooLong is = ap result_err is
+told p (Twice name) is = ap result_err is
+told p (Unknown name) is = ap result_err is
+told p (Far name) is = ap result_err is
 
 fault_unless : (kind : List ℕ → AsmFault) (name : Option (List ℕ)) (answer : Result (List ℕ) AsmFault) (fault : AsmFault)
     → option_map kind name ≡ Some fault → unless kind name answer ≡ Err fault
@@ -43,7 +44,7 @@ module _ (p : Program) where
   unfolding finished
   too_long over = ap (λ b. cond b (Err TooLong) twice_answer) (lt-ltb CODE_MAX (length_of_all p.items) over)
 
-  pub is_long : (fault : AsmFault) → fault ≡ TooLong → CODE_MAX < length_of_all p.items → IsFault fault (fault_in (finished p))
+  pub is_long : (fault : AsmFault) → fault ≡ TooLong → CODE_MAX < length_of_all p.items → IsFault fault (result_err (finished p))
   is_long fault is over = told p fault (rw is (too_long over))
 
   module _ (small : length_of_all p.items ≤ CODE_MAX) where
@@ -51,21 +52,21 @@ module _ (p : Program) where
     unfolding finished
     short = ap (λ b. cond b (Err TooLong) twice_answer) (le-ltb CODE_MAX (length_of_all p.items) small)
 
-    pub is_twice : (fault : AsmFault) → option_map Twice (first_twice [] p.items) ≡ Some fault → IsFault fault (fault_in (finished p))
+    pub is_twice : (fault : AsmFault) → option_map Twice (first_twice [] p.items) ≡ Some fault → IsFault fault (result_err (finished p))
     is_twice fault h = told p fault (short ∙ fault_unless Twice (first_twice [] p.items) unknown_answer fault h)
 
     module _ (once : first_twice [] p.items ≡ None) where
       once_answer : finished p ≡ unknown_answer
       once_answer = short ∙ ap (λ o. unless Twice o unknown_answer) once
 
-      pub is_unknown_name : (fault : AsmFault) → option_map Unknown (first_unknown (place_in p.items) p.items) ≡ Some fault → IsFault fault (fault_in (finished p))
+      pub is_unknown_name : (fault : AsmFault) → option_map Unknown (first_unknown (place_in p.items) p.items) ≡ Some fault → IsFault fault (result_err (finished p))
       is_unknown_name fault h = told p fault (once_answer ∙ fault_unless Unknown (first_unknown (place_in p.items) p.items) far_answer fault h)
 
       module _ (named : first_unknown (place_in p.items) p.items ≡ None) where
         named_answer : finished p ≡ far_answer
         named_answer = once_answer ∙ ap (λ o. unless Unknown o far_answer) named
 
-        pub is_far_name : (fault : AsmFault) → option_map Far (first_far (known_place p.items) 0 p.items) ≡ Some fault → IsFault fault (fault_in (finished p))
+        pub is_far_name : (fault : AsmFault) → option_map Far (first_far (known_place p.items) 0 p.items) ≡ Some fault → IsFault fault (result_err (finished p))
         is_far_name fault h =
             told p fault (named_answer ∙ fault_unless Far (first_far (known_place p.items) 0 p.items) (Ok (spelled_from p.base (known_place p.items) 0 p.items)) fault h)
 

@@ -14,13 +14,13 @@ use Rattle.jos_asm.specs.declared.limits.TheConstants.{CODE_MAX}
 use Rattle.jos_asm.specs.declared.item.Item.{Item}
 use Rattle.jos_asm.specs.declared.item.Item.TheVariants as item
 use Rattle.jos_asm.specs.Items.{is_item, length_of, target_of}
-use Rattle.jos_asm.specs.Program.{Program, length_of_all, bytes_of, distance, place_from, place_in, known_place}
+use Rattle.jos_asm.specs.Program.{Program, length_of_all, item_bytes, distance, place_from, place_in, known_place}
 use Rattle.jos_asm.specs.Program.{is_unknown, first_unknown, first_twice, spelled_from}
-use Rattle.jos_asm.specs.Laid.{StandsAt, IsLaid, AreLaidFrom, AreLaid}
+use Rattle.jos_asm.specs.Laid.{IsLaidAt, IsLaid, AreLaidFrom, AreLaid}
 use Rattle.jos_asm.proofs.Passes.{bytes_len, place_within}
 use Rattle.jos_base.proofs.Options.{cond_none}
 
-stands : (code front bytes rest : List ℕ) (at : ℕ) → length front ≡ at → code ≡ front ++ (bytes ++ rest) → StandsAt code at bytes
+stands : (code front bytes rest : List ℕ) (at : ℕ) → length front ≡ at → code ≡ front ++ (bytes ++ rest) → IsLaidAt code at bytes
 stands code front bytes rest at long is = ap (λ (l : List ℕ). take (length bytes) l) (ap (drop at) is ∙ drop_at front (bytes ++ rest) at long) ∙ take-append_seam bytes rest
 
 leads : (behind place : ℕ) → behind ≤ 2 * CODE_MAX → place ≤ CODE_MAX → (behind + distance behind place) % 2 ^ 32 ≡ place
@@ -90,7 +90,7 @@ label_here p before at label items h once =
 -- ---- items
 
 module _ (p : Program) (code : List ℕ) (small : (name : List ℕ) → known_place p.items name ≤ CODE_MAX) where
-  here : (before : List (List ℕ)) (front rest : List ℕ) (at : ℕ) (i : Item) (items : List Item) → length front ≡ at → code ≡ front ++ (bytes_of p.base (known_place p.items) at i ++ rest)
+  here : (before : List (List ℕ)) (front rest : List ℕ) (at : ℕ) (i : Item) (items : List Item) → length front ≡ at → code ≡ front ++ (item_bytes p.base (known_place p.items) at i ++ rest)
       → first_twice before (i ∷ items) ≡ None → is_unknown (place_in p.items) (target_of i) ≡ false → Later p before at (i ∷ items) → at + length_of i ≤ CODE_MAX → IsLaid p code at i
   here before front rest at (item.Label name) items long is once named later room = label_here p before at name items later once
   here before front rest at (item.Insn insn) items long is once named later room = stands code front (encoded insn) rest at long is
@@ -106,7 +106,7 @@ module _ (p : Program) (code : List ℕ) (small : (name : List ℕ) → known_pl
   unfolding spelled_from first_unknown length_of_all
   laid [] before front at are long is once named later room = tt
   laid (i ∷ items) before front at are long is once named later room =
-      let bytes = bytes_of p.base (known_place p.items) at i in let rest = spelled_from p.base (known_place p.items) (at + length_of i) items in
+      let bytes = item_bytes p.base (known_place p.items) at i in let rest = spelled_from p.base (known_place p.items) (at + length_of i) items in
       let two = unknown_next (place_in p.items) (target_of i) (first_unknown (place_in p.items) items) named in (
         here before front rest at i items long is once two.0 later (omega (arith, room)),
         laid items (names_with before i) (front ++ bytes) (at + length_of i) (λ k d within. are (suc k) d (omega (arith, within)))

@@ -5,7 +5,7 @@ use Rattle.std.specs.Prelude.{◌||◌, not, nat_lt, nat_le, IsTrue}
 use Rattle.std.proofs.lemmas.Bool.{ltb-true, lt-ltb, leb-true, le-leb, and_parts, or_left, or_right}
 use Rattle.jos_isa.specs.declared.instruction.Row.{Row}
 use Rattle.jos_isa.specs.declared.instruction.Row.TheVariants as row
-use Rattle.jos_isa.specs.OpcodeMap.{format_at, entry_at, from_70, from_b0, from_d0, format_behind, two_byte_at}
+use Rattle.jos_isa.specs.OpcodeMap.{format_at, opcode_entry, from_70, from_b0, from_d0, format_behind, two_byte_at}
 use Rattle.jos_isa.specs.RowOpcodes.{opcode_of, format_in}
 use Rattle.jos_isa.specs.Lawful.{is_numbered, is_named, is_immediate, fits_format, format_for, is_lawful}
 use Rattle.jos_isa.specs.Encoding.{encoded, immediate_bytes, opcode_bytes, format_bytes}
@@ -35,7 +35,7 @@ is_signed_byte word = nat_lt word 0x80 || nat_le 0xffff_ff80 word
 -- ---- lawful
 
 jcc8 : (d c : ℕ) → c < 16 → is_lawful (relative (row.JccRel8 c) d) ≡ is_signed_byte d
-unfolding is_lawful is_numbered is_named fits_format format_for format_in opcode_of entry_at format_at from_70 is_immediate
+unfolding is_lawful is_numbered is_named fits_format format_for format_in opcode_of opcode_entry format_at from_70 is_immediate
 jcc8 d = each_below (λ c. is_lawful (relative (row.JccRel8 c) d) ≡ is_signed_byte d) 16
     (refl, (refl, (refl, (refl, (refl, (refl, (refl, (refl, (refl, (refl, (refl, (refl, (refl, (refl, (refl, (refl, tt))))))))))))))))
 
@@ -45,15 +45,15 @@ jcc32 d = each_below (λ c. is_lawful (relative (row.JccRel32 c) d) ≡ true) 16
     (refl, (refl, (refl, (refl, (refl, (refl, (refl, (refl, (refl, (refl, (refl, (refl, (refl, (refl, (refl, (refl, tt))))))))))))))))
 
 jmp8 : (d : ℕ) → is_lawful (relative row.JmpRel8 d) ≡ is_signed_byte d
-unfolding is_lawful is_numbered is_named fits_format format_for format_in opcode_of entry_at format_at from_d0 is_immediate
+unfolding is_lawful is_numbered is_named fits_format format_for format_in opcode_of opcode_entry format_at from_d0 is_immediate
 jmp8 d = refl
 
 jmp32 : (d : ℕ) → is_lawful (relative row.JmpRel32 d) ≡ true
-unfolding is_lawful is_numbered is_named fits_format format_for format_in opcode_of entry_at format_at from_d0 is_immediate
+unfolding is_lawful is_numbered is_named fits_format format_for format_in opcode_of opcode_entry format_at from_d0 is_immediate
 jmp32 d = refl
 
 call32 : (d : ℕ) → is_lawful (relative row.CallRel32 d) ≡ true
-unfolding is_lawful is_numbered is_named fits_format format_for format_in opcode_of entry_at format_at from_d0 is_immediate
+unfolding is_lawful is_numbered is_named fits_format format_for format_in opcode_of opcode_entry format_at from_d0 is_immediate
 call32 d = refl
 
 below : (n k : ℕ) → IsTrue (nat_lt n k) → n < k
@@ -70,7 +70,7 @@ lawful_relative _ d h near = no_false h
 -- ---- lengths
 
 jcc8_len : (d c : ℕ) → c < 16 → length (encoded (relative (row.JccRel8 c) d)) ≡ 2
-unfolding encoded opcode_bytes format_bytes immediate_bytes format_for format_in opcode_of entry_at format_at from_70
+unfolding encoded opcode_bytes format_bytes immediate_bytes format_for format_in opcode_of opcode_entry format_at from_70
 jcc8_len d = each_below (λ c. length (encoded (relative (row.JccRel8 c) d)) ≡ 2) 16
     (refl, (refl, (refl, (refl, (refl, (refl, (refl, (refl, (refl, (refl, (refl, (refl, (refl, (refl, (refl, (refl, tt))))))))))))))))
 
@@ -80,19 +80,19 @@ jcc32_len d = each_below (λ c. length (encoded (relative (row.JccRel32 c) d)) �
     (refl, (refl, (refl, (refl, (refl, (refl, (refl, (refl, (refl, (refl, (refl, (refl, (refl, (refl, (refl, (refl, tt))))))))))))))))
 
 jmp8_len : (d : ℕ) → length (encoded (relative row.JmpRel8 d)) ≡ 2
-unfolding encoded opcode_bytes format_bytes immediate_bytes format_for format_in opcode_of entry_at format_at from_d0
+unfolding encoded opcode_bytes format_bytes immediate_bytes format_for format_in opcode_of opcode_entry format_at from_d0
 jmp8_len d = refl
 
 jmp32_len : (d : ℕ) → length (encoded (relative row.JmpRel32 d)) ≡ 5
-unfolding encoded opcode_bytes format_bytes immediate_bytes format_for format_in opcode_of entry_at format_at from_d0
+unfolding encoded opcode_bytes format_bytes immediate_bytes format_for format_in opcode_of opcode_entry format_at from_d0
 jmp32_len d = refl
 
 call32_len : (d : ℕ) → length (encoded (relative row.CallRel32 d)) ≡ 5
-unfolding encoded opcode_bytes format_bytes immediate_bytes format_for format_in opcode_of entry_at format_at from_d0
+unfolding encoded opcode_bytes format_bytes immediate_bytes format_for format_in opcode_of opcode_entry format_at from_d0
 call32_len d = refl
 
 mov32_len : (address reg : ℕ) → reg < 8 → length (encoded (mov reg address)) ≡ 5
-unfolding encoded opcode_bytes format_bytes immediate_bytes format_for format_in opcode_of entry_at format_at from_b0
+unfolding encoded opcode_bytes format_bytes immediate_bytes format_for format_in opcode_of opcode_entry format_at from_b0
 mov32_len address = each_below (λ reg. length (encoded (mov reg address)) ≡ 5) 8 (refl, (refl, (refl, (refl, (refl, (refl, (refl, (refl, tt))))))))
 
 pub length-relative : (r : Row) (d : ℕ) → IsTrue (is_relative r) → length (encoded (relative r d)) ≡ relative_length r

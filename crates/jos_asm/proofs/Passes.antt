@@ -14,7 +14,7 @@ use Rattle.jos_asm.specs.declared.item.Item.TheVariants as item
 use Rattle.jos_asm.specs.declared.fault.AsmFault.{AsmFault}
 use Rattle.jos_asm.specs.declared.fault.AsmFault.TheVariants.{TooLong, Twice, Unknown, Far, NoMemory}
 use Rattle.jos_asm.specs.Items.{is_item, length_of, target_of}
-use Rattle.jos_asm.specs.Program.{length_of_all, bytes_of, is_label, place_from, place_in, is_unknown, first_unknown}
+use Rattle.jos_asm.specs.Program.{length_of_all, item_bytes, is_label, place_from, place_in, is_unknown, first_unknown}
 use Rattle.jos_asm.specs.Program.{first_twice, is_far, first_far, spelled_from}
 use Rattle.jos_asm.specs.Calls.{IsFault}
 use Rattle.jos_asm.specs.Labels.{twice_in, unknown_in, far_at, with_label}
@@ -73,7 +73,7 @@ told_first kind false name later first fault e h = absurd cc
 
 -- ---- lengths
 
-pub bytes_len : (base : ℕ) (place : List ℕ → ℕ) (at : ℕ) (x : Item) → IsTrue (is_item x) → length (bytes_of base place at x) ≡ length_of x
+pub bytes_len : (base : ℕ) (place : List ℕ → ℕ) (at : ℕ) (x : Item) → IsTrue (is_item x) → length (item_bytes base place at x) ≡ length_of x
 bytes_len base place at (item.Label name) h = refl
 bytes_len base place at (item.Insn insn) h = refl
 bytes_len base place at (item.Jump row name) h = length-relative row _ h
@@ -84,7 +84,7 @@ pub spelled_len : (base : ℕ) (place : List ℕ → ℕ) (at : ℕ) (items : Li
 unfolding spelled_from length_of_all
 spelled_len base place at [] are = refl
 spelled_len base place at (i ∷ items) are =
-    length-append (bytes_of base place at i) _ ∙ ap (λ n. n + length (spelled_from base place (at + length_of i) items)) (bytes_len base place at i (are zero i (omega arith)))
+    length-append (item_bytes base place at i) _ ∙ ap (λ n. n + length (spelled_from base place (at + length_of i) items)) (bytes_len base place at i (are zero i (omega arith)))
     ∙ ap (λ n. length_of i + n) (spelled_len base place (at + length_of i) items (λ k d within. are (suc k) d (omega (arith, within))))
 
 pub place_within : (items : List Item) (at : ℕ) (name : List ℕ) → unwrap_or (place_from at items name) 0 ≤ at + length_of_all items
@@ -177,20 +177,20 @@ module _ (items : List Item) (i : ℕ) (x : Item) (is : x ≡ get_or items i x) 
     all_near none = only_near place at x _ (sym far_more ∙ r.far ∙ none)
 
   module _ (base : ℕ) (place : List ℕ → ℕ) (code : List ℕ) (w : Written base place items i code) where
-    bytes_more : spelled_from base place (length code) (drop i items) ≡ bytes_of base place (length code) x ++ spelled_from base place (length code + length_of x) (drop (i + 1) items)
+    bytes_more : spelled_from base place (length code) (drop i items) ≡ item_bytes base place (length code) x ++ spelled_from base place (length code + length_of x) (drop (i + 1) items)
     unfolding spelled_from
     bytes_more = ap (spelled_from base place (length code)) next
 
     pub written_within : (room : ℕ) → length_of_all items ≤ room → length code + length_of x ≤ room
     written_within room small = let e = w.reached.rest in let f = len_more in omega (arith, e, f)
 
-    pub written_more : (new : List ℕ) → IsTrue (is_item x) → is_far place (length code) x ≡ false → new ≡ code ++ bytes_of base place (length code) x → Written base place items (i + 1) new
+    pub written_more : (new : List ℕ) → IsTrue (is_item x) → is_far place (length code) x ≡ false → new ≡ code ++ item_bytes base place (length code) x → Written base place items (i + 1) new
     written_more new lawful near e =
         let longer : length new ≡ length code + length_of x = ap length e ∙ length-append code _ ∙ ap (λ n. length code + n) (bytes_len base place (length code) x lawful) in
         record {
           reached = subst (λ (n : ℕ). Reached place items (i + 1) n) (sym longer) (reached_more place (length code) w.reached near);
           bytes = (λ j. e j ++ spelled_from base place (longer j) (drop (i + 1) items))
-              ∙ append_assoc code (bytes_of base place (length code) x) _ ∙ ap (λ l. code ++ l) (sym bytes_more) ∙ w.bytes;
+              ∙ append_assoc code (item_bytes base place (length code) x) _ ∙ ap (λ l. code ++ l) (sym bytes_more) ∙ w.bytes;
         }
 
 -- ---- labels

@@ -1,5 +1,5 @@
 -- What a call of the builder has done.
-use Rattle.std.specs.Prelude.{◌≡◌, ℕ, ◌≤◌, ◌<◌, ◌%◌, ◌∷◌, [], ◌++◌, List, length, All, Option, Some, None, Result, Ok}
+use Rattle.std.specs.Prelude.{◌≡◌, ℕ, ◌≤◌, ◌<◌, ◌%◌, ◌∷◌, [], ◌++◌, List, length, All, Option, Some, Result, Ok}
 use Rattle.std.specs.Prelude.{Err}
 use Rattle.jos_asm.specs.declared.limits.TheConstants.{BLOCK, NAME_MAX}
 use Rattle.jos_asm.specs.declared.item.Item.{Item}
@@ -29,8 +29,3 @@ IsFault TooLong first = first ≡ Some TooLong
 IsFault (Twice name) first = first ≡ Some (Twice name)
 IsFault (Unknown name) first = first ≡ Some (Unknown name)
 IsFault (Far name) first = first ≡ Some (Far name)
-
--- the fault of an answer
-abbrev pub fault_in : Result (List ℕ) AsmFault → Option AsmFault
-fault_in (Ok bytes) = None
-fault_in (Err fault) = Some fault

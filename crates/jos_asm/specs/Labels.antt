@@ -18,15 +18,15 @@ abbrev pub labelled : BTreeMap (Bor (List ℕ)) ℕ → List ℕ → Option ℕ
 labelled labels name = get_by (λ label. slice_cmp nat_cmp name label.now) labels
 
 -- a table, if there is one, says where each label is
-abbrev pub Tells : List Item → Option (BTreeMap (Bor (List ℕ)) ℕ) → Type 0
-Tells items None = Unit {0}
-Tells items (Some table) = (name : List ℕ) → labelled table name ≡ place_in items name
+abbrev pub TellsLabels : List Item → Option (BTreeMap (Bor (List ℕ)) ℕ) → Type 0
+TellsLabels items None = Unit {0}
+TellsLabels items (Some table) = (name : List ℕ) → labelled table name ≡ place_in items name
 
 -- items whose labels can be found
 pub record AreTold (items : List Item) (table : Option (BTreeMap (Bor (List ℕ)) ℕ)) : Type 0 where
   pub lawful : All (λ i. IsTrue (is_item i)) items
   pub small : length_of_all items ≤ CODE_MAX
-  pub told : Tells items table
+  pub told : TellsLabels items table
 
 -- the fault of an item at `at`
 abbrev pub far_at : (List ℕ → ℕ) → ℕ → Item → Option AsmFault

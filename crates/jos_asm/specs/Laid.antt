@@ -7,22 +7,22 @@ use Rattle.jos_asm.specs.declared.item.Item.TheVariants as item
 use Rattle.jos_asm.specs.Items.{relative, length_of}
 use Rattle.jos_asm.specs.Program.{Program, place_in}
 
-abbrev pub StandsAt : List ℕ → ℕ → List ℕ → Type 0
-StandsAt code at bytes = take (length bytes) (drop at code) ≡ bytes
+abbrev pub IsLaidAt : List ℕ → ℕ → List ℕ → Type 0
+IsLaidAt code at bytes = take (length bytes) (drop at code) ≡ bytes
 
 -- A label names its place. An instruction has its bytes there, and so has a jump with the distance that leads, from
 -- the next instruction, to its label, modulo 2^32, and a move with its label's address.
 abbrev pub IsLaid : Program → List ℕ → ℕ → Item → Type 0
 IsLaid p code at (item.Label name) = place_in p.items name ≡ Some at
-IsLaid p code at (item.Insn insn) = StandsAt code at (encoded insn)
+IsLaid p code at (item.Insn insn) = IsLaidAt code at (encoded insn)
 IsLaid p code at (item.Jump row name) =
     (place distance : ℕ) × (place_in p.items name ≡ Some place)
     × ((at + length_of (item.Jump row name) + distance) % 2 ^ 32 ≡ place)
-    × StandsAt code at (encoded (relative row distance))
+    × IsLaidAt code at (encoded (relative row distance))
 IsLaid p code at (item.Address reg name) =
     (place : ℕ) × (place_in p.items name ≡ Some place)
-    × StandsAt code at (encoded (mov reg ((p.base + place) % 2 ^ 32)))
-IsLaid p code at (item.Bytes bytes) = StandsAt code at bytes
+    × IsLaidAt code at (encoded (mov reg ((p.base + place) % 2 ^ 32)))
+IsLaid p code at (item.Bytes bytes) = IsLaidAt code at bytes
 
 -- each item, behind those before it, the first of these at `at`
 abbrev pub AreLaidFrom : Program → List ℕ → ℕ → List Item → Type 0

@@ -47,16 +47,16 @@ abbrev pub distance : ℕ → ℕ → ℕ
 distance behind place = if nat_le behind place then place - behind else 2 ^ 32 - (behind - place)
 
 -- the bytes of an item at `at`, where `place` says where each label is
-abbrev pub bytes_of : ℕ → (List ℕ → ℕ) → ℕ → Item → List ℕ
-bytes_of base place at (item.Label name) = []
-bytes_of base place at (item.Insn insn) = encoded insn
-bytes_of base place at (item.Jump row name) = encoded (relative row (distance (at + length_of (item.Jump row name)) (place name)))
-bytes_of base place at (item.Address reg name) = encoded (mov reg ((base + place name) % 2 ^ 32))
-bytes_of base place at (item.Bytes bytes) = bytes
+abbrev pub item_bytes : ℕ → (List ℕ → ℕ) → ℕ → Item → List ℕ
+item_bytes base place at (item.Label name) = []
+item_bytes base place at (item.Insn insn) = encoded insn
+item_bytes base place at (item.Jump row name) = encoded (relative row (distance (at + length_of (item.Jump row name)) (place name)))
+item_bytes base place at (item.Address reg name) = encoded (mov reg ((base + place name) % 2 ^ 32))
+item_bytes base place at (item.Bytes bytes) = bytes
 
 unfoldable pub spelled_from : ℕ → (List ℕ → ℕ) → ℕ → List Item → List ℕ
 spelled_from base place at [] = []
-spelled_from base place at (i ∷ items) = bytes_of base place at i ++ spelled_from base place (at + length_of i) items
+spelled_from base place at (i ∷ items) = item_bytes base place at i ++ spelled_from base place (at + length_of i) items
 
 -- ---- FAULTS
 

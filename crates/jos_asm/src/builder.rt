@@ -1,11 +1,12 @@
 //! The builder.
 
 ghost use Rattle.std.specs.Prelude.{◌≡◌, ◌<◌, ◌≤◌, ◌⊎◌, [], Ok, IsTrue, IfOk, IfErr, OnErr, IsOkAnd, length};
+ghost use Rattle.std.specs.Result.{result_err};
 ghost use Rattle.jos_isa.specs.Lawful.{is_lawful};
 ghost use Rattle.jos_asm.specs.Items.{is_item, is_relative};
 ghost use Rattle.jos_asm.specs.Program.{finished};
 ghost use Rattle.jos_asm.specs.Laid.{AreLaid};
-ghost use Rattle.jos_asm.specs.Calls.{Adds, IsFault, IsFull, IsName, fault_in};
+ghost use Rattle.jos_asm.specs.Calls.{Adds, IsFault, IsFull, IsName};
 
 use crate::fault::AsmFault;
 use crate::finishing::finish;
@@ -121,7 +122,7 @@ impl Builder {
         // Each item stands at its place.
         ensures laid { IfOk result (λ code. AreLaid self code.items) }
         ensures small { IfOk result (λ code. length code.items ≤ CODE_MAX) }
-        ensures fault { IfErr result (λ fault. IsFault fault (fault_in (finished self))) }
+        ensures fault { IfErr result (λ fault. IsFault fault (result_err (finished self))) }
         ensures memory { IfErr result (λ fault. fault ≡ AsmFault.NoMemory → IsOkAnd (finished self) (λ code. 0 < length code)) }
     {
         finish(self.alloc, self.base, &self.items)

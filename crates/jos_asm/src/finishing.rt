@@ -3,12 +3,13 @@
 ghost use Rattle.std.specs.Prelude.{◌≡◌, ◌+◌, ◌*◌, ◌<◌, ◌≤◌, IsTrue, Ok, IfOk, IfErr, OnOk, OnErr, IsOkAnd, false};
 ghost use Rattle.std.specs.Prelude.{length, All, ◌++◌, None, Some, vec_capacity};
 ghost use Rattle.std.specs.Option.{option_map};
+ghost use Rattle.std.specs.Result.{result_err};
 ghost use Rattle.jos_isa.specs.Lawful.{is_lawful};
 ghost use Rattle.jos_isa.specs.Encoding.{encoded};
 ghost use Rattle.jos_asm.specs.Items.{is_item, length_of, target_of, relative};
-ghost use Rattle.jos_asm.specs.Program.{length_of_all, bytes_of, distance, is_unknown, first_unknown, first_far};
+ghost use Rattle.jos_asm.specs.Program.{length_of_all, item_bytes, distance, is_unknown, first_unknown, first_far};
 ghost use Rattle.jos_asm.specs.Program.{is_near, is_far, reaches, place_in, known_place, spelled_from, finished};
-ghost use Rattle.jos_asm.specs.Calls.{IsFault, fault_in};
+ghost use Rattle.jos_asm.specs.Calls.{IsFault};
 ghost use Rattle.jos_asm.specs.Laid.{AreLaid};
 ghost use Rattle.jos_asm.specs.Labels.{far_at, unknown_in};
 
@@ -147,7 +148,7 @@ fn write_item<'a>(base: u32, item: &'a Item, labels: &Labels<'a>, code: &mut Vec
     requires near { is_far (known_place labels.now) (length code.old.items) item.now ≡ false }
     requires small { length code.old.items + length_of item.now ≤ CODE_MAX }
     requires room { length code.old.items + length_of item.now ≤ vec_capacity code.old }
-    ensures bytes { code.new.items ≡ code.old.items ++ bytes_of base (known_place labels.now) (length code.old.items) item.now }
+    ensures bytes { code.new.items ≡ code.old.items ++ item_bytes base (known_place labels.now) (length code.old.items) item.now }
     ensures room { vec_capacity code.old ≤ vec_capacity code.new }
 {
     match item {
@@ -186,7 +187,7 @@ pub(crate) fn finish(alloc: Global, base: u32, items: &[Item]) -> Result<Vec<u8>
     ensures exact { IfOk result (λ code. finished (record { base = base; items = items.now }) ≡ Ok code.items) }
     ensures laid { IfOk result (λ code. AreLaid (record { base = base; items = items.now }) code.items) }
     ensures small { IfOk result (λ code. length code.items ≤ CODE_MAX) }
-    ensures fault { IfErr result (λ fault. IsFault fault (fault_in (finished (record { base = base; items = items.now })))) }
+    ensures fault { IfErr result (λ fault. IsFault fault (result_err (finished (record { base = base; items = items.now })))) }
     ensures memory { IfErr result (λ fault. fault ≡ AsmFault.NoMemory
         → IsOkAnd (finished (record { base = base; items = items.now })) (λ code. 0 < length code)) }
 {

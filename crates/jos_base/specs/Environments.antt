@@ -91,8 +91,8 @@ with_slot e n slot = record e { slots = upd e.slots n slot }
 -- ---- ids
 
 -- a slot's old id raised by a generation, without the slot's number
-abbrev pub raised : ℕ → ℕ
-raised id = (id + ENV_GENERATION) % 2 ^ 32 - (id + ENV_GENERATION) % NENV
+abbrev pub next_generation : ℕ → ℕ
+next_generation id = (id + ENV_GENERATION) % 2 ^ 32 - (id + ENV_GENERATION) % NENV
 
 -- is the word positive as a signed number?
 abbrev pub is_positive : ℕ → Bool
@@ -100,7 +100,7 @@ is_positive word = nat_lt 0 word && nat_lt word (2 ^ 31)
 
 -- the id that comes after an id in its slot: the next generation's, or the first's where that is not positive
 unfoldable pub next_id : ℕ → ℕ → ℕ
-next_id id n = (if is_positive (raised id) then raised id else FIRST_ENV_ID) + n
+next_id id n = (if is_positive (next_generation id) then next_generation id else FIRST_ENV_ID) + n
 
 -- a new environment may not run yet; its registers and its directory are set by whoever makes it
 abbrev pub new_slot : ℕ → ℕ → Slot

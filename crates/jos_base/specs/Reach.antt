@@ -15,7 +15,7 @@ pub record Entry : Type 0 where
   pub perm : ℕ
 
 -- where a byte lies
-pub record Location : Type 0 where
+pub record FrameOffset : Type 0 where
   pub frame : ℕ
   pub offset : ℕ
 
@@ -29,13 +29,13 @@ write_bit Read = 0
 write_bit Write = FEC_WR
 
 -- by the entry of its page, if there is one; the error code tells a write, a user, and whether there was an entry
-abbrev pub reach_entry : Option Entry → ℕ → Access → Result Location PageFault
+abbrev pub reach_entry : Option Entry → ℕ → Access → Result FrameOffset PageFault
 reach_entry None va access = Err (record { va = va; error = FEC_U + write_bit access })
 reach_entry (Some entry) va access =
     if allows entry.perm access then Ok (record { frame = entry.frame; offset = page_offset va })
     else Err (record { va = va; error = FEC_U + FEC_PR + write_bit access })
 
-abbrev pub front_added : ℕ → Result (List ℕ) PageFault → Result (List ℕ) PageFault
+abbrev pub front_added : {E : Type 0} → ℕ → Result (List ℕ) E → Result (List ℕ) E
 front_added byte (Ok bytes) = Ok (byte ∷ bytes)
 front_added byte (Err fault) = Err fault
 

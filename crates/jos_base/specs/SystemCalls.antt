@@ -1,7 +1,7 @@
 -- What each system call does. Which one is asked for stands in EAX, what it is given in EDX, ECX, EBX, EDI and ESI, in this
 -- order, and what it answers in EAX. Of several refusals the one that stands first here is told.
 -- (MIT 6.828, inc/syscall.h, inc/error.h and kern/syscall.c.)
-use Rattle.std.specs.Prelude.{ℕ, ◌+◌, ◌*◌, ◌%◌, ◌==◌, ◌&&◌, nat_lt, not, Bool, true, false, List, [], ◌∷◌, Option, Some, None}
+use Rattle.std.specs.Prelude.{ℕ, ◌+◌, ◌*◌, ◌%◌, ◌==◌, ◌&&◌, ◌||◌, nat_lt, not, Bool, true, false, List, [], ◌∷◌, Option, Some, None}
 use Rattle.std.specs.Prelude.{Result, Ok, Err, bit_and, if◌then◌else◌}
 use Rattle.std.specs.Option.{option_map}
 use Rattle.jos_base.specs.declared.memory.PageFault.{PageFault}
@@ -23,7 +23,7 @@ use Rattle.jos_base.specs.declared.numbers.TheConstants.{E_BAD_ENV, E_INVAL, E_N
 use Rattle.jos_base.specs.declared.numbers.TheConstants.{ENV_RUNNABLE, ENV_NOT_RUNNABLE, END_OF_INPUT, TRAPFRAME_WORDS}
 use Rattle.jos_base.specs.declared.numbers.TheConstants.{PGSIZE, PTE_P, PTE_W, PTE_U, PTE_SYSCALL, UTOP}
 use Rattle.jos_base.specs.Words.{negated, page_number}
-use Rattle.jos_base.specs.Reach.{Entry, Location, bytes_read}
+use Rattle.jos_base.specs.Reach.{Entry, FrameOffset, bytes_read}
 use Rattle.jos_base.specs.SpacesState.{SpacesState, created, destroyed, allocated, inserted, unmapped, overlaid, with_page_bytes}
 use Rattle.jos_base.specs.UserMemory.{reach_in, touched, all_touched, read_byte}
 use Rattle.jos_base.specs.Messages.{accepts, delivered, wanting}
@@ -91,7 +91,7 @@ trapped_by did = record { state = did.state; written = did.written }
 
 -- The frame is written as a user writes: it lies in one page, which gets its bits. Then the handler goes on, with the frame
 -- on its stack.
-abbrev pub handler_entered : KernelState → ℕ → PageFault → ℕ → Result Location PageFault → Option KernelState
+abbrev pub handler_entered : KernelState → ℕ → PageFault → ℕ → Result FrameOffset PageFault → Option KernelState
 handler_entered s n fault place (Err refusal) = None
 handler_entered s n fault place (Ok at) =
     let slot = slot_at s n in
@@ -346,3 +346,7 @@ call_of s n regs =
 -- the call that the caller's registers name
 abbrev pub system_call : KernelState → ℕ → Did
 system_call s n = call_of s n (slot_at s n).registers
+
+-- the calls that print, with these numbers in EAX, so that the host may fail in them
+abbrev pub may_print : ℕ → Bool
+may_print number = (number == SYS_CPUTS) || (number == SYS_ENV_SET_TRAPFRAME)

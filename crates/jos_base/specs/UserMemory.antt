@@ -9,19 +9,19 @@ use Rattle.jos_base.specs.declared.memory.Access.TheVariants.{Read, Write}
 use Rattle.jos_base.specs.declared.memory.PageFault.{PageFault}
 use Rattle.jos_base.specs.declared.numbers.TheConstants.{NPTENTRIES, PTE_A, PTE_D}
 use Rattle.jos_base.specs.Words.{page_number}
-use Rattle.jos_base.specs.Reach.{Entry, Location, reach_entry}
+use Rattle.jos_base.specs.Reach.{Entry, FrameOffset, reach_entry}
 use Rattle.jos_base.specs.Counting.{page_limit}
 use Rattle.jos_base.specs.SpacesState.{Region, SpacesState, put, with_page_bytes}
 use Rattle.jos_base.specs.Windows.{table_index, walked, window_byte}
 
 -- where an access leads in a space
-abbrev pub reach_in : SpacesState → ℕ → ℕ → Access → Result Location PageFault
+abbrev pub reach_in : SpacesState → ℕ → ℕ → Access → Result FrameOffset PageFault
 reach_in s space va access = reach_entry (walked s space (page_number va)) va access
 
 abbrev pub is_allowed : SpacesState → ℕ → ℕ → Access → Bool
 is_allowed s space va access = is_ok (reach_in s space va access)
 
-abbrev pub fault_or : PageFault → Result Location PageFault → PageFault
+abbrev pub fault_or : PageFault → Result FrameOffset PageFault → PageFault
 fault_or other (Ok location) = other
 fault_or other (Err fault) = fault
 
@@ -67,7 +67,7 @@ abbrev pub with_bits : SpacesState → ℕ → ℕ → Access → SpacesState
 with_bits s space number access =
     if nat_lt number page_limit then with_page_bits s space number access else with_window_bits s space number
 
-abbrev pub touched_by : SpacesState → ℕ → ℕ → Access → Result Location PageFault → SpacesState
+abbrev pub touched_by : SpacesState → ℕ → ℕ → Access → Result FrameOffset PageFault → SpacesState
 touched_by s space va access (Ok location) = with_bits s space (page_number va) access
 touched_by s space va access (Err fault) = s
 
@@ -82,12 +82,12 @@ all_touched s space va (suc n) = all_touched (touched s space va Read) space ((v
 
 -- ---- bytes
 
-abbrev pub byte_of : (ℕ → List ℕ) → SpacesState → ℕ → ℕ → Location → ℕ
+abbrev pub byte_of : (ℕ → List ℕ) → SpacesState → ℕ → ℕ → FrameOffset → ℕ
 byte_of records s space va location =
     if nat_lt (page_number va) page_limit then slice_index (s.pages location.frame) location.offset
     else window_byte records s space va
 
-abbrev pub byte_or_fault : (ℕ → List ℕ) → SpacesState → ℕ → ℕ → Result Location PageFault → Result ℕ PageFault
+abbrev pub byte_or_fault : (ℕ → List ℕ) → SpacesState → ℕ → ℕ → Result FrameOffset PageFault → Result ℕ PageFault
 byte_or_fault records s space va (Ok location) = Ok (byte_of records s space va location)
 byte_or_fault records s space va (Err fault) = Err fault
 
@@ -96,7 +96,7 @@ byte_or_fault records s space va (Err fault) = Err fault
 unfoldable pub read_byte : (ℕ → List ℕ) → SpacesState → ℕ → ℕ → Result ℕ PageFault
 read_byte records s space va = byte_or_fault records s space va (reach_in s space va Read)
 
-abbrev pub byte_or_zero : (ℕ → List ℕ) → SpacesState → ℕ → ℕ → Result Location PageFault → ℕ
+abbrev pub byte_or_zero : (ℕ → List ℕ) → SpacesState → ℕ → ℕ → Result FrameOffset PageFault → ℕ
 byte_or_zero records s space va (Ok location) = byte_of records s space va location
 byte_or_zero records s space va (Err fault) = 0
 
@@ -104,7 +104,7 @@ byte_or_zero records s space va (Err fault) = 0
 unfoldable pub byte_at : (ℕ → List ℕ) → SpacesState → ℕ → ℕ → ℕ
 byte_at records s space va = byte_or_zero records s space va (reach_in s space va Read)
 
-abbrev pub with_byte_at : SpacesState → ℕ → Result Location PageFault → SpacesState
+abbrev pub with_byte_at : SpacesState → ℕ → Result FrameOffset PageFault → SpacesState
 with_byte_at s byte (Ok location) =
     with_page_bytes s location.frame (slice_set (s.pages location.frame) location.offset byte)
 with_byte_at s byte (Err fault) = s

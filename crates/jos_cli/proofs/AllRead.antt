@@ -1,10 +1,11 @@
 -- Files that are read one after another.
 use Rattle.std.proofs.Common.{◌≡◌, List, [], ◌∷◌, ◌++◌, length, map, Option, Ok, Err, refl, sym, ap, subst, ◌∙◌, arith}
 use Rattle.std.proofs.lemmas.List.{length-append, map-append}
+use Rattle.jos_base.specs.Words.{◌>>=◌}
 use Rattle.jos_host.specs.Files.{Files}
 use Rattle.jos_words.specs.Arguments.{Word}
 use Rattle.jos_cli.specs.Found.{FileAt, IsFileAt}
-use Rattle.jos_cli.specs.Answer.{Judged, ◌>>=◌, all_judged}
+use Rattle.jos_cli.specs.Answer.{Judged, all_judged}
 use Rattle.jos_cli.specs.Kinds.{Kind}
 use Rattle.jos_cli.specs.Stages.{AreFilesAt, RefusesBy}
 use Rattle.jos_cli.proofs.Finding.{some_files}

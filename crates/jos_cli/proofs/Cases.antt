@@ -8,29 +8,30 @@ use Rattle.jos_base.specs.declared.numbers.TheConstants.{INPUT_MAX}
 use Rattle.jos_base.specs.KernelState.{KernelState}
 use Rattle.jos_words.specs.Arguments.{Word}
 use Rattle.jos_words.specs.Commands.{Command, Exo, Run, Mkfs, Ls, Cat, exo, run, mkfs, ls, cat}
-use Rattle.fs_image.specs.DiskHeld.{Held, held_of}
+use Rattle.fs_image.specs.DiskHeld.{HeldDisk, held_of}
 use Rattle.fs_layout.specs.DiskImage.{ImageFault}
 use Rattle.fs_contents.specs.Contents.{Told, listed_at, read_at}
 use Rattle.fs_make.specs.declared.fault.MakeFault.{MakeFault}
 use Rattle.fs_make.specs.MakeFaults.{make_fault}
 use Rattle.fs_make.specs.MadeImage.{made_image}
 use Rattle.jos_base.specs.declared.errno.Errno.{Errno}
+use Rattle.jos_base.specs.Words.{◌>>=◌}
 use Rattle.jos_kernel.specs.Boot.{Loadable, booted}
-use Rattle.jos_kernel.specs.ExoRun.{Ran, exo_run, run_of}
+use Rattle.jos_kernel.specs.ExoRun.{Ran, exo_run, run_from_boot}
 use Rattle.jos_cli.specs.declared.outcome.Outcome.{Outcome}
 use Rattle.jos_cli.specs.declared.outcome.Outcome.TheVariants as outcome
-use Rattle.jos_cli.specs.Limits.{numbers_of_exo, limit_of_words, limit_of_run, frames_of, steps_of, trace_of}
+use Rattle.jos_cli.specs.Limits.{numbers_of_exo, limit_of_words, limit_of_run, frames_of, budget_of, trace_of}
 use Rattle.jos_cli.specs.Found.{FileAt, file_at, Found, found_in, run_found_in}
-use Rattle.jos_cli.specs.Answer.{Judged, ◌>>=◌, schedule_of, images_of, Gathered, gathered, Expected, expected_if, expected_of_run, expected_of_images, expected_of_exo}
+use Rattle.jos_cli.specs.Answer.{Judged, schedule_of, images_of, Gathered, gathered, Expected, expected_if, expected_of_run, expected_of_images, expected_of_exo}
 use Rattle.jos_cli.specs.Answer.{made, expected_of_writing}
 use Rattle.jos_cli.specs.Making.{named_files, made_unless, disk_made, expected_of_mkfs}
-use Rattle.jos_cli.specs.Disks.{held_at, checked, checked_by, disk_of, tree_of, if_there, path_of, listing, printed}
+use Rattle.jos_cli.specs.Disks.{held_at, checked, checked_by, disk_of, tree_of, if_there, path_of, listing, expected_of_printed}
 use Rattle.jos_cli.specs.Disks.{expected_of_listing, expected_of_bytes, expected_of_ls, expected_of_cat}
 use Rattle.jos_cli.specs.Kinds.{Kind, kind_of, Answers}
-use Rattle.jos_run.specs.RunEnds.{Program, CanBegin}
+use Rattle.jos_run.specs.RunEnds.{Job, CanBegin}
 use Rattle.jos_cli.specs.declared.outcome.Which.{Which}
 use Rattle.jos_cli.specs.declared.outcome.Which.TheVariants as which
-use Rattle.jos_cli.specs.RunAnswers.{program_of, RunsAs, AnswersRun}
+use Rattle.jos_cli.specs.RunAnswers.{job_of, RunsAs, AnswersRun}
 use Rattle.jos_cli.specs.Outcomes.{AnswersCommand, HasOutcomeCause, HasRunCauseOf, HasCommandCause, CanRun, CanRunProgram, IsRunCase, CanMake, CanList, CanPrint, IsMadeCase}
 use Rattle.jos_cli.specs.Stages.{AreFilesAt}
 use Rattle.jos_cli.proofs.InputRead.{within_limit}
@@ -44,7 +45,7 @@ is_ok (Err e) h = absurd (let e = h in cc)
 
 -- ---- a run
 
-run_of-some : (schedule : List ℕ) (steps : ℕ) (state : Option KernelState) → IsSome state → (r : Ran) × (run_of schedule steps state ≡ Some r)
+run_of-some : (schedule : List ℕ) (steps : ℕ) (state : Option KernelState) → IsSome state → (r : Ran) × (run_from_boot schedule steps state ≡ Some r)
 run_of-some schedule steps (Some state) h = (_, refl)
 run_of-some schedule steps None h = absurd (let e = h in cc)
 
@@ -58,7 +59,7 @@ runs : (e : Exo) (found : Found) (input : List ℕ) → CanRun e found input →
 unfolding expected_of_exo exo_run
 runs e found input can =
     let numbers = is_ok (schedule_of found.schedule) can.schedule in
-    let run = run_of-some numbers.0 (steps_of (numbers_of_exo e)) (booted can.images (frames_of (numbers_of_exo e)) input) can.frames in (
+    let run = run_of-some numbers.0 (budget_of (numbers_of_exo e)) (booted can.images (frames_of (numbers_of_exo e)) input) can.frames in (
       run.0,
       ap (λ (j : Judged Gathered). expected_if j (expected_of_images (numbers_of_exo e)))
           (reads (limit_of_words e) found input numbers.0 can.images can.words numbers.1 can.read can.short)
@@ -99,7 +100,7 @@ none_booted : {X : Type 0} (state : Option X) → state ≡ None → IsSome stat
 none_booted None e h = let some = h in cc
 none_booted (Some x) e h = cc
 
-program_case : (p : Program) (faults : Around ℕ) (own : Outcome) (console : Around (Option (List ℕ))) → RunsAs p (kind_of own) console → CanBegin p →
+program_case : (p : Job) (faults : Around ℕ) (own : Outcome) (console : Around (Option (List ℕ))) → RunsAs p (kind_of own) console → CanBegin p →
     HasRunCauseOf faults (kind_of own) → (Rose faults.before faults.after → ⊥) → IsRunCase own
 program_case p faults (outcome.Ran report last) console h can cause calm = tt
 program_case p faults outcome.NoMemory console h can cause calm = tt
@@ -126,11 +127,11 @@ program_case p faults (outcome.BadMake fault) console h can cause calm = absurd 
 
 -- what is answered where a program can be run
 runs_program : (r : Run) (found : Found) (input : List ℕ) (kind : Kind) (console : Around (Option (List ℕ))) (can : CanRunProgram r found input) →
-    AnswersRun r found input kind console → (p : Program) × CanBegin p × RunsAs p kind console
+    AnswersRun r found input kind console → (p : Job) × CanBegin p × RunsAs p kind console
 runs_program r found input kind console can h =
     let schedule = is_ok (schedule_of found.schedule) can.schedule in
     let read : Gathered = record { schedule = schedule.0; images = can.image ∷ []; input = input } in (
-      program_of r read,
+      job_of r read,
       can.frames,
       program_runs r found input kind console read (reads (limit_of_run r) found input schedule.0 (can.image ∷ []) can.words schedule.1 can.read can.short) h,
     )
@@ -200,8 +201,8 @@ lists l files can =
     let told = is_ok (listed_at (tree_of held) (path_of l.path)) can.path in (
       length (listing told.0),
       ap (λ (e : Expected). e.answer)
-          (ap (λ (j : Judged Held). expected_if j (expected_of_listing (path_of l.path))) (there (file_at files l.disk) can.bytes _ can.there refl can.no_fault)
-          ∙ ap (λ (r : Result (List Told) Errno). expected_if (if_there r) (λ records. printed (listing records))) told.1),
+          (ap (λ (j : Judged HeldDisk). expected_if j (expected_of_listing (path_of l.path))) (there (file_at files l.disk) can.bytes _ can.there refl can.no_fault)
+          ∙ ap (λ (r : Result (List Told) Errno). expected_if (if_there r) (λ records. expected_of_printed (listing records))) told.1),
     )
 
 -- a file is printed
@@ -212,8 +213,8 @@ prints c files can =
     let bytes = is_ok (read_at (tree_of held) c.path.text) can.path in (
       length bytes.0,
       ap (λ (e : Expected). e.answer)
-          (ap (λ (j : Judged Held). expected_if j (expected_of_bytes c.path.text)) (there (file_at files c.disk) can.bytes _ can.there refl can.no_fault)
-          ∙ ap (λ (r : Result (List ℕ) Errno). expected_if (if_there r) printed) bytes.1),
+          (ap (λ (j : Judged HeldDisk). expected_if j (expected_of_bytes c.path.text)) (there (file_at files c.disk) can.bytes _ can.there refl can.no_fault)
+          ∙ ap (λ (r : Result (List ℕ) Errno). expected_if (if_there r) expected_of_printed) bytes.1),
     )
 
 module _ (told : Option Files) (told_input : Option (List ℕ)) (command : Option Command) (faults : Around ℕ) (own : Outcome) (console : Around (Option (List ℕ)))

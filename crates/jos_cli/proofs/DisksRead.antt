@@ -6,20 +6,21 @@ use Rattle.std.proofs.lemmas.Bool.Decides.{nat_tests}
 use Rattle.std.specs.Prelude.{◌==◌, IfErr, position}
 use Rattle.std.specs.Result.{result_err}
 use Rattle.std.specs.List.{before_first, position_or_len}
+use Rattle.jos_base.specs.Words.{◌>>=◌}
 use Rattle.jos_host.specs.Files.{Files}
 use Rattle.jos_host.specs.Asked.{Asked}
 use Rattle.jos_host.specs.Frames.{Unchanged, from_to, around}
 use Rattle.jos_host.specs.declared.host.Host.{Ghosts}
 use Rattle.jos_words.specs.Arguments.{Word}
 use Rattle.jos_words.specs.Commands.{Ls, Cat, ls, cat}
-use Rattle.fs_image.specs.DiskHeld.{Held, IsUnder, IsHeld, IsReadInPieces}
+use Rattle.fs_image.specs.DiskHeld.{HeldDisk, IsUnder, IsHeld, IsReadInPieces}
 use Rattle.fs_contents.specs.Contents.{Told, told_of_entry}
-use Rattle.fs_layout.specs.declared.records.Entry.{Entry}
+use Rattle.fs_layout.specs.declared.records.FileEntry.{FileEntry}
 use Rattle.jos_cli.proofs.WordsRead.{one_more}
 use Rattle.jos_cli.specs.Found.{FileAt, file_at, IsFileAt}
 use Rattle.jos_cli.specs.declared.outcome.Outcome.{Outcome}
 use Rattle.jos_cli.specs.declared.outcome.Outcome.TheVariants.{Usage}
-use Rattle.jos_cli.specs.Answer.{Judged, ◌>>=◌, absent, Expected}
+use Rattle.jos_cli.specs.Answer.{Judged, absent, Expected}
 use Rattle.jos_cli.specs.Disks.{held_at, checked, disk_of, path_of, record_line, listing}
 use Rattle.jos_cli.specs.Disks.{expected_of_listing, expected_of_bytes, expected_of_ls, expected_of_cat}
 use Rattle.jos_cli.specs.Kinds.{kind_of, Answers}
@@ -31,11 +32,11 @@ use Rattle.jos_cli.proofs.Judging.{refuses, goes_on}
 
 -- ---- the disk
 
-checks : (file : FileAt) (held : Held) → held_at file.word.place file.bytes ≡ Ok held → disk_of file ≡ checked held
+checks : (file : FileAt) (held : HeldDisk) → held_at file.word.place file.bytes ≡ Ok held → disk_of file ≡ checked held
 unfolding disk_of
-checks file held h = ap (λ (j : Judged Held). j >>= checked) h
+checks file held h = ap (λ (j : Judged HeldDisk). j >>= checked) h
 
-pub disk_read : (told : Option Files) (word : Word) (file : Option (List ℕ)) (held : Held) → IsUnder told word.text file → IsHeld file held →
+pub disk_read : (told : Option Files) (word : Word) (file : Option (List ℕ)) (held : HeldDisk) → IsUnder told word.text file → IsHeld file held →
     (at : FileAt) × IsFileAt told word at × (disk_of at ≡ checked held)
 disk_read told word None held under is = absurd is
 disk_read None word (Some bytes) held under is =
@@ -45,7 +46,7 @@ disk_read (Some files) word (Some bytes) held under is =
 
 lacks : (file : FileAt) (place : ℕ) → held_at file.word.place file.bytes ≡ Err (absent place) → disk_of file ≡ Err (absent place)
 unfolding disk_of
-lacks file place h = ap (λ (j : Judged Held). j >>= checked) h
+lacks file place h = ap (λ (j : Judged HeldDisk). j >>= checked) h
 
 pub disk_absent : (told : Option Files) (word : Word) (file : Option (List ℕ)) → IsUnder told word.text file → file ≡ None →
     (at : FileAt) × IsFileAt told word at × (disk_of at ≡ Err (absent word.place))
@@ -92,7 +93,7 @@ listing_more : (records : List Told) (told : Told) → listing (records ++ told 
 listing_more records told = listing-append records (told ∷ []) ∙ ap (λ l. listing records ++ l) (listing-one told)
 
 -- a record more
-pub line_written : (entries : List Entry) (k : ℕ) (d : Entry) (old new : List ℕ) → k < length entries → old ≡ listing (map told_of_entry (take k entries)) →
+pub line_written : (entries : List FileEntry) (k : ℕ) (d : FileEntry) (old new : List ℕ) → k < length entries → old ≡ listing (map told_of_entry (take k entries)) →
     new ≡ old ++ record_line (told_of_entry (get_or entries k d)) → new ≡ listing (map told_of_entry (take (k + 1) entries))
 line_written entries k d old new below before line =
     let record_told = told_of_entry (get_or entries k d) in
@@ -157,7 +158,7 @@ module _ (o : Outcome) (seen : Outside) (file : FileAt) where
   }
 
 -- something of it is printed
-module _ {H : Type 0} (host : Ghosts H) (a b d : H) (o : Outcome) (file : FileAt) (held : Held) (judged : disk_of file ≡ Ok held) where
+module _ {H : Type 0} (host : Ghosts H) (a b d : H) (o : Outcome) (file : FileAt) (held : HeldDisk) (judged : disk_of file ≡ Ok held) where
   printed_from : (e : Expected) → host.console b ≡ host.console a → Answers e o (around host.console b d) → Answers e o (around host.console a d)
   printed_from e same h = subst (λ (console : Option (List ℕ)). Answers e o (from_to console (host.console d))) same h
 

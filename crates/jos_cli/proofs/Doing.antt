@@ -16,7 +16,7 @@ use Rattle.jos_cli.specs.Limits.{numbers_of_exo, limit_of_words, limit_of_run}
 use Rattle.jos_cli.specs.Found.{sources_of_exo, sources_of_run, Found, IsFound, IsInput}
 use Rattle.jos_cli.specs.Answer.{Gathered, gathered, expected_of_images}
 use Rattle.jos_cli.specs.Kinds.{kind_of, Answers}
-use Rattle.jos_cli.specs.RunAnswers.{program_of, RunsAs}
+use Rattle.jos_cli.specs.RunAnswers.{job_of, RunsAs}
 use Rattle.jos_cli.specs.Outcomes.{IsUsageCase, HasOutcomeCause, HasRunCauseOf, LeavesInputBy}
 use Rattle.jos_cli.specs.FilesAsked.{AsksFor, AsksAll, read_calls, files_calls, source_calls, AsksSomeNotes, AsksNote}
 use Rattle.jos_cli.specs.Stages.{RefusesBy, IsOfWords, outcome_of_run}
@@ -230,7 +230,7 @@ module _ {H : Type 0} (host : Ghosts H) (a b c : H) (found : Found) (input : Lis
 
   pub run_ran : (r : Run) → IsFound (host.files a) (sources_of_run r) found → gathered (limit_of_run r) found input ≡ Ok read →
       Gathers (source_calls (sources_of_run r)) None (outside host a b) →
-      RunsAs (program_of r read) (kind_of (outcome_of_run ran)) (around host.console b c) →
+      RunsAs (job_of r read) (kind_of (outcome_of_run ran)) (around host.console b c) →
       HasRunCauseOf (around host.faults b c) (kind_of (outcome_of_run ran)) → DoesCommand (Some (run r)) (outcome_of_run ran) (outside host a c)
   run_ran r f judged h told cause = record {
     answer = (
@@ -239,7 +239,7 @@ module _ {H : Type 0} (host : Ghosts H) (a b c : H) (found : Found) (input : Lis
       f,
       i,
       run_goes_on r found input (kind_of (outcome_of_run ran)) (around host.console a c) read judged
-          (subst (λ (console : Option (List ℕ)). RunsAs (program_of r read) (kind_of (outcome_of_run ran)) (from_to console (host.console c))) h.console told),
+          (subst (λ (console : Option (List ℕ)). RunsAs (job_of r read) (kind_of (outcome_of_run ran)) (from_to console (host.console c))) h.console told),
     );
     usage = ran_no_usage ran;
     files = rest.first ∙ h.files;

@@ -14,7 +14,7 @@ use Rattle.jos_host.specs.Frames.{Around, from_to}
 use Rattle.jos_words.specs.Commands.{Command, Mkfs, exo, run, demo, mkfs, ls, cat}
 use Rattle.jos_cli.specs.Commands.{program_file}
 use Rattle.jos_cli.specs.Making.{disk_in}
-use Rattle.jos_cli.specs.FilesLeft.{KeepsOthers, told_with, told_with_disk, LeavesBy, Leaves, LeavesGoodDisk}
+use Rattle.jos_cli.specs.FilesLeft.{KeepsOthers, told_with, told_with_disk, LeavesBy, LeavesFiles, LeavesGoodDisk}
 
 pub itself : (name : List ℕ) → bytes_eq name name ≡ true
 itself name = (bytes_eq-Decides name name).1 refl
@@ -73,8 +73,8 @@ module _ (old new : Option Files) (name : List ℕ) (made : Option Files) (other
   by_fault (outcome.NotThere errno) h = keeps_all old new name h
   by_fault (outcome.BadMake fault) h = keeps_all old new name h
 
-pub leaves_fault : (old new later : Option Files) (command : Option Command) (result : Outcome) (stopped : Stopped) → Leaves command result (from_to old new) → later ≡ new →
-    Leaves command (outcome.HostFault stopped) (from_to old later)
+pub leaves_fault : (old new later : Option Files) (command : Option Command) (result : Outcome) (stopped : Stopped) → LeavesFiles command result (from_to old new) → later ≡ new →
+    LeavesFiles command (outcome.HostFault stopped) (from_to old later)
 leaves_fault old new later None result stopped h same = same ∙ h
 leaves_fault old new later (Some (exo e)) result stopped h same = same ∙ h
 leaves_fault old new later (Some (run r)) result stopped h same = same ∙ h
@@ -89,7 +89,7 @@ leaves_fault old new later (Some (ls l)) result stopped h same = same ∙ h
 leaves_fault old new later (Some (cat c)) result stopped h same = same ∙ h
 
 -- where there was no memory
-pub leaves_no_memory : (command : Option Command) (old new : Option Files) → Leaves command outcome.NoMemory (from_to old new) → new ≡ old
+pub leaves_no_memory : (command : Option Command) (old new : Option Files) → LeavesFiles command outcome.NoMemory (from_to old new) → new ≡ old
 leaves_no_memory None old new h = h
 leaves_no_memory (Some (exo e)) old new h = h
 leaves_no_memory (Some (run r)) old new h = h
@@ -98,7 +98,7 @@ leaves_no_memory (Some (mkfs m)) old new h = h
 leaves_no_memory (Some (ls l)) old new h = h
 leaves_no_memory (Some (cat c)) old new h = h
 
-pub keeps_files : (command : Option Command) (told : Option Files) → Leaves command outcome.NoMemory (from_to told told)
+pub keeps_files : (command : Option Command) (told : Option Files) → LeavesFiles command outcome.NoMemory (from_to told told)
 keeps_files None told = refl
 keeps_files (Some (exo e)) told = refl
 keeps_files (Some (run r)) told = refl

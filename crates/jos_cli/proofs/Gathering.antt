@@ -1,9 +1,10 @@
 -- What is gathered for a run, as it is judged.
 use Rattle.std.proofs.Common.{◌≡◌, ℕ, List, Some, None, Ok, refl, ap, ◌∙◌}
+use Rattle.jos_base.specs.Words.{◌>>=◌}
 use Rattle.jos_kernel.specs.Boot.{Loadable}
 use Rattle.jos_cli.specs.declared.outcome.Which.{Which}
 use Rattle.jos_cli.specs.Found.{Found}
-use Rattle.jos_cli.specs.Answer.{limit, Judged, ◌>>=◌, schedule_of, images_of, input_of, Gathered, gathered}
+use Rattle.jos_cli.specs.Answer.{limit, Judged, schedule_of, images_of, input_within, Gathered, gathered}
 use Rattle.jos_cli.specs.Kinds.{Kind, answered}
 use Rattle.jos_cli.specs.Stages.{RefusesBy}
 use Rattle.jos_cli.proofs.Reading.{refused_then, refused_behind}
@@ -13,7 +14,7 @@ module _ (found : Found) (input : List ℕ) where
   read_all schedule images bytes = Ok (record { schedule = schedule; images = images; input = bytes })
 
   abbrev pub from_input : List ℕ → List Loadable → Judged Gathered
-  from_input schedule images = input_of input >>= read_all schedule images
+  from_input schedule images = input_within input >>= read_all schedule images
 
   abbrev pub from_images : List ℕ → Judged Gathered
   from_images schedule = images_of found.images >>= from_input schedule
@@ -38,14 +39,14 @@ module _ (found : Found) (input : List ℕ) where
         refused_behind (schedule_of found.schedule) from_images schedule kind s (refused_then (images_of found.images) (from_input schedule) kind h)
 
     module _ (images : List Loadable) (i : images_of found.images ≡ Ok images) where
-      pub input_refused : (kind : Kind) → RefusesBy (input_of input) kind → RefusesBy (gathered None found input) kind
+      pub input_refused : (kind : Kind) → RefusesBy (input_within input) kind → RefusesBy (gathered None found input) kind
       unfolding gathered
       input_refused kind h =
           refused_behind (schedule_of found.schedule) from_images schedule kind s
-          (refused_behind (images_of found.images) (from_input schedule) images kind i (refused_then (input_of input) (read_all schedule images) kind h))
+          (refused_behind (images_of found.images) (from_input schedule) images kind i (refused_then (input_within input) (read_all schedule images) kind h))
 
       -- all is read
-      pub all_read : (bytes : List ℕ) → input_of input ≡ Ok bytes → gathered None found input ≡ Ok (record { schedule = schedule; images = images; input = bytes })
+      pub all_read : (bytes : List ℕ) → input_within input ≡ Ok bytes → gathered None found input ≡ Ok (record { schedule = schedule; images = images; input = bytes })
       unfolding gathered
       all_read bytes b =
           ap (λ (j : Judged (List ℕ)). j >>= from_images) s ∙ ap (λ (j : Judged (List Loadable)). j >>= from_input schedule) i

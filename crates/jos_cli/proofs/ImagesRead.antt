@@ -10,7 +10,7 @@ use Rattle.jos_elf.specs.Parsed.{Layout, parsed}
 use Rattle.jos_kernel.specs.Boot.{Loadable, loadables}
 use Rattle.jos_kernel.specs.Loading.{IsRead}
 use Rattle.jos_cli.specs.Found.{FileAt, IsFileAt}
-use Rattle.jos_cli.specs.Answer.{image_of}
+use Rattle.jos_cli.specs.Answer.{loadable_in}
 use Rattle.jos_cli.proofs.AllRead as each
 
 loadables-append : (images : List Layout) (files : List (Vec ℕ Global)) (image : Layout) (file : Vec ℕ Global) → length images ≡ length files →
@@ -24,22 +24,22 @@ loadables-append (i ∷ images) (f ∷ files) image file e =
 
 -- what is read so far
 pub record HasRead (told : Option Files) (words : List Word) (images : List Layout) (files : List (Vec ℕ Global)) : Type 0 where
-  pub all : each.HasRead image_of told words (loadables images files)
+  pub all : each.HasRead loadable_in told words (loadables images files)
   pub count : length images ≡ length words
   pub pairs : length images ≡ length files
   pub read : All IsRead (loadables images files)
 
 pub nothing_read : (told : Option Files) → HasRead told [] [] []
-nothing_read told = record { all = each.nothing_read image_of told; count = refl; pairs = refl; read = λ k d within. absurd (omega (arith, within)) }
+nothing_read told = record { all = each.nothing_read loadable_in told; count = refl; pairs = refl; read = λ k d within. absurd (omega (arith, within)) }
 
 pub on_read : {told : Option Files} {words : List Word} {images : List Layout} {files : List (Vec ℕ Global)} → HasRead told words images files →
-    (word : Word) (at : FileAt) (image : Layout) (file : Vec ℕ Global) → IsFileAt told word at → image_of at ≡ Ok (record { image = image; file = file.items }) →
+    (word : Word) (at : FileAt) (image : Layout) (file : Vec ℕ Global) → IsFileAt told word at → loadable_in at ≡ Ok (record { image = image; file = file.items }) →
     parsed file.items ≡ Ok image → HasRead told (words ++ word ∷ []) (images ++ image ∷ []) (files ++ file ∷ [])
 on_read {told = told} {words = words} {images = images} {files = files} h word at image file is judged p =
     let more = sym (loadables-append images files image file h.pairs) in
     record {
       all =
-          subst (λ (l : List Loadable). each.HasRead image_of told (words ++ word ∷ []) l) more
+          subst (λ (l : List Loadable). each.HasRead loadable_in told (words ++ word ∷ []) l) more
           (each.on_read h.all word at (record { image = image; file = file.items }) is judged);
       count = omega (arith, h.count, length-append images (image ∷ []), length-append words (word ∷ []));
       pairs = omega (arith, h.pairs, length-append images (image ∷ []), length-append files (file ∷ []));

@@ -10,7 +10,7 @@ use Rattle.jos_base.specs.declared.numbers.TheConstants.{INPUT_MAX}
 use Rattle.jos_cli.specs.declared.outcome.Which.TheVariants.{Input}
 use Rattle.jos_cli.specs.Found.{IsInput}
 use Rattle.jos_cli.specs.InputTaken.{HasTaken}
-use Rattle.jos_cli.specs.Answer.{limit, input_of}
+use Rattle.jos_cli.specs.Answer.{limit, input_within}
 use Rattle.jos_cli.proofs.Reading.{within, past}
 use Rattle.fs_layout.proofs.Written.{length-zeros}
 use Rattle.jos_host.proofs.Filled.{filled-put_mid}
@@ -36,15 +36,15 @@ module _ (E : Type 0) (mid new : Option (List ℕ)) (buffer rest part : List ℕ
 
 -- ---- the limit
 
-pub within_limit : (input : List ℕ) → length input ≤ INPUT_MAX → input_of input ≡ Ok input
+pub within_limit : (input : List ℕ) → length input ≤ INPUT_MAX → input_within input ≡ Ok input
 within_limit input h = within INPUT_MAX Input 0 input h
 
-past_limit : (input : List ℕ) → INPUT_MAX < length input → input_of input ≡ Err (limit Input)
+past_limit : (input : List ℕ) → INPUT_MAX < length input → input_within input ≡ Err (limit Input)
 past_limit input h = past INPUT_MAX Input 0 input h
 
 -- the buffer is full
 pub input_past : (old new : Option (List ℕ)) (buffer : List ℕ) (n : ℕ) → INPUT_MAX < n → HasTaken old new buffer n →
-    (input : List ℕ) × IsInput old input × (input_of input ≡ Err (limit Input))
+    (input : List ℕ) × IsInput old input × (input_within input ≡ Err (limit Input))
 input_past None new buffer n over h =
     let long : length (zeros (suc INPUT_MAX)) ≡ suc INPUT_MAX = length-zeros (suc INPUT_MAX) in
     (zeros (suc INPUT_MAX), tt, past_limit (zeros (suc INPUT_MAX)) (omega arith))

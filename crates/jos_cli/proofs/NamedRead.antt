@@ -7,6 +7,7 @@ use Rattle.jos_host.specs.MemHost.{Named}
 use Rattle.jos_host.specs.Frames.{Around, from_to}
 use Rattle.jos_host.specs.declared.host.Host.{Ghosts}
 use Rattle.jos_base.specs.declared.numbers.TheConstants.{FILE_MAX}
+use Rattle.jos_base.specs.Words.{◌>>=◌}
 use Rattle.jos_words.specs.Arguments.{Word}
 use Rattle.jos_words.specs.Commands.{Mkfs, mkfs}
 use Rattle.fs_make.specs.MadeImage.{made_image}
@@ -16,7 +17,7 @@ use Rattle.jos_cli.specs.declared.outcome.Outcome.{Outcome}
 use Rattle.jos_cli.specs.declared.outcome.Outcome.TheVariants as outcome
 use Rattle.jos_cli.specs.Limits.{limit_of_blocks}
 use Rattle.jos_cli.specs.Found.{FileAt, file_at, AreFound}
-use Rattle.jos_cli.specs.Answer.{limit, within, bytes_of, Judged, ◌>>=◌, all_judged, expected_if, expected_of_writing}
+use Rattle.jos_cli.specs.Answer.{limit, within, bytes_within, Judged, all_judged, expected_if, expected_of_writing}
 use Rattle.jos_cli.specs.Making.{named_with, named_file, named_files, named_in, disk_made, disk_asked, disk_in, expected_of_mkfs}
 use Rattle.jos_cli.specs.Kinds.{Kind, answered, kind_of, Answers}
 use Rattle.jos_cli.specs.Outcomes.{HasOutcomeCause}
@@ -33,13 +34,13 @@ use Rattle.jos_cli.proofs.Reading.{refused_then, refused_behind}
 
 -- ---- one file
 
-pub named_read : (file : FileAt) (bytes : List ℕ) → bytes_of FILE_MAX File file.word.place file.bytes ≡ Ok bytes → named_file file ≡ Ok (named_with file.word bytes)
+pub named_read : (file : FileAt) (bytes : List ℕ) → bytes_within FILE_MAX File file.word.place file.bytes ≡ Ok bytes → named_file file ≡ Ok (named_with file.word bytes)
 unfolding named_file
 named_read file bytes h = ap (λ (j : Judged (List ℕ)). j >>= (λ b. Ok (named_with file.word b))) h
 
-pub named_refused : (file : FileAt) (kind : Kind) → RefusesBy (bytes_of FILE_MAX File file.word.place file.bytes) kind → RefusesBy (named_file file) kind
+pub named_refused : (file : FileAt) (kind : Kind) → RefusesBy (bytes_within FILE_MAX File file.word.place file.bytes) kind → RefusesBy (named_file file) kind
 unfolding named_file
-named_refused file kind h = refused_then (bytes_of FILE_MAX File file.word.place file.bytes) (λ b. Ok (named_with file.word b)) kind h
+named_refused file kind h = refused_then (bytes_within FILE_MAX File file.word.place file.bytes) (λ b. Ok (named_with file.word b)) kind h
 
 -- ---- a host that tells its files
 
@@ -51,7 +52,7 @@ named_is files word named h = go (files word.text) h
     kept bytes true e = absurd (let e = e in cc)
     kept bytes false e = let e = e in cc
 
-    go : (stands : Option (List ℕ)) → bytes_of FILE_MAX File word.place stands >>= (λ l. Ok (named_with word l)) ≡ Ok named →
+    go : (stands : Option (List ℕ)) → bytes_within FILE_MAX File word.place stands >>= (λ l. Ok (named_with word l)) ≡ Ok named →
         named ≡ named_with word (unwrap_or stands [])
     go None e = absurd (let e = e in cc)
     go (Some bytes) e = kept bytes (nat_lt FILE_MAX (length bytes)) e

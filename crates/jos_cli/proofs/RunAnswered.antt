@@ -23,7 +23,7 @@ use Rattle.jos_run.specs.AbstractTurns.{abs_run}
 use Rattle.jos_run.specs.RunReports.{ToldBy, CutOffBy}
 use Rattle.jos_run.specs.declared.programs.RunEnd.{RunEnd}
 use Rattle.jos_run.specs.declared.programs.RunEnd.TheVariants as end
-use Rattle.jos_run.specs.RunEnds.{Program, HasRun, IsCut, AnswersFor, HasRunCause}
+use Rattle.jos_run.specs.RunEnds.{Job, HasRun, IsCut, AnswersFor, HasRunCause}
 use Rattle.jos_kernel.specs.declared.trace.TrapLine.{TrapLine}
 use Rattle.jos_cli.specs.declared.limits.Settings.{Settings}
 use Rattle.jos_cli.specs.Commands.{texts_of}
@@ -31,13 +31,14 @@ use Rattle.jos_cli.specs.declared.outcome.Which.TheVariants as which
 use Rattle.jos_cli.specs.Limits.{numbers_of_run, limit_of_run}
 use Rattle.jos_cli.specs.Found.{FileAt, Found}
 use Rattle.jos_cli.specs.Answer.{Judged, Answer, usage, absent, limit, bad_schedule, bad_image, ran, made, bad_disk, not_there, bad_make}
-use Rattle.jos_cli.specs.Answer.{◌>>=◌, all_judged, within, bytes_of, numbers_of, text_of, schedule_of, loadable_of, image_of, images_of, input_of, Gathered, gathered}
+use Rattle.jos_cli.specs.Answer.{all_judged, within, bytes_within, numbers_of, text_of, schedule_of, loadable_of, loadable_in, images_of, input_within, Gathered, gathered}
 use Rattle.jos_base.specs.declared.numbers.TheConstants.{SCHEDULE_TEXT_MAX, IMAGE_MAX, INPUT_MAX}
+use Rattle.jos_base.specs.Words.{◌>>=◌}
 use Rattle.jos_sched.specs.declared.fault.ScheduleFault.{ScheduleFault}
 use Rattle.jos_sched.specs.Schedule as schedule
 use Rattle.jos_cli.specs.declared.outcome.Which.{Which}
 use Rattle.jos_cli.specs.Kinds.{Kind, answered, cut_off, no_memory, kind_of}
-use Rattle.jos_cli.specs.RunAnswers.{program_of, IsCutBehind, IsCutBy, IsRefusal, AnswersAs, RunsAs, Then, AnswersRun}
+use Rattle.jos_cli.specs.RunAnswers.{job_of, IsCutBehind, IsCutBy, IsRefusal, AnswersAs, RunsAs, Then, AnswersRun}
 use Rattle.jos_cli.specs.Outcomes.{HasCauseOf, HasRunCauseOf}
 use Rattle.jos_cli.specs.Stages.{RefusesBy, settings_of, outcome_of_run, nothing_done, cut_of}
 use Rattle.jos_cli.proofs.Gathering.{read_all, from_input, from_images, from_schedule}
@@ -67,7 +68,7 @@ no_refusal None schedule first frames budget report printed h none = refl
 no_refusal (Some refusal) schedule first frames budget report printed h none =
     absurd (no_turn h.1.before h.1.later report.turns h.1.turn h.1.turns_are none)
 
-ran_nothing : (p : Program) (report : Reported) (traps : List TrapLine) (console : Around (Option (List ℕ))) → HasRun p report traps console → report.turns ≡ [] → console.after ≡ console.before
+ran_nothing : (p : Job) (report : Reported) (traps : List TrapLine) (console : Around (Option (List ℕ))) → HasRun p report traps console → report.turns ≡ [] → console.after ≡ console.before
 ran_nothing p report traps console h none =
     h.1.1
     ∙ ap (λ (l : List ℕ). option_map (λ (told : List ℕ). told ++ l) console.before) (told_nothing report.first_refused _ _ _ _ report h.1.0 h.1.2.by_refusal none)
@@ -80,7 +81,7 @@ cut_turn (Some refusal) schedule first frames turns printed h none = no_turn h.b
 
 -- ---- what a failed call of the host left
 
-cut_is : (turns : List Turn) (p : Program) (cut : CutOff) (console : Around (Option (List ℕ))) → cut.turns ≡ turns →
+cut_is : (turns : List Turn) (p : Job) (cut : CutOff) (console : Around (Option (List ℕ))) → cut.turns ≡ turns →
     IsCut p cut console ⊎ IsCutBehind p cut console → IsCutBy turns p cut console
 cut_is [] p cut console are (inl h) = absurd (cut_turn cut.first_refused _ _ _ cut.turns h.1.0 h.1.2 are)
 cut_is [] p cut console are (inr h) =
@@ -89,11 +90,11 @@ cut_is [] p cut console are (inr h) =
 cut_is (turn ∷ turns) p cut console are h = h
 
 -- in a turn
-pub in_turn : (p : Program) (cut : CutOff) (console : Around (Option (List ℕ))) → IsCut p cut console → RunsAs p (cut_off cut) console
+pub in_turn : (p : Job) (cut : CutOff) (console : Around (Option (List ℕ))) → IsCut p cut console → RunsAs p (cut_off cut) console
 in_turn p cut console h = cut_is cut.turns p cut console refl (inl h)
 
 -- behind the run
-answer_behind : (p : Program) (answer : Answer) (console : Around (Option (List ℕ))) → AnswersAs p answer console → RunsAs p (cut_off (cut_of (answered answer))) console
+answer_behind : (p : Job) (answer : Answer) (console : Around (Option (List ℕ))) → AnswersAs p answer console → RunsAs p (cut_off (cut_of (answered answer))) console
 answer_behind p (ran report traps) console h =
     cut_is report.turns p (record { turns = report.turns; first_refused = report.first_refused }) console refl
     (inr (record { report = report; traps = traps; run = h; turns = refl; first_refused = refl }))
@@ -117,7 +118,7 @@ answer_behind p (bad_disk fault) console h = absurd h
 answer_behind p (not_there errno) console h = absurd h
 answer_behind p (bad_make fault) console h = absurd h
 
-run_behind : (p : Program) (kind : Kind) (console : Around (Option (List ℕ))) → RunsAs p kind console → RunsAs p (cut_off (cut_of kind)) console
+run_behind : (p : Job) (kind : Kind) (console : Around (Option (List ℕ))) → RunsAs p kind console → RunsAs p (cut_off (cut_of kind)) console
 run_behind p (answered answer) console h = answer_behind p answer console h
 run_behind p (cut_off cut) console h = h
 run_behind p no_memory console h = (refl, h)
@@ -138,7 +139,7 @@ unfolding TellsNoTurn
 limit_tells_none true passed bytes = refl
 limit_tells_none false passed bytes = tt
 
-bytes_tell_none : (most : ℕ) (which : Which) (place : ℕ) (stands : Option (List ℕ)) → TellsNoTurn (bytes_of most which place stands)
+bytes_tell_none : (most : ℕ) (which : Which) (place : ℕ) (stands : Option (List ℕ)) → TellsNoTurn (bytes_within most which place stands)
 unfolding TellsNoTurn
 bytes_tell_none most passed place None = refl
 bytes_tell_none most passed place (Some bytes) = limit_tells_none (nat_lt most (length bytes)) passed bytes
@@ -167,20 +168,20 @@ unfolding TellsNoTurn
 layout_tells_none place bytes (Ok layout) = tt
 layout_tells_none place bytes (Err fault) = refl
 
-image_tells_none : (file : FileAt) → TellsNoTurn (image_of file)
-unfolding image_of
+image_tells_none : (file : FileAt) → TellsNoTurn (loadable_in file)
+unfolding loadable_in
 image_tells_none file =
-    both_tell_none (bytes_of IMAGE_MAX which.Image file.word.place file.bytes) (λ bytes. loadable_of file.word.place bytes (parsed bytes))
+    both_tell_none (bytes_within IMAGE_MAX which.Image file.word.place file.bytes) (λ bytes. loadable_of file.word.place bytes (parsed bytes))
     (bytes_tell_none IMAGE_MAX which.Image file.word.place file.bytes) (λ bytes. layout_tells_none file.word.place bytes (parsed bytes))
 
 images_tell_none : (files : List FileAt) → TellsNoTurn (images_of files)
 unfolding TellsNoTurn all_judged
 images_tell_none [] = tt
 images_tell_none (file ∷ files) =
-    both_tell_none (image_of file) (λ first. images_of files >>= (λ others. Ok (first ∷ others))) (image_tells_none file)
+    both_tell_none (loadable_in file) (λ first. images_of files >>= (λ others. Ok (first ∷ others))) (image_tells_none file)
     (λ first. both_tell_none (images_of files) (λ others. Ok (first ∷ others)) (images_tell_none files) (λ others. tt))
 
-input_tells_none : (input : List ℕ) → TellsNoTurn (input_of input)
+input_tells_none : (input : List ℕ) → TellsNoTurn (input_within input)
 input_tells_none input = limit_tells_none (nat_lt INPUT_MAX (length input)) which.Input input
 
 all_tell_none : (passed : Option Which) (found : Found) (input : List ℕ) → TellsNoTurn (gathered passed found input)
@@ -189,7 +190,7 @@ all_tell_none passed found input =
     both_tell_none (within passed) (λ _. from_schedule found input) (within_tells_none passed) (λ _.
     both_tell_none (schedule_of found.schedule) (from_images found input) (schedule_tells_none found.schedule) (λ schedule.
     both_tell_none (images_of found.images) (from_input found input schedule) (images_tell_none found.images) (λ images.
-    both_tell_none (input_of input) (read_all found input schedule images) (input_tells_none input) (λ bytes. tt))))
+    both_tell_none (input_within input) (read_all found input schedule images) (input_tells_none input) (λ bytes. tt))))
 
 -- ---- what holds of each answer
 
@@ -218,7 +219,7 @@ refusal_stage refusal none = record {
   behind = λ kind console h. refusal_behind refusal kind console none h;
 }
 
-run_stage : (p : Program) → IsStage (RunsAs p)
+run_stage : (p : Job) → IsStage (RunsAs p)
 run_stage p = record {
   cut = λ c console turns page same. subst (λ (t : List Turn). IsCutBy t p c console) (sym turns) (page, same);
   memory = λ console same. same;
@@ -235,8 +236,8 @@ then_stage (Err refusal) next none stage =
 
 pub words_stage : (r : Run) (found : Found) (input : List ℕ) → IsStage (AnswersRun r found input)
 words_stage r found input =
-    then_stage (gathered (limit_of_run r) found input) (λ read. RunsAs (program_of r read)) (all_tell_none (limit_of_run r) found input)
-    (λ read. run_stage (program_of r read))
+    then_stage (gathered (limit_of_run r) found input) (λ read. RunsAs (job_of r read)) (all_tell_none (limit_of_run r) found input)
+    (λ read. run_stage (job_of r read))
 
 -- ---- the program of `run`
 
@@ -248,20 +249,20 @@ module _ (r : Run) (found : Found) (input : List ℕ) (kind : Kind) (console : A
     where
       by_kind : (k : Kind) → RefusesBy (gathered (limit_of_run r) found input) k → HasCauseOf faults k → AnswersRun r found input k console
       by_kind (answered answer) h cause =
-          subst (λ (j : Judged Gathered). Then j (λ read. RunsAs (program_of r read)) (answered answer) console) (sym h) (refl, same)
+          subst (λ (j : Judged Gathered). Then j (λ read. RunsAs (job_of r read)) (answered answer) console) (sym h) (refl, same)
       by_kind (cut_off c) h cause = (words_stage r found input).cut c console cause.1 cause.2 same
       by_kind no_memory h cause = (words_stage r found input).memory console same
 
   -- it is run
-  pub run_goes_on : (read : Gathered) → gathered (limit_of_run r) found input ≡ Ok read → RunsAs (program_of r read) kind console → AnswersRun r found input kind console
-  run_goes_on read h answer = subst (λ (j : Judged Gathered). Then j (λ read. RunsAs (program_of r read)) kind console) (sym h) answer
+  pub run_goes_on : (read : Gathered) → gathered (limit_of_run r) found input ≡ Ok read → RunsAs (job_of r read) kind console → AnswersRun r found input kind console
+  run_goes_on read h answer = subst (λ (j : Judged Gathered). Then j (λ read. RunsAs (job_of r read)) kind console) (sym h) answer
 
   -- the same backwards
-  pub program_runs : (read : Gathered) → gathered (limit_of_run r) found input ≡ Ok read → AnswersRun r found input kind console → RunsAs (program_of r read) kind console
-  program_runs read h answer = subst (λ (j : Judged Gathered). Then j (λ read. RunsAs (program_of r read)) kind console) h answer
+  pub program_runs : (read : Gathered) → gathered (limit_of_run r) found input ≡ Ok read → AnswersRun r found input kind console → RunsAs (job_of r read) kind console
+  program_runs read h answer = subst (λ (j : Judged Gathered). Then j (λ read. RunsAs (job_of r read)) kind console) h answer
 
 -- what `jos_run` answers
-pub runs_as : (p : Program) (run : Result RunEnd BootFault) (console : Around (Option (List ℕ))) → AnswersFor p run console → RunsAs p (kind_of (outcome_of_run run)) console
+pub runs_as : (p : Job) (run : Result RunEnd BootFault) (console : Around (Option (List ℕ))) → AnswersFor p run console → RunsAs p (kind_of (outcome_of_run run)) console
 runs_as p (Ok (end.Ended report trace)) console h = h
 runs_as p (Ok (end.HostFault stopped)) console h = in_turn p stopped console h
 runs_as p (Err boot_fault.Pool) console h = h
@@ -276,7 +277,7 @@ ran_cause (Err boot_fault.NoMemory) faults h = h
 -- its program is the one image that was read
 module _ (r : Run) (schedule input : List ℕ) (words : List (List ℕ)) (settings : Settings) (are : words ≡ texts_of r) (is : settings ≡ settings_of (numbers_of_run r)) where
   -- the program as the run is given it
-  abbrev given : Layout → List ℕ → Program
+  abbrev given : Layout → List ℕ → Job
   given image file = record {
     image = image;
     file = file;
@@ -288,8 +289,8 @@ module _ (r : Run) (schedule input : List ℕ) (words : List (List ℕ)) (settin
     trace = settings.trace;
   }
 
-  abbrev whole : List Layout → List (Vec ℕ Global) → Program
-  whole images files = program_of r (record { schedule = schedule; images = loadables images files; input = input })
+  abbrev whole : List Layout → List (Vec ℕ Global) → Job
+  whole images files = job_of r (record { schedule = schedule; images = loadables images files; input = input })
 
   pub given_is : (images : List Layout) (files : List (Vec ℕ Global)) (image : Layout) (file : Vec ℕ Global) (bytes : List ℕ) → length images ≡ 1 →
       length images ≡ length files → image ≡ get_or images 0 image → file ≡ get_or files 0 file → bytes ≡ file.items → given image bytes ≡ whole images files

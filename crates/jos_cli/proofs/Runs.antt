@@ -8,10 +8,10 @@ use Rattle.jos_kernel.specs.declared.report.End.{End}
 use Rattle.jos_kernel.specs.declared.kernel.Kernel.{Kernel}
 use Rattle.jos_kernel.specs.Reports.{Reported, CutOff}
 use Rattle.jos_kernel.specs.Boot.{Loadable, booted}
-use Rattle.jos_kernel.specs.ExoRun.{Progress, Ran, run_from, run_of, before_steps, exo_run, report_of}
+use Rattle.jos_kernel.specs.ExoRun.{RunProgress, Ran, run_from, run_from_boot, before_steps, exo_run, report_of}
 use Rattle.circular_buffer.specs.Buffer.{keep_last}
 use Rattle.jos_kernel.specs.declared.trace.TrapLine.{TrapLine}
-use Rattle.jos_kernel.specs.Kernel.{Told, progress_of, nothing, and_told, Counts, IsRun}
+use Rattle.jos_kernel.specs.Kernel.{ToldSoFar, progress_of, nothing, and_told, Counts, IsRun}
 use Rattle.jos_cli.specs.Answer.{ran, expected_of_run}
 use Rattle.jos_cli.specs.Kinds.{answered, cut_off, AnswersBy, Answers}
 use Rattle.jos_cli.specs.Stages.{outcome_of_run}
@@ -30,7 +30,7 @@ module _ (old new : Kernel) (steps kept : ℕ) (counts : Counts old (record noth
 
   pub on_ended : (end : End) (report : Reported) (trace : List TrapLine) (first now : Option (List ℕ)) →
       IsRun (Ok end) (steps - old.book.steps) (from_to old new) (from_to first now) → report ≡ report_of (progress_of new nothing) end →
-      ((told : Told) → Counts new told → trace ≡ keep_last told.kept told.traps) →
+      ((told : ToldSoFar) → Counts new told → trace ≡ keep_last told.kept told.traps) →
       AnswersBy (expected_of_run kept (Some whole)) (answered (ran report trace)) (from_to first now)
   on_ended end report trace first now h told last =
       let end_is = h.2 (record nothing { kept = kept }) counts in
@@ -47,17 +47,17 @@ module _ (old new : Kernel) (steps kept : ℕ) (counts : Counts old (record noth
       (part_of_first first now h.0 h.0 more.0 refl h.1)
 
 -- the run of images that were booted
-pub run_booted : (images : List Loadable) (input schedule : List ℕ) (frames steps : ℕ) (state : KernelState) (numbers : List ℕ) (p : Progress) →
+pub run_booted : (images : List Loadable) (input schedule : List ℕ) (frames steps : ℕ) (state : KernelState) (numbers : List ℕ) (p : RunProgress) →
     booted images frames input ≡ Some state → numbers ≡ schedule → p ≡ before_steps state →
     exo_run images input schedule frames steps ≡ Some (run_from numbers steps p)
 unfolding exo_run
 run_booted images input schedule frames steps state numbers p b n e =
-    ap (run_of schedule steps) b ∙ (λ i. Some (run_from (sym n i) steps (sym e i)))
+    ap (run_from_boot schedule steps) b ∙ (λ i. Some (run_from (sym n i) steps (sym e i)))
 
 pub not_booted : (images : List Loadable) (input schedule : List ℕ) (frames steps : ℕ) → booted images frames input ≡ None →
     exo_run images input schedule frames steps ≡ None
 unfolding exo_run
-not_booted images input schedule frames steps b = ap (run_of schedule steps) b
+not_booted images input schedule frames steps b = ap (run_from_boot schedule steps) b
 
 -- no kernel was booted
 pub on_unbooted : (kept : ℕ) (images : List Loadable) (input schedule : List ℕ) (frames steps : ℕ) (fault : BootFault) (console : Option (List ℕ)) →

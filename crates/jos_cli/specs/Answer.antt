@@ -9,6 +9,7 @@ use Rattle.jos_elf.specs.declared.fault.ElfFault.{ElfFault}
 use Rattle.jos_elf.specs.Parsed.{Layout}
 use Rattle.jos_elf.specs.Parsed as image
 use Rattle.jos_base.specs.declared.errno.Errno.{Errno}
+use Rattle.jos_base.specs.Words.{◌>>=◌}
 use Rattle.fs_layout.specs.DiskImage.{ImageFault}
 use Rattle.fs_make.specs.declared.fault.MakeFault.{MakeFault}
 use Rattle.circular_buffer.specs.Buffer.{keep_last}
@@ -20,7 +21,7 @@ use Rattle.jos_cli.specs.declared.outcome.Which.{Which}
 use Rattle.jos_cli.specs.declared.outcome.Which.TheVariants.{Schedule, Image, Input, Boot}
 use Rattle.jos_cli.specs.Commands.{program_file}
 use Rattle.jos_cli.specs.declared.limits.Numbers.{Numbers}
-use Rattle.jos_cli.specs.Limits.{numbers_of_exo, limit_of_words, frames_of, steps_of, trace_of}
+use Rattle.jos_cli.specs.Limits.{numbers_of_exo, limit_of_words, frames_of, budget_of, trace_of}
 use Rattle.jos_cli.specs.Found.{FileAt, Found}
 
 pub data Answer : Type 0 where
@@ -56,12 +57,6 @@ refused answer = record { answer = answer; console = [] }
 abbrev pub Judged : Type 0 → Type 0
 Judged X = Result X Answer
 
--- the second where the first is there
-infixl 10 ◌>>=◌
-abbrev pub ◌>>=◌ : {X Y : Type 0} → Judged X → (X → Judged Y) → Judged Y
-(Ok x) >>= next = next x
-(Err answer) >>= next = Err answer
-
 -- Each is judged before the next is looked at.
 unfoldable pub all_judged : {X : Type 0} → List (Judged X) → Judged (List X)
 all_judged [] = Ok []
@@ -75,9 +70,9 @@ within None = Ok tt
 within (Some which) = Err (limit which)
 
 -- the bytes that stand under a name, so many at most
-abbrev pub bytes_of : ℕ → Which → ℕ → Option (List ℕ) → Judged (List ℕ)
-bytes_of most which place None = Err (absent place)
-bytes_of most which place (Some bytes) = if nat_lt most (length bytes) then Err (limit which) else Ok bytes
+abbrev pub bytes_within : ℕ → Which → ℕ → Option (List ℕ) → Judged (List ℕ)
+bytes_within most which place None = Err (absent place)
+bytes_within most which place (Some bytes) = if nat_lt most (length bytes) then Err (limit which) else Ok bytes
 
 abbrev pub numbers_of : Result (List ℕ) ScheduleFault → Judged (List ℕ)
 numbers_of (Ok numbers) = Ok numbers
@@ -86,7 +81,7 @@ numbers_of (Err fault) = Err (bad_schedule fault)
 -- the text of a schedule, which is empty where no file is named
 abbrev pub text_of : Option FileAt → Judged (List ℕ)
 text_of None = Ok []
-text_of (Some file) = bytes_of SCHEDULE_TEXT_MAX Schedule file.word.place file.bytes
+text_of (Some file) = bytes_within SCHEDULE_TEXT_MAX Schedule file.word.place file.bytes
 
 unfoldable pub schedule_of : Option FileAt → Judged (List ℕ)
 schedule_of file = do
@@ -97,16 +92,16 @@ abbrev pub loadable_of : ℕ → List ℕ → Result Layout ElfFault → Judged 
 loadable_of place bytes (Ok layout) = Ok (record { image = layout; file = bytes })
 loadable_of place bytes (Err fault) = Err (bad_image place fault)
 
-unfoldable pub image_of : FileAt → Judged Loadable
-image_of file = do
-  bytes ← bytes_of IMAGE_MAX Image file.word.place file.bytes
+unfoldable pub loadable_in : FileAt → Judged Loadable
+loadable_in file = do
+  bytes ← bytes_within IMAGE_MAX Image file.word.place file.bytes
   loadable_of file.word.place bytes (image.parsed bytes)
 
 abbrev pub images_of : List FileAt → Judged (List Loadable)
-images_of files = all_judged (map image_of files)
+images_of files = all_judged (map loadable_in files)
 
-abbrev pub input_of : List ℕ → Judged (List ℕ)
-input_of input = if nat_lt INPUT_MAX (length input) then Err (limit Input) else Ok input
+abbrev pub input_within : List ℕ → Judged (List ℕ)
+input_within input = if nat_lt INPUT_MAX (length input) then Err (limit Input) else Ok input
 
 -- what is read for a run
 pub record Gathered : Type 0 where
@@ -121,7 +116,7 @@ gathered passed found input = do
   _ ← within passed
   schedule ← schedule_of found.schedule
   images ← images_of found.images
-  bytes ← input_of input
+  bytes ← input_within input
   Ok (record { schedule = schedule; images = images; input = bytes })
 
 -- ---- what is expected
@@ -141,7 +136,7 @@ expected_of_run trace (Some r) = record {
 -- of the images that are read, by these numbers
 abbrev pub expected_of_images : Numbers → Gathered → Expected
 expected_of_images numbers read =
-    expected_of_run (trace_of numbers) (exo_run read.images read.input read.schedule (frames_of numbers) (steps_of numbers))
+    expected_of_run (trace_of numbers) (exo_run read.images read.input read.schedule (frames_of numbers) (budget_of numbers))
 
 -- of `exo`, for the files that are found and the input
 unfoldable pub expected_of_exo : Exo → Found → List ℕ → Expected

@@ -2,35 +2,36 @@
 use Rattle.std.specs.Prelude.{ℕ, List, [], ◌∷◌, ◌++◌, length, codes, decimal, slice_index, Option, Some, None, Result, Ok, Err}
 use Rattle.std.specs.Prelude.{if◌then◌else◌}
 use Rattle.jos_base.specs.declared.errno.Errno.{Errno}
+use Rattle.jos_base.specs.Words.{◌>>=◌}
 use Rattle.jos_words.specs.Arguments.{Word}
 use Rattle.jos_words.specs.Commands.{Ls, Cat}
 use Rattle.fs_layout.specs.FileTree.{FileSystem}
 use Rattle.fs_layout.specs.DiskImage.{ImageFault}
-use Rattle.fs_layout.specs.DiskFiles.{files_of}
-use Rattle.fs_image.specs.DiskHeld.{Held, held_of, fault_in}
+use Rattle.fs_layout.specs.DiskFiles.{file_system_of}
+use Rattle.fs_image.specs.DiskHeld.{HeldDisk, held_of, fault_in}
 use Rattle.fs_contents.specs.Contents.{Told, listed_at, read_at}
 use Rattle.jos_cli.specs.Found.{FileAt}
-use Rattle.jos_cli.specs.Answer.{Judged, ◌>>=◌, absent, bad_disk, not_there, made, Expected, expected_if}
+use Rattle.jos_cli.specs.Answer.{Judged, absent, bad_disk, not_there, made, Expected, expected_if}
 
 -- ---- the disk
 
-abbrev pub held_at : ℕ → Option (List ℕ) → Judged Held
+abbrev pub held_at : ℕ → Option (List ℕ) → Judged HeldDisk
 held_at place None = Err (absent place)
 held_at place (Some bytes) = Ok (held_of bytes)
 
-abbrev pub checked_by : Option ImageFault → Held → Judged Held
+abbrev pub checked_by : Option ImageFault → HeldDisk → Judged HeldDisk
 checked_by None held = Ok held
 checked_by (Some fault) held = Err (bad_disk fault)
 
 -- what is looked at of the disk, where it has no fault
-abbrev pub checked : Held → Judged Held
+abbrev pub checked : HeldDisk → Judged HeldDisk
 checked held = checked_by (fault_in held) held
 
-unfoldable pub disk_of : FileAt → Judged Held
+unfoldable pub disk_of : FileAt → Judged HeldDisk
 disk_of file = held_at file.word.place file.bytes >>= checked
 
-abbrev pub tree_of : Held → FileSystem
-tree_of held = files_of (slice_index held.bytes)
+abbrev pub tree_of : HeldDisk → FileSystem
+tree_of held = file_system_of (slice_index held.bytes)
 
 abbrev pub if_there : {X : Type 0} → Result X Errno → Judged X
 if_there (Ok x) = Ok x
@@ -57,14 +58,14 @@ listing (told ∷ rest) = record_line told ++ listing rest
 -- ---- what is expected
 
 -- these bytes come to the console
-abbrev pub printed : List ℕ → Expected
-printed bytes = record { answer = made (length bytes); console = bytes }
+abbrev pub expected_of_printed : List ℕ → Expected
+expected_of_printed bytes = record { answer = made (length bytes); console = bytes }
 
-abbrev pub expected_of_listing : List ℕ → Held → Expected
-expected_of_listing path held = expected_if (if_there (listed_at (tree_of held) path)) (λ told. printed (listing told))
+abbrev pub expected_of_listing : List ℕ → HeldDisk → Expected
+expected_of_listing path held = expected_if (if_there (listed_at (tree_of held) path)) (λ told. expected_of_printed (listing told))
 
-abbrev pub expected_of_bytes : List ℕ → Held → Expected
-expected_of_bytes path held = expected_if (if_there (read_at (tree_of held) path)) printed
+abbrev pub expected_of_bytes : List ℕ → HeldDisk → Expected
+expected_of_bytes path held = expected_if (if_there (read_at (tree_of held) path)) expected_of_printed
 
 -- of `ls`, for the disk that is found
 unfoldable pub expected_of_ls : Ls → FileAt → Expected

@@ -10,7 +10,7 @@ use Rattle.jos_cli.specs.Answer.{Expected}
 use Rattle.jos_cli.specs.Kinds.{kind_of, Answers}
 use Rattle.jos_cli.specs.Outcomes.{AnswersCommand, IsUsageCase, HasOutcomeCause, HasCommandCause, LeavesInput, LeavesInputBy}
 use Rattle.jos_cli.specs.FilesAsked.{AsksFor, AsksAll, AsksFiles, write_calls, AsksSomeNotes, AsksNote}
-use Rattle.jos_cli.specs.FilesLeft.{told_with, LeavesBy, Leaves, LeavesGoodDisk}
+use Rattle.jos_cli.specs.FilesLeft.{told_with, LeavesBy, LeavesFiles, LeavesGoodDisk}
 use Rattle.jos_cli.specs.Outside.{Outside, IsKept}
 use Rattle.jos_cli.specs.Stages.{IsUnread}
 
@@ -18,7 +18,7 @@ use Rattle.jos_cli.specs.Stages.{IsUnread}
 pub record DoesCommand (command : Option Command) (outcome : Outcome) (seen : Outside) : Type 0 where
   pub answer : AnswersCommand seen.files.before seen.input.before command outcome seen.console
   pub usage : IsUsageCase command outcome
-  pub files : Leaves command outcome seen.files
+  pub files : LeavesFiles command outcome seen.files
   pub disk : LeavesGoodDisk command outcome seen.files
   pub input : LeavesInput command outcome seen.input
   pub notes : IsKept seen.notes

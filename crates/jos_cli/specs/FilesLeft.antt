@@ -3,7 +3,7 @@ use Rattle.std.specs.Prelude.{◌≡◌, ℕ, ⊤, List, map, length, slice_inde
 use Rattle.std.specs.Option.{option_map}
 use Rattle.jos_host.specs.Files.{Files, with_bytes, SameElsewhere}
 use Rattle.jos_host.specs.MemHost.{Named}
-use Rattle.fs_layout.specs.DiskFiles.{IsDiskImage, files_of}
+use Rattle.fs_layout.specs.DiskFiles.{IsDiskImage, file_system_of}
 use Rattle.fs_make.specs.MadeImage.{made_files}
 use Rattle.jos_cli.specs.declared.outcome.Outcome.{Outcome}
 use Rattle.jos_cli.specs.declared.outcome.Outcome.TheVariants.{Made, HostFault}
@@ -41,21 +41,21 @@ abbrev pub LeavesDisk : Mkfs → Outcome → Around (Option Files) → Type 0
 LeavesDisk m outcome told = LeavesBy m.disk.text (told_with_disk told.before m) outcome told
 
 -- Only `demo` and `mkfs` write a file.
-abbrev pub Leaves : Option Command → Outcome → Around (Option Files) → Type 0
-Leaves None outcome told = told.after ≡ told.before
-Leaves (Some (exo e)) outcome told = told.after ≡ told.before
-Leaves (Some (run r)) outcome told = told.after ≡ told.before
-Leaves (Some (demo d)) outcome told = LeavesProgram d.name.text d.file.text outcome told
-Leaves (Some (mkfs m)) outcome told = LeavesDisk m outcome told
-Leaves (Some (ls l)) outcome told = told.after ≡ told.before
-Leaves (Some (cat c)) outcome told = told.after ≡ told.before
+abbrev pub LeavesFiles : Option Command → Outcome → Around (Option Files) → Type 0
+LeavesFiles None outcome told = told.after ≡ told.before
+LeavesFiles (Some (exo e)) outcome told = told.after ≡ told.before
+LeavesFiles (Some (run r)) outcome told = told.after ≡ told.before
+LeavesFiles (Some (demo d)) outcome told = LeavesProgram d.name.text d.file.text outcome told
+LeavesFiles (Some (mkfs m)) outcome told = LeavesDisk m outcome told
+LeavesFiles (Some (ls l)) outcome told = told.after ≡ told.before
+LeavesFiles (Some (cat c)) outcome told = told.after ≡ told.before
 
 -- ---- the disk that is made
 
 -- the bytes are a disk without a fault, which has the files
 pub record IsDiskWith (blocks : ℕ) (files : List Named) (disk : List ℕ) : Type 0 where
   pub good : IsDiskImage (length disk) (slice_index disk)
-  pub tree : files_of (slice_index disk) ≡ made_files blocks files
+  pub tree : file_system_of (slice_index disk) ≡ made_files blocks files
 
 -- Such a disk stands under the name, with the files that the words name.
 pub record HasDisk (m : Mkfs) (before after : Files) : Type 0 where

@@ -7,9 +7,9 @@ HasTaken None left buffer n = left ≡ None
 HasTaken (Some all) left buffer n = (n ≤ length all) × (left ≡ Some (drop n all)) × (take n buffer ≡ take n all)
 
 -- nothing is left
-abbrev pub HasEnded : Option (List ℕ) → Type 0
-HasEnded None = Unit {0}
-HasEnded (Some left) = left ≡ []
+abbrev pub IsInputAtEnd : Option (List ℕ) → Type 0
+IsInputAtEnd None = Unit {0}
+IsInputAtEnd (Some left) = left ≡ []
 
 -- some bytes are gone, and nobody has them
 abbrev pub HasLost : Option (List ℕ) → Option (List ℕ) → Type 0

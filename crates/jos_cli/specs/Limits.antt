@@ -27,8 +27,8 @@ value_or other (Some number) = number.value
 abbrev pub frames_of : Numbers → ℕ
 frames_of numbers = value_or FRAMES numbers.frames
 
-abbrev pub steps_of : Numbers → ℕ
-steps_of numbers = value_or STEPS numbers.steps
+abbrev pub budget_of : Numbers → ℕ
+budget_of numbers = value_or STEPS numbers.steps
 
 -- how many of the last traps are told
 abbrev pub trace_of : Numbers → ℕ

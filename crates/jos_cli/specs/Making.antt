@@ -3,6 +3,7 @@ use Rattle.std.specs.Prelude.{ℕ, List, [], ◌∷◌, map, Option, Some, None,
 use Rattle.jos_host.specs.Files as host
 use Rattle.jos_host.specs.MemHost.{Named}
 use Rattle.jos_base.specs.declared.numbers.TheConstants.{FILE_MAX}
+use Rattle.jos_base.specs.Words.{◌>>=◌}
 use Rattle.jos_words.specs.Arguments.{Word}
 use Rattle.jos_words.specs.Commands.{Mkfs}
 use Rattle.fs_layout.specs.FileActs.{is_slash}
@@ -12,7 +13,7 @@ use Rattle.fs_make.specs.MadeImage.{made_image}
 use Rattle.jos_cli.specs.declared.outcome.Which.TheVariants.{File}
 use Rattle.jos_cli.specs.Limits.{limit_of_blocks}
 use Rattle.jos_cli.specs.Found.{FileAt}
-use Rattle.jos_cli.specs.Answer.{Judged, ◌>>=◌, all_judged, within, bytes_of, bad_make, Expected, expected_if, expected_of_writing}
+use Rattle.jos_cli.specs.Answer.{Judged, all_judged, within, bytes_within, bad_make, Expected, expected_if, expected_of_writing}
 
 -- ---- the files
 
@@ -30,7 +31,7 @@ named_with word bytes = record { name = file_name word.text; bytes = bytes }
 
 unfoldable pub named_file : FileAt → Judged Named
 named_file file = do
-  bytes ← bytes_of FILE_MAX File file.word.place file.bytes
+  bytes ← bytes_within FILE_MAX File file.word.place file.bytes
   Ok (named_with file.word bytes)
 
 abbrev pub named_files : List FileAt → Judged (List Named)

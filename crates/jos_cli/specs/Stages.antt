@@ -17,11 +17,11 @@ use Rattle.jos_cli.specs.declared.outcome.Which.{Which}
 use Rattle.jos_cli.specs.declared.outcome.Which.TheVariants.{Frames, Steps, Trace, Images, Schedule, Image, Boot, File, Args}
 use Rattle.jos_run.specs.declared.programs.RunEnd.{RunEnd}
 use Rattle.jos_run.specs.declared.programs.RunEnd.TheVariants as end
-use Rattle.jos_cli.specs.declared.loading.Gathered.{Gathered as ReadForRun}
+use Rattle.jos_cli.specs.declared.loading.ReadForRun.{ReadForRun}
 use Rattle.jos_cli.specs.declared.limits.Numbers.{Numbers}
 use Rattle.jos_cli.specs.declared.limits.Settings.{Settings}
 use Rattle.jos_cli.specs.Commands.{texts_of}
-use Rattle.jos_cli.specs.Limits.{frames_of, steps_of, trace_of, numbers_of_run, AreWithin}
+use Rattle.jos_cli.specs.Limits.{frames_of, budget_of, trace_of, numbers_of_run, AreWithin}
 use Rattle.jos_cli.specs.Found.{FileAt, IsFileAt, Sources}
 use Rattle.jos_cli.specs.Answer.{Judged, ran, Gathered}
 use Rattle.jos_cli.specs.Kinds.{Kind, answered, cut_off, no_memory, kind_of}
@@ -51,15 +51,15 @@ Judges judged see (Ok y) = judged ≡ Ok (see y)
 Judges judged see (Err outcome) = RefusesBy judged (kind_of outcome)
 
 -- the outcome of a text that is no schedule
-abbrev pub refusal_of : ScheduleFault → Outcome
-refusal_of schedule.NoMemory = NoMemory
-refusal_of fault = BadSchedule fault
+abbrev pub schedule_refusal : ScheduleFault → Outcome
+schedule_refusal schedule.NoMemory = NoMemory
+schedule_refusal fault = BadSchedule fault
 
 -- ---- what is read
 
 -- the numbers that the words give or leave
 abbrev pub settings_of : Numbers → Settings
-settings_of numbers = record { frames = frames_of numbers; steps = steps_of numbers; trace = trace_of numbers }
+settings_of numbers = record { frames = frames_of numbers; steps = budget_of numbers; trace = trace_of numbers }
 
 -- the limits that the words of a run can pass
 abbrev pub IsOfWords : Which → Type 0

@@ -22,7 +22,7 @@ ghost use Rattle.jos_cli.specs.Outcomes.{CanRun, CanRunProgram, CanMake, CanList
 ghost use Rattle.jos_cli.specs.Outcomes.{IsRunCase, IsMadeCase, IsMemoryCase, LeavesInput};
 ghost use Rattle.jos_cli.specs.Stages.{gathered_of, outcome_of_end, outcome_of_run, cut_if, cut_behind};
 ghost use Rattle.jos_cli.specs.FilesAsked.{AsksNote, AsksOnly};
-ghost use Rattle.jos_cli.specs.FilesLeft.{Leaves, LeavesGoodDisk};
+ghost use Rattle.jos_cli.specs.FilesLeft.{LeavesFiles, LeavesGoodDisk};
 ghost use Rattle.jos_cli.specs.Notes.{IsNoted};
 ghost use Rattle.jos_cli.specs.FaultNotes.{IfHostFault, FaultIsNoted};
 ghost use Rattle.jos_cli.specs.Outside.{outside};
@@ -31,7 +31,7 @@ ghost use Rattle.jos_cli.specs.Effects.{DoesCommand, WritesFile};
 use crate::disks::{answer_cat, answer_ls};
 use crate::files::{host_fault, write_made};
 use crate::limits::{Numbers, Settings, limit_of_words, numbers_of_exo, settings_of};
-use crate::loading::{Gathered, gather};
+use crate::loading::{ReadForRun, gather};
 use crate::making::answer_mkfs;
 use crate::notes::write_note;
 use crate::outcome::{Outcome, Report, Stopped};
@@ -40,7 +40,7 @@ use jos_demo::{is_program, program};
 use jos_host::Host;
 use jos_kernel::{BootFault, ExoEnd, Kernel, exo_run};
 use jos_run::RunEnd;
-use jos_words::{Command, DemoWords, ExoWords, WordsFault, read_words};
+use jos_words::{CommandWords, DemoWords, ExoWords, WordsFault, read_words};
 use std::alloc::Global;
 
 /// Does what the words ask: `exo [--frames N] [--steps N] [--schedule FILE] [--trace N] IMAGE..` runs the images,
@@ -94,7 +94,7 @@ pub fn top<'a, H: Host>(alloc: Global, words: &'a [&'a str], host: &mut H) -> Ou
         (Rose (H.faults host.old) (H.faults host.new) → ⊥) → IsMadeCase result }
 
     // Every name keeps its bytes but the one that `demo` or `mkfs` writes, which has those of the program or the disk.
-    ensures files { Leaves (command_of (map (λ w. w.now) words.now)) result (around H.files host.old host.new) }
+    ensures files { LeavesFiles (command_of (map (λ w. w.now) words.now)) result (around H.files host.old host.new) }
     // What `mkfs` writes is a disk without a fault, and it has the files that the words name.
     ensures disk { LeavesGoodDisk (command_of (map (λ w. w.now) words.now)) result (around H.files host.old host.new) }
     // Only `exo` and `run` read input, once they have read all files: all of it, up to one byte past the limit.
@@ -178,7 +178,7 @@ fn run_kernel<H: Host>(mut kernel: Kernel, settings: Settings, host: &mut H) -> 
 /// Boots the images and runs them, if they can be booted.
 fn run_loaded<H: Host>(
     alloc: Global,
-    read: Gathered,
+    read: ReadForRun,
     numbers: Numbers,
     host: &mut H,
 ) -> Result<RunEnd, BootFault>
@@ -191,7 +191,7 @@ fn run_loaded<H: Host>(
     ensures unasked { OnErr result (host.new ≡ host.old) }
 {
     let settings = settings_of(numbers);
-    let Gathered {
+    let ReadForRun {
         schedule,
         images,
         input,
@@ -255,12 +255,12 @@ fn answer_words<'a, H: Host>(alloc: Global, words: &'a [&'a str], host: &mut H) 
     ensures cut { cut_if result.1 result.0 ≡ cut_behind (command_of (texts words.now)) result.0 }
 {
     match read_words(alloc, words) {
-        Ok(Command::Exo(words)) => (answer_exo(alloc, &words, host), false),
-        Ok(Command::Run(words)) => (answer_run(alloc, &words, host), true),
-        Ok(Command::Demo(words)) => (answer_demo(alloc, words, host), false),
-        Ok(Command::Mkfs(words)) => (answer_mkfs(alloc, &words, host), false),
-        Ok(Command::Ls(words)) => (answer_ls(alloc, words, host), false),
-        Ok(Command::Cat(words)) => (answer_cat(alloc, words, host), false),
+        Ok(CommandWords::Exo(words)) => (answer_exo(alloc, &words, host), false),
+        Ok(CommandWords::Run(words)) => (answer_run(alloc, &words, host), true),
+        Ok(CommandWords::Demo(words)) => (answer_demo(alloc, words, host), false),
+        Ok(CommandWords::Mkfs(words)) => (answer_mkfs(alloc, &words, host), false),
+        Ok(CommandWords::Ls(words)) => (answer_ls(alloc, words, host), false),
+        Ok(CommandWords::Cat(words)) => (answer_cat(alloc, words, host), false),
         Err(WordsFault::Usage) => (Outcome::Usage, false),
         Err(WordsFault::NoMemory) => (Outcome::NoMemory, false),
     }

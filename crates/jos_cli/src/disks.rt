@@ -13,7 +13,7 @@ ghost use Rattle.jos_words.specs.Arguments.{word_in_bytes};
 ghost use Rattle.jos_words.specs.Commands.{ls, cat, ls_in_bytes, cat_in_bytes};
 ghost use Rattle.jos_cli.specs.declared.disks.TheConstants.{RECORD_LINE_MAX};
 ghost use Rattle.jos_cli.specs.Found.{FileAt, IsFileAt};
-ghost use Rattle.jos_cli.specs.Disks.{checked, disk_of, size_text, record_line, listing, path_of, printed, expected_of_listing, expected_of_bytes};
+ghost use Rattle.jos_cli.specs.Disks.{checked, disk_of, size_text, record_line, listing, path_of, expected_of_printed, expected_of_listing, expected_of_bytes};
 ghost use Rattle.jos_cli.specs.Outcomes.{HasOutcomeCause};
 ghost use Rattle.jos_cli.specs.Stages.{Judges};
 ghost use Rattle.jos_cli.specs.Outside.{outside};
@@ -23,7 +23,7 @@ use crate::files::host_fault;
 use crate::outcome::Outcome;
 use fs_contents::{ReadFault, list, read_file};
 use fs_image::{CheckFault, DiskBytes, DiskFault, check, read_disk};
-use fs_layout::{Entry, FTYPE_DIR, MAXNAMELEN};
+use fs_layout::{FTYPE_DIR, FileEntry, MAXNAMELEN};
 use jos_base::{LINE_MAX, LineText, push_decimal, push_text};
 use jos_host::Host;
 use jos_words::{CatWords, LsWords, WordAt};
@@ -66,7 +66,7 @@ fn read_checked<'a, H: Host>(
 const RECORD_LINE_MAX: usize = MAXNAMELEN as usize + LINE_MAX;
 
 /// What follows the name in a record's line.
-fn size_text(entry: &Entry) -> LineText
+fn size_text(entry: &FileEntry) -> LineText
     ensures text { result.items ≡ size_text (told_of_entry entry.now) }
     ensures short { length result.items ≤ LINE_MAX }
 {
@@ -90,7 +90,7 @@ fn first_nul(bytes: &[u8]) -> Option<usize>
 }
 
 /// A record's name, which ends at its first NUL.
-fn name_of(entry: &Entry) -> &[u8]
+fn name_of(entry: &FileEntry) -> &[u8]
     ensures name { result.now ≡ (told_of_entry entry.now).name }
     ensures short { length result.now ≤ MAXNAMELEN }
 {
@@ -112,7 +112,7 @@ fn room_for_lines(alloc: Global, records: usize) -> Result<Vec<u8>, AllocError>
 }
 
 /// Appends a record's line, for which there is room.
-fn write_line(entry: &Entry, text: &mut Vec<u8>)
+fn write_line(entry: &FileEntry, text: &mut Vec<u8>)
     requires { length text.old.items + RECORD_LINE_MAX ≤ vec_capacity text.old }
     ensures line { text.new.items ≡ text.old.items ++ record_line (told_of_entry entry.now) }
     ensures short { length text.new.items ≤ length text.old.items + RECORD_LINE_MAX }
@@ -123,7 +123,7 @@ fn write_line(entry: &Entry, text: &mut Vec<u8>)
 }
 
 /// The lines of records, in the room that was made for them.
-fn listing(mut text: Vec<u8>, entries: &[Entry]) -> Vec<u8>
+fn listing(mut text: Vec<u8>, entries: &[FileEntry]) -> Vec<u8>
     requires empty { text.items ≡ [] }
     requires room { length entries.now * RECORD_LINE_MAX ≤ vec_capacity text }
     ensures { result.items ≡ listing (map told_of_entry entries.now) }
@@ -136,7 +136,7 @@ fn listing(mut text: Vec<u8>, entries: &[Entry]) -> Vec<u8>
 
 /// Writes bytes to the console.
 fn print<H: Host>(alloc: Global, bytes: &[u8], host: &mut H) -> Outcome
-    ensures did { PrintsAnswer (printed bytes.now) result (outside H.Host host.old host.new) }
+    ensures did { PrintsAnswer (expected_of_printed bytes.now) result (outside H.Host host.old host.new) }
 {
     match host.console_write(bytes) {
         Ok(()) => Outcome::Made(bytes.len() as u64),
@@ -145,8 +145,8 @@ fn print<H: Host>(alloc: Global, bytes: &[u8], host: &mut H) -> Outcome
 }
 
 /// Prints the lines of records.
-fn print_listing<H: Host>(alloc: Global, entries: &[Entry], host: &mut H) -> Outcome
-    ensures did { PrintsAnswer (printed (listing (map told_of_entry entries.now))) result (outside H.Host host.old host.new) }
+fn print_listing<H: Host>(alloc: Global, entries: &[FileEntry], host: &mut H) -> Outcome
+    ensures did { PrintsAnswer (expected_of_printed (listing (map told_of_entry entries.now))) result (outside H.Host host.old host.new) }
 {
     match room_for_lines(alloc, entries.len()) {
         Ok(text) => print(alloc, &listing(text, entries), host),

@@ -6,7 +6,7 @@ ghost use Rattle.jos_host.specs.Told.{HasCause};
 ghost use Rattle.jos_host.specs.Frames.{Unchanged, around};
 ghost use Rattle.jos_words.specs.Arguments.{word_in_bytes};
 ghost use Rattle.jos_cli.specs.Found.{FileAt, IsFileAt};
-ghost use Rattle.jos_cli.specs.Answer.{bytes_of, expected_of_writing};
+ghost use Rattle.jos_cli.specs.Answer.{bytes_within, expected_of_writing};
 ghost use Rattle.jos_cli.specs.Stages.{Judges, IsUnread};
 ghost use Rattle.jos_cli.specs.FilesRead.{IsFile, IsFileFault, HasFileCause};
 ghost use Rattle.jos_cli.specs.FilesLeft.{KeepsOthers, told_with};
@@ -82,7 +82,7 @@ pub(crate) fn read_file<'a, H: Host>(
 ) -> Result<Vec<u8>, Outcome>
     requires { IsUnread (Outcome.Limit which) }
     ensures told { (file : FileAt) × IsFileAt (H.files host.old) (word_in_bytes word.entry) file
-        × Judges (bytes_of most which file.word.place file.bytes) (λ bytes. bytes.items) result }
+        × Judges (bytes_within most which file.word.place file.bytes) (λ bytes. bytes.items) result }
     ensures small { IfOk result (λ bytes. length bytes.items ≤ most) }
     ensures did { ReadsFiles (read_calls word.entry.text.now) (result_err result) (outside H.Host host.old host.new) }
 {

@@ -4,9 +4,9 @@ ghost use Rattle.std.specs.Prelude.{◌≡◌, ℕ, ◌<◌, ◌≤◌, [], List
 ghost use Rattle.std.specs.Result.{result_err};
 ghost use Rattle.jos_host.specs.Told.{HasCause};
 ghost use Rattle.jos_host.specs.Frames.{Unchanged};
-ghost use Rattle.jos_cli.specs.InputTaken.{HasTaken, HasEnded, HasLost};
+ghost use Rattle.jos_cli.specs.InputTaken.{HasTaken, IsInputAtEnd, HasLost};
 ghost use Rattle.jos_cli.specs.Found.{IsInput};
-ghost use Rattle.jos_cli.specs.Answer.{input_of};
+ghost use Rattle.jos_cli.specs.Answer.{input_within};
 ghost use Rattle.jos_cli.specs.Stages.{Judges};
 ghost use Rattle.jos_cli.specs.Outside.{outside};
 ghost use Rattle.jos_cli.specs.Effects.{Gathers};
@@ -29,7 +29,7 @@ fn buffer(alloc: Global, len: usize) -> Result<Vec<u8>, AllocError>
 fn take_input<H: Host>(host: &mut H, buf: &mut [u8]) -> Result<usize, Failed>
     ensures within { IfOk result (λ n. n ≤ length buf.old) }
     ensures taken { IfOk result (HasTaken (H.input host.old) (H.input host.new) buf.new) }
-    ensures end { IfOk result (λ n. n < length buf.old → HasEnded (H.input host.new)) }
+    ensures end { IfOk result (λ n. n < length buf.old → IsInputAtEnd (H.input host.new)) }
     ensures lost { OnErr result (HasLost (H.input host.old) (H.input host.new)) }
     ensures rest { Unchanged H.files H.asked H.console H.notes host.old host.new }
     ensures cause { HasCause (H.faults host.old) (H.faults host.new) result }
@@ -47,7 +47,7 @@ fn take_input<H: Host>(host: &mut H, buf: &mut [u8]) -> Result<usize, Failed>
 
 /// Reads the console's input, up to its end or to the first byte past the limit.
 pub(crate) fn read_input<H: Host>(alloc: Global, host: &mut H) -> Result<Vec<u8>, Outcome>
-    ensures told { (input : List ℕ) × IsInput (H.input host.old) input × Judges (input_of input) (λ bytes. bytes.items) result }
+    ensures told { (input : List ℕ) × IsInput (H.input host.old) input × Judges (input_within input) (λ bytes. bytes.items) result }
     ensures did { Gathers [] (result_err result) (outside H.Host host.old host.new) }
 {
     let mut bytes = match buffer(alloc, INPUT_MAX + 1) {

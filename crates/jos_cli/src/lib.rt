@@ -15,7 +15,7 @@ ghost use Rattle.jos_cli.specs.Outcomes.{AnswersCommand, HasCommandCause, HasSta
 ghost use Rattle.jos_cli.specs.FaultNotes.{IfHostFault, FaultIsNoted};
 ghost use Rattle.jos_cli.specs.Commands.{command_of};
 ghost use Rattle.jos_cli.specs.FilesAsked.{AsksOnly};
-ghost use Rattle.jos_cli.specs.FilesLeft.{Leaves, LeavesGoodDisk};
+ghost use Rattle.jos_cli.specs.FilesLeft.{LeavesFiles, LeavesGoodDisk};
 ghost use Rattle.jos_cli.specs.Given.{given_words};
 ghost use Rattle.jos_cli.specs.Notes.{IsNoted};
 
@@ -57,7 +57,7 @@ pub fn answer_arguments<H: Host>(alloc: Global, read: io::Result<Args>, host: &m
         × IsUsageCase (command_of (given_words read)) outcome
         × IfHostFault outcome (FaultIsNoted (H.files host.old) (H.input host.old) (given_words read) (around H.faults host.old host.new)
         (around H.console host.old host.new) (around H.notes host.old host.new))
-        × Leaves (command_of (given_words read)) outcome (around H.files host.old host.new)
+        × LeavesFiles (command_of (given_words read)) outcome (around H.files host.old host.new)
         × LeavesGoodDisk (command_of (given_words read)) outcome (around H.files host.old host.new)
         × LeavesInput (command_of (given_words read)) outcome (around H.input host.old host.new) }
     ensures cause { HasStatusCause (around H.faults host.old host.new) (exit_status result) }

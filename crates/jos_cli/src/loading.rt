@@ -10,9 +10,9 @@ ghost use Rattle.jos_base.specs.declared.numbers.TheConstants.{IMAGE_MAX, SCHEDU
 ghost use Rattle.jos_kernel.specs.Boot.{loadables};
 ghost use Rattle.jos_kernel.specs.Loading.{IsRead};
 ghost use Rattle.jos_cli.specs.Found.{FileAt, IsFileAt, Found, IsFound, IsInput};
-ghost use Rattle.jos_cli.specs.Answer.{text_of, schedule_of, image_of, images_of, gathered};
+ghost use Rattle.jos_cli.specs.Answer.{text_of, schedule_of, loadable_in, images_of, gathered};
 ghost use Rattle.jos_cli.specs.Outcomes.{HasOutcomeCause};
-ghost use Rattle.jos_cli.specs.Stages.{IsScheduleAt, AreFilesAt, Judges, refusal_of, sources_in, gathered_of, IsOfWords, IsUnread};
+ghost use Rattle.jos_cli.specs.Stages.{IsScheduleAt, AreFilesAt, Judges, schedule_refusal, sources_in, gathered_of, IsOfWords, IsUnread};
 ghost use Rattle.jos_cli.specs.FilesAsked.{read_calls, schedule_calls, files_calls, source_calls};
 ghost use Rattle.jos_cli.specs.Outside.{outside};
 ghost use Rattle.jos_cli.specs.Effects.{ReadsFiles, Gathers};
@@ -45,8 +45,8 @@ fn read_text<'a, H: Host>(
 }
 
 /// The answer where a text is no schedule.
-fn refusal_of(fault: ScheduleFault) -> Outcome
-    ensures refusal { result ≡ refusal_of fault }
+fn schedule_refusal(fault: ScheduleFault) -> Outcome
+    ensures refusal { result ≡ schedule_refusal fault }
     ensures kind { IsUnread result }
     ensures no_fault { (faults : ℕ) → HasOutcomeCause (from_to faults faults) result }
 {
@@ -72,7 +72,7 @@ pub(crate) fn read_schedule<'a, H: Host>(
     };
     match parse_schedule(alloc, &text) {
         Ok(schedule) => Ok(schedule),
-        Err(fault) => Err(refusal_of(fault)),
+        Err(fault) => Err(schedule_refusal(fault)),
     }
 }
 
@@ -83,7 +83,7 @@ pub(crate) fn read_image<'a, H: Host>(
     host: &mut H,
 ) -> Result<(Image, Vec<u8>), Outcome>
     ensures told { (file : FileAt) × IsFileAt (H.files host.old) (word_in_bytes word.entry) file
-        × Judges (image_of file) (λ read. record { image = read.0; file = read.1.items }) result }
+        × Judges (loadable_in file) (λ read. record { image = read.0; file = read.1.items }) result }
     ensures read { IfOk result (λ read. parsed read.1.items ≡ Ok read.0) }
     ensures small { IfOk result (λ read. length read.1.items ≤ IMAGE_MAX) }
     ensures did { ReadsFiles (read_calls word.entry.text.now) (result_err result) (outside H.Host host.old host.new) }
@@ -147,7 +147,7 @@ pub(crate) fn read_images<'a, H: Host>(
 
 /// What a run is given, beside its numbers.
 #[derive(Drop)]
-pub(crate) struct Gathered {
+pub(crate) struct ReadForRun {
     pub(crate) schedule: Schedule,
     pub(crate) images: Images,
     /// The console's input.
@@ -161,7 +161,7 @@ pub(crate) fn gather<'a, H: Host>(
     schedule: Option<WordAt<'a>>,
     images: &[WordAt<'a>],
     host: &mut H,
-) -> Result<Gathered, Outcome>
+) -> Result<ReadForRun, Outcome>
     requires { IfSome passed IsOfWords }
     ensures told { (found : Found) × (input : List ℕ)
         × IsFound (H.files host.old) (sources_in schedule.entry images.now) found × IsInput (H.input host.old) input
@@ -184,7 +184,7 @@ pub(crate) fn gather<'a, H: Host>(
         Err(outcome) => return Err(outcome),
     };
     match read_input(alloc, host) {
-        Ok(input) => Ok(Gathered {
+        Ok(input) => Ok(ReadForRun {
             schedule,
             images,
             input,

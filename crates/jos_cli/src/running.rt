@@ -8,13 +8,13 @@ ghost use Rattle.jos_kernel.specs.Boot.{loadables};
 ghost use Rattle.jos_kernel.specs.Loading.{IsRead};
 ghost use Rattle.jos_run.specs.RunEnds.{AnswersFor, HasRunCause};
 ghost use Rattle.jos_cli.specs.Commands.{image_word};
-ghost use Rattle.jos_cli.specs.RunAnswers.{program_of};
+ghost use Rattle.jos_cli.specs.RunAnswers.{job_of};
 ghost use Rattle.jos_cli.specs.Stages.{gathered_of, outcome_of_run, MayRun};
 ghost use Rattle.jos_cli.specs.Outside.{outside};
 ghost use Rattle.jos_cli.specs.Effects.{DoesCommand};
 
 use crate::limits::{limit_of_run, numbers_of_run, settings_of};
-use crate::loading::{Gathered, gather};
+use crate::loading::{ReadForRun, gather};
 use crate::outcome::{Outcome, Which};
 use jos_base::NoMemory;
 use jos_host::Host;
@@ -57,14 +57,14 @@ fn run_loaded<H: Host>(
     alloc: Global,
     words: &RunWords,
     arguments: &[&str],
-    read: Gathered,
+    read: ReadForRun,
     host: &mut H,
 ) -> Result<RunEnd, BootFault>
     requires may { MayRun (run_in_bytes words.now) (texts arguments.now) }
     requires count { length read.images.images.items ≡ 1 }
     requires pairs { length read.images.images.items ≡ length read.images.files.items }
     requires read { All IsRead (loadables read.images.images.items read.images.files.items) }
-    ensures told { AnswersFor (program_of (run_in_bytes words.now) (gathered_of read)) result (around H.console host.old host.new) }
+    ensures told { AnswersFor (job_of (run_in_bytes words.now) (gathered_of read)) result (around H.console host.old host.new) }
     ensures rest { Unchanged H.files H.input H.asked H.notes host.old host.new }
     ensures cause { HasRunCause (around H.faults host.old host.new) result }
 {

@@ -12,7 +12,7 @@ ghost use Rattle.jos_cli.specs.Outcomes.{AnswersCommand, HasCommandCause, IsUsag
 ghost use Rattle.jos_cli.specs.Outcomes.{CanRun, CanRunProgram, CanMake, CanList, CanPrint};
 ghost use Rattle.jos_cli.specs.Outcomes.{IsRunCase, IsMadeCase, LeavesInput};
 ghost use Rattle.jos_cli.specs.FilesAsked.{AsksOnly};
-ghost use Rattle.jos_cli.specs.FilesLeft.{Leaves, LeavesGoodDisk};
+ghost use Rattle.jos_cli.specs.FilesLeft.{LeavesFiles, LeavesGoodDisk};
 ghost use Rattle.jos_cli.specs.Notes.{IsNoted};
 ghost use Rattle.jos_cli.specs.FaultNotes.{IfHostFault, FaultIsNoted};
 
@@ -73,7 +73,7 @@ pub fn answer_texts<H: Host>(alloc: Global, read: io::Result<Args>, host: &mut H
         CanList l files → (Rose (H.faults host.old) (H.faults host.new) → ⊥) → IsMadeCase result }
     ensures printed { (files : Files) (c : Cat) → H.files host.old ≡ Some files → command_of (given_words read) ≡ Some (cat c) →
         CanPrint c files → (Rose (H.faults host.old) (H.faults host.new) → ⊥) → IsMadeCase result }
-    ensures files { Leaves (command_of (given_words read)) result (around H.files host.old host.new) }
+    ensures files { LeavesFiles (command_of (given_words read)) result (around H.files host.old host.new) }
     ensures disk { LeavesGoodDisk (command_of (given_words read)) result (around H.files host.old host.new) }
     ensures input { LeavesInput (command_of (given_words read)) result (around H.input host.old host.new) }
     ensures asked { AsksOnly (command_of (given_words read)) (around H.asked host.old host.new) }

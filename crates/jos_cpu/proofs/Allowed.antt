@@ -9,7 +9,7 @@ use Rattle.jos_cpu.specs.declared.accesses.Usage.TheVariants.{Reads, Writes, Cha
 use Rattle.jos_cpu.specs.declared.accesses.Accesses.{Accesses}
 use Rattle.jos_cpu.specs.declared.accesses.Accesses.TheVariants as reach
 use Rattle.jos_cpu.specs.Memory.{after, all_allowed}
-use Rattle.jos_cpu.specs.Accesses.{length_of, access_of}
+use Rattle.jos_cpu.specs.Accesses.{bytes_in_width, access_of}
 use Rattle.jos_cpu.specs.Probes.{Probe, probes_of}
 use Rattle.jos_cpu.specs.Transfers.{Number, next_word, number_for, pushed_numbers, writes_of}
 use Rattle.jos_cpu.proofs.Agreement.{Rights}
@@ -65,13 +65,13 @@ module _ (rights : Rights) where
 
   abbrev pub AllWritable : List Number → Type 0
   AllWritable [] = Unit {0}
-  AllWritable (a ∷ rest) = (all_allowed rights a.va (length_of a.width) Write ≡ true) × AllWritable rest
+  AllWritable (a ∷ rest) = (all_allowed rights a.va (bytes_in_width a.width) Write ≡ true) × AllWritable rest
 
   both_writable : (a b : List Number) → AllWritable a → AllWritable b → AllWritable (a ++ b)
   both_writable [] b h k = k
   both_writable (x ∷ rest) b h k = (h.0, both_writable rest b h.1 k)
 
-  number_writable : (va : ℕ) (width : Width) (usage : Usage) (value : ℕ) → all_allowed rights va (length_of width) (access_of usage) ≡ true →
+  number_writable : (va : ℕ) (width : Width) (usage : Usage) (value : ℕ) → all_allowed rights va (bytes_in_width width) (access_of usage) ≡ true →
       AllWritable (number_for (record { va = va; width = width; usage = usage }) value)
   number_writable va width Reads value h = tt
   number_writable va width Writes value h = (h, tt)

@@ -5,7 +5,7 @@ use Rattle.jos_isa.specs.declared.instruction.Insn.{Insn}
 use Rattle.jos_alu.specs.declared.width.Width.{Width}
 use Rattle.jos_alu.specs.Registers.{advanced}
 use Rattle.jos_cpu.specs.declared.forms.Act.{Act}
-use Rattle.jos_cpu.specs.declared.forms.Place.{Place}
+use Rattle.jos_cpu.specs.declared.forms.Site.{Site}
 use Rattle.jos_cpu.specs.declared.forms.Form.TheVariants.{Compute}
 use Rattle.jos_cpu.specs.declared.events.Event.TheVariants.{Next}
 use Rattle.jos_cpu.specs.declared.events.Gates.{Gates}
@@ -17,14 +17,14 @@ use Rattle.jos_cpu.specs.declared.transfers.Inputs.{Inputs}
 use Rattle.jos_cpu.specs.declared.transfers.Inputs.TheVariants.{Numbers}
 use Rattle.jos_cpu.specs.Memory.{Memory, probed}
 use Rattle.jos_cpu.specs.Forms.{form_of}
-use Rattle.jos_cpu.specs.Accesses.{usage_of, used_operand, accesses_of, length_of, access_of, is_written}
+use Rattle.jos_cpu.specs.Accesses.{usage_of, used_operand, accesses_of, bytes_in_width, access_of, is_written}
 use Rattle.jos_cpu.specs.Probes.{probes_of, probed_all}
 use Rattle.jos_cpu.specs.Transfers.{inputs_of, number_for, writes_of, stored_all}
-use Rattle.jos_cpu.specs.AtHand.{IsInput, IsPut}
+use Rattle.jos_cpu.specs.AtHand.{IsInputAt, IsPut}
 use Rattle.jos_cpu.specs.Effects.{Done, compute_effect, form_effect}
 use Rattle.jos_cpu.specs.Steps.{accesses, done_by, executed}
 
-module _ {M : Type 0} (t : Memory M) (gates : Gates) (insn : Insn) (len : ℕ) (act : Act) (width : Width) (target left right : Place)
+module _ {M : Type 0} (t : Memory M) (gates : Gates) (insn : Insn) (len : ℕ) (act : Act) (width : Width) (target left right : Site)
     (is : form_of insn.row ≡ Compute act width target left right) (old : Regs) (m : M) where
   executed_with : (a : Accesses) (inputs : Inputs) (d : Done) → accesses insn old ≡ a → probed_all t m (probes_of a) ≡ record { memory = m; refusal = None } →
       inputs_of t m a ≡ inputs → done_by insn len old inputs gates ≡ d →
@@ -49,7 +49,7 @@ module _ {M : Type 0} (t : Memory M) (gates : Gates) (insn : Insn) (len : ℕ) (
   -- an access to a number at hand, which is read, written or both
   pub with_access : (usage : Usage) (w : Width) (va input value : ℕ) (new : Regs) →
       used_operand (usage_of target left right) width insn.operand old ≡ reach.One (record { va = va; width = w; usage = usage }) →
-      IsInput t m usage w va input → probed t m va (length_of w) (access_of usage) ≡ record { memory = m; refusal = None } →
+      IsInputAt t m usage w va input → probed t m va (bytes_in_width w) (access_of usage) ≡ record { memory = m; refusal = None } →
       compute_effect act width target left right insn (advanced old len) (Numbers input 0) ≡ record { registers = new; value = value; event = Next } →
       executed t insn len old m gates ≡ record { regs = new; memory = stored_all t m (number_for (record { va = va; width = w; usage = usage }) value); event = Next }
   unfolding probed_all inputs_of writes_of
@@ -62,7 +62,7 @@ module _ {M : Type 0} (t : Memory M) (gates : Gates) (insn : Insn) (len : ℕ) (
 
   pub with_read : (usage : Usage) (w : Width) (va input value : ℕ) (new : Regs) →
       used_operand (usage_of target left right) width insn.operand old ≡ reach.One (record { va = va; width = w; usage = usage }) →
-      is_written usage ≡ false → IsInput t m usage w va input →
+      is_written usage ≡ false → IsInputAt t m usage w va input →
       compute_effect act width target left right insn (advanced old len) (Numbers input 0) ≡ record { registers = new; value = value; event = Next } →
       executed t insn len old m gates ≡ record { regs = new; memory = m; event = Next }
   unfolding stored_all
@@ -72,7 +72,7 @@ module _ {M : Type 0} (t : Memory M) (gates : Gates) (insn : Insn) (len : ℕ) (
 
   pub with_write : (usage : Usage) (w : Width) (va input value : ℕ) (new : Regs) (next : M) →
       used_operand (usage_of target left right) width insn.operand old ≡ reach.One (record { va = va; width = w; usage = usage }) →
-      is_written usage ≡ true → IsInput t m usage w va input →
+      is_written usage ≡ true → IsInputAt t m usage w va input →
       compute_effect act width target left right insn (advanced old len) (Numbers input 0) ≡ record { registers = new; value = value; event = Next } →
       IsPut t m w va value next →
       executed t insn len old m gates ≡ record { regs = new; memory = next; event = Next }

@@ -22,10 +22,10 @@ use Rattle.jos_cpu.specs.declared.fetching.Fetched.{Fetched}
 use Rattle.jos_cpu.specs.declared.fetching.Fetched.TheVariants.{Instruction, Fault, Unknown}
 use Rattle.jos_cpu.specs.Memory.{Memory, Probed, IsStill, StandAt, fenced, after, probed}
 use Rattle.jos_cpu.specs.AtHand.{IsPut}
-use Rattle.jos_cpu.specs.Accesses.{is_read, length_of}
+use Rattle.jos_cpu.specs.Accesses.{is_read, bytes_in_width}
 use Rattle.jos_cpu.specs.Probes.{Probe, probed_all, on_refusal}
 use Rattle.jos_cpu.specs.Transfers.{Number, number_at, input_of, popped_words, inputs_of, stored_number, stored_all}
-use Rattle.jos_cpu.specs.Fetch.{FetchedFrom, byte_reached, read_after, judged, with_byte, on_byte, next_address}
+use Rattle.jos_cpu.specs.Fetch.{FetchedFrom, byte_reached, read_after, fetched_as, with_byte, on_byte, next_address}
 use Rattle.jos_cpu.specs.Fetch.{fetched_from, fetched_at}
 use Rattle.jos_cpu.proofs.Agreement.{Agrees}
 use Rattle.std.proofs.lemmas.Bool.{and_parts}
@@ -78,7 +78,7 @@ module _ {M : Type 0} (within : ℕ → Bool) (stop : MemFault) (t : Memory M) w
 
   -- ---- the fetch
 
-  judge : (d : Decoded) (m : M) {p q : FetchedFrom M} → Fetches p q → Fetches (judged d m p) (judged d m q)
+  judge : (d : Decoded) (m : M) {p q : FetchedFrom M} → Fetches p q → Fetches (fetched_as d m p) (fetched_as d m q)
   judge (Found insn len) m s = inr refl
   judge Illegal m s = inr refl
   judge Short m s = s
@@ -193,10 +193,10 @@ module _ {M : Type 0} (within : ℕ → Bool) (stop : MemFault) (t : Memory M) w
           subst (λ (q : ℕ). within q ≡ true) e (inside (suc i) (omega (arith, below)))
 
   pub put_within : (width : Width) (old new : M) (va value : ℕ) → va < 2 ^ 32 →
-      ((i : ℕ) → i < length_of width → within ((va + i) % 2 ^ 32) ≡ true) →
+      ((i : ℕ) → i < bytes_in_width width → within ((va + i) % 2 ^ 32) ≡ true) →
       IsPut t old width va value new → IsPut (fenced within stop t) old width va value new
   put_within width old new va value small inside put = record {
-    reached = probe_within (length_of width) old va Write small inside ∙ put.reached;
+    reached = probe_within (bytes_in_width width) old va Write small inside ∙ put.reached;
     stored = put.stored ∙ sym (store old width va value);
   }
 

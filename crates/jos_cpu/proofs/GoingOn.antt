@@ -10,7 +10,7 @@ use Rattle.jos_cpu.specs.declared.events.Gates.{Gates}
 use Rattle.jos_cpu.specs.Memory.{Memory, StandAt}
 use Rattle.jos_cpu.specs.Effects.{IfRaised}
 use Rattle.jos_cpu.specs.Steps.{Stepped, step_of, executed}
-use Rattle.jos_cpu.specs.Bursts.{Machine, StepsTo, GoesOn, IsBurst}
+use Rattle.jos_cpu.specs.Bursts.{ProcessorState, StepsTo, StepsOn, IsBurst}
 use Rattle.jos_cpu.proofs.Windows.{fetched_known}
 use Rattle.jos_cpu.proofs.Untouched.{step_untouched}
 
@@ -21,19 +21,19 @@ unfolding step_of
 step_of-known t gates regs m insn len whole stand known done = rw (fetched_known t m regs.eip insn whole len 16 stand known) done
 
 module _ {M : Type 0} (t : Memory M) (stands : ℕ → Bool) (gates : Gates) where
-  pub one_more : (n : ℕ) (old at new : Machine M) → GoesOn t stands gates n old at → StepsTo t gates at Next new → stands new.regs.esp ≡ true →
-      GoesOn t stands gates (suc n) old new
-  one_more zero old at new h s stand = (new, subst (λ (x : Machine M). StepsTo t gates x Next new) h s, stand, refl)
+  pub one_more : (n : ℕ) (old at new : ProcessorState M) → StepsOn t stands gates n old at → StepsTo t gates at Next new → stands new.regs.esp ≡ true →
+      StepsOn t stands gates (suc n) old new
+  one_more zero old at new h s stand = (new, subst (λ (x : ProcessorState M). StepsTo t gates x Next new) h s, stand, refl)
   one_more (suc n) old at new h s stand = (h.0, h.1, h.2, one_more n h.0 at new h.3 s stand)
 
-  pub on_step : (n : ℕ) (old at new : Machine M) → GoesOn t stands gates n old at → StepsTo t gates at Next new → stands new.regs.esp ≡ true →
-      GoesOn t stands gates (n + 1) old new
+  pub on_step : (n : ℕ) (old at new : ProcessorState M) → StepsOn t stands gates n old at → StepsTo t gates at Next new → stands new.regs.esp ≡ true →
+      StepsOn t stands gates (n + 1) old new
   on_step n old at new h s stand =
       let e : suc n ≡ n + 1 = omega arith in
-      subst (λ (k : ℕ). GoesOn t stands gates k old new) e (one_more n old at new h s stand)
+      subst (λ (k : ℕ). StepsOn t stands gates k old new) e (one_more n old at new h s stand)
 
   -- an event ends the burst, or a stack pointer that may not stand
-  pub on_end : (limit n ip : ℕ) (event : Event) (old at new : Machine M) → GoesOn t stands gates n old at → n < limit →
+  pub on_end : (limit n ip : ℕ) (event : Event) (old at new : ProcessorState M) → StepsOn t stands gates n old at → n < limit →
       StepsTo t gates at event new → IfRaised event (new.regs ≡ at.regs) → (event ≡ Next → stands new.regs.esp ≡ true → ⊥) →
       ip ≡ at.regs.eip → IsBurst t stands gates limit (n + 1) ip event old new
   on_end limit n ip event old at new h below s kept ends begun = record {
@@ -50,16 +50,16 @@ module _ {M : Type 0} (t : Memory M) (stands : ℕ → Bool) (gates : Gates) whe
   }
 
   -- the last of steps that go on
-  last_of : (n : ℕ) (old new : Machine M) → GoesOn t stands gates (suc n) old new →
-      (at : Machine M) × GoesOn t stands gates n old at × StepsTo t gates at Next new × (stands new.regs.esp ≡ true)
+  last_of : (n : ℕ) (old new : ProcessorState M) → StepsOn t stands gates (suc n) old new →
+      (at : ProcessorState M) × StepsOn t stands gates n old at × StepsTo t gates at Next new × (stands new.regs.esp ≡ true)
   last_of zero old new h =
-      (old, refl, subst (λ (x : Machine M). StepsTo t gates old Next x) (sym h.3) h.1, subst (λ (x : Machine M). stands x.regs.esp ≡ true) (sym h.3) h.2)
+      (old, refl, subst (λ (x : ProcessorState M). StepsTo t gates old Next x) (sym h.3) h.1, subst (λ (x : ProcessorState M). stands x.regs.esp ≡ true) (sym h.3) h.2)
   last_of (suc n) old new h =
       let l = last_of n h.0 new h.3 in
       (l.0, (h.0, h.1, h.2, l.1), l.2, l.3)
 
   -- as many steps as the limit says
-  pub at_limit : (limit ip : ℕ) (old new : Machine M) → 0 < limit → GoesOn t stands gates limit old new → IsBurst t stands gates limit limit ip Next old new
+  pub at_limit : (limit ip : ℕ) (old new : ProcessorState M) → 0 < limit → StepsOn t stands gates limit old new → IsBurst t stands gates limit limit ip Next old new
   at_limit zero ip old new some h = absurd (omega arith)
   at_limit (suc n) ip old new some h =
       let l = last_of n old new h in

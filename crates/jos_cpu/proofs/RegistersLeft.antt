@@ -15,7 +15,7 @@ use Rattle.jos_cpu.specs.declared.memory.MemFault.TheVariants.{Page, Fence}
 use Rattle.jos_cpu.specs.declared.events.Event.{Event}
 use Rattle.jos_cpu.specs.declared.events.Event.TheVariants.{Next, Soft, Raised}
 use Rattle.jos_cpu.specs.declared.events.Gates.{Gates}
-use Rattle.jos_cpu.specs.declared.forms.Place.TheVariants as place
+use Rattle.jos_cpu.specs.declared.forms.Site.TheVariants as place
 use Rattle.jos_cpu.specs.declared.forms.StringOperation.{StringOperation}
 use Rattle.jos_cpu.specs.declared.forms.StringOperation.TheVariants.{Movs, Cmps, Stos, Lods, Scas}
 use Rattle.jos_cpu.specs.declared.forms.Form.{Form}
@@ -33,7 +33,7 @@ use Rattle.jos_cpu.specs.Accesses.{is_repeated, is_over}
 use Rattle.jos_cpu.specs.Probes.{probed_all}
 use Rattle.jos_cpu.specs.Forms.{form_of}
 use Rattle.jos_cpu.specs.Effects.{Done, gives, value_at, with_quotient, gate_of, repetition_effect, after_repetition}
-use Rattle.jos_cpu.specs.Effects.{counted_down, gone_back, strings_effect, form_effect}
+use Rattle.jos_cpu.specs.Effects.{counted_down, repeated_at, strings_effect, form_effect}
 use Rattle.jos_cpu.specs.Fetch.{fetched_at}
 use Rattle.jos_cpu.specs.Steps.{Stepped, probes, done_by, fault_event, after_probes, executed, after_fetch, step_of}
 
@@ -66,7 +66,7 @@ strings : (operation : StringOperation) (width : Width) (insn : Insn) (old regs 
 strings operation width insn old regs inputs =
     let e = repetition_effect operation width regs inputs in
     either (is_over insn.repeat old) old (gives regs 0) (after_repetition operation insn.repeat old.eip e) tt
-    (either (is_repeated insn.repeat) old (gives (gone_back operation insn.repeat old.eip (counted_down e.registers)) e.value) e tt
+    (either (is_repeated insn.repeat) old (gives (repeated_at operation insn.repeat old.eip (counted_down e.registers)) e.value) e tt
     (repetition operation width old regs inputs))
 
 quotient : (halves : Option Halves) (width : Width) (old regs : Regs) → DoneLeaves old (with_quotient halves width old regs)

@@ -20,10 +20,10 @@ use Rattle.jos_cpu.specs.declared.accesses.Accesses.TheVariants as reach
 use Rattle.jos_cpu.specs.declared.fetching.Fetched.{Fetched}
 use Rattle.jos_cpu.specs.declared.fetching.Fetched.TheVariants.{Instruction, Fault, Unknown}
 use Rattle.jos_cpu.specs.Memory.{Memory, Probed, after, probed, all_allowed}
-use Rattle.jos_cpu.specs.Accesses.{length_of, access_of, is_read}
+use Rattle.jos_cpu.specs.Accesses.{bytes_in_width, access_of, is_read}
 use Rattle.jos_cpu.specs.Probes.{Probe, probes_of, probed_all, on_refusal}
 use Rattle.jos_cpu.specs.Transfers.{Number, number_at, input_of, popped_words, inputs_of, stored_number, stored_all}
-use Rattle.jos_cpu.specs.Fetch.{FetchedFrom, byte_reached, read_after, judged, with_byte, on_byte, next_address}
+use Rattle.jos_cpu.specs.Fetch.{FetchedFrom, byte_reached, read_after, fetched_as, with_byte, on_byte, next_address}
 use Rattle.jos_cpu.specs.Fetch.{fetched_from, fetched_at}
 use Rattle.jos_cpu.specs.Steps.{Stepped, probes, accesses, after_probes, executed, after_fetch, step_of}
 use Rattle.jos_cpu.proofs.Agreement.{Rights, AgreesReading, AgreesWriting, SameStep}
@@ -93,7 +93,7 @@ module _ {M N : Type 0} {t : Memory M} {u : Memory N} {R : M → N → Type 0} {
   read None b e r va passed = rw e (ap Ok (h.byte r va Read (passed refl)))
   read (Some fault) b e r va passed = rw e refl
 
-  judge : (d : Decoded) {m : M} {n : N} → R m n → {p : FetchedFrom M} {q : FetchedFrom N} → SameFetch p q → SameFetch (judged d m p) (judged d n q)
+  judge : (d : Decoded) {m : M} {n : N} → R m n → {p : FetchedFrom M} {q : FetchedFrom N} → SameFetch p q → SameFetch (fetched_as d m p) (fetched_as d n q)
   judge (Found insn len) r same = record { memory = r; fetched = refl }
   judge Illegal r same = record { memory = r; fetched = refl }
   judge Short r same = same
@@ -114,7 +114,7 @@ module _ {M N : Type 0} {t : Memory M} {u : Memory N} {R : M → N → Type 0} {
 
   -- ---- what is read
 
-  number : {m : M} {n : N} → R m n → (va : ℕ) (width : Width) (access : Access) → all_allowed (rights m) va (length_of width) access ≡ true →
+  number : {m : M} {n : N} → R m n → (va : ℕ) (width : Width) (access : Access) → all_allowed (rights m) va (bytes_in_width width) access ≡ true →
       number_at u n va width ≡ number_at t m va width
   unfolding number_at
   number r va Bits8 access passed = h.byte r va access (one _ va access passed)
@@ -124,7 +124,7 @@ module _ {M N : Type 0} {t : Memory M} {u : Memory N} {R : M → N → Type 0} {
       let k = four _ va access passed in
       rw (h.byte r va access k.0, h.byte r (after va) access k.1, h.byte r (after (after va)) access k.2, h.byte r (after (after (after va))) access k.3) refl
 
-  input : {m : M} {n : N} → R m n → (a : AccessAt) → all_allowed (rights m) a.va (length_of a.width) (access_of a.usage) ≡ true → input_of u n a ≡ input_of t m a
+  input : {m : M} {n : N} → R m n → (a : AccessAt) → all_allowed (rights m) a.va (bytes_in_width a.width) (access_of a.usage) ≡ true → input_of u n a ≡ input_of t m a
   input r a passed = ap (λ x. if is_read a.usage then x else 0) (number r a.va a.width (access_of a.usage) passed)
 
   inputs : {m : M} {n : N} → R m n → (a : Accesses) → AllProbed (rights m) (probes_of a) → inputs_of u n a ≡ inputs_of t m a
@@ -220,7 +220,7 @@ module _ {M N : Type 0} {t : Memory M} {u : Memory N} {R : M → N → Type 0} {
       let now = ap (λ g. g va Write) s.stays ∙ passed in
       record { memory = h.stored s.memory va byte small now; stays = h.stays s.memory va byte small now ∙ s.stays }
 
-  store : {before : Rights} {m : M} {n : N} → SameStore before m n → (width : Width) (va value : ℕ) → all_allowed before va (length_of width) Write ≡ true →
+  store : {before : Rights} {m : M} {n : N} → SameStore before m n → (width : Width) (va value : ℕ) → all_allowed before va (bytes_in_width width) Write ≡ true →
       SameStore before (stored_number t m width va value) (stored_number u n width va value)
   unfolding stored_number
   store s Bits8 va value k = put s va (value % 256) (omega arith) (one _ va Write k)

@@ -28,7 +28,7 @@ use Rattle.jos_cpu.specs.Accesses.{operand_access, is_repeated, is_over, accesse
 use Rattle.jos_cpu.specs.Probes.{probes_of, probed_all}
 use Rattle.jos_cpu.specs.Transfers.{Number, writes_of, stored_all}
 use Rattle.jos_cpu.specs.Forms.{form_of}
-use Rattle.jos_cpu.specs.Effects.{Done, IfRaised, gives, repetition_effect, counted_down, gone_back, after_repetition}
+use Rattle.jos_cpu.specs.Effects.{Done, IfRaised, gives, repetition_effect, counted_down, repeated_at, after_repetition}
 use Rattle.jos_cpu.specs.Effects.{strings_effect, form_effect}
 use Rattle.jos_cpu.specs.Fetch.{fetched_at}
 use Rattle.jos_cpu.specs.Steps.{Stepped, accesses, probes, done_by, fault_event, after_probes, executed, after_fetch}
@@ -64,7 +64,7 @@ strings_next : (operation : StringOperation) (width : Width) (insn : Insn) (old 
 strings_next operation width insn old regs inputs =
     let e = repetition_effect operation width regs inputs in
     either_next (is_over insn.repeat old) (gives regs 0) (after_repetition operation insn.repeat old.eip e) refl
-    (either_next (is_repeated insn.repeat) (gives (gone_back operation insn.repeat old.eip (counted_down e.registers)) e.value) e refl
+    (either_next (is_repeated insn.repeat) (gives (repeated_at operation insn.repeat old.eip (counted_down e.registers)) e.value) e refl
     (repetition_next operation width regs inputs))
 
 -- ---- a form that raises a trap by itself writes nothing

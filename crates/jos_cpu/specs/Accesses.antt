@@ -12,8 +12,8 @@ use Rattle.jos_isa.specs.declared.instruction.Repeat.{Repeat}
 use Rattle.jos_isa.specs.declared.instruction.Repeat.TheVariants.{Once, WhileEqual, WhileNot}
 use Rattle.jos_alu.specs.declared.width.Width.{Width}
 use Rattle.jos_alu.specs.declared.width.Width.TheVariants.{Bits8, Bits16, Bits32}
-use Rattle.jos_cpu.specs.declared.forms.Place.{Place}
-use Rattle.jos_cpu.specs.declared.forms.Place.TheVariants as place
+use Rattle.jos_cpu.specs.declared.forms.Site.{Site}
+use Rattle.jos_cpu.specs.declared.forms.Site.TheVariants as place
 use Rattle.jos_cpu.specs.declared.forms.StringOperation.{StringOperation}
 use Rattle.jos_cpu.specs.declared.forms.StringOperation.TheVariants.{Movs, Cmps, Stos, Lods, Scas}
 use Rattle.jos_cpu.specs.declared.forms.Form.{Form}
@@ -29,10 +29,10 @@ use Rattle.jos_cpu.specs.declared.accesses.Accesses.{Accesses}
 use Rattle.jos_cpu.specs.declared.accesses.Accesses.TheVariants as reach
 use Rattle.jos_cpu.specs.Addresses.{address_of}
 
-abbrev pub length_of : Width → ℕ
-length_of Bits8 = 1
-length_of Bits16 = 2
-length_of Bits32 = 4
+abbrev pub bytes_in_width : Width → ℕ
+bytes_in_width Bits8 = 1
+bytes_in_width Bits16 = 2
+bytes_in_width Bits32 = 4
 
 abbrev pub is_written : Usage → Bool
 is_written Reads = false
@@ -49,13 +49,13 @@ access_of Reads = Read
 access_of Writes = Write
 access_of Changes = Write
 
-abbrev pub names_operand : Place → Bool
+abbrev pub names_operand : Site → Bool
 names_operand place.Operand = true
 names_operand _ = false
 
 -- how the operand is used by a target and by a left and a right number; one that is read and written is reached
 -- once, for a write
-abbrev pub usage_of : Place → Place → Place → Option Usage
+abbrev pub usage_of : Site → Site → Site → Option Usage
 usage_of target left right =
     if names_operand target then (if names_operand left || names_operand right then Some Changes else Some Writes)
     else if names_operand left || names_operand right then Some Reads else None
@@ -89,7 +89,7 @@ operand_and_push (operand.Mem arg) regs = reach.Two (read_word (address_of arg r
 operand_and_push (operand.Reg n) regs = reach.One (pushed_word regs)
 operand_and_push operand.Absent regs = reach.One (pushed_word regs)
 
-abbrev pub push_accesses : Place → Operand → Regs → Accesses
+abbrev pub push_accesses : Site → Operand → Regs → Accesses
 push_accesses place operand regs =
     if names_operand place then operand_and_push operand regs else reach.One (pushed_word regs)
 
@@ -100,7 +100,7 @@ pop_to_operand (operand.Mem arg) regs =
 pop_to_operand (operand.Reg n) regs = reach.One (read_word regs.esp)
 pop_to_operand operand.Absent regs = reach.One (read_word regs.esp)
 
-abbrev pub pop_accesses : Place → Operand → Regs → Accesses
+abbrev pub pop_accesses : Site → Operand → Regs → Accesses
 pop_accesses place operand regs =
     if names_operand place then pop_to_operand operand regs else reach.One (read_word regs.esp)
 

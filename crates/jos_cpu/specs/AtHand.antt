@@ -5,21 +5,21 @@ use Rattle.jos_alu.specs.declared.width.Width.{Width}
 use Rattle.jos_cpu.specs.declared.accesses.Usage.{Usage}
 use Rattle.jos_cpu.specs.declared.accesses.Usage.TheVariants.{Reads, Writes, Changes}
 use Rattle.jos_cpu.specs.Memory.{Memory, probed}
-use Rattle.jos_cpu.specs.Accesses.{length_of}
+use Rattle.jos_cpu.specs.Accesses.{bytes_in_width}
 use Rattle.jos_cpu.specs.Transfers.{number_at, stored_number}
 
 -- A number that may be read, and whose bytes nothing changes when they are reached.
 pub record IsAtHand {M : Type 0} (t : Memory M) (m : M) (width : Width) (va value : ℕ) : Type 0 where
-  pub reached : probed t m va (length_of width) Read ≡ record { memory = m; refusal = None }
+  pub reached : probed t m va (bytes_in_width width) Read ≡ record { memory = m; refusal = None }
   pub value_is : number_at t m va width ≡ value
 
 -- A number that was put where nothing else changes when its bytes are reached for a write.
 pub record IsPut {M : Type 0} (t : Memory M) (old : M) (width : Width) (va value : ℕ) (new : M) : Type 0 where
-  pub reached : probed t old va (length_of width) Write ≡ record { memory = old; refusal = None }
+  pub reached : probed t old va (bytes_in_width width) Write ≡ record { memory = old; refusal = None }
   pub stored : new ≡ stored_number t old width va value
 
 -- What an access of this usage reads, where that is at hand; 0 where it only writes.
-abbrev pub IsInput : {M : Type 0} → Memory M → M → Usage → Width → ℕ → ℕ → Type 0
-IsInput t m Reads width va value = IsAtHand t m width va value
-IsInput t m Writes width va value = value ≡ 0
-IsInput t m Changes width va value = IsAtHand t m width va value
+abbrev pub IsInputAt : {M : Type 0} → Memory M → M → Usage → Width → ℕ → ℕ → Type 0
+IsInputAt t m Reads width va value = IsAtHand t m width va value
+IsInputAt t m Writes width va value = value ≡ 0
+IsInputAt t m Changes width va value = IsAtHand t m width va value

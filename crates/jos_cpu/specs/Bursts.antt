@@ -10,36 +10,36 @@ use Rattle.jos_cpu.specs.Effects.{IfRaised}
 use Rattle.jos_cpu.specs.Steps.{executed, step_of, probes_left}
 
 -- the registers and the memory between two steps
-pub record Machine (M : Type 0) : Type 0 where
+pub record ProcessorState (M : Type 0) : Type 0 where
   pub regs : Regs
   pub memory : M
 
 -- An instruction is executed and the program goes on, or nothing is changed.
-abbrev pub IsQuick : {M : Type 0} → Memory M → Insn → ℕ → Gates → Bool → Machine M → Machine M → Type 0
+abbrev pub IsQuick : {M : Type 0} → Memory M → Insn → ℕ → Gates → Bool → ProcessorState M → ProcessorState M → Type 0
 IsQuick t insn len gates true before after =
     executed t insn len before.regs before.memory gates ≡ record { regs = after.regs; memory = after.memory; event = Next }
 IsQuick t insn len gates false before after = (after.regs ≡ before.regs) × (after.memory ≡ before.memory)
 
 -- One step, and what comes of it.
-abbrev pub StepsTo : {M : Type 0} → Memory M → Gates → Machine M → Event → Machine M → Type 0
+abbrev pub StepsTo : {M : Type 0} → Memory M → Gates → ProcessorState M → Event → ProcessorState M → Type 0
 StepsTo t gates before event after =
     step_of t before.regs before.memory gates ≡ record { regs = after.regs; memory = after.memory; event = event }
 
 -- So many steps, after each of which the program goes on, with its stack pointer where it may stand.
-abbrev pub GoesOn : {M : Type 0} → Memory M → (ℕ → Bool) → Gates → ℕ → Machine M → Machine M → Type 0
-GoesOn t stands gates zero before after = after ≡ before
-GoesOn {M} t stands gates (suc n) before after =
-    (next : Machine M) × StepsTo t gates before Next next × (stands next.regs.esp ≡ true) × GoesOn t stands gates n next after
+abbrev pub StepsOn : {M : Type 0} → Memory M → (ℕ → Bool) → Gates → ℕ → ProcessorState M → ProcessorState M → Type 0
+StepsOn t stands gates zero before after = after ≡ before
+StepsOn {M} t stands gates (suc n) before after =
+    (next : ProcessorState M) × StepsTo t gates before Next next × (stands next.regs.esp ≡ true) × StepsOn t stands gates n next after
 
 -- A burst: steps up to the first that raises or calls something, or leaves the stack pointer where it may not stand, and no
 -- more than a limit says. All but the last go on; the last has this event. Where the program could go on behind it, as many
 -- steps are made as the limit says; else the last instruction stands at this address.
-pub record IsBurst {M : Type 0} (t : Memory M) (stands : ℕ → Bool) (gates : Gates) (limit steps ip : ℕ) (event : Event) (before after : Machine M) : Type 0 where
+pub record IsBurst {M : Type 0} (t : Memory M) (stands : ℕ → Bool) (gates : Gates) (limit steps ip : ℕ) (event : Event) (before after : ProcessorState M) : Type 0 where
   -- the steps that go on, and where the last begins
   pub going : ℕ
   pub count : steps ≡ going + 1
-  pub reached : Machine M
-  pub went : GoesOn t stands gates going before reached
+  pub reached : ProcessorState M
+  pub went : StepsOn t stands gates going before reached
   pub last : StepsTo t gates reached event after
   -- a trap changes no register, and of memory only what probes set
   pub kept : IfRaised event (after.regs ≡ reached.regs)

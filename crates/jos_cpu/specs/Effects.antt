@@ -6,6 +6,7 @@ use Rattle.jos_base.specs.declared.registers.Regs.{Regs}
 use Rattle.jos_base.specs.declared.numbers.TheConstants.{FL_CF, FL_ZF, FL_DF}
 use Rattle.jos_base.specs.declared.numbers.TheConstants.{T_DIVIDE, T_BRKPT, T_GPFLT, T_SYSCALL, T_SERVICE}
 use Rattle.jos_base.specs.TrapFrames.{flags_taken}
+use Rattle.jos_base.specs.Environments.{bit_of}
 use Rattle.jos_isa.specs.declared.instruction.Insn.{Insn}
 use Rattle.jos_isa.specs.declared.instruction.Operand.{Operand}
 use Rattle.jos_isa.specs.declared.instruction.Operand.TheVariants as operand
@@ -17,8 +18,8 @@ use Rattle.jos_cpu.specs.declared.events.Gates.{Gates}
 use Rattle.jos_cpu.specs.declared.events.Gates.TheVariants.{Exo, Run}
 use Rattle.jos_alu.specs.declared.width.Width.{Width}
 use Rattle.jos_alu.specs.declared.width.Width.TheVariants.{Bits8, Bits16, Bits32}
-use Rattle.jos_cpu.specs.declared.forms.Place.{Place}
-use Rattle.jos_cpu.specs.declared.forms.Place.TheVariants as place
+use Rattle.jos_cpu.specs.declared.forms.Site.{Site}
+use Rattle.jos_cpu.specs.declared.forms.Site.TheVariants as place
 use Rattle.jos_alu.specs.declared.shifts.Shift.{Shift}
 use Rattle.jos_alu.specs.declared.products.Sign.{Sign}
 use Rattle.jos_cpu.specs.declared.forms.Act.{Act}
@@ -41,12 +42,12 @@ use Rattle.jos_cpu.specs.declared.transfers.Inputs.{Inputs}
 use Rattle.jos_cpu.specs.declared.transfers.Inputs.TheVariants.{Numbers, Popped}
 use Rattle.jos_alu.specs.Registers.{register, with_register, register_at, with_register_at, advanced}
 use Rattle.jos_cpu.specs.Addresses.{address_of}
-use Rattle.jos_alu.specs.Flags.{modulus, is_negative, bit_of, is_set, operated, combined, increased, decreased}
+use Rattle.jos_alu.specs.Flags.{modulus, is_negative, is_set, operated, combined, increased, decreased}
 use Rattle.jos_alu.specs.Flags.{subtracted, condition_holds}
 use Rattle.jos_alu.specs.Shifts.{shifted}
 use Rattle.jos_alu.specs.Products.{sign_extended, extended, double_register, with_halves, product_of, is_too_long}
 use Rattle.jos_alu.specs.Products.{halves_of, product_flags, multiplied, quotient_of}
-use Rattle.jos_cpu.specs.Accesses.{below_stack, length_of, is_repeated, is_over}
+use Rattle.jos_cpu.specs.Accesses.{below_stack, bytes_in_width, is_repeated, is_over}
 
 -- the registers after an instruction, the number for the access that it writes, if it has one, and what comes of it
 pub record Done : Type 0 where
@@ -68,18 +69,18 @@ IfRaised (Raised trap error va) P = P
 
 -- ---- places
 
-abbrev pub first_of : Inputs → ℕ
-first_of (Numbers a b) = a
-first_of (Popped words) = 0
+abbrev pub first_input : Inputs → ℕ
+first_input (Numbers a b) = a
+first_input (Popped words) = 0
 
-abbrev pub second_of : Inputs → ℕ
-second_of (Numbers a b) = b
-second_of (Popped words) = 0
+abbrev pub second_input : Inputs → ℕ
+second_input (Numbers a b) = b
+second_input (Popped words) = 0
 
 -- the r/m operand, which is a register or what was read
 abbrev pub operand_value : Width → Operand → Regs → Inputs → ℕ
 operand_value width (operand.Reg n) regs inputs = register_at width regs n
-operand_value width (operand.Mem arg) regs inputs = first_of inputs
+operand_value width (operand.Mem arg) regs inputs = first_input inputs
 operand_value width operand.Absent regs inputs = 0
 
 abbrev pub with_operand : Width → Operand → ℕ → Regs → Regs
@@ -87,7 +88,7 @@ with_operand width (operand.Reg n) value regs = with_register_at width regs n va
 with_operand width (operand.Mem arg) value regs = regs
 with_operand width operand.Absent value regs = regs
 
-unfoldable pub value_at : Place → Width → Insn → Regs → Inputs → ℕ
+unfoldable pub value_at : Site → Width → Insn → Regs → Inputs → ℕ
 value_at place.Nowhere width insn regs inputs = 0
 value_at place.Operand width insn regs inputs = operand_value width insn.operand regs inputs
 value_at place.Named width insn regs inputs = register_at width regs insn.reg
@@ -96,7 +97,7 @@ value_at place.Immediate width insn regs inputs = insn.imm % modulus width
 value_at place.One width insn regs inputs = 1
 value_at place.Cl width insn regs inputs = regs.ecx % 256
 
-unfoldable pub with_value_at : Place → Width → Insn → ℕ → Regs → Regs
+unfoldable pub with_value_at : Site → Width → Insn → ℕ → Regs → Regs
 with_value_at place.Nowhere width insn value regs = regs
 with_value_at place.Operand width insn value regs = with_operand width insn.operand value regs
 with_value_at place.Named width insn value regs = with_register_at width regs insn.reg value
@@ -121,22 +122,22 @@ computed Multiply width a b eflags = multiplied width a b eflags
 abbrev pub with_flags : Regs → ℕ → Regs
 with_flags regs eflags = record regs { eflags = eflags }
 
-abbrev pub with_computed : Place → Width → Insn → Computed → Regs → Done
+abbrev pub with_computed : Site → Width → Insn → Computed → Regs → Done
 with_computed target width insn c regs = gives (with_value_at target width insn c.value (with_flags regs c.eflags)) c.value
 
-abbrev pub compute_effect : Act → Width → Place → Place → Place → Insn → Regs → Inputs → Done
+abbrev pub compute_effect : Act → Width → Site → Site → Site → Insn → Regs → Inputs → Done
 compute_effect act width target left right insn regs inputs =
     with_computed target width insn
     (computed act width (value_at left width insn regs inputs) (value_at right width insn regs inputs) regs.eflags) regs
 
-abbrev pub shift_two_effect : Shift → Place → Insn → Regs → Inputs → Done
+abbrev pub shift_two_effect : Shift → Site → Insn → Regs → Inputs → Done
 shift_two_effect shift count insn regs inputs =
     with_computed place.Operand Bits32 insn
     (shifted shift Bits32 (value_at place.Operand Bits32 insn regs inputs) (register regs insn.reg) (value_at count Bits8 insn regs inputs) regs.eflags)
     regs
 
 -- The named register gets the other's number, and the other, which may be in memory, the register's.
-abbrev pub exchange_effect : Width → Place → Insn → Regs → Inputs → Done
+abbrev pub exchange_effect : Width → Site → Insn → Regs → Inputs → Done
 exchange_effect width other insn regs inputs =
     let a = value_at other width insn regs inputs in
     let b = register_at width regs insn.reg in
@@ -174,7 +175,7 @@ push_effect regs value = gives (with_esp regs (below_stack regs 4)) value
 abbrev pub with_esp_up : Regs → ℕ → Regs
 with_esp_up regs n = with_esp regs ((regs.esp + n) % 2 ^ 32)
 
-abbrev pub pop_effect : Place → Insn → Regs → ℕ → Done
+abbrev pub pop_effect : Site → Insn → Regs → ℕ → Done
 pop_effect target insn regs value = gives (with_value_at target Bits32 insn value (with_esp_up regs 4)) value
 
 -- ESP is raised past the eight words
@@ -233,7 +234,7 @@ changed_flags SetDirection eflags = bit_or eflags FL_DF
 
 -- up by the width, or down where DF is set
 abbrev pub string_step : Width → ℕ → ℕ
-string_step width eflags = if is_set eflags FL_DF then 2 ^ 32 - length_of width else length_of width
+string_step width eflags = if is_set eflags FL_DF then 2 ^ 32 - bytes_in_width width else bytes_in_width width
 
 abbrev pub with_esi : Width → Regs → Regs
 with_esi width regs = record regs { esi = (regs.esi + string_step width regs.eflags) % 2 ^ 32 }
@@ -246,11 +247,11 @@ compared width a b regs = with_flags regs (subtracted width a b 0 regs.eflags).e
 
 -- One repetition. CMPS takes the number at EDI from that at ESI, and SCAS that at EDI from the accumulator.
 unfoldable pub repetition_effect : StringOperation → Width → Regs → Inputs → Done
-repetition_effect Movs width regs inputs = gives (with_edi width (with_esi width regs)) (first_of inputs)
-repetition_effect Cmps width regs inputs = gives (with_edi width (with_esi width (compared width (first_of inputs) (second_of inputs) regs))) 0
+repetition_effect Movs width regs inputs = gives (with_edi width (with_esi width regs)) (first_input inputs)
+repetition_effect Cmps width regs inputs = gives (with_edi width (with_esi width (compared width (first_input inputs) (second_input inputs) regs))) 0
 repetition_effect Stos width regs inputs = gives (with_edi width regs) (register_at width regs 0)
-repetition_effect Lods width regs inputs = gives (with_esi width (with_register_at width regs 0 (first_of inputs))) 0
-repetition_effect Scas width regs inputs = gives (with_edi width (compared width (register_at width regs 0) (first_of inputs) regs)) 0
+repetition_effect Lods width regs inputs = gives (with_esi width (with_register_at width regs 0 (first_input inputs))) 0
+repetition_effect Scas width regs inputs = gives (with_edi width (compared width (register_at width regs 0) (first_input inputs) regs)) 0
 
 abbrev pub compares : StringOperation → Bool
 compares Movs = false
@@ -269,13 +270,13 @@ breaks WhileNot eflags = is_set eflags FL_ZF
 abbrev pub counted_down : Regs → Regs
 counted_down regs = record regs { ecx = (regs.ecx + 2 ^ 32 - 1) % 2 ^ 32 }
 
-abbrev pub gone_back : StringOperation → Repeat → ℕ → Regs → Regs
-gone_back operation repeat ip regs =
+abbrev pub repeated_at : StringOperation → Repeat → ℕ → Regs → Regs
+repeated_at operation repeat ip regs =
     if (regs.ecx == 0) || (compares operation && breaks repeat regs.eflags) then regs else with_eip regs ip
 
 abbrev pub after_repetition : StringOperation → Repeat → ℕ → Done → Done
 after_repetition operation repeat ip e =
-    if is_repeated repeat then gives (gone_back operation repeat ip (counted_down e.registers)) e.value else e
+    if is_repeated repeat then gives (repeated_at operation repeat ip (counted_down e.registers)) e.value else e
 
 abbrev pub strings_effect : StringOperation → Width → Insn → Regs → Regs → Inputs → Done
 strings_effect operation width insn old regs inputs =
@@ -290,7 +291,7 @@ form_effect (Exchange width other) insn old regs inputs gates = exchange_effect 
 form_effect (Extend sign width) insn old regs inputs gates =
     gives (with_register regs insn.reg (extended sign width (value_at place.Operand width insn regs inputs))) 0
 form_effect LoadAddress insn old regs inputs gates = load_address_effect insn.operand insn regs
-form_effect (LoadFrom width) insn old regs inputs gates = gives (with_register_at width regs 0 (first_of inputs)) 0
+form_effect (LoadFrom width) insn old regs inputs gates = gives (with_register_at width regs 0 (first_input inputs)) 0
 form_effect (StoreTo width) insn old regs inputs gates = gives regs (register_at width regs 0)
 form_effect (ShiftTwo shift count) insn old regs inputs gates = shift_two_effect shift count insn regs inputs
 form_effect (Product sign width) insn old regs inputs gates = product_effect sign width insn regs inputs
@@ -299,19 +300,19 @@ form_effect ExtendAccumulator insn old regs inputs gates = gives (record regs { 
 form_effect ExtendDouble insn old regs inputs gates =
     gives (record regs { edx = if is_negative Bits32 regs.eax then 0xffff_ffff else 0 }) 0
 form_effect (Push source) insn old regs inputs gates = push_effect regs (value_at source Bits32 insn regs inputs)
-form_effect (Pop target) insn old regs inputs gates = pop_effect target insn regs (first_of inputs)
+form_effect (Pop target) insn old regs inputs gates = pop_effect target insn regs (first_input inputs)
 form_effect PushAll insn old regs inputs gates = gives (with_esp regs (below_stack regs 32)) 0
 form_effect PopAll insn old regs inputs gates = pop_all_effect inputs regs
 form_effect PushFlags insn old regs inputs gates = push_effect regs regs.eflags
 form_effect PopFlags insn old regs inputs gates =
-    gives (with_flags (with_esp_up regs 4) (popped_flags regs.eflags (first_of inputs))) 0
-form_effect Leave insn old regs inputs gates = leave_effect regs (first_of inputs)
+    gives (with_flags (with_esp_up regs 4) (popped_flags regs.eflags (first_input inputs))) 0
+form_effect Leave insn old regs inputs gates = leave_effect regs (first_input inputs)
 form_effect (Branch condition) insn old regs inputs gates = gives (if condition_holds regs.eflags condition then advanced regs insn.imm else regs) 0
 form_effect Jump insn old regs inputs gates = gives (advanced regs insn.imm) 0
 form_effect JumpTo insn old regs inputs gates = gives (with_eip regs (value_at place.Operand Bits32 insn regs inputs)) 0
 form_effect Call insn old regs inputs gates = call_effect regs ((regs.eip + insn.imm) % 2 ^ 32)
 form_effect CallTo insn old regs inputs gates = call_effect regs (value_at place.Operand Bits32 insn regs inputs)
-form_effect Return insn old regs inputs gates = return_effect insn regs (first_of inputs)
+form_effect Return insn old regs inputs gates = return_effect insn regs (first_input inputs)
 form_effect Breakpoint insn old regs inputs gates = record { registers = regs; value = 0; event = Soft T_BRKPT }
 form_effect Interrupt insn old regs inputs gates = interrupt_effect gates (insn.imm % 256) old regs
 form_effect (Strings operation width) insn old regs inputs gates = strings_effect operation width insn old regs inputs

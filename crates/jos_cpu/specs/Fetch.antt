@@ -19,10 +19,10 @@ pub record FetchedFrom (M : Type 0) : Type 0 where
   pub fetched : Fetched
 
 -- after a byte: what the bytes so far are, or what comes with one more of them
-abbrev pub judged : {M : Type 0} → Decoded → M → FetchedFrom M → FetchedFrom M
-judged (Found insn len) m more = record { memory = m; fetched = Instruction insn len }
-judged Illegal m more = record { memory = m; fetched = Unknown }
-judged Short m more = more
+abbrev pub fetched_as : {M : Type 0} → Decoded → M → FetchedFrom M → FetchedFrom M
+fetched_as (Found insn len) m more = record { memory = m; fetched = Instruction insn len }
+fetched_as Illegal m more = record { memory = m; fetched = Unknown }
+fetched_as Short m more = more
 
 -- the bytes with one more
 abbrev pub with_byte : List ℕ → ℕ → List ℕ
@@ -45,7 +45,7 @@ unfoldable pub byte_reached : {M : Type 0} → Memory M → M → ℕ → Reache
 byte_reached t m va = let p = probed t m va 1 Read in record { memory = p.memory; byte = read_after t va p.refusal p.memory }
 
 abbrev pub on_byte : {M : Type 0} → Result ℕ MemFault → M → List ℕ → (List ℕ → FetchedFrom M) → FetchedFrom M
-on_byte (Ok byte) m bytes more = judged (decoded (with_byte bytes byte)) m (more (with_byte bytes byte))
+on_byte (Ok byte) m bytes more = fetched_as (decoded (with_byte bytes byte)) m (more (with_byte bytes byte))
 on_byte (Err fault) m bytes more = record { memory = m; fetched = Fault fault }
 
 -- with these bytes read, and room for so many more

@@ -29,8 +29,8 @@ use Rattle.jos_isa.specs.declared.instruction.Row.TheVariants.{InAlImm8, InEaxIm
 use Rattle.jos_isa.specs.declared.instruction.Row.TheVariants.{InEaxDx, OutDxAl, OutDxEax, Hlt, Cli, Sti, Nop}
 use Rattle.jos_alu.specs.declared.width.Width.{Width}
 use Rattle.jos_alu.specs.declared.width.Width.TheVariants.{Bits8, Bits16, Bits32}
-use Rattle.jos_cpu.specs.declared.forms.Place.{Place}
-use Rattle.jos_cpu.specs.declared.forms.Place.TheVariants.{Nowhere, Operand, Named, Accumulator, Immediate, One, Cl}
+use Rattle.jos_cpu.specs.declared.forms.Site.{Site}
+use Rattle.jos_cpu.specs.declared.forms.Site.TheVariants.{Nowhere, Operand, Named, Accumulator, Immediate, One, Cl}
 use Rattle.jos_alu.specs.declared.shifts.Shift.{Shift}
 use Rattle.jos_alu.specs.declared.shifts.Shift.TheVariants.{Rol, Ror, Shl, Shr, Sar, Shld, Shrd}
 use Rattle.jos_alu.specs.declared.operation.Operation.{Operation}
@@ -81,11 +81,11 @@ abbrev pub drops_result : Operation → Bool
 drops_result Cmp = true
 drops_result _ = false
 
-abbrev pub operation_form : ℕ → Width → Place → Place → Form
+abbrev pub operation_form : ℕ → Width → Site → Site → Form
 operation_form k width left right =
     Compute (Operate (operation_of k)) width (if drops_result (operation_of k) then Nowhere else left) left right
 
-abbrev pub shift_form : ℕ → Width → Place → Form
+abbrev pub shift_form : ℕ → Width → Site → Form
 shift_form k width count = Compute (ShiftBy (shift_of k)) width Operand Operand count
 
 unfoldable pub form_of : Row → Form

@@ -2,7 +2,7 @@
 -- (Intel 80386 Programmer's Reference Manual, 1986, sections 5.2 and 9.8.14: an access sets the accessed and
 -- dirty bits of the entries that it uses, and is refused by the first entry that does not allow it.)
 use Rattle.std.specs.Prelude.{◌≡◌, ◌⊎◌, ℕ, ◌+◌, ◌%◌, ◌^◌, ◌<◌, ◌&&◌, zero, suc, Bool, true, List, length, slice_index}
-use Rattle.std.specs.Prelude.{Option, Some, None, Result, Ok, Err, if◌then◌else◌}
+use Rattle.std.specs.Prelude.{Option, Some, None, if◌then◌else◌}
 use Rattle.jos_base.specs.declared.memory.Access.{Access}
 use Rattle.jos_base.specs.declared.memory.Access.TheVariants.{Read}
 use Rattle.jos_cpu.specs.declared.memory.MemFault.{MemFault}
@@ -52,10 +52,6 @@ after va = (va + 1) % 2 ^ 32
 pub record Probed (M : Type 0) : Type 0 where
   pub memory : M
   pub refusal : Option MemFault
-
-abbrev pub refusal_of : {T : Type 0} → Result T MemFault → Option MemFault
-refusal_of (Ok x) = None
-refusal_of (Err fault) = Some fault
 
 -- A probe tests so many bytes from an address upwards. It ends at the first that may not be reached, and keeps
 -- what the bytes before it set.

@@ -9,7 +9,7 @@ use Rattle.jos_cpu.specs.declared.accesses.AccessAt.{AccessAt}
 use Rattle.jos_cpu.specs.declared.accesses.Accesses.{Accesses}
 use Rattle.jos_cpu.specs.declared.accesses.Accesses.TheVariants as reach
 use Rattle.jos_cpu.specs.Memory.{Memory, Probed, probed, all_allowed}
-use Rattle.jos_cpu.specs.Accesses.{length_of, is_written, access_of}
+use Rattle.jos_cpu.specs.Accesses.{bytes_in_width, is_written, access_of}
 
 -- an access of so many bytes
 pub record Probe : Type 0 where
@@ -18,7 +18,7 @@ pub record Probe : Type 0 where
   pub access : Access
 
 abbrev pub probe_of : AccessAt → Probe
-probe_of r = record { va = r.va; len = length_of r.width; access = access_of r.usage }
+probe_of r = record { va = r.va; len = bytes_in_width r.width; access = access_of r.usage }
 
 -- PUSHA and POPA are one access of 32 bytes.
 abbrev pub probes_of : Accesses → List Probe
@@ -42,8 +42,8 @@ probed_all t m (p ∷ rest) =
 -- What is reached may be read, and written where the instruction writes it.
 abbrev pub is_open_at : (ℕ → Access → Bool) → AccessAt → Bool
 is_open_at allowed r =
-    all_allowed allowed r.va (length_of r.width) Read
-    && (if is_written r.usage then all_allowed allowed r.va (length_of r.width) Write else true)
+    all_allowed allowed r.va (bytes_in_width r.width) Read
+    && (if is_written r.usage then all_allowed allowed r.va (bytes_in_width r.width) Write else true)
 
 unfoldable pub is_open : (ℕ → Access → Bool) → Accesses → Bool
 is_open allowed reach.None = true

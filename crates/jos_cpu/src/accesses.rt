@@ -3,11 +3,11 @@
 ghost use Rattle.std.specs.Prelude.{◌≡◌};
 ghost use Rattle.jos_cpu.specs.Accesses.{names_operand, usage_of, access_at, operand_access, used_operand, below_stack};
 ghost use Rattle.jos_cpu.specs.Accesses.{read_word, pushed_word, operand_and_push, push_accesses, pop_to_operand};
-ghost use Rattle.jos_cpu.specs.Accesses.{pop_accesses, string_accesses, is_repeated, is_over, accesses_of, length_of};
+ghost use Rattle.jos_cpu.specs.Accesses.{pop_accesses, string_accesses, is_repeated, is_over, accesses_of, bytes_in_width};
 ghost use Rattle.jos_cpu.specs.Accesses.{is_written, is_read, access_of};
 
 use crate::addresses::address_of;
-use crate::forms::{Form, Place, StringOperation};
+use crate::forms::{Form, Site, StringOperation};
 use jos_alu::Width;
 use jos_base::{Access, Regs};
 use jos_isa::{Insn, Operand, Repeat};
@@ -41,8 +41,8 @@ pub(crate) enum Accesses {
 }
 
 /// In bytes.
-pub(crate) fn length_of(width: Width) -> u32
-    ensures { result ≡ length_of width }
+pub(crate) fn bytes_in_width(width: Width) -> u32
+    ensures { result ≡ bytes_in_width width }
 {
     match width {
         Width::Bits8 => 1,
@@ -82,17 +82,13 @@ pub(crate) fn access_of(usage: Usage) -> Access
     }
 }
 
-fn names_operand(place: Place) -> bool
+fn names_operand(place: Site) -> bool
     ensures { result ≡ names_operand place }
 {
     match place {
-        Place::Operand => true,
-        Place::Nowhere
-        | Place::Named
-        | Place::Accumulator
-        | Place::Immediate
-        | Place::One
-        | Place::Cl => false,
+        Site::Operand => true,
+        Site::Nowhere | Site::Named | Site::Accumulator | Site::Immediate | Site::One | Site::Cl =>
+            false,
     }
 }
 
@@ -103,7 +99,7 @@ fn access_at(va: u32, width: Width, usage: Usage) -> AccessAt
 }
 
 /// How a target, a left and a right number use the r/m operand.
-pub(crate) fn usage_of(target: Place, left: Place, right: Place) -> Option<Usage>
+pub(crate) fn usage_of(target: Site, left: Site, right: Site) -> Option<Usage>
     ensures { result ≡ usage_of target left right }
 {
     if names_operand(target) {
@@ -179,7 +175,7 @@ fn operand_and_push(operand: &Operand, regs: &Regs) -> Accesses
 }
 
 /// Those of PUSH.
-fn push_accesses(place: Place, operand: &Operand, regs: &Regs) -> Accesses
+fn push_accesses(place: Site, operand: &Operand, regs: &Regs) -> Accesses
     ensures { result ≡ push_accesses place operand.now regs.now }
 {
     if names_operand(place) {
@@ -210,7 +206,7 @@ fn pop_to_operand(operand: &Operand, regs: &Regs) -> Accesses
 }
 
 /// Those of POP.
-fn pop_accesses(place: Place, operand: &Operand, regs: &Regs) -> Accesses
+fn pop_accesses(place: Site, operand: &Operand, regs: &Regs) -> Accesses
     ensures { result ≡ pop_accesses place operand.now regs.now }
 {
     if names_operand(place) {
@@ -269,7 +265,7 @@ pub(crate) fn accesses_of(form: Form, insn: &Insn, regs: &Regs) -> Accesses
             regs,
         ),
         Form::Exchange(width, place) => used_operand(
-            usage_of(place, place, Place::Nowhere),
+            usage_of(place, place, Site::Nowhere),
             width,
             &insn.operand,
             regs,

@@ -7,7 +7,7 @@ ghost use Rattle.jos_cpu.specs.Effects.{computed, with_computed, compute_effect,
 ghost use Rattle.jos_cpu.specs.Effects.{load_address_effect};
 
 use crate::addresses::address_of;
-use crate::forms::{Act, Place};
+use crate::forms::{Act, Site};
 use crate::places::{set_value_at, value_at};
 use crate::transfers::Inputs;
 use jos_alu::{
@@ -49,13 +49,7 @@ fn compute(act: Act, width: Width, a: u32, b: u32, eflags: u32) -> Computed
 }
 
 /// Puts what was computed into the flags and the target, and gives the number.
-fn set_computed(
-    target: Place,
-    width: Width,
-    insn: &Insn,
-    computed: Computed,
-    regs: &mut Regs,
-) -> u32
+fn set_computed(target: Site, width: Width, insn: &Insn, computed: Computed, regs: &mut Regs) -> u32
     ensures { with_computed target width insn.now computed regs.old ≡ record { registers = regs.new; value = result; event = Next } }
 {
     let Computed { value, eflags } = computed;
@@ -68,9 +62,9 @@ fn set_computed(
 pub(crate) fn make_computation(
     act: Act,
     width: Width,
-    target: Place,
-    left: Place,
-    right: Place,
+    target: Site,
+    left: Site,
+    right: Site,
     insn: &Insn,
     regs: &mut Regs,
     inputs: &Inputs,
@@ -86,16 +80,16 @@ pub(crate) fn make_computation(
 /// SHLD and SHRD; the result is the number for memory.
 pub(crate) fn make_shift_two(
     shift: Shift,
-    count: Place,
+    count: Site,
     insn: &Insn,
     regs: &mut Regs,
     inputs: &Inputs,
 ) -> u32
     ensures { shift_two_effect shift count insn.now regs.old inputs.now ≡ record { registers = regs.new; value = result; event = Next } }
 {
-    let value = value_at(Place::Operand, Width::Bits32, insn, regs, inputs);
+    let value = value_at(Site::Operand, Width::Bits32, insn, regs, inputs);
     let other = register(regs, insn.reg);
     let places = value_at(count, Width::Bits8, insn, regs, inputs);
     let made = shift_by(shift, Width::Bits32, value, other, places, regs.eflags);
-    set_computed(Place::Operand, Width::Bits32, insn, made, regs)
+    set_computed(Site::Operand, Width::Bits32, insn, made, regs)
 }

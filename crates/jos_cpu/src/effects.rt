@@ -10,9 +10,9 @@ use crate::accesses::below_stack;
 use crate::acts::{make_computation, make_shift_two};
 use crate::control::{branch, call, change_flags, interrupt, raise_protection_fault, return_to};
 use crate::events::{Event, Gates};
-use crate::forms::{Form, Place};
+use crate::forms::{Form, Site};
 use crate::moves::{load_address, make_exchange};
-use crate::places::{first_of, value_at};
+use crate::places::{first_input, value_at};
 use crate::products::{make_product, make_quotient};
 use crate::stack::{leave, move_esp_up, pop, pop_all, popped_flags, push};
 use crate::strings::make_strings;
@@ -75,7 +75,7 @@ pub(crate) fn apply_form(
         )),
         Form::Exchange(width, other) => going_on(make_exchange(width, other, insn, regs, inputs)),
         Form::Extend(sign, width) => {
-            let value = value_at(Place::Operand, width, insn, regs, inputs);
+            let value = value_at(Site::Operand, width, insn, regs, inputs);
             set_register(regs, insn.reg, extend(sign, width, value));
             going_on(0)
         }
@@ -84,7 +84,7 @@ pub(crate) fn apply_form(
             going_on(0)
         }
         Form::LoadFrom(width) => {
-            set_register_at(width, regs, 0, first_of(inputs));
+            set_register_at(width, regs, 0, first_input(inputs));
             going_on(0)
         }
         Form::StoreTo(width) => going_on(register_at(width, regs, 0)),
@@ -110,7 +110,7 @@ pub(crate) fn apply_form(
             let value = value_at(source, Width::Bits32, insn, regs, inputs);
             going_on(push(regs, value))
         }
-        Form::Pop(target) => going_on(pop(target, insn, regs, first_of(inputs))),
+        Form::Pop(target) => going_on(pop(target, insn, regs, first_input(inputs))),
         Form::PushAll => {
             regs.esp = below_stack(regs, 32);
             going_on(0)
@@ -124,13 +124,13 @@ pub(crate) fn apply_form(
             going_on(push(regs, eflags))
         }
         Form::PopFlags => {
-            let eflags = popped_flags(regs.eflags, first_of(inputs));
+            let eflags = popped_flags(regs.eflags, first_input(inputs));
             move_esp_up(regs, 4);
             regs.eflags = eflags;
             going_on(0)
         }
         Form::Leave => {
-            leave(regs, first_of(inputs));
+            leave(regs, first_input(inputs));
             going_on(0)
         }
         Form::Branch(condition) => {
@@ -142,7 +142,7 @@ pub(crate) fn apply_form(
             going_on(0)
         }
         Form::JumpTo => {
-            regs.eip = value_at(Place::Operand, Width::Bits32, insn, regs, inputs);
+            regs.eip = value_at(Site::Operand, Width::Bits32, insn, regs, inputs);
             going_on(0)
         }
         Form::Call => {
@@ -150,11 +150,11 @@ pub(crate) fn apply_form(
             going_on(call(regs, target))
         }
         Form::CallTo => {
-            let target = value_at(Place::Operand, Width::Bits32, insn, regs, inputs);
+            let target = value_at(Site::Operand, Width::Bits32, insn, regs, inputs);
             going_on(call(regs, target))
         }
         Form::Return => {
-            return_to(insn, regs, first_of(inputs));
+            return_to(insn, regs, first_input(inputs));
             going_on(0)
         }
         Form::Breakpoint => ending(Event::Soft(T_BRKPT)),

@@ -1,8 +1,9 @@
 //! Memory as the processor sees it.
 
 ghost use Rattle.std.specs.Prelude.{◌≡◌, ℕ, Bool, true, false, OnOk, IfSome, is_ok};
+ghost use Rattle.std.specs.Result.{result_err};
 ghost use Rattle.jos_base.specs.declared.memory.Access.TheVariants.{Read, Write};
-ghost use Rattle.jos_cpu.specs.Memory.{Memory, IsLawful, Probed, refusal_of, probed, all_allowed, StandAt};
+ghost use Rattle.jos_cpu.specs.Memory.{Memory, IsLawful, Probed, probed, all_allowed, StandAt};
 ghost use Rattle.jos_cpu.specs.AtHand.{IsAtHand, IsPut};
 
 use jos_alu::Width;
@@ -30,7 +31,7 @@ pub trait Mem {
 
     /// Reaches for so many bytes from an address on, in rising order, up to the first that may not be reached.
     fn probe(&mut self, va: u32, len: u32, access: Access) -> Result<(), MemFault>
-        ensures after { probed table (seen self.old) va len access ≡ record { memory = seen self.new; refusal = refusal_of result } }
+        ensures after { probed table (seen self.old) va len access ≡ record { memory = seen self.new; refusal = result_err result } }
         ensures exact { is_ok result ≡ all_allowed (table.allowed (seen self.old)) va len access }
         // what may be written may be read
         ensures readable { OnOk result (all_allowed (table.allowed (seen self.old)) va len Read ≡ true) }

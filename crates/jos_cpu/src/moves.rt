@@ -5,7 +5,7 @@ ghost use Rattle.jos_cpu.specs.declared.events.Event.TheVariants.{Next};
 ghost use Rattle.jos_cpu.specs.Effects.{exchange_effect, load_address_effect};
 
 use crate::addresses::address_of;
-use crate::forms::Place;
+use crate::forms::Site;
 use crate::places::{set_value_at, value_at};
 use crate::transfers::Inputs;
 use jos_alu::{Width, register_at, set_register, set_register_at};
@@ -15,7 +15,7 @@ use jos_isa::{Insn, Operand};
 /// XCHG; the result is the number for memory, which is that of the register.
 pub(crate) fn make_exchange(
     width: Width,
-    other: Place,
+    other: Site,
     insn: &Insn,
     regs: &mut Regs,
     inputs: &Inputs,

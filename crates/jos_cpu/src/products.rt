@@ -5,7 +5,7 @@ ghost use Rattle.jos_cpu.specs.declared.events.Event.TheVariants.{Next};
 ghost use Rattle.jos_cpu.specs.Effects.{IfRaised, product_effect, with_quotient, quotient_effect};
 
 use crate::events::Event;
-use crate::forms::Place;
+use crate::forms::Site;
 use crate::places::value_at;
 use crate::transfers::Inputs;
 use jos_alu::{
@@ -20,7 +20,7 @@ pub(crate) fn make_product(sign: Sign, width: Width, insn: &Insn, regs: &mut Reg
     ensures { product_effect sign width insn.now regs.old inputs.now ≡ record { registers = regs.new; value = 0; event = Next } }
 {
     let a = register_at(width, regs, 0);
-    let b = value_at(Place::Operand, width, insn, regs, inputs);
+    let b = value_at(Site::Operand, width, insn, regs, inputs);
     let n = product_of(sign, width, a, b);
     regs.eflags = product_flags(regs.eflags, is_too_long(sign, width, n));
     set_halves(width, regs, halves_of(width, n));
@@ -59,7 +59,7 @@ pub(crate) fn make_quotient(
     ensures done { quotient_effect sign width insn.now old.now regs.old inputs.now ≡ record { registers = regs.new; value = 0; event = result } }
     ensures kept { IfRaised result (regs.new ≡ old.now) }
 {
-    let divisor = value_at(Place::Operand, width, insn, regs, inputs);
+    let divisor = value_at(Site::Operand, width, insn, regs, inputs);
     let halves = quotient_of(sign, width, double_register(width, regs), divisor);
     set_quotient(halves, width, old, regs)
 }

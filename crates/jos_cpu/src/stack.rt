@@ -6,7 +6,7 @@ ghost use Rattle.jos_cpu.specs.Effects.{push_effect, with_esp_up, pop_effect, po
 ghost use Rattle.jos_cpu.specs.Effects.{leave_effect};
 
 use crate::accesses::below_stack;
-use crate::forms::Place;
+use crate::forms::Site;
 use crate::places::set_value_at;
 use crate::transfers::Inputs;
 use jos_alu::Width;
@@ -32,7 +32,7 @@ pub(crate) fn move_esp_up(regs: &mut Regs, n: u32)
 }
 
 /// POP; the result is the number for an operand in memory.
-pub(crate) fn pop(target: Place, insn: &Insn, regs: &mut Regs, value: u32) -> u32
+pub(crate) fn pop(target: Site, insn: &Insn, regs: &mut Regs, value: u32) -> u32
     ensures { pop_effect target insn.now regs.old value ≡ record { registers = regs.new; value = result; event = Next } }
 {
     move_esp_up(regs, 4);

@@ -3,11 +3,11 @@
 ghost use Rattle.std.specs.Prelude.{◌≡◌};
 ghost use Rattle.jos_cpu.specs.declared.events.Event.TheVariants.{Next};
 ghost use Rattle.jos_cpu.specs.Effects.{gives, string_step, with_esi, with_edi, compared, repetition_effect};
-ghost use Rattle.jos_cpu.specs.Effects.{compares, breaks, counted_down, gone_back, after_repetition, strings_effect};
+ghost use Rattle.jos_cpu.specs.Effects.{compares, breaks, counted_down, repeated_at, after_repetition, strings_effect};
 
-use crate::accesses::{is_over, is_repeated, length_of};
+use crate::accesses::{bytes_in_width, is_over, is_repeated};
 use crate::forms::StringOperation;
-use crate::places::{first_of, second_of};
+use crate::places::{first_input, second_input};
 use crate::transfers::Inputs;
 use jos_alu::{Width, is_set, register_at, set_register_at, subtract};
 use jos_base::{FL_DF, FL_ZF, Regs};
@@ -19,9 +19,9 @@ fn string_step(width: Width, eflags: u32) -> u32
     ensures { result ≡ string_step width eflags }
 {
     if is_set(eflags, FL_DF) {
-        0u32.wrapping_sub(length_of(width))
+        0u32.wrapping_sub(bytes_in_width(width))
     } else {
-        length_of(width)
+        bytes_in_width(width)
     }
 }
 
@@ -61,10 +61,10 @@ fn make_repetition(
         StringOperation::Movs => {
             move_esi(width, regs);
             move_edi(width, regs);
-            first_of(inputs)
+            first_input(inputs)
         }
         StringOperation::Cmps => {
-            compare(width, first_of(inputs), second_of(inputs), regs);
+            compare(width, first_input(inputs), second_input(inputs), regs);
             move_esi(width, regs);
             move_edi(width, regs);
             0
@@ -75,13 +75,13 @@ fn make_repetition(
             value
         }
         StringOperation::Lods => {
-            set_register_at(width, regs, 0, first_of(inputs));
+            set_register_at(width, regs, 0, first_input(inputs));
             move_esi(width, regs);
             0
         }
         StringOperation::Scas => {
             let value = register_at(width, regs, 0);
-            compare(width, value, first_of(inputs), regs);
+            compare(width, value, first_input(inputs), regs);
             move_edi(width, regs);
             0
         }
@@ -123,8 +123,8 @@ fn count_down(regs: &mut Regs)
 
 /// Puts EIP back to the instruction, unless this was the last repetition.
 #[inline(always)]
-fn go_back(operation: StringOperation, repeat: Repeat, ip: u32, regs: &mut Regs)
-    ensures { regs.new ≡ gone_back operation repeat ip regs.old }
+fn repeat_at(operation: StringOperation, repeat: Repeat, ip: u32, regs: &mut Regs)
+    ensures { regs.new ≡ repeated_at operation repeat ip regs.old }
 {
     if regs.ecx == 0 || compares(operation) && breaks(repeat, regs.eflags) {} else {
         regs.eip = ip;
@@ -144,7 +144,7 @@ fn finish_repetition(
 {
     if is_repeated(repeat) {
         count_down(regs);
-        go_back(operation, repeat, ip, regs);
+        repeat_at(operation, repeat, ip, regs);
         value
     } else {
         value

@@ -4,7 +4,7 @@ ghost use Rattle.std.specs.Prelude.{◌≡◌, true, [], ◌∷◌, ◌++◌};
 ghost use Rattle.jos_alu.specs.declared.width.Width.TheVariants.{Bits32};
 ghost use Rattle.jos_base.specs.declared.memory.Access.TheVariants.{Read, Write};
 ghost use Rattle.jos_cpu.specs.Memory.{all_allowed, after};
-ghost use Rattle.jos_cpu.specs.Accesses.{length_of, is_written, is_read};
+ghost use Rattle.jos_cpu.specs.Accesses.{bytes_in_width, is_written, is_read};
 ghost use Rattle.jos_cpu.specs.Probes.{is_open_at, is_open};
 ghost use Rattle.jos_cpu.specs.Transfers.{number_at, input_of, next_word, popped_words, inputs_of, number_for};
 ghost use Rattle.jos_cpu.specs.Transfers.{pushed_numbers, writes_of, stored_number, stored_all};
@@ -38,7 +38,7 @@ pub(crate) enum Inputs {
 #[tactic(auto, unfolding(crate::specs::Transfers::number_at, crate::specs::Memory::all_allowed))]
 #[inline(always)]
 fn number_at<M: Mem>(mem: &M, va: u32, width: Width) -> u32
-    requires { all_allowed (M.table.allowed (M.seen mem.now)) va (length_of width) Read ≡ true }
+    requires { all_allowed (M.table.allowed (M.seen mem.now)) va (bytes_in_width width) Read ≡ true }
     ensures { result ≡ number_at M.table (M.seen mem.now) va width }
 {
     if let Some(value) = mem.get_at_hand(width, va) {
@@ -77,7 +77,7 @@ fn input_of<M: Mem>(mem: &M, at: AccessAt) -> u32
 #[tactic(auto, unfolding(crate::specs::Transfers::stored_number, crate::specs::Memory::all_allowed))]
 #[inline(always)]
 fn store_number<M: Mem>(mem: &mut M, width: Width, va: u32, value: u32)
-    requires { all_allowed (M.table.allowed (M.seen mem.old)) va (length_of width) Write ≡ true }
+    requires { all_allowed (M.table.allowed (M.seen mem.old)) va (bytes_in_width width) Write ≡ true }
     ensures after { M.seen mem.new ≡ stored_number M.table (M.seen mem.old) width va value }
     ensures stays { M.table.allowed (M.seen mem.new) ≡ M.table.allowed (M.seen mem.old) }
 {

@@ -48,8 +48,8 @@ image_of (Ok code) = Some (image code)
 image_of (Err fault) = None
 
 -- the program of a name
-unfoldable pub named : List ℕ → Option Program
-named name =
+unfoldable pub program_named : List ℕ → Option Program
+program_named name =
     if bytes_eq name (codes "xhello") then Some xhello
     else if bytes_eq name (codes "hello") then Some hello
     else None
@@ -60,4 +60,4 @@ file_of_program (Some program) = image_of (finished program)
 
 -- the file of a name
 unfoldable pub file_of : List ℕ → Option (List ℕ)
-file_of name = file_of_program (named name)
+file_of name = file_of_program (program_named name)

@@ -1,8 +1,7 @@
 //! What programs are made of, and the image of a program.
 
-ghost use Rattle.std.specs.Prelude.{◌≡◌, ◌<◌, ◌≤◌, ◌^◌, IsTrue, IfOk, [], ◌∷◌, length};
+ghost use Rattle.std.specs.Prelude.{◌≡◌, ◌<◌, ◌≤◌, IsTrue, IfOk, length};
 ghost use Rattle.jos_isa.specs.Lawful.{is_lawful};
-ghost use Rattle.jos_elf.specs.Written.{written};
 ghost use Rattle.jos_demo.specs.Code.{int, image};
 
 use jos_asm::CODE_MAX;

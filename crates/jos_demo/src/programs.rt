@@ -9,7 +9,7 @@ ghost use Rattle.jos_asm.specs.Program.{finished};
 ghost use Rattle.jos_asm.specs.Calls.{IsFault};
 ghost use Rattle.jos_demo.specs.declared.code.TheConstants.{TEXT, EAX, ECX, EDX};
 ghost use Rattle.jos_demo.specs.Code.{int};
-ghost use Rattle.jos_demo.specs.Programs.{xhello, hello, named, file_of};
+ghost use Rattle.jos_demo.specs.Programs.{xhello, hello, program_named, file_of};
 
 use crate::code::{EAX, ECX, EDX, SERVICE_CPUTS, SERVICE_EXIT, TEXT, image, int};
 use jos_asm::{AsmFault, Builder, CODE_MAX};
@@ -63,10 +63,10 @@ fn hello(alloc: Global) -> Result<Builder, NoMemory>
 }
 
 /// The program of a name.
-#[tactic(auto, unfolding(crate::specs::Programs::named))]
-fn named(alloc: Global, name: &str) -> Result<Option<Builder>, NoMemory>
-    ensures exact { IfOk result (λ program. program ≡ named name.now) }
-    ensures unknown { named name.now ≡ None → result ≡ Ok None }
+#[tactic(auto, unfolding(crate::specs::Programs::program_named))]
+fn program_named(alloc: Global, name: &str) -> Result<Option<Builder>, NoMemory>
+    ensures exact { IfOk result (λ program. program ≡ program_named name.now) }
+    ensures unknown { program_named name.now ≡ None → result ≡ Ok None }
 {
     if name == "xhello" {
         Ok(Some(xhello(alloc)?))
@@ -116,7 +116,7 @@ pub fn program(alloc: Global, name: &str) -> Result<Option<Vec<u8>>, NoMemory>
     ensures exact { IfOk result (λ file. option_map (λ bytes. bytes.items) file ≡ file_of name.now) }
     ensures unknown { is_some (file_of name.now) ≡ false → result ≡ Ok None }
 {
-    match named(alloc, name)? {
+    match program_named(alloc, name)? {
         None => Ok(None),
         Some(program) => {
             let code = assemble(program)?;

@@ -9,7 +9,7 @@ use Rattle.std.proofs.lemmas.Bool.{leb-true}
 use Rattle.jos_elf.specs.declared.fault.ElfFault.{ElfFault}
 use Rattle.jos_elf.specs.declared.fault.ElfFault.TheVariants.{Truncated, SegmentRange, Overlap}
 use Rattle.jos_elf.specs.declared.image.Segment.{Segment}
-use Rattle.jos_elf.specs.Headers.{entry_of, entry_count_of, header_of}
+use Rattle.jos_elf.specs.Headers.{entry_point_of, entry_count_of, header_of}
 use Rattle.jos_elf.specs.Tests.{first_failed, is_loaded, is_placed, leaves_free, header_tests, overlap_tests}
 use Rattle.jos_elf.specs.Tests.{segment_tests, table_tests, tests}
 use Rattle.jos_elf.specs.Parsed.{Layout, segment_of, segments_of, parsed_bytes, Lies, Apart}
@@ -33,7 +33,7 @@ unfolding parsed_bytes tests
 parsed-table_failed total byte f e t = rw (passed-append (header_tests total byte) (table_tests total byte (entry_count_of byte)) e, t) refl
 
 pub parsed-passed : (total : ℕ) (byte : ℕ → ℕ) (entry : ℕ) (segments : List Segment) → first_failed (header_tests total byte) ≡ none → first_failed (table_tests total byte (entry_count_of byte)) ≡ none
-    → entry ≡ entry_of byte → segments ≡ segments_of byte (entry_count_of byte) → Ok (record { entry = entry; segments = segments }) ≡ parsed_bytes total byte
+    → entry ≡ entry_point_of byte → segments ≡ segments_of byte (entry_count_of byte) → Ok (record { entry = entry; segments = segments }) ≡ parsed_bytes total byte
 unfolding parsed_bytes tests
 parsed-passed total byte entry segments e t p q = rw (passed-append (header_tests total byte) (table_tests total byte (entry_count_of byte)) e, t, p, q) refl
 

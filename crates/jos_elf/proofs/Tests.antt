@@ -4,17 +4,17 @@ use Rattle.std.proofs.Common.{None, refl, ◌∙◌, arith}
 use Rattle.jos_elf.specs.declared.fault.ElfFault.{ElfFault}
 use Rattle.jos_elf.specs.declared.fault.ElfFault.TheVariants.{Overlap}
 use Rattle.jos_elf.specs.Headers.{header_of}
-use Rattle.jos_elf.specs.Tests.{Test, first_failed, is_loaded, leaves_free, overlap_tests, segment_tests, table_tests}
+use Rattle.jos_elf.specs.Tests.{FaultTest, first_failed, is_loaded, leaves_free, overlap_tests, segment_tests, table_tests}
 
 abbrev none : Option ElfFault
 none = None
 
-pub passed-append : (a b : List Test) → first_failed a ≡ none → first_failed (a ++ b) ≡ first_failed b
+pub passed-append : (a b : List FaultTest) → first_failed a ≡ none → first_failed (a ++ b) ≡ first_failed b
 passed-append [] b e = refl
 passed-append ((true, f) ∷ ts) b e = passed-append ts b e
 passed-append ((false, f) ∷ ts) b e = absurd cc
 
-pub failed-append : (a b : List Test) (f : ElfFault) → first_failed a ≡ Some f → first_failed (a ++ b) ≡ Some f
+pub failed-append : (a b : List FaultTest) (f : ElfFault) → first_failed a ≡ Some f → first_failed (a ++ b) ≡ Some f
 failed-append [] b f e = absurd cc
 failed-append ((true, g) ∷ ts) b f e = failed-append ts b f e
 failed-append ((false, g) ∷ ts) b f e = e
@@ -95,15 +95,15 @@ table-failed total byte n m f lt e h s =
 
 -- ---- all of them
 
-pub append-passed : (a b : List Test) → first_failed (a ++ b) ≡ none → (first_failed a ≡ none) × (first_failed b ≡ none)
+pub append-passed : (a b : List FaultTest) → first_failed (a ++ b) ≡ none → (first_failed a ≡ none) × (first_failed b ≡ none)
 append-passed [] b e = (refl, e)
 append-passed ((true, f) ∷ ts) b e = append-passed ts b e
 append-passed ((false, f) ∷ ts) b e = absurd cc
 
-pub cons-passed : (b : Bool) (f : ElfFault) (ts : List Test) → first_failed ((b, f) ∷ ts) ≡ none → (b ≡ true) × (first_failed ts ≡ none)
+pub cons-passed : (b : Bool) (f : ElfFault) (ts : List FaultTest) → first_failed ((b, f) ∷ ts) ≡ none → (b ≡ true) × (first_failed ts ≡ none)
 cons-passed true f ts e = (refl, e)
 cons-passed false f ts e = absurd cc
 
-pub passed-cons : (b : Bool) (f : ElfFault) (ts : List Test) → b ≡ true → first_failed ts ≡ none → first_failed ((b, f) ∷ ts) ≡ none
+pub passed-cons : (b : Bool) (f : ElfFault) (ts : List FaultTest) → b ≡ true → first_failed ts ≡ none → first_failed ((b, f) ∷ ts) ≡ none
 passed-cons true f ts h e = e
 passed-cons false f ts h e = absurd cc

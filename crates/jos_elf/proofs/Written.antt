@@ -17,10 +17,11 @@ use Rattle.jos_elf.specs.declared.header.ProgramHeader.{ProgramHeader}
 use Rattle.jos_elf.specs.declared.image.Segment.{Segment}
 use Rattle.jos_elf.specs.declared.writer.Part.{Part}
 use Rattle.jos_base.specs.declared.numbers.TheConstants.{USTABDATA, UTEMP, UTEXT, FDTABLE, SEGMENT_MAX}
+use Rattle.jos_base.specs.Words.{word_at}
 use Rattle.jos_elf.specs.declared.numbers.TheConstants.{ELFCLASS32, ELFDATA2LSB, ET_EXEC, EM_386, EHDR_LEN}
 use Rattle.jos_elf.specs.declared.numbers.TheConstants.{P_TYPE, P_OFFSET, P_VADDR, P_FILESZ, P_MEMSZ, P_FLAGS}
 use Rattle.jos_elf.specs.declared.numbers.TheConstants.{PT_LOAD, PF_W, PHDR_LEN}
-use Rattle.jos_elf.specs.Headers.{word_at, class_of, byte_order_of, kind_of, machine_of, entry_of, table_of}
+use Rattle.jos_elf.specs.Headers.{class_of, byte_order_of, file_type_of, machine_of, entry_point_of, table_of}
 use Rattle.jos_elf.specs.Headers.{entry_size_of, entry_count_of, program_header_at, header_of}
 use Rattle.jos_elf.specs.Tests.{first_failed, has_magic, is_loaded, is_placed, leaves_free, header_tests}
 use Rattle.jos_elf.specs.Tests.{overlap_tests, segment_tests, table_tests}
@@ -52,7 +53,7 @@ elf-class : (entry count : ℕ) (rest : List ℕ) → ((class_of (slice_index (e
 unfolding elf_header
 elf-class entry count rest = refl
 
-elf-kind : (entry count : ℕ) (rest : List ℕ) → kind_of (slice_index (elf_header entry count ++ rest)) ≡ ET_EXEC
+elf-kind : (entry count : ℕ) (rest : List ℕ) → file_type_of (slice_index (elf_header entry count ++ rest)) ≡ ET_EXEC
 unfolding elf_header
 elf-kind entry count rest = refl
 
@@ -72,7 +73,7 @@ elf-count : (entry count : ℕ) (rest : List ℕ) → count < 2 ^ 16 → entry_c
 unfolding elf_header
 elf-count entry count rest h = from_le_bytes-to_le_bytes_2 count h
 
-elf-entry : (entry count : ℕ) (rest : List ℕ) → entry < 2 ^ 32 → entry_of (slice_index (elf_header entry count ++ rest)) ≡ entry
+elf-entry : (entry count : ℕ) (rest : List ℕ) → entry < 2 ^ 32 → entry_point_of (slice_index (elf_header entry count ++ rest)) ≡ entry
 unfolding elf_header
 elf-entry entry count rest h = from_le_bytes-to_le_bytes_4 entry h
 
@@ -88,7 +89,7 @@ elf-passes entry count rest few long =
     let sized : length file ≡ EHDR_LEN + length rest = length-append (elf_header entry count) rest ∙ ap (λ (n : ℕ). n + length rest) (length-elf_header entry count) in
     let counted : entry_count_of (slice_index file) ≡ count = elf-count entry count rest (omega arith) in
     let table : table_of (slice_index file) ≡ EHDR_LEN = elf-table entry count rest in
-    passed-8 (nat_le EHDR_LEN (length file)) (has_magic (slice_index file)) ((class_of (slice_index file) == ELFCLASS32) && (byte_order_of (slice_index file) == ELFDATA2LSB)) (kind_of (slice_index file) == ET_EXEC) (machine_of (slice_index file) == EM_386) (entry_size_of (slice_index file) == PHDR_LEN)
+    passed-8 (nat_le EHDR_LEN (length file)) (has_magic (slice_index file)) ((class_of (slice_index file) == ELFCLASS32) && (byte_order_of (slice_index file) == ELFDATA2LSB)) (file_type_of (slice_index file) == ET_EXEC) (machine_of (slice_index file) == EM_386) (entry_size_of (slice_index file) == PHDR_LEN)
     (nat_le (entry_count_of (slice_index file)) SEGMENT_MAX) (nat_le (table_of (slice_index file) + PHDR_LEN * entry_count_of (slice_index file)) (length file))
     (Truncated (length file)) Magic Class Kind Machine EntrySize TooMany (Truncated (length file))
     (le-leb EHDR_LEN (length file) (omega arith)) (elf-magic entry count rest) (elf-class entry count rest)

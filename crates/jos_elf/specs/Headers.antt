@@ -2,7 +2,8 @@
 -- function from each place to the byte there.
 -- (System V ABI, edition 4.1, chapters 4 and 5: "ELF Header" and "Program Header", for 32-bit files.)
 use Rattle.std.specs.Prelude.{ℕ, ◌+◌, ◌*◌, [], ◌∷◌}
-use Rattle.std.specs.Int.{w16, w32, from_le_bytes}
+use Rattle.std.specs.Int.{w16, from_le_bytes}
+use Rattle.jos_base.specs.Words.{word_at}
 use Rattle.jos_elf.specs.declared.header.ProgramHeader.{ProgramHeader}
 use Rattle.jos_elf.specs.declared.numbers.TheConstants.{EI_CLASS, EI_DATA, E_TYPE, E_MACHINE, E_ENTRY, E_PHOFF}
 use Rattle.jos_elf.specs.declared.numbers.TheConstants.{E_PHENTSIZE, E_PHNUM}
@@ -12,9 +13,6 @@ use Rattle.jos_elf.specs.declared.numbers.TheConstants.{P_TYPE, P_OFFSET, P_VADD
 abbrev pub half_at : (ℕ → ℕ) → ℕ → ℕ
 half_at byte at = from_le_bytes w16 (byte at ∷ byte (at + 1) ∷ [])
 
-abbrev pub word_at : (ℕ → ℕ) → ℕ → ℕ
-word_at byte at = from_le_bytes w32 (byte at ∷ byte (at + 1) ∷ byte (at + 2) ∷ byte (at + 3) ∷ [])
-
 -- ---- the ELF header
 
 abbrev pub class_of : (ℕ → ℕ) → ℕ
@@ -23,14 +21,14 @@ class_of byte = byte EI_CLASS
 abbrev pub byte_order_of : (ℕ → ℕ) → ℕ
 byte_order_of byte = byte EI_DATA
 
-abbrev pub kind_of : (ℕ → ℕ) → ℕ
-kind_of byte = half_at byte E_TYPE
+abbrev pub file_type_of : (ℕ → ℕ) → ℕ
+file_type_of byte = half_at byte E_TYPE
 
 abbrev pub machine_of : (ℕ → ℕ) → ℕ
 machine_of byte = half_at byte E_MACHINE
 
-abbrev pub entry_of : (ℕ → ℕ) → ℕ
-entry_of byte = word_at byte E_ENTRY
+abbrev pub entry_point_of : (ℕ → ℕ) → ℕ
+entry_point_of byte = word_at byte E_ENTRY
 
 abbrev pub table_of : (ℕ → ℕ) → ℕ
 table_of byte = word_at byte E_PHOFF

@@ -4,7 +4,7 @@ use Rattle.std.specs.Prelude.{Option, Some, None, Result, Ok, Err, bit_and, if�
 use Rattle.jos_elf.specs.declared.fault.ElfFault.{ElfFault}
 use Rattle.jos_elf.specs.declared.header.ProgramHeader.{ProgramHeader}
 use Rattle.jos_elf.specs.declared.image.Segment.{Segment}
-use Rattle.jos_elf.specs.Headers.{entry_of, entry_count_of, header_of}
+use Rattle.jos_elf.specs.Headers.{entry_point_of, entry_count_of, header_of}
 use Rattle.jos_elf.specs.Tests.{is_loaded, first_failed, tests}
 use Rattle.jos_elf.specs.declared.numbers.TheConstants.{PF_W}
 use Rattle.jos_base.specs.declared.numbers.TheConstants.{USTABDATA, UTEMP, UTEXT, FDTABLE}
@@ -35,7 +35,7 @@ unless_failed (Some fault) image = Err fault
 -- A file of so many bytes that passes each of the tests is an image.
 unfoldable pub parsed_bytes : ℕ → (ℕ → ℕ) → Result Layout ElfFault
 parsed_bytes total byte =
-    unless_failed (first_failed (tests total byte)) (record { entry = entry_of byte; segments = segments_of byte (entry_count_of byte) })
+    unless_failed (first_failed (tests total byte)) (record { entry = entry_point_of byte; segments = segments_of byte (entry_count_of byte) })
 
 unfoldable pub parsed : List ℕ → Result Layout ElfFault
 parsed file = parsed_bytes (length file) (slice_index file)

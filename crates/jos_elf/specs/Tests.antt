@@ -7,18 +7,18 @@ use Rattle.jos_elf.specs.declared.fault.ElfFault.{ElfFault}
 use Rattle.jos_elf.specs.declared.fault.ElfFault.TheVariants.{Truncated, Magic, Class, Kind, Machine, EntrySize}
 use Rattle.jos_elf.specs.declared.fault.ElfFault.TheVariants.{TooMany, SegmentRange, Overlap}
 use Rattle.jos_elf.specs.declared.header.ProgramHeader.{ProgramHeader}
-use Rattle.jos_elf.specs.Headers.{class_of, byte_order_of, kind_of, machine_of, table_of, entry_size_of}
+use Rattle.jos_elf.specs.Headers.{class_of, byte_order_of, file_type_of, machine_of, table_of, entry_size_of}
 use Rattle.jos_elf.specs.Headers.{entry_count_of, header_of}
 use Rattle.jos_elf.specs.declared.numbers.TheConstants.{ELFCLASS32, ELFDATA2LSB, ET_EXEC, EM_386, PT_LOAD, EHDR_LEN}
 use Rattle.jos_elf.specs.declared.numbers.TheConstants.{PHDR_LEN}
 use Rattle.jos_base.specs.declared.numbers.TheConstants.{USTABDATA, UTEMP, UTEXT, FDTABLE, SEGMENT_MAX}
 
 -- a test and its fault
-abbrev pub Test : Type 0
-Test = Bool × ElfFault
+abbrev pub FaultTest : Type 0
+FaultTest = Bool × ElfFault
 
 -- the fault of the first test that fails
-abbrev pub first_failed : List Test → Option ElfFault
+abbrev pub first_failed : List FaultTest → Option ElfFault
 first_failed [] = None
 first_failed (test ∷ tests) = if test.0 then first_failed tests else Some test.1
 
@@ -28,12 +28,12 @@ has_magic byte = (byte 0 == 0x7f) && (byte 1 == 0x45) && (byte 2 == 0x4c) && (by
 
 -- Of the ELF header: an executable of 32-bit words with the lowest byte first, for the 80386, whose program
 -- headers have the usual size and stand in the file.
-unfoldable pub header_tests : ℕ → (ℕ → ℕ) → List Test
+unfoldable pub header_tests : ℕ → (ℕ → ℕ) → List FaultTest
 header_tests total byte =
     (nat_le EHDR_LEN total, Truncated total)
     ∷ (has_magic byte, Magic)
     ∷ ((class_of byte == ELFCLASS32) && (byte_order_of byte == ELFDATA2LSB), Class)
-    ∷ (kind_of byte == ET_EXEC, Kind)
+    ∷ (file_type_of byte == ET_EXEC, Kind)
     ∷ (machine_of byte == EM_386, Machine)
     ∷ (entry_size_of byte == PHDR_LEN, EntrySize)
     ∷ (nat_le (entry_count_of byte) SEGMENT_MAX, TooMany)
@@ -61,25 +61,25 @@ unfoldable pub leaves_free : ProgramHeader → ProgramHeader → Bool
 leaves_free header other = not (is_loaded header) || are_apart header other
 
 -- that the segment at a place of the table shares no byte with those at the first so many places, the least first
-unfoldable pub overlap_tests : (ℕ → ℕ) → ℕ → ℕ → List Test
+unfoldable pub overlap_tests : (ℕ → ℕ) → ℕ → ℕ → List FaultTest
 overlap_tests byte place zero = []
 overlap_tests byte place (suc n) =
     overlap_tests byte place n
     ++ (leaves_free (header_of byte n) (header_of byte place), Overlap place n) ∷ []
 
 -- of the segment at a place of the table
-unfoldable pub segment_tests : ℕ → (ℕ → ℕ) → ℕ → List Test
+unfoldable pub segment_tests : ℕ → (ℕ → ℕ) → ℕ → List FaultTest
 segment_tests total byte place =
     (nat_le ((header_of byte place).file_at + (header_of byte place).file_len) total, Truncated total)
     ∷ (is_placed (header_of byte place), SegmentRange place)
     ∷ overlap_tests byte place place
 
 -- of the first so many program headers
-unfoldable pub table_tests : ℕ → (ℕ → ℕ) → ℕ → List Test
+unfoldable pub table_tests : ℕ → (ℕ → ℕ) → ℕ → List FaultTest
 table_tests total byte zero = []
 table_tests total byte (suc n) =
     table_tests total byte n ++ (if is_loaded (header_of byte n) then segment_tests total byte n else [])
 
 -- all of them
-unfoldable pub tests : ℕ → (ℕ → ℕ) → List Test
+unfoldable pub tests : ℕ → (ℕ → ℕ) → List FaultTest
 tests total byte = header_tests total byte ++ table_tests total byte (entry_count_of byte)

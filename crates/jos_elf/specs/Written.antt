@@ -57,12 +57,12 @@ abbrev pub part_segments : List Part → List Segment
 part_segments parts = map (part_segment (headers_len parts)) parts
 
 -- what the file says
-abbrev pub image_of : ℕ → List Part → Layout
-image_of entry parts = record { entry = entry; segments = part_segments parts }
+abbrev pub written_layout : ℕ → List Part → Layout
+written_layout entry parts = record { entry = entry; segments = part_segments parts }
 
 -- the bytes of a part stand in the file where its segment says
-abbrev pub Holds : List ℕ → ℕ → List ℕ → Part → Type 0
-Holds file before bytes part =
+abbrev pub HoldsPart : List ℕ → ℕ → List ℕ → Part → Type 0
+HoldsPart file before bytes part =
     slice_range file (part_segment before part).file_at ((part_segment before part).file_at + part.len) ≡ slice_range bytes part.at (part.at + part.len)
 
 unfoldable pub written : ℕ → List Part → List ℕ → List ℕ

@@ -1,7 +1,8 @@
 //! The headers' fields.
 
 ghost use Rattle.std.specs.Prelude.{◌≡◌, ◌+◌, ◌*◌, ◌<◌, ◌≤◌, length, slice_index};
-ghost use Rattle.jos_elf.specs.Headers.{half_at, word_at, program_header_at, header_of, table_of, entry_count_of};
+ghost use Rattle.jos_base.specs.Words.{word_at};
+ghost use Rattle.jos_elf.specs.Headers.{half_at, program_header_at, header_of, table_of, entry_count_of};
 
 use crate::numbers::{
     E_PHOFF, EHDR_LEN, P_FILESZ, P_FLAGS, P_MEMSZ, P_OFFSET, P_TYPE, P_VADDR, PHDR_LEN, PT_LOAD,

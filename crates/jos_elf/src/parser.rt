@@ -1,11 +1,10 @@
 //! A file to an image.
 
 ghost use Rattle.std.specs.Prelude.{◌≡◌, ◌+◌, ◌*◌, ◌^◌, ◌<◌, ◌≤◌, length, slice_index, All, AllPairs, IfNone, IfOk};
-ghost use Rattle.std.specs.Prelude.{IsTrue};
 ghost use Rattle.jos_elf.specs.declared.image.Segment.{Segment};
 ghost use Rattle.jos_elf.specs.Headers.{table_of, entry_count_of, header_of};
 ghost use Rattle.jos_elf.specs.Tests.{first_failed, has_magic, header_tests, overlap_tests, segment_tests};
-ghost use Rattle.jos_elf.specs.Parsed.{parsed, segment_of, Lies, Apart};
+ghost use Rattle.jos_elf.specs.Parsed.{parsed, Lies, Apart};
 
 use crate::fault::ElfFault;
 use crate::header::{half_at, header_of, word_at};

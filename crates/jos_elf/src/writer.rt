@@ -2,8 +2,8 @@
 
 ghost use Rattle.std.specs.Prelude.{◌≡◌, ◌+◌, ◌^◌, ◌<◌, Ok, All, IfOk, length};
 ghost use Rattle.jos_elf.specs.Parsed.{parsed};
-ghost use Rattle.jos_elf.specs.Written.{elf_header, flags_of, program_header, headers_len, image_of, written};
-ghost use Rattle.jos_elf.specs.Written.{AreParts, Holds};
+ghost use Rattle.jos_elf.specs.Written.{elf_header, flags_of, program_header, headers_len, written_layout, written};
+ghost use Rattle.jos_elf.specs.Written.{AreParts, HoldsPart};
 
 use crate::image::Segment;
 use crate::numbers::{
@@ -93,8 +93,8 @@ pub fn write(alloc: Global, entry: u32, parts: &[Part], bytes: &[u8]) -> Result<
     requires small { headers_len parts.now + length bytes.now < 2 ^ 32 }
     ensures exact { IfOk result (λ file. file.items ≡ written entry parts.now bytes.now) }
     ensures small { IfOk result (λ file. length file.items < 2 ^ 32) }
-    ensures read { IfOk result (λ file. parsed file.items ≡ Ok (image_of entry parts.now)) }
-    ensures bytes { IfOk result (λ file. All (Holds file.items (headers_len parts.now) bytes.now) parts.now) }
+    ensures read { IfOk result (λ file. parsed file.items ≡ Ok (written_layout entry parts.now)) }
+    ensures bytes { IfOk result (λ file. All (HoldsPart file.items (headers_len parts.now) bytes.now) parts.now) }
 {
     let before = EHDR_LEN as u32 + PHDR_LEN as u32 * parts.len() as u32;
     let mut file = Vec::new(alloc);

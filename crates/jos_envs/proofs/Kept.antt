@@ -16,11 +16,11 @@ use Rattle.jos_base.specs.Environments.{slot_freed, allotted, new_slot, next_id,
 use Rattle.jos_envs.specs.declared.environment.Environment.{Environment}
 use Rattle.jos_envs.specs.declared.recent.Recent.{Recent}
 use Rattle.jos_envs.specs.Slots.{slot_of}
-use Rattle.jos_envs.specs.SlotSets.{contains, empty, IsFirst}
+use Rattle.jos_envs.specs.SlotSets.{contains, empty, IsFirstSlot}
 use Rattle.jos_envs.specs.Table.{Kept, unused, slots_of, from_last, environments, undone, undone_by, KeepsLive}
 use Rattle.jos_envs.specs.Table.{KeepsOthersLive, recent_slot}
 use Rattle.jos_envs.specs.Table.{slot_in, any_live, any_live_below, may_run}
-use Rattle.jos_envs.specs.Lawful.{Good, Lawful, place_of, IsLiveIn, free_count}
+use Rattle.jos_envs.specs.Lawful.{Good, Lawful, slot_at_place, IsLiveIn, free_count}
 use Rattle.jos_envs.proofs.Laws.{live_is, kept_good, freed_good, taken_good, room, len_most}
 use Rattle.std.proofs.lemmas.Bool.{cases_eq}
 use Rattle.jos_base.proofs.Maps.{upd-at, upd-other}
@@ -106,8 +106,8 @@ module _ (k : Kept) (n : ℕ) (e : Environment) (marks : List ℕ) (ok : Lawful 
   put_lawful = record {
     slots = length-set k.slots n e ∙ ok.slots;
     order = ok.order;
-    good = subst (λ (s : ℕ → Slot). Good s (place_of k.order) k.free_len (contains marks)) (sym put_slots)
-        (kept_good (slots_of k.slots) (place_of k.order) k.free_len (contains k.runnable) ok.good n (slot_of e) below was_live lives (contains marks)
+    good = subst (λ (s : ℕ → Slot). Good s (slot_at_place k.order) k.free_len (contains marks)) (sym put_slots)
+        (kept_good (slots_of k.slots) (slot_at_place k.order) k.free_len (contains k.runnable) ok.good n (slot_of e) below was_live lives (contains marks)
         (ap (λ (f : ℕ → Bool). f n) marked ∙ upd-at (contains k.runnable) n (is_runnable e.status))
         (λ q ne. ap (λ (f : ℕ → Bool). f q) marked ∙ upd-other (contains k.runnable) n (is_runnable e.status) q ne));
     recent = subst (λ (s : ℕ → Slot). IsLiveIn s k.recent) (sym put_slots) (recent_live k.recent ok.recent);
@@ -128,7 +128,7 @@ module _ (k : Kept) (n : ℕ) (ok : Lawful k) (live : is_live ((environments k).
   released_was = live_is ((environments k).slots n) live
 
   pub has_room : k.free_len < NENV
-  has_room = room (slots_of k.slots) (place_of k.order) k.free_len (contains k.runnable) ok.good n released_below released_was
+  has_room = room (slots_of k.slots) (slot_at_place k.order) k.free_len (contains k.runnable) ok.good n released_below released_was
 
   module _ (e : Environment) (len : ℕ) (marks : List ℕ) (id : ℕ) (cleared : slot_of e ≡ free_slot id) (more : len ≡ suc k.free_len)
       (marked : contains marks ≡ upd (contains k.runnable) n false) where
@@ -141,18 +141,18 @@ module _ (k : Kept) (n : ℕ) (ok : Lawful k) (live : is_live ((environments k).
     order_within : k.free_len < length k.order
     order_within = let l = ok.order in let b = has_room in omega (arith, l, b)
 
-    released_place : place_of released.order ≡ upd (place_of k.order) k.free_len n
+    released_place : slot_at_place released.order ≡ upd (slot_at_place k.order) k.free_len n
     released_place = λ i. λ p. get_or-set k.order k.free_len n 0 order_within p i
 
     pub released_lawful : Lawful released
     released_lawful = record {
       slots = length-set k.slots n e ∙ ok.slots;
       order = length-set k.order k.free_len n ∙ ok.order;
-      good = subst (λ (s : ℕ → Slot). Good s (place_of released.order) len (contains marks)) (sym released_slots)
+      good = subst (λ (s : ℕ → Slot). Good s (slot_at_place released.order) len (contains marks)) (sym released_slots)
           (subst (λ (p : ℕ → ℕ). Good (upd (slots_of k.slots) n (slot_of e)) p len (contains marks)) (sym released_place)
-          (subst (λ (m : ℕ → Bool). Good (upd (slots_of k.slots) n (slot_of e)) (upd (place_of k.order) k.free_len n) len m) (sym marked)
-          (subst (λ l. Good (upd (slots_of k.slots) n (slot_of e)) (upd (place_of k.order) k.free_len n) l (upd (contains k.runnable) n false)) (sym more)
-          (freed_good (slots_of k.slots) (place_of k.order) k.free_len (contains k.runnable) ok.good n (slot_of e) released_below released_was
+          (subst (λ (m : ℕ → Bool). Good (upd (slots_of k.slots) n (slot_of e)) (upd (slot_at_place k.order) k.free_len n) len m) (sym marked)
+          (subst (λ l. Good (upd (slots_of k.slots) n (slot_of e)) (upd (slot_at_place k.order) k.free_len n) l (upd (contains k.runnable) n false)) (sym more)
+          (freed_good (slots_of k.slots) (slot_at_place k.order) k.free_len (contains k.runnable) ok.good n (slot_of e) released_below released_was
           (ap (λ (z : Slot). is_free z.status) cleared) (subst (λ (z : Slot). z ≡ free_slot z.id) (sym cleared) refl)))));
       recent = tt;
     }
@@ -189,12 +189,12 @@ module _ (k : Kept) (ok : Lawful k) (some : k.free_len ≡ 0 → ⊥) where
   more : k.free_len ≡ suc m
   more = omega (arith, some)
 
-  good : Good (slots_of k.slots) (place_of k.order) (suc m) (contains k.runnable)
-  good = subst (λ l. Good (slots_of k.slots) (place_of k.order) l (contains k.runnable)) more ok.good
+  good : Good (slots_of k.slots) (slot_at_place k.order) (suc m) (contains k.runnable)
+  good = subst (λ l. Good (slots_of k.slots) (slot_at_place k.order) l (contains k.runnable)) more ok.good
 
   pub taken_place : m < length k.order
   taken_place =
-      let most = len_most (slots_of k.slots) (place_of k.order) k.free_len (contains k.runnable) ok.good in
+      let most = len_most (slots_of k.slots) (slot_at_place k.order) k.free_len (contains k.runnable) ok.good in
       let len = ok.order in
       let e = more in
       omega (arith, most, len, e)
@@ -237,9 +237,9 @@ module _ (k : Kept) (ok : Lawful k) (some : k.free_len ≡ 0 → ⊥) where
       taken_lawful = record {
         slots = length-set k.slots n e ∙ ok.slots;
         order = ok.order;
-        good = subst (λ (s : ℕ → Slot). Good s (place_of k.order) m (contains k.runnable)) (sym taken_slots)
-            (subst (λ z. Good (upd (slots_of k.slots) z (slot_of e)) (place_of k.order) m (contains k.runnable)) (sym place)
-            (taken_good (slots_of k.slots) (place_of k.order) m (contains k.runnable) good (slot_of e)
+        good = subst (λ (s : ℕ → Slot). Good s (slot_at_place k.order) m (contains k.runnable)) (sym taken_slots)
+            (subst (λ z. Good (upd (slots_of k.slots) z (slot_of e)) (slot_at_place k.order) m (contains k.runnable)) (sym place)
+            (taken_good (slots_of k.slots) (slot_at_place k.order) m (contains k.runnable) good (slot_of e)
             (ap (λ (z : Slot). is_free z.status) new) (ap (λ (z : Slot). is_runnable z.status) new)));
         recent = ap (λ (s : ℕ → Slot). is_live (s n)) taken_slots ∙ ap is_live (upd-at (slots_of k.slots) n (slot_of e)) ∙ ap is_live new;
       }
@@ -316,7 +316,7 @@ unused_is k ok = elim (live_or_none (slots_of k.slots) NENV) [
   | inr h ↦ (let count = ok.good.count in let e = h.0 in let fewer : nat_eq k.free_len NENV ≡ false = grind (arith, nat_tests) in fewer ∙ ap not (sym h.1))
 ]
 
-pub runnable_is : (k : Kept) (from : ℕ) (first : Option ℕ) → Lawful k → IsFirst (contains k.runnable) from first → IsFirst (may_run (environments k)) from first
+pub runnable_is : (k : Kept) (from : ℕ) (first : Option ℕ) → Lawful k → IsFirstSlot (contains k.runnable) from first → IsFirstSlot (may_run (environments k)) from first
 unfolding environments
 runnable_is k from None ok is = λ slot le lt. sym (ok.good.marked slot lt) ∙ is slot le lt
 runnable_is k from (Some slot) ok is = record {

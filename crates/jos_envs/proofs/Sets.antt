@@ -10,7 +10,7 @@ use Rattle.std.proofs.Math.Nat.{div-le_self}
 use Rattle.std.proofs.lemmas.Nat.Bits.{bit_at_set_same, bit_at_set_other, bit_at_clear_same, bit_at_clear_other}
 use Rattle.std.proofs.lemmas.Nat.Bits.{bit_at-trailing_zeros, bit_at-zero, bit_at_above}
 use Rattle.jos_base.specs.Words.{upd}
-use Rattle.jos_envs.specs.SlotSets.{contains, empty, IsFirstAt, IsLowest, IsLowestAt}
+use Rattle.jos_envs.specs.SlotSets.{contains, empty, IsFirstSlotAt, IsLowest, IsLowestAt}
 use Rattle.std.proofs.lemmas.Bool.{cases_eq, cases_lt}
 use Rattle.jos_base.proofs.Maps.{upd-at, upd-other}
 
@@ -115,7 +115,7 @@ module _ (words : List ℕ) (from slot : ℕ) (least : from ≤ slot) (below : s
         contains_near words slot other 0 same (clear (other % 64) (omega arith) (omega arith))
   ]
 
-  pub first_is : (place : ℕ) → IsLowestAt (get_or words (slot / 64) 0) (slot % 64) place → IsFirstAt (contains words) from (slot / 64 * 64 + place)
+  pub first_is : (place : ℕ) → IsLowestAt (get_or words (slot / 64) 0) (slot % 64) place → IsFirstSlotAt (contains words) from (slot / 64 * 64 + place)
   first_is place lowest =
       let behind = lowest.behind in
       let within = lowest.within in

@@ -23,8 +23,8 @@ pub record Good (slots : ℕ → Slot) (place : ℕ → ℕ) (free_len : ℕ) (r
   pub count : total NENV (λ n. free_count (slots n)) ≡ free_len
   pub marked : (n : ℕ) → n < NENV → runnable n ≡ is_runnable (slots n).status
 
-abbrev pub place_of : List ℕ → ℕ → ℕ
-place_of order p = get_or order p 0
+abbrev pub slot_at_place : List ℕ → ℕ → ℕ
+slot_at_place order p = get_or order p 0
 
 -- the slot that may be taken back is live
 abbrev pub IsLiveIn : (ℕ → Slot) → Option Recent → Type 0
@@ -34,5 +34,5 @@ IsLiveIn slots (Some recent) = is_live (slots recent.slot) ≡ true
 pub record Lawful (kept : Kept) : Type 0 where
   pub slots : length kept.slots ≡ NENV
   pub order : length kept.order ≡ NENV
-  pub good : Good (slots_of kept.slots) (place_of kept.order) kept.free_len (contains kept.runnable)
+  pub good : Good (slots_of kept.slots) (slot_at_place kept.order) kept.free_len (contains kept.runnable)
   pub recent : IsLiveIn (slots_of kept.slots) kept.recent

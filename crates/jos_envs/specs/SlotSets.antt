@@ -11,15 +11,15 @@ unfoldable pub empty : ℕ → Bool
 empty slot = false
 
 -- the first slot of the table, from a slot on, that passes the test; None where there is none
-pub record IsFirstAt (test : ℕ → Bool) (from slot : ℕ) : Type 0 where
+pub record IsFirstSlotAt (test : ℕ → Bool) (from slot : ℕ) : Type 0 where
   pub behind : from ≤ slot
   pub within : slot < NENV
   pub passes : test slot ≡ true
   pub others : (other : ℕ) → from ≤ other → other < slot → test other ≡ false
 
-abbrev pub IsFirst : (ℕ → Bool) → ℕ → Option ℕ → Type 0
-IsFirst test from None = (slot : ℕ) → from ≤ slot → slot < NENV → test slot ≡ false
-IsFirst test from (Some slot) = IsFirstAt test from slot
+abbrev pub IsFirstSlot : (ℕ → Bool) → ℕ → Option ℕ → Type 0
+IsFirstSlot test from None = (slot : ℕ) → from ≤ slot → slot < NENV → test slot ≡ false
+IsFirstSlot test from (Some slot) = IsFirstSlotAt test from slot
 
 -- the lowest bit of a word of 64 bits, from a place on, that is set; None where there is none
 pub record IsLowestAt (word place bit : ℕ) : Type 0 where

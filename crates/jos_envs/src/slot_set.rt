@@ -3,7 +3,7 @@
 ghost use Rattle.std.specs.Prelude.{◌≡◌, ◌<◌, ◌≤◌};
 ghost use Rattle.jos_base.specs.declared.numbers.TheConstants.{NENV};
 ghost use Rattle.jos_base.specs.Words.{upd};
-ghost use Rattle.jos_envs.specs.SlotSets.{contains, IsFirst, IsLowest, empty};
+ghost use Rattle.jos_envs.specs.SlotSets.{contains, IsFirstSlot, IsLowest, empty};
 
 use jos_base::NENV;
 
@@ -60,7 +60,7 @@ impl SlotSet {
     /// The first slot of the set from a slot on. This looks at no more than sixteen words.
     pub(crate) fn first_from(&self, from: usize) -> Option<usize>
         requires { from ≤ NENV }
-        ensures { IsFirst (contains self.now.words) from result }
+        ensures { IsFirstSlot (contains self.now.words) from result }
     {
         let mut slot = from;
         while slot < SLOTS {

@@ -7,7 +7,7 @@ ghost use Rattle.jos_base.specs.Environments.{is_live, is_free, with_slot, allot
 ghost use Rattle.jos_base.specs.Environments.{first_environments};
 ghost use Rattle.jos_ipc.specs.Messages.{rendezvous_of};
 ghost use Rattle.jos_envs.specs.Slots.{slot_of};
-ghost use Rattle.jos_envs.specs.SlotSets.{IsFirst};
+ghost use Rattle.jos_envs.specs.SlotSets.{IsFirstSlot};
 ghost use Rattle.jos_envs.specs.Table.{environments, recent_slot, undone, any_live, may_run};
 ghost use Rattle.jos_envs.specs.Table.{KeepsLive, KeepsOthersLive};
 
@@ -278,7 +278,7 @@ impl Table {
     /// The first slot, from a slot on, whose environment waits for a turn.
     pub fn first_runnable(&self, from: usize) -> Option<usize>
         requires { from ≤ NENV }
-        ensures { IsFirst (may_run (environments self.now)) from result }
+        ensures { IsFirstSlot (may_run (environments self.now)) from result }
     {
         self.runnable.first_from(from)
     }

@@ -12,7 +12,7 @@ pub record Named : Type 0 where
   pub name : List ℕ
   pub bytes : List ℕ
 
-pub record Held : Type 0 where
+pub record HostState : Type 0 where
   -- the names with their bytes; of a name that stands twice the first counts
   pub named : List Named
   -- the console input that is left
@@ -36,19 +36,19 @@ files_of [] = λ _. None
 files_of (file ∷ rest) = with_bytes (files_of rest) file.name file.bytes
 
 -- the host that has noted this call
-abbrev pub asking : Held → HostCall → List ℕ → Held
-asking h call name = record h { asked = h.asked ++ record { call = call; name = name } ∷ [] }
+abbrev pub with_asked : HostState → HostCall → List ℕ → HostState
+with_asked h call name = record h { asked = h.asked ++ record { call = call; name = name } ∷ [] }
 
 -- the host after a call that succeeded and changed nothing
-abbrev pub called : Held → Held
+abbrev pub called : HostState → HostState
 called h = record h { calls = risen h.calls }
 
 -- the host after a call that failed
-abbrev pub refused : Held → Held
-refused h = record h { calls = risen h.calls; faults = risen h.faults }
+abbrev pub call_failed : HostState → HostState
+call_failed h = record h { calls = risen h.calls; faults = risen h.faults }
 
 -- a call fails exactly where its number is listed
-abbrev pub FailsAsListed : {T E : Type 0} → Held → Result T E → Type 0
+abbrev pub FailsAsListed : {T E : Type 0} → HostState → Result T E → Type 0
 FailsAsListed host result = IsErr result ↔ Contains host.fails host.calls
 
 -- how many more bytes go into the list with no memory taken

@@ -15,7 +15,7 @@ pub(crate) fn refuse(faults: &mut u64) -> Failed
 }
 
 /// Counts a fault where something failed, of which no more is told.
-pub(crate) fn settle<T, E: Drop>(done: Result<T, E>, faults: &mut u64) -> Result<T, Failed>
+pub(crate) fn count_fault<T, E: Drop>(done: Result<T, E>, faults: &mut u64) -> Result<T, Failed>
     ensures same { result_ok result ≡ result_ok done }
     ensures went { OnOk result (faults.new ≡ faults.old) }
     ensures failed { OnErr result (faults.new ≡ risen faults.old) }

@@ -1,6 +1,6 @@
 //! The trait `Host`.
 
-ghost use Rattle.std.specs.Prelude.{◌≡◌, ℕ, ◌<◌, ◌≤◌, ◌^◌, List, Option, Some, None, IfOk, length};
+ghost use Rattle.std.specs.Prelude.{◌≡◌, ℕ, ◌<◌, ◌≤◌, ◌^◌, List, Option, IfOk, length};
 ghost use Rattle.jos_host.specs.Asked.{Asked, and_asked, and_noted};
 ghost use Rattle.jos_host.specs.Files.{Files};
 ghost use Rattle.jos_host.specs.Told.{HasCause, ReadsSize, ReadsAt, IsWithin, Creates, WritesAt, ReadsInput, Appends};

@@ -6,10 +6,10 @@ ghost use Rattle.std.specs.Str.{bytes_eq};
 ghost use Rattle.jos_host.specs.Count.{counted, risen};
 ghost use Rattle.jos_host.specs.Files.{with_bytes, bytes_of, overwritten};
 ghost use Rattle.jos_host.specs.Told.{ReadsAt};
-ghost use Rattle.jos_host.specs.MemHost.{files_of, asking, called, refused, FailsAsListed, room_of};
+ghost use Rattle.jos_host.specs.MemHost.{files_of, with_asked, called, call_failed, FailsAsListed, room_of};
 
 use crate::asked_log::AskedLog;
-use crate::faults::{refuse, settle};
+use crate::faults::{count_fault, refuse};
 use crate::{Failed, Host, HostCall};
 use std::alloc::{AllocError, Global};
 use std::marker::Model;
@@ -54,9 +54,9 @@ pub struct MemHost {
 
 impl Model for MemHost {
     ghost use Rattle.std.specs.Prelude.{◌≤◌, length, drop};
-    ghost use Rattle.jos_host.specs.MemHost.{Held, room_of};
+    ghost use Rattle.jos_host.specs.MemHost.{HostState, room_of};
 
-    ghost Value = { Held };
+    ghost Value = { HostState };
 
     ghost view = { λ h. record {
       named = h.files.items;
@@ -171,8 +171,8 @@ impl Host for MemHost {
     fn size(&mut self, name: &str) -> Result<Option<u64>, Failed>
         ensures listed { IsErr result ↔ Contains self.old.fails self.old.calls }
         ensures size { IfOk result (λ size. size ≡ option_map length (files_of self.old.named name.now)) }
-        ensures went { OnOk result (self.new ≡ called (asking self.old HostCall.Size name.now)) }
-        ensures failed { OnErr result (self.new ≡ refused (asking self.old HostCall.Size name.now)) }
+        ensures went { OnOk result (self.new ≡ called (with_asked self.old HostCall.Size name.now)) }
+        ensures failed { OnErr result (self.new ≡ call_failed (with_asked self.old HostCall.Size name.now)) }
     {
         self.asked.note(&HostCall::Size, name.as_bytes());
         begin(&self.fails, &mut self.calls, &mut self.faults)?;
@@ -184,8 +184,8 @@ impl Host for MemHost {
         ensures within { IfOk result (λ n. n ≤ length buf.old) }
         ensures told { IfOk result
             (λ n. ReadsAt (Some (files_of self.old.named)) name.now at buf.old buf.new n) }
-        ensures went { OnOk result (self.new ≡ called (asking self.old HostCall.Read name.now)) }
-        ensures failed { OnErr result (self.new ≡ refused (asking self.old HostCall.Read name.now)) }
+        ensures went { OnOk result (self.new ≡ called (with_asked self.old HostCall.Read name.now)) }
+        ensures failed { OnErr result (self.new ≡ call_failed (with_asked self.old HostCall.Read name.now)) }
         ensures untouched { OnErr result (buf.new ≡ buf.old) }
     {
         self.asked.note(&HostCall::Read, name.as_bytes());
@@ -201,12 +201,12 @@ impl Host for MemHost {
         ensures created { OnOk result
             (files_of self.new.named ≡ with_bytes (files_of self.old.named) name.now []) }
         ensures went { OnOk result (self.new
-            ≡ record (called (asking self.old HostCall.Create name.now)) { named = self.new.named }) }
-        ensures failed { OnErr result (self.new ≡ refused (asking self.old HostCall.Create name.now)) }
+            ≡ record (called (with_asked self.old HostCall.Create name.now)) { named = self.new.named }) }
+        ensures failed { OnErr result (self.new ≡ call_failed (with_asked self.old HostCall.Create name.now)) }
     {
         self.asked.note(&HostCall::Create, name.as_bytes());
         begin(&self.fails, &mut self.calls, &mut self.faults)?;
-        settle(empty(self.alloc, &mut self.files, name), &mut self.faults)
+        count_fault(empty(self.alloc, &mut self.files, name), &mut self.faults)
     }
 
     fn write_at(&mut self, name: &str, at: u64, bytes: &[u8]) -> Result<(), Failed>
@@ -220,12 +220,12 @@ impl Host for MemHost {
             ≡ with_bytes (files_of self.old.named) name.now
             (overwritten (bytes_of (files_of self.old.named) name.now) at bytes.now)) }
         ensures went { OnOk result (self.new
-            ≡ record (called (asking self.old HostCall.Write name.now)) { named = self.new.named }) }
-        ensures failed { OnErr result (self.new ≡ refused (asking self.old HostCall.Write name.now)) }
+            ≡ record (called (with_asked self.old HostCall.Write name.now)) { named = self.new.named }) }
+        ensures failed { OnErr result (self.new ≡ call_failed (with_asked self.old HostCall.Write name.now)) }
     {
         self.asked.note(&HostCall::Write, name.as_bytes());
         begin(&self.fails, &mut self.calls, &mut self.faults)?;
-        settle(
+        count_fault(
             store(self.alloc, &mut self.files, name, at, bytes),
             &mut self.faults,
         )
@@ -237,7 +237,7 @@ impl Host for MemHost {
         ensures taken { IfOk result (λ n. buf.new ≡ take n self.old.input ++ drop n buf.old) }
         ensures went { IfOk result
             (λ n. self.new ≡ record (called self.old) { input = drop n self.old.input }) }
-        ensures failed { OnErr result (self.new ≡ refused self.old) }
+        ensures failed { OnErr result (self.new ≡ call_failed self.old) }
         ensures untouched { OnErr result (buf.new ≡ buf.old) }
     {
         begin(&self.fails, &mut self.calls, &mut self.faults)?;
@@ -255,10 +255,10 @@ impl Host for MemHost {
           console = self.old.console ++ bytes.now;
           console_room = self.new.console_room;
         }) }
-        ensures failed { OnErr result (self.new ≡ refused self.old) }
+        ensures failed { OnErr result (self.new ≡ call_failed self.old) }
     {
         begin(&self.fails, &mut self.calls, &mut self.faults)?;
-        settle(append(&mut self.console, bytes), &mut self.faults)
+        count_fault(append(&mut self.console, bytes), &mut self.faults)
     }
 
     fn note_write(&mut self, bytes: &[u8]) -> Result<(), Failed>
@@ -266,15 +266,15 @@ impl Host for MemHost {
         // What the room holds takes no memory.
         ensures in_room { length bytes.now ≤ self.old.notes_room → FailsAsListed self.old result }
         ensures room { OnOk result (self.old.notes_room ≤ self.new.notes_room + length bytes.now) }
-        ensures went { OnOk result (self.new ≡ record (called (asking self.old HostCall.NoteWrite [])) {
+        ensures went { OnOk result (self.new ≡ record (called (with_asked self.old HostCall.NoteWrite [])) {
           notes = self.old.notes ++ bytes.now;
           notes_room = self.new.notes_room;
         }) }
-        ensures failed { OnErr result (self.new ≡ refused (asking self.old HostCall.NoteWrite [])) }
+        ensures failed { OnErr result (self.new ≡ call_failed (with_asked self.old HostCall.NoteWrite [])) }
     {
         self.asked.note(&HostCall::NoteWrite, &[]);
         begin(&self.fails, &mut self.calls, &mut self.faults)?;
-        settle(append(&mut self.notes, bytes), &mut self.faults)
+        count_fault(append(&mut self.notes, bytes), &mut self.faults)
     }
 }
 

@@ -4,7 +4,7 @@
 ghost use Rattle.std.specs.Prelude.{◌≡◌, ◌≤◌, None, IfOk, length};
 ghost use Rattle.jos_host.specs.Count.{counted};
 
-use crate::faults::settle;
+use crate::faults::count_fault;
 use crate::streams::{read_from, read_some, unless_absent, write_from, write_full};
 use crate::{Failed, Host};
 use std::fs::{Metadata, OpenOptions};
@@ -70,34 +70,34 @@ impl<R: Files + Input + Print, N: Print> Host for OsHost<R, N> {
     ghost faults_fit = { λ h. Prim.omega arith };
 
     fn size(&mut self, name: &str) -> Result<Option<u64>, Failed> {
-        settle(file_size(&self.runtime, name), &mut self.faults)
+        count_fault(file_size(&self.runtime, name), &mut self.faults)
     }
 
     fn read_at(&mut self, name: &str, at: u64, buf: &mut [u8]) -> Result<usize, Failed> {
-        settle(read_file(&self.runtime, name, at, buf), &mut self.faults)
+        count_fault(read_file(&self.runtime, name, at, buf), &mut self.faults)
     }
 
     fn create(&mut self, name: &str) -> Result<(), Failed> {
-        settle(create_file(&self.runtime, name), &mut self.faults)
+        count_fault(create_file(&self.runtime, name), &mut self.faults)
     }
 
     fn write_at(&mut self, name: &str, at: u64, bytes: &[u8]) -> Result<(), Failed> {
-        settle(write_file(&self.runtime, name, at, bytes), &mut self.faults)
+        count_fault(write_file(&self.runtime, name, at, bytes), &mut self.faults)
     }
 
     fn console_read(&mut self, buf: &mut [u8]) -> Result<usize, Failed> {
-        settle(read_some(&mut self.runtime.reader(), buf), &mut self.faults)
+        count_fault(read_some(&mut self.runtime.reader(), buf), &mut self.faults)
     }
 
     fn console_write(&mut self, bytes: &[u8]) -> Result<(), Failed> {
-        settle(
+        count_fault(
             write_full(&mut io::writer(&self.runtime), bytes),
             &mut self.faults,
         )
     }
 
     fn note_write(&mut self, bytes: &[u8]) -> Result<(), Failed> {
-        settle(
+        count_fault(
             write_full(&mut io::writer(&self.notes), bytes),
             &mut self.faults,
         )

@@ -1,6 +1,6 @@
 //! A rendezvous, and the offer of a word.
 
-ghost use Rattle.std.specs.Prelude.{◌≡◌, Some, None};
+ghost use Rattle.std.specs.Prelude.{◌≡◌};
 ghost use Rattle.jos_base.specs.Messages.{no_rendezvous, wanting, accepts, offered};
 ghost use Rattle.jos_ipc.specs.Messages.{rendezvous_of, taken_by};
 

@@ -17,12 +17,12 @@ use Rattle.jos_isa.specs.declared.opcode_map.Fields.TheVariants.{Register, Memor
 use Rattle.jos_isa.specs.declared.opcode_map.Choice.{Choice}
 use Rattle.jos_isa.specs.declared.opcode_map.Immediate.{Immediate}
 use Rattle.jos_isa.specs.declared.opcode_map.Map.TheVariants.{TwoByte, Repne, Rep}
-use Rattle.jos_isa.specs.declared.opcode_map.Entry.{Entry}
-use Rattle.jos_isa.specs.declared.opcode_map.Entry.TheVariants.{Unassigned, Complete, Behind}
+use Rattle.jos_isa.specs.declared.opcode_map.OpcodeEntry.{OpcodeEntry}
+use Rattle.jos_isa.specs.declared.opcode_map.OpcodeEntry.TheVariants.{Unassigned, Complete, Behind}
 use Rattle.jos_isa.specs.declared.row_opcodes.Opcode.{Opcode}
 use Rattle.jos_isa.specs.declared.row_opcodes.Opcode.TheVariants.{One, Two}
 use Rattle.jos_isa.specs.declared.behind_opcode.Chosen.{Chosen}
-use Rattle.jos_isa.specs.OpcodeMap.{entry_at, choice_of}
+use Rattle.jos_isa.specs.OpcodeMap.{opcode_entry, choice_of}
 use Rattle.jos_isa.specs.Spelling.{SpellsImmediate, SpellsOperand, SpellsFormat, SpellsOpcode, Spells}
 use Rattle.jos_isa.specs.RowOpcodes.{opcode_of, whole_format, format_in, field_of}
 use Rattle.jos_isa.specs.Lawful.{is_numbered, is_named, is_immediate, is_operand, is_absent, is_register}
@@ -38,26 +38,26 @@ use Rattle.std.proofs.lemmas.Bool.{ltb-true, and_parts}
 
 -- ---- opcodes
 
-two_byte_is : entry_at 0x0f ≡ Behind TwoByte
-unfolding entry_at
+two_byte_is : opcode_entry 0x0f ≡ Behind TwoByte
+unfolding opcode_entry
 two_byte_is = refl
 
-repne_is : entry_at 0xf2 ≡ Behind Repne
-unfolding entry_at
+repne_is : opcode_entry 0xf2 ≡ Behind Repne
+unfolding opcode_entry
 repne_is = refl
 
-rep_is : entry_at 0xf3 ≡ Behind Rep
-unfolding entry_at
+rep_is : opcode_entry 0xf3 ≡ Behind Rep
+unfolding opcode_entry
 rep_is = refl
 
-whole : (opcode : ℕ) (format : Format) (entry : Entry) → entry_at opcode ≡ entry → whole_format entry ≡ Some format → entry_at opcode ≡ Complete format
+whole : (opcode : ℕ) (format : Format) (entry : OpcodeEntry) → opcode_entry opcode ≡ entry → whole_format entry ≡ Some format → opcode_entry opcode ≡ Complete format
 whole opcode format Unassigned is e = absurd cc
 whole opcode format (Complete f) is e = cc
 whole opcode format (Behind map) is e = absurd cc
 
 opcode_spelled : (repeat : Repeat) (opcode : Opcode) (format : Format) → format_in repeat opcode ≡ Some format → SpellsOpcode format (opcode_bytes repeat opcode)
 unfolding format_in opcode_bytes
-opcode_spelled Once (One opcode) format e = whole opcode format (entry_at opcode) refl e
+opcode_spelled Once (One opcode) format e = whole opcode format (opcode_entry opcode) refl e
 opcode_spelled Once (Two opcode) format e = (TwoByte, two_byte_is, e)
 opcode_spelled WhileEqual (One opcode) format e = (Rep, rep_is, e)
 opcode_spelled WhileEqual (Two opcode) format e = absurd cc

@@ -16,7 +16,7 @@ use Rattle.jos_isa.specs.declared.opcode_map.OpcodeGroup.TheVariants.{Alu80}
 use Rattle.jos_isa.specs.declared.opcode_map.Choice.{Choice}
 use Rattle.jos_isa.specs.declared.opcode_map.Immediate.{Immediate}
 use Rattle.jos_isa.specs.declared.behind_opcode.Chosen.{Chosen}
-use Rattle.jos_isa.specs.declared.behind_opcode.Stop.TheVariants.{Short}
+use Rattle.jos_isa.specs.declared.behind_opcode.PartFault.TheVariants.{Short}
 use Rattle.jos_isa.specs.OpcodeMap.{choice_of, of_group, unary_f6, unary_f7, step_fe, step_ff}
 use Rattle.jos_isa.specs.Spelling.{SpellsImmediate, SpellsOperand, SpellsModRm, SpellsRest, SpellsFormat}
 use Rattle.jos_isa.specs.ClauseWords.{AreBytes}

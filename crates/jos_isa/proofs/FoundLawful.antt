@@ -19,15 +19,15 @@ use Rattle.jos_isa.specs.declared.opcode_map.Fields.{Fields}
 use Rattle.jos_isa.specs.declared.opcode_map.Choice.{Choice}
 use Rattle.jos_isa.specs.declared.opcode_map.Immediate.{Immediate}
 use Rattle.jos_isa.specs.declared.opcode_map.Immediate.TheVariants.{Nothing, Imm8, SignedImm8, Imm16, Imm32}
-use Rattle.jos_isa.specs.declared.opcode_map.Entry.{Entry}
+use Rattle.jos_isa.specs.declared.opcode_map.OpcodeEntry.{OpcodeEntry}
 use Rattle.jos_isa.specs.declared.behind_opcode.Sib.{Sib}
 use Rattle.jos_isa.specs.declared.behind_opcode.DispKind.TheVariants as disp_kind
-use Rattle.jos_isa.specs.declared.behind_opcode.Stop.{Stop}
-use Rattle.jos_isa.specs.declared.behind_opcode.Stop.TheVariants as stop
+use Rattle.jos_isa.specs.declared.behind_opcode.PartFault.{PartFault}
+use Rattle.jos_isa.specs.declared.behind_opcode.PartFault.TheVariants as fault
 use Rattle.jos_isa.specs.OpcodeMap.{choice_of}
-use Rattle.jos_isa.specs.Spelling.{sign_extended, SpellsImmediate, SpellsDisp, disp_kind_of, base_of, sib_of}
+use Rattle.jos_isa.specs.Spelling.{sign_extended_byte, SpellsImmediate, SpellsDisp, disp_kind_of, base_of, sib_of}
 use Rattle.jos_isa.specs.Spelling.{SpellsSib, SpellsMemory, SpellsOperand, SpellsFormat, SpellsOpcode, Spells}
-use Rattle.jos_isa.specs.Decoding.{instruction_at, answer_of, decoded}
+use Rattle.jos_isa.specs.Decoding.{instruction_at, decoded_from, decoded}
 use Rattle.jos_isa.specs.RowOpcodes.{opcode_of, format_in, field_of}
 use Rattle.jos_isa.specs.Lawful.{is_numbered, is_named, is_immediate, is_base, is_index, is_mem_arg, is_operand}
 use Rattle.jos_isa.specs.Lawful.{is_register, is_same_repeat, fits_choice, fits_format, format_for, is_lawful}
@@ -61,7 +61,7 @@ as_bytes bytes other e h = subst AreBytes e h
 u16_small : (a b : ℕ) → a < 256 → b < 256 → from_le_bytes w16 (a ∷ b ∷ []) < 0x1_0000
 u16_small a b p q = omega arith
 
-extended_lawful : (byte : ℕ) → byte < 256 → (nat_lt (sign_extended byte) 0x80 || nat_le 0xffff_ff80 (sign_extended byte)) ≡ true
+extended_lawful : (byte : ℕ) → byte < 256 → (nat_lt (sign_extended_byte byte) 0x80 || nat_le 0xffff_ff80 (sign_extended_byte byte)) ≡ true
 extended_lawful byte small = go (nat_lt byte 128) refl
   where
     go : (b : Bool) → nat_lt byte 128 ≡ b → (nat_lt (cond b byte (byte + 0xffff_ff00)) 0x80 || nat_le 0xffff_ff80 (cond b byte (byte + 0xffff_ff00))) ≡ true
@@ -181,7 +181,7 @@ chosen_returns fields false reg h = (and_parts (choice_returns true (choice_of f
 
 opcode_returns : (format : Format) (bytes : List ℕ) → SpellsOpcode format bytes → AreBytes bytes → format_returns format ≡ true
 opcode_returns format [] h are = absurd h
-opcode_returns format (b ∷ []) h are = subst (λ (e : Entry). entry_returns e ≡ true) h (first_returns b are.0)
+opcode_returns format (b ∷ []) h are = subst (λ (e : OpcodeEntry). entry_returns e ≡ true) h (first_returns b are.0)
 opcode_returns format (b ∷ s ∷ []) h are = subst (λ (o : Option Format). some_returns o ≡ true) h.2 (second_returns h.0 s are.1.0)
 opcode_returns format (b ∷ s ∷ t ∷ bytes) h are = absurd h
 
@@ -214,12 +214,12 @@ spelled_lawful insn bytes h are =
     let parts : AreBytes (h.1 ++ h.2) = as_bytes bytes (h.1 ++ h.2) h.3 are in
     format_lawful h.0 insn h.2 (opcode_returns h.0 h.1 h.4 (front_bytes h.1 h.2 parts)) h.5 (back_bytes h.1 h.2 parts)
 
-lawful_of : (bytes : List ℕ) (read : Result (Insn × List ℕ) Stop) → instruction_at bytes ≡ read → AreBytes bytes → IfFound (answer_of (length bytes) read) (λ insn len. is_lawful insn ≡ true)
+lawful_of : (bytes : List ℕ) (read : Result (Insn × List ℕ) PartFault) → instruction_at bytes ≡ read → AreBytes bytes → IfFound (decoded_from (length bytes) read) (λ insn len. is_lawful insn ≡ true)
 lawful_of bytes (Ok x) e are =
     let t = instructions.takes bytes x.0 x.1 e in
     spelled_lawful x.0 t.0 t.2 (front_bytes t.0 x.1 (as_bytes bytes (t.0 ++ x.1) t.1 are))
-lawful_of bytes (Err stop.Short) e are = tt
-lawful_of bytes (Err stop.Illegal) e are = tt
+lawful_of bytes (Err fault.Short) e are = tt
+lawful_of bytes (Err fault.Illegal) e are = tt
 
 pub found_lawful : (bytes : List ℕ) → ((i : ℕ) → get_or bytes i 0 < 256) → IfFound (decoded bytes) (λ insn len. is_lawful insn ≡ true)
 unfolding decoded

@@ -5,12 +5,12 @@ use Rattle.jos_isa.specs.declared.instruction.Disp.{Disp}
 use Rattle.jos_isa.specs.declared.instruction.Disp.TheVariants as disp
 use Rattle.jos_isa.specs.declared.opcode_map.Immediate.{Immediate}
 use Rattle.jos_isa.specs.declared.opcode_map.Immediate.TheVariants.{Nothing, Imm8, SignedImm8, Imm16, Imm32}
-use Rattle.jos_isa.specs.declared.behind_opcode.Stop.TheVariants.{Short}
+use Rattle.jos_isa.specs.declared.behind_opcode.PartFault.TheVariants.{Short}
 use Rattle.jos_isa.specs.declared.behind_opcode.DispKind.{DispKind}
 use Rattle.jos_isa.specs.declared.behind_opcode.DispKind.TheVariants as disp_kind
-use Rattle.jos_isa.specs.Spelling.{sign_extended, SpellsImmediate, SpellsDisp}
+use Rattle.jos_isa.specs.Spelling.{sign_extended_byte, SpellsImmediate, SpellsDisp}
 use Rattle.jos_isa.specs.ClauseWords.{AreBytes}
-use Rattle.jos_isa.specs.Decoding.{byte_at, u16_at, u32_at, immediate_at, disp_at}
+use Rattle.jos_isa.specs.Decoding.{next_byte, u16_at, u32_at, immediate_at, disp_at}
 use Rattle.jos_isa.proofs.Readers.{one_zero, two_zeros, three_zeros, four_zeros, Reads, always, mapped, widened, byte}
 use Rattle.jos_isa.proofs.Readers.{IsByte, taken_as, not_empty}
 
@@ -82,7 +82,7 @@ immediates Nothing = widened _ _ 0 4 (omega arith) (always 0 (SpellsImmediate No
 immediates Imm8 = widened _ _ 1 4 (omega arith) byte
 immediates SignedImm8 =
     widened _ _ 1 4 (omega arith)
-    (mapped byte_at sign_extended IsByte (SpellsImmediate SignedImm8) 1 (λ a bytes h. (a, refl, h)) (λ x bytes h. h) byte)
+    (mapped next_byte sign_extended_byte IsByte (SpellsImmediate SignedImm8) 1 (λ a bytes h. (a, refl, h)) (λ x bytes h. h) byte)
 immediates Imm16 = widened _ _ 2 4 (omega arith) u16
 immediates Imm32 = u32
 
@@ -90,7 +90,7 @@ immediates Imm32 = u32
 pub any_immediate : (immediate : Immediate) → (x : ℕ) × (bytes : List ℕ) × AreBytes bytes × SpellsImmediate immediate x bytes
 any_immediate Nothing = (0, [], tt, (refl, refl))
 any_immediate Imm8 = (0, 0 ∷ [], one_zero, refl)
-any_immediate SignedImm8 = (sign_extended 0, 0 ∷ [], one_zero, (0, refl, refl))
+any_immediate SignedImm8 = (sign_extended_byte 0, 0 ∷ [], one_zero, (0, refl, refl))
 any_immediate Imm16 = (_, 0 ∷ 0 ∷ [], two_zeros, (0, 0, refl, refl))
 any_immediate Imm32 = (_, 0 ∷ 0 ∷ 0 ∷ 0 ∷ [], four_zeros, (0, 0, 0, 0, refl, refl))
 
@@ -107,7 +107,7 @@ unfolding disp_at
 displacements disp_kind.Nothing = widened _ _ 0 4 (omega arith) (always disp.Zero (SpellsDisp disp_kind.Nothing) (refl, refl) (λ y bytes h. h))
 displacements disp_kind.Disp8 =
     widened _ _ 1 4 (omega arith)
-    (mapped byte_at signed_byte IsByte (SpellsDisp disp_kind.Disp8) 1 (λ a bytes h. (a, refl, h)) (λ x bytes h. h) byte)
+    (mapped next_byte signed_byte IsByte (SpellsDisp disp_kind.Disp8) 1 (λ a bytes h. (a, refl, h)) (λ x bytes h. h) byte)
 displacements disp_kind.Disp32 =
     mapped u32_at whole_word (SpellsImmediate Imm32) (SpellsDisp disp_kind.Disp32) 4
     (λ a bytes h. (h.0, h.1, h.2, h.3, ap whole_word h.4, h.5)) (λ x bytes h. (_, h.4, (h.0, h.1, h.2, h.3, refl, h.5))) u32

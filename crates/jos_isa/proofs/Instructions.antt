@@ -4,11 +4,11 @@ use Rattle.std.proofs.Common.{sym, ap, subst, ◌∙◌, arith}
 use Rattle.std.proofs.Math.Seq.{take-append_seam}
 use Rattle.std.proofs.lemmas.List.{length-append, append-nil}
 use Rattle.jos_isa.specs.declared.instruction.Insn.{Insn}
-use Rattle.jos_isa.specs.declared.behind_opcode.Stop.{Stop}
-use Rattle.jos_isa.specs.declared.behind_opcode.Stop.TheVariants as stop
+use Rattle.jos_isa.specs.declared.behind_opcode.PartFault.{PartFault}
+use Rattle.jos_isa.specs.declared.behind_opcode.PartFault.TheVariants as fault
 use Rattle.jos_isa.specs.declared.decoder.Decoded.TheVariants.{Found, Short}
 use Rattle.jos_isa.specs.Spelling.{Spells, SpellsOpcode, SpellsFormat}
-use Rattle.jos_isa.specs.Decoding.{opcode_at, insn_in_format, instruction_at, answer_of, decoded}
+use Rattle.jos_isa.specs.Decoding.{opcode_at, insn_in_format, instruction_at, decoded_from, decoded}
 use Rattle.jos_isa.specs.ClauseWords.{AreBytes, IfFound}
 use Rattle.jos_isa.proofs.Readers.{Reads, Joins, after, second_of, ok_is}
 use Rattle.jos_isa.proofs.Formats.{formats, any_format}
@@ -39,12 +39,12 @@ at_front bytes insn rest front e h =
     let taken : take (length bytes - length rest) bytes ≡ front = ap (λ (n : ℕ). take n bytes) len ∙ ap (λ (l : List ℕ). take (length front) l) e ∙ take-append_seam front rest in
     (omega arith, subst (λ (l : List ℕ). Spells insn l) (sym taken) h)
 
-found_of : (bytes : List ℕ) (read : Result (Insn × List ℕ) Stop) → instruction_at bytes ≡ read → IfFound (answer_of (length bytes) read) (IsAtFront bytes)
+found_of : (bytes : List ℕ) (read : Result (Insn × List ℕ) PartFault) → instruction_at bytes ≡ read → IfFound (decoded_from (length bytes) read) (IsAtFront bytes)
 found_of bytes (Ok x) e =
     let t = instructions.takes bytes x.0 x.1 e in
     at_front bytes x.0 x.1 t.0 t.1 t.2
-found_of bytes (Err stop.Short) e = tt
-found_of bytes (Err stop.Illegal) e = tt
+found_of bytes (Err fault.Short) e = tt
+found_of bytes (Err fault.Illegal) e = tt
 
 pub found : (bytes : List ℕ) → IfFound (decoded bytes) (λ insn len. (len ≤ length bytes) × Spells insn (take len bytes))
 unfolding decoded
@@ -58,10 +58,10 @@ only bytes insn front more e h =
     let len : length bytes - length more ≡ length front = omega arith in
     rw (read, len) refl
 
-short_of : (total : ℕ) (read : Result (Insn × List ℕ) Stop) → answer_of total read ≡ Short → read ≡ Err stop.Short
+short_of : (total : ℕ) (read : Result (Insn × List ℕ) PartFault) → decoded_from total read ≡ Short → read ≡ Err fault.Short
 short_of total (Ok x) e = absurd cc
-short_of total (Err stop.Short) e = refl
-short_of total (Err stop.Illegal) e = absurd cc
+short_of total (Err fault.Short) e = refl
+short_of total (Err fault.Illegal) e = absurd cc
 
 pub short : (bytes : List ℕ) → decoded bytes ≡ Short → (insn : Insn) × (next : ℕ) × (more : List ℕ) × AreBytes (next ∷ more) × Spells insn (bytes ++ next ∷ more)
 unfolding decoded
@@ -70,7 +70,7 @@ short bytes e = instructions.begins bytes (short_of (length bytes) (instruction_
 pub only_short : (bytes : List ℕ) (insn : Insn) (next : ℕ) (more : List ℕ) → Spells insn (bytes ++ next ∷ more) → decoded bytes ≡ Short
 unfolding decoded
 only_short bytes insn next more h =
-    let read : instruction_at bytes ≡ Err stop.Short = instructions.stops insn bytes next more h in
+    let read : instruction_at bytes ≡ Err fault.Short = instructions.stops insn bytes next more h in
     rw read refl
 
 pub alone : (insn other : Insn) (front more : List ℕ) → Spells insn front → Spells other (front ++ more) → (more ≡ []) × (insn ≡ other)

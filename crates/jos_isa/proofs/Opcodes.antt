@@ -3,10 +3,10 @@ use Rattle.std.proofs.Common.{◌≡◌, ℕ, ◌<◌, ◌≤◌, List, [], ◌�
 use Rattle.jos_isa.specs.declared.opcode_map.Format.{Format}
 use Rattle.jos_isa.specs.declared.opcode_map.Map.{Map}
 use Rattle.jos_isa.specs.declared.opcode_map.Map.TheVariants.{TwoByte, OperandSize, Repne, Rep}
-use Rattle.jos_isa.specs.declared.opcode_map.Entry.{Entry}
-use Rattle.jos_isa.specs.declared.opcode_map.Entry.TheVariants.{Unassigned, Complete, Behind}
-use Rattle.jos_isa.specs.declared.behind_opcode.Stop.TheVariants.{Short}
-use Rattle.jos_isa.specs.OpcodeMap.{entry_at, format_at, from_90, format_behind, two_byte_at, operand_size_at}
+use Rattle.jos_isa.specs.declared.opcode_map.OpcodeEntry.{OpcodeEntry}
+use Rattle.jos_isa.specs.declared.opcode_map.OpcodeEntry.TheVariants.{Unassigned, Complete, Behind}
+use Rattle.jos_isa.specs.declared.behind_opcode.PartFault.TheVariants.{Short}
+use Rattle.jos_isa.specs.OpcodeMap.{opcode_entry, format_at, from_90, format_behind, two_byte_at, operand_size_at}
 use Rattle.jos_isa.specs.OpcodeMap.{repne_at, rep_at}
 use Rattle.jos_isa.specs.Spelling.{SpellsOpcode}
 use Rattle.jos_isa.specs.ClauseWords.{AreBytes}
@@ -14,8 +14,8 @@ use Rattle.jos_isa.specs.Decoding.{format_or_illegal, format_in_entry, opcode_at
 use Rattle.jos_isa.proofs.Readers.{Reads, taken_as}
 
 -- the places that are looked up: some byte is an opcode, and some byte behind each of the four
-any_opcode : (format : Format) × (entry_at 0x90 ≡ Complete format)
-unfolding entry_at format_at from_90
+any_opcode : (format : Format) × (opcode_entry 0x90 ≡ Complete format)
+unfolding opcode_entry format_at from_90
 any_opcode = (_, refl)
 
 any_behind : (map : Map) → (format : Format) × (second : ℕ) × (second < 256) × (format_behind map second ≡ Some format)
@@ -26,17 +26,17 @@ any_behind Repne = (_, 0xa6, omega arith, refl)
 any_behind Rep = (_, 0xa6, omega arith, refl)
 
 module _ (b : ℕ) (format : Format) (rest : List ℕ) where
-  takes_second : (map : Map) (is : entry_at b ≡ Behind map) (s : ℕ) (bytes : List ℕ) (o : Option Format) → format_behind map s ≡ o → format_or_illegal o bytes ≡ Ok (format, rest)
+  takes_second : (map : Map) (is : opcode_entry b ≡ Behind map) (s : ℕ) (bytes : List ℕ) (o : Option Format) → format_behind map s ≡ o → format_or_illegal o bytes ≡ Ok (format, rest)
       → (front : List ℕ) × (b ∷ s ∷ bytes ≡ front ++ rest) × SpellsOpcode format front
   takes_second map is s bytes (Some f) second e = taken_as SpellsOpcode (b ∷ s ∷ bytes) (b ∷ s ∷ []) (f, bytes) (format, rest) e refl (map, is, second)
   takes_second map is s bytes None second e = absurd cc
 
-  takes_behind : (map : Map) (is : entry_at b ≡ Behind map) (bytes : List ℕ) → format_in_entry (Behind map) bytes ≡ Ok (format, rest) → (front : List ℕ) × (b ∷ bytes ≡ front ++ rest) × SpellsOpcode format front
+  takes_behind : (map : Map) (is : opcode_entry b ≡ Behind map) (bytes : List ℕ) → format_in_entry (Behind map) bytes ≡ Ok (format, rest) → (front : List ℕ) × (b ∷ bytes ≡ front ++ rest) × SpellsOpcode format front
   unfolding format_in_entry
   takes_behind map is [] e = absurd cc
   takes_behind map is (s ∷ bytes) e = takes_second map is s bytes (format_behind map s) refl e
 
-  takes_entry : (entry : Entry) (bytes : List ℕ) → entry_at b ≡ entry → format_in_entry entry bytes ≡ Ok (format, rest) → (front : List ℕ) × (b ∷ bytes ≡ front ++ rest) × SpellsOpcode format front
+  takes_entry : (entry : OpcodeEntry) (bytes : List ℕ) → opcode_entry b ≡ entry → format_in_entry entry bytes ≡ Ok (format, rest) → (front : List ℕ) × (b ∷ bytes ≡ front ++ rest) × SpellsOpcode format front
   unfolding format_in_entry
   takes_entry Unassigned bytes is e = absurd cc
   takes_entry (Complete f) bytes is e = taken_as SpellsOpcode (b ∷ bytes) (b ∷ []) (f, bytes) (format, rest) e refl is
@@ -45,7 +45,7 @@ module _ (b : ℕ) (format : Format) (rest : List ℕ) where
 takes : (bytes : List ℕ) (format : Format) (rest : List ℕ) → opcode_at bytes ≡ Ok (format, rest) → (front : List ℕ) × (bytes ≡ front ++ rest) × SpellsOpcode format front
 unfolding opcode_at
 takes [] format rest e = absurd cc
-takes (b ∷ bytes) format rest e = takes_entry b format rest (entry_at b) bytes refl e
+takes (b ∷ bytes) format rest e = takes_entry b format rest (opcode_entry b) bytes refl e
 
 again : (format : Format) (front rest : List ℕ) → SpellsOpcode format front → opcode_at (front ++ rest) ≡ Ok (format, rest)
 unfolding opcode_at format_in_entry
@@ -58,7 +58,7 @@ begins_second : (o : Option Format) (bytes : List ℕ) → format_or_illegal o b
 begins_second (Some f) bytes e = cc
 begins_second None bytes e = cc
 
-begins_entry : (b : ℕ) (entry : Entry) (bytes : List ℕ) → entry_at b ≡ entry → format_in_entry entry bytes ≡ Err Short → (format : Format) × (next : ℕ) × (more : List ℕ) × AreBytes (next ∷ more) × SpellsOpcode format (b ∷ bytes ++ next ∷ more)
+begins_entry : (b : ℕ) (entry : OpcodeEntry) (bytes : List ℕ) → opcode_entry b ≡ entry → format_in_entry entry bytes ≡ Err Short → (format : Format) × (next : ℕ) × (more : List ℕ) × AreBytes (next ∷ more) × SpellsOpcode format (b ∷ bytes ++ next ∷ more)
 unfolding format_in_entry
 begins_entry b Unassigned bytes is e = absurd cc
 begins_entry b (Complete f) bytes is e = absurd cc
@@ -68,7 +68,7 @@ begins_entry b (Behind map) (s ∷ bytes) is e = absurd (begins_second (format_b
 begins : (bytes : List ℕ) → opcode_at bytes ≡ Err Short → (format : Format) × (next : ℕ) × (more : List ℕ) × AreBytes (next ∷ more) × SpellsOpcode format (bytes ++ next ∷ more)
 unfolding opcode_at
 begins [] e = (any_opcode.0, 0x90, [], (omega arith, tt), any_opcode.1)
-begins (b ∷ bytes) e = begins_entry b (entry_at b) bytes refl e
+begins (b ∷ bytes) e = begins_entry b (opcode_entry b) bytes refl e
 
 stops : (format : Format) (bytes : List ℕ) (next : ℕ) (more : List ℕ) → SpellsOpcode format (bytes ++ next ∷ more) → opcode_at bytes ≡ Err Short
 unfolding opcode_at format_in_entry

@@ -8,7 +8,7 @@ use Rattle.jos_isa.specs.declared.instruction.Disp.{Disp}
 use Rattle.jos_isa.specs.declared.behind_opcode.Sib.{Sib}
 use Rattle.jos_isa.specs.Spelling.{disp_kind_of, base_of, sib_of, SpellsDisp, SpellsSib, SpellsMemory, SpellsOperand}
 use Rattle.jos_isa.specs.ClauseWords.{AreBytes}
-use Rattle.jos_isa.specs.Decoding.{byte_at, disp_at, sib_byte_at, sib_at, memory_at, in_memory, operand_at}
+use Rattle.jos_isa.specs.Decoding.{next_byte, disp_at, sib_byte_at, sib_at, memory_at, in_memory, operand_at}
 use Rattle.jos_isa.proofs.Readers.{are_append, one_zero, Reads, Joins, both, always, respelled, mapped, widened, byte}
 use Rattle.jos_isa.proofs.Readers.{IsByte, eqb-is, eqb-isnt, fields_of, ThreeFields, three_fields}
 use Rattle.jos_isa.proofs.Immediates.{displacements, any_displacement}
@@ -32,7 +32,7 @@ read_sib sib bytes h =
 
 sib_byte : Reads sib_byte_at SpellsSibByte 1
 unfolding sib_byte_at
-sib_byte = mapped byte_at sib_in IsByte SpellsSibByte 1 spelled_sib read_sib byte
+sib_byte = mapped next_byte sib_in IsByte SpellsSibByte 1 spelled_sib read_sib byte
 
 abbrev no_sib : ℕ → Sib
 no_sib rm = record { base = rm; index = None; scale = 0 }

@@ -16,10 +16,10 @@ use Rattle.jos_isa.specs.declared.opcode_map.Immediate.{Immediate}
 use Rattle.jos_isa.specs.declared.opcode_map.Immediate.TheVariants.{Nothing, Imm8, SignedImm8, Imm16, Imm32}
 use Rattle.jos_isa.specs.declared.opcode_map.Map.{Map}
 use Rattle.jos_isa.specs.declared.opcode_map.Map.TheVariants.{TwoByte, OperandSize, Repne, Rep}
-use Rattle.jos_isa.specs.declared.opcode_map.Entry.{Entry}
-use Rattle.jos_isa.specs.declared.opcode_map.Entry.TheVariants.{Unassigned, Complete, Behind}
+use Rattle.jos_isa.specs.declared.opcode_map.OpcodeEntry.{OpcodeEntry}
+use Rattle.jos_isa.specs.declared.opcode_map.OpcodeEntry.TheVariants.{Unassigned, Complete, Behind}
 use Rattle.jos_isa.specs.OpcodeMap.{is_shift, from_00, from_40, from_70, from_90, from_a0, from_b0, from_d0, from_f0}
-use Rattle.jos_isa.specs.OpcodeMap.{format_at, entry_at, two_byte_at, operand_size_at, repne_at, rep_at}
+use Rattle.jos_isa.specs.OpcodeMap.{format_at, opcode_entry, two_byte_at, operand_size_at, repne_at, rep_at}
 use Rattle.jos_isa.specs.OpcodeMap.{format_behind, unary_f6, unary_f7, step_fe, step_ff, of_group, choice_of}
 use Rattle.jos_isa.specs.RowOpcodes.{opcode_of, digit_of, format_in, field_of}
 use Rattle.jos_isa.specs.Lawful.{is_numbered, is_named, is_same_repeat}
@@ -76,7 +76,7 @@ shift_small k h = grind (arith, nat_tests)
 -- Whatever format stands at a row's opcode is of that row. The rows with a number and those with a register in the
 -- opcode are computed at each number; all others by themselves.
 pub leads_back : (row : Row) (repeat : Repeat) (reg : ℕ) → is_numbered row ≡ true → is_named row reg ≡ true → row_back row repeat reg ≡ row
-unfolding is_numbered is_named format_in opcode_of digit_of entry_at format_at from_00 from_40 from_70 from_90 from_a0 from_b0 from_d0 from_f0 format_behind two_byte_at operand_size_at repne_at rep_at of_group unary_f6 unary_f7 step_fe step_ff
+unfolding is_numbered is_named format_in opcode_of digit_of opcode_entry format_at from_00 from_40 from_70 from_90 from_a0 from_b0 from_d0 from_f0 format_behind two_byte_at operand_size_at repne_at rep_at of_group unary_f6 unary_f7 step_fe step_ff
 leads_back (row.AluRm8R8 k) repeat reg h s = each (λ r k. row_back (row.AluRm8R8 k) r reg) (λ r k. row.AluRm8R8 k) 8 refl refl refl repeat k (ltb-true k 8 h)
 leads_back (row.AluRm32R32 k) repeat reg h s = each (λ r k. row_back (row.AluRm32R32 k) r reg) (λ r k. row.AluRm32R32 k) 8 refl refl refl repeat k (ltb-true k 8 h)
 leads_back (row.AluR8Rm8 k) repeat reg h s = each (λ r k. row_back (row.AluR8Rm8 k) r reg) (λ r k. row.AluR8Rm8 k) 8 refl refl refl repeat k (ltb-true k 8 h)
@@ -154,25 +154,25 @@ abbrev pub some_returns : Option Format → Bool
 some_returns None = true
 some_returns (Some format) = format_returns format
 
-abbrev pub entry_returns : Entry → Bool
+abbrev pub entry_returns : OpcodeEntry → Bool
 entry_returns Unassigned = true
 entry_returns (Complete format) = format_returns format
 entry_returns (Behind map) = true
 
 -- computed over all entries of each map
-first_bytes : all_below (λ byte. entry_returns (entry_at byte)) 256 ≡ true
-unfolding is_numbered is_named choice_of field_of format_in opcode_of digit_of entry_at format_at from_00 from_40 from_70 from_90 from_a0 from_b0 from_d0 from_f0 format_behind two_byte_at operand_size_at repne_at rep_at of_group unary_f6 unary_f7 step_fe step_ff
+first_bytes : all_below (λ byte. entry_returns (opcode_entry byte)) 256 ≡ true
+unfolding is_numbered is_named choice_of field_of format_in opcode_of digit_of opcode_entry format_at from_00 from_40 from_70 from_90 from_a0 from_b0 from_d0 from_f0 format_behind two_byte_at operand_size_at repne_at rep_at of_group unary_f6 unary_f7 step_fe step_ff
 first_bytes = refl
 
 second_bytes : (map : Map) → all_below (λ byte. some_returns (format_behind map byte)) 256 ≡ true
-unfolding is_numbered is_named choice_of field_of format_in opcode_of digit_of entry_at format_at from_00 from_40 from_70 from_90 from_a0 from_b0 from_d0 from_f0 format_behind two_byte_at operand_size_at repne_at rep_at of_group unary_f6 unary_f7 step_fe step_ff
+unfolding is_numbered is_named choice_of field_of format_in opcode_of digit_of opcode_entry format_at from_00 from_40 from_70 from_90 from_a0 from_b0 from_d0 from_f0 format_behind two_byte_at operand_size_at repne_at rep_at of_group unary_f6 unary_f7 step_fe step_ff
 second_bytes TwoByte = refl
 second_bytes OperandSize = refl
 second_bytes Repne = refl
 second_bytes Rep = refl
 
-pub first_returns : (byte : ℕ) → byte < 256 → entry_returns (entry_at byte) ≡ true
-first_returns byte small = all_at (λ byte. entry_returns (entry_at byte)) 256 first_bytes byte small
+pub first_returns : (byte : ℕ) → byte < 256 → entry_returns (opcode_entry byte) ≡ true
+first_returns byte small = all_at (λ byte. entry_returns (opcode_entry byte)) 256 first_bytes byte small
 
 pub second_returns : (map : Map) (byte : ℕ) → byte < 256 → some_returns (format_behind map byte) ≡ true
 second_returns map byte small = all_at (λ byte. some_returns (format_behind map byte)) 256 (second_bytes map) byte small

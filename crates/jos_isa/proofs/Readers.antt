@@ -2,12 +2,13 @@
 use Rattle.std.proofs.Common.{◌≡◌, ℕ, ◌+◌, ◌*◌, ◌/◌, ◌%◌, ◌<◌, ◌≤◌, List, [], ◌∷◌, ◌++◌, length, Result, Ok, Err}
 use Rattle.std.proofs.Common.{refl, sym, ap, subst, ◌∙◌, append_assoc, arith, ◌⊎◌, inl, inr, true, false, nat_eq, ◌≢◌}
 use Rattle.std.proofs.lemmas.List.{length-append, append-nil}
-use Rattle.jos_isa.specs.declared.behind_opcode.Stop.{Stop}
-use Rattle.jos_isa.specs.declared.behind_opcode.Stop.TheVariants.{Short}
+use Rattle.jos_base.specs.Words.{◌>>=◌}
+use Rattle.jos_isa.specs.declared.behind_opcode.PartFault.{PartFault}
+use Rattle.jos_isa.specs.declared.behind_opcode.PartFault.TheVariants.{Short}
 use Rattle.jos_isa.specs.ClauseWords.{AreBytes}
-use Rattle.jos_isa.specs.Decoding.{◌>>=◌, byte_at}
+use Rattle.jos_isa.specs.Decoding.{next_byte}
 
-pub record Reads {A : Type 0} (read : List ℕ → Result (A × List ℕ) Stop) (IsSpelling : A → List ℕ → Type 0) (longest : ℕ) : Type 0 where
+pub record Reads {A : Type 0} (read : List ℕ → Result (A × List ℕ) PartFault) (IsSpelling : A → List ℕ → Type 0) (longest : ℕ) : Type 0 where
   -- what is read is spelled, and the rest is what follows
   pub takes : (bytes : List ℕ) (x : A) (rest : List ℕ) → read bytes ≡ Ok (x, rest) → (front : List ℕ) × (bytes ≡ front ++ rest) × IsSpelling x front
   -- what is spelled is read, whatever follows
@@ -38,19 +39,19 @@ four_zeros = (omega arith, three_zeros)
 
 -- ---- what a step gave
 
-abbrev pub done : {A : Type 0} → A → Result A Stop
+abbrev pub done : {A : Type 0} → A → Result A PartFault
 done x = Ok x
 
 pub ok_is : {A : Type 0} (x y : A) → done x ≡ done y → x ≡ y
 ok_is x y e = cc
 
 -- the value of a step that did not fail
-pub bind_ok : {A B : Type 0} (r : Result A Stop) (f : A → Result B Stop) (y : B) → (r >>= f) ≡ Ok y → (x : A) × (r ≡ Ok x) × (f x ≡ Ok y)
+pub bind_ok : {A B : Type 0} (r : Result A PartFault) (f : A → Result B PartFault) (y : B) → (r >>= f) ≡ Ok y → (x : A) × (r ≡ Ok x) × (f x ≡ Ok y)
 bind_ok (Ok x) f y e = (x, refl, e)
 bind_ok (Err d) f y e = absurd cc
 
 -- the step that failed
-pub bind_err : {A B : Type 0} (r : Result A Stop) (f : A → Result B Stop) (d : Stop) → (r >>= f) ≡ Err d → (r ≡ Err d) ⊎ ((x : A) × (r ≡ Ok x) × (f x ≡ Err d))
+pub bind_err : {A B : Type 0} (r : Result A PartFault) (f : A → Result B PartFault) (d : PartFault) → (r >>= f) ≡ Err d → (r ≡ Err d) ⊎ ((x : A) × (r ≡ Ok x) × (f x ≡ Err d))
 bind_err (Ok x) f d e = inr (x, refl, e)
 bind_err (Err c) f d e = inl (cc)
 
@@ -88,7 +89,7 @@ behind bytes front middle back rest e f = e ∙ ap (λ (l : List ℕ). front ++ 
 -- ---- the same reader
 
 -- under a larger bound
-pub widened : {A : Type 0} (read : List ℕ → Result (A × List ℕ) Stop) (P : A → List ℕ → Type 0) (n m : ℕ) → n ≤ m → Reads read P n → Reads read P m
+pub widened : {A : Type 0} (read : List ℕ → Result (A × List ℕ) PartFault) (P : A → List ℕ → Type 0) (n m : ℕ) → n ≤ m → Reads read P n → Reads read P m
 widened read P n m le r = record {
   takes = r.takes;
   again = r.again;
@@ -98,7 +99,7 @@ widened read P n m le r = record {
 }
 
 -- under another name
-pub renamed : {A : Type 0} (read other : List ℕ → Result (A × List ℕ) Stop) (P : A → List ℕ → Type 0) (n : ℕ) → ((bytes : List ℕ) → read bytes ≡ other bytes) → Reads read P n → Reads other P n
+pub renamed : {A : Type 0} (read other : List ℕ → Result (A × List ℕ) PartFault) (P : A → List ℕ → Type 0) (n : ℕ) → ((bytes : List ℕ) → read bytes ≡ other bytes) → Reads read P n → Reads other P n
 renamed read other P n same r = record {
   takes = λ bytes x rest e. r.takes bytes x rest (same bytes ∙ e);
   again = λ x front rest h. sym (same (front ++ rest)) ∙ r.again x front rest h;
@@ -109,7 +110,7 @@ renamed read other P n same r = record {
 
 -- ---- one reader after the other
 
-abbrev pub both_read : {A B C : Type 0} → (List ℕ → Result (A × List ℕ) Stop) → (A → List ℕ → Result (B × List ℕ) Stop) → (A → B → C) → List ℕ → Result (C × List ℕ) Stop
+abbrev pub both_read : {A B C : Type 0} → (List ℕ → Result (A × List ℕ) PartFault) → (A → List ℕ → Result (B × List ℕ) PartFault) → (A → B → C) → List ℕ → Result (C × List ℕ) PartFault
 both_read first second whole bytes = first bytes >>= λ p. second p.0 p.1 >>= λ q. Ok (whole p.0 q.0, q.1)
 
 -- a spelling of the whole in its two parts
@@ -129,7 +130,7 @@ pub record Joins {A B C : Type 0} (P : A → List ℕ → Type 0) (Q : A → B �
   pub parted : (c : C) (bytes : List ℕ) → R c bytes → Parted P Q whole c bytes
   pub follows : (a : A) → (b : B) × (back : List ℕ) × AreBytes back × Q a b back
 
-module _ {A B C : Type 0} (first : List ℕ → Result (A × List ℕ) Stop) (second : A → List ℕ → Result (B × List ℕ) Stop) (whole : A → B → C)
+module _ {A B C : Type 0} (first : List ℕ → Result (A × List ℕ) PartFault) (second : A → List ℕ → Result (B × List ℕ) PartFault) (whole : A → B → C)
     (P : A → List ℕ → Type 0) (Q : A → B → List ℕ → Type 0) (R : C → List ℕ → Type 0) (n m : ℕ)
     (one : Reads first P n) (two : (a : A) → Reads (second a) (Q a) m) (joins : Joins P Q whole R) where
   both-takes : (bytes : List ℕ) (c : C) (rest : List ℕ) → both_read first second whole bytes ≡ Ok (c, rest) → (front : List ℕ) × (bytes ≡ front ++ rest) × R c front
@@ -147,7 +148,7 @@ module _ {A B C : Type 0} (first : List ℕ → Result (A × List ℕ) Stop) (se
       let regrouped : front ++ rest ≡ p.front ++ (p.back ++ rest) = before front p.front p.back rest p.bytes_are in
       let s : first (front ++ rest) ≡ Ok (p.a, p.back ++ rest) = ap first regrouped ∙ one.again p.a p.front (p.back ++ rest) p.front_spells in
       let t : second p.a (p.back ++ rest) ≡ Ok (p.b, rest) = (two p.a).again p.b p.back rest p.back_spells in
-      rw (s, t) (ap {B = Result (C × List ℕ) Stop} (λ (z : C). Ok (z, rest)) (sym p.is))
+      rw (s, t) (ap {B = Result (C × List ℕ) PartFault} (λ (z : C). Ok (z, rest)) (sym p.is))
 
   both-begins : (bytes : List ℕ) → both_read first second whole bytes ≡ Err Short → (c : C) × (next : ℕ) × (more : List ℕ) × AreBytes (next ∷ more) × R c (bytes ++ next ∷ more)
   both-begins bytes e =
@@ -193,7 +194,7 @@ module _ {A B C : Type 0} (first : List ℕ → Result (A × List ℕ) Stop) (se
 
 -- ---- the reader of no byte
 
-abbrev pub nothing_at : List ℕ → Result (Unit {0} × List ℕ) Stop
+abbrev pub nothing_at : List ℕ → Result (Unit {0} × List ℕ) PartFault
 nothing_at bytes = Ok (tt, bytes)
 
 abbrev pub IsNothing : Unit {0} → List ℕ → Type 0
@@ -213,21 +214,21 @@ nothing = record {
 abbrev pub IsByte : ℕ → List ℕ → Type 0
 IsByte x bytes = bytes ≡ x ∷ []
 
-byte-takes : (bytes : List ℕ) (x : ℕ) (rest : List ℕ) → byte_at bytes ≡ Ok (x, rest) → (front : List ℕ) × (bytes ≡ front ++ rest) × IsByte x front
+byte-takes : (bytes : List ℕ) (x : ℕ) (rest : List ℕ) → next_byte bytes ≡ Ok (x, rest) → (front : List ℕ) × (bytes ≡ front ++ rest) × IsByte x front
 byte-takes [] x rest e = absurd cc
 byte-takes (b ∷ bytes) x rest e = taken_as IsByte (b ∷ bytes) (b ∷ []) (b, bytes) (x, rest) e refl refl
 
-byte-begins : (bytes : List ℕ) → byte_at bytes ≡ Err Short → (x : ℕ) × (next : ℕ) × (more : List ℕ) × AreBytes (next ∷ more) × IsByte x (bytes ++ next ∷ more)
+byte-begins : (bytes : List ℕ) → next_byte bytes ≡ Err Short → (x : ℕ) × (next : ℕ) × (more : List ℕ) × AreBytes (next ∷ more) × IsByte x (bytes ++ next ∷ more)
 byte-begins [] e = (0, 0, [], one_zero, refl)
 byte-begins (b ∷ bytes) e = absurd cc
 
-pub byte-stops : (x : ℕ) (bytes : List ℕ) (next : ℕ) (more : List ℕ) → IsByte x (bytes ++ next ∷ more) → byte_at bytes ≡ Err Short
+pub byte-stops : (x : ℕ) (bytes : List ℕ) (next : ℕ) (more : List ℕ) → IsByte x (bytes ++ next ∷ more) → next_byte bytes ≡ Err Short
 byte-stops x [] next more h = refl
 byte-stops x (b ∷ bytes) next more h =
     let tails : bytes ++ next ∷ more ≡ [] = cc in
     absurd (not_empty bytes next more tails)
 
-pub byte : Reads byte_at IsByte 1
+pub byte : Reads next_byte IsByte 1
 byte = record {
   takes = byte-takes;
   again = λ x front rest h. rw h refl;
@@ -249,7 +250,7 @@ always {A} x P here alone = record {
 }
 
 -- of the same bytes, spelled in other words
-pub respelled : {A : Type 0} (read : List ℕ → Result (A × List ℕ) Stop) (P Q : A → List ℕ → Type 0) (n : ℕ) → ((x : A) (bytes : List ℕ) → P x bytes → Q x bytes) → ((x : A) (bytes : List ℕ) → Q x bytes → P x bytes) → Reads read P n → Reads read Q n
+pub respelled : {A : Type 0} (read : List ℕ → Result (A × List ℕ) PartFault) (P Q : A → List ℕ → Type 0) (n : ℕ) → ((x : A) (bytes : List ℕ) → P x bytes → Q x bytes) → ((x : A) (bytes : List ℕ) → Q x bytes → P x bytes) → Reads read P n → Reads read Q n
 respelled read P Q n to from r = record {
   takes = λ bytes x rest e. let t = r.takes bytes x rest e in (t.0, t.1, to x t.0 t.2);
   again = λ x front rest h. r.again x front rest (from x front h);
@@ -259,10 +260,10 @@ respelled read P Q n to from r = record {
 }
 
 -- of the same bytes, which gives a function of what was read
-abbrev pub mapped_read : {A B : Type 0} → (List ℕ → Result (A × List ℕ) Stop) → (A → B) → List ℕ → Result (B × List ℕ) Stop
+abbrev pub mapped_read : {A B : Type 0} → (List ℕ → Result (A × List ℕ) PartFault) → (A → B) → List ℕ → Result (B × List ℕ) PartFault
 mapped_read read f bytes = read bytes >>= λ p. Ok (f p.0, p.1)
 
-pub mapped : {A B : Type 0} (read : List ℕ → Result (A × List ℕ) Stop) (f : A → B) (P : A → List ℕ → Type 0) (Q : B → List ℕ → Type 0) (n : ℕ)
+pub mapped : {A B : Type 0} (read : List ℕ → Result (A × List ℕ) PartFault) (f : A → B) (P : A → List ℕ → Type 0) (Q : B → List ℕ → Type 0) (n : ℕ)
     → ((a : A) (bytes : List ℕ) → P a bytes → Q (f a) bytes) → ((b : B) (bytes : List ℕ) → Q b bytes → (a : A) × (b ≡ f a) × P a bytes)
     → Reads read P n → Reads (mapped_read read f) Q n
 mapped {A} {B} read f P Q n to from r = widened _ Q (n + 0) n (omega arith) (both read (λ _. nothing_at) (λ x _. f x) P (λ _. IsNothing) Q n 0 r (λ _. nothing) joins)
@@ -276,14 +277,14 @@ mapped {A} {B} read f P Q n to from r = widened _ Q (n + 0) n (omega arith) (bot
 
 -- ---- a reader that the first one chooses
 
-abbrev pub after_read : {A C : Type 0} → (List ℕ → Result (A × List ℕ) Stop) → (A → List ℕ → Result (C × List ℕ) Stop) → List ℕ → Result (C × List ℕ) Stop
+abbrev pub after_read : {A C : Type 0} → (List ℕ → Result (A × List ℕ) PartFault) → (A → List ℕ → Result (C × List ℕ) PartFault) → List ℕ → Result (C × List ℕ) PartFault
 after_read first second bytes = first bytes >>= λ p. second p.0 p.1
 
-paired_again : {C : Type 0} (r : Result (C × List ℕ) Stop) → (r >>= λ q. Ok (q.0, q.1)) ≡ r
+paired_again : {C : Type 0} (r : Result (C × List ℕ) PartFault) → (r >>= λ q. Ok (q.0, q.1)) ≡ r
 paired_again (Ok q) = refl
 paired_again (Err e) = refl
 
-both_is_after : {A C : Type 0} (second : A → List ℕ → Result (C × List ℕ) Stop) (r : Result (A × List ℕ) Stop) → (r >>= λ p. second p.0 p.1 >>= λ q. Ok (q.0, q.1)) ≡ (r >>= λ p. second p.0 p.1)
+both_is_after : {A C : Type 0} (second : A → List ℕ → Result (C × List ℕ) PartFault) (r : Result (A × List ℕ) PartFault) → (r >>= λ p. second p.0 p.1 >>= λ q. Ok (q.0, q.1)) ≡ (r >>= λ p. second p.0 p.1)
 both_is_after second (Ok p) = paired_again (second p.0 p.1)
 both_is_after second (Err e) = refl
 
@@ -291,7 +292,7 @@ both_is_after second (Err e) = refl
 abbrev pub second_of : {A C : Type 0} → A → C → C
 second_of a c = c
 
-pub after : {A C : Type 0} (first : List ℕ → Result (A × List ℕ) Stop) (second : A → List ℕ → Result (C × List ℕ) Stop) (P : A → List ℕ → Type 0) (Q : A → C → List ℕ → Type 0) (R : C → List ℕ → Type 0) (n m : ℕ)
+pub after : {A C : Type 0} (first : List ℕ → Result (A × List ℕ) PartFault) (second : A → List ℕ → Result (C × List ℕ) PartFault) (P : A → List ℕ → Type 0) (Q : A → C → List ℕ → Type 0) (R : C → List ℕ → Type 0) (n m : ℕ)
     → Reads first P n → ((a : A) → Reads (second a) (Q a) m) → Joins P Q second_of R → Reads (after_read first second) R (n + m)
 after first second P Q R n m one two joins =
     renamed (both_read first second second_of) (after_read first second) R (n + m) (λ bytes. both_is_after second (first bytes)) (both first second second_of P Q R n m one two joins)

@@ -14,7 +14,7 @@ use Rattle.jos_isa.specs.declared.instruction.Disp.TheVariants as disp
 use Rattle.jos_isa.specs.declared.opcode_map.Immediate.{Immediate}
 use Rattle.jos_isa.specs.declared.opcode_map.Immediate.TheVariants.{Nothing, Imm8, SignedImm8, Imm16, Imm32}
 use Rattle.jos_isa.specs.declared.behind_opcode.Sib.{Sib}
-use Rattle.jos_isa.specs.Spelling.{sign_extended, SpellsImmediate, SpellsDisp, disp_kind_of, base_of, sib_of}
+use Rattle.jos_isa.specs.Spelling.{sign_extended_byte, SpellsImmediate, SpellsDisp, disp_kind_of, base_of, sib_of}
 use Rattle.jos_isa.specs.Spelling.{SpellsSib, SpellsMemory}
 use Rattle.jos_isa.specs.Lawful.{is_immediate, is_base, is_index, is_mem_arg}
 use Rattle.jos_isa.specs.ClauseWords.{DispFits}
@@ -34,7 +34,7 @@ two_bytes n small = (_, _, sym (from_le_bytes-to_le_bytes_2 n small), refl)
 four_bytes : (n : ℕ) → n < 2 ^ 32 → SpellsImmediate Imm32 n (to_le_bytes w32 n)
 four_bytes n small = (_, _, _, _, sym (from_le_bytes-to_le_bytes_4 n small), refl)
 
-extended_again : (n : ℕ) → n < 2 ^ 32 → (nat_lt n 0x80 || nat_le 0xffff_ff80 n) ≡ true → n ≡ sign_extended (n % 0x100)
+extended_again : (n : ℕ) → n < 2 ^ 32 → (nat_lt n 0x80 || nat_le 0xffff_ff80 n) ≡ true → n ≡ sign_extended_byte (n % 0x100)
 extended_again n small h = go (nat_lt (n % 0x100) 128) refl (or_cases (nat_lt n 0x80) (nat_le 0xffff_ff80 n) h)
   where
     go : (b : Bool) → nat_lt (n % 0x100) 128 ≡ b → (nat_lt n 0x80 ≡ true) ⊎ (nat_le 0xffff_ff80 n ≡ true) → n ≡ cond b (n % 0x100) (n % 0x100 + 0xffff_ff00)

@@ -7,12 +7,12 @@ use Rattle.jos_isa.specs.declared.instruction.Operand.{Operand}
 use Rattle.jos_isa.specs.declared.instruction.Operand.TheVariants.{Absent, Reg, Mem}
 use Rattle.jos_isa.specs.declared.instruction.Disp.{Disp}
 use Rattle.jos_isa.specs.declared.instruction.Disp.TheVariants.{Zero, Byte, Word}
-use Rattle.jos_isa.specs.declared.behind_opcode.Stop.{Stop}
+use Rattle.jos_isa.specs.declared.behind_opcode.PartFault.{PartFault}
 use Rattle.jos_isa.specs.declared.decoder.Decoded.{Decoded}
 use Rattle.jos_isa.specs.declared.decoder.Decoded.TheVariants.{Found, Short, Illegal}
 
 -- What a function returned, seen by view, is what the definition gives.
-abbrev pub Gives : {X Y : Type 0} → (X → Y) → Result X Stop → Result Y Stop → Type 0
+abbrev pub Gives : {X Y : Type 0} → (X → Y) → Result X PartFault → Result Y PartFault → Type 0
 Gives view (Ok x) read = read ≡ Ok (view x)
 Gives view (Err e) read = read ≡ Err e
 

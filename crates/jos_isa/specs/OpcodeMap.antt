@@ -17,8 +17,8 @@ use Rattle.jos_isa.specs.declared.opcode_map.Immediate.{Immediate}
 use Rattle.jos_isa.specs.declared.opcode_map.Immediate.TheVariants.{Nothing, Imm8, SignedImm8, Imm16, Imm32}
 use Rattle.jos_isa.specs.declared.opcode_map.Map.{Map}
 use Rattle.jos_isa.specs.declared.opcode_map.Map.TheVariants.{TwoByte, OperandSize, Repne, Rep}
-use Rattle.jos_isa.specs.declared.opcode_map.Entry.{Entry}
-use Rattle.jos_isa.specs.declared.opcode_map.Entry.TheVariants.{Unassigned, Complete, Behind}
+use Rattle.jos_isa.specs.declared.opcode_map.OpcodeEntry.{OpcodeEntry}
+use Rattle.jos_isa.specs.declared.opcode_map.OpcodeEntry.TheVariants.{Unassigned, Complete, Behind}
 
 -- low ≤ opcode ≤ high
 abbrev pub is_among : ℕ → ℕ → ℕ → Bool
@@ -168,13 +168,13 @@ format_at opcode =
     else if is_among 0xd0 0xef opcode then from_d0 opcode
     else from_f0 opcode
 
-abbrev pub complete : Option Format → Entry
+abbrev pub complete : Option Format → OpcodeEntry
 complete (Some format) = Complete format
 complete None = Unassigned
 
 -- The first byte: of four the second byte decides.
-unfoldable pub entry_at : ℕ → Entry
-entry_at byte =
+unfoldable pub opcode_entry : ℕ → OpcodeEntry
+opcode_entry byte =
     if byte == 0x0f then Behind TwoByte
     else if byte == 0x66 then Behind OperandSize
     else if byte == 0xf2 then Behind Repne

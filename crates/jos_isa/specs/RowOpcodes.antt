@@ -10,11 +10,11 @@ use Rattle.jos_isa.specs.declared.opcode_map.Format.{Format}
 use Rattle.jos_isa.specs.declared.opcode_map.Fields.{Fields}
 use Rattle.jos_isa.specs.declared.opcode_map.Fields.TheVariants.{Register, MemoryOnly, NoRegister, Group}
 use Rattle.jos_isa.specs.declared.opcode_map.Map.TheVariants.{TwoByte, Repne, Rep}
-use Rattle.jos_isa.specs.declared.opcode_map.Entry.{Entry}
-use Rattle.jos_isa.specs.declared.opcode_map.Entry.TheVariants.{Unassigned, Complete, Behind}
+use Rattle.jos_isa.specs.declared.opcode_map.OpcodeEntry.{OpcodeEntry}
+use Rattle.jos_isa.specs.declared.opcode_map.OpcodeEntry.TheVariants.{Unassigned, Complete, Behind}
 use Rattle.jos_isa.specs.declared.row_opcodes.Opcode.{Opcode}
 use Rattle.jos_isa.specs.declared.row_opcodes.Opcode.TheVariants.{One, Two}
-use Rattle.jos_isa.specs.OpcodeMap.{entry_at, format_behind}
+use Rattle.jos_isa.specs.OpcodeMap.{opcode_entry, format_behind}
 
 -- The opcode: one byte, or one behind 0F. Where it names a register, that is reg.
 unfoldable pub opcode_of : Row → ℕ → Opcode
@@ -177,14 +177,14 @@ digit_of row.JmpRm32 = 4
 digit_of row.PushRm32 = 6
 digit_of _ = 0
 
-abbrev pub whole_format : Entry → Option Format
+abbrev pub whole_format : OpcodeEntry → Option Format
 whole_format (Complete format) = Some format
 whole_format Unassigned = None
 whole_format (Behind map) = None
 
 -- the format that stands at an opcode, behind the prefix of a repetition where there is one
 unfoldable pub format_in : Repeat → Opcode → Option Format
-format_in Once (One opcode) = whole_format (entry_at opcode)
+format_in Once (One opcode) = whole_format (opcode_entry opcode)
 format_in Once (Two opcode) = format_behind TwoByte opcode
 format_in WhileEqual (One opcode) = format_behind Rep opcode
 format_in WhileEqual (Two opcode) = None

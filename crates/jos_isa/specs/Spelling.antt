@@ -17,24 +17,24 @@ use Rattle.jos_isa.specs.declared.opcode_map.Fields.{Fields}
 use Rattle.jos_isa.specs.declared.opcode_map.Immediate.{Immediate}
 use Rattle.jos_isa.specs.declared.opcode_map.Immediate.TheVariants.{Nothing, Imm8, SignedImm8, Imm16, Imm32}
 use Rattle.jos_isa.specs.declared.opcode_map.Map.{Map}
-use Rattle.jos_isa.specs.declared.opcode_map.Entry.TheVariants.{Complete, Behind}
+use Rattle.jos_isa.specs.declared.opcode_map.OpcodeEntry.TheVariants.{Complete, Behind}
 use Rattle.jos_isa.specs.declared.behind_opcode.DispKind.{DispKind}
 use Rattle.jos_isa.specs.declared.behind_opcode.DispKind.TheVariants as disp_kind
 use Rattle.jos_isa.specs.declared.behind_opcode.Sib.{Sib}
 use Rattle.jos_isa.specs.declared.behind_opcode.Chosen.{Chosen}
-use Rattle.jos_isa.specs.OpcodeMap.{entry_at, format_behind, choice_of}
+use Rattle.jos_isa.specs.OpcodeMap.{opcode_entry, format_behind, choice_of}
 
 -- ---- immediates
 
 -- a byte as a word of the same signed value
-abbrev pub sign_extended : ℕ → ℕ
-sign_extended byte = if nat_lt byte 128 then byte else byte + 0xffff_ff00
+abbrev pub sign_extended_byte : ℕ → ℕ
+sign_extended_byte byte = if nat_lt byte 128 then byte else byte + 0xffff_ff00
 
 -- no byte; a byte; a byte that is extended with its sign; two bytes or four, the lowest first
 abbrev pub SpellsImmediate : Immediate → ℕ → List ℕ → Type 0
 SpellsImmediate Nothing value bytes = (value ≡ 0) × (bytes ≡ [])
 SpellsImmediate Imm8 value bytes = bytes ≡ value ∷ []
-SpellsImmediate SignedImm8 value bytes = (byte : ℕ) × (value ≡ sign_extended byte) × (bytes ≡ byte ∷ [])
+SpellsImmediate SignedImm8 value bytes = (byte : ℕ) × (value ≡ sign_extended_byte byte) × (bytes ≡ byte ∷ [])
 SpellsImmediate Imm16 value bytes = (a b : ℕ) × (value ≡ from_le_bytes w16 (a ∷ b ∷ [])) × (bytes ≡ a ∷ b ∷ [])
 SpellsImmediate Imm32 value bytes =
     (a b c d : ℕ) × (value ≡ from_le_bytes w32 (a ∷ b ∷ c ∷ d ∷ [])) × (bytes ≡ a ∷ b ∷ c ∷ d ∷ [])
@@ -118,8 +118,8 @@ SpellsFormat (ModRm fields) insn bytes =
 
 -- an opcode of one byte, or of one that leads to a map and one of that map
 abbrev pub SpellsOpcode : Format → List ℕ → Type 0
-SpellsOpcode format (byte ∷ []) = entry_at byte ≡ Complete format
-SpellsOpcode format (byte ∷ second ∷ []) = (map : Map) × (entry_at byte ≡ Behind map) × (format_behind map second ≡ Some format)
+SpellsOpcode format (byte ∷ []) = opcode_entry byte ≡ Complete format
+SpellsOpcode format (byte ∷ second ∷ []) = (map : Map) × (opcode_entry byte ≡ Behind map) × (format_behind map second ≡ Some format)
 SpellsOpcode format _ = ⊥
 
 abbrev pub Spells : Insn → List ℕ → Type 0

@@ -1,9 +1,9 @@
 //! The parts of an instruction behind its opcode: immediates, ModRM, SIB and displacement. A reader is named by the
 //! part that it takes from the front of the bytes, and gives what is left of them beside it.
 
-ghost use Rattle.std.specs.Prelude.{◌≡◌, ℕ, ◌<◌, ◌≤◌, List, [], ◌∷◌, length, Result, Ok, Err, IfOk};
+ghost use Rattle.std.specs.Prelude.{◌≡◌, ◌<◌, ◌≤◌, [], length, Result, Ok, Err, IfOk};
 ghost use Rattle.jos_isa.specs.Spelling.{disp_kind_of, base_of, sib_of};
-ghost use Rattle.jos_isa.specs.Decoding.{byte_at, u16_at, u32_at, immediate_at, disp_at, sib_byte_at, sib_at};
+ghost use Rattle.jos_isa.specs.Decoding.{next_byte, u16_at, u32_at, immediate_at, disp_at, sib_byte_at, sib_at};
 ghost use Rattle.jos_isa.specs.Decoding.{memory_at, operand_at, modrm_at};
 ghost use Rattle.jos_isa.specs.ClauseWords.{Gives};
 
@@ -12,7 +12,7 @@ use crate::opcode_map::{Choice, Fields, Immediate, choice_of};
 
 /// Why a part is not read.
 #[derive(Clone, Copy)]
-pub(crate) enum Stop {
+pub(crate) enum PartFault {
     Short,
     Illegal,
 }
@@ -41,49 +41,49 @@ pub(crate) struct Chosen {
     pub rm: u8,
 }
 
-pub(crate) fn byte_at(bytes: &[u8]) -> Result<(u8, &[u8]), Stop>
-    ensures gives { Gives (λ x. (x.0, x.1.now)) result (byte_at bytes.now) }
+pub(crate) fn next_byte(bytes: &[u8]) -> Result<(u8, &[u8]), PartFault>
+    ensures gives { Gives (λ x. (x.0, x.1.now)) result (next_byte bytes.now) }
     ensures shorter { IfOk result (λ x. length x.1.now ≤ length bytes.now) }
 {
     match bytes {
         [byte, rest @ ..] => Ok((*byte, rest)),
-        [] => Err(Stop::Short),
+        [] => Err(PartFault::Short),
     }
 }
 
-fn u16_at(bytes: &[u8]) -> Result<(u32, &[u8]), Stop>
+fn u16_at(bytes: &[u8]) -> Result<(u32, &[u8]), PartFault>
     ensures gives { Gives (λ x. (x.0, x.1.now)) result (u16_at bytes.now) }
     ensures shorter { IfOk result (λ x. length x.1.now ≤ length bytes.now) }
 {
     match bytes {
         [a, b, rest @ ..] => Ok((u16::from_le_bytes([*a, *b]) as u32, rest)),
-        _ => Err(Stop::Short),
+        _ => Err(PartFault::Short),
     }
 }
 
-fn u32_at(bytes: &[u8]) -> Result<(u32, &[u8]), Stop>
+fn u32_at(bytes: &[u8]) -> Result<(u32, &[u8]), PartFault>
     ensures gives { Gives (λ x. (x.0, x.1.now)) result (u32_at bytes.now) }
     ensures shorter { IfOk result (λ x. length x.1.now ≤ length bytes.now) }
 {
     match bytes {
         [a, b, c, d, rest @ ..] => Ok((u32::from_le_bytes([*a, *b, *c, *d]), rest)),
-        _ => Err(Stop::Short),
+        _ => Err(PartFault::Short),
     }
 }
 
 #[tactic(auto, unfolding(crate::specs::Decoding::immediate_at))]
-pub(crate) fn immediate_at(immediate: Immediate, bytes: &[u8]) -> Result<(u32, &[u8]), Stop>
+pub(crate) fn immediate_at(immediate: Immediate, bytes: &[u8]) -> Result<(u32, &[u8]), PartFault>
     ensures gives { Gives (λ x. (x.0, x.1.now)) result (immediate_at immediate bytes.now) }
     ensures shorter { IfOk result (λ x. length x.1.now ≤ length bytes.now) }
 {
     match immediate {
         Immediate::Nothing => Ok((0, bytes)),
         Immediate::Imm8 => {
-            let (byte, rest) = byte_at(bytes)?;
+            let (byte, rest) = next_byte(bytes)?;
             Ok((byte as u32, rest))
         }
         Immediate::SignedImm8 => {
-            let (byte, rest) = byte_at(bytes)?;
+            let (byte, rest) = next_byte(bytes)?;
             if byte < 128 {
                 Ok((byte as u32, rest))
             } else {
@@ -127,14 +127,14 @@ pub(crate) fn disp_kind_of(mode: u8, number: u8) -> DispKind
 }
 
 #[tactic(auto, unfolding(crate::specs::Decoding::disp_at))]
-fn disp_at(kind: DispKind, bytes: &[u8]) -> Result<(Disp, &[u8]), Stop>
+fn disp_at(kind: DispKind, bytes: &[u8]) -> Result<(Disp, &[u8]), PartFault>
     ensures gives { Gives (λ x. (x.0, x.1.now)) result (disp_at kind bytes.now) }
     ensures shorter { IfOk result (λ x. length x.1.now ≤ length bytes.now) }
 {
     match kind {
         DispKind::Nothing => Ok((Disp::Zero, bytes)),
         DispKind::Disp8 => {
-            let (byte, rest) = byte_at(bytes)?;
+            let (byte, rest) = next_byte(bytes)?;
             Ok((Disp::Byte(byte.cast_signed()), rest))
         }
         DispKind::Disp32 => {
@@ -164,17 +164,17 @@ fn sib_of(scale: u8, index: u8, base: u8) -> Sib
 }
 
 #[tactic(auto, unfolding(crate::specs::Decoding::sib_byte_at))]
-fn sib_byte_at(bytes: &[u8]) -> Result<(Sib, &[u8]), Stop>
+fn sib_byte_at(bytes: &[u8]) -> Result<(Sib, &[u8]), PartFault>
     ensures gives { Gives (λ x. (x.0, x.1.now)) result (sib_byte_at bytes.now) }
     ensures shorter { IfOk result (λ x. length x.1.now ≤ length bytes.now) }
 {
-    let (sib, rest) = byte_at(bytes)?;
+    let (sib, rest) = next_byte(bytes)?;
     Ok((sib_of(sib / 64, sib / 8 % 8, sib % 8), rest))
 }
 
 /// A SIB byte where rm is 4. Any other rm is itself the number of the base.
 #[tactic(auto, unfolding(crate::specs::Decoding::sib_at))]
-fn sib_at(rm: u8, bytes: &[u8]) -> Result<(Sib, &[u8]), Stop>
+fn sib_at(rm: u8, bytes: &[u8]) -> Result<(Sib, &[u8]), PartFault>
     ensures gives { Gives (λ x. (x.0, x.1.now)) result (sib_at rm bytes.now) }
     ensures shorter { IfOk result (λ x. length x.1.now ≤ length bytes.now) }
 {
@@ -193,7 +193,7 @@ fn sib_at(rm: u8, bytes: &[u8]) -> Result<(Sib, &[u8]), Stop>
 }
 
 #[tactic(auto, unfolding(crate::specs::Decoding::memory_at))]
-fn memory_at(mode: u8, rm: u8, bytes: &[u8]) -> Result<(MemArg, &[u8]), Stop>
+fn memory_at(mode: u8, rm: u8, bytes: &[u8]) -> Result<(MemArg, &[u8]), PartFault>
     ensures gives { Gives (λ x. (x.0, x.1.now)) result (memory_at mode rm bytes.now) }
     ensures shorter { IfOk result (λ x. length x.1.now ≤ length bytes.now) }
 {
@@ -214,7 +214,7 @@ fn memory_at(mode: u8, rm: u8, bytes: &[u8]) -> Result<(MemArg, &[u8]), Stop>
 
 /// With mod 3 the register rm, else an operand in memory.
 #[tactic(auto, unfolding(crate::specs::Decoding::operand_at))]
-pub(crate) fn operand_at(mode: u8, rm: u8, bytes: &[u8]) -> Result<(Operand, &[u8]), Stop>
+pub(crate) fn operand_at(mode: u8, rm: u8, bytes: &[u8]) -> Result<(Operand, &[u8]), PartFault>
     ensures gives { Gives (λ x. (x.0, x.1.now)) result (operand_at mode rm bytes.now) }
     ensures shorter { IfOk result (λ x. length x.1.now ≤ length bytes.now) }
 {
@@ -228,11 +228,11 @@ pub(crate) fn operand_at(mode: u8, rm: u8, bytes: &[u8]) -> Result<(Operand, &[u
 
 /// A ModRM byte, by the fields that the opcode gives it.
 #[tactic(auto, unfolding(crate::specs::Decoding::modrm_at))]
-pub(crate) fn modrm_at(fields: Fields, bytes: &[u8]) -> Result<(Chosen, &[u8]), Stop>
+pub(crate) fn modrm_at(fields: Fields, bytes: &[u8]) -> Result<(Chosen, &[u8]), PartFault>
     ensures gives { Gives (λ x. (x.0, x.1.now)) result (modrm_at fields bytes.now) }
     ensures shorter { IfOk result (λ x. length x.1.now ≤ length bytes.now) }
 {
-    let (byte, rest) = byte_at(bytes)?;
+    let (byte, rest) = next_byte(bytes)?;
     match choice_of(fields, byte / 64 == 3, byte / 8 % 8) {
         Some(choice) => Ok((
             Chosen {
@@ -242,6 +242,6 @@ pub(crate) fn modrm_at(fields: Fields, bytes: &[u8]) -> Result<(Chosen, &[u8]), 
             },
             rest,
         )),
-        None => Err(Stop::Illegal),
+        None => Err(PartFault::Illegal),
     }
 }

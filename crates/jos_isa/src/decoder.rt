@@ -7,10 +7,10 @@ ghost use Rattle.jos_isa.specs.Decoding.{rest_at, insn_in_format, format_in_entr
 ghost use Rattle.jos_isa.specs.Lawful.{is_lawful};
 ghost use Rattle.jos_isa.specs.ClauseWords.{Gives, IfFound, AreBytes};
 
-use crate::behind_opcode::{Chosen, Stop, byte_at, immediate_at, modrm_at, operand_at};
+use crate::behind_opcode::{Chosen, PartFault, immediate_at, modrm_at, next_byte, operand_at};
 use crate::instruction::{Insn, Operand, Repeat};
 use crate::lengths::LONGEST;
-use crate::opcode_map::{Entry, Format, entry_at, format_behind};
+use crate::opcode_map::{Format, OpcodeEntry, format_behind, opcode_entry};
 
 /// What some bytes begin with.
 #[derive(Clone, Copy, Debug, PartialEq, Eq)]
@@ -25,35 +25,35 @@ pub enum Decoded {
 
 /// The format of an entry of the first byte, or, where that leads to a map, of the second byte.
 #[tactic(auto, unfolding(crate::specs::Decoding::format_in_entry))]
-fn format_in_entry(entry: Entry, bytes: &[u8]) -> Result<(Format, &[u8]), Stop>
+fn format_in_entry(entry: OpcodeEntry, bytes: &[u8]) -> Result<(Format, &[u8]), PartFault>
     ensures gives { Gives (λ x. (x.0, x.1.now)) result (format_in_entry entry bytes.now) }
     ensures shorter { IfOk result (λ x. length x.1.now ≤ length bytes.now) }
 {
     match entry {
-        Entry::Unassigned => Err(Stop::Illegal),
-        Entry::Complete(format) => Ok((format, bytes)),
-        Entry::Behind(map) => {
-            let (second, rest) = byte_at(bytes)?;
+        OpcodeEntry::Unassigned => Err(PartFault::Illegal),
+        OpcodeEntry::Complete(format) => Ok((format, bytes)),
+        OpcodeEntry::Behind(map) => {
+            let (second, rest) = next_byte(bytes)?;
             match format_behind(map, second) {
                 Some(format) => Ok((format, rest)),
-                None => Err(Stop::Illegal),
+                None => Err(PartFault::Illegal),
             }
         }
     }
 }
 
 #[tactic(auto, unfolding(crate::specs::Decoding::opcode_at))]
-fn opcode_at(bytes: &[u8]) -> Result<(Format, &[u8]), Stop>
+fn opcode_at(bytes: &[u8]) -> Result<(Format, &[u8]), PartFault>
     ensures gives { Gives (λ x. (x.0, x.1.now)) result (opcode_at bytes.now) }
     ensures shorter { IfOk result (λ x. length x.1.now ≤ length bytes.now) }
 {
-    let (byte, rest) = byte_at(bytes)?;
-    format_in_entry(entry_at(byte), rest)
+    let (byte, rest) = next_byte(bytes)?;
+    format_in_entry(opcode_entry(byte), rest)
 }
 
 /// The operand and the immediate behind a ModRM byte.
 #[tactic(auto, unfolding(crate::specs::Decoding::rest_at))]
-fn rest_at(chosen: Chosen, bytes: &[u8]) -> Result<(Insn, &[u8]), Stop>
+fn rest_at(chosen: Chosen, bytes: &[u8]) -> Result<(Insn, &[u8]), PartFault>
     ensures gives { Gives (λ x. (x.0, x.1.now)) result (rest_at chosen bytes.now) }
     ensures shorter { IfOk result (λ x. length x.1.now ≤ length bytes.now) }
 {
@@ -74,7 +74,7 @@ fn rest_at(chosen: Chosen, bytes: &[u8]) -> Result<(Insn, &[u8]), Stop>
 
 /// What stands behind an opcode of this format.
 #[tactic(auto, unfolding(crate::specs::Decoding::insn_in_format))]
-fn insn_in_format(format: Format, bytes: &[u8]) -> Result<(Insn, &[u8]), Stop>
+fn insn_in_format(format: Format, bytes: &[u8]) -> Result<(Insn, &[u8]), PartFault>
     ensures gives { Gives (λ x. (x.0, x.1.now)) result (insn_in_format format bytes.now) }
     ensures shorter { IfOk result (λ x. length x.1.now ≤ length bytes.now) }
 {
@@ -101,7 +101,7 @@ fn insn_in_format(format: Format, bytes: &[u8]) -> Result<(Insn, &[u8]), Stop>
 }
 
 #[tactic(auto, unfolding(crate::specs::Decoding::instruction_at))]
-fn instruction_at(bytes: &[u8]) -> Result<(Insn, &[u8]), Stop>
+fn instruction_at(bytes: &[u8]) -> Result<(Insn, &[u8]), PartFault>
     ensures gives { Gives (λ x. (x.0, x.1.now)) result (instruction_at bytes.now) }
     ensures shorter { IfOk result (λ x. length x.1.now ≤ length bytes.now) }
 {
@@ -116,8 +116,8 @@ fn decode_exactly(bytes: &[u8]) -> Decoded
 {
     match instruction_at(bytes) {
         Ok((insn, rest)) => Decoded::Found(insn, bytes.len() - rest.len()),
-        Err(Stop::Short) => Decoded::Short,
-        Err(Stop::Illegal) => Decoded::Illegal,
+        Err(PartFault::Short) => Decoded::Short,
+        Err(PartFault::Illegal) => Decoded::Illegal,
     }
 }
 

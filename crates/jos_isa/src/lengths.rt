@@ -1,12 +1,12 @@
 //! How many bytes an instruction has at least.
 
 ghost use Rattle.std.specs.Prelude.{◌≡◌, ◌+◌, ◌/◌, ◌==◌, if◌then◌else◌};
-ghost use Rattle.jos_isa.specs.OpcodeMap.{entry_at};
+ghost use Rattle.jos_isa.specs.OpcodeMap.{opcode_entry};
 ghost use Rattle.jos_isa.specs.Lengths.{immediate_size, format_rest, entry_rest, disp_size, memory_rest, choice_rest};
 ghost use Rattle.jos_isa.specs.Lengths.{second_rest, least_length, AreShortBelow};
 
 use crate::behind_opcode::{DispKind, disp_kind_of};
-use crate::opcode_map::{Choice, Entry, Format, Immediate, choice_of, entry_at};
+use crate::opcode_map::{Choice, Format, Immediate, OpcodeEntry, choice_of, opcode_entry};
 
 /// The most bytes that an instruction has: one each of opcode, ModRM and SIB, four of displacement and four of
 /// immediate.
@@ -35,13 +35,13 @@ fn format_rest(format: Format) -> usize
 }
 
 /// Behind the first byte.
-fn entry_rest(entry: Entry) -> usize
+fn entry_rest(entry: OpcodeEntry) -> usize
     ensures { result ≡ entry_rest entry }
 {
     match entry {
-        Entry::Unassigned => 0,
-        Entry::Complete(format) => format_rest(format),
-        Entry::Behind(_) => 1,
+        OpcodeEntry::Unassigned => 0,
+        OpcodeEntry::Complete(format) => format_rest(format),
+        OpcodeEntry::Behind(_) => 1,
     }
 }
 
@@ -73,11 +73,11 @@ fn choice_rest(choice: Option<Choice>, mode: u8, rm: u8) -> usize
 }
 
 /// Behind a second byte, where it is the ModRM byte of an operand in memory.
-fn second_rest(entry: Entry, second: u8) -> usize
+fn second_rest(entry: OpcodeEntry, second: u8) -> usize
     ensures { result ≡ second_rest entry second }
 {
     match entry {
-        Entry::Complete(Format::ModRm(fields)) => choice_rest(
+        OpcodeEntry::Complete(Format::ModRm(fields)) => choice_rest(
             choice_of(fields, false, second / 8 % 8),
             second / 64,
             second % 8,
@@ -88,12 +88,12 @@ fn second_rest(entry: Entry, second: u8) -> usize
 
 /// By two bytes. With mod 3 the operand is a register, and the length is not looked for.
 fn length_by_two(first: u8, second: u8) -> usize
-    ensures { result ≡ (if second / 64 == 3 then 0 else 2 + second_rest (entry_at first) second) }
+    ensures { result ≡ (if second / 64 == 3 then 0 else 2 + second_rest (opcode_entry first) second) }
 {
     if second / 64 == 3 {
         0
     } else {
-        2 + second_rest(entry_at(first), second)
+        2 + second_rest(opcode_entry(first), second)
     }
 }
 
@@ -105,7 +105,7 @@ pub fn least_length(bytes: &[u8]) -> usize
     ensures short { AreShortBelow result bytes.now }
 {
     match bytes {
-        [first] => 1 + entry_rest(entry_at(*first)),
+        [first] => 1 + entry_rest(opcode_entry(*first)),
         [first, second] => length_by_two(*first, *second),
         _ => 0,
     }

@@ -3,7 +3,7 @@
 
 ghost use Rattle.std.specs.Prelude.{◌≡◌, None};
 ghost use Rattle.jos_isa.specs.OpcodeMap.{from_00, from_40, from_70, from_90, from_a0, from_b0, from_d0, from_f0};
-ghost use Rattle.jos_isa.specs.OpcodeMap.{format_at, entry_at};
+ghost use Rattle.jos_isa.specs.OpcodeMap.{format_at, opcode_entry};
 ghost use Rattle.jos_isa.specs.OpcodeMap.{two_byte_at, operand_size_at, repne_at, rep_at, format_behind};
 ghost use Rattle.jos_isa.specs.OpcodeMap.{one_of, is_shift, shift_choice, only_first};
 ghost use Rattle.jos_isa.specs.OpcodeMap.{unary_f6, unary_f7, step_fe, step_ff, of_group, choice_of};
@@ -76,7 +76,7 @@ pub(crate) enum Map {
 
 /// What a first byte begins.
 #[derive(Clone, Copy)]
-pub(crate) enum Entry {
+pub(crate) enum OpcodeEntry {
     /// No instruction.
     Unassigned,
     /// One whose opcode it is.
@@ -335,19 +335,19 @@ fn format_at(opcode: u8) -> Option<Format>
 }
 
 /// What the first byte begins.
-#[tactic(auto, unfolding(crate::specs::OpcodeMap::entry_at))]
+#[tactic(auto, unfolding(crate::specs::OpcodeMap::opcode_entry))]
 #[inline(always)]
-pub(crate) fn entry_at(byte: u8) -> Entry
-    ensures { result ≡ entry_at byte }
+pub(crate) fn opcode_entry(byte: u8) -> OpcodeEntry
+    ensures { result ≡ opcode_entry byte }
 {
     match byte {
-        0x0f => Entry::Behind(Map::TwoByte),
-        0x66 => Entry::Behind(Map::OperandSize),
-        0xf2 => Entry::Behind(Map::Repne),
-        0xf3 => Entry::Behind(Map::Rep),
+        0x0f => OpcodeEntry::Behind(Map::TwoByte),
+        0x66 => OpcodeEntry::Behind(Map::OperandSize),
+        0xf2 => OpcodeEntry::Behind(Map::Repne),
+        0xf3 => OpcodeEntry::Behind(Map::Rep),
         _ => match format_at(byte) {
-            Some(format) => Entry::Complete(format),
-            None => Entry::Unassigned
+            Some(format) => OpcodeEntry::Complete(format),
+            None => OpcodeEntry::Unassigned
         },
     }
 }

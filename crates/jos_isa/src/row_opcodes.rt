@@ -4,7 +4,7 @@ ghost use Rattle.std.specs.Prelude.{◌≡◌};
 ghost use Rattle.jos_isa.specs.RowOpcodes.{opcode_of, digit_of, format_in, field_of};
 
 use crate::instruction::{Repeat, Row};
-use crate::opcode_map::{Entry, Fields, Format, Map, entry_at, format_behind};
+use crate::opcode_map::{Fields, Format, Map, OpcodeEntry, format_behind, opcode_entry};
 
 /// An opcode of one byte, or of one behind 0F.
 #[derive(Clone, Copy)]
@@ -192,9 +192,9 @@ pub(crate) fn format_in(repeat: Repeat, opcode: Opcode) -> Option<Format>
     ensures { result ≡ format_in repeat opcode }
 {
     match (repeat, opcode) {
-        (Repeat::Once, Opcode::One(opcode)) => match entry_at(opcode) {
-            Entry::Complete(format) => Some(format),
-            Entry::Unassigned | Entry::Behind(_) => None,
+        (Repeat::Once, Opcode::One(opcode)) => match opcode_entry(opcode) {
+            OpcodeEntry::Complete(format) => Some(format),
+            OpcodeEntry::Unassigned | OpcodeEntry::Behind(_) => None,
         },
         (Repeat::Once, Opcode::Two(opcode)) => format_behind(Map::TwoByte, opcode),
         (Repeat::WhileEqual, Opcode::One(opcode)) => format_behind(Map::Rep, opcode),

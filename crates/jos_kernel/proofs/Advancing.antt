@@ -22,8 +22,8 @@ use Rattle.jos_kernel.specs.Running.{Running, user_memory}
 use Rattle.jos_kernel.specs.declared.trace.TrapLine.{TrapLine}
 use Rattle.jos_kernel.specs.Steps.{EnvStep, after_event, env_step}
 use Rattle.jos_kernel.specs.Books.{turn_of, turn_goes_on, noted, traced, made}
-use Rattle.jos_kernel.specs.ExoRun.{Ran, current, current_runs, counted, next_slot, in_turn, end_of, traps_after, progressed, run_from}
-use Rattle.jos_kernel.specs.Kernel.{Told, nothing, and_told, state_of, progress_of, Counts, FailsIn, Advances}
+use Rattle.jos_kernel.specs.ExoRun.{Ran, current, current_runs, bytes_counted, next_slot, turn_entered, end_of, traps_after, progressed, run_from}
+use Rattle.jos_kernel.specs.Kernel.{ToldSoFar, nothing, and_told, state_of, progress_of, Counts, FailsIn, Advances}
 use Rattle.jos_kernel.specs.Kernel.{goes_on_after, Counted}
 use Rattle.jos_kernel.proofs.KeepsRest.{going_keeps, burst_keeps, directory_is, slot_is, state_is}
 use Rattle.jos_kernel.proofs.EnvSteps.{env_step_is}
@@ -49,12 +49,12 @@ registers-same : (s : KernelState) (n : ℕ) → with_registers s n (slot_at s n
 registers-same s n =
     λ i. record s { environments = record s.environments { slots = λ q. upd-same s.environments.slots n q i } }
 
-pub end-told : (kernel : Kernel) (told : Told) (spent : Bool) → end_of (progress_of kernel told) spent ≡ end_of (progress_of kernel nothing) spent
+pub end-told : (kernel : Kernel) (told : ToldSoFar) (spent : Bool) → end_of (progress_of kernel told) spent ≡ end_of (progress_of kernel nothing) spent
 unfolding end_of
 end-told kernel told spent = refl
 
 -- what is counted of bytes, and of more
-pub counted-more : (a b : List ℕ) → min (counted a + length b) (2 ^ 64 - 1) ≡ counted (a ++ b)
+pub counted-more : (a b : List ℕ) → min (bytes_counted a + length b) (2 ^ 64 - 1) ≡ bytes_counted (a ++ b)
 counted-more a b =
     let long : length (a ++ b) ≡ length a + length b = length-append a b in
     omega (arith, long)
@@ -75,7 +75,7 @@ pub begun_running : (s : KernelState) (n : ℕ) → is_running (slot_at (turn_be
 begun_running s n = ap (λ (slot : Slot). is_running slot.status) (upd-at s.environments.slots n _)
 
 -- a turn that begins refuses nothing
-in_turn-refusals : (s : KernelState) (made : ℕ) → (in_turn s made).refusals ≡ s.refusals
+in_turn-refusals : (s : KernelState) (made : ℕ) → (turn_entered s made).refusals ≡ s.refusals
 in_turn-refusals s made = by_made (made == 0)
   where
     by_made : (c : Bool) → (if c then turn_begun s (unwrap_or (next_slot s) 0) else s).refusals ≡ s.refusals
@@ -93,9 +93,9 @@ last_within (Some m) slot e h = λ n k. subst (λ x. x < NENV) (e ∙ ap (λ o. 
 pub record Bursts (before : Kernel) (slot limit steps : ℕ) (event : Event) (m n : Running) (regs new : Regs) : Type 0 where
   pub goes_on : end_of (progress_of before nothing) false ≡ None
   pub visible : before.book.hidden ≡ 0
-  pub begun : in_turn (state_of before) (made before.book) ≡ m.state
+  pub begun : turn_entered (state_of before) (made before.book) ≡ m.state
   pub registers : regs ≡ (slot_at m.state slot).registers
-  pub at : slot ≡ current (in_turn (state_of before) (made before.book))
+  pub at : slot ≡ current (turn_entered (state_of before) (made before.book))
   pub within : slot < NENV
   pub runs : is_running (slot_at m.state slot).status ≡ true
   pub loaded : m.directory ≡ Some (slot_at m.state slot).directory
@@ -111,7 +111,7 @@ module _ {before : Kernel} {slot limit steps : ℕ} {event : Event} {m n : Runni
   refusals : (state_of before).refusals ≡ m.state.refusals
   refusals = sym (in_turn-refusals (state_of before) (made before.book)) ∙ ap (λ (s : KernelState). s.refusals) h.begun
 
-  entered : (told : Told) → InTurn slot (progress_of before told) (record { regs = regs; memory = m })
+  entered : (told : ToldSoFar) → InTurn slot (progress_of before told) (record { regs = regs; memory = m })
   entered told = record {
     none = end-told before told false ∙ h.goes_on;
     begun = h.begun ∙ sym (registers-same m.state slot) ∙ (λ i. with_registers m.state slot (sym h.registers i));
@@ -132,7 +132,7 @@ module _ {before : Kernel} {slot limit steps : ℕ} {event : Event} {m n : Runni
       env_step_is slot burst.reached (record { regs = new; memory = n }) burst.last
       (directory_is k ∙ h.loaded ∙ (λ i. Some (sym (slot_is k slot) i).directory))
 
-  pub burst_run : (told : Told) (later : ℕ) →
+  pub burst_run : (told : ToldSoFar) (later : ℕ) →
       run_from before.book.schedule (steps + later) (progress_of before told)
       ≡ run_from before.book.schedule later (progressed before.book.schedule (further before.book.schedule slot (progress_of before told) burst.going) last)
   burst_run told later =
@@ -193,10 +193,10 @@ module _ {before : Kernel} {slot limit steps : ℕ} {event : Event} {m n : Runni
     slot_at_end : slot ≡ current last.state
     slot_at_end = sym last_there
 
-    abbrev traps_told : (told : Told) → List TrapLine
+    abbrev traps_told : (told : ToldSoFar) → List TrapLine
     traps_told told = traps_after told.traps last.trap
 
-    pub counted_is : (told : Told) → Counts before told →
+    pub counted_is : (told : ToldSoFar) → Counts before told →
         progress_of after (and_told told last.written (traps_told told))
         ≡ progressed before.book.schedule (further before.book.schedule slot (progress_of before told) burst.going) last
     unfolding progressed
@@ -214,14 +214,14 @@ module _ {before : Kernel} {slot limit steps : ℕ} {event : Event} {m n : Runni
           ∙ (λ j. noted (book j).first_refused (not (nat_eq (state j).refusals (state_kept j))) (vec_len (book j).turns)
           ((written_is ∙ c.written) j))
           ∙ (λ j. noted before.book.first_refused (not (same_test last.state.refusals (state_of before).refusals j))
-          (before.book.turns.ok.0 j) (counted told.console))) i;
+          (before.book.turns.ok.0 j) (bytes_counted told.console))) i;
       traps = traps_told told;
     }
       where
         all_counted : (mid.book.visible + steps) + (mid.book.hidden + 0) ≡ (made before.book + burst.going) + 1
         all_counted = omega (arith, all_visible, none_hidden)
 
-    pub counts_told : (told : Told) → Counts before told → Counts after (and_told told last.written (traps_told told))
+    pub counts_told : (told : ToldSoFar) → Counts before told → Counts after (and_told told last.written (traps_told told))
     counts_told told c = record {
       written =
           counts.written_is

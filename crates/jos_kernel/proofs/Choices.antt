@@ -11,7 +11,7 @@ use Rattle.jos_base.specs.KernelState.{slot_at}
 use Rattle.jos_envs.specs.Table.{any_live}
 use Rattle.jos_kernel.specs.declared.report.End.{End}
 use Rattle.jos_kernel.specs.declared.report.End.TheVariants.{Done, Stuck, Budget, TurnsFull}
-use Rattle.jos_kernel.specs.ExoRun.{Progress, next_slot, end_of}
+use Rattle.jos_kernel.specs.ExoRun.{RunProgress, next_slot, end_of}
 use Rattle.jos_kernel.proofs.Turns.{some_live, running_live}
 
 -- the slot whose turn it is, or was, is one of the table
@@ -30,7 +30,7 @@ runnable_live slot runs = by_status slot.status runs
     by_status status.NotRunnable e = cc
 
 -- no end test holds while a turn is under way
-pub under_way : (p : Progress) (n : ℕ) → 0 < p.made → n < NENV → is_running (slot_at p.state n).status ≡ true → end_of p false ≡ None
+pub under_way : (p : RunProgress) (n : ℕ) → 0 < p.made → n < NENV → is_running (slot_at p.state n).status ≡ true → end_of p false ≡ None
 unfolding end_of
 under_way p n made within runs =
     let nz : (p.made == 0) ≡ false = grind (arith, nat_tests) in
@@ -61,11 +61,11 @@ stuck_by true true false true e = cc
 stuck_by true true false false e = cc
 stuck_by true false stuck full e = cc
 
-pub spent_done : (p : Progress) → end_of p false ≡ Some Done → end_of p true ≡ Some Done
+pub spent_done : (p : RunProgress) → end_of p false ≡ Some Done → end_of p true ≡ Some Done
 unfolding end_of
 spent_done p e = done_by (any_live p.state.environments) (p.made == 0) (is_none (next_slot p.state)) (nat_le TURN_MAX (length p.turns)) e
 
-pub spent_stuck : (p : Progress) → end_of p false ≡ Some Stuck → end_of p true ≡ Some Stuck
+pub spent_stuck : (p : RunProgress) → end_of p false ≡ Some Stuck → end_of p true ≡ Some Stuck
 unfolding end_of
 spent_stuck p e = stuck_by (any_live p.state.environments) (p.made == 0) (is_none (next_slot p.state)) (nat_le TURN_MAX (length p.turns)) e
 
@@ -81,6 +81,6 @@ else_by false first stuck full h = elim h [ ]
 else_by true true true full h = elim h [ ]
 else_by true false stuck full h = refl
 
-pub spent_else : (p : Progress) → IsOther (end_of p false) → end_of p true ≡ Some Budget
+pub spent_else : (p : RunProgress) → IsOther (end_of p false) → end_of p true ≡ Some Budget
 unfolding end_of
 spent_else p h = else_by (any_live p.state.environments) (p.made == 0) (is_none (next_slot p.state)) (nat_le TURN_MAX (length p.turns)) h

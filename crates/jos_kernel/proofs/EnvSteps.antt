@@ -16,11 +16,11 @@ use Rattle.jos_cpu.specs.declared.events.Gates.TheVariants.{Exo}
 use Rattle.jos_cpu.specs.declared.memory.MemFault.TheVariants.{Page, Fence}
 use Rattle.jos_cpu.specs.Memory.{anywhere}
 use Rattle.jos_cpu.specs.Steps.{step_of}
-use Rattle.jos_cpu.specs.Bursts.{Machine, StepsTo}
+use Rattle.jos_cpu.specs.Bursts.{ProcessorState, StepsTo}
 use Rattle.jos_cpu.proofs.Agreement.{Agrees, through}
 use Rattle.jos_cpu.proofs.Fenced.{agrees_within}
 use Rattle.jos_cpu.proofs.Through.{step_through}
-use Rattle.jos_kernel.specs.Running.{Running, user_memory, memory_inside, byte_in, allowed_in, fault_in, touched_in, stored_in}
+use Rattle.jos_kernel.specs.Running.{Running, user_memory, memory_inside, byte_in_space, allowed_in, fault_in_space, touched_in, stored_in_space}
 use Rattle.jos_kernel.specs.Steps.{after_event, after_instruction, env_step}
 use Rattle.jos_base.proofs.Maps.{upd-at, upd-twice}
 
@@ -42,7 +42,7 @@ unfolding records_of
 records_same s n regs = λ i k. if nat_lt k NENV then words_same s.environments.slots n k regs i else []
 
 module _ (n : ℕ) (regs : Regs) (s : KernelState) where
-  same_byte : (d : Option ℕ) (va : ℕ) → byte_in (with_registers s n regs) d va ≡ byte_in s d va
+  same_byte : (d : Option ℕ) (va : ℕ) → byte_in_space (with_registers s n regs) d va ≡ byte_in_space s d va
   same_byte None va = refl
   same_byte (Some d) va = ap (λ (records : ℕ → List ℕ). byte_at records s.spaces d va) (records_same s n regs)
 
@@ -50,7 +50,7 @@ module _ (n : ℕ) (regs : Regs) (s : KernelState) where
   same_right None va access = refl
   same_right (Some d) va access = refl
 
-  same_fault : (d : Option ℕ) (va : ℕ) (access : Access) → fault_in (with_registers s n regs) d va access ≡ fault_in s d va access
+  same_fault : (d : Option ℕ) (va : ℕ) (access : Access) → fault_in_space (with_registers s n regs) d va access ≡ fault_in_space s d va access
   same_fault None va access = refl
   same_fault (Some d) va access = refl
 
@@ -58,7 +58,7 @@ module _ (n : ℕ) (regs : Regs) (s : KernelState) where
   same_reached None va access = refl
   same_reached (Some d) va access = refl
 
-  same_stored : (d : Option ℕ) (va byte : ℕ) → stored_in (with_registers s n regs) d va byte ≡ with_registers (stored_in s d va byte) n regs
+  same_stored : (d : Option ℕ) (va byte : ℕ) → stored_in_space (with_registers s n regs) d va byte ≡ with_registers (stored_in_space s d va byte) n regs
   same_stored None va byte = refl
   same_stored (Some d) va byte = refl
 
@@ -87,7 +87,7 @@ registers_twice s n regs new =
     ∙ (λ i. record s { environments = record s.environments { slots = upd-twice slots n first (record (slots n) { registers = new }) i } })
 
 -- A step of the processor in an environment's space, with what comes of it, is a step of the environment.
-pub env_step_is : (n : ℕ) {event : Event} (before after : Machine Running) → StepsTo user_memory Exo before event after →
+pub env_step_is : (n : ℕ) {event : Event} (before after : ProcessorState Running) → StepsTo user_memory Exo before event after →
     before.memory.directory ≡ Some (slot_at before.memory.state n).directory →
     env_step (with_registers before.memory.state n before.regs) n ≡ after_event (with_registers after.memory.state n after.regs) n event
 unfolding env_step

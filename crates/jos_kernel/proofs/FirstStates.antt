@@ -1,13 +1,14 @@
 -- What booting images leaves as it was: no turn is begun.
 use Rattle.std.proofs.Common.{◌≡◌, ℕ, List, [], ◌∷◌, Option, None, Some, Result, Ok, Err, IfSome, refl, ◌∙◌}
 use Rattle.std.specs.Option.{option_map}
+use Rattle.std.specs.Prelude.{option_and_then}
 use Rattle.jos_base.specs.declared.errno.Errno.{Errno}
 use Rattle.jos_base.specs.SpacesState.{SpacesState, created}
 use Rattle.jos_base.specs.Environments.{Environments, allotted}
 use Rattle.jos_base.specs.KernelState.{KernelState, first_state}
 use Rattle.jos_base.specs.SystemCalls.{made_of, environment_made}
 use Rattle.jos_elf.specs.Parsed.{Layout}
-use Rattle.jos_kernel.specs.Boot.{Loadable, and_then, started, image_booted_in, image_booted, all_booted, booted}
+use Rattle.jos_kernel.specs.Boot.{Loadable, started, image_booted_in, image_booted, all_booted, booted}
 
 -- no turn was begun between two states
 pub record SameTurns (s t : KernelState) : Type 0 where
@@ -43,7 +44,7 @@ both s t None h k = tt
 both s t (Some u) h k = record { last = k.last ∙ h.last; turns = k.turns ∙ h.turns }
 
 then_same : (s : KernelState) (o : Option KernelState) (f : KernelState → Option KernelState) → IfSome o (SameTurns s) →
-    ((t : KernelState) → IfSome (f t) (SameTurns t)) → IfSome (and_then o f) (SameTurns s)
+    ((t : KernelState) → IfSome (f t) (SameTurns t)) → IfSome (option_and_then f o) (SameTurns s)
 then_same s None f h each = tt
 then_same s (Some t) f h each = both s t (f t) h (each t)
 

@@ -14,7 +14,7 @@ use Rattle.jos_base.specs.Environments.{Slot, is_live}
 use Rattle.jos_base.specs.KernelState.{KernelState, slot_at, with_registers}
 use Rattle.jos_base.specs.SystemCalls.{Did, trapped_by, system_call, handled, killed}
 use Rattle.jos_cpu.specs.declared.events.Event.TheVariants.{Soft}
-use Rattle.jos_sys.specs.declared.system.Answer.{Answer}
+use Rattle.jos_sys.specs.declared.system.CallAnswer.{CallAnswer}
 use Rattle.jos_sys.specs.System.{Does}
 use Rattle.jos_kernel.specs.Machine.{Follows}
 use Rattle.jos_kernel.specs.declared.machine.Followed.{Followed}
@@ -26,7 +26,7 @@ use Rattle.jos_kernel.specs.Steps.{EnvStep, trapped, after_call, after_event, af
 
 module _ (did : Did) (step : EnvStep) (state : KernelState) (console : Around (Option (List ℕ))) (raised : Option TrapLine)
     (state_is : step.state ≡ did.state) (written_is : step.written ≡ did.written) (trap_is : raised ≡ step.trap) where
-  pub done_follows : (answer : Answer) → Does (Ok answer) did state console →
+  pub done_follows : (answer : CallAnswer) → Does (Ok answer) did state console →
       Follows (Ok (record { written = answer.written; trap = raised })) step state console
   done_follows answer h =
       (h.0 ∙ sym state_is, h.2 ∙ ap length (sym written_is), trap_is, subst (Gains console) (sym written_is) h.3)

@@ -3,6 +3,7 @@ use Rattle.std.proofs.Common.{◌≡◌, ◌∙◌, ℕ, ◌⊎◌, inl, inr, tr
 use Rattle.std.proofs.Common.{Ok, Err, refl, sym, ap}
 use Rattle.std.specs.Option.{option_map}
 use Rattle.std.proofs.lemmas.List.Elements.{All-head, All-tail, All-same}
+use Rattle.std.specs.Prelude.{option_and_then}
 use Rattle.jos_base.specs.declared.environment.Status.TheVariants.{Runnable}
 use Rattle.jos_base.specs.declared.errno.Errno.{Errno}
 use Rattle.jos_base.specs.declared.registers.Regs.{Regs}
@@ -12,7 +13,7 @@ use Rattle.jos_base.specs.SystemCalls.{environment_made}
 use Rattle.jos_elf.specs.declared.image.Segment.{Segment}
 use Rattle.jos_elf.specs.Parsed.{Layout, parsed}
 use Rattle.jos_kernel.specs.Boot.{image_loaded, first_registers, started, image_booted_in, image_booted}
-use Rattle.jos_kernel.specs.Boot.{and_then, loadables, all_booted}
+use Rattle.jos_kernel.specs.Boot.{loadables, all_booted}
 use Rattle.jos_kernel.specs.Loading.{IsRead, Loads}
 
 -- ---- one image
@@ -59,16 +60,16 @@ module _ (images rest : List Layout) (files more : List (Vec ℕ Global)) (image
   pub read_rest : All IsRead (loadables images files) → All IsRead (loadables rest more)
   read_rest read = All-tail IsRead (record { image = image; file = bytes }) (loadables rest more) (read_all read)
 
-  all_booted-next : (s : KernelState) → all_booted (loadables images files) s ≡ and_then (image_booted image bytes s) (all_booted (loadables rest more))
+  all_booted-next : (s : KernelState) → all_booted (loadables images files) s ≡ option_and_then (all_booted (loadables rest more)) (image_booted image bytes s)
   unfolding all_booted
   all_booted-next s = rw loadables-next refl
 
   pub all_booted-some : (s t : KernelState) → image_booted image bytes s ≡ Some t
       → all_booted (loadables rest more) t ≡ all_booted (loadables images files) s
-  all_booted-some s t booted = sym (all_booted-next s ∙ ap (λ (o : Option KernelState). and_then o (all_booted (loadables rest more))) booted)
+  all_booted-some s t booted = sym (all_booted-next s ∙ ap (λ (o : Option KernelState). option_and_then (all_booted (loadables rest more)) o) booted)
 
   pub all_booted-none : (s : KernelState) → image_booted image bytes s ≡ None → all_booted (loadables images files) s ≡ None
-  all_booted-none s none = all_booted-next s ∙ ap (λ (o : Option KernelState). and_then o (all_booted (loadables rest more))) none
+  all_booted-none s none = all_booted-next s ∙ ap (λ (o : Option KernelState). option_and_then (all_booted (loadables rest more)) o) none
 
 loadables-empty : (images : List Layout) (files : List (Vec ℕ Global)) → (images ≡ []) ⊎ (files ≡ []) → loadables images files ≡ []
 loadables-empty [] files none = refl

@@ -11,11 +11,11 @@ use Rattle.jos_cpu.specs.declared.events.Event.{Event}
 use Rattle.jos_cpu.specs.declared.events.Event.TheVariants.{Next}
 use Rattle.jos_cpu.specs.declared.events.Gates.{Gates}
 use Rattle.jos_cpu.specs.Steps.{Stepped, step_of}
-use Rattle.jos_cpu.specs.Bursts.{Machine, StepsTo, GoesOn, IsBurst}
+use Rattle.jos_cpu.specs.Bursts.{ProcessorState, StepsTo, StepsOn, IsBurst}
 use Rattle.jos_cpu.proofs.Agreement.{Agrees}
 use Rattle.jos_cpu.proofs.Fenced.{agrees_within}
 use Rattle.jos_cpu.proofs.Through.{step_through}
-use Rattle.jos_kernel.specs.Running.{Running, user_memory, memory_inside, touched_in, stored_in}
+use Rattle.jos_kernel.specs.Running.{Running, user_memory, memory_inside, touched_in, stored_in_space}
 
 -- the memory with other address spaces
 abbrev pub with_other_spaces : Running → SpacesState → Running
@@ -48,7 +48,7 @@ reached_keeps : (s : KernelState) (d : Option ℕ) (va : ℕ) (access : Access) 
 reached_keeps s None va access = same (record { state = s; directory = None })
 reached_keeps s (Some d) va access = record { spaces = touched s.spaces d va access; memory_is = refl }
 
-stored_keeps : (s : KernelState) (d : Option ℕ) (va byte : ℕ) → KeepsRest (record { state = s; directory = d }) (record { state = stored_in s d va byte; directory = d })
+stored_keeps : (s : KernelState) (d : Option ℕ) (va byte : ℕ) → KeepsRest (record { state = s; directory = d }) (record { state = stored_in_space s d va byte; directory = d })
 stored_keeps s None va byte = same (record { state = s; directory = None })
 stored_keeps s (Some d) va byte = record { spaces = stored_byte s.spaces d va byte; memory_is = refl }
 
@@ -69,20 +69,20 @@ module _ (before : Running) where
   pub step_keeps : (inside : ℕ → Bool) (regs : Regs) (gates : Gates) → KeepsRest before (step_of (memory_inside inside) regs before gates).memory
   step_keeps inside regs gates = (step_through (agrees_within inside Fence agrees) regs before gates (same before)).0
 
-pub steps_keeps : (inside : ℕ → Bool) (gates : Gates) (event : Event) (before after : Machine Running) →
+pub steps_keeps : (inside : ℕ → Bool) (gates : Gates) (event : Event) (before after : ProcessorState Running) →
     StepsTo (memory_inside inside) gates before event after → KeepsRest before.memory after.memory
 steps_keeps inside gates event before after e =
     let k = step_keeps before.memory inside before.regs gates in
     record { spaces = k.spaces; memory_is = sym (ap (λ (s : Stepped Running). s.memory) e) ∙ k.memory_is }
 
-pub going_keeps : (inside stands : ℕ → Bool) (gates : Gates) (n : ℕ) (before after : Machine Running) →
-    GoesOn (memory_inside inside) stands gates n before after → KeepsRest before.memory after.memory
+pub going_keeps : (inside stands : ℕ → Bool) (gates : Gates) (n : ℕ) (before after : ProcessorState Running) →
+    StepsOn (memory_inside inside) stands gates n before after → KeepsRest before.memory after.memory
 going_keeps inside stands gates zero before after e =
-    record { spaces = before.memory.state.spaces; memory_is = ap (λ (m : Machine Running). m.memory) e }
+    record { spaces = before.memory.state.spaces; memory_is = ap (λ (m : ProcessorState Running). m.memory) e }
 going_keeps inside stands gates (suc n) before after g =
     both (steps_keeps inside gates Next before g.0 g.1) (going_keeps inside stands gates n g.0 after g.3)
 
-pub burst_keeps : (inside stands : ℕ → Bool) {gates : Gates} {limit steps ip : ℕ} {event : Event} {before after : Machine Running} →
+pub burst_keeps : (inside stands : ℕ → Bool) {gates : Gates} {limit steps ip : ℕ} {event : Event} {before after : ProcessorState Running} →
     IsBurst (memory_inside inside) stands gates limit steps ip event before after → KeepsRest before.memory after.memory
 burst_keeps inside stands {gates = gates} {event = event} {before = before} {after = after} b =
     both (going_keeps inside stands gates b.going before b.reached b.went) (steps_keeps inside gates event b.reached after b.last)

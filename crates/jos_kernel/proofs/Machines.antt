@@ -4,7 +4,7 @@ use Rattle.std.specs.Prelude.{IfSome, IfOk, IfErr, OnOk}
 use Rattle.jos_base.specs.declared.memory.PageFault.{PageFault}
 use Rattle.jos_base.specs.declared.numbers.TheConstants.{PGSIZE}
 use Rattle.jos_base.specs.declared.memory.Access.TheVariants.{Read, Write}
-use Rattle.jos_base.specs.Reach.{Location}
+use Rattle.jos_base.specs.Reach.{FrameOffset}
 use Rattle.jos_base.specs.SpacesState.{SpacesState, directories}
 use Rattle.jos_base.specs.UserMemory.{reach_in, stored_byte, with_byte_at}
 use Rattle.jos_base.specs.Environments.{is_running}
@@ -36,7 +36,7 @@ frame_with-stored : (s : SpacesState) (d va byte e number bits : ℕ) → frame_
 unfolding stored_byte frame_with
 frame_with-stored s d va byte e number bits = go (reach_in s d va Write)
   where
-    go : (r : Result Location PageFault) → frame_with (with_byte_at s byte r) e number bits ≡ frame_with s e number bits
+    go : (r : Result FrameOffset PageFault) → frame_with (with_byte_at s byte r) e number bits ≡ frame_with s e number bits
     go (Ok location) = refl
     go (Err fault) = refl
 

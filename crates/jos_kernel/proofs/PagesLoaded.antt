@@ -2,14 +2,14 @@
 use Rattle.std.proofs.Common.{◌≡◌, ◌∙◌, ℕ, ◌+◌, ◌-◌, ◌/◌, ◌<◌, ◌≤◌, zero, suc, Bool, true, false, List, Option}
 use Rattle.std.proofs.Common.{Some, None}
 use Rattle.std.proofs.Common.{refl, sym, ap, subst, arith}
-use Rattle.std.specs.Prelude.{IfSome, IsNone, is_some}
+use Rattle.std.specs.Prelude.{IfSome, IsNone, is_some, option_and_then}
 use Rattle.jos_base.specs.declared.memory.Frame.{Frame}
 use Rattle.jos_base.specs.declared.numbers.TheConstants.{PGSIZE, FDTABLE}
 use Rattle.jos_base.specs.SpacesState.{SpacesState, allocated, zero_page, with_page_bytes}
 use Rattle.jos_base.specs.KernelState.{KernelState, slot_at, with_spaces}
 use Rattle.jos_elf.specs.declared.image.Segment.{Segment}
 use Rattle.jos_kernel.specs.Boot.{any_touches, any_writes, perm_of, laid_all, page_bytes, filled, page_loaded}
-use Rattle.jos_kernel.specs.Boot.{pages_loaded, image_loaded, and_then, only_state, stack_page}
+use Rattle.jos_kernel.specs.Boot.{pages_loaded, image_loaded, only_state, stack_page}
 use Rattle.jos_kernel.specs.Loading.{IsFirstAt, Loads, with_bytes_in}
 
 -- ---- one page
@@ -137,7 +137,7 @@ module _ (segments : List Segment) (file : List ℕ) (slot : ℕ) (s t : KernelS
     image-last : image_loaded segments file (slot_at s slot).directory s.spaces ≡ only_state (allocated t.spaces (slot_at t slot).directory stack_page perm)
     unfolding image_loaded
     image-last =
-        ap (λ (loaded : Option SpacesState). and_then loaded (λ k. only_state (allocated k (slot_at s slot).directory stack_page (perm_of true)))) pages.0
+        ap (λ (loaded : Option SpacesState). option_and_then (λ k. only_state (allocated k (slot_at s slot).directory stack_page (perm_of true))) loaded) pages.0
         ∙ ap (λ (k : KernelState). only_state (allocated t.spaces (slot_at k slot).directory stack_page (perm_of true))) (sym pages.1)
         ∙ ap (λ (bits : ℕ). only_state (allocated t.spaces (slot_at t slot).directory stack_page bits)) (sym is_perm)
 

@@ -8,28 +8,28 @@ use Rattle.jos_kernel.specs.declared.kernel.Kernel.{Kernel}
 use Rattle.jos_kernel.specs.declared.report.End.{End}
 use Rattle.jos_kernel.specs.declared.report.End.TheVariants.{Budget}
 use Rattle.jos_kernel.specs.declared.trace.TrapLine.{TrapLine}
-use Rattle.jos_kernel.specs.ExoRun.{Progress, Ran, end_of, one_step, after_test, run_from}
-use Rattle.jos_kernel.specs.Kernel.{Told, nothing, and_told, progress_of, Counts, Went, FailsIn, Steps, IsRun}
+use Rattle.jos_kernel.specs.ExoRun.{RunProgress, Ran, end_of, one_step, after_test, run_from}
+use Rattle.jos_kernel.specs.Kernel.{ToldSoFar, nothing, and_told, progress_of, Counts, Went, FailsIn, StepsOnce, IsRun}
 use Rattle.jos_kernel.proofs.ToldBytes.{gains_none, gains_more, gains_part}
 use Rattle.jos_kernel.proofs.Advancing.{end-told}
 
 -- ---- the definition, one step at a time
 
-pub run_from-suc : (schedule : List ℕ) (left : ℕ) (p : Progress) →
+pub run_from-suc : (schedule : List ℕ) (left : ℕ) (p : RunProgress) →
     run_from schedule (suc left) p ≡ after_test p (end_of p false) (run_from schedule left (one_step schedule p))
 unfolding run_from
 run_from-suc schedule left p = refl
 
-pub run_from-zero : (schedule : List ℕ) (p : Progress) → run_from schedule 0 p ≡ record { end = unwrap_or (end_of p true) Budget; progress = p }
+pub run_from-zero : (schedule : List ℕ) (p : RunProgress) → run_from schedule 0 p ≡ record { end = unwrap_or (end_of p true) Budget; progress = p }
 unfolding run_from
 run_from-zero schedule p = refl
 
 -- ---- steps after steps
 
-told-twice : (told : Told) (a b : List ℕ) (s t : List TrapLine) → and_told (and_told told a s) b t ≡ and_told told (a ++ b) t
+told-twice : (told : ToldSoFar) (a b : List ℕ) (s t : List TrapLine) → and_told (and_told told a s) b t ≡ and_told told (a ++ b) t
 told-twice told a b s t = λ i. record told { console = append_assoc told.console a b i; traps = t }
 
-told-nothing : (told : Told) → and_told told [] told.traps ≡ told
+told-nothing : (told : ToldSoFar) → and_told told [] told.traps ≡ told
 told-nothing told = λ i. record told { console = append-nil told.console i }
 
 -- no step was made yet
@@ -40,18 +40,18 @@ none_yet kernel first = record {
   steps = omega arith;
   schedule = refl;
   traps = λ told c. told.traps;
-  counts = λ told c. subst (λ (t : Told). Counts kernel t) (sym (told-nothing told)) c;
+  counts = λ told c. subst (λ (t : ToldSoFar). Counts kernel t) (sym (told-nothing told)) c;
   run = λ told c later.
       let z : 0 + later ≡ later = omega arith in
       ap (λ (k : ℕ). run_from kernel.book.schedule k (progress_of kernel told)) z
-      ∙ ap (λ (t : Told). run_from kernel.book.schedule later (progress_of kernel t)) (sym (told-nothing told));
+      ∙ ap (λ (t : ToldSoFar). run_from kernel.book.schedule later (progress_of kernel t)) (sym (told-nothing told));
 }
 
 module _ {a b : ℕ} {x y z : Kernel} {p q r : Option (List ℕ)} (v : Went a (from_to x y) (from_to p q)) (w : Went b (from_to y z) (from_to q r)) where
-  abbrev later_traps : (told : Told) → Counts x told → List TrapLine
+  abbrev later_traps : (told : ToldSoFar) → Counts x told → List TrapLine
   later_traps told c = w.traps (and_told told v.written (v.traps told c)) (v.counts told c)
 
-  twice : (told : Told) (c : Counts x told) → and_told (and_told told v.written (v.traps told c)) w.written (later_traps told c)
+  twice : (told : ToldSoFar) (c : Counts x told) → and_told (and_told told v.written (v.traps told c)) w.written (later_traps told c)
       ≡ and_told told (v.written ++ w.written) (later_traps told c)
   twice told c = told-twice told v.written w.written (v.traps told c) (later_traps told c)
 
@@ -62,7 +62,7 @@ module _ {a b : ℕ} {x y z : Kernel} {p q r : Option (List ℕ)} (v : Went a (f
     steps = omega (arith, v.steps, w.steps);
     schedule = w.schedule ∙ v.schedule;
     traps = λ told c. later_traps told c;
-    counts = λ told c. subst (λ (t : Told). Counts z t) (twice told c) (w.counts (and_told told v.written (v.traps told c)) (v.counts told c));
+    counts = λ told c. subst (λ (t : ToldSoFar). Counts z t) (twice told c) (w.counts (and_told told v.written (v.traps told c)) (v.counts told c));
     run = λ told c later.
         let e : (a + b) + later ≡ a + (b + later) = omega arith in
         let m = and_told told v.written (v.traps told c) in
@@ -96,7 +96,7 @@ fails_further {a} {left} {x} {y} {p} {q} {r} v within f =
 -- ---- one step
 
 pub stepped : {n : ℕ} {x y : Kernel} {p q : Option (List ℕ)} → Went n (from_to x y) (from_to p q) → 0 < n → n ≤ 1 →
-    end_of (progress_of x nothing) false ≡ None → Steps (Ok tt) (from_to x y) (from_to p q)
+    end_of (progress_of x nothing) false ≡ None → StepsOnce (Ok tt) (from_to x y) (from_to p q)
 stepped {n} {x} {y} {p} {q} w some most goes_on =
     let e : n + 0 ≡ suc 0 = omega (arith, some, most) in (
       w.written,

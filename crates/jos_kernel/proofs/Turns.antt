@@ -15,12 +15,12 @@ use Rattle.jos_sched.specs.Quantum.{quantum}
 use Rattle.jos_cpu.specs.declared.events.Event.TheVariants.{Next}
 use Rattle.jos_cpu.specs.declared.events.Gates.TheVariants.{Exo}
 use Rattle.jos_cpu.specs.Memory.{anywhere}
-use Rattle.jos_cpu.specs.Bursts.{Machine, StepsTo, GoesOn}
+use Rattle.jos_cpu.specs.Bursts.{ProcessorState, StepsTo, StepsOn}
 use Rattle.jos_kernel.specs.declared.report.Refusal.{Refusal}
 use Rattle.jos_kernel.specs.Running.{Running, user_memory}
 use Rattle.jos_kernel.specs.Steps.{EnvStep, env_step}
 use Rattle.jos_kernel.specs.Books.{turn_of, turn_goes_on, noted}
-use Rattle.jos_kernel.specs.ExoRun.{Progress, current, current_runs, counted, in_turn, end_of}
+use Rattle.jos_kernel.specs.ExoRun.{RunProgress, current, current_runs, bytes_counted, turn_entered, end_of}
 use Rattle.jos_kernel.specs.ExoRun.{first_refusal, traps_after}
 use Rattle.jos_kernel.specs.ExoRun.{progressed_in, progressed, one_step, after_test, run_from}
 use Rattle.jos_kernel.proofs.KeepsRest.{KeepsRest, steps_keeps, directory_is, slot_is, state_is}
@@ -61,9 +61,9 @@ running_live slot runs = by_status slot.status runs
 -- ---- one step that goes on
 
 -- Where a turn of the environment in slot c stands: the machine has this memory, and these registers.
-pub record InTurn (c : ℕ) (p : Progress) (m : Machine Running) : Type 0 where
+pub record InTurn (c : ℕ) (p : RunProgress) (m : ProcessorState Running) : Type 0 where
   pub none : end_of p false ≡ None
-  pub begun : in_turn p.state p.made ≡ with_registers m.memory.state c m.regs
+  pub begun : turn_entered p.state p.made ≡ with_registers m.memory.state c m.regs
   pub at : current m.memory.state ≡ c
   pub within : c < NENV
   pub runs : is_running (slot_at m.memory.state c).status ≡ true
@@ -71,24 +71,24 @@ pub record InTurn (c : ℕ) (p : Progress) (m : Machine Running) : Type 0 where
   pub refusals : p.state.refusals ≡ m.memory.state.refusals
 
 -- where it stands after a step that goes on
-abbrev pub went : ℕ → Progress → Machine Running → Progress
+abbrev pub went : ℕ → RunProgress → ProcessorState Running → RunProgress
 went c p m = record p { state = with_registers m.memory.state c m.regs; steps = p.steps + 1; made = p.made + 1 }
 
 none_noted : (first : Option Refusal) (turn written : ℕ) → noted first false turn written ≡ first
 none_noted (Some refusal) turn written = refl
 none_noted None turn written = refl
 
-refusal-same : (p : Progress) (after : KernelState) → p.state.refusals ≡ after.refusals → first_refusal p after ≡ p.first_refused
+refusal-same : (p : RunProgress) (after : KernelState) → p.state.refusals ≡ after.refusals → first_refusal p after ≡ p.first_refused
 refusal-same p after e =
     let k : (p.state.refusals == after.refusals) ≡ true = grind (arith, nat_tests) in
-    ap (λ c. noted p.first_refused (not c) (length p.turns) (counted p.console)) k
-    ∙ none_noted p.first_refused (length p.turns) (counted p.console)
+    ap (λ c. noted p.first_refused (not c) (length p.turns) (bytes_counted p.console)) k
+    ∙ none_noted p.first_refused (length p.turns) (bytes_counted p.console)
 
 slot-at : (s : KernelState) (c : ℕ) (regs : Regs) → slot_at (with_registers s c regs) c ≡ record (slot_at s c) { registers = regs }
 slot-at s c regs = upd-at s.environments.slots c (record (slot_at s c) { registers = regs })
 
 -- what a step makes of a progress, where this is the first refusal then
-abbrev with_first : Progress → EnvStep → Bool → Option Refusal → Progress
+abbrev with_first : RunProgress → EnvStep → Bool → Option Refusal → RunProgress
 with_first q s goes first = record {
   state = if goes then s.state else turn_ended s.state (current s.state);
   console = q.console ++ s.written;
@@ -99,14 +99,14 @@ with_first q s goes first = record {
   traps = traps_after q.traps s.trap;
 }
 
-refused_same : (state : KernelState) (q : Progress) (s : EnvStep) → state.refusals ≡ q.state.refusals → (goes : Bool) →
+refused_same : (state : KernelState) (q : RunProgress) (s : EnvStep) → state.refusals ≡ q.state.refusals → (goes : Bool) →
     with_first q s goes (first_refusal (record q { state = state }) s.state) ≡ with_first q s goes (first_refusal q s.state)
 refused_same state q s r goes =
-    λ i. with_first q s goes (noted q.first_refused (not (r i == s.state.refusals)) (length q.turns) (counted q.console))
+    λ i. with_first q s goes (noted q.first_refused (not (r i == s.state.refusals)) (length q.turns) (bytes_counted q.console))
 
 module _ (schedule : List ℕ) (c : ℕ) where
   -- what a run does next, where its turn stands so
-  pub run_from-step : (left : ℕ) (p : Progress) (m : Machine Running) → InTurn c p m →
+  pub run_from-step : (left : ℕ) (p : RunProgress) (m : ProcessorState Running) → InTurn c p m →
       run_from schedule (suc left) p
       ≡ run_from schedule left (progressed schedule p (env_step (with_registers m.memory.state c m.regs) c))
   unfolding run_from one_step
@@ -115,7 +115,7 @@ module _ (schedule : List ℕ) (c : ℕ) where
       ∙ (λ i. run_from schedule left (progressed schedule p (env_step (t.begun i) (current (t.begun i)))))
       ∙ (λ i. run_from schedule left (progressed schedule p (env_step (with_registers m.memory.state c m.regs) (t.at i))))
 
-  progressed-went : (p : Progress) (s : KernelState) → is_running (slot_at s c).status ≡ true → current s ≡ c →
+  progressed-went : (p : RunProgress) (s : KernelState) → is_running (slot_at s c).status ≡ true → current s ≡ c →
       p.made + 1 < quantum schedule (length p.turns) → p.state.refusals ≡ s.refusals →
       progressed schedule p (record { state = s; written = []; trap = None })
       ≡ record p { state = s; steps = p.steps + 1; made = p.made + 1 }
@@ -126,7 +126,7 @@ module _ (schedule : List ℕ) (c : ℕ) where
       (λ i. is_running (slot_at s (at i)).status && lt i) ∙ (λ i. runs i && true) in
       rw (goes, append-nil p.console, refusal-same p s refusals) refl
 
-  module _ (p : Progress) (before after : Machine Running) (t : InTurn c p before) (step : StepsTo user_memory Exo before Next after)
+  module _ (p : RunProgress) (before after : ProcessorState Running) (t : InTurn c p before) (step : StepsTo user_memory Exo before Next after)
       (below : p.made + 1 < quantum schedule (length p.turns)) where
     kept : KeepsRest before.memory after.memory
     kept = steps_keeps anywhere Exo Next before after step
@@ -170,11 +170,11 @@ module _ (schedule : List ℕ) (c : ℕ) where
     }
 
   -- where a turn stands after so many further steps that go on, but for its state
-  abbrev pub further : Progress → ℕ → Progress
+  abbrev pub further : RunProgress → ℕ → RunProgress
   further p n = record p { steps = p.steps + n; made = p.made + n }
 
   -- what a step makes of where a turn stands does not hang on its state, but for the refusals
-  progressed-same : (p q : Progress) (s : EnvStep) → p.state.refusals ≡ q.state.refusals → p.steps ≡ q.steps → p.made ≡ q.made →
+  progressed-same : (p q : RunProgress) (s : EnvStep) → p.state.refusals ≡ q.state.refusals → p.steps ≡ q.steps → p.made ≡ q.made →
       p.console ≡ q.console → p.turns ≡ q.turns → p.first_refused ≡ q.first_refused → p.traps ≡ q.traps →
       progressed schedule p s ≡ progressed schedule q s
   unfolding progressed
@@ -184,8 +184,8 @@ module _ (schedule : List ℕ) (c : ℕ) where
       ∙ refused_same p.state q s r (turn_goes_on schedule (length q.turns) (q.made + 1) (current_runs s.state))
 
   -- so many steps that go on, and one more
-  pub many : (n later : ℕ) (p : Progress) (before after : Machine Running) → InTurn c p before → p.made + n < quantum schedule (length p.turns) →
-      GoesOn user_memory anywhere Exo n before after →
+  pub many : (n later : ℕ) (p : RunProgress) (before after : ProcessorState Running) → InTurn c p before → p.made + n < quantum schedule (length p.turns) →
+      StepsOn user_memory anywhere Exo n before after →
       run_from schedule (suc n + later) p
       ≡ run_from schedule later (progressed schedule (further p n) (env_step (with_registers after.memory.state c after.regs) c))
   many zero later p before after t below g =

@@ -15,7 +15,7 @@ use Rattle.jos_base.specs.declared.numbers.TheConstants.{SYS_GETENVID, SYS_ENV_D
 use Rattle.jos_base.specs.declared.numbers.TheConstants.{SYS_PAGE_UNMAP, SYS_EXOFORK, SYS_ENV_SET_STATUS, SYS_ENV_SET_TRAPFRAME}
 use Rattle.jos_base.specs.declared.numbers.TheConstants.{SYS_ENV_SET_PGFAULT_UPCALL, SYS_YIELD, SYS_IPC_TRY_SEND, SYS_IPC_RECV}
 use Rattle.jos_base.specs.Words.{page_number}
-use Rattle.jos_base.specs.Reach.{Entry, Location}
+use Rattle.jos_base.specs.Reach.{Entry, FrameOffset}
 use Rattle.jos_base.specs.Environments.{allotted, found}
 use Rattle.jos_base.specs.SpacesState.{SpacesState, created, allocated}
 use Rattle.jos_base.specs.UserMemory.{reach_in}
@@ -160,7 +160,7 @@ module _ (s : KernelState) (n : ℕ) where
       (by_test s (regs.eax == SYS_IPC_TRY_SEND) _ _ (send_same (found s.environments regs.edx n false) regs.ecx regs.ebx regs.edi)
       (by_test s (regs.eax == SYS_IPC_RECV) _ _ (recv_same regs.edx regs.ecx) (refused_same Invalid))))))))))))))
 
-  entered_same : (fault : PageFault) (place : ℕ) (reached : Result Location PageFault) →
+  entered_same : (fault : PageFault) (place : ℕ) (reached : Result FrameOffset PageFault) →
       IfSome (handler_entered s n fault place reached) (SameTurns s)
   entered_same fault place (Ok at) = record { last = refl; turns = refl }
   entered_same fault place (Err refusal) = tt

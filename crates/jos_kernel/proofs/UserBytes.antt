@@ -8,7 +8,7 @@ use Rattle.jos_base.specs.declared.memory.Access.TheVariants.{Read, Write}
 use Rattle.jos_base.specs.declared.memory.PageFault.{PageFault}
 use Rattle.jos_base.specs.declared.numbers.TheConstants.{PGSIZE}
 use Rattle.jos_base.specs.Words.{page_number}
-use Rattle.jos_base.specs.Reach.{Entry, Location, reach_entry, write_bit}
+use Rattle.jos_base.specs.Reach.{Entry, FrameOffset, reach_entry, write_bit}
 use Rattle.jos_base.specs.SpacesState.{SpacesState}
 use Rattle.jos_base.specs.Windows.{walked}
 use Rattle.jos_base.specs.Environments.{records_of}
@@ -148,7 +148,7 @@ entry_readable None va Write h = h
 entry_readable (Some entry) va Write h = by_test (bit_and entry.perm 7 == 7) refl h
   where
     by_test : (b : Bool) → (bit_and entry.perm 7 == 7) ≡ b →
-        is_ok {T = Location} {E = PageFault} (if b then Ok (record { frame = entry.frame; offset = va % 4096 }) else Err (record { va = va; error = 7 })) ≡ true →
+        is_ok {T = FrameOffset} {E = PageFault} (if b then Ok (record { frame = entry.frame; offset = va % 4096 }) else Err (record { va = va; error = 7 })) ≡ true →
         is_ok (reach_entry (Some entry) va Read) ≡ true
     by_test true e h =
         let stand : bit_and entry.perm 7 ≡ 7 = grind (arith, nat_tests) in
@@ -165,7 +165,7 @@ module _ (s : SpacesState) (d va : ℕ) (access : Access) where
   unfolding touched
   refused_stays h = by_outcome (reach_in s d va access) h
     where
-      by_outcome : (r : Result Location PageFault) → is_ok r ≡ false → touched_by s d va access r ≡ s
+      by_outcome : (r : Result FrameOffset PageFault) → is_ok r ≡ false → touched_by s d va access r ≡ s
       by_outcome (Ok location) h = absurd cc
       by_outcome (Err fault) h = refl
 

@@ -40,8 +40,8 @@ traced trace (Some trap) = buffer (keep_last trace.capacity (trace.items ++ trap
 -- ---- what is told
 
 -- of a run that is over, after so many steps in these turns: its first refusal, and how many refusals and upcalls there were
-abbrev pub report_of : End → ℕ → List Turn → Option Refusal → ℕ → ℕ → Reported
-report_of end steps turns first_refused refused upcalls = record {
+abbrev pub report_with : End → ℕ → List Turn → Option Refusal → ℕ → ℕ → Reported
+report_with end steps turns first_refused refused upcalls = record {
   end = end;
   steps = steps;
   turns = turns;
@@ -77,11 +77,11 @@ abbrev pub HasStepsLeft : Book → Type 0
 HasStepsLeft book = 0 < made book → made book < quantum book.schedule (length book.turns.items)
 
 -- whether the turn goes on after so many more steps, where its environment is RUNNING or not
-abbrev pub goes_on_after : Book → ℕ → Bool → Bool
-goes_on_after book steps running = turn_goes_on book.schedule (length book.turns.items) (made book + steps) running
+abbrev pub goes_on_in : Book → ℕ → Bool → Bool
+goes_on_in book steps running = turn_goes_on book.schedule (length book.turns.items) (made book + steps) running
 
 -- Steps are counted in a turn of this slot, which goes on or is over.
-pub record Counted (goes_on : Bool) (old new : Book) (slot visible hidden : ℕ) : Type 0 where
+pub record IsCounted (goes_on : Bool) (old new : Book) (slot visible hidden : ℕ) : Type 0 where
   pub turns : new.turns.items
       ≡ (if goes_on then old.turns.items else old.turns.items ++ turn_of slot (old.visible + visible) (old.hidden + hidden) ∷ [])
   pub visible_are : new.visible ≡ (if goes_on then old.visible + visible else 0)

@@ -1,7 +1,7 @@
 -- How the kernel boots images: each becomes an environment with the pages of its segments and a stack page.
 -- (MIT 6.828, env_create and load_icode of kern/env.c, and inc/memlayout.h.)
 use Rattle.std.specs.Prelude.{ℕ, ◌+◌, ◌-◌, ◌*◌, ◌/◌, ◌&&◌, nat_lt, zero, suc, Bool, true, List, [], ◌∷◌, take}
-use Rattle.std.specs.Prelude.{drop, max, min, Option, None, Some, Result, Ok, Err, if◌then◌else◌, Vec}
+use Rattle.std.specs.Prelude.{drop, max, min, Option, None, Some, Result, Ok, Err, if◌then◌else◌, Vec, option_and_then}
 use Rattle.std.specs.declared.alloc.Global.{Global}
 use Rattle.std.specs.List.{list_any}
 use Rattle.std.specs.Option.{option_map}
@@ -67,15 +67,11 @@ page_loaded segments file space number s =
     then filled (page_bytes segments file number) (allocated s space number (perm_of (any_writes number segments)))
     else Some s
 
-abbrev pub and_then : {X Y : Type 0} → Option X → (X → Option Y) → Option Y
-and_then None f = None
-and_then (Some x) f = f x
-
 -- the pages below a number are loaded in rising order
 unfoldable pub pages_loaded : List Segment → List ℕ → ℕ → SpacesState → ℕ → Option SpacesState
 pages_loaded segments file space s zero = Some s
 pages_loaded segments file space s (suc n) =
-    and_then (pages_loaded segments file space s n) (page_loaded segments file space n)
+    option_and_then (page_loaded segments file space n) (pages_loaded segments file space s n)
 
 -- the page below USTACKTOP
 abbrev pub stack_page : ℕ
@@ -88,8 +84,8 @@ only_state (Some page) = Some page.1
 -- no image has memory at FDTABLE or above; the stack page comes last
 unfoldable pub image_loaded : List Segment → List ℕ → ℕ → SpacesState → Option SpacesState
 image_loaded segments file space s =
-    and_then (pages_loaded segments file space s (FDTABLE / PGSIZE))
-    (λ t. only_state (allocated t space stack_page (perm_of true)))
+    option_and_then (λ t. only_state (allocated t space stack_page (perm_of true)))
+    (pages_loaded segments file space s (FDTABLE / PGSIZE))
 
 -- ---- the environments
 
@@ -134,7 +130,7 @@ loadables (image ∷ images) (file ∷ files) = record { image = image; file = f
 
 unfoldable pub all_booted : List Loadable → KernelState → Option KernelState
 all_booted [] s = Some s
-all_booted (l ∷ rest) s = and_then (image_booted l.image l.file s) (all_booted rest)
+all_booted (l ∷ rest) s = option_and_then (all_booted rest) (image_booted l.image l.file s)
 
 -- the images are booted in their order
 unfoldable pub booted : List Loadable → ℕ → List ℕ → Option KernelState

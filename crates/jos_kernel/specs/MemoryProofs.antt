@@ -12,7 +12,7 @@ use Rattle.jos_base.specs.declared.memory.Access.TheVariants.{Read, Write}
 use Rattle.jos_base.specs.declared.memory.PageFault.{PageFault}
 use Rattle.jos_base.specs.Words.{page_number, upd}
 use Rattle.jos_base.specs.declared.numbers.TheConstants.{NPTENTRIES}
-use Rattle.jos_base.specs.Reach.{Entry, Location, reach_entry, allows}
+use Rattle.jos_base.specs.Reach.{Entry, FrameOffset, reach_entry, allows}
 use Rattle.jos_base.specs.Counting.{Entries, page_limit}
 use Rattle.jos_base.specs.SpacesState.{SpacesState, Region, region_limit, put}
 use Rattle.jos_base.specs.Windows.{region_entry, directory_entry, entry_above, read_only, walked, window_byte}
@@ -25,7 +25,7 @@ use Rattle.jos_base.specs.UserMemory.{byte_at, byte_of, byte_or_zero, stored_byt
 use Rattle.jos_cpu.specs.declared.memory.MemFault.TheVariants.{Page, Fence}
 use Rattle.jos_cpu.specs.Memory.{IsLawful}
 use Rattle.jos_cpu.specs.MemoryProofs.{set_or_same, fenced_is_lawful}
-use Rattle.jos_kernel.specs.Running.{user_memory, memory_inside, byte_in, allowed_in, fault_in, touched_in, stored_in}
+use Rattle.jos_kernel.specs.Running.{user_memory, memory_inside, byte_in_space, allowed_in, fault_in_space, touched_in, stored_in_space}
 
 -- ---- rights by the bits of an entry
 
@@ -127,7 +127,7 @@ module _ (s : SpacesState) (d : ℕ) where
   unfolding touched
   reach_touched va a q b = by_outcome (reach_in s d va a)
     where
-      by_outcome : (r : Result Location PageFault) → reach_in (touched_by s d va a r) d q b ≡ reach_in s d q b
+      by_outcome : (r : Result FrameOffset PageFault) → reach_in (touched_by s d va a r) d q b ≡ reach_in s d q b
       by_outcome (Ok location) = marked_reached (page_number va) a q b
       by_outcome (Err fault) = refl
 
@@ -150,11 +150,11 @@ module _ (s : SpacesState) (d va byte : ℕ) where
   unfolding stored_byte walked
   reach_stored q b = by_outcome (reach_in s d va Write)
     where
-      by_outcome : (r : Result Location PageFault) → reach_in (with_byte_at s byte r) d q b ≡ reach_in s d q b
+      by_outcome : (r : Result FrameOffset PageFault) → reach_in (with_byte_at s byte r) d q b ≡ reach_in s d q b
       by_outcome (Ok location) = refl
       by_outcome (Err fault) = refl
 
-  byte_put : (records : ℕ → List ℕ) (r : Result Location PageFault) (q : ℕ) (at : Location) →
+  byte_put : (records : ℕ → List ℕ) (r : Result FrameOffset PageFault) (q : ℕ) (at : FrameOffset) →
       (byte_of records (with_byte_at s byte r) d q at ≡ byte_of records s d q at) ⊎ (byte_of records (with_byte_at s byte r) d q at ≡ byte)
   unfolding window_byte
   byte_put records (Err fault) q at = inl refl
@@ -167,7 +167,7 @@ module _ (s : SpacesState) (d va byte : ℕ) where
       by_place told true = page_put s.pages stood.frame stood.offset byte at.frame at.offset
       by_place told false = inl refl
 
-  found_put : (records : ℕ → List ℕ) (r t : Result Location PageFault) (q : ℕ) →
+  found_put : (records : ℕ → List ℕ) (r t : Result FrameOffset PageFault) (q : ℕ) →
       (byte_or_zero records (with_byte_at s byte r) d q t ≡ byte_or_zero records s d q t)
       ⊎ (byte_or_zero records (with_byte_at s byte r) d q t ≡ byte)
   found_put records r (Err fault) q = inl refl
@@ -184,20 +184,20 @@ module _ (s : KernelState) where
   reached_rights None va a = refl
   reached_rights (Some d) va a = λ i q b. is_ok (reach_touched s.spaces d va a q b i)
 
-  reached_faults : (d : Option ℕ) (va : ℕ) (a : Access) → fault_in (touched_in s d va a) d ≡ fault_in s d
+  reached_faults : (d : Option ℕ) (va : ℕ) (a : Access) → fault_in_space (touched_in s d va a) d ≡ fault_in_space s d
   reached_faults None va a = refl
   reached_faults (Some d) va a = λ i q b. fault_or (record { va = q; error = 0 }) (reach_touched s.spaces d va a q b i)
 
   stored_bytes : (d : Option ℕ) (va byte q : ℕ) →
-      (byte_in (stored_in s d va byte) d q ≡ byte_in s d q) ⊎ (byte_in (stored_in s d va byte) d q ≡ byte)
+      (byte_in_space (stored_in_space s d va byte) d q ≡ byte_in_space s d q) ⊎ (byte_in_space (stored_in_space s d va byte) d q ≡ byte)
   stored_bytes None va byte q = inl refl
   stored_bytes (Some d) va byte q = byte_stored s.spaces d va byte (records_of s.environments) q
 
-  stored_rights : (d : Option ℕ) (va byte : ℕ) → allowed_in (stored_in s d va byte) d ≡ allowed_in s d
+  stored_rights : (d : Option ℕ) (va byte : ℕ) → allowed_in (stored_in_space s d va byte) d ≡ allowed_in s d
   stored_rights None va byte = refl
   stored_rights (Some d) va byte = λ i q b. is_ok (reach_stored s.spaces d va byte q b i)
 
-  stored_faults : (d : Option ℕ) (va byte : ℕ) → fault_in (stored_in s d va byte) d ≡ fault_in s d
+  stored_faults : (d : Option ℕ) (va byte : ℕ) → fault_in_space (stored_in_space s d va byte) d ≡ fault_in_space s d
   stored_faults None va byte = refl
   stored_faults (Some d) va byte = λ i q b. fault_or (record { va = q; error = 0 }) (reach_stored s.spaces d va byte q b i)
 

@@ -27,33 +27,33 @@ unloaded s = record { state = s; directory = None }
 
 -- where no directory is loaded, no page is there
 
-abbrev pub byte_in : KernelState → Option ℕ → ℕ → ℕ
-byte_in s None va = 0
-byte_in s (Some d) va = byte_at (records_of s.environments) s.spaces d va
+abbrev pub byte_in_space : KernelState → Option ℕ → ℕ → ℕ
+byte_in_space s None va = 0
+byte_in_space s (Some d) va = byte_at (records_of s.environments) s.spaces d va
 
 abbrev pub allowed_in : KernelState → Option ℕ → ℕ → Access → Bool
 allowed_in s None va access = false
 allowed_in s (Some d) va access = is_allowed s.spaces d va access
 
-abbrev pub fault_in : KernelState → Option ℕ → ℕ → Access → PageFault
-fault_in s None va access = fault_or (record { va = va; error = 0 }) (reach_entry None va access)
-fault_in s (Some d) va access = fault_at s.spaces d va access
+abbrev pub fault_in_space : KernelState → Option ℕ → ℕ → Access → PageFault
+fault_in_space s None va access = fault_or (record { va = va; error = 0 }) (reach_entry None va access)
+fault_in_space s (Some d) va access = fault_at s.spaces d va access
 
 abbrev pub touched_in : KernelState → Option ℕ → ℕ → Access → KernelState
 touched_in s None va access = s
 touched_in s (Some d) va access = with_spaces s (touched s.spaces d va access)
 
-abbrev pub stored_in : KernelState → Option ℕ → ℕ → ℕ → KernelState
-stored_in s None va byte = s
-stored_in s (Some d) va byte = with_spaces s (stored_byte s.spaces d va byte)
+abbrev pub stored_in_space : KernelState → Option ℕ → ℕ → ℕ → KernelState
+stored_in_space s None va byte = s
+stored_in_space s (Some d) va byte = with_spaces s (stored_byte s.spaces d va byte)
 
 unfoldable pub user_memory : Memory Running
 user_memory = record {
-  byte = λ m va. byte_in m.state m.directory va;
+  byte = λ m va. byte_in_space m.state m.directory va;
   allowed = λ m va access. allowed_in m.state m.directory va access;
-  fault = λ m va access. Page (fault_in m.state m.directory va access);
+  fault = λ m va access. Page (fault_in_space m.state m.directory va access);
   reached = λ m va access. with_state m (touched_in m.state m.directory va access);
-  stored = λ m va byte. with_state m (stored_in m.state m.directory va byte);
+  stored = λ m va byte. with_state m (stored_in_space m.state m.directory va byte);
 }
 
 -- the same inside a fence, which is looked at before the page

@@ -4,8 +4,8 @@ ghost use Rattle.std.specs.Prelude.{◌≡◌, ◌<◌, ◌≤◌, ◌+◌, ◌^
 ghost use Rattle.circular_buffer.specs.Buffer.{buffer};
 ghost use Rattle.jos_base.specs.declared.numbers.TheConstants.{TURN_MAX, NENV};
 ghost use Rattle.jos_sched.specs.Quantum.{quantum};
-ghost use Rattle.jos_kernel.specs.Books.{turn_of, noted, traced, report_of, made, turns_so_far, cut_off_of, HasRoom, HasStepsLeft};
-ghost use Rattle.jos_kernel.specs.Books.{goes_on_after, Counted};
+ghost use Rattle.jos_kernel.specs.Books.{turn_of, noted, traced, report_with, made, turns_so_far, cut_off_of, HasRoom, HasStepsLeft};
+ghost use Rattle.jos_kernel.specs.Books.{goes_on_in, IsCounted};
 
 use crate::report::{End, Refusal, Report, Stopped, Turn};
 use crate::trace::{Trace, TrapLine};
@@ -167,8 +167,8 @@ impl Book {
         requires left { made self.old + left ≡ quantum self.old.schedule (length self.old.turns.items) }
         requires small { made self.old + left < 2 ^ 31 }
         requires within { visible + hidden ≤ left }
-        ensures goes_on { result ≡ goes_on_after self.old (visible + hidden) running }
-        ensures counted { Counted result self.old self.new slot visible hidden }
+        ensures goes_on { result ≡ goes_on_in self.old (visible + hidden) running }
+        ensures counted { IsCounted result self.old self.new slot visible hidden }
         ensures room { HasRoom self.new }
         ensures left { HasStepsLeft self.new }
     {
@@ -210,7 +210,7 @@ impl Book {
     pub fn finish(mut self, slot: usize, end: End, refused: u64, upcalls: u64) -> (Report, Trace)
         requires room { HasRoom self }
         requires slot { slot < NENV }
-        ensures report { result.0 ≡ report_of end self.steps (turns_so_far self slot) self.first_refused refused upcalls }
+        ensures report { result.0 ≡ report_with end self.steps (turns_so_far self slot) self.first_refused refused upcalls }
         ensures trace { result.1 ≡ self.trace }
     {
         self.close_turn(slot);

@@ -12,9 +12,9 @@ ghost use Rattle.jos_sched.specs.Quantum.{quantum};
 ghost use Rattle.jos_kernel.specs.Boot.{booted, loadables};
 ghost use Rattle.jos_kernel.specs.Loading.{IsRead};
 ghost use Rattle.jos_kernel.specs.Books.{made, HasRoom};
-ghost use Rattle.jos_kernel.specs.ExoRun.{current, in_turn, end_of, before_steps, report_of};
+ghost use Rattle.jos_kernel.specs.ExoRun.{current, turn_entered, end_of, before_steps, report_of};
 ghost use Rattle.circular_buffer.specs.Buffer.{keep_last};
-ghost use Rattle.jos_kernel.specs.Kernel.{state_of, progress_of, Told, nothing, Counts, Holds, Counted, Advances, Steps, IsRun};
+ghost use Rattle.jos_kernel.specs.Kernel.{state_of, progress_of, ToldSoFar, nothing, Counts, Holds, Counted, Advances, StepsOnce, IsRun};
 ghost use Rattle.jos_kernel.specs.Ends.{result_of, IfEnded};
 ghost use Rattle.jos_kernel.specs.declared.report.End.TheVariants.{Budget};
 ghost use Rattle.jos_kernel.specs.declared.kernel.BootFault.TheVariants.{NoMemory};
@@ -130,7 +130,7 @@ impl Kernel {
         requires { Holds self.now }
         ensures end { IfErr result (λ end. end_of (progress_of self.now nothing) false ≡ Some end) }
         ensures slot { IfOk result (λ slot. end_of (progress_of self.now nothing) false ≡ None) }
-        ensures turn { IfOk result (λ slot. slot ≡ current (in_turn (state_of self.now) (made self.now.book))) }
+        ensures turn { IfOk result (λ slot. slot ≡ current (turn_entered (state_of self.now) (made self.now.book))) }
         ensures room { OnOk result (vec_len self.now.book.turns < TURN_MAX) }
         ensures live { IfOk result (λ slot. is_live (slot_at (state_of self.now) slot) ≡ true) }
         ensures within { IfOk result (λ slot. slot < NENV) }
@@ -187,9 +187,9 @@ impl Kernel {
     fn enter_turn(&mut self, slot: usize)
         requires holds { Holds self.old }
         requires place { vec_len self.old.book.turns < TURN_MAX }
-        requires slot { slot ≡ current (in_turn (state_of self.old) (made self.old.book)) }
+        requires slot { slot ≡ current (turn_entered (state_of self.old) (made self.old.book)) }
         requires live { is_live (slot_at (state_of self.old) slot) ≡ true }
-        ensures state { state_of self.new ≡ in_turn (state_of self.old) (made self.old.book) }
+        ensures state { state_of self.new ≡ turn_entered (state_of self.old) (made self.old.book) }
         ensures rest { self.new ≡ record self.old { machine = self.new.machine } }
         ensures running { is_running (slot_at (state_of self.new) slot).status ≡ true }
         ensures turns { (state_of self.new).turns ≤ vec_len self.new.book.turns + 1 }
@@ -207,7 +207,7 @@ impl Kernel {
         requires left { 0 < left }
         requires steps { self.old.book.steps + left < 2 ^ 64 }
         requires goes_on { end_of (progress_of self.old nothing) false ≡ None }
-        requires slot { slot ≡ current (in_turn (state_of self.old) (made self.old.book)) }
+        requires slot { slot ≡ current (turn_entered (state_of self.old) (made self.old.book)) }
         requires live { is_live (slot_at (state_of self.old) slot) ≡ true }
         requires within { slot < NENV }
         requires place { vec_len self.old.book.turns < TURN_MAX }
@@ -249,7 +249,7 @@ impl Kernel {
         requires left { 0 < left }
         requires steps { self.old.book.steps + left < 2 ^ 64 }
         requires goes_on { end_of (progress_of self.old nothing) false ≡ None }
-        requires slot { slot ≡ current (in_turn (state_of self.old) (made self.old.book)) }
+        requires slot { slot ≡ current (turn_entered (state_of self.old) (made self.old.book)) }
         requires live { is_live (slot_at (state_of self.old) slot) ≡ true }
         requires within { slot < NENV }
         requires place { vec_len self.old.book.turns < TURN_MAX }
@@ -279,7 +279,7 @@ impl Kernel {
         requires holds { Holds self.old }
         requires steps { self.old.book.steps + 1 < 2 ^ 64 }
         requires goes_on { end_of (progress_of self.old nothing) false ≡ None }
-        ensures told { Steps result (from_to self.old self.new) (around H.console host.old host.new) }
+        ensures told { StepsOnce result (from_to self.old self.new) (around H.console host.old host.new) }
         ensures holds { OnOk result (Holds self.new) }
         ensures rest { Unchanged H.files H.input H.asked H.notes host.old host.new }
         ensures cause { HasCause (H.faults host.old) (H.faults host.new) result }
@@ -367,7 +367,7 @@ impl Kernel {
     pub fn finish(self, end: End) -> (Report, Trace)
         requires { Holds self }
         ensures report { result.0 ≡ report_of (progress_of self nothing) end }
-        ensures trace { (told : Told) → Counts self told → result.1.items ≡ keep_last told.kept told.traps }
+        ensures trace { (told : ToldSoFar) → Counts self told → result.1.items ≡ keep_last told.kept told.traps }
     {
         self.book.finish(
             self.machine.current(),

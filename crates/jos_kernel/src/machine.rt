@@ -2,17 +2,18 @@
 
 ghost use Rattle.std.specs.Prelude.{◌≡◌, ◌==◌, ◌<◌, ◌≤◌, ◌-◌, ◌^◌, Bool, None, Some, Ok, Err, IfOk, IfErr, OnOk, OnErr, is_ok, true, not, length};
 ghost use Rattle.std.specs.Option.{ForSome};
+ghost use Rattle.std.specs.Result.{result_err};
 ghost use Rattle.jos_host.specs.Told.{HasCause};
 ghost use Rattle.jos_host.specs.Frames.{Unchanged, around};
 ghost use Rattle.jos_base.specs.declared.memory.Access.TheVariants.{Write};
 ghost use Rattle.jos_base.specs.declared.numbers.TheConstants.{NENV, CPUTS_MAX};
 ghost use Rattle.jos_base.specs.Environments.{is_live, is_running};
 ghost use Rattle.jos_base.specs.KernelState.{KernelState, slot_at, with_registers, with_extra, with_spaces, turn_begun, turn_ended};
-ghost use Rattle.jos_base.specs.SystemCalls.{handled, killed, system_call, user_bytes, with_bytes_reached};
+ghost use Rattle.jos_base.specs.SystemCalls.{handled, killed, system_call, user_bytes, with_bytes_reached, may_print};
 ghost use Rattle.jos_base.specs.UserMemory.{is_allowed, fault_at, touched, stored_byte};
-ghost use Rattle.jos_cpu.specs.Memory.{StandAt, probed, refusal_of};
+ghost use Rattle.jos_cpu.specs.Memory.{StandAt, probed};
 ghost use Rattle.jos_envs.specs.Table.{any_live};
-ghost use Rattle.jos_sys.specs.System.{state_of, left_of, Keeps, Does, IsFaulted, in_use, may_write};
+ghost use Rattle.jos_sys.specs.System.{state_of, left_of, Keeps, Does, IsFaulted, in_use};
 ghost use Rattle.jos_kernel.specs.Machine.{kernel_state, loaded, running_of, KnowsCode, Follows, IsHanded};
 ghost use Rattle.jos_kernel.specs.Running.{memory_inside, unloaded};
 ghost use Rattle.jos_kernel.specs.Steps.{after_trap, after_event};
@@ -30,7 +31,7 @@ use jos_cpu::{Event, Mem, MemFault};
 use jos_host::{Failed, Host};
 use jos_sched::next;
 use jos_space::{PageAtHand, Space};
-use jos_sys::{Answer, BUFFER_LEN, Faulted, Input, System};
+use jos_sys::{BUFFER_LEN, CallAnswer, Faulted, Input, System};
 use std::marker::{Model, PhantomData};
 
 /// What comes of a step: how many bytes were written, and the trap that was raised, if one was.
@@ -157,7 +158,7 @@ impl<F: Fence> Mem for Machine<F> {
 /// The fault of the first of so many bytes where no page is, if there is one.
 #[cold]
 fn probe_nothing<F: Fence>(va: u32, len: u32, access: Access) -> Result<(), MemFault>
-    ensures after { (s : KernelState) → probed (memory_inside F.inside) (unloaded s) va len access ≡ record { memory = unloaded s; refusal = refusal_of result } }
+    ensures after { (s : KernelState) → probed (memory_inside F.inside) (unloaded s) va len access ≡ record { memory = unloaded s; refusal = result_err result } }
     ensures none { is_ok result ≡ (len == 0) }
 {
     if len == 0 {
@@ -403,7 +404,12 @@ impl<F: Fence> Machine<F> {
     }
 
     /// Destroys an environment, with a line on the console. No space is loaded then.
-    pub fn kill<H: Host>(&mut self, host: &mut H, slot: usize, line: Line) -> Result<Answer, Failed>
+    pub fn kill<H: Host>(
+        &mut self,
+        host: &mut H,
+        slot: usize,
+        line: Line,
+    ) -> Result<CallAnswer, Failed>
         requires { is_live (slot_at (kernel_state self.old) slot) ≡ true }
         ensures told { Does result (killed (kernel_state self.old) slot line) (kernel_state self.new) (around H.console host.old host.new) }
         ensures small { IfOk result (λ answer. answer.written ≤ CPUTS_MAX) }
@@ -416,11 +422,11 @@ impl<F: Fence> Machine<F> {
     }
 
     /// Makes the system call that the registers of an environment ask for. No space is loaded then.
-    pub fn call<H: Host>(&mut self, host: &mut H, slot: usize) -> Result<Answer, Failed>
+    pub fn call<H: Host>(&mut self, host: &mut H, slot: usize) -> Result<CallAnswer, Failed>
         requires { is_live (slot_at (kernel_state self.old) slot) ≡ true }
         ensures told { Does result (system_call (kernel_state self.old) slot) (kernel_state self.new) (around H.console host.old host.new) }
         ensures small { IfOk result (λ answer. answer.written ≤ CPUTS_MAX) }
-        ensures fails { OnErr result (may_write (slot_at (kernel_state self.old) slot).registers.eax ≡ true) }
+        ensures fails { OnErr result (may_print (slot_at (kernel_state self.old) slot).registers.eax ≡ true) }
         ensures rest { Unchanged H.files H.input H.asked H.notes host.old host.new }
         ensures cause { HasCause (H.faults host.old) (H.faults host.new) result }
     {

@@ -10,15 +10,15 @@ use Rattle.jos_base.specs.declared.line.Line.TheVariants as line
 use Rattle.jos_base.specs.declared.memory.Access.{Access}
 use Rattle.jos_base.specs.declared.memory.PageFault.{PageFault}
 use Rattle.jos_base.specs.KernelState.{KernelState, slot_at, with_spaces}
-use Rattle.jos_base.specs.Reach.{Location}
+use Rattle.jos_base.specs.Reach.{FrameOffset}
 use Rattle.jos_base.specs.SystemCalls.{handled, killed}
 use Rattle.jos_base.specs.SpacesState.{SpacesState}
 use Rattle.jos_base.specs.UserMemory.{reach_in, is_allowed, fault_at, fault_or, touched, touched_by}
-use Rattle.jos_sys.specs.declared.system.Answer.{Answer}
+use Rattle.jos_sys.specs.declared.system.CallAnswer.{CallAnswer}
 use Rattle.jos_sys.specs.System.{Does}
 use Rattle.lib_os.specs.declared.user_os.Stop.{Stop}
 use Rattle.lib_os.specs.declared.user_os.Stop.TheVariants.{Upcall, Ended, Failed as HostFailed}
-use Rattle.lib_os.specs.UserCalls.{Step, IsStep, Output, Prints, got, giving, accessing, by_access, faulting}
+use Rattle.lib_os.specs.UserCalls.{CallStep, IsStep, Output, Prints, got, giving, accessing, by_access, faulting}
 use Rattle.jos_kernel.specs.MemoryProofs.{reach_touched}
 use Rattle.jos_run.specs.Served.{IsRaised}
 use Rattle.jos_run.proofs.Printed.{printed, prints}
@@ -28,7 +28,7 @@ use Rattle.jos_run.proofs.Printed.{printed, prints}
 module _ (s now : KernelState) (n : ℕ) (fault : PageFault) (console : Around (Option (List ℕ))) (counted after : ℕ) (none : handled s n fault ≡ None)
     (before : KernelState) (told : Line) (same : before ≡ s) (line_is : told ≡ line.UserFault fault.va (slot_at s n).registers.eip) where
   -- its end is raised
-  pub ended_raised : (answer : Answer) → Does (Ok answer) (killed before n told) now console →
+  pub ended_raised : (answer : CallAnswer) → Does (Ok answer) (killed before n told) now console →
       after ≡ min (counted + answer.written) (2 ^ 64 - 1) → IsRaised s n fault Ended now (printed console counted after)
   ended_raised answer =
       rw (same, line_is) (λ did more. (none, did.0, prints console counted after answer.written _ did.2 more did.3))
@@ -48,14 +48,14 @@ module _ (X : Type 0) (s after : KernelState) (n : ℕ) (output : Output) where
   faulted_step fault Ended raised = rw raised.0 (refl, raised.1, raised.2)
   faulted_step fault HostFailed raised = rw raised.0 (refl, raised.1)
 
-  module _ (va : ℕ) (access : Access) (done : KernelState → Step X) where
+  module _ (va : ℕ) (access : Access) (done : KernelState → CallStep X) where
     -- an access that is refused
     pub refused_step : (why : Stop) → is_allowed s.spaces (slot_at s n).directory va access ≡ false →
         IsRaised s n (fault_at s.spaces (slot_at s n).directory va access) why after output →
         IsStep (by_access s n va access done) (Err why) after output
     refused_step why refused raised = by_reach (reach_in s.spaces (slot_at s n).directory va access) refused raised
       where
-        by_reach : (r : Result Location PageFault) → is_ok r ≡ false → IsRaised s n (fault_or (record { va = va; error = 0 }) r) why after output →
+        by_reach : (r : Result FrameOffset PageFault) → is_ok r ≡ false → IsRaised s n (fault_or (record { va = va; error = 0 }) r) why after output →
             IsStep (accessing s n va access done r) (Err why) after output
         by_reach (Ok location) refused raised = absurd (false≢true (sym refused))
         by_reach (Err fault) refused raised = faulted_step fault why raised
@@ -66,7 +66,7 @@ module _ (X : Type 0) (s after : KernelState) (n : ℕ) (output : Output) where
         IsStep (done reached) (Ok x) after output → IsStep (by_access s n va access done) (Ok x) after output
     allowed_step x reached allowed same = by_reach (reach_in s.spaces (slot_at s n).directory va access) allowed
       where
-        by_reach : (r : Result Location PageFault) → is_ok r ≡ true → IsStep (done reached) (Ok x) after output →
+        by_reach : (r : Result FrameOffset PageFault) → is_ok r ≡ true → IsStep (done reached) (Ok x) after output →
             IsStep (accessing s n va access done r) (Ok x) after output
         by_reach (Ok location) allowed step = subst (λ (k : KernelState). IsStep (done k) (Ok x) after output) same step
         by_reach (Err fault) allowed step = absurd (false≢true allowed)
@@ -111,7 +111,7 @@ untouched : (s : SpacesState) (d va : ℕ) (access : Access) → is_allowed s d 
 unfolding touched
 untouched s d va access refused = by_reach (reach_in s d va access) refused
   where
-    by_reach : (r : Result Location PageFault) → is_ok r ≡ false → touched_by s d va access r ≡ s
+    by_reach : (r : Result FrameOffset PageFault) → is_ok r ≡ false → touched_by s d va access r ≡ s
     by_reach (Ok location) refused = absurd (false≢true (sym refused))
     by_reach (Err fault) refused = refl
 

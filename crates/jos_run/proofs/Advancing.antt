@@ -5,7 +5,7 @@ use Rattle.std.specs.Prelude.{nat_lt, unwrap_or}
 use Rattle.std.proofs.lemmas.Bool.Decides.{nat_tests}
 use Rattle.jos_base.specs.declared.environment.Status.{Status}
 use Rattle.jos_base.specs.declared.environment.Status.TheVariants.{Runnable, Running, NotRunnable}
-use Rattle.jos_base.specs.Environments.{Slot as KernelSlot, is_running, is_runnable}
+use Rattle.jos_base.specs.Environments.{Slot, is_running, is_runnable}
 use Rattle.jos_base.specs.KernelState.{KernelState, slot_at}
 use Rattle.jos_base.specs.KernelState as kernel
 use Rattle.jos_sched.specs.Quantum.{quantum}
@@ -20,9 +20,9 @@ use Rattle.lib_os.specs.declared.progress.Progress.TheVariants as progress
 use Rattle.lib_os.specs.declared.service.Service.{Service}
 use Rattle.lib_os.specs.declared.service.Service.TheVariants as service
 use Rattle.lib_os.specs.AbstractState.{AbstractState, Born}
-use Rattle.lib_os.specs.LibrarySteps.{Keeps, NothingRefused, KeepsTurn, MayGiveUp}
+use Rattle.lib_os.specs.LibrarySteps.{KeepsStanding, NothingRefused, KeepsTurn, MayGiveUp}
 use Rattle.lib_os.specs.Places.{place_of}
-use Rattle.lib_os.specs.StandsFor.{StandsFor, StandsAt, StandsAtStep, Names, Row, rows_of, RunsAs, WaitsOrHas, waits, has}
+use Rattle.lib_os.specs.StandsFor.{StandsFor, StandsAt, StandsAtStep, Names, EntryRow, rows_of, IsStatusFor, WaitsOrHas, waits, has}
 use Rattle.lib_os.proofs.SlotsStand.{born_at}
 use Rattle.jos_run.specs.AbstractTurns.{turn_begun, may_end}
 use Rattle.jos_run.specs.LibraryRuns.{IsBetween, IsInTurn, visible_steps}
@@ -36,13 +36,13 @@ use Rattle.jos_run.proofs.Choices.{only_runs}
 same_number : (x y : ℕ) → ◌≡◌ {A = Option ℕ} (Some x) (Some y) → x ≡ y
 same_number x y is = ap (λ (o : Option ℕ). unwrap_or o x) is
 
-pub awake_running : (status : Status) (blocked : Bool) → RunsAs status blocked → is_running status ≡ true → blocked ≡ false
+pub awake_running : (status : Status) (blocked : Bool) → IsStatusFor status blocked → is_running status ≡ true → blocked ≡ false
 awake_running Running false h runs = refl
 awake_running Runnable false h runs = refl
 awake_running NotRunnable true h runs = absurd (let contradiction : false ≡ true = runs in cc)
 awake_running _ _ h runs = absurd h
 
-silent_step : (row : Row) (k : KernelSlot) (b : Born) (s : Service) (stands : Step) → StandsAtStep row k b s stands → b.blocked ≡ false →
+silent_step : (row : EntryRow) (k : Slot) (b : Born) (s : Service) (stands : Step) → StandsAtStep row k b s stands → b.blocked ≡ false →
     k.rendezvous.receiving ≡ false
 silent_step row k b s step.Entered h awake = h.silent
 silent_step row k b (service.Wait id) (step.Trying perm) h awake = h.is_in.silent
@@ -61,7 +61,7 @@ silent_step row k b (service.Receive va from) (step.ReadingSender id value) h aw
 silent_step row k b (service.Receive va from) (step.ReadingPerm id value sender) h awake = h.3.silent
 silent_step row k b _ _ h awake = absurd h
 
-silent_at : (row : Row) (k : KernelSlot) (b : Born) (p : Place) → StandsAt p row k b → b.blocked ≡ false → k.rendezvous.receiving ≡ false
+silent_at : (row : EntryRow) (k : Slot) (b : Born) (p : Place) → StandsAt p row k b → b.blocked ≡ false → k.rendezvous.receiving ≡ false
 silent_at row k b place.Guest h awake = h.silent
 silent_at row k b (place.InService s stands) h awake = silent_step row k b s stands h awake
 
@@ -106,7 +106,7 @@ comes_by {n = n} {visible = visible} {hidden = hidden} {s = s} h may = record {
 
 comes : {schedule : List ℕ} {first : AbstractState} {turns : List Turn} {n visible : ℕ} {s after : KernelState} {written : List ℕ}
     (bytes : List ℕ) →
-    (h : IsInTurn schedule first turns n visible s written) → (done : Progress) → Keeps done n s after bytes → NothingRefused s after →
+    (h : IsInTurn schedule first turns n visible s written) → (done : Progress) → KeepsStanding done n s after bytes → NothingRefused s after →
     after.last ≡ Some n → is_running (slot_at s n).status ≡ true →
     (is_runnable (slot_at after n).status ≡ true → MayGiveUp done (place_of (slot_at s n))) → (hidden : ℕ) →
     Comes schedule first turns n (visible + visible_steps done) hidden after (written ++ bytes)
@@ -135,7 +135,7 @@ comes {n = n} bytes h progress.Ended keeps none_refused last runs gives hidden =
 -- A step of the slot that has its turn, where nothing was refused.
 pub stepped : {schedule : List ℕ} {first : AbstractState} {turns : List Turn} {n visible : ℕ} {s after : KernelState}
     {written : List ℕ} (bytes : List ℕ) →
-    IsInTurn schedule first turns n visible s written → (done : Progress) → Keeps done n s after bytes → NothingRefused s after →
+    IsInTurn schedule first turns n visible s written → (done : Progress) → KeepsStanding done n s after bytes → NothingRefused s after →
     after.last ≡ Some n → is_running (slot_at s n).status ≡ true → KeepsTurn done (slot_at s n) (slot_at after n) → (hidden : ℕ) →
     Comes schedule first turns n (visible + visible_steps done) hidden after (written ++ bytes)
 stepped {n = n} bytes h done keeps none_refused last runs turn hidden =

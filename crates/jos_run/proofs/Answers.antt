@@ -8,13 +8,13 @@ use Rattle.jos_base.specs.declared.memory.PageFault.{PageFault}
 use Rattle.jos_base.specs.declared.registers.Regs.{Regs}
 use Rattle.jos_base.specs.Environments.{Slot}
 use Rattle.jos_base.specs.KernelState.{KernelState, slot_at, with_registers}
-use Rattle.jos_base.specs.SystemCalls.{system_call, user_bytes, with_bytes_reached}
+use Rattle.jos_base.specs.SystemCalls.{system_call, user_bytes, with_bytes_reached, may_print}
 use Rattle.jos_base.specs.TrapFrames.{frame_size, from_frame, words_of_bytes}
-use Rattle.jos_sys.specs.declared.system.Answer.{Answer}
+use Rattle.jos_sys.specs.declared.system.CallAnswer.{CallAnswer}
 use Rattle.jos_sys.specs.System.{Does}
 use Rattle.lib_os.specs.declared.user_os.Stop.{Stop}
 use Rattle.lib_os.specs.UserCalls as call
-use Rattle.lib_os.specs.UserCalls.{IsStep, IsCallStep, Output, Prints, may_print, got, asking, sets_own, taken_back, restored}
+use Rattle.lib_os.specs.UserCalls.{IsStep, IsCallStep, Output, Prints, got, asking, sets_own, taken_back, restored}
 use Rattle.lib_os.proofs.Slots.{slot_put}
 use Rattle.jos_run.specs.Served.{IsRaised}
 use Rattle.jos_run.proofs.Accesses.{faulted_step}
@@ -45,7 +45,7 @@ module _ (s asked mid after : KernelState) (n number : ℕ) (args : List ℕ) (c
   failed_prints may = ap (λ (x : ℕ). may_print x) (sym eax_is) ∙ may
 
   -- it is answered, and the registers are taken back
-  pub answered_step : (answer : Answer) (own : Bool) → own ≡ sets_own s n number args → after ≡ taken_back mid n own kept →
+  pub answered_step : (answer : CallAnswer) (own : Bool) → own ≡ sets_own s n number args → after ≡ taken_back mid n own kept →
       now ≡ min (counted + answer.written) (2 ^ 64 - 1) → Does (Ok answer) (system_call asked n) mid console →
       IsCallStep (call.system s n number args) (Ok answer.called) after (printed console counted now)
   unfolding call.system

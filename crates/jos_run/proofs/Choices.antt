@@ -8,7 +8,7 @@ use Rattle.jos_base.specs.declared.environment.EnvType.{EnvType}
 use Rattle.jos_base.specs.declared.environment.Status.{Status}
 use Rattle.jos_base.specs.declared.environment.Status.TheVariants.{Runnable, Running, NotRunnable}
 use Rattle.jos_base.specs.declared.numbers.TheConstants.{NENV, TURN_MAX}
-use Rattle.jos_base.specs.Environments.{Slot as KernelSlot, Environments, is_free, is_live as is_live_slot, is_running, is_runnable}
+use Rattle.jos_base.specs.Environments.{Slot, Environments, is_free, is_live as is_live_slot, is_running, is_runnable}
 use Rattle.jos_base.specs.KernelState.{KernelState, slot_at, with_slot_at, turn_begun, turn_ended}
 use Rattle.jos_base.specs.SpacesState.{SpacesState}
 use Rattle.jos_envs.specs.Table.{may_run}
@@ -17,8 +17,8 @@ use Rattle.jos_sched.specs.RoundRobin as robin
 use Rattle.jos_kernel.specs.declared.report.End.{End}
 use Rattle.jos_kernel.specs.declared.report.End.TheVariants.{Done, Stuck, Budget, TurnsFull}
 use Rattle.fs_layout.specs.DiskImage.{some_below}
-use Rattle.lib_os.specs.AbstractState.{AbstractState, Slot, free, unborn, born, serving, Server, idle, can_run, can_run_as}
-use Rattle.lib_os.specs.StandsFor.{StandsFor, StandsForSlot, Names, RunsAs}
+use Rattle.lib_os.specs.AbstractState.{AbstractState, AbstractSlot, free, unborn, born, serving, Server, idle, can_run, can_run_as}
+use Rattle.lib_os.specs.StandsFor.{StandsFor, StandsForSlot, Names, IsStatusFor}
 use Rattle.lib_os.proofs.SlotsStand.{born_live}
 use Rattle.jos_run.specs.AbstractTurns.{first_of, next_slot, is_client, any_live, end_of}
 use Rattle.jos_run.specs.LibraryRuns.{NoneRuns, OnlyRuns, OnlyFirstServes, is_user, others_live, end_seen}
@@ -27,15 +27,15 @@ use Rattle.fs_layout.proofs.Below.{some_below-same}
 
 -- ---- who may run
 
-runs_alike : (status : Status) (blocked : Bool) → RunsAs status blocked → is_running status ≡ false → is_runnable status ≡ not blocked
+runs_alike : (status : Status) (blocked : Bool) → IsStatusFor status blocked → is_running status ≡ false → is_runnable status ≡ not blocked
 runs_alike Runnable false h idle_now = refl
 runs_alike Running false h idle_now = absurd (let contradiction : true ≡ false = idle_now in cc)
 runs_alike NotRunnable true h idle_now = refl
 runs_alike _ _ h idle_now = absurd h
 
-slot_runs : (names : Names) (sp : SpacesState) (k : KernelSlot) (slot : Slot) → StandsForSlot names sp k slot →
+slot_runs : (names : Names) (sp : SpacesState) (k : Slot) (slot : AbstractSlot) → StandsForSlot names sp k slot →
     is_running k.status ≡ false → is_runnable k.status ≡ can_run_as idle slot
-slot_runs names sp k (free id) h idle_now = ap (λ (x : KernelSlot). is_runnable x.status) h
+slot_runs names sp k (free id) h idle_now = ap (λ (x : Slot). is_runnable x.status) h
 slot_runs names sp k (unborn id parent) h idle_now = absurd h
 slot_runs names sp k (born b) h idle_now = runs_alike k.status b.blocked h.runs idle_now
 slot_runs names sp k (serving id) h idle_now = ap (λ (x : Status). is_runnable x) h.status
@@ -70,9 +70,9 @@ next_stands {s = s} {a = a} h none =
 
 -- ---- whether anybody is left
 
-client_counts : (names : Names) (sp : SpacesState) (k : KernelSlot) (slot : Slot) → StandsForSlot names sp k slot →
+client_counts : (names : Names) (sp : SpacesState) (k : Slot) (slot : AbstractSlot) → StandsForSlot names sp k slot →
     is_client slot ≡ (is_live_slot k && is_user k.env_type)
-client_counts names sp k (free id) h = sym (ap (λ (x : KernelSlot). is_live_slot x && is_user x.env_type) h)
+client_counts names sp k (free id) h = sym (ap (λ (x : Slot). is_live_slot x && is_user x.env_type) h)
 client_counts names sp k (unborn id parent) h = absurd h
 client_counts names sp k (born b) h =
     sym (ap (λ (c : Bool). c && is_user k.env_type) (born_live h) ∙ ap (λ (x : EnvType). is_user x) h.env_type)
@@ -101,7 +101,7 @@ client_other {s = s} {a = a} h only n = by_test (n == 0) refl
     by_test : (c : Bool) → (n == 0) ≡ c → is_client (a.slots n) ≡ (not c && is_live_slot (slot_at s n))
     by_test true test =
         let at : n ≡ 0 = grind (arith, nat_tests) in
-        ap (λ (x : ℕ). is_client (a.slots x)) at ∙ ap (λ (slot : Slot). is_client slot) h.first
+        ap (λ (x : ℕ). is_client (a.slots x)) at ∙ ap (λ (slot : AbstractSlot). is_client slot) h.first
     by_test false test =
         let other : n ≢ 0 = grind (arith, nat_tests) in
         clients_stand h n ∙ ap (λ (c : Bool). is_live_slot (slot_at s n) && c) (only n other) ∙ and_true (is_live_slot (slot_at s n))
@@ -146,19 +146,19 @@ only_runs {s = s} h n last m ne = by_test (is_running (slot_at s m).status) refl
 
 pub begun_only : (s : KernelState) (n : ℕ) → NoneRuns s → OnlyRuns (turn_begun s n) n
 begun_only s n none m ne =
-    let k : KernelSlot = record (slot_at s n) { status = Running; runs = ((slot_at s n).runs + 1) % 2 ^ 32 } in
-    ap (λ (x : KernelSlot). is_running x.status) (upd-other s.environments.slots n k m ne) ∙ none m
+    let k : Slot = record (slot_at s n) { status = Running; runs = ((slot_at s n).runs + 1) % 2 ^ 32 } in
+    ap (λ (x : Slot). is_running x.status) (upd-other s.environments.slots n k m ne) ∙ none m
 
 -- at the end of the turn of the slot that had it no slot is RUNNING
 pub ended_none : (s : KernelState) (n : ℕ) → OnlyRuns s n → NoneRuns (turn_ended s n)
 ended_none s n only = by_test (is_running (slot_at s n).status) refl
   where
-    runnable : KernelSlot
+    runnable : Slot
     runnable = record (slot_at s n) { status = Runnable }
 
     by_test : (c : Bool) → is_running (slot_at s n).status ≡ c →
         (m : ℕ) → is_running (slot_at (if c then with_slot_at s n runnable else s) m).status ≡ false
-    by_test true is m = upd-all (λ m (k : KernelSlot). is_running k.status ≡ false) s.environments.slots n runnable refl only m
+    by_test true is m = upd-all (λ m (k : Slot). is_running k.status ≡ false) s.environments.slots n runnable refl only m
     by_test false is m = by_place (m == n) refl
       where
         by_place : (c : Bool) → (m == n) ≡ c → is_running (slot_at s m).status ≡ false

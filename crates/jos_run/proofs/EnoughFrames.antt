@@ -2,7 +2,7 @@
 use Rattle.std.proofs.Common.{◌≡◌, ◌∙◌, ◌+◌, ◌-◌, ◌*◌, ◌/◌, ◌<◌, ◌≤◌, ◌&&◌, ℕ, zero, suc, not, Bool, true, false, List, [], ◌∷◌}
 use Rattle.std.proofs.Common.{Option, Some, None}
 use Rattle.std.proofs.Common.{length, refl, sym, ap, arith, if◌then◌else◌}
-use Rattle.std.specs.Prelude.{is_some}
+use Rattle.std.specs.Prelude.{is_some, option_and_then}
 use Rattle.std.specs.Option.{option_map}
 use Rattle.jos_base.specs.Counting.{frame_limit}
 use Rattle.jos_base.specs.Environments.{bit_of, no_extra}
@@ -11,7 +11,7 @@ use Rattle.jos_base.specs.SpacesState.{SpacesState, allocated, reserved_frames, 
 use Rattle.jos_base.specs.Words.{upd}
 use Rattle.jos_elf.specs.declared.image.Segment.{Segment}
 use Rattle.jos_elf.specs.Parsed.{Layout}
-use Rattle.jos_kernel.specs.Boot.{and_then, any_touches, any_writes, filled, page_bytes, page_loaded, pages_loaded, perm_of, stack_page}
+use Rattle.jos_kernel.specs.Boot.{any_touches, any_writes, filled, page_bytes, page_loaded, pages_loaded, perm_of, stack_page}
 use Rattle.lib_os.specs.AbstractMemory.{has_page_in}
 use Rattle.lib_os.specs.AbstractState.{Page, own}
 use Rattle.lib_os.proofs.SlotsStand.{born_at}
@@ -142,7 +142,7 @@ module _ (image : Layout) (words : List (List ℕ)) (input : List ℕ) (frames :
       let stage = pages_stage image words input frames kernel at_guest small file first h n (let lim = limit_small in
       omega (arith, lim)) before.0 before.1 in
       let next = page_suffices n before.0 (omega arith) stage before.2 in
-      (next.0, ap (λ (o : Option SpacesState). and_then o (page_loaded segments file d n)) before.1 ∙ next.1, next.2)
+      (next.0, ap (λ (o : Option SpacesState). option_and_then (page_loaded segments file d n) o) before.1 ∙ next.1, next.2)
 
   -- all pages, and that of the stack
   program_suffices : 0 < stack_size words → stack_size words ≤ 4096 → (first : SpacesState) → At (λ p. None) first → Suffices 0 first →
@@ -155,7 +155,7 @@ module _ (image : Layout) (words : List (List ℕ)) (input : List ℕ) (frames :
       (let enough = loaded.2.enough in omega (arith, enough)) in
       let bytes : List ℕ = page_bytes (stack_segment words ∷ []) (stack_contents words) stack_page in (
         with_page_bytes last.0.1 last.0.0 bytes,
-        ap (λ (o : Option SpacesState). and_then o (page_loaded (stack_segment words ∷ []) (stack_contents words) d stack_page)) loaded.1
+        ap (λ (o : Option SpacesState). option_and_then (page_loaded (stack_segment words ∷ []) (stack_contents words) d stack_page) o) loaded.1
             ∙ ap (λ (b : Bool). if b then filled bytes
             (allocated t d stack_page (perm_of (any_writes stack_page (stack_segment words ∷ [])))) else Some t)
             (stack-touched words some most)

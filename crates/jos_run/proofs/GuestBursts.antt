@@ -10,7 +10,7 @@ use Rattle.jos_base.proofs.Maps.{upd-at}
 use Rattle.jos_cpu.specs.declared.events.Event.{Event}
 use Rattle.jos_cpu.specs.declared.events.Event.TheVariants.{Next, Soft, Raised}
 use Rattle.jos_cpu.specs.declared.events.Gates.TheVariants.{Run}
-use Rattle.jos_cpu.specs.Bursts.{Machine, StepsTo, GoesOn, IsBurst}
+use Rattle.jos_cpu.specs.Bursts.{ProcessorState, StepsTo, StepsOn, IsBurst}
 use Rattle.jos_cpu.specs.Steps.{step_of}
 use Rattle.jos_cpu.proofs.Agreement.{through}
 use Rattle.jos_kernel.specs.Running.{Running, memory_inside, loaded_in}
@@ -19,7 +19,7 @@ use Rattle.jos_kernel.proofs.KeepsRest.{KeepsRest, directory_is, slot_is, steps_
 use Rattle.lib_os.specs.declared.place.Place.{Place}
 use Rattle.lib_os.specs.declared.place.Place.TheVariants as place
 use Rattle.lib_os.specs.Fence.{is_inside, is_resident}
-use Rattle.lib_os.specs.Places.{place_in, place_of, service_word}
+use Rattle.lib_os.specs.Places.{place_in_words, place_of, service_word}
 use Rattle.lib_os.proofs.Slots as slots
 use Rattle.jos_run.specs.FencedMemory.{fenced_memory, may_stand}
 use Rattle.jos_run.specs.GuestSteps.{quietly, after_event, after_instruction, guest_instruction}
@@ -34,20 +34,20 @@ is_program _ = false
 
 module _ (n : ℕ) where
   -- the kernel's state with the registers in the slot
-  abbrev pub put_back : Machine Running → KernelState
+  abbrev put_back : ProcessorState Running → KernelState
   put_back m = with_registers m.memory.state n m.regs
 
-  slot_back : (m : Machine Running) → slot_at (put_back m) n ≡ record (slot_at m.memory.state n) { registers = m.regs }
+  slot_back : (m : ProcessorState Running) → slot_at (put_back m) n ≡ record (slot_at m.memory.state n) { registers = m.regs }
   slot_back m = upd-at m.memory.state.environments.slots n (record (slot_at m.memory.state n) { registers = m.regs })
 
-  abbrev pub IsLoaded : Machine Running → Type 0
+  abbrev IsLoaded : ProcessorState Running → Type 0
   IsLoaded m = m.memory.directory ≡ Some (slot_at m.memory.state n).directory
 
-  abbrev pub IsAtGuest : Machine Running → Type 0
-  IsAtGuest m = place_of (slot_at (put_back m) n) ≡ place.Guest
+  abbrev IsAtProgram : ProcessorState Running → Type 0
+  IsAtProgram m = place_of (slot_at (put_back m) n) ≡ place.Guest
 
   -- A step of the processor, with what comes of it, is the program's.
-  instruction_is : {event : Event} (before after : Machine Running) → StepsTo (memory_inside is_inside) Run before event after → IsLoaded before →
+  instruction_is : {event : Event} (before after : ProcessorState Running) → StepsTo (memory_inside is_inside) Run before event after → IsLoaded before →
       guest_instruction (put_back before) n ≡ after_event (put_back after) n before.regs.eip event
   unfolding guest_instruction fenced_memory
   instruction_is {event = event} before after step loaded =
@@ -60,10 +60,10 @@ module _ (n : ℕ) where
       ∙ (λ i. after_instruction n ip (through (with_registers_in n before.regs) (step i)))
       ∙ (λ i. after_event (registers_twice after.memory.state n before.regs after.regs i) n ip event)
 
-  resident_is : (m : Machine Running) → is_resident (slot_at (put_back m) n).registers.esp ≡ is_resident m.regs.esp
+  resident_is : (m : ProcessorState Running) → is_resident (slot_at (put_back m) n).registers.esp ≡ is_resident m.regs.esp
   resident_is m = ap (λ (slot : Slot). is_resident slot.registers.esp) (slot_back m)
 
-  not_resident : (m : Machine Running) → may_stand m.regs.esp ≡ true → is_resident (slot_at (put_back m) n).registers.esp ≡ false
+  not_resident : (m : ProcessorState Running) → may_stand m.regs.esp ≡ true → is_resident (slot_at (put_back m) n).registers.esp ≡ false
   not_resident m may = resident_is m ∙ by_test (is_resident m.regs.esp) may
     where
       by_test : (c : Bool) → not c ≡ true → c ≡ false
@@ -71,17 +71,17 @@ module _ (n : ℕ) where
       by_test false is = refl
 
   -- one that goes on is told nothing
-  goes_quietly : (m : Machine Running) (ip : ℕ) → may_stand m.regs.esp ≡ true → after_event (put_back m) n ip Next ≡ quietly (put_back m)
+  goes_quietly : (m : ProcessorState Running) (ip : ℕ) → may_stand m.regs.esp ≡ true → after_event (put_back m) n ip Next ≡ quietly (put_back m)
   goes_quietly m ip may = rw (not_resident m may) refl
 
-  loaded_still : (before after : Machine Running) → KeepsRest before.memory after.memory → IsLoaded before → IsLoaded after
+  loaded_still : (before after : ProcessorState Running) → KeepsRest before.memory after.memory → IsLoaded before → IsLoaded after
   loaded_still before after k loaded = directory_is k ∙ loaded ∙ (λ i. Some (sym (slot_is k n) i).directory)
 
   -- where an environment stands at its program, it does so with any registers
-  guest_still : (before after : Machine Running) → KeepsRest before.memory after.memory → IsAtGuest before → IsAtGuest after
-  unfolding place_in
+  guest_still : (before after : ProcessorState Running) → KeepsRest before.memory after.memory → IsAtProgram before → IsAtProgram after
+  unfolding place_in_words
   guest_still before after k is =
-      (λ i. place_of (slot_back after i)) ∙ (λ i. place_in after.regs (slot_is k n i).extra)
+      (λ i. place_of (slot_back after i)) ∙ (λ i. place_in_words after.regs (slot_is k n i).extra)
       ∙ by_word (service_word (slot_at before.memory.state n).extra == 0) _ _ refl ((λ i. place_of (sym (slot_back before) i)) ∙ is)
     where
       by_word : (c : Bool) (p q : Place) → is_program p ≡ false → (if c then place.Guest else p) ≡ place.Guest →
@@ -89,8 +89,8 @@ module _ (n : ℕ) where
       by_word true p q none is = refl
       by_word false p q none is = absurd (false≢true (sym none ∙ ap is_program is))
 
-  pub goes_on : (k : ℕ) (before after : Machine Running) → GoesOn (memory_inside is_inside) may_stand Run k before after → IsLoaded before →
-      IsAtGuest before → GuestGoesOn n k (put_back before) (put_back after)
+  pub goes_on : (k : ℕ) (before after : ProcessorState Running) → StepsOn (memory_inside is_inside) may_stand Run k before after → IsLoaded before →
+      IsAtProgram before → GuestGoesOn n k (put_back before) (put_back after)
   goes_on zero before after e loaded guest = ap put_back e
   goes_on (suc k) before after g loaded guest =
       let next = g.0 in
@@ -103,7 +103,7 @@ module _ (n : ℕ) where
       )
 
   -- what comes of an instruction hangs on its address where that ends a burst, but for an interrupt
-  address_told : (after : Machine Running) (a b : ℕ) (event : Event) →
+  address_told : (after : ProcessorState Running) (a b : ℕ) (event : Event) →
       ((event ≡ Next → may_stand after.regs.esp ≡ true → ⊥) → a ≡ b) →
       after_event (put_back after) n a event ≡ after_event (put_back after) n b event
   address_told after a b Next same = by_test (is_resident after.regs.esp) refl
@@ -121,12 +121,12 @@ module _ (n : ℕ) where
       (same (λ e may. absurd (let contradiction : Raised trap error va ≡ Next = e in cc)))
 
 -- steps of the processor, begun with the registers of the slot
-pub guest_burst : (n going ip : ℕ) {event : Event} (s : KernelState) (before reached after : Machine Running) →
-    GoesOn (memory_inside is_inside) may_stand Run going before reached → StepsTo (memory_inside is_inside) Run reached event after →
+guest_burst : (n going ip : ℕ) {event : Event} (s : KernelState) (before reached after : ProcessorState Running) →
+    StepsOn (memory_inside is_inside) may_stand Run going before reached → StepsTo (memory_inside is_inside) Run reached event after →
     ((event ≡ Next → may_stand after.regs.esp ≡ true → ⊥) → ip ≡ reached.regs.eip) → s ≡ put_back n before → IsLoaded n before →
     place_of (slot_at s n) ≡ place.Guest → IsGuestBurst n going s (put_back n after) ip event
 guest_burst n going ip {event = event} s before reached after went last at begun loaded guest =
-    let guest_before : IsAtGuest n before = (λ i. place_of (slot_at (sym begun i) n)) ∙ guest in
+    let guest_before : IsAtProgram n before = (λ i. place_of (slot_at (sym begun i) n)) ∙ guest in
     let kept = going_keeps is_inside may_stand Run going before reached went in
     record {
       reached = put_back n reached;

@@ -12,7 +12,7 @@ use Rattle.jos_base.specs.declared.numbers.TheConstants.{T_BRKPT, T_GPFLT, T_PGF
 use Rattle.jos_base.specs.declared.registers.Regs.{Regs}
 use Rattle.jos_base.specs.Environments.{Slot, free_slot, is_runnable}
 use Rattle.jos_base.specs.KernelState.{KernelState, slot_at, with_slot_at, with_registers, with_spaces}
-use Rattle.jos_base.specs.Reach.{Location}
+use Rattle.jos_base.specs.Reach.{FrameOffset}
 use Rattle.jos_base.specs.SpacesState.{SpacesState, overlaid, with_page_bytes}
 use Rattle.jos_base.specs.SystemCalls.{Trapped, handler_entered, handled_at, handled, delivered_to, deliver_fault, trapped_by, killed}
 use Rattle.jos_base.specs.TrapFrames.{frame_bytes, upcall_place}
@@ -23,7 +23,7 @@ use Rattle.jos_cpu.specs.declared.events.Gates.TheVariants.{Run}
 use Rattle.jos_cpu.specs.Steps.{Stepped, step_of}
 use Rattle.jos_cpu.proofs.Agreement.{Agrees}
 use Rattle.jos_cpu.proofs.Through.{step_through}
-use Rattle.jos_kernel.specs.Running.{Running, user_memory, loaded_in, touched_in, stored_in}
+use Rattle.jos_kernel.specs.Running.{Running, user_memory, loaded_in, touched_in, stored_in_space}
 use Rattle.jos_kernel.specs.Steps.{EnvStep, trapped}
 use Rattle.lib_os.specs.declared.progress.Progress.{Progress}
 use Rattle.lib_os.specs.Fence.{is_resident}
@@ -49,7 +49,7 @@ stored_frames : (s : SpacesState) (d va byte : ℕ) → (stored_byte s d va byte
 unfolding stored_byte
 stored_frames s d va byte = by_outcome (reach_in s d va Write)
   where
-    by_outcome : (r : Result Location PageFault) → (with_byte_at s byte r).frames ≡ s.frames
+    by_outcome : (r : Result FrameOffset PageFault) → (with_byte_at s byte r).frames ≡ s.frames
     by_outcome (Ok location) = refl
     by_outcome (Err refusal) = refl
 
@@ -90,7 +90,7 @@ module _ (s : KernelState) (n : ℕ) where
 
   -- ---- traps
 
-  entered_left : (t : KernelState) → Left t → (fault : PageFault) (place : ℕ) (reached : Result Location PageFault) →
+  entered_left : (t : KernelState) → Left t → (fault : PageFault) (place : ℕ) (reached : Result FrameOffset PageFault) →
       IfSome (handler_entered t n fault place reached) Left
   entered_left t h fault place (Err refusal) = tt
   entered_left t h fault place (Ok at) =
@@ -143,7 +143,7 @@ module _ (s : KernelState) (n : ℕ) where
   touched_left t h None va access = h
   touched_left t h (Some d) va access = spaces_left t h (touched t.spaces d va access) (touched_frames t.spaces d va access)
 
-  stored_left : (t : KernelState) → Left t → (o : Option ℕ) (va byte : ℕ) → Left (stored_in t o va byte)
+  stored_left : (t : KernelState) → Left t → (o : Option ℕ) (va byte : ℕ) → Left (stored_in_space t o va byte)
   stored_left t h None va byte = h
   stored_left t h (Some d) va byte = spaces_left t h (stored_byte t.spaces d va byte) (stored_frames t.spaces d va byte)
 

@@ -12,7 +12,7 @@ use Rattle.jos_base.specs.declared.memory.Access.TheVariants.{Read, Write}
 use Rattle.jos_base.specs.declared.memory.PageFault.{PageFault}
 use Rattle.jos_base.specs.declared.numbers.TheConstants.{T_BRKPT, T_GPFLT, T_PGFLT, T_SERVICE}
 use Rattle.jos_base.specs.declared.registers.Regs.{Regs}
-use Rattle.jos_base.specs.Environments.{Slot as KernelSlot, free_slot, records_of}
+use Rattle.jos_base.specs.Environments.{Slot, free_slot, records_of}
 use Rattle.jos_base.specs.KernelState.{KernelState, slot_at, with_slot_at, with_registers, with_extra, with_spaces}
 use Rattle.jos_base.specs.Lines.{line_text}
 use Rattle.jos_base.specs.Reach.{Entry}
@@ -28,12 +28,12 @@ use Rattle.jos_cpu.specs.Steps as cpu
 use Rattle.jos_cpu.proofs.Agreement.{AgreesReading, AgreesWriting, SameStep}
 use Rattle.jos_cpu.proofs.Related.{same_step}
 use Rattle.jos_cpu.proofs.RegistersLeft.{Leaves, step_leaves}
-use Rattle.jos_kernel.specs.Running.{Running, user_memory, loaded_in, touched_in, stored_in}
+use Rattle.jos_kernel.specs.Running.{Running, user_memory, loaded_in, touched_in, stored_in_space}
 use Rattle.jos_kernel.specs.Steps.{EnvStep, trapped, after_trap}
 use Rattle.lib_os.specs.declared.place.Place.{Place}
 use Rattle.lib_os.specs.declared.place.Place.TheVariants as place
 use Rattle.lib_os.specs.AbstractState.{AbstractState, Born, Page, own, named, born, guest, at_guest, in_service, entered, with_born}
-use Rattle.lib_os.specs.AbstractMemory.{page_at, page_allows, page_fault, stored, stored_in as page_stored}
+use Rattle.lib_os.specs.AbstractMemory.{page_at, page_allows, page_fault, stored, stored_in}
 use Rattle.lib_os.specs.AbstractRun.{abs_step}
 use Rattle.lib_os.specs.Fence.{is_inside, is_resident}
 use Rattle.lib_os.specs.GuestStep as guests
@@ -75,7 +75,7 @@ record StandsAfter (a : AbstractState) (n : ℕ) (old : Born) (console : List �
   console_is : a.console ≡ console
 
 stored_after : (a : AbstractState) (n : ℕ) (it : Born) (va byte : ℕ) (page : Option Page) → a.slots n ≡ born it →
-    StandsAfter (page_stored a n it va byte page) n it a.console
+    StandsAfter (stored_in a n it va byte page) n it a.console
 stored_after a n it va byte None there = record { it = it; there = there; program = refl; phase = refl; console_is = refl }
 stored_after a n it va byte (Some (own bytes writable)) there =
     record { it = _; there = upd-at a.slots n _; program = refl; phase = refl; console_is = refl }
@@ -144,7 +144,7 @@ module _ (t : KernelState) (n : ℕ) (regs : Regs) where
   without_set : without_environment after n ≡ without_environment t n
   without_set =
       let slots = t.environments.slots in
-      let first : KernelSlot = record (slots n) { registers = regs } in
+      let first : Slot = record (slots n) { registers = regs } in
       (λ i. record t {
         spaces = destroyed t.spaces (slot_set i).directory;
         environments = record { slots = upd (upd slots n first) n (free_slot (slot_set i).id); free_slots = n ∷ t.environments.free_slots };
@@ -162,14 +162,14 @@ module _ (t : KernelState) (n : ℕ) (regs : Regs) where
   unhandled : (fault : PageFault) → (slot_at t n).upcall ≡ 0 → handled after n fault ≡ None
   unfolding handled
   unhandled fault none =
-      let no_upcall : (slot_at after n).upcall ≡ 0 = ap (λ (slot : KernelSlot). slot.upcall) slot_set ∙ none in rw no_upcall refl
+      let no_upcall : (slot_at after n).upcall ≡ 0 = ap (λ (slot : Slot). slot.upcall) slot_set ∙ none in rw no_upcall refl
 
   trapped_is : (trap error va ip : ℕ) → (slot_at t n).upcall ≡ 0 → regs.eip ≡ ip →
       trapped after n trap error va ip ≡ trapped_by (killed t n (why_ended trap error va ip))
   trapped_is trap error va ip none same = by_trap (trap == T_PGFLT)
     where
       at_ip : (slot_at after n).registers.eip ≡ ip
-      at_ip = ap (λ (slot : KernelSlot). slot.registers.eip) slot_set ∙ same
+      at_ip = ap (λ (slot : Slot). slot.registers.eip) slot_set ∙ same
 
       by_trap : (c : Bool) →
           (if c then deliver_fault after n (record { va = va; error = error }) else trapped_by (killed after n (line.Trap trap error ip)))
@@ -182,7 +182,7 @@ module _ (t : KernelState) (n : ℕ) (regs : Regs) where
 
 -- ---- the two memories
 
-module _ (names : Names) (n : ℕ) (k : KernelSlot) (is_guest : place_of k ≡ place.Guest) (old : Born) (console : List ℕ) where
+module _ (names : Names) (n : ℕ) (k : Slot) (is_guest : place_of k ≡ place.Guest) (old : Born) (console : List ℕ) where
   -- The kernel's state with the directory of slot n stands for the abstract state; of the environment in the slot nothing is
   -- changed but its memory.
   record Alike (m : Running) (g : GuestMemory) : Type 0 where
@@ -285,7 +285,7 @@ module _ (names : Names) (n : ℕ) (k : KernelSlot) (is_guest : place_of k ≡ p
     unfolding guest_memory fenced_memory user_memory
     alike_stored va byte on =
         rw (r.slot, r.after.there)
-        (subst (λ (o : Option ℕ). Alike (record { state = stored_in m.state o va byte; directory = m.directory }) (record { state = stored g.state n it va byte; slot = n }))
+        (subst (λ (o : Option ℕ). Alike (record { state = stored_in_space m.state o va byte; directory = m.directory }) (record { state = stored g.state n it va byte; slot = n }))
         (sym r.loaded) (alike_put va byte (rw r.loaded at on)))
 
   reading : AgreesReading fenced_memory guest_memory Alike fenced_memory.allowed
@@ -320,7 +320,7 @@ module _ (names : Names) (n : ℕ) (k : KernelSlot) (is_guest : place_of k ≡ p
 
     is_at_guest : IsAtGuest (slot_at m.state n) r.after.it
     is_at_guest =
-        let place_is : place_of (slot_at m.state n) ≡ place.Guest = ap (λ (slot : KernelSlot). place_of slot) r.kept ∙ is_guest in
+        let place_is : place_of (slot_at m.state n) ≡ place.Guest = ap (λ (slot : Slot). place_of slot) r.kept ∙ is_guest in
         subst (λ (p : Place). StandsAt p (rows_of m.state.spaces (slot_at m.state n).directory) (slot_at m.state n) r.after.it) place_is born_stands.at
 
     -- it ends
@@ -341,14 +341,14 @@ module _ (names : Names) (n : ℕ) (k : KernelSlot) (is_guest : place_of k ≡ p
         subst (λ (did : Did). Goes did.state did.written (ends_with g.state n r.after.it why)) (sym (killed_set m.state n regs why)) (ends why)
 
     -- it goes on, with nothing written
-    moves : (slot : KernelSlot) (next : Born) → slot.directory ≡ (slot_at m.state n).directory → Settles (slot_at m.state n) slot → StandsForBorn names m.state.spaces slot next →
+    moves : (slot : Slot) (next : Born) → slot.directory ≡ (slot_at m.state n).directory → Settles (slot_at m.state n) slot → StandsForBorn names m.state.spaces slot next →
         Goes (with_slot_at m.state n slot) [] (with_born g.state n next)
     moves slot next same settles h = record {
       printed = r.after.console_is ∙ sym (append-nil console);
       stands = λ order. slot_changed r.stands n r.after.it r.after.there slot next same settles h;
     }
 
-    abbrev with_regs : Regs → KernelSlot
+    abbrev with_regs : Regs → Slot
     with_regs regs = record (slot_at m.state n) { registers = regs }
 
     stepped : (regs : Regs) → is_resident regs.esp ≡ false →
@@ -370,7 +370,7 @@ module _ (names : Names) (n : ℕ) (k : KernelSlot) (is_guest : place_of k ≡ p
               (record { program = refl; phase = w.phase; words = w.words; silent = w.silent; awake = w.awake });
         }
 
-    abbrev asked_slot : Regs → KernelSlot
+    abbrev asked_slot : Regs → Slot
     asked_slot regs = record (slot_at m.state n) { registers = regs; extra = words_entered regs }
 
     abbrev asked_born : Regs → Born
@@ -401,7 +401,7 @@ module _ (names : Names) (n : ℕ) (k : KernelSlot) (is_guest : place_of k ≡ p
     on_next : (regs : Regs) → GoesOnTo (goes_on (with_registers m.state n regs) n ip) (guests.goes_on g.state n r.after.it ip regs)
     on_next regs =
         let e : is_resident (slot_at (with_registers m.state n regs) n).registers.esp ≡ is_resident regs.esp =
-        ap (λ (slot : KernelSlot). is_resident slot.registers.esp) (slot_set m.state n regs) in
+        ap (λ (slot : Slot). is_resident slot.registers.esp) (slot_set m.state n regs) in
         rw e (by_stack (is_resident regs.esp) refl)
       where
         by_stack : (c : Bool) → is_resident regs.esp ≡ c →
@@ -415,12 +415,12 @@ module _ (names : Names) (n : ℕ) (k : KernelSlot) (is_guest : place_of k ≡ p
     on_soft regs vector stack = by_vector (vector == T_SERVICE)
       where
         outside : is_resident regs.esp ≡ false
-        outside = ap is_resident stack ∙ ap (λ (slot : KernelSlot). is_resident slot.registers.esp) (sym r.kept) ∙ born_stands.stack
+        outside = ap is_resident stack ∙ ap (λ (slot : Slot). is_resident slot.registers.esp) (sym r.kept) ∙ born_stands.stack
 
         entered_is : with_extra (with_registers m.state n regs) n (words_entered (slot_at (with_registers m.state n regs) n).registers)
             ≡ with_slot_at m.state n (asked_slot regs)
         entered_is =
-            ap (λ (slot : KernelSlot). with_extra (with_registers m.state n regs) n (words_entered slot.registers)) (slot_set m.state n regs)
+            ap (λ (slot : Slot). with_extra (with_registers m.state n regs) n (words_entered slot.registers)) (slot_set m.state n regs)
             ∙ both_set m.state n regs (words_entered regs)
 
         by_vector : (c : Bool) →
@@ -432,7 +432,7 @@ module _ (names : Names) (n : ℕ) (k : KernelSlot) (is_guest : place_of k ≡ p
             (moves (asked_slot regs) (asked_born regs) refl (record { id = refl; env_type = refl; calm = λ runs. runs }) (asked regs outside))
         by_vector false =
             let e : (slot_at (with_registers m.state n regs) n).registers.eip ≡ regs.eip =
-            ap (λ (slot : KernelSlot). slot.registers.eip) (slot_set m.state n regs) in
+            ap (λ (slot : Slot). slot.registers.eip) (slot_set m.state n regs) in
             rw e (ends_set regs (line.Trap T_BRKPT 0 regs.eip))
 
     on_raised : (regs : Regs) (trap error va : ℕ) → regs ≡ k.registers →

@@ -15,7 +15,7 @@ use Rattle.jos_cpu.specs.declared.events.Gates.TheVariants.{Run}
 use Rattle.jos_cpu.specs.Steps as cpu
 use Rattle.jos_cpu.proofs.Agreement.{Agrees}
 use Rattle.jos_cpu.proofs.Through.{step_through}
-use Rattle.jos_kernel.specs.Running.{Running, user_memory, loaded_in, touched_in, stored_in}
+use Rattle.jos_kernel.specs.Running.{Running, user_memory, loaded_in, touched_in, stored_in_space}
 use Rattle.jos_kernel.specs.Steps.{EnvStep, trapped, after_trap}
 use Rattle.lib_os.specs.Fence.{is_resident}
 use Rattle.lib_os.specs.InOrder.{HasOneUse, IsInOrder}
@@ -41,7 +41,7 @@ reached_used s (Some d) va access h = record {
   each = touched_found s.spaces d va access h.each;
 }
 
-stored_used : (s : KernelState) (d : Option ℕ) (va byte : ℕ) → AreUsed s.spaces → AreUsed (stored_in s d va byte).spaces
+stored_used : (s : KernelState) (d : Option ℕ) (va byte : ℕ) → AreUsed s.spaces → AreUsed (stored_in_space s d va byte).spaces
 stored_used s None va byte h = h
 stored_used s (Some d) va byte h = record {
   frames = stored_kept s.spaces d va byte h.frames;

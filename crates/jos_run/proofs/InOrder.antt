@@ -8,7 +8,7 @@ use Rattle.jos_base.specs.Counting.{frame_limit}
 use Rattle.jos_base.specs.SpacesState.{Use, free}
 use Rattle.jos_space.specs.declared.role.Role.{Role}
 use Rattle.jos_space.specs.declared.role.Role.TheVariants.{Free, Table}
-use Rattle.jos_space.specs.Frames.{Held, IsSound, state_of, entry_of, is_present, use_of, listed}
+use Rattle.jos_space.specs.Frames.{Held, IsSound, state_of, entry_of, is_present, use_of, stacked}
 use Rattle.jos_space.proofs.Lookups.{entry_region, region_facts, entry_limits}
 use Rattle.jos_space.proofs.Roles.{below_frames, is_reserved}
 use Rattle.jos_sys.specs.declared.system.System.{System}
@@ -20,16 +20,16 @@ use Rattle.lib_os.specs.InOrder.{AreFree, HasOneUse, IsInOrder}
 -- ---- lists of places
 
 -- what holds of all places holds of the list
-all_listed : (P : ℕ → Type 0) (place : ℕ → ℕ) (n : ℕ) → ((k : ℕ) → k < n → P (place k)) → All P (listed place n)
-unfolding listed
+all_listed : (P : ℕ → Type 0) (place : ℕ → ℕ) (n : ℕ) → ((k : ℕ) → k < n → P (place k)) → All P (stacked place n)
+unfolding stacked
 all_listed P place zero each k d lt = absurd (omega arith)
 all_listed P place (suc n) each zero d lt = each n (omega arith)
 all_listed P place (suc n) each (suc k) d lt = all_listed P place n (λ j below. each j (omega arith)) k d (omega arith)
 
 -- places that are free and apart are a list of free frames
 free_listed : (uses : ℕ → Use) (place : ℕ → ℕ) (n : ℕ) → ((k : ℕ) → k < n → uses (place k) ≡ free) →
-    ((j k : ℕ) → j < n → k < n → place j ≡ place k → j ≡ k) → AreFree uses (listed place n)
-unfolding listed
+    ((j k : ℕ) → j < n → k < n → place j ≡ place k → j ≡ k) → AreFree uses (stacked place n)
+unfolding stacked
 free_listed uses place zero each apart = tt
 free_listed uses place (suc n) each apart = (
   each n (omega arith),

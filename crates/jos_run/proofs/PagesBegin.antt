@@ -3,7 +3,7 @@
 use Rattle.std.proofs.Common.{◌≡◌, ◌≢◌, ◌∙◌, ◌<◌, ◌≤◌, ◌==◌, ◌⊎◌, inl, inr, ℕ, zero, suc, Bool, true, false, List, [], ◌∷◌, Option}
 use Rattle.std.proofs.Common.{Some, None}
 use Rattle.std.proofs.Common.{length, refl, sym, ap, subst, arith, if◌then◌else◌}
-use Rattle.std.specs.Prelude.{nat_lt}
+use Rattle.std.specs.Prelude.{nat_lt, option_and_then}
 use Rattle.std.specs.List.{All}
 use Rattle.std.specs.Option.{option_map}
 use Rattle.std.proofs.lemmas.Bool.{cases_eq}
@@ -19,7 +19,7 @@ use Rattle.jos_base.specs.SystemCalls.{has_write, is_page_perm}
 use Rattle.jos_base.specs.Words.{upd}
 use Rattle.jos_elf.specs.declared.image.Segment.{Segment}
 use Rattle.jos_elf.specs.Parsed.{Layout, Lies}
-use Rattle.jos_kernel.specs.Boot.{and_then, any_touches, any_writes, filled, page_bytes, page_loaded, pages_loaded, perm_of, stack_page}
+use Rattle.jos_kernel.specs.Boot.{any_touches, any_writes, filled, page_bytes, page_loaded, pages_loaded, perm_of, stack_page}
 use Rattle.jos_kernel.proofs.PagesTouched.{touched_below}
 use Rattle.lib_os.specs.AbstractMemory.{has_page_in}
 use Rattle.lib_os.specs.AbstractState.{AbstractState, Born, Page, own, born, free as unused, serving, with_born}
@@ -267,7 +267,7 @@ module _ (image : Layout) (words : List (List ℕ)) (input : List ℕ) (frames :
       where
         by_before : ((t : SpacesState) → pages_loaded segments file space first n ≡ Some t → Stage (memory_below n) t) →
             (o : Option SpacesState) → pages_loaded segments file space first n ≡ o →
-            and_then o (page_loaded segments file space n) ≡ Some u → Stage (memory_below (suc n)) u
+            option_and_then (page_loaded segments file space n) o ≡ Some u → Stage (memory_below (suc n)) u
         by_before before None at none = absurd cc
         by_before before (Some t) at some = page_next n t u (omega arith) (before t at) some
 
@@ -330,7 +330,7 @@ module _ (image : Layout) (words : List (List ℕ)) (input : List ℕ) (frames :
       program_stage first u h is = by_pages (pages_loaded segments file space first 851968) refl is
         where
           by_pages : (o : Option SpacesState) → pages_loaded segments file space first 851968 ≡ o →
-              and_then o (page_loaded (stack_segment words ∷ []) (stack_contents words) space stack_page) ≡ Some u →
+              option_and_then (page_loaded (stack_segment words ∷ []) (stack_contents words) space stack_page) o ≡ Some u →
               Stage (first_memory image file words) u
           by_pages None at none = absurd cc
           by_pages (Some t) at found = stack_next t u (pages_stage first h 851968 limit_small t at) found

@@ -4,13 +4,13 @@ use Rattle.std.proofs.lemmas.Bool.{false≢true}
 use Rattle.jos_host.specs.declared.host.Failed.{Failed}
 use Rattle.jos_base.specs.declared.environment.Status.{Status}
 use Rattle.jos_base.specs.declared.environment.Status.TheVariants.{Free, Dying, NotRunnable, Runnable, Running}
-use Rattle.jos_base.specs.Environments.{Slot as KernelSlot, is_runnable}
+use Rattle.jos_base.specs.Environments.{Slot, is_runnable}
 use Rattle.jos_base.specs.KernelState.{KernelState, slot_at}
 use Rattle.jos_kernel.specs.declared.trace.TrapLine.{TrapLine}
 use Rattle.lib_os.specs.declared.place.Place.{Place}
 use Rattle.lib_os.specs.declared.place.Place.TheVariants as place
 use Rattle.lib_os.specs.declared.progress.Progress.TheVariants as progress
-use Rattle.lib_os.specs.AbstractState.{AbstractState, Born, Slot, free, unborn, born, serving}
+use Rattle.lib_os.specs.AbstractState.{AbstractState, Born, AbstractSlot, free, unborn, born, serving}
 use Rattle.lib_os.specs.InOrder.{IsInOrder}
 use Rattle.lib_os.specs.LibrarySteps.{Stands, GoesOn, IsLibraryStep}
 use Rattle.lib_os.specs.Places.{place_of}
@@ -34,8 +34,8 @@ pub awake_born : (names : Names) (s : KernelState) (a : AbstractState) → Stand
     is_awake (slot_at s n).status ≡ true → (b : Born) × (a.slots n ≡ born b)
 awake_born names s a h n awake = by_slot (a.slots n) refl (h.slots n)
   where
-    by_slot : (slot : Slot) → a.slots n ≡ slot → StandsForSlot names s.spaces (slot_at s n) slot → (b : Born) × (a.slots n ≡ born b)
-    by_slot (free id) is k = absurd (false≢true (sym (ap (λ (x : KernelSlot). is_awake x.status) k) ∙ awake))
+    by_slot : (slot : AbstractSlot) → a.slots n ≡ slot → StandsForSlot names s.spaces (slot_at s n) slot → (b : Born) × (a.slots n ≡ born b)
+    by_slot (free id) is k = absurd (false≢true (sym (ap (λ (x : Slot). is_awake x.status) k) ∙ awake))
     by_slot (unborn id parent) is k = absurd k
     by_slot (born b) is k = (b, is)
     by_slot (serving id) is k = absurd (false≢true (sym (ap is_awake k.status) ∙ awake))

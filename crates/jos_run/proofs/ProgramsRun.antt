@@ -19,16 +19,16 @@ use Rattle.jos_run.specs.declared.programs.Setup.{Setup}
 use Rattle.jos_run.specs.Boot.{booted_within}
 use Rattle.jos_run.specs.declared.programs.RunEnd.{RunEnd}
 use Rattle.jos_run.specs.declared.programs.RunEnd.TheVariants.{Ended, HostFault}
-use Rattle.jos_run.specs.RunEnds.{Program, IsEndOf, AnswersFor, RunsFrom, begun, given_program}
-use Rattle.jos_run.specs.Start.{start}
+use Rattle.jos_run.specs.RunEnds.{Job, IsEndOf, AnswersFor, RunsFrom, begun, given_job}
+use Rattle.jos_run.specs.Start.{start_state}
 use Rattle.jos_run.specs.RunReports.{IsTold, IsToldCutOff}
 use Rattle.jos_run.specs.RunSteps.{HasGone}
-use Rattle.jos_run.specs.Running.{state_of, turns_so_far, Holds, Runs, HasRun, report_of, cut_off_of}
+use Rattle.jos_run.specs.Running.{state_of, turns_so_far, Holds, Runs, HasRunToEnd, report_of, cut_off_of}
 use Rattle.jos_run.proofs.RunEnds.{told_whole, told_cut_off}
 
 pub ended_told : {budget : ℕ} {r t : LibraryRun} {a b : Option (List ℕ)} (end : End) (report : Reported) (schedule : List ℕ) (most : ℕ)
     (s : KernelState) (traps : List TrapLine) →
-    HasRun budget (Ok end) (from_to r t) (from_to a b) → r.book.steps ≡ 0 → r.book.trace ≡ buffer [] most → turns_so_far r ≡ [] → Holds t → r.book.schedule ≡ schedule →
+    HasRunToEnd budget (Ok end) (from_to r t) (from_to a b) → r.book.steps ≡ 0 → r.book.trace ≡ buffer [] most → turns_so_far r ≡ [] → Holds t → r.book.schedule ≡ schedule →
     report ≡ report_of t end → traps ≡ t.book.trace.items → state_of r ≡ s →
     (first : AbstractState) (frames : ℕ) → Runs first frames r [] →
     (printed : List ℕ) × Gains (from_to a b) printed × IsTold schedule first frames budget report printed
@@ -45,7 +45,7 @@ ended_told {budget = budget} {r = r} {t = t} end report schedule most s traps ra
     )
 
 pub failed_told : {r t : LibraryRun} {a b : Option (List ℕ)} (budget : ℕ) (failed : Failed) (cut : CutOff) (schedule : List ℕ) →
-    HasRun budget (Err failed) (from_to r t) (from_to a b) → HasRoom t.book → r.book.schedule ≡ schedule → cut ≡ cut_off_of t →
+    HasRunToEnd budget (Err failed) (from_to r t) (from_to a b) → HasRoom t.book → r.book.schedule ≡ schedule → cut ≡ cut_off_of t →
     (first : AbstractState) (frames : ℕ) → Runs first frames r [] → IsToldCutOff schedule first frames cut (from_to a b)
 failed_told {r = r} {a = a} {b = b} budget failed cut schedule ran room scheduled cut_is first frames h =
     subst (λ (numbers : List ℕ). IsToldCutOff numbers first frames cut (from_to a b)) scheduled
@@ -54,14 +54,14 @@ failed_told {r = r} {a = a} {b = b} budget failed cut schedule ran room schedule
 -- so `run` answers what it has to
 pub booted_answers : (setup : Setup) (image : Layout) (file : List ℕ) (words : List (List ℕ)) (end : RunEnd) (console : Around (Option (List ℕ))) →
     (s : KernelState) → booted_within image file words setup.frames setup.input.items ≡ Some s →
-    RunsFrom s (start image file words setup.input.items) setup end console → IsEndOf (given_program image file words setup) end console
+    RunsFrom s (start_state image file words setup.input.items) setup end console → IsEndOf (given_job image file words setup) end console
 booted_answers setup image file words (Ended report trace) console s booted runs =
     (subst (λ (o : Option KernelState). IsSome o) (sym booted) refl, (runs.0, runs.1, runs.2, (s, booted, runs.3)))
 booted_answers setup image file words (HostFault cut) console s booted runs =
     (subst (λ (o : Option KernelState). IsSome o) (sym booted) refl, runs)
 
 -- and where none was booted
-pub unbooted_answers : (p : Program) (fault : BootFault) (console : Option (List ℕ)) → (fault ≡ Pool → begun p ≡ None) →
+pub unbooted_answers : (p : Job) (fault : BootFault) (console : Option (List ℕ)) → (fault ≡ Pool → begun p ≡ None) →
     AnswersFor p (Err fault) (from_to console console)
 unbooted_answers p Pool console none = (none refl, refl)
 unbooted_answers p NoMemory console none = refl

@@ -6,7 +6,7 @@ use Rattle.jos_base.specs.declared.memory.Access.{Access}
 use Rattle.jos_base.specs.declared.memory.Access.TheVariants.{Write}
 use Rattle.jos_base.specs.declared.memory.PageFault.{PageFault}
 use Rattle.jos_base.specs.KernelState.{KernelState, slot_at}
-use Rattle.jos_base.specs.Reach.{Entry, Location, reach_entry, allows}
+use Rattle.jos_base.specs.Reach.{Entry, FrameOffset, reach_entry, allows}
 use Rattle.jos_base.specs.UserMemory.{is_allowed}
 use Rattle.jos_base.specs.Windows.{walked}
 use Rattle.jos_base.specs.Words.{page_number}
@@ -18,7 +18,7 @@ entry_allows : (entry : Option Entry) (va q : ℕ) (access : Access) → is_ok (
 entry_allows None va q access = refl
 entry_allows (Some entry) va q access = by_right (allows entry.perm access) _ _ _ _ refl refl
   where
-    by_right : (right : Bool) (a b f g : Result Location PageFault) → is_ok a ≡ is_ok b → is_ok f ≡ is_ok g →
+    by_right : (right : Bool) (a b f g : Result FrameOffset PageFault) → is_ok a ≡ is_ok b → is_ok f ≡ is_ok g →
         is_ok (if right then a else f) ≡ is_ok (if right then b else g)
     by_right true a b f g e h = e
     by_right false a b f g e h = h

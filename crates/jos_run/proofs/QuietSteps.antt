@@ -17,7 +17,7 @@ use Rattle.jos_cpu.proofs.Agreement.{Agrees}
 use Rattle.jos_cpu.proofs.Through.{step_through}
 use Rattle.jos_kernel.specs.declared.report.Turn.{Turn}
 use Rattle.jos_kernel.specs.declared.trace.TrapLine.{TrapLine}
-use Rattle.jos_kernel.specs.Running.{Running, user_memory, loaded_in, touched_in, stored_in}
+use Rattle.jos_kernel.specs.Running.{Running, user_memory, loaded_in, touched_in, stored_in_space}
 use Rattle.jos_kernel.specs.Steps.{EnvStep, after_trap}
 use Rattle.jos_space.proofs.Keeping.{stored_uses}
 use Rattle.lib_os.specs.declared.place.Place.TheVariants as place
@@ -25,7 +25,7 @@ use Rattle.lib_os.specs.declared.progress.Progress.TheVariants as progress
 use Rattle.lib_os.specs.AbstractState.{AbstractState}
 use Rattle.lib_os.specs.Fence.{is_resident}
 use Rattle.lib_os.specs.InOrder.{IsInOrder}
-use Rattle.lib_os.specs.LibrarySteps.{GoesOn, Keeps, NothingRefused}
+use Rattle.lib_os.specs.LibrarySteps.{GoesOn, KeepsStanding, NothingRefused}
 use Rattle.lib_os.specs.Need.{EachHasUse}
 use Rattle.lib_os.specs.Places.{place_of, words_entered}
 use Rattle.lib_os.proofs.Slots.{slot_put}
@@ -74,7 +74,7 @@ module _ (s : KernelState) (n : ℕ) where
     };
   }
 
-  stored_calm : (t : KernelState) → Calm t → (o : Option ℕ) (va byte : ℕ) → Calm (stored_in t o va byte)
+  stored_calm : (t : KernelState) → Calm t → (o : Option ℕ) (va byte : ℕ) → Calm (stored_in_space t o va byte)
   stored_calm t h None va byte = h
   stored_calm t h (Some d) va byte = record {
     status = h.status;
@@ -144,19 +144,19 @@ module _ (s after : KernelState) (n : ℕ) (is : guest_instruction s n ≡ quiet
   state_is : (guest_instruction s n).state ≡ after
   state_is = ap (λ (step : EnvStep). step.state) is
 
-  pub quiet_left : GuestLeaves s n after
+  quiet_left : GuestLeaves s n after
   quiet_left = subst (λ (t : KernelState). GuestLeaves s n t) state_is (instruction_left s n)
 
   pub quiet_calm : StaysCalm s n after
   quiet_calm = subst (λ (t : KernelState). StaysCalm s n t) state_is (instruction_calm s n (ap tells is))
 
-  pub quiet_keeps : is_awake (slot_at s n).status ≡ true → place_of (slot_at s n) ≡ place.Guest → Keeps progress.Visible n s after []
+  pub quiet_keeps : is_awake (slot_at s n).status ≡ true → place_of (slot_at s n) ≡ place.Guest → KeepsStanding progress.Visible n s after []
   quiet_keeps awake guest a h none_refused =
       let b = awake_born h.0 s a h.1 n awake in
       subst (λ (step : EnvStep). GoesOn n step.state a step.written) is
       (guest_goes_on h.0 s a n b.0 h.1 b.1 guest (subst IsInOrder (sym state_is) (quiet_calm.in_order h.1.in_order)))
 
-  pub quiet_uses : IsInOrder s → is_live (slot_at s n) ≡ true → EachHasUse s.spaces → EachHasUse after.spaces
+  quiet_uses : IsInOrder s → is_live (slot_at s n) ≡ true → EachHasUse s.spaces → EachHasUse after.spaces
   quiet_uses order live each = subst (λ (t : KernelState). EachHasUse t.spaces) state_is (guest_uses s n order live each)
 
 -- ---- so many of them

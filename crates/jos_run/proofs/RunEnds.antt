@@ -23,7 +23,7 @@ use Rattle.jos_kernel.specs.declared.report.Turn.{Turn}
 use Rattle.jos_kernel.specs.declared.trace.TrapLine.{TrapLine}
 use Rattle.jos_kernel.specs.Books.{turn_of, made, HasRoom}
 use Rattle.jos_kernel.proofs.ToldBytes.{gains_none, gains_more}
-use Rattle.lib_os.specs.AbstractState.{AbstractState, Slot, can_run}
+use Rattle.lib_os.specs.AbstractState.{AbstractState, AbstractSlot, can_run}
 use Rattle.lib_os.specs.LibrarySteps.{Stands}
 use Rattle.lib_os.specs.StandsFor.{StandsFor, Names}
 use Rattle.lib_os.proofs.SlotsStand.{born_at}
@@ -35,7 +35,7 @@ use Rattle.jos_run.specs.LibraryRuns.{others_live, end_seen, IsBetween, IsInTurn
 use Rattle.jos_run.specs.RunReports.{HasEnded, CutOffBy, ToldBy, IsTold, IsToldCutOff}
 use Rattle.jos_run.specs.RunSteps.{traps_of, turns_with, end_at, HasGone}
 use Rattle.jos_run.specs.Running.{state_of, turns_so_far, Holds, StandsBy, RunsBy, Runs, IsChosen, Went, HasFailed}
-use Rattle.jos_run.specs.Running.{EndsBy, HasRun, report_of, cut_off_of}
+use Rattle.jos_run.specs.Running.{EndsBy, HasRunToEnd, report_of, cut_off_of}
 use Rattle.jos_run.proofs.Advancing.{awake_running}
 use Rattle.jos_run.proofs.Choices.{end_stands, ended_none, next_stands, runs_stand, only_first_serves}
 use Rattle.jos_run.proofs.RunsKept.{run_begins, between_fits, in_turn_ran, in_turn_fits, running_born}
@@ -158,7 +158,7 @@ goes_on_next {names = names} {s = s} {a = a} h n within last only runs = by_next
     ready : can_run a n ≡ true
     ready =
         let who = running_born h n runs in
-        ap (λ (slot : Slot). can_run (record a { slots = λ m. slot }) n) who.1
+        ap (λ (slot : AbstractSlot). can_run (record a { slots = λ m. slot }) n) who.1
         ∙ ap (λ (c : Bool). not c) (awake_running (slot_at s n).status who.0.blocked (born_at h n who.0 who.1).runs runs)
 
     last_small : (o : Option ℕ) → ForSome o (λ m. m < NENV) → start o ≤ NENV
@@ -180,7 +180,7 @@ running_client : {names : Names} {s : KernelState} {a : AbstractState} → Stand
     is_running (slot_at s n).status ≡ true → any_live a ≡ true
 running_client {a = a} h n within runs =
     let who = running_born h n runs in
-    some_below-at (λ m. is_client (a.slots m)) NENV n within (ap (λ (slot : Slot). is_client slot) who.1)
+    some_below-at (λ m. is_client (a.slots m)) NENV n within (ap (λ (slot : AbstractSlot). is_client slot) who.1)
 
 -- the steps are used up while an environment runs
 spent_end : (a : AbstractState) (turns : ℕ) → any_live a ≡ true → is_none (next_slot a) ≡ false → end_of a turns true ≡ Some Budget
@@ -246,7 +246,7 @@ stops_between r holds spent end none seen =
 pub on_end : {budget left : ℕ} {r t : LibraryRun} {a b : Option (List ℕ)} → Went (budget - left) (from_to r t) (from_to a b) →
     0 < left → left ≤ budget → Holds t →
     (end : End) → made t.book ≡ 0 → end_seen (state_of t) (vec_len t.book.turns) false ≡ Some end →
-    HasRun budget (Ok end) (from_to r t) (from_to a b)
+    HasRunToEnd budget (Ok end) (from_to r t) (from_to a b)
 on_end {budget = budget} {left = left} {t = t} went some within holds end none seen =
     let test : false ≡ (budget - left == budget) = grind (arith, nat_tests) in (
       budget - left,
@@ -262,7 +262,7 @@ on_end {budget = budget} {left = left} {t = t} went some within holds end none s
 pub on_budget : {budget left : ℕ} {r t : LibraryRun} {a b : Option (List ℕ)} → Went (budget - left) (from_to r t) (from_to a b) →
     left ≡ 0 →
     Holds t → (end : End) → (made t.book ≡ 0 → end_seen (state_of t) (vec_len t.book.turns) true ≡ Some end) → (0 < made t.book → end ≡ Budget) →
-    HasRun budget (Ok end) (from_to r t) (from_to a b)
+    HasRunToEnd budget (Ok end) (from_to r t) (from_to a b)
 on_budget {budget = budget} {left = left} {t = t} went none holds end between in_turn =
     let test : true ≡ (budget - left == budget) = grind (arith, nat_tests) in (
       budget - left,
@@ -314,7 +314,7 @@ turns_within r h = subst (λ (n : ℕ). n ≤ TURN_MAX) (sym (turns_are r)) (by_
 
 -- What the kernel has gone through.
 gone_whole : {budget : ℕ} {r t : LibraryRun} {a b : Option (List ℕ)} (end : End) (most : ℕ) →
-    (ran : HasRun budget (Ok end) (from_to r t) (from_to a b)) → r.book.steps ≡ 0 → r.book.trace ≡ buffer [] most → turns_so_far r ≡ [] → Holds t →
+    (ran : HasRunToEnd budget (Ok end) (from_to r t) (from_to a b)) → r.book.steps ≡ 0 → r.book.trace ≡ buffer [] most → turns_so_far r ≡ [] → Holds t →
     HasGone (state_of r) budget most (report_of t end) t.book.trace.items ran.2.printed
 gone_whole {budget = budget} {r = r} {t = t} end most ran none empty no_turns holds =
     let went = ran.2 in
@@ -336,7 +336,7 @@ gone_whole {budget = budget} {r = r} {t = t} end most ran none empty no_turns ho
 
 -- The report of a run that has ended by itself.
 pub told_whole : {budget : ℕ} {r t : LibraryRun} {a b : Option (List ℕ)} (end : End) (most : ℕ) →
-    HasRun budget (Ok end) (from_to r t) (from_to a b) → r.book.steps ≡ 0 → r.book.trace ≡ buffer [] most → turns_so_far r ≡ [] → Holds t →
+    HasRunToEnd budget (Ok end) (from_to r t) (from_to a b) → r.book.steps ≡ 0 → r.book.trace ≡ buffer [] most → turns_so_far r ≡ [] → Holds t →
     (first : AbstractState) (frames : ℕ) → Runs first frames r [] →
     (printed : List ℕ) × Gains (from_to a b) printed × IsTold r.book.schedule first frames budget (report_of t end) printed
     × HasGone (state_of r) budget most (report_of t end) t.book.trace.items printed

@@ -6,7 +6,7 @@ use Rattle.std.proofs.lemmas.List.{append-nil}
 use Rattle.circular_buffer.specs.Buffer.{buffer, keep_last}
 use Rattle.jos_base.specs.declared.environment.Status.TheVariants.{Runnable}
 use Rattle.jos_base.specs.declared.numbers.TheConstants.{TURN_MAX}
-use Rattle.jos_base.specs.Environments.{Slot as KernelSlot, is_running}
+use Rattle.jos_base.specs.Environments.{Slot, is_running}
 use Rattle.jos_base.specs.KernelState.{KernelState, slot_at, with_status, turn_ended}
 use Rattle.jos_sched.specs.RoundRobin.{next}
 use Rattle.jos_kernel.specs.declared.report.End.{End}
@@ -18,17 +18,13 @@ use Rattle.lib_os.specs.declared.progress.Progress.{Progress}
 use Rattle.jos_kernel.proofs.TrapsKept.{kept_more}
 use Rattle.lib_os.proofs.Slots.{slot_put}
 use Rattle.jos_run.specs.LibraryRuns.{visible_steps, hidden_steps, others_live, end_seen}
-use Rattle.jos_run.specs.RunSteps.{StepMade, passed, IsMade, LeadTo, one_if, traps_of, written_in, with_step, with_last_step, counted_in, turns_with, is_in_turn, end_at}
+use Rattle.jos_run.specs.RunSteps.{StepMade, passed, LeadTo, one_if, traps_of, written_in, with_step, with_last_step, counted_in, turns_with, is_in_turn, end_at}
 
 -- ---- one behind the other
 
 pub no_step : (s : KernelState) → LeadTo [] s s
 unfolding LeadTo
 no_step s = refl
-
-pub lead_one : {s t : KernelState} (step : StepMade) → IsMade s step → passed step ≡ t → LeadTo (step ∷ []) s t
-unfolding LeadTo
-lead_one step h is = (h, is)
 
 pub lead_further : (steps more : List StepMade) (s t u : KernelState) → LeadTo steps s t → LeadTo more t u → LeadTo (steps ++ more) s u
 unfolding LeadTo
@@ -133,7 +129,7 @@ ended_idle s n last = by_test (is_running (slot_at s n).status) refl
         is_in_turn (if c then with_status s n Runnable else s) (if c then with_status s n Runnable else s).last ≡ false
     by_test true is =
         ap (λ (o : Option ℕ). is_in_turn (with_status s n Runnable) o) last
-        ∙ ap (λ (k : KernelSlot). is_running k.status) (slot_put s n (record (slot_at s n) { status = Runnable }))
+        ∙ ap (λ (k : Slot). is_running k.status) (slot_put s n (record (slot_at s n) { status = Runnable }))
     by_test false is = ap (λ (o : Option ℕ). is_in_turn s o) last ∙ is
 
 -- between two turns

@@ -7,7 +7,7 @@ use Rattle.std.proofs.lemmas.Bool.Decides.{nat_tests}
 use Rattle.std.proofs.lemmas.List.{append-nil}
 use Rattle.jos_base.specs.declared.environment.Status.{Status}
 use Rattle.jos_base.specs.declared.environment.Status.TheVariants.{Runnable, Running, NotRunnable}
-use Rattle.jos_base.specs.Environments.{Slot as KernelSlot, is_running, is_runnable}
+use Rattle.jos_base.specs.Environments.{Slot, is_running, is_runnable}
 use Rattle.jos_base.specs.KernelState.{KernelState, slot_at}
 use Rattle.jos_base.specs.KernelState as kernel
 use Rattle.jos_base.specs.SpacesState.{SpacesState}
@@ -24,11 +24,11 @@ use Rattle.lib_os.specs.declared.progress.Progress.{Progress}
 use Rattle.lib_os.specs.declared.progress.Progress.TheVariants as progress
 use Rattle.lib_os.specs.declared.service.Service.{Service}
 use Rattle.lib_os.specs.declared.service.Service.TheVariants as service
-use Rattle.lib_os.specs.AbstractState.{AbstractState, Born, Slot, free, unborn, born, serving, Stage, Phase, in_service, can_run}
+use Rattle.lib_os.specs.AbstractState.{AbstractState, Born, AbstractSlot, free, unborn, born, serving, Stage, Phase, in_service, can_run}
 use Rattle.lib_os.specs.AbstractRun.{abs_step}
-use Rattle.lib_os.specs.LibrarySteps.{Stands, Stays, GoesOn, Keeps, NothingRefused, is_pausing, is_yield}
+use Rattle.lib_os.specs.LibrarySteps.{Stands, Stays, GoesOn, KeepsStanding, NothingRefused, is_pausing, is_yield}
 use Rattle.lib_os.specs.Places.{place_of}
-use Rattle.lib_os.specs.StandsFor.{StandsFor, StandsForSlot, StandsAt, StandsAtStep, Names, Row, rows_of, RunsAs, WaitsOrHas, waits, has}
+use Rattle.lib_os.specs.StandsFor.{StandsFor, StandsForSlot, StandsAt, StandsAtStep, Names, EntryRow, rows_of, IsStatusFor, WaitsOrHas, waits, has}
 use Rattle.lib_os.proofs.SlotsStand.{born_at}
 use Rattle.lib_os.proofs.StatesStand.{turn_begun_stands, turn_ended_stands}
 use Rattle.jos_run.specs.AbstractTurns.{turn_begun, steps_taken, abs_run, waits_in, stands_waiting}
@@ -56,14 +56,14 @@ run_begins schedule first s h none = record {
 -- ---- a turn begins
 
 -- who is RUNNABLE is an environment that does not wait
-runnable_born : (names : Names) (sp : SpacesState) (k : KernelSlot) (slot : Slot) → StandsForSlot names sp k slot →
+runnable_born : (names : Names) (sp : SpacesState) (k : Slot) (slot : AbstractSlot) → StandsForSlot names sp k slot →
     is_runnable k.status ≡ true → (b : Born) × (slot ≡ born b) × (b.blocked ≡ false)
 runnable_born names sp k (free id) h runs =
-    absurd (let contradiction : true ≡ false = sym runs ∙ ap (λ (x : KernelSlot). is_runnable x.status) h in cc)
+    absurd (let contradiction : true ≡ false = sym runs ∙ ap (λ (x : Slot). is_runnable x.status) h in cc)
 runnable_born names sp k (unborn id parent) h runs = absurd h
 runnable_born names sp k (born b) h runs = (b, refl, awake k.status b.blocked h.runs runs)
   where
-    awake : (status : Status) (blocked : Bool) → RunsAs status blocked → is_runnable status ≡ true → blocked ≡ false
+    awake : (status : Status) (blocked : Bool) → IsStatusFor status blocked → is_runnable status ≡ true → blocked ≡ false
     awake Runnable false h runs = refl
     awake Running false h runs = refl
     awake NotRunnable true h runs = absurd (let contradiction : false ≡ true = runs in cc)
@@ -127,7 +127,7 @@ step_visible {first = first} {n = n} {visible = visible} {written = written} byt
 -- whatever the step has come to
 pub step_kept : {schedule : List ℕ} {first : AbstractState} {turns : List Turn} {n visible : ℕ} {s after : KernelState}
     {written : List ℕ} (bytes : List ℕ) → IsInTurn schedule first turns n visible s written → (progress : Progress) →
-    Keeps progress n s after bytes → NothingRefused s after → OnlyRuns after n →
+    KeepsStanding progress n s after bytes → NothingRefused s after → OnlyRuns after n →
     IsInTurn schedule first turns n (visible + visible_steps progress) after (written ++ bytes)
 step_kept bytes h progress.Hidden keeps none_refused only = step_hidden bytes h (keeps h.now h.stands none_refused) only
 step_kept bytes h progress.Waited keeps none_refused only = step_hidden bytes h (keeps h.now h.stands none_refused).0 only
@@ -213,10 +213,10 @@ pub stopped_cannot : {names : Names} {s : KernelState} {a : AbstractState} → S
     is_running (slot_at s n).status ≡ false → is_runnable (slot_at s n).status ≡ false → can_run a n ≡ false
 stopped_cannot h n not_running not_runnable = sym (runs_stand h n not_running) ∙ not_runnable
 
-running_slot : (names : Names) (sp : SpacesState) (k : KernelSlot) (slot : Slot) → StandsForSlot names sp k slot →
+running_slot : (names : Names) (sp : SpacesState) (k : Slot) (slot : AbstractSlot) → StandsForSlot names sp k slot →
     is_running k.status ≡ true → (b : Born) × (slot ≡ born b)
 running_slot names sp k (free id) h runs =
-    absurd (let contradiction : true ≡ false = sym runs ∙ ap (λ (x : KernelSlot). is_running x.status) h in cc)
+    absurd (let contradiction : true ≡ false = sym runs ∙ ap (λ (x : Slot). is_running x.status) h in cc)
 running_slot names sp k (unborn id parent) h runs = absurd h
 running_slot names sp k (born b) h runs = (b, refl)
 running_slot names sp k (serving id) h runs =
@@ -227,7 +227,7 @@ pub running_born : {names : Names} {s : KernelState} {a : AbstractState} → Sta
     is_running (slot_at s n).status ≡ true → (b : Born) × (a.slots n ≡ born b)
 running_born {names = names} {s = s} {a = a} h n runs = running_slot names s.spaces (slot_at s n) (a.slots n) (h.slots n) runs
 
-step_phase : (row : Row) (k : KernelSlot) (b : Born) (s : Service) (stands : Step) → StandsAtStep row k b s stands →
+step_phase : (row : EntryRow) (k : Slot) (b : Born) (s : Service) (stands : Step) → StandsAtStep row k b s stands →
     (stage : Stage) × (b.phase ≡ in_service s stage)
 step_phase row k b s step.Entered h = (_, h.phase)
 step_phase row k b (service.Wait id) (step.Trying perm) h = (_, h.is_in.phase)
@@ -246,7 +246,7 @@ step_phase row k b (service.Receive va from) (step.ReadingSender id value) h = (
 step_phase row k b (service.Receive va from) (step.ReadingPerm id value sender) h = (_, h.3.phase)
 step_phase row k b _ _ h = absurd h
 
-pausing_phase : (row : Row) (k : KernelSlot) (b : Born) (p : Place) → StandsAt p row k b → is_pausing p ≡ true → waits_in b.phase ≡ true
+pausing_phase : (row : EntryRow) (k : Slot) (b : Born) (p : Place) → StandsAt p row k b → is_pausing p ≡ true → waits_in b.phase ≡ true
 pausing_phase row k b (place.InService (service.Wait id) (step.Pausing perm)) h pauses = ap (λ (x : Phase). waits_in x) h.is_in.phase
 pausing_phase row k b (place.InService (service.Send id value va) (step.Pausing perm)) h pauses = ap (λ (x : Phase). waits_in x) h.is_in.phase
 pausing_phase row k b (place.InService _ (step.Pausing perm)) h pauses = absurd h
@@ -257,10 +257,10 @@ pub pausing_waits : {names : Names} {s : KernelState} {a : AbstractState} → St
     is_pausing (place_of (slot_at s n)) ≡ true → stands_waiting (a.slots n) ≡ true
 pausing_waits {s = s} h n runs pauses =
     let who = running_born h n runs in
-    ap (λ (slot : Slot). stands_waiting slot) who.1
+    ap (λ (slot : AbstractSlot). stands_waiting slot) who.1
     ∙ pausing_phase (rows_of s.spaces (slot_at s n).directory) (slot_at s n) who.0 (place_of (slot_at s n)) (born_at h n who.0 who.1).at pauses
 
-yield_phase : (row : Row) (k : KernelSlot) (b : Born) (p : Place) → StandsAt p row k b → is_yield p ≡ true → yields_in b.phase ≡ true
+yield_phase : (row : EntryRow) (k : Slot) (b : Born) (p : Place) → StandsAt p row k b → is_yield p ≡ true → yields_in b.phase ≡ true
 yield_phase row k b (place.InService service.Yield stands) h yields =
     ap (λ (x : Phase). yields_in x) (step_phase row k b service.Yield stands h).1
 yield_phase row k b _ h yields = absurd (let contradiction : false ≡ true = yields in cc)
@@ -269,7 +269,7 @@ pub yield_tells : {names : Names} {s : KernelState} {a : AbstractState} → Stan
     is_yield (place_of (slot_at s n)) ≡ true → is_yielding (a.slots n) ≡ true
 yield_tells {s = s} h n runs yields =
     let who = running_born h n runs in
-    ap (λ (slot : Slot). is_yielding slot) who.1
+    ap (λ (slot : AbstractSlot). is_yielding slot) who.1
     ∙ yield_phase (rows_of s.spaces (slot_at s n).directory) (slot_at s n) who.0 (place_of (slot_at s n)) (born_at h n who.0 who.1).at yields
 
 -- A turn ends where its steps are as many as the schedule gives it.

@@ -7,7 +7,7 @@ use Rattle.lib_os.specs.declared.numbers.TheConstants.{SERVICES}
 use Rattle.lib_os.specs.declared.place.Place.TheVariants as place
 use Rattle.lib_os.specs.declared.place.Step.TheVariants as step
 use Rattle.lib_os.specs.declared.service.Service.{Service}
-use Rattle.lib_os.specs.Places.{place_in, words_entered}
+use Rattle.lib_os.specs.Places.{place_in_words, words_entered}
 use Rattle.lib_os.specs.Services.{is_built, service_of}
 use Rattle.lib_os.proofs.WordsTell.{place_at}
 
@@ -27,6 +27,6 @@ number_kept regs = by_number (nat_lt regs.eax SERVICES) refl
         let unbuilt : is_built regs.eax ≡ false = grind (arith, nat_tests) in
         rw (same, unbuilt) refl
 
-pub place_entered : (regs : Regs) → place_in regs (words_entered regs) ≡ place.InService (service_of regs) step.Entered
+pub place_entered : (regs : Regs) → place_in_words regs (words_entered regs) ≡ place.InService (service_of regs) step.Entered
 place_entered regs =
     place_at regs (min regs.eax SERVICES) step.Entered ∙ ap (λ (s : Service). place.InService s step.Entered) (number_kept regs)

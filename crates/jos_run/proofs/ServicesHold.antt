@@ -1,16 +1,15 @@
 -- The law of all services: each has that of its own crate, and none that is not built is ever entered.
-use Rattle.std.proofs.Common.{◌≡◌, ◌||◌, ◌<◌, ◌^◌, ℕ, true, ap, subst}
+use Rattle.std.proofs.Common.{◌≡◌, ◌||◌, ◌<◌, ◌^◌, ℕ, true}
 use Rattle.std.proofs.lemmas.Bool.{false≢true}
-use Rattle.jos_base.specs.Environments.{Slot, is_live, is_runnable, is_running}
+use Rattle.jos_base.specs.Environments.{is_live, is_runnable, is_running}
 use Rattle.jos_base.specs.KernelState.{KernelState, slot_at}
 use Rattle.lib_os.specs.declared.place.Place.TheVariants as place
 use Rattle.lib_os.specs.declared.place.Step.{Step}
 use Rattle.lib_os.specs.declared.service.Service.{Service}
 use Rattle.lib_os.specs.declared.service.Service.TheVariants as service
 use Rattle.lib_os.specs.Places.{place_of}
-use Rattle.lib_os.specs.Services.{is_built_service, named_service, service_of}
+use Rattle.lib_os.specs.Services.{is_built_service}
 use Rattle.lib_os.proofs.BuiltServices.{built_at}
-use Rattle.lib_os.proofs.Numbered.{named_at}
 use Rattle.lib_stage.specs.ServiceSteps.{ServiceHolds}
 use Rattle.lib_mem.specs.declared.services.MemoryService.TheVariants as memory
 use Rattle.lib_mem.proofs.MemoryLaw.{memory_holds}
@@ -19,15 +18,6 @@ use Rattle.lib_msg.proofs.SendLaw.{send_holds}
 use Rattle.lib_spawn.proofs.Exits.{exit_holds}
 use Rattle.lib_spawn.proofs.WaitLaw.{wait_holds}
 use Rattle.jos_run.specs.Plans.{plan_at}
-
--- what send is to send stands in ECX
-abbrev word_sent : Service → ℕ
-word_sent (service.Send id value va) = value
-word_sent _ = 0
-
-sent : (k : Slot) (id value va : ℕ) (at : Step) → place_of k ≡ place.InService (service.Send id value va) at → k.registers.ecx ≡ value
-unfolding service_of named_service
-sent k id value va at stands = ap (λ (s : Service). word_sent s) (named_at k (service.Send id value va) at stands)
 
 module _ (s : KernelState) (n : ℕ) (live : is_live (slot_at s n) ≡ true)
     (awake : (is_runnable (slot_at s n).status || is_running (slot_at s n).status) ≡ true) (small : (slot_at s n).registers.ecx < 2 ^ 32)
@@ -40,8 +30,7 @@ module _ (s : KernelState) (n : ℕ) (live : is_live (slot_at s n) ≡ true)
   by_service (service.Wait id) built stands = wait_holds s n id live at stands
   by_service (service.PageNew va flags) built stands = memory_holds s n at live (memory.PageNew va flags) stands
   by_service (service.PageDrop va) built stands = memory_holds s n at live (memory.PageDrop va) stands
-  by_service (service.Send id value va) built stands =
-      send_holds s n id value va live (subst (λ (word : ℕ). word < 2 ^ 32) (sent (slot_at s n) id value va at stands) small) at stands
+  by_service (service.Send id value va) built stands = send_holds s n id value va live small at stands
   by_service (service.Receive va from) built stands = receive_holds s n va from live awake at stands
   by_service service.Unknown built stands = memory_holds s n at live memory.Unknown stands
   by_service _ built stands = absurd (false≢true built)

@@ -5,7 +5,7 @@ use Rattle.jos_base.specs.declared.memory.Access.{Access}
 use Rattle.jos_base.specs.declared.memory.PageFault.{PageFault}
 use Rattle.jos_base.specs.Environments.{Environments}
 use Rattle.jos_base.specs.KernelState.{HasSpaces}
-use Rattle.jos_base.specs.Reach.{Location}
+use Rattle.jos_base.specs.Reach.{FrameOffset}
 use Rattle.jos_base.specs.SpacesState.{SpacesState, Use, is_directory}
 use Rattle.jos_base.specs.UserMemory.{reach_in, touched, touched_by}
 use Rattle.jos_base.specs.Words.{page_number}
@@ -15,7 +15,7 @@ pub touched_uses : (s : SpacesState) (d va : ℕ) (access : Access) → (touched
 unfolding touched
 touched_uses s d va access = by_outcome (reach_in s d va access)
   where
-    by_outcome : (r : Result Location PageFault) → (touched_by s d va access r).uses ≡ s.uses
+    by_outcome : (r : Result FrameOffset PageFault) → (touched_by s d va access r).uses ≡ s.uses
     by_outcome (Ok location) = bits_uses s d (page_number va) access
     by_outcome (Err refusal) = refl
 

@@ -2,7 +2,7 @@
 use Rattle.std.proofs.Common.{◌≡◌, ◌∙◌, ℕ, ◌+◌, ◌-◌, ◌/◌, ◌<◌, ◌≤◌, ◌&&◌, ◌||◌, Bool, true, false, List, [], ◌∷◌, Option, Some}
 use Rattle.std.proofs.Common.{None, Ok, Err}
 use Rattle.std.proofs.Common.{take, refl, sym, ap, arith}
-use Rattle.std.specs.Prelude.{nat_lt}
+use Rattle.std.specs.Prelude.{nat_lt, option_and_then}
 use Rattle.std.specs.Option.{option_map}
 use Rattle.std.proofs.lemmas.Bool.{lt-ltb}
 use Rattle.std.proofs.lemmas.List.{take_all}
@@ -16,7 +16,7 @@ use Rattle.jos_base.specs.SpacesState.{SpacesState, overlaid}
 use Rattle.jos_base.specs.SystemCalls.{environment_made}
 use Rattle.jos_elf.specs.declared.image.Segment.{Segment}
 use Rattle.jos_elf.specs.Parsed.{Layout}
-use Rattle.jos_kernel.specs.Boot.{and_then, any_touches, any_writes, laid_all, page_loaded, pages_loaded, stack_page, touches}
+use Rattle.jos_kernel.specs.Boot.{any_touches, any_writes, laid_all, page_loaded, pages_loaded, stack_page, touches}
 use Rattle.jos_kernel.specs.Loading.{Loads}
 use Rattle.jos_kernel.proofs.Laying.{laid-part}
 use Rattle.lib_spawn.specs.StackPage.{stack_contents, stack_pointer, stack_size}
@@ -74,8 +74,8 @@ module _ (segments : List Segment) (file : List ℕ) (words : List (List ℕ)) (
         ≡ page_loaded (stack_segment words ∷ []) (stack_contents words) (slot_at t slot).directory stack_page t.spaces
     unfolding program_loaded
     program-last =
-        ap (λ (loaded : Option SpacesState). and_then loaded (page_loaded (stack_segment words ∷ []) (stack_contents words)
-        (slot_at s slot).directory stack_page)) pages.0
+        ap (λ (loaded : Option SpacesState). option_and_then (page_loaded (stack_segment words ∷ []) (stack_contents words)
+        (slot_at s slot).directory stack_page) loaded) pages.0
         ∙ ap (λ (k : KernelState). page_loaded (stack_segment words ∷ []) (stack_contents words) (slot_at k slot).directory
         stack_page t.spaces) (sym pages.1)
 

@@ -2,20 +2,19 @@
 use Rattle.std.proofs.Common.{◌≡◌, ◌∙◌, ◌+◌, ◌-◌, ◌*◌, ◌<◌, ◌≤◌, ◌&&◌, ℕ, Bool, true, false, List}
 use Rattle.std.proofs.Common.{Option, Some, None, Ok}
 use Rattle.std.proofs.Common.{refl, sym, ap, subst, arith}
-use Rattle.std.specs.Prelude.{is_some, nat_le, nat_lt}
+use Rattle.std.specs.Prelude.{is_some, nat_le, nat_lt, option_and_then}
 use Rattle.std.specs.Option.{option_map}
 use Rattle.std.proofs.lemmas.Bool.Decides.{nat_tests}
 use Rattle.std.proofs.lemmas.Option.{same_Some}
 use Rattle.jos_base.specs.declared.environment.EnvType.TheVariants.{FileServer}
 use Rattle.jos_base.specs.declared.registers.Regs.{Regs}
 use Rattle.jos_base.specs.Counting.{frame_limit}
-use Rattle.jos_base.specs.Environments.{Slot as KernelSlot, allotted, allotted_from, first_environments, free_slot, new_slot, next_id}
+use Rattle.jos_base.specs.Environments.{Slot, allotted, allotted_from, first_environments, free_slot, new_slot, next_id}
 use Rattle.jos_base.specs.KernelState.{KernelState, first_state, slot_at, with_directory, with_env_type, with_spaces}
 use Rattle.jos_base.specs.SpacesState.{SpacesState, first_spaces, rising, reserved_frames}
 use Rattle.jos_base.specs.SystemCalls.{environment_made, made_of}
 use Rattle.jos_base.specs.Words.{upd}
 use Rattle.jos_elf.specs.Parsed.{Layout, parsed}
-use Rattle.jos_kernel.specs.Boot.{and_then}
 use Rattle.jos_kernel.proofs.ImagesRead.{read_lie}
 use Rattle.lib_os.specs.AbstractState.{Born, Page}
 use Rattle.lib_os.specs.LibrarySteps.{Stands}
@@ -30,7 +29,7 @@ use Rattle.lib_spawn.proofs.StackPages.{fits}
 use Rattle.jos_run.specs.Begun.{IsNew, ProgramsBegin}
 use Rattle.jos_run.specs.Boot.{booted_within, server_in, program_in, program_booted, program_loaded, program_registers, program_started}
 use Rattle.jos_run.specs.LibraryRuns.{NoneRuns}
-use Rattle.jos_run.specs.Start.{program_with, start, start_with}
+use Rattle.jos_run.specs.Start.{program_with, start_state, start_with}
 use Rattle.jos_run.proofs.Booted.{within-booted}
 use Rattle.jos_run.proofs.FirstSpaces.{HasFrames, has_frames, rising-some, spaces_one, spaces_two, created_one, created_two}
 use Rattle.jos_run.proofs.FirstSpaces.{two_one_use, two_below}
@@ -47,7 +46,7 @@ module _ (image : Layout) (words : List (List ℕ)) (input : List ℕ) (frames f
   abbrev registers : Regs
   registers = program_registers image.entry words
 
-  abbrev slots : ℕ → KernelSlot
+  abbrev slots : ℕ → Slot
   slots = two.slots first (first + 1) registers
 
   -- the state before a page is loaded, with the registers and the status that the program has
@@ -200,14 +199,14 @@ module _ (image : Layout) (words : List (List ℕ)) (input : List ℕ) (frames f
       ≡ option_map (with_spaces base) (program_loaded image.segments file words (first + 1) spaces)
   unfolding program_booted
   booted_is file =
-      ap (λ (o : Option KernelState). and_then o (λ s. program_in image file words (environment_made s 0))) (ap server_in environment_one)
+      ap (λ (o : Option KernelState). option_and_then (λ s. program_in image file words (environment_made s 0)) o) (ap server_in environment_one)
       ∙ ap (program_in image file words) environment_two
       ∙ (λ i. option_map (λ u. started_is u i) (program_loaded image.segments file words (space_is i) spaces))
 
   -- ---- the run begins
 
   abbrev Begins : List ℕ → KernelState → Type 0
-  Begins file s = Stands s (start image file words input) × IsNew s frames
+  Begins file s = Stands s (start_state image file words input) × IsNew s frames
 
   pub begins : (file : List ℕ) (s : KernelState) → parsed file ≡ Ok image → 0 < stack_size words →
       program_booted image file words frames input ≡ Some s → Begins file s
@@ -241,6 +240,6 @@ programs_begin image file words frames input s read fit least most is =
 -- the same where the frames that the program wants are there
 pub begun_within : (image : Layout) (file : List ℕ) (words : List (List ℕ)) (frames : ℕ) (input : List ℕ) (s : KernelState) →
     parsed file ≡ Ok image → fits_stack words ≡ true → 64 ≤ frames → frames ≤ 65536 →
-    booted_within image file words frames input ≡ Some s → Stands s (start image file words input) × IsNew s frames
+    booted_within image file words frames input ≡ Some s → Stands s (start_state image file words input) × IsNew s frames
 begun_within image file words frames input s read fit least most is =
     programs_begin image file words frames input s read fit least most (within-booted image file words frames input s is)

@@ -18,17 +18,17 @@ use Rattle.lib_os.specs.declared.place.Step.{Step}
 use Rattle.lib_os.specs.declared.service.Service.{Service}
 use Rattle.lib_os.specs.declared.progress.Progress.{Progress}
 use Rattle.lib_os.specs.declared.progress.Progress.TheVariants as progress
-use Rattle.lib_os.specs.LibrarySteps.{Keeps, IsLibraryStep, Leaves, Lowers, GivesUp, is_pausing}
+use Rattle.lib_os.specs.LibrarySteps.{KeepsStanding, IsLibraryStep, Leaves, Lowers, GivesUp, is_pausing}
 use Rattle.lib_os.specs.InOrder.{IsInOrder}
 use Rattle.lib_os.specs.Places.{place_of}
 use Rattle.lib_os.specs.UserCalls.{Output}
 use Rattle.lib_os.proofs.GoingOn.{gives_nothing_up}
-use Rattle.jos_run.specs.declared.steps.Stepped.{Stepped}
+use Rattle.jos_run.specs.declared.steps.StepOutcome.{StepOutcome}
 use Rattle.jos_run.specs.Guest.{Follows}
 use Rattle.jos_run.specs.GuestSteps.{quietly, after_event, guest_instruction}
 use Rattle.jos_run.specs.LibraryRuns.{visible_steps, hidden_steps}
 use Rattle.jos_run.specs.RunSteps.{StepMade, IsMade, LeadTo, traps_of, written_in, turns_with}
-use Rattle.jos_run.specs.Steps.{is_awake, progress_of, Raises}
+use Rattle.jos_run.specs.Steps.{is_awake, step_progress, Raises}
 use Rattle.jos_run.specs.StepsAtOnce.{GuestGoesOn, came_to, MakesSteps}
 use Rattle.jos_run.proofs.GuestLeaves.{guest_leaves}
 use Rattle.jos_run.proofs.ProgramSteps.{program_goes_on, program_ends, program_fails, guest_raises}
@@ -50,8 +50,8 @@ module _ {n going ip : ℕ} {event : Event} (s mid after : KernelState) (output 
   still_awake : is_awake (slot_at b.reached n).status ≡ true
   still_awake = ap (λ (x : Status). is_awake x) (gone_quietly n going s b.reached b.went).status ∙ awake
 
-  makes : (last : Result Stepped Failed) → IsLibraryStep (progress_of last) n b.reached after output → Leaves (progress_of last) n b.reached after →
-      Lowers (progress_of last) (place_of (slot_at b.reached n)) (place_of (slot_at after n)) →
+  makes : (last : Result StepOutcome Failed) → IsLibraryStep (step_progress last) n b.reached after output → Leaves (step_progress last) n b.reached after →
+      Lowers (step_progress last) (place_of (slot_at b.reached n)) (place_of (slot_at after n)) →
       IfOk last (λ stepped. Raises (place_of (slot_at b.reached n)) n b.reached stepped.trap after) → MakesSteps n going last s after output
   makes last step leaves lowers raises = record {
     reached = b.reached;
@@ -60,7 +60,7 @@ module _ {n going ip : ℕ} {event : Event} (s mid after : KernelState) (output 
     step = step;
     leaves = leaves;
     lowers = lowers;
-    gives_up = gives_nothing_up (progress_of last) (slot_at b.reached n) (slot_at after n) (ap is_pausing b.is_guest);
+    gives_up = gives_nothing_up (step_progress last) (slot_at b.reached n) (slot_at after n) (ap is_pausing b.is_guest);
     raises = raises;
   }
 
@@ -87,12 +87,12 @@ module _ {n going ip : ℕ} {event : Event} (s mid after : KernelState) (output 
 -- One step of a service, with no instruction before it. It raises no trap.
 module _ (s after : KernelState) (n : ℕ) (output : Output) (service : Service) (step : Step)
     (is : place_of (slot_at s n) ≡ place.InService service step) (did : Result Progress Failed) where
-  raises_none : (last : Result Stepped Failed) → IfOk last (λ stepped. stepped.trap ≡ None) →
+  raises_none : (last : Result StepOutcome Failed) → IfOk last (λ stepped. stepped.trap ≡ None) →
       IfOk last (λ stepped. Raises (place_of (slot_at s n)) n s stepped.trap after)
   raises_none (Ok stepped) none = subst (λ (p : Place). Raises p n s stepped.trap after) (sym is) none
   raises_none (Err failed) none = tt
 
-  pub service_made : (last : Result Stepped Failed) → progress_of last ≡ did → IfOk last (λ stepped. stepped.trap ≡ None) →
+  pub service_made : (last : Result StepOutcome Failed) → step_progress last ≡ did → IfOk last (λ stepped. stepped.trap ≡ None) →
       IsLibraryStep did n s after output → Leaves did n s after → Lowers did (place_of (slot_at s n)) (place_of (slot_at after n)) →
       GivesUp did (slot_at s n) (slot_at after n) → MakesSteps n 0 last s after output
   service_made last told none library leaves lowers gives_up = record {
@@ -140,7 +140,7 @@ quiet_made begins n s u after g guest runs is chosen = record {
   running = (λ i. is_running (slot_at (is i) n).status) ∙ runs;
   raises = subst (λ (x : KernelState). Raises (place_of (slot_at x n)) n x None after) (sym is)
       (guest_raises s after n None guest (ap (λ (step : EnvStep). step.state) (sym g)) (ap (λ (step : EnvStep). step.trap) (sym g)));
-  keeps = subst (λ (x : KernelState). Keeps progress.Visible n x after []) (sym is)
+  keeps = subst (λ (x : KernelState). KeepsStanding progress.Visible n x after []) (sym is)
       (quiet_keeps s after n g (running_awake (slot_at s n).status runs) guest);
   leaves = subst (λ (x : KernelState). Leaves (Ok progress.Visible) n x after) (sym is)
       (guest_leaves s after n progress.Visible (ap (λ (step : EnvStep). step.state) (sym g)));
@@ -160,7 +160,7 @@ module _ (n : ℕ) (goes_on : Bool) (done : Progress) (bytes : List ℕ) (trap :
       let rest : length (steps_with false n k g.0 t g.3 last) ≡ k + 1 = steps_long false k g.0 t g.3 in omega arith
 
   -- they lead on to where the last one leads
-  module _ (t v : KernelState) (raises : Raises (place_of (slot_at t n)) n t trap left) (keeps : Keeps done n t left bytes)
+  module _ (t v : KernelState) (raises : Raises (place_of (slot_at t n)) n t trap left) (keeps : KeepsStanding done n t left bytes)
       (leaves : Leaves (Ok done) n t left) (passed_is : (if goes_on then left else turn_ended left n) ≡ v) where
     pub steps_lead : (begins : Bool) (k : ℕ) (s u : KernelState) (g : GuestGoesOn n k s t) → (if begins then turn_begun u n else u) ≡ s →
         (begins ≡ true → next u.environments u.last ≡ Some n) → is_running (slot_at s n).status ≡ true →
@@ -172,7 +172,7 @@ module _ (n : ℕ) (goes_on : Bool) (done : Progress) (bytes : List ℕ) (trap :
             chosen = chosen;
             running = (λ i. is_running (slot_at (is i) n).status) ∙ runs;
             raises = subst (λ (x : KernelState). Raises (place_of (slot_at x n)) n x trap left) (sym at_last) raises;
-            keeps = subst (λ (x : KernelState). Keeps done n x left bytes) (sym at_last) keeps;
+            keeps = subst (λ (x : KernelState). KeepsStanding done n x left bytes) (sym at_last) keeps;
             leaves = subst (λ (x : KernelState). Leaves (Ok done) n x left) (sym at_last) leaves;
           },
           passed_is,

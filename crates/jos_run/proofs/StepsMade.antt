@@ -25,12 +25,12 @@ use Rattle.lib_os.specs.declared.progress.Progress.{Progress}
 use Rattle.lib_os.specs.declared.progress.Progress.TheVariants as progress
 use Rattle.lib_os.specs.AbstractState.{AbstractState}
 use Rattle.lib_os.specs.AbstractRun.{abs_step}
-use Rattle.lib_os.specs.LibrarySteps.{Stands, Keeps, NothingRefused, KeepsTurn, KeepsUses, LeavesRest}
+use Rattle.lib_os.specs.LibrarySteps.{Stands, KeepsStanding, NothingRefused, KeepsTurn, KeepsUses, LeavesRest}
 use Rattle.lib_os.specs.Need.{EachHasUse, NeedIsReached, need}
 use Rattle.lib_os.specs.Places.{place_of}
 use Rattle.lib_os.specs.UserCalls.{Output}
 use Rattle.jos_run.specs.declared.library_run.LibraryRun.{LibraryRun}
-use Rattle.jos_run.specs.declared.steps.Stepped.{Stepped}
+use Rattle.jos_run.specs.declared.steps.StepOutcome.{StepOutcome}
 use Rattle.jos_run.specs.AbstractTurns.{steps_taken}
 use Rattle.jos_run.specs.AbstractTurns.{turn_begun as begun_at}
 use Rattle.jos_run.specs.LibraryRuns.{IsBetween, IsInTurn, visible_steps, hidden_steps}
@@ -75,7 +75,7 @@ ended_rest s n = by_test (is_running (slot_at s n).status)
     by_test false = (refl, refl)
 
 -- the slot whose turn it is had the last turn
-pub entered_last : (r : LibraryRun) (n : ℕ) → Holds r → IsChosen r n → (entered r n).last ≡ Some n
+entered_last : (r : LibraryRun) (n : ℕ) → Holds r → IsChosen r n → (entered r n).last ≡ Some n
 entered_last r n holds chosen = by_test (made r.book == 0) refl
   where
     by_test : (c : Bool) → (made r.book == 0) ≡ c → (if c then turn_begun (state_of r) n else state_of r).last ≡ Some n
@@ -84,7 +84,7 @@ entered_last r n holds chosen = by_test (made r.book == 0) refl
         holds.current (some_made r is) ∙ ap (λ (m : ℕ). Some m) (sym (chosen.turn (some_made r is)))
 
 -- and is one more turn
-pub entered_turns : (r : LibraryRun) (n : ℕ) → Holds r → (entered r n).turns ≡ vec_len r.book.turns + 1
+entered_turns : (r : LibraryRun) (n : ℕ) → Holds r → (entered r n).turns ≡ vec_len r.book.turns + 1
 entered_turns r n holds = by_test (made r.book == 0) refl holds.turns
   where
     by_test : (c : Bool) → (made r.book == 0) ≡ c → (state_of r).turns ≡ (if c then vec_len r.book.turns else vec_len r.book.turns + 1) →
@@ -122,7 +122,7 @@ pub record Reaches (r : LibraryRun) (n going : ℕ) : Type 0 where
   pub reached : KernelState
   pub went : GuestGoesOn n going (entered r n) reached
 
-abbrev pub reaches : {r : LibraryRun} {n going : ℕ} {last : Result Stepped Failed} {after : KernelState} {output : Output} → Holds r → IsChosen r n →
+abbrev pub reaches : {r : LibraryRun} {n going : ℕ} {last : Result StepOutcome Failed} {after : KernelState} {output : Output} → Holds r → IsChosen r n →
     made r.book + going < quantum r.book.schedule (length r.book.turns.items) → is_running (slot_at (entered r n) n).status ≡ true →
     MakesSteps n going last (entered r n) after output → Reaches r n going
 reaches holds chosen left running b = record {
@@ -138,7 +138,7 @@ reaches holds chosen left running b = record {
 -- what the calls of steps have done before they are counted
 pub record Makes (r m : LibraryRun) (n going : ℕ) (done : Progress) (bytes : List ℕ) : Type 0 where
   pub before : Reaches r n going
-  pub keeps : Keeps done n before.reached (state_of m) bytes
+  pub keeps : KeepsStanding done n before.reached (state_of m) bytes
   pub rest : LeavesRest before.reached (state_of m)
   pub turn : KeepsTurn done (slot_at before.reached n) (slot_at (state_of m) n)
   pub trap : Option TrapLine
@@ -177,8 +177,8 @@ turn_with m going done = turn_after m (seen_with going done) (hidden_steps done)
 abbrev pub CountsSteps : LibraryRun → LibraryRun → ℕ → Progress → Type 0
 CountsSteps old new going done = Counted old new (seen_with going done) (hidden_steps done)
 
-abbrev turn_goes_on : LibraryRun → ℕ → Progress → Bool
-turn_goes_on m going done = goes_on_after m (seen_with going done + hidden_steps done)
+abbrev goes_on_with : LibraryRun → ℕ → Progress → Bool
+goes_on_with m going done = goes_on_after m (seen_with going done + hidden_steps done)
 
 -- the turns that are told behind steps that were counted
 pub told_turns : (c : Bool) (m after : LibraryRun) (visible hidden : ℕ) → 0 < visible + hidden → CountedBy c m after visible hidden →
@@ -346,13 +346,13 @@ module _ {r m : LibraryRun} {n going : ℕ} {done : Progress} {bytes : List ℕ}
       StandsSo first frames after (printed ++ bytes)
   quiet_further after counts same first frames printed h =
       let kept = entered_rest r n in
-      let rest = counted_rest (turn_goes_on m going done) m after (seen_with going done) (hidden_steps done) counts in
+      let rest = counted_rest (goes_on_with m going done) m after (seen_with going done) (hidden_steps done) counts in
       let t = before_stands k.before first printed h.stands h.quiet in
       let none : reached.refusals ≡ 0 = before_last k.before ∙ h.quiet in
       let none_refused : NothingRefused reached (state_of m) =
       record { stays = same ∙ sym (gone k.before).refusals; could = omega (arith, none) } in
       record {
-        stands = stands_after (turn_goes_on m going done) r.book.schedule first m after (seen_with going done) (hidden_steps done)
+        stands = stands_after (goes_on_with m going done) r.book.schedule first m after (seen_with going done) (hidden_steps done)
             (printed ++ bytes) refl counts (λ i. (k.book i).schedule) (some_steps going done) within_turn (comes_with t none_refused);
         quiet = rest.1 ∙ same ∙ kept.1 ∙ h.quiet;
         frames_are = (λ i. (rest.0 i).frames) ∙ k.rest.frames ∙ (gone k.before).frames ∙ (λ i. (kept.0 i).frames) ∙ h.frames_are;
@@ -421,11 +421,11 @@ module _ {r m : LibraryRun} {n going : ℕ} {done : Progress} {bytes : List ℕ}
           Runs first frames after (printed ++ bytes)
       refused_so refusal is some h =
           subst (λ (o : Option Refusal). RunsBy o first frames after (printed ++ bytes)) (sym is) (
-            subst (λ (x : ℕ). 0 < x) (sym (counted_rest (turn_goes_on m going done) m after (seen_with going done) (hidden_steps done) counts).1) some,
+            subst (λ (x : ℕ). 0 < x) (sym (counted_rest (goes_on_with m going done) m after (seen_with going done) (hidden_steps done) counts).1) some,
             subst (λ (x : List ℕ). IsRefused x first frames (turns_so_far after) refusal (printed ++ bytes))
                 (sym (counts.book.schedule ∙ (λ i. (k.book i).schedule)))
                 (subst (λ (x : List Turn). IsRefused r.book.schedule first frames x refusal (printed ++ bytes))
-                (sym (told_turns (turn_goes_on m going done) m after (seen_with going done) (hidden_steps done) (some_steps going done) counts)) h),
+                (sym (told_turns (goes_on_with m going done) m after (seen_with going done) (hidden_steps done) (some_steps going done) counts)) h),
           )
 
       by_rose : (c : Bool) → ((state_of m).refusals == (entered r n).refusals) ≡ c → r.book.first_refused ≡ None →
@@ -461,7 +461,7 @@ module _ {r m : LibraryRun} {n going : ℕ} {done : Progress} {bytes : List ℕ}
 
   -- the steps themselves
   abbrev last_made : Bool → StepMade
-  last_made begins = made_step n begins (turn_goes_on m going done) done bytes k.trap (state_of m)
+  last_made begins = made_step n begins (goes_on_with m going done) done bytes k.trap (state_of m)
 
   made_all : List StepMade
   made_all = steps_with (made r.book == 0) n going (entered r n) reached k.before.went last_made
@@ -469,14 +469,14 @@ module _ {r m : LibraryRun} {n going : ℕ} {done : Progress} {bytes : List ℕ}
   made_long : length made_all ≡ going + 1
   unfolding made_all
   made_long =
-      steps_long n (turn_goes_on m going done) done bytes k.trap (state_of m) (made r.book == 0) going (entered r n) reached k.before.went
+      steps_long n (goes_on_with m going done) done bytes k.trap (state_of m) (made r.book == 0) going (entered r n) reached k.before.went
 
   leads_on : (after : LibraryRun) → CountsSteps m after going done → LeadTo made_all (state_of r) (state_of after)
   unfolding made_all
   leads_on after counts =
-      steps_lead n (turn_goes_on m going done) done bytes k.trap (state_of m) reached (state_of after) k.raises k.keeps
+      steps_lead n (goes_on_with m going done) done bytes k.trap (state_of m) reached (state_of after) k.raises k.keeps
       (k.rest, k.turn, k.uses)
-      ((λ i. if turn_goes_on m going done then state_of m else turn_ended (state_of m) (sym k.slot i)) ∙ sym counts.state)
+      ((λ i. if goes_on_with m going done then state_of m else turn_ended (state_of m) (sym k.slot i)) ∙ sym counts.state)
       (made r.book == 0) going (entered r n) (state_of r) k.before.went refl (λ is. k.before.chosen.next_is (none_made r is)) k.before.running
       k.before.is_guest
 
@@ -484,7 +484,7 @@ module _ {r m : LibraryRun} {n going : ℕ} {done : Progress} {bytes : List ℕ}
       r.book.trace ≡ buffer (keep_last most traps) most → after.book.trace ≡ buffer (keep_last most (traps ++ traps_of made_all)) most
   unfolding made_all
   keeps_traps after counts most traps is =
-      let one = steps_traps n (turn_goes_on m going done) done bytes k.trap (state_of m) (made r.book == 0) going (entered r n) reached k.before.went in
+      let one = steps_traps n (goes_on_with m going done) done bytes k.trap (state_of m) (made r.book == 0) going (entered r n) reached k.before.went in
       counts.book.trace ∙ (λ i. (k.book i).trace) ∙ ap (λ (b : Buffer TrapLine). traced b k.trap) is
       ∙ kept_one most traps (last_made (made r.book == 0))
       ∙ ap (λ (l : List TrapLine). buffer (keep_last most (traps ++ l)) most) (sym one)
@@ -492,14 +492,14 @@ module _ {r m : LibraryRun} {n going : ℕ} {done : Progress} {bytes : List ℕ}
   writes : bytes ≡ written_in made_all
   unfolding made_all
   writes =
-      sym (steps_written n (turn_goes_on m going done) done bytes k.trap (state_of m) (made r.book == 0) going (entered r n) reached k.before.went
+      sym (steps_written n (goes_on_with m going done) done bytes k.trap (state_of m) (made r.book == 0) going (entered r n) reached k.before.went
       ∙ written_one (last_made (made r.book == 0)))
 
   -- the turns with them
   turns_on : (after : LibraryRun) → CountsSteps m after going done → turns_so_far after ≡ turns_with (turns_so_far r) made_all
   unfolding made_all
   turns_on after counts =
-      told_turns (turn_goes_on m going done) m after (seen_with going done) (hidden_steps done) (some_steps going done) counts
+      told_turns (goes_on_with m going done) m after (seen_with going done) (hidden_steps done) (some_steps going done) counts
       ∙ (λ i. (k.book i).turns.items
       ++ turn_of (whose i) ((k.book i).visible + seen_with going done) ((k.book i).hidden + hidden_steps done) ∷ [])
       ∙ sym (by_begins (made r.book == 0) refl)
@@ -519,10 +519,10 @@ module _ {r m : LibraryRun} {n going : ℕ} {done : Progress} {bytes : List ℕ}
           ++ turn_of (if c then n else r.served.slot) (r.book.visible + seen_with going done) (r.book.hidden + hidden_steps done) ∷ []
       by_begins true is =
           let none : made r.book ≡ 0 = none_made r is in
-          steps_turns n (turn_goes_on m going done) done bytes k.trap (state_of m) true going (entered r n) reached k.before.went
+          steps_turns n (goes_on_with m going done) done bytes k.trap (state_of m) true going (entered r n) reached k.before.went
           r.book.turns.items n r.book.visible r.book.hidden (λ so. (refl, omega (arith, none), omega (arith, none)))
       by_begins false is =
-          steps_turns n (turn_goes_on m going done) done bytes k.trap (state_of m) false going (entered r n) reached k.before.went
+          steps_turns n (goes_on_with m going done) done bytes k.trap (state_of m) false going (entered r n) reached k.before.went
           r.book.turns.items r.served.slot r.book.visible r.book.hidden (λ so. absurd (let contradiction : false ≡ true = so in cc))
 
   -- so many steps more were made

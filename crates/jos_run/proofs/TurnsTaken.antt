@@ -2,45 +2,46 @@
 -- schedule allows.
 use Rattle.std.proofs.Common.{◌≡◌, ◌∙◌, ℕ, suc, ◌+◌, ◌==◌, ◌&&◌, ◌||◌, Bool, true, false, List, [], ◌∷◌, ◌++◌, length}
 use Rattle.std.proofs.Common.{Option, Some, None, refl, sym, ap, subst, arith, add-one, if◌then◌else◌}
-use Rattle.std.specs.Prelude.{nat_le, nat_lt, unwrap_or}
+use Rattle.std.specs.Prelude.{nat_le, nat_lt, unwrap_or, option_and_then}
 use Rattle.std.proofs.lemmas.Bool.Decides.{nat_tests}
 use Rattle.jos_sched.specs.Quantum.{quantum}
 use Rattle.jos_kernel.specs.declared.report.Turn.{Turn}
 use Rattle.jos_kernel.specs.Books.{turn_of}
 use Rattle.lib_os.specs.AbstractState.{AbstractState}
 use Rattle.lib_os.specs.AbstractRun.{abs_step}
-use Rattle.jos_run.specs.AbstractTurns.{next_slot, turn_begun, and_then, steps_taken, is_chosen, turn_taken, abs_run}
+use Rattle.jos_run.specs.AbstractTurns.{next_slot, turn_begun, steps_taken, turn_taken, abs_run}
 use Rattle.jos_run.specs.AbstractTurns.{may_end, turn_fits, is_empty, holds_of, fits, all_fit}
 use Rattle.std.proofs.lemmas.Bool.{and_parts, and_from}
+use Rattle.jos_base.specs.Words.{is_exactly}
 
 -- ---- one behind the other
 
-then_some : {X : Type 0} (o : Option X) → and_then o (λ x. Some x) ≡ o
+then_some : {X : Type 0} (o : Option X) → option_and_then (λ x. Some x) o ≡ o
 then_some None = refl
 then_some (Some x) = refl
 
 then_then : {X Y Z : Type 0} (o : Option X) (f : X → Option Y) (g : Y → Option Z) →
-    and_then o (λ x. and_then (f x) g) ≡ and_then (and_then o f) g
+    option_and_then (λ x. option_and_then g (f x)) o ≡ option_and_then g (option_and_then f o)
 then_then None f g = refl
 then_then (Some x) f g = refl
 
-then_alike : {X Y : Type 0} (o : Option X) (f g : X → Option Y) → ((x : X) → f x ≡ g x) → and_then o f ≡ and_then o g
+then_alike : {X Y : Type 0} (o : Option X) (f g : X → Option Y) → ((x : X) → f x ≡ g x) → option_and_then f o ≡ option_and_then g o
 then_alike None f g same = refl
 then_alike (Some x) f g same = same x
 
 -- what comes behind something that is there
-pub then_is : {X Y : Type 0} {o : Option X} (x : X) (f : X → Option Y) → o ≡ Some x → and_then o f ≡ f x
-then_is {X = X} {Y = Y} x f is = ap (λ (p : Option X). and_then p f) is
+pub then_is : {X Y : Type 0} {o : Option X} (x : X) (f : X → Option Y) → o ≡ Some x → option_and_then f o ≡ f x
+then_is {X = X} {Y = Y} x f is = ap (λ (p : Option X). option_and_then f p) is
 
 -- ---- runs
 
 -- one more turn
 pub run_append : (a : AbstractState) (turns : List Turn) (t : Turn) →
-    abs_run a (turns ++ t ∷ []) ≡ and_then (abs_run a turns) (λ b. turn_taken b t)
+    abs_run a (turns ++ t ∷ []) ≡ option_and_then (λ b. turn_taken b t) (abs_run a turns)
 unfolding abs_run
 run_append a [] t = then_some (turn_taken a t)
 run_append a (turn ∷ rest) t =
-    then_alike (turn_taken a turn) (λ b. abs_run b (rest ++ t ∷ [])) (λ b. and_then (abs_run b rest) (λ c. turn_taken c t))
+    then_alike (turn_taken a turn) (λ b. abs_run b (rest ++ t ∷ [])) (λ b. option_and_then (λ c. turn_taken c t) (abs_run b rest))
     (λ b. run_append b rest t)
     ∙ then_then (turn_taken a turn) (λ b. abs_run b rest) (λ c. turn_taken c t)
 
@@ -50,7 +51,7 @@ pub taken_is : (a : AbstractState) (n visible hidden : ℕ) → next_slot a ≡ 
 unfolding turn_taken
 taken_is a n visible hidden chosen =
     let same : (n == n) ≡ true = grind (arith, nat_tests) in
-    let is : is_chosen n (next_slot a) ≡ true = ap (λ (o : Option ℕ). is_chosen n o) chosen ∙ same in
+    let is : is_exactly n (next_slot a) ≡ true = ap (λ (o : Option ℕ). is_exactly n o) chosen ∙ same in
     ap (λ (c : Bool). if c then steps_taken (turn_begun a n) n visible else None) is
 
 pub run_with_turn : (first before now : AbstractState) (turns : List Turn) (n visible hidden : ℕ) → abs_run first turns ≡ Some before →
@@ -109,12 +110,12 @@ same_state a b is = ap (λ (o : Option AbstractState). unwrap_or o a) is
 -- the first of them, where the others go on so
 first_fits : (schedule : List ℕ) (k : ℕ) (a before : AbstractState) (turn : Turn) (run : AbstractState → Option AbstractState)
     (whole further : AbstractState → Bool) → holds_of (turn_taken a turn) (λ b. turn_fits schedule k false a turn b && whole b) ≡ true →
-    and_then (turn_taken a turn) run ≡ Some before → ((b : AbstractState) → whole b ≡ true → run b ≡ Some before → further b ≡ true) →
+    option_and_then run (turn_taken a turn) ≡ Some before → ((b : AbstractState) → whole b ≡ true → run b ≡ Some before → further b ≡ true) →
     holds_of (turn_taken a turn) (λ b. turn_fits schedule k false a turn b && further b) ≡ true
 first_fits schedule k a before turn run whole further fit ran goes_on = by_taken (turn_taken a turn) fit ran
   where
     by_taken : (o : Option AbstractState) → holds_of o (λ b. turn_fits schedule k false a turn b && whole b) ≡ true →
-        and_then o run ≡ Some before → holds_of o (λ b. turn_fits schedule k false a turn b && further b) ≡ true
+        option_and_then run o ≡ Some before → holds_of o (λ b. turn_fits schedule k false a turn b && further b) ≡ true
     by_taken None fit ran = fit
     by_taken (Some b) fit ran =
         let parts = and_parts (turn_fits schedule k false a turn b) (whole b) fit in

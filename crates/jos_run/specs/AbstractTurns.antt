@@ -2,8 +2,9 @@
 -- so many of its steps. And which turns a schedule allows.
 -- (MIT 6.828, kern/sched.c; turns of so many steps are this system's own.)
 use Rattle.std.specs.Prelude.{ℕ, ◌+◌, ◌%◌, ◌==◌, ◌&&◌, ◌||◌, nat_le, nat_lt, not, zero, suc, Bool, true, false, List, [], ◌∷◌}
-use Rattle.std.specs.Prelude.{Option, Some, None, is_none, if◌then◌else◌}
+use Rattle.std.specs.Prelude.{Option, Some, None, is_none, if◌then◌else◌, option_and_then}
 use Rattle.jos_base.specs.declared.numbers.TheConstants.{NENV, TURN_MAX}
+use Rattle.jos_base.specs.Words.{is_exactly}
 use Rattle.jos_sched.specs.Quantum.{quantum}
 use Rattle.jos_sched.specs.RoundRobin.{start}
 use Rattle.jos_kernel.specs.declared.report.End.{End}
@@ -12,7 +13,7 @@ use Rattle.jos_kernel.specs.declared.report.Turn.{Turn}
 use Rattle.fs_layout.specs.DiskImage.{some_below}
 use Rattle.lib_os.specs.declared.service.Service.{Service}
 use Rattle.lib_os.specs.declared.service.Service.TheVariants as service
-use Rattle.lib_os.specs.AbstractState.{AbstractState, Slot, born, serving, Phase, in_service, can_run, is_live}
+use Rattle.lib_os.specs.AbstractState.{AbstractState, AbstractSlot, born, serving, Phase, in_service, can_run, is_live}
 use Rattle.lib_os.specs.AbstractRun.{abs_step}
 
 -- ---- turns
@@ -29,32 +30,24 @@ next_slot a = first_of a (start a.last) NENV
 abbrev pub turn_begun : AbstractState → ℕ → AbstractState
 turn_begun a n = record a { last = Some n; turns = a.turns + 1 }
 
-abbrev pub and_then : {X Y : Type 0} → Option X → (X → Option Y) → Option Y
-and_then None f = None
-and_then (Some x) f = f x
-
 -- so many steps of a slot; None where one of them is none
 unfoldable pub steps_taken : AbstractState → ℕ → ℕ → Option AbstractState
 steps_taken a n zero = Some a
-steps_taken a n (suc more) = and_then (steps_taken a n more) (λ b. abs_step b n)
-
-abbrev pub is_chosen : ℕ → Option ℕ → Bool
-is_chosen n None = false
-is_chosen n (Some next) = next == n
+steps_taken a n (suc more) = option_and_then (λ b. abs_step b n) (steps_taken a n more)
 
 -- A turn is that of the slot that is chosen, with the steps that are visible. The others change nothing here.
 unfoldable pub turn_taken : AbstractState → Turn → Option AbstractState
 turn_taken a turn =
-    if is_chosen turn.slot (next_slot a) then steps_taken (turn_begun a turn.slot) turn.slot turn.visible else None
+    if is_exactly turn.slot (next_slot a) then steps_taken (turn_begun a turn.slot) turn.slot turn.visible else None
 
 unfoldable pub abs_run : AbstractState → List Turn → Option AbstractState
 abs_run a [] = Some a
-abs_run a (turn ∷ rest) = and_then (turn_taken a turn) (λ b. abs_run b rest)
+abs_run a (turn ∷ rest) = option_and_then (λ b. abs_run b rest) (turn_taken a turn)
 
 -- ---- the end
 
 -- an environment but the server is live
-abbrev pub is_client : Slot → Bool
+abbrev pub is_client : AbstractSlot → Bool
 is_client (serving id) = false
 is_client slot = is_live slot
 
@@ -94,7 +87,7 @@ abbrev pub waits_in : Phase → Bool
 waits_in (in_service s stage) = is_waiting_service s
 waits_in _ = false
 
-abbrev pub stands_waiting : Slot → Bool
+abbrev pub stands_waiting : AbstractSlot → Bool
 stands_waiting (born b) = waits_in b.phase
 stands_waiting _ = false
 
@@ -102,7 +95,7 @@ abbrev pub yields_in : Phase → Bool
 yields_in (in_service service.Yield stage) = true
 yields_in _ = false
 
-abbrev pub is_yielding : Slot → Bool
+abbrev pub is_yielding : AbstractSlot → Bool
 is_yielding (born b) = yields_in b.phase
 is_yielding _ = false
 

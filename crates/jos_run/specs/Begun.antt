@@ -8,7 +8,7 @@ use Rattle.lib_os.specs.Need.{EachHasUse}
 use Rattle.lib_spawn.specs.StackPage.{fits_stack}
 use Rattle.jos_run.specs.Boot.{boot_frames, booted_within, program_booted}
 use Rattle.jos_run.specs.LibraryRuns.{NoneRuns}
-use Rattle.jos_run.specs.Start.{start}
+use Rattle.jos_run.specs.Start.{start_state}
 
 -- nothing has happened, and each frame that is handed out has a use
 pub record IsNew (s : KernelState) (frames : ℕ) : Type 0 where
@@ -23,7 +23,7 @@ pub record IsNew (s : KernelState) (frames : ℕ) : Type 0 where
 abbrev pub ProgramsBegin : Type 0
 ProgramsBegin = (image : Layout) (file : List ℕ) (words : List (List ℕ)) (frames : ℕ) (input : List ℕ) (s : KernelState) →
     parsed file ≡ Ok image → fits_stack words ≡ true → FRAMES_MIN ≤ frames → frames ≤ FRAMES_MAX →
-    program_booted image file words frames input ≡ Some s → Stands s (start image file words input) × IsNew s frames
+    program_booted image file words frames input ≡ Some s → Stands s (start_state image file words input) × IsNew s frames
 
 -- And in the frames that it wants, every program is booted.
 abbrev pub ProgramsBoot : Type 0

@@ -2,6 +2,7 @@
 -- with the pages of its image and a page of stack on which its words stand.
 -- (MIT 6.828, env_create and load_icode of kern/env.c, and init_stack of lib/spawn.c.)
 use Rattle.std.specs.Prelude.{ℕ, ◌+◌, ◌*◌, ◌/◌, nat_lt, Bool, true, List, [], ◌∷◌, Option, None, Some, Result, Ok, Err, if◌then◌else◌}
+use Rattle.std.specs.Prelude.{option_and_then}
 use Rattle.std.specs.Option.{option_map}
 use Rattle.jos_base.specs.declared.environment.EnvType.TheVariants.{FileServer}
 use Rattle.jos_base.specs.declared.environment.Status.TheVariants.{Runnable}
@@ -15,7 +16,7 @@ use Rattle.jos_base.specs.SpacesState.{SpacesState}
 use Rattle.jos_base.specs.SystemCalls.{environment_made}
 use Rattle.jos_elf.specs.declared.image.Segment.{Segment}
 use Rattle.jos_elf.specs.Parsed.{Layout}
-use Rattle.jos_kernel.specs.Boot.{and_then, any_touches, first_registers, page_loaded, pages_loaded, stack_page}
+use Rattle.jos_kernel.specs.Boot.{any_touches, first_registers, page_loaded, pages_loaded, stack_page}
 use Rattle.lib_spawn.specs.StackPage.{stack_contents, stack_pointer, stack_size}
 use Rattle.fs_layout.specs.DiskImage.{some_below}
 use Rattle.jos_run.specs.declared.boot.TheConstants.{FRAMES_BESIDE}
@@ -35,8 +36,8 @@ stack_segment words = record {
 -- the pages of the image, and then that of the stack
 unfoldable pub program_loaded : List Segment → List ℕ → List (List ℕ) → ℕ → SpacesState → Option SpacesState
 program_loaded segments file words space s =
-    and_then (pages_loaded segments file space s (FDTABLE / PGSIZE))
-    (page_loaded (stack_segment words ∷ []) (stack_contents words) space stack_page)
+    option_and_then (page_loaded (stack_segment words ∷ []) (stack_contents words) space stack_page)
+    (pages_loaded segments file space s (FDTABLE / PGSIZE))
 
 -- it stands at the image's entry, and ESP at its words
 abbrev pub program_registers : ℕ → List (List ℕ) → Regs
@@ -63,8 +64,8 @@ server_in (Ok made) = Some (with_env_type made.1 made.0 FileServer)
 -- None where a frame is wanted and none is free
 unfoldable pub program_booted : Layout → List ℕ → List (List ℕ) → ℕ → List ℕ → Option KernelState
 program_booted image file words frames input =
-    and_then (server_in (environment_made (first_state frames input) 0))
-    (λ s. program_in image file words (environment_made s 0))
+    option_and_then (λ s. program_in image file words (environment_made s 0))
+    (server_in (environment_made (first_state frames input) 0))
 
 -- ---- how many frames a run wants
 

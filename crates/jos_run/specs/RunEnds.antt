@@ -14,12 +14,12 @@ use Rattle.jos_run.specs.declared.programs.RunEnd.{RunEnd}
 use Rattle.jos_run.specs.declared.programs.RunEnd.TheVariants.{Ended, HostFault}
 use Rattle.jos_run.specs.declared.programs.Setup.{Setup}
 use Rattle.jos_run.specs.Boot.{booted_within}
-use Rattle.jos_run.specs.Start.{start}
+use Rattle.jos_run.specs.Start.{start_state}
 use Rattle.jos_run.specs.RunReports.{IsTold, IsToldCutOff}
 use Rattle.jos_run.specs.RunSteps.{HasGone}
 
 -- a program that is run: its image with the file that it was read from, its words, and what the run is given
-pub record Program : Type 0 where
+pub record Job : Type 0 where
   pub image : Layout
   pub file : List ℕ
   pub words : List (List ℕ)
@@ -31,8 +31,8 @@ pub record Program : Type 0 where
   pub trace : ℕ
 
 -- the program of an image and its file, with its words and what its run is given
-abbrev pub given_program : Layout → List ℕ → List (List ℕ) → Setup → Program
-given_program image file words setup = record {
+abbrev pub given_job : Layout → List ℕ → List (List ℕ) → Setup → Job
+given_job image file words setup = record {
   image = image;
   file = file;
   words = words;
@@ -44,33 +44,33 @@ given_program image file words setup = record {
 }
 
 -- the abstract system in which it begins
-abbrev pub start_of : Program → AbstractState
-start_of p = start p.image p.file p.words p.input
+abbrev pub start_of : Job → AbstractState
+start_of p = start_state p.image p.file p.words p.input
 
 -- the state of the kernel in which it begins; None where the frames are too few
-abbrev pub begun : Program → Option KernelState
+abbrev pub begun : Job → Option KernelState
 begun p = booted_within p.image p.file p.words p.frames p.input
 
-abbrev pub CanBegin : Program → Type 0
+abbrev pub CanBegin : Job → Type 0
 CanBegin p = IsSome (begun p)
 
 -- The run is over, and this is told of it, with the last of its traps; the console has gained what it has printed.
-abbrev pub HasRun : Program → Reported → List TrapLine → Around (Option (List ℕ)) → Type 0
+abbrev pub HasRun : Job → Reported → List TrapLine → Around (Option (List ℕ)) → Type 0
 HasRun p report traps console =
     CanBegin p × ((printed : List ℕ) × Gains console printed × IsTold p.schedule (start_of p) p.frames p.steps report printed
     × ((s : KernelState) × (begun p ≡ Some s) × HasGone s p.steps p.trace report traps printed))
 
 -- A call of the host failed in the run.
-abbrev pub IsCut : Program → CutOff → Around (Option (List ℕ)) → Type 0
+abbrev pub IsCut : Job → CutOff → Around (Option (List ℕ)) → Type 0
 IsCut p cut console = CanBegin p × IsToldCutOff p.schedule (start_of p) p.frames cut console
 
 -- How a run that began has ended.
-abbrev pub IsEndOf : Program → RunEnd → Around (Option (List ℕ)) → Type 0
+abbrev pub IsEndOf : Job → RunEnd → Around (Option (List ℕ)) → Type 0
 IsEndOf p (Ended report trace) console = HasRun p report trace.items console
 IsEndOf p (HostFault cut) console = IsCut p cut console
 
 -- What `run` answers for a program. Before the run nothing is printed.
-abbrev pub AnswersFor : Program → Result RunEnd BootFault → Around (Option (List ℕ)) → Type 0
+abbrev pub AnswersFor : Job → Result RunEnd BootFault → Around (Option (List ℕ)) → Type 0
 AnswersFor p (Ok end) console = IsEndOf p end console
 AnswersFor p (Err Pool) console = (begun p ≡ None) × (console.after ≡ console.before)
 AnswersFor p (Err NoMemory) console = console.after ≡ console.before

@@ -7,7 +7,7 @@ use Rattle.jos_kernel.specs.declared.report.Turn.{Turn}
 use Rattle.jos_kernel.specs.Books.{turn_of}
 use Rattle.lib_os.specs.declared.progress.Progress.{Progress}
 use Rattle.lib_os.specs.AbstractState.{AbstractState}
-use Rattle.lib_os.specs.LibrarySteps.{Stands, Keeps, NothingRefused}
+use Rattle.lib_os.specs.LibrarySteps.{Stands, KeepsStanding, NothingRefused}
 use Rattle.lib_os.specs.StandsFor.{StandsFor, Names}
 use Rattle.jos_run.specs.AbstractTurns.{next_slot, end_of, turn_fits, fits}
 use Rattle.jos_run.specs.LibraryRuns.{NoneRuns, OnlyRuns, OnlyFirstServes, IsBetween, IsInTurn, visible_steps, end_seen}
@@ -37,7 +37,7 @@ TurnsBegin = (schedule : List ℕ) (first : AbstractState) (turns : List Turn) (
 abbrev pub StepsLeadOn : Type 0
 StepsLeadOn = (schedule : List ℕ) (first : AbstractState) (turns : List Turn) (n visible : ℕ) (s after : KernelState)
     (written bytes : List ℕ) → IsInTurn schedule first turns n visible s written → (progress : Progress) →
-    Keeps progress n s after bytes → NothingRefused s after → OnlyRuns after n →
+    KeepsStanding progress n s after bytes → NothingRefused s after → OnlyRuns after n →
     IsInTurn schedule first turns n (visible + visible_steps progress) after (written ++ bytes)
 
 -- A turn that fits ends.

@@ -10,7 +10,7 @@ use Rattle.jos_kernel.specs.declared.report.End.TheVariants.{Budget}
 use Rattle.jos_kernel.specs.declared.report.Refusal.{Refusal}
 use Rattle.jos_kernel.specs.declared.report.Turn.{Turn}
 use Rattle.jos_kernel.specs.Books.{turn_of}
-use Rattle.jos_kernel.specs.ExoRun.{counted}
+use Rattle.jos_kernel.specs.ExoRun.{bytes_counted}
 use Rattle.jos_kernel.specs.Reports.{Reported, CutOff}
 use Rattle.lib_os.specs.AbstractState.{AbstractState}
 use Rattle.lib_os.specs.Need.{need}
@@ -19,7 +19,7 @@ use Rattle.jos_run.specs.AbstractTurns.{next_slot, turn_begun, steps_taken, abs_
 -- ---- without a refusal
 
 -- The abstract system has taken these turns, which obey the schedule, and has come to this; these bytes were printed.
-pub record HasTaken (schedule : List ℕ) (first : AbstractState) (turns : List Turn) (printed : List ℕ)
+pub record HasTakenTurns (schedule : List ℕ) (first : AbstractState) (turns : List Turn) (printed : List ℕ)
     (now : AbstractState) : Type 0 where
   pub ran : abs_run first turns ≡ Some now
   pub fit : fits schedule 0 first turns ≡ true
@@ -53,7 +53,7 @@ pub record IsRefused (schedule : List ℕ) (first : AbstractState) (frames : ℕ
   pub rest : List ℕ
   pub printed_is : printed ≡ told ++ rest
   pub console : now.console ≡ first.console ++ told
-  pub console_len : refusal.console_len ≡ counted told
+  pub console_len : refusal.console_len ≡ bytes_counted told
   -- the frames that are handed out, all but those that the kernel keeps for itself
   pub needed : frames - reserved_frames frames ≤ need now
 
@@ -69,7 +69,7 @@ steps_of (turn ∷ rest) = turn.visible + turn.hidden + steps_of rest
 pub record HasEnded (schedule : List ℕ) (first : AbstractState) (turns : List Turn) (printed : List ℕ) (spent : Bool)
     (end : End) : Type 0 where
   pub now : AbstractState
-  pub taken : HasTaken schedule first turns printed now
+  pub taken : HasTakenTurns schedule first turns printed now
   pub whole : end ≢ Budget → all_fit schedule 0 first turns ≡ true
   pub over : end_of now (length turns) spent ≡ Some end
 
@@ -106,7 +106,7 @@ pub record IsCutOff (schedule : List ℕ) (first : AbstractState) (turns : List 
   -- where it would have ended, and what it would have printed
   pub now : AbstractState
   pub whole : List ℕ
-  pub would : HasTaken schedule first turns (told ++ whole) now
+  pub would : HasTakenTurns schedule first turns (told ++ whole) now
   pub part : List ℕ
   pub rest : List ℕ
   pub whole_is : whole ≡ part ++ rest

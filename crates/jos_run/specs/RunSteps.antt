@@ -11,7 +11,7 @@ use Rattle.jos_kernel.specs.declared.trace.TrapLine.{TrapLine}
 use Rattle.jos_kernel.specs.Books.{turn_of}
 use Rattle.jos_kernel.specs.Reports.{Reported}
 use Rattle.lib_os.specs.declared.progress.Progress.{Progress}
-use Rattle.lib_os.specs.LibrarySteps.{Keeps, Leaves}
+use Rattle.lib_os.specs.LibrarySteps.{KeepsStanding, Leaves}
 use Rattle.lib_os.specs.Places.{place_of}
 use Rattle.jos_run.specs.LibraryRuns.{visible_steps, hidden_steps, end_seen}
 use Rattle.jos_run.specs.Steps.{Raises}
@@ -42,7 +42,7 @@ pub record IsMade (s : KernelState) (step : StepMade) : Type 0 where
   pub chosen : step.begins ≡ true → next s.environments s.last ≡ Some step.slot
   pub running : is_running (slot_at (entered_by s step) step.slot).status ≡ true
   pub raises : Raises (place_of (slot_at (entered_by s step) step.slot)) step.slot (entered_by s step) step.trap step.left
-  pub keeps : Keeps step.progress step.slot (entered_by s step) step.left step.written
+  pub keeps : KeepsStanding step.progress step.slot (entered_by s step) step.left step.written
   pub leaves : Leaves (Ok step.progress) step.slot (entered_by s step) step.left
 
 -- These steps lead from one state to another.

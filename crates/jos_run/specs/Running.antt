@@ -16,7 +16,7 @@ use Rattle.jos_kernel.specs.declared.report.Turn.{Turn}
 use Rattle.jos_kernel.specs.declared.trace.TrapLine.{TrapLine}
 use Rattle.jos_kernel.specs.Books.{turn_of, made, HasRoom, HasStepsLeft}
 use Rattle.jos_kernel.specs.Books as books
-use Rattle.jos_kernel.specs.ExoRun.{counted}
+use Rattle.jos_kernel.specs.ExoRun.{bytes_counted}
 use Rattle.jos_kernel.specs.Reports.{Reported, CutOff}
 use Rattle.lib_os.specs.AbstractState.{AbstractState}
 use Rattle.lib_os.specs.Need.{EachHasUse}
@@ -59,7 +59,7 @@ pub record StandsSo (first : AbstractState) (frames : ℕ) (r : LibraryRun) (pri
   pub quiet : (state_of r).refusals ≡ 0
   pub frames_are : (state_of r).spaces.frames ≡ frames
   pub used : EachHasUse (state_of r).spaces
-  pub counted_so : r.served.written ≡ counted printed
+  pub counted_so : r.served.written ≡ bytes_counted printed
 
 abbrev pub RunsBy : Option Refusal → AbstractState → ℕ → LibraryRun → List ℕ → Type 0
 RunsBy None first frames r printed = StandsSo first frames r printed
@@ -89,7 +89,7 @@ entered r n = if made r.book == 0 then turn_begun (state_of r) n else state_of r
 
 -- whether the turn under way goes on after so many more steps
 abbrev pub goes_on_after : LibraryRun → ℕ → Bool
-goes_on_after r steps = books.goes_on_after r.book steps (is_running (slot_at (state_of r) r.served.slot).status)
+goes_on_after r steps = books.goes_on_in r.book steps (is_running (slot_at (state_of r) r.served.slot).status)
 
 -- the turn under way, with so many more steps
 abbrev pub turn_after : LibraryRun → ℕ → ℕ → Turn
@@ -98,7 +98,7 @@ turn_after r visible hidden = turn_of r.served.slot (r.book.visible + visible) (
 -- Steps of the environment that is served are counted; `goes_on` says whether its turn does.
 pub record CountedBy (goes_on : Bool) (old new : LibraryRun) (visible hidden : ℕ) : Type 0 where
   pub state : state_of new ≡ (if goes_on then state_of old else turn_ended (state_of old) old.served.slot)
-  pub book : books.Counted goes_on old.book new.book old.served.slot visible hidden
+  pub book : books.IsCounted goes_on old.book new.book old.served.slot visible hidden
   pub slot : new.served.slot ≡ old.served.slot
   pub written : new.served.written ≡ old.served.written
 
@@ -144,19 +144,19 @@ EndsBy None first spent r printed end = HasEnded r.book.schedule first (turns_so
 EndsBy (Some refusal) first spent r printed end = Unit {0}
 
 -- The run has gone on to the end that the kernel's state tells, with so many steps at most; or the host failed.
-abbrev pub HasRun : ℕ → Result End Failed → Around LibraryRun → Around (Option (List ℕ)) → Type 0
-HasRun budget (Ok end) run console =
+abbrev pub HasRunToEnd : ℕ → Result End Failed → Around LibraryRun → Around (Option (List ℕ)) → Type 0
+HasRunToEnd budget (Ok end) run console =
     (steps : ℕ) × (steps ≤ budget) × (went : Went steps run console)
     × ((first : AbstractState) (frames : ℕ) (before : List ℕ) → Runs first frames run.before before →
     EndsBy run.after.book.first_refused first (steps == budget) run.after (before ++ went.printed) end)
     × (end_at (state_of run.after) (length (turns_so_far run.after)) (steps == budget) ≡ Some end)
-HasRun budget (Err _) run console = HasFailed run console
+HasRunToEnd budget (Err _) run console = HasFailed run console
 
 -- ---- what is told
 
 abbrev pub report_of : LibraryRun → End → Reported
 report_of r end =
-    books.report_of end r.book.steps (turns_so_far r) r.book.first_refused (state_of r).refusals (state_of r).upcalls
+    books.report_with end r.book.steps (turns_so_far r) r.book.first_refused (state_of r).refusals (state_of r).upcalls
 
 abbrev pub cut_off_of : LibraryRun → CutOff
 cut_off_of r = books.cut_off_of r.book r.served.slot

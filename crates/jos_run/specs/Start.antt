@@ -7,7 +7,7 @@ use Rattle.jos_elf.specs.Parsed.{Layout}
 use Rattle.jos_kernel.specs.Boot.{any_touches, any_writes, page_bytes, stack_page}
 use Rattle.fs_layout.specs.FileTree.{a_directory, no_more}
 use Rattle.lib_os.specs.AbstractMemory.{has_page_in}
-use Rattle.lib_os.specs.AbstractState.{AbstractState, Born, Page, own, TablePlace, Slot, free, born, serving, guest, at_guest, idle, terminal}
+use Rattle.lib_os.specs.AbstractState.{AbstractState, Born, Page, own, TablePlace, AbstractSlot, free, born, serving, guest, at_guest, idle, terminal}
 use Rattle.lib_spawn.specs.StackPage.{stack_contents}
 use Rattle.jos_run.specs.Boot.{program_registers, stack_segment}
 
@@ -37,7 +37,7 @@ program_with image words memory = record {
   blocked = false;
 }
 
-abbrev pub first_slot : Born → ℕ → Slot
+abbrev pub first_slot : Born → ℕ → AbstractSlot
 first_slot b n = if n == 0 then serving FIRST_ENV_ID else if n == 1 then born b else free 0
 
 abbrev pub no_place : TablePlace
@@ -62,5 +62,5 @@ start_with b input = record {
 }
 
 -- the program of an image that was read from a file, with its words and the console's input
-abbrev pub start : Layout → List ℕ → List (List ℕ) → List ℕ → AbstractState
-start image file words input = start_with (program_with image words (first_memory image file words)) input
+abbrev pub start_state : Layout → List ℕ → List (List ℕ) → List ℕ → AbstractState
+start_state image file words input = start_with (program_with image words (first_memory image file words)) input

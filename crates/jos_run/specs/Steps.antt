@@ -8,7 +8,7 @@ use Rattle.jos_kernel.specs.declared.trace.TrapLine.{TrapLine}
 use Rattle.lib_os.specs.declared.place.Place.{Place}
 use Rattle.lib_os.specs.declared.place.Place.TheVariants as place
 use Rattle.lib_os.specs.declared.progress.Progress.{Progress}
-use Rattle.jos_run.specs.declared.steps.Stepped.{Stepped}
+use Rattle.jos_run.specs.declared.steps.StepOutcome.{StepOutcome}
 use Rattle.jos_run.specs.GuestSteps.{guest_instruction}
 
 -- who may have steps
@@ -16,9 +16,9 @@ abbrev pub is_awake : Status → Bool
 is_awake status = is_runnable status || is_running status
 
 -- what a step has come to for those who see the abstract system
-abbrev pub progress_of : Result Stepped Failed → Result Progress Failed
-progress_of (Ok stepped) = Ok stepped.progress
-progress_of (Err failed) = Err failed
+abbrev pub step_progress : Result StepOutcome Failed → Result Progress Failed
+step_progress (Ok stepped) = Ok stepped.progress
+step_progress (Err failed) = Err failed
 
 -- A step of a program is its instruction, with the trap that this raises, if it raises one. A service raises none.
 abbrev pub Raises : Place → ℕ → KernelState → Option TrapLine → KernelState → Type 0

@@ -8,9 +8,9 @@ use Rattle.lib_os.specs.declared.progress.Progress.TheVariants as progress
 use Rattle.lib_os.specs.LibrarySteps.{IsLibraryStep, Leaves, Lowers, GivesUp}
 use Rattle.lib_os.specs.Places.{place_of}
 use Rattle.lib_os.specs.UserCalls.{Output}
-use Rattle.jos_run.specs.declared.steps.Stepped.{Stepped}
+use Rattle.jos_run.specs.declared.steps.StepOutcome.{StepOutcome}
 use Rattle.jos_run.specs.GuestSteps.{quietly, guest_instruction}
-use Rattle.jos_run.specs.Steps.{progress_of, Raises}
+use Rattle.jos_run.specs.Steps.{step_progress, Raises}
 
 -- So many instructions of the program in slot n, after each of which it stands at the next one, with nothing told.
 abbrev pub GuestGoesOn : ℕ → ℕ → KernelState → KernelState → Type 0
@@ -20,18 +20,18 @@ GuestGoesOn n (suc more) before after =
     × GuestGoesOn n more next after
 
 -- what an instruction has come to that leaves its environment live or not, with the trap that it raised
-abbrev pub came_to : Bool → Result (Option TrapLine) Failed → Result Stepped Failed
+abbrev pub came_to : Bool → Result (Option TrapLine) Failed → Result StepOutcome Failed
 came_to live (Ok trap) = Ok (record { progress = if live then progress.Visible else progress.Ended; trap = trap })
 came_to live (Err failed) = Err failed
 
 -- The environment in slot n makes so many steps that go on, and one more, which has come to this.
-pub record MakesSteps (n going : ℕ) (last : Result Stepped Failed) (before after : KernelState) (output : Output) : Type 0 where
+pub record MakesSteps (n going : ℕ) (last : Result StepOutcome Failed) (before after : KernelState) (output : Output) : Type 0 where
   -- where the last begins
   pub reached : KernelState
   pub went : GuestGoesOn n going before reached
   pub is_guest : 0 < going → place_of (slot_at before n) ≡ place.Guest
-  pub step : IsLibraryStep (progress_of last) n reached after output
-  pub leaves : Leaves (progress_of last) n reached after
-  pub lowers : Lowers (progress_of last) (place_of (slot_at reached n)) (place_of (slot_at after n))
-  pub gives_up : GivesUp (progress_of last) (slot_at reached n) (slot_at after n)
+  pub step : IsLibraryStep (step_progress last) n reached after output
+  pub leaves : Leaves (step_progress last) n reached after
+  pub lowers : Lowers (step_progress last) (place_of (slot_at reached n)) (place_of (slot_at after n))
+  pub gives_up : GivesUp (step_progress last) (slot_at reached n) (slot_at after n)
   pub raises : IfOk last (λ stepped. Raises (place_of (slot_at reached n)) n reached stepped.trap after)

@@ -9,7 +9,7 @@ ghost use Rattle.jos_kernel.specs.Boot.{page_loaded, stack_page};
 ghost use Rattle.jos_kernel.specs.Loading.{directory_of, Loads};
 ghost use Rattle.lib_spawn.specs.StackPage.{texts, fits_stack, stack_contents};
 ghost use Rattle.lib_os.specs.LibrarySteps.{Stands};
-ghost use Rattle.jos_run.specs.Start.{start};
+ghost use Rattle.jos_run.specs.Start.{start_state};
 ghost use Rattle.jos_run.specs.Begun.{IsNew, ProgramsBegin, ProgramsBoot};
 ghost use Rattle.jos_run.specs.Boot.{pages_touched, touches_region, regions_touched, boot_frames, stack_segment, program_loaded};
 ghost use Rattle.jos_run.specs.Boot.{program_registers, program_in, server_in, booted_within};
@@ -198,7 +198,7 @@ pub fn boot_program(
     ensures pool { IfErr result (λ fault. fault ≡ BootFault.Pool → (input : List ℕ) →
         booted_within image.now file.now (texts words.now) frames input ≡ None) }
     ensures stands { IfOk result (λ system. (input : List ℕ) →
-        Stands (state_of system input) (start image.now file.now (texts words.now) input)) }
+        Stands (state_of system input) (start_state image.now file.now (texts words.now) input)) }
     ensures new { IfOk result (λ system. (input : List ℕ) → IsNew (state_of system input) frames) }
     ensures keeps { IfOk result Keeps }
 {

@@ -21,4 +21,4 @@ pub use boot::{FRAMES_BESIDE, boot_frames, boot_program, programs_begin};
 pub use laws::{runs_go_on_alike, turns_are_chosen_alike};
 pub use programs::{RunEnd, Setup, run};
 pub use served::Served;
-pub use steps::{Stepped, Steps};
+pub use steps::{StepOutcome, Steps};

@@ -17,7 +17,7 @@ ghost use Rattle.jos_run.specs.Begun.{IsNew};
 ghost use Rattle.jos_run.specs.LibraryRuns.{others_live, end_seen, visible_steps, hidden_steps};
 ghost use Rattle.jos_run.specs.Served.{kernel_state};
 ghost use Rattle.jos_run.specs.Running.{state_of, Holds, Runs, IsChosen, entered, Counted};
-ghost use Rattle.jos_run.specs.Running.{Advances, HasRun, turns_so_far, report_of, cut_off_of};
+ghost use Rattle.jos_run.specs.Running.{Advances, HasRunToEnd, turns_so_far, report_of, cut_off_of};
 
 use crate::served::Served;
 use jos_cpu::Decodings;
@@ -224,7 +224,7 @@ impl LibraryRun {
     pub(crate) fn go<H: Host>(&mut self, host: &mut H, budget: u64) -> Result<End, Failed>
         requires holds { Holds self.old }
         requires steps { self.old.book.steps + budget < 2 ^ 64 }
-        ensures told { HasRun budget result (from_to self.old self.new) (around H.console host.old host.new) }
+        ensures told { HasRunToEnd budget result (from_to self.old self.new) (around H.console host.old host.new) }
         ensures holds { OnOk result (Holds self.new) }
         ensures room { OnErr result (HasRoom self.new.book) }
         ensures rest { Unchanged H.files H.input H.asked H.notes host.old host.new }

@@ -10,7 +10,7 @@ ghost use Rattle.lib_os.specs.AbstractState.{AbstractState};
 ghost use Rattle.lib_os.specs.LibrarySteps.{Stands};
 ghost use Rattle.lib_spawn.specs.StackPage.{fits_stack, texts};
 ghost use Rattle.jos_run.specs.Begun.{IsNew};
-ghost use Rattle.jos_run.specs.RunEnds.{AnswersFor, HasEndCause, HasRunCause, RunsFrom, given_program};
+ghost use Rattle.jos_run.specs.RunEnds.{AnswersFor, HasEndCause, HasRunCause, RunsFrom, given_job};
 
 use crate::boot::boot_program;
 use crate::library_run::LibraryRun;
@@ -91,7 +91,7 @@ pub fn run<H: Host>(
     requires least { FRAMES_MIN ≤ setup.frames }
     requires most { setup.frames ≤ FRAMES_MAX }
     requires words { fits_stack (texts words.now) ≡ true }
-    ensures told { AnswersFor (given_program image.now file.now (texts words.now) setup) result (around H.console host.old host.new) }
+    ensures told { AnswersFor (given_job image.now file.now (texts words.now) setup) result (around H.console host.old host.new) }
     ensures rest { Unchanged H.files H.input H.asked H.notes host.old host.new }
     ensures cause { HasRunCause (around H.faults host.old host.new) result }
 {

@@ -9,7 +9,7 @@ ghost use Rattle.lib_os.specs.Places.{place_of};
 ghost use Rattle.lib_os.specs.UserCalls.{output};
 ghost use Rattle.lib_os.specs.declared.place.Place.TheVariants as place;
 ghost use Rattle.jos_run.specs.Served.{kernel_state};
-ghost use Rattle.jos_run.specs.Steps.{is_awake, progress_of};
+ghost use Rattle.jos_run.specs.Steps.{is_awake, step_progress};
 ghost use Rattle.jos_run.specs.StepsAtOnce.{came_to, MakesSteps};
 
 use crate::served::Served;
@@ -23,7 +23,7 @@ use lib_stage::drive;
 
 /// What a step has come to, and the trap that it raised, if it raised one.
 #[derive(Clone, Copy, Debug, PartialEq, Eq)]
-pub struct Stepped {
+pub struct StepOutcome {
     pub progress: Progress,
     pub trap: Option<TrapLine>,
 }
@@ -32,12 +32,12 @@ pub struct Stepped {
 #[derive(Clone, Copy, Debug, PartialEq, Eq)]
 pub struct Steps {
     pub going: u32,
-    pub last: Result<Stepped, Failed>,
+    pub last: Result<StepOutcome, Failed>,
 }
 
 /// What the last instruction of a program has come to, by whether its environment is live, and the trap that it raised, if it
 /// raised one.
-fn came_to(live: bool, followed: Result<Option<TrapLine>, Failed>) -> Result<Stepped, Failed>
+fn came_to(live: bool, followed: Result<Option<TrapLine>, Failed>) -> Result<StepOutcome, Failed>
     ensures { result ≡ came_to live followed }
 {
     match followed {
@@ -47,19 +47,19 @@ fn came_to(live: bool, followed: Result<Option<TrapLine>, Failed>) -> Result<Ste
             } else {
                 Progress::Ended
             };
-            Ok(Stepped { progress, trap })
+            Ok(StepOutcome { progress, trap })
         }
         Err(failed) => Err(failed),
     }
 }
 
 /// A step of a service raises no trap.
-fn served_quietly(answer: Result<Progress, Failed>) -> Result<Stepped, Failed>
-    ensures answer { progress_of result ≡ answer }
+fn served_quietly(answer: Result<Progress, Failed>) -> Result<StepOutcome, Failed>
+    ensures answer { step_progress result ≡ answer }
     ensures quiet { IfOk result (λ stepped. stepped.trap ≡ None) }
 {
     match answer {
-        Ok(progress) => Ok(Stepped {
+        Ok(progress) => Ok(StepOutcome {
             progress,
             trap: None,
         }),

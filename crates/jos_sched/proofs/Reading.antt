@@ -8,18 +8,19 @@ use Rattle.std.proofs.Math.ListN.{drop_of_length-le}
 use Rattle.std.proofs.lemmas.List.{append-nil}
 use Rattle.std.proofs.lemmas.List.Elements.{All-push}
 use Rattle.jos_base.specs.declared.numbers.TheConstants.{QUANTUM}
+use Rattle.jos_base.specs.Reach.{front_added}
 use Rattle.jos_sched.specs.declared.schedule.TheConstants.{SCHEDULE_MAX, QUANTUM_MAX}
 use Rattle.jos_sched.specs.declared.fault.ScheduleFault.{ScheduleFault}
 use Rattle.jos_sched.specs.declared.fault.ScheduleFault.TheVariants.{NotANumber, Zero, TooBig, TooMany}
 use Rattle.jos_sched.specs.Quantum.{AreLawful}
-use Rattle.jos_sched.specs.Schedule.{is_digit, is_blank, number_behind, number_of, fault_of, Read, put_first, judged}
+use Rattle.jos_sched.specs.Schedule.{is_digit, is_blank, number_behind, leading_number, number_fault, Read, judged}
 use Rattle.jos_sched.specs.Schedule.{read_from, completed, parsed}
 
 -- ---- the digits of a number
 
 -- what is read where a number begins, and where no digit stands
 abbrev number_read_here : ℕ → List ℕ → ℕ → ℕ → Read
-number_read_here byte rest at count = judged (fault_of count at (number_of (byte ∷ rest))) (number_of (byte ∷ rest)) (read_from rest (at + 1) true (count + 1))
+number_read_here byte rest at count = judged (number_fault count at (leading_number (byte ∷ rest))) (leading_number (byte ∷ rest)) (read_from rest (at + 1) true (count + 1))
 
 abbrev other_here : ℕ → List ℕ → ℕ → ℕ → Read
 other_here byte rest at count = cond (is_blank byte) (read_from rest (at + 1) false count) (Err (NotANumber at))
@@ -55,7 +56,7 @@ from_place text place lt = rw (add-one place) (drop-cons text place 0 lt)
 pub record IsBegun (text : List ℕ) (from place value : ℕ) : Type 0 where
   pub exact : ℕ
   pub capped : value ≡ min exact (2 ^ 32 - 1)
-  pub number : number_of (drop from text) ≡ number_behind exact (drop place text)
+  pub number : leading_number (drop from text) ≡ number_behind exact (drop place text)
   pub passed : (count : ℕ) → read_from (drop from text) from true count ≡ read_from (drop place text) place true count
 
 pub begun_first : (text : List ℕ) (from : ℕ) → IsBegun text from from 0
@@ -80,7 +81,7 @@ begun_step text from place value product next lt digit begun product_is next_is 
 
 -- what stands behind the digits: the end, or another byte
 pub record IsEnded (text : List ℕ) (from place value : ℕ) : Type 0 where
-  pub value_is : value ≡ min (number_of (drop from text)) (2 ^ 32 - 1)
+  pub value_is : value ≡ min (leading_number (drop from text)) (2 ^ 32 - 1)
   pub passed : (count : ℕ) → read_from (drop from text) from true count ≡ read_from (drop place text) place false count
 
 pub ended_by_other : (text : List ℕ) (from place value : ℕ) → place < length text → is_digit (get_or text place 0) ≡ false → IsBegun text from place value
@@ -89,7 +90,7 @@ unfolding number_behind
 ended_by_other text from place value lt other begun =
     let byte = get_or text place 0 in
     let rest = drop (place + 1) text in
-    let all : number_of (drop from text) ≡ begun.exact =
+    let all : leading_number (drop from text) ≡ begun.exact =
     begun.number ∙ ap (number_behind begun.exact) (from_place text place lt)
     ∙ ap (λ b. cond b (number_behind (begun.exact * 10 + (byte - 48)) rest) begun.exact) other in
     record {
@@ -104,7 +105,7 @@ pub ended_by_end : (text : List ℕ) (from place value : ℕ) → length text �
 unfolding number_behind read_from
 ended_by_end text from place value ge begun =
     let none : drop place text ≡ [] = drop_of_length-le text ge in
-    let all : number_of (drop from text) ≡ begun.exact = begun.number ∙ ap (number_behind begun.exact) none in
+    let all : leading_number (drop from text) ≡ begun.exact = begun.number ∙ ap (number_behind begun.exact) none in
     record {
       value_is = begun.capped ∙ ap (λ z. min z (2 ^ 32 - 1)) (sym all);
       passed = λ count.
@@ -127,7 +128,7 @@ put_before-none : (read : Read) → put_before [] read ≡ read
 put_before-none (Ok numbers) = refl
 put_before-none (Err fault) = refl
 
-put_before-first : (numbers : List ℕ) (number : ℕ) (read : Read) → put_before numbers (put_first number read) ≡ put_before (numbers ++ number ∷ []) read
+put_before-first : (numbers : List ℕ) (number : ℕ) (read : Read) → put_before numbers (front_added number read) ≡ put_before (numbers ++ number ∷ []) read
 put_before-first numbers number (Ok rest) = ap (λ (l : List ℕ). Ok l) (sym (append_assoc numbers (number ∷ []) rest))
 put_before-first numbers number (Err fault) = refl
 
@@ -172,7 +173,7 @@ read_all text place numbers ge read =
 -- ---- one number more
 
 -- a number that is more than a word holds has the same fault as the highest word
-fault_of-min : (count at number : ℕ) → fault_of count at (min number (2 ^ 32 - 1)) ≡ fault_of count at number
+fault_of-min : (count at number : ℕ) → number_fault count at (min number (2 ^ 32 - 1)) ≡ number_fault count at number
 fault_of-min count at number =
     let zero_same : (min number (2 ^ 32 - 1) == 0) ≡ (number == 0) = grind (arith, nat_tests) in
     let big_same : nat_lt QUANTUM_MAX (min number (2 ^ 32 - 1)) ≡ nat_lt QUANTUM_MAX number = grind (arith, nat_tests) in
@@ -183,7 +184,7 @@ record IsFit (count number : ℕ) : Type 0 where
   least : 1 ≤ number
   most : number ≤ QUANTUM_MAX
 
-fit : (count at number : ℕ) → fault_of count at number ≡ None → IsFit count number
+fit : (count at number : ℕ) → number_fault count at number ≡ None → IsFit count number
 fit count at number none = by_tests (count == SCHEDULE_MAX) (number == 0) (nat_lt QUANTUM_MAX number) refl refl refl none
   where
     by_tests : (full none big : Bool) → (count == SCHEDULE_MAX) ≡ full → (number == 0) ≡ none → nat_lt QUANTUM_MAX number ≡ big
@@ -197,33 +198,33 @@ number_first : (byte : ℕ) (rest : List ℕ) (at count : ℕ) → is_digit byte
 number_first byte rest at count digit = not_within byte rest at count true digit
 
 number_here : (bytes : List ℕ) (byte : ℕ) (rest : List ℕ) (at count : ℕ) → bytes ≡ byte ∷ rest → is_digit byte ≡ true
-    → read_from bytes at false count ≡ judged (fault_of count at (number_of bytes)) (number_of bytes) (read_from bytes at true (count + 1))
+    → read_from bytes at false count ≡ judged (number_fault count at (leading_number bytes)) (leading_number bytes) (read_from bytes at true (count + 1))
 number_here bytes byte rest at count is digit =
-    subst (λ (l : List ℕ). read_from l at false count ≡ judged (fault_of count at (number_of l)) (number_of l) (read_from l at true (count + 1))) (sym is)
+    subst (λ (l : List ℕ). read_from l at false count ≡ judged (number_fault count at (leading_number l)) (leading_number l) (read_from l at true (count + 1))) (sym is)
     (number_first byte rest at count digit
-    ∙ ap (judged (fault_of count at (number_of (byte ∷ rest))) (number_of (byte ∷ rest))) (sym (digit_passes byte rest at (count + 1) digit)))
+    ∙ ap (judged (number_fault count at (leading_number (byte ∷ rest))) (leading_number (byte ∷ rest))) (sym (digit_passes byte rest at (count + 1) digit)))
 
 module _ (text : List ℕ) (place : ℕ) (numbers : List ℕ) (number end : ℕ) (lt : place < length text) (digit : is_digit (get_or text place 0) ≡ true)
-    (read : AreRead text place numbers) (value_is : number ≡ min (number_of (drop place text)) (2 ^ 32 - 1))
+    (read : AreRead text place numbers) (value_is : number ≡ min (leading_number (drop place text)) (2 ^ 32 - 1))
     (passed : (count : ℕ) → read_from (drop place text) place true count ≡ read_from (drop end text) end false count) where
   abbrev exact : ℕ
-  exact = number_of (drop place text)
+  exact = leading_number (drop place text)
 
   -- what stands from the number on
-  from_number : read_from (drop place text) place false (length numbers) ≡ judged (fault_of (length numbers) place number) exact (read_from (drop end text) end false (length numbers + 1))
+  from_number : read_from (drop place text) place false (length numbers) ≡ judged (number_fault (length numbers) place number) exact (read_from (drop end text) end false (length numbers + 1))
   from_number =
       number_here (drop place text) (get_or text place 0) (drop (place + 1) text) place (length numbers) (from_place text place lt) digit
-      ∙ ap (judged (fault_of (length numbers) place exact) exact) (passed (length numbers + 1))
+      ∙ ap (judged (number_fault (length numbers) place exact) exact) (passed (length numbers + 1))
       ∙ ap (λ (f : Option ScheduleFault). judged f exact (read_from (drop end text) end false (length numbers + 1)))
-      (sym (fault_of-min (length numbers) place exact) ∙ ap (fault_of (length numbers) place) (sym value_is))
+      (sym (fault_of-min (length numbers) place exact) ∙ ap (number_fault (length numbers) place) (sym value_is))
 
   -- a number with a fault
-  pub number_faults : (fault : ScheduleFault) → fault_of (length numbers) place number ≡ Some fault → read_from text 0 false 0 ≡ Err fault
+  pub number_faults : (fault : ScheduleFault) → number_fault (length numbers) place number ≡ Some fault → read_from text 0 false 0 ≡ Err fault
   number_faults fault is =
       read.rest ∙ ap (put_before numbers) (from_number ∙ ap (λ (f : Option ScheduleFault). judged f exact (read_from (drop end text) end false (length numbers + 1))) is)
 
   -- a number without one
-  pub number_read : fault_of (length numbers) place number ≡ None → AreRead text end (numbers ++ number ∷ [])
+  pub number_read : number_fault (length numbers) place number ≡ None → AreRead text end (numbers ++ number ∷ [])
   number_read none =
       let fits = fit (length numbers) place number none in
       let least = fits.least in
@@ -239,7 +240,7 @@ module _ (text : List ℕ) (place : ℕ) (numbers : List ℕ) (number end : ℕ)
         };
         rest =
             read.rest ∙ ap (put_before numbers) (from_number ∙ ap (λ (f : Option ScheduleFault). judged f exact (read_from (drop end text) end false (length numbers + 1))) none)
-            ∙ ap (λ n. put_before numbers (put_first n (read_from (drop end text) end false (length numbers + 1)))) is_exact
+            ∙ ap (λ n. put_before numbers (front_added n (read_from (drop end text) end false (length numbers + 1)))) is_exact
             ∙ put_before-first numbers number (read_from (drop end text) end false (length numbers + 1))
             ∙ ap (λ n. put_before (numbers ++ number ∷ []) (read_from (drop end text) end false n)) (sym longer);
       }

@@ -4,7 +4,7 @@ use Rattle.std.proofs.Common.{Option, Some, None}
 use Rattle.std.proofs.Common.{refl, sym, ap, subst, arith, add-zero}
 use Rattle.jos_base.specs.declared.numbers.TheConstants.{NENV}
 use Rattle.jos_base.specs.Environments.{Environments}
-use Rattle.jos_envs.specs.SlotSets.{IsFirst}
+use Rattle.jos_envs.specs.SlotSets.{IsFirstSlot}
 use Rattle.jos_envs.specs.Table.{may_run}
 use Rattle.jos_sched.specs.RoundRobin.{first_of, start, next}
 use Rattle.std.proofs.lemmas.Bool.{cases_lt}
@@ -43,7 +43,7 @@ round slot k most lt = elim (cases_lt (slot + k) NENV) [
 ]
 
 -- there is one behind the slot
-pub next_behind : (e : Environments) (last : Option ℕ) (n : ℕ) → IsFirst (may_run e) (start last) (Some n) → next e last ≡ Some n
+pub next_behind : (e : Environments) (last : Option ℕ) (n : ℕ) → IsFirstSlot (may_run e) (start last) (Some n) → next e last ≡ Some n
 unfolding next
 next_behind e last n is =
     let from = start last in
@@ -56,7 +56,7 @@ next_behind e last n is =
     ∙ ap (λ z. Some z) there
 
 -- there is none behind the slot: then the first of all
-pub next_round : (e : Environments) (last first : Option ℕ) → start last ≤ NENV → IsFirst (may_run e) (start last) None → IsFirst (may_run e) 0 first → next e last ≡ first
+pub next_round : (e : Environments) (last first : Option ℕ) → start last ≤ NENV → IsFirstSlot (may_run e) (start last) None → IsFirstSlot (may_run e) 0 first → next e last ≡ first
 unfolding next
 next_round e last None most none all = first_of-none e (start last) NENV (λ k lt. all ((start last + k) % NENV) (omega arith) (omega arith))
 next_round e last (Some n) most none is =

@@ -2,6 +2,7 @@
 use Rattle.std.specs.Prelude.{ℕ, ◌+◌, ◌*◌, ◌-◌, ◌==◌, ◌&&◌, ◌||◌, nat_lt, nat_le, Bool, true, false, List, [], ◌∷◌}
 use Rattle.std.specs.Prelude.{Option, Some, None, Result, Ok, Err, if◌then◌else◌}
 use Rattle.jos_base.specs.declared.numbers.TheConstants.{QUANTUM}
+use Rattle.jos_base.specs.Reach.{front_added}
 use Rattle.jos_sched.specs.declared.schedule.TheConstants.{SCHEDULE_MAX, QUANTUM_MAX}
 use Rattle.jos_sched.specs.declared.fault.ScheduleFault.{ScheduleFault}
 use Rattle.jos_sched.specs.declared.fault.ScheduleFault.TheVariants.{NotANumber, Zero, TooBig, TooMany}
@@ -18,12 +19,12 @@ unfoldable pub number_behind : ℕ → List ℕ → ℕ
 number_behind value [] = value
 number_behind value (byte ∷ rest) = if is_digit byte then number_behind (value * 10 + (byte - 48)) rest else value
 
-abbrev pub number_of : List ℕ → ℕ
-number_of bytes = number_behind 0 bytes
+abbrev pub leading_number : List ℕ → ℕ
+leading_number bytes = number_behind 0 bytes
 
 -- what is wrong with a number that begins at a place, behind so many numbers
-abbrev pub fault_of : ℕ → ℕ → ℕ → Option ScheduleFault
-fault_of count at number =
+abbrev pub number_fault : ℕ → ℕ → ℕ → Option ScheduleFault
+number_fault count at number =
     if count == SCHEDULE_MAX then Some TooMany
     else if number == 0 then Some (Zero at)
     else if nat_lt QUANTUM_MAX number then Some (TooBig at)
@@ -33,12 +34,8 @@ fault_of count at number =
 abbrev pub Read : Type 0
 Read = Result (List ℕ) ScheduleFault
 
-abbrev pub put_first : ℕ → Read → Read
-put_first number (Ok numbers) = Ok (number ∷ numbers)
-put_first number (Err fault) = Err fault
-
 abbrev pub judged : Option ScheduleFault → ℕ → Read → Read
-judged None number rest = put_first number rest
+judged None number rest = front_added number rest
 judged (Some fault) number rest = Err fault
 
 -- The bytes from a place on, behind so many numbers; `in_number` says whether a digit stands right before them. A
@@ -47,7 +44,7 @@ unfoldable pub read_from : List ℕ → ℕ → Bool → ℕ → Read
 read_from [] at in_number count = Ok []
 read_from (byte ∷ rest) at in_number count =
     if is_digit byte && in_number then read_from rest (at + 1) true count
-    else if is_digit byte then judged (fault_of count at (number_of (byte ∷ rest))) (number_of (byte ∷ rest)) (read_from rest (at + 1) true (count + 1))
+    else if is_digit byte then judged (number_fault count at (leading_number (byte ∷ rest))) (leading_number (byte ∷ rest)) (read_from rest (at + 1) true (count + 1))
     else if is_blank byte then read_from rest (at + 1) false count
     else Err (NotANumber at)
 

@@ -4,7 +4,7 @@ ghost use Rattle.std.specs.Prelude.{◌≡◌, ◌≢◌, ℕ, ◌-◌, ◌^◌,
 ghost use Rattle.std.specs.Prelude.{IfOk, IfErr};
 ghost use Rattle.jos_sched.specs.declared.fault.ScheduleFault.TheVariants.{NoMemory};
 ghost use Rattle.jos_sched.specs.Quantum.{AreLawful};
-ghost use Rattle.jos_sched.specs.Schedule.{parsed, read_from, number_of, fault_of, is_blank, is_digit};
+ghost use Rattle.jos_sched.specs.Schedule.{parsed, read_from, leading_number, number_fault, is_blank, is_digit};
 
 use crate::fault::ScheduleFault;
 use crate::schedule::{QUANTUM_MAX, SCHEDULE_MAX, Schedule};
@@ -29,7 +29,7 @@ fn is_digit(byte: u8) -> bool
 fn read_number(text: &[u8], from: usize) -> (u32, usize)
     requires within { from < length text.now }
     requires digit { is_digit (get_or text.now from 0) ≡ true }
-    ensures value { result.0 ≡ min (number_of (drop from text.now)) (2 ^ 32 - 1) }
+    ensures value { result.0 ≡ min (leading_number (drop from text.now)) (2 ^ 32 - 1) }
     ensures end { (count : ℕ) → read_from (drop from text.now) from true count ≡ read_from (drop result.1 text.now) result.1 false count }
     ensures within { result.1 ≤ length text.now }
     ensures further { from < result.1 }
@@ -46,8 +46,8 @@ fn read_number(text: &[u8], from: usize) -> (u32, usize)
 }
 
 /// What is wrong with a number that begins at a place, behind so many numbers.
-fn fault_of(count: usize, at: u32, number: u32) -> Option<ScheduleFault>
-    ensures { result ≡ fault_of count at number }
+fn number_fault(count: usize, at: u32, number: u32) -> Option<ScheduleFault>
+    ensures { result ≡ number_fault count at number }
 {
     if count == SCHEDULE_MAX {
         Some(ScheduleFault::TooMany)
@@ -72,7 +72,7 @@ fn read_numbers(alloc: Global, text: &[u8]) -> Result<Vec<u32>, ScheduleFault>
     while at < text.len() {
         if is_digit(text[at]) {
             let (number, end) = read_number(text, at);
-            if let Some(fault) = fault_of(numbers.len(), at as u32, number) {
+            if let Some(fault) = number_fault(numbers.len(), at as u32, number) {
                 return Err(fault);
             }
             match numbers.push(number) {

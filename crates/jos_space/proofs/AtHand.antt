@@ -8,7 +8,7 @@ use Rattle.jos_base.specs.declared.memory.Access.{Access}
 use Rattle.jos_base.specs.declared.memory.Access.TheVariants.{Read, Write}
 use Rattle.jos_base.specs.declared.memory.PageFault.{PageFault}
 use Rattle.jos_base.specs.Words.{upd}
-use Rattle.jos_base.specs.Reach.{Entry, Location, allows, reach_entry, write_bit}
+use Rattle.jos_base.specs.Reach.{Entry, FrameOffset, allows, reach_entry, write_bit}
 use Rattle.jos_base.specs.SpacesState.{Region, SpacesState, with_page_bytes}
 use Rattle.jos_base.specs.UserMemory.{reach_in, access_bits, touched, touched_by, byte_at, byte_of, region_accessed}
 use Rattle.jos_base.specs.UserMemory.{entry_marked, stored_byte, with_byte_at, with_bits, with_page_bits, with_window_bits, byte_or_zero}
@@ -91,12 +91,12 @@ pub walked_above : (s : SpacesState) (d n : ℕ) → nat_lt n page_limit ≡ fal
 unfolding walked
 walked_above s d n past = rw past refl
 
-pub byte_above : (records : ℕ → List ℕ) (s : SpacesState) (d va : ℕ) (place : Location) → nat_lt (va / 4096) page_limit ≡ false
+pub byte_above : (records : ℕ → List ℕ) (s : SpacesState) (d va : ℕ) (place : FrameOffset) → nat_lt (va / 4096) page_limit ≡ false
     → byte_of records s d va place ≡ window_byte records s d va
 byte_above records s d va place past = rw past refl
 
 -- what may be written lies below UTOP
-pub write_low : (s : SpacesState) (d va : ℕ) (place : Location) → reach_in s d va Write ≡ Ok place → va / 4096 < page_limit
+pub write_low : (s : SpacesState) (d va : ℕ) (place : FrameOffset) → reach_in s d va Write ≡ Ok place → va / 4096 < page_limit
 write_low s d va place e = by_test (nat_lt (va / 4096) page_limit) refl
   where
     by_entry : (o : Option Entry) → reach_entry (option_map read_only o) va Write ≡ Ok place → ⊥
@@ -120,7 +120,7 @@ entry_of_low s d n below = let low : nat_lt n page_limit ≡ true = grind (arith
 pub entry_of_high : (s : SpacesState) (d n : ℕ) → nat_lt n page_limit ≡ false → page_entry s d n ≡ entry_above s d (n / 1024) (n % 1024)
 entry_of_high s d n past = rw past refl
 
-pub byte_below : (records : ℕ → List ℕ) (s : SpacesState) (d va : ℕ) (place : Location) → va / 4096 < page_limit
+pub byte_below : (records : ℕ → List ℕ) (s : SpacesState) (d va : ℕ) (place : FrameOffset) → va / 4096 < page_limit
     → byte_of records s d va place ≡ slice_index (s.pages place.frame) place.offset
 byte_below records s d va place below = let low : nat_lt (va / 4096) page_limit ≡ true = grind (arith, nat_tests) in rw low refl
 
@@ -211,12 +211,12 @@ word_stored_at_hand s d va frame word low room found =
     ∙ four
 
 -- where a byte may be written, it is read in the same place
-pub read_where_written : (entry : Option Entry) (va : ℕ) (place : Location) → reach_entry entry va Write ≡ Ok place → reach_entry entry va Read ≡ Ok place
+pub read_where_written : (entry : Option Entry) (va : ℕ) (place : FrameOffset) → reach_entry entry va Write ≡ Ok place → reach_entry entry va Read ≡ Ok place
 read_where_written None va place e = absurd cc
 read_where_written (Some entry) va place e = by_test (bit_and entry.perm 7 == 7) refl e
   where
     by_test : (b : Bool) → (bit_and entry.perm 7 == 7) ≡ b
-        → ◌≡◌ {A = Result Location PageFault} (cond b (Ok (record { frame = entry.frame; offset = va % 4096 })) (Err (record { va = va; error = 7 }))) (Ok place)
+        → ◌≡◌ {A = Result FrameOffset PageFault} (cond b (Ok (record { frame = entry.frame; offset = va % 4096 })) (Err (record { va = va; error = 7 }))) (Ok place)
         → reach_entry (Some entry) va Read ≡ Ok place
     by_test true t e =
         let stand : bit_and entry.perm 7 ≡ 7 = grind (arith, nat_tests) in

@@ -10,7 +10,7 @@ use Rattle.jos_space.specs.declared.role.Role.TheVariants.{Reserved, Free, Direc
 use Rattle.jos_base.specs.Counting.{named, total}
 use Rattle.jos_base.specs.SpacesState.{Region, reserved, free, rising, reserved_frames, first_spaces}
 use Rattle.jos_space.specs.Frames.{IsSound, Lists, AreSound, held_in, state, regions_of, entries_of, use_of, bytes_by}
-use Rattle.jos_space.specs.Frames.{free_count, state_of, listed, first_role, records, zero_record}
+use Rattle.jos_space.specs.Frames.{free_count, state_of, stacked, first_role, records, zero_record}
 use Rattle.jos_base.specs.declared.numbers.TheConstants.{NENV}
 use Rattle.jos_base.specs.Environments.{records_of, record_words, free_slot, first_environments}
 use Rattle.jos_space.proofs.Lookups.{region_facts, entry_region}
@@ -112,12 +112,12 @@ module _ (n : ℕ) (l : Lists) (is : IsFirst n l) where
     sound = subst (λ m. IsSound m (held_in l)) (sym is.roles_len) first_sound;
   }
 
-  rises : (m : ℕ) → m ≤ n → listed (held_in l).place m ≡ rising (n - m) m
-  unfolding listed rising
+  rises : (m : ℕ) → m ≤ n → stacked (held_in l).place m ≡ rising (n - m) m
+  unfolding stacked rising
   rises zero le = refl
   rises (suc m) le =
       let at : get_or l.order m 0 ≡ n - suc m = is.order m (omega arith) ∙ omega arith in
-      let rest : listed (held_in l).place m ≡ rising (n - suc m + 1) m = rises m (omega arith) ∙ ap (λ z. rising z m) (omega arith) in
+      let rest : stacked (held_in l).place m ≡ rising (n - suc m + 1) m = rises m (omega arith) ∙ ap (λ z. rising z m) (omega arith) in
       λ i. at i ∷ rest i
 
   use_first : (f : ℕ) → use_of (get_or l.roles f Reserved) ≡ cond (nat_lt f (reserved_frames n)) reserved (cond (nat_lt f n) free reserved)
@@ -144,8 +144,8 @@ module _ (n : ℕ) (l : Lists) (is : IsFirst n l) where
   unfolding state_of first_spaces
   first_is =
       let some = few in
-      let free_is : listed (held_in l).place l.free_len ≡ rising (reserved_frames n) (n - reserved_frames n) =
-      ap (listed (held_in l).place) is.free_len ∙ rises (n - reserved_frames n) (omega arith) ∙ ap (λ z. rising z (n - reserved_frames n)) (omega arith) in
+      let free_is : stacked (held_in l).place l.free_len ≡ rising (reserved_frames n) (n - reserved_frames n) =
+      ap (stacked (held_in l).place) is.free_len ∙ rises (n - reserved_frames n) (omega arith) ∙ ap (λ z. rising z (n - reserved_frames n)) (omega arith) in
       λ i. record {
         frames = is.roles_len i;
         uses = λ f. use_first f i;

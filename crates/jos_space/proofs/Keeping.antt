@@ -4,7 +4,7 @@ use Rattle.jos_base.specs.declared.memory.Access.{Access}
 use Rattle.jos_base.specs.declared.memory.Access.TheVariants.{Write}
 use Rattle.jos_base.specs.declared.memory.PageFault.{PageFault}
 use Rattle.jos_base.specs.Words.{upd}
-use Rattle.jos_base.specs.Reach.{Location}
+use Rattle.jos_base.specs.Reach.{FrameOffset}
 use Rattle.jos_base.specs.SpacesState.{Use, fresh, page, free, table, directory, SpacesState}
 use Rattle.jos_base.specs.UserMemory.{reach_in, stored_byte, with_byte_at, with_bits, with_page_bits}
 use Rattle.jos_base.specs.UserMemory.{with_region_bit}
@@ -61,7 +61,7 @@ pub stored_uses : (s : SpacesState) (d va byte : ℕ) → (stored_byte s d va by
 unfolding stored_byte
 stored_uses s d va byte = by_reach (reach_in s d va Write)
   where
-    by_reach : (r : Result Location PageFault) → (with_byte_at s byte r).uses ≡ s.uses
+    by_reach : (r : Result FrameOffset PageFault) → (with_byte_at s byte r).uses ≡ s.uses
     by_reach (Ok location) = refl
     by_reach (Err fault) = refl
 

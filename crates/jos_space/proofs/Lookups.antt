@@ -9,11 +9,11 @@ use Rattle.jos_space.specs.declared.role.Role.TheVariants.{Reserved, Free, Fresh
 use Rattle.jos_base.specs.Counting.{frame_limit, page_limit}
 use Rattle.jos_base.specs.SpacesState.{Region, region_limit}
 use Rattle.jos_space.specs.Frames.{Held, IsSound, regions_of, entries_of, entry_in, entry_of, region_of, is_directory}
-use Rattle.jos_space.specs.Frames.{listed}
+use Rattle.jos_space.specs.Frames.{stacked}
 use Rattle.std.proofs.lemmas.Bool.{cases_lt}
 
-pub listed-same : (g h : ℕ → ℕ) (n : ℕ) → ((k : ℕ) → k < n → g k ≡ h k) → listed g n ≡ listed h n
-unfolding listed
+pub listed-same : (g h : ℕ → ℕ) (n : ℕ) → ((k : ℕ) → k < n → g k ≡ h k) → stacked g n ≡ stacked h n
+unfolding stacked
 listed-same g h zero same = refl
 listed-same g h (suc n) same = λ i. same n (omega arith) i ∷ listed-same g h n (λ k lt. same k (omega arith)) i
 

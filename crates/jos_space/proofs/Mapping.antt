@@ -8,7 +8,7 @@ use Rattle.jos_space.specs.declared.role.Role.TheVariants.{Reserved, Free, Fresh
 use Rattle.jos_base.specs.Counting.{frame_limit, page_limit, named, page_count}
 use Rattle.jos_base.specs.SpacesState.{Region, put, page, with_entry}
 use Rattle.jos_space.specs.Frames.{Held, IsSound, regions_of, entries_of, entry_in, entry_of, is_directory}
-use Rattle.jos_space.specs.Frames.{free_count, bytes_by, use_of, state_of, listed, may_map}
+use Rattle.jos_space.specs.Frames.{free_count, bytes_by, use_of, state_of, stacked, may_map}
 use Rattle.jos_space.proofs.Lookups.{regions-same, region_limits, entries-by}
 use Rattle.std.proofs.lemmas.Bool.{cases_eq}
 use Rattle.jos_base.proofs.Maps.{upd-at, upd-other, upd-seen}
@@ -169,7 +169,7 @@ module _ (n : ℕ) (c : Held) (sound : IsSound n c) (d p : ℕ) (region : Region
   page_state = λ i. record {
     frames = c.frames;
     uses = λ f. same_use f i;
-    free = listed c.place c.free_len;
+    free = stacked c.place c.free_len;
     pages = λ f. same_bytes f i;
     regions = λ x r. page_regions x r i;
     entries = λ x y. page_entries x y i;

@@ -7,7 +7,7 @@ use Rattle.std.proofs.lemmas.Bool.Decides.{nat_tests}
 use Rattle.std.specs.Int.Bits.{or_zero_r}
 use Rattle.std.proofs.lemmas.Nat.{or_lt, or_shr, or_mod, le_or_r}
 use Rattle.std.proofs.lemmas.List.{set-get_or}
-use Rattle.jos_base.specs.Reach.{Entry, Location, reach_entry}
+use Rattle.jos_base.specs.Reach.{Entry, FrameOffset, reach_entry}
 use Rattle.jos_base.specs.declared.memory.Access.{Access}
 use Rattle.jos_base.specs.declared.memory.PageFault.{PageFault}
 use Rattle.jos_space.specs.declared.role.Role.{Role}
@@ -284,7 +284,7 @@ pub touched_fault : (s : SpacesState) (d va : ℕ) (access : Access) (fault : Pa
 unfolding touched
 touched_fault s d va access fault e = sym (ap (touched_by s d va access) e)
 
-pub touched_ok : (s : SpacesState) (d va : ℕ) (access : Access) (place : Location) → reach_in s d va access ≡ Ok place → with_bits s d (va / 4096) access ≡ touched s d va access
+pub touched_ok : (s : SpacesState) (d va : ℕ) (access : Access) (place : FrameOffset) → reach_in s d va access ≡ Ok place → with_bits s d (va / 4096) access ≡ touched s d va access
 unfolding touched
 touched_ok s d va access place e = sym (ap (touched_by s d va access) e)
 
@@ -295,7 +295,7 @@ marked_table s d r t e = ap (option_map (λ (r : Region). r.table)) (put-at s.re
     same None = refl
     same (Some region) = refl
 
-pub reached_some : (o : Option Entry) (va : ℕ) (access : Access) (place : Location) → reach_entry o va access ≡ Ok place → is_some o ≡ true
+pub reached_some : (o : Option Entry) (va : ℕ) (access : Access) (place : FrameOffset) → reach_entry o va access ≡ Ok place → is_some o ≡ true
 reached_some None va access place e = absurd cc
 reached_some (Some entry) va access place e = refl
 

@@ -11,7 +11,7 @@ use Rattle.jos_space.specs.declared.role.Role.TheVariants.{Reserved, Free, Fresh
 use Rattle.jos_base.specs.Counting.{frame_limit, named}
 use Rattle.jos_base.specs.SpacesState.{Region, SpacesState, put, taken, with_entry, region_limit}
 use Rattle.jos_space.specs.Frames.{Held, IsSound, Lists, AreSound, held_in, state, regions_of, entries_of, entry_of}
-use Rattle.jos_space.specs.Frames.{is_accessed, region_of, free_count, state_of, listed, may_map, handed_out}
+use Rattle.jos_space.specs.Frames.{is_accessed, region_of, free_count, state_of, stacked, may_map, handed_out}
 use Rattle.jos_space.specs.Frames.{handed_by}
 use Rattle.std.proofs.lemmas.Bool.Decides.{nat_tests}
 use Rattle.jos_space.proofs.Mapping.{with_page, page_sound, page_state}
@@ -96,7 +96,7 @@ module _ (l : Lists) (ok : AreSound l) (m : ℕ) (some : l.free_len ≡ suc m) w
         sound = subst (λ n. IsSound n (held_in taken_lists)) (sym len) (subst (λ (c : Held). IsSound (length l.roles) c) (sym taken_is) (taken_sound (length l.roles) (held_in l) ok.sound m some (get_or l.bytes head_of [])));
       }
 
-  pub taken_lists_state : state taken_lists ≡ taken (state l) head_of (listed (held_in l).place m) (get_or l.bytes head_of [])
+  pub taken_lists_state : state taken_lists ≡ taken (state l) head_of (stacked (held_in l).place m) (get_or l.bytes head_of [])
   taken_lists_state = ap state_of taken_is ∙ taken_state (length l.roles) (held_in l) ok.sound m some (get_or l.bytes head_of [])
 
 -- ---- a page is mapped
@@ -143,11 +143,11 @@ handed_is l ok m some =
     let h = head_of l ok m some in
     let same : (h == h) ≡ true = grind (arith, nat_tests) in
     ap (λ (fs : List ℕ). handed_by (state l) fs h (get_or l.bytes h [])) (taken_free (length l.roles) (held_in l) ok.sound m some (get_or l.bytes h []))
-    ∙ ap (λ b. cond b (Some (taken (state l) h (listed (held_in l).place m) (get_or l.bytes h []))) None) same ∙ ap (λ (s : SpacesState). Some s) (sym (taken_lists_state l ok m some))
+    ∙ ap (λ b. cond b (Some (taken (state l) h (stacked (held_in l).place m) (get_or l.bytes h []))) None) same ∙ ap (λ (s : SpacesState). Some s) (sym (taken_lists_state l ok m some))
 
 pub nothing_free : (l : Lists) → l.free_len ≡ 0 → (state l).free ≡ []
-unfolding state_of listed
-nothing_free l e = ap (listed (held_in l).place) e
+unfolding state_of stacked
+nothing_free l e = ap (stacked (held_in l).place) e
 
 -- what `take` does, at the frame that it found
 pub record Took (l : Lists) (h m : ℕ) : Type 0 where

@@ -8,7 +8,7 @@ use Rattle.jos_space.specs.declared.role.Role.TheVariants.{Reserved, Free, Fresh
 use Rattle.jos_base.specs.Counting.{named, page_count}
 use Rattle.jos_base.specs.SpacesState.{Use, Region, SpacesState, directory, table, freed, taken, region_limit}
 use Rattle.jos_space.specs.Frames.{Held, IsSound, regions_of, entries_of, region_of, is_directory, free_count}
-use Rattle.jos_space.specs.Frames.{bytes_by, use_of, state_of, listed, may_map}
+use Rattle.jos_space.specs.Frames.{bytes_by, use_of, state_of, stacked, may_map}
 use Rattle.jos_space.proofs.Lookups.{regions-same, entry_limits, entries-by, listed-same}
 use Rattle.std.proofs.lemmas.Bool.{cases_eq, cases_lt}
 use Rattle.jos_base.proofs.Maps.{upd-at, upd-other, upd-seen}
@@ -110,12 +110,12 @@ module _ (n : ℕ) (c : Held) (sound : IsSound n c) (m : ℕ) (some : c.free_len
           let is = sound.listed k (omega arith) in
           upd-other c.role head Fresh (c.place k) (λ e. let h = head_is in let same : ◌≡◌ {A = Role} (Free k) (Free m) = sym is ∙ ap c.role e ∙ h in let both : k ≡ m = cc in absurd (omega (arith, both, lt))) ∙ is
 
-  pub taken_state : state_of taken_held ≡ taken (state_of c) head (listed c.place m) zeros
+  pub taken_state : state_of taken_held ≡ taken (state_of c) head (stacked c.place m) zeros
   unfolding state_of
   taken_state = λ i. record {
     frames = c.frames;
     uses = λ f. upd-seen use_of c.role head Fresh f i;
-    free = listed c.place m;
+    free = stacked c.place m;
     pages = λ f. same_bytes f i;
     regions = λ x r. role_regions n c sound head Fresh (upd c.bytes head zeros) c.place m (ap is_directory head_is) refl x r i;
     entries = λ x y. role_entries n c sound head Fresh (upd c.bytes head zeros) c.place m (ap is_directory head_is) refl x y i;
@@ -127,9 +127,9 @@ module _ (n : ℕ) (c : Held) (sound : IsSound n c) (m : ℕ) (some : c.free_len
         | inr ne ↦ (λ i. bytes_by (upd-other c.role head Fresh f ne i) (upd-other c.bytes head zeros f ne i)) ∙ sym (upd-other (λ q. bytes_by (c.role q) (c.bytes q)) head zeros f ne)
       ]
 
-  pub taken_free : (state_of c).free ≡ head ∷ listed c.place m
-  unfolding state_of listed
-  taken_free = ap (listed c.place) some
+  pub taken_free : (state_of c).free ≡ head ∷ stacked c.place m
+  unfolding state_of stacked
+  taken_free = ap (stacked c.place) some
 
 -- ---- a frame is freed
 
@@ -162,7 +162,7 @@ module _ (n : ℕ) (c : Held) (sound : IsSound n c) (g : ℕ) (used : free_count
       ]
 
   pub freed_state : state_of freed_held ≡ freed (state_of c) g
-  unfolding state_of listed
+  unfolding state_of stacked
   freed_state = λ i. record {
     frames = c.frames;
     uses = λ f. upd-seen use_of c.role g (Free c.free_len) f i;
@@ -225,7 +225,7 @@ module _ (n : ℕ) (c : Held) (sound : IsSound n c) (h : ℕ) (is : c.role h ≡
   created_state = λ i. record {
     frames = c.frames;
     uses = λ f. upd-seen use_of c.role h Directory f i;
-    free = listed c.place c.free_len;
+    free = stacked c.place c.free_len;
     pages = λ f. unseen_bytes Directory refl f i;
     regions = λ x r. created_regions x r i;
     entries = λ x y. entries-by c created_held created_regions refl x y i;
@@ -236,7 +236,7 @@ module _ (n : ℕ) (c : Held) (sound : IsSound n c) (h : ℕ) (is : c.role h ≡
   table_state d r = λ i. record {
     frames = c.frames;
     uses = λ f. upd-seen use_of c.role h (Table d r) f i;
-    free = listed c.place c.free_len;
+    free = stacked c.place c.free_len;
     pages = λ f. unseen_bytes (Table d r) refl f i;
     regions = λ x q. role_regions n c sound h (Table d r) c.bytes c.place c.free_len (ap is_directory is) refl x q i;
     entries = λ x y. role_entries n c sound h (Table d r) c.bytes c.place c.free_len (ap is_directory is) refl x y i;

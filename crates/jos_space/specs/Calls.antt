@@ -2,9 +2,9 @@
 use Rattle.std.specs.Prelude.{◌≡◌, ℕ, Bool, true, false, Option, Some, None, Result, Ok, Err}
 use Rattle.jos_base.specs.declared.memory.Frame.{Frame}
 use Rattle.jos_base.specs.declared.memory.PageFault.{PageFault}
-use Rattle.jos_base.specs.declared.memory.Location.{Location as LocationNow}
+use Rattle.jos_base.specs.declared.memory.Location.{Location}
 use Rattle.jos_base.specs.declared.perm.Perm.{Perm}
-use Rattle.jos_base.specs.Reach.{Entry, Location}
+use Rattle.jos_base.specs.Reach.{Entry, FrameOffset}
 use Rattle.jos_base.specs.SpacesState.{Use, fresh, page, directory, SpacesState}
 
 -- a frame has bytes while it is fresh or a page
@@ -14,7 +14,7 @@ has_bytes page = true
 has_bytes _ = false
 
 -- where an access leads
-abbrev pub located : Result LocationNow PageFault → Result Location PageFault
+abbrev pub located : Result Location PageFault → Result FrameOffset PageFault
 located (Ok location) = Ok (record { frame = location.frame.0; offset = location.offset })
 located (Err fault) = Err fault
 

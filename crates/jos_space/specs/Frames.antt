@@ -71,15 +71,15 @@ abbrev pub bytes_by : Role → List ℕ → List ℕ
 bytes_by role bytes = if may_map role then bytes else []
 
 -- the places below n, the last first
-unfoldable pub listed : (ℕ → ℕ) → ℕ → List ℕ
-listed place zero = []
-listed place (suc n) = place n ∷ listed place n
+unfoldable pub stacked : (ℕ → ℕ) → ℕ → List ℕ
+stacked place zero = []
+stacked place (suc n) = place n ∷ stacked place n
 
 unfoldable pub state_of : Held → SpacesState
 state_of c = record {
   frames = c.frames;
   uses = λ f. use_of (c.role f);
-  free = listed c.place c.free_len;
+  free = stacked c.place c.free_len;
   pages = λ f. bytes_by (c.role f) (c.bytes f);
   regions = regions_of c;
   entries = entries_of c;

@@ -6,7 +6,7 @@ ghost use Rattle.jos_base.specs.declared.numbers.TheConstants.{FRAMES_MAX, NENV}
 ghost use Rattle.jos_space.specs.Frames.{first_role, zero_record};
 ghost use Rattle.jos_space.specs.declared.role.Role.TheVariants.{Reserved};
 
-use crate::lists::{BYTES, Page, Record, WORDS, Words};
+use crate::lists::{BYTES, PageFrame, Record, TABLE_WORDS, TableFrame};
 use crate::role::Role;
 use jos_base::{ENV_WORDS, NENV};
 use std::alloc::{AllocError, Global};
@@ -52,14 +52,14 @@ pub(crate) fn first_order(alloc: Global, frames: u32) -> Result<Vec<u32>, AllocE
 }
 
 /// Words of zero.
-pub(crate) fn word_lists(alloc: Global, frames: u32) -> Result<Vec<Words>, AllocError>
+pub(crate) fn word_lists(alloc: Global, frames: u32) -> Result<Vec<TableFrame>, AllocError>
     ensures { IfOk result (λ words. length words.items ≡ frames) }
 {
-    vec![in alloc; [0; WORDS]; frames as usize]
+    vec![in alloc; [0; TABLE_WORDS]; frames as usize]
 }
 
 /// Bytes of zero.
-pub(crate) fn byte_lists(alloc: Global, frames: u32) -> Result<Vec<Page>, AllocError>
+pub(crate) fn byte_lists(alloc: Global, frames: u32) -> Result<Vec<PageFrame>, AllocError>
     ensures { IfOk result (λ bytes. length bytes.items ≡ frames) }
 {
     vec![in alloc; [0; BYTES]; frames as usize]

@@ -11,23 +11,23 @@ use crate::role::Role;
 use jos_base::{ENV_WORDS, NPTENTRIES, PGSIZE};
 
 /// The words of a directory or a table.
-pub(crate) const WORDS: usize = NPTENTRIES as usize;
+pub(crate) const TABLE_WORDS: usize = NPTENTRIES as usize;
 
 /// The bytes of a page.
 pub(crate) const BYTES: usize = PGSIZE as usize;
 
 /// A frame as a directory or a table.
-pub(crate) type Words = [u32; WORDS];
+pub(crate) type TableFrame = [u32; TABLE_WORDS];
 
 /// A frame as a page.
-pub(crate) type Page = [u8; BYTES];
+pub(crate) type PageFrame = [u8; BYTES];
 
 /// The words of a slot's record.
 pub(crate) type Record = [u32; ENV_WORDS];
 
 /// A word of a frame.
 #[inline(always)]
-pub(crate) fn word_at(words: &[Words], frame: u32, index: u32) -> u32
+pub(crate) fn word_at(words: &[TableFrame], frame: u32, index: u32) -> u32
     requires frame { frame < length words.now }
     requires index { index < NPTENTRIES }
     ensures { result ≡ get_or (get_or words.now frame []) index 0 }
@@ -36,7 +36,7 @@ pub(crate) fn word_at(words: &[Words], frame: u32, index: u32) -> u32
 }
 
 /// Sets a word of a frame.
-pub(crate) fn set_word(words: &mut Vec<Words>, frame: u32, index: u32, word: u32)
+pub(crate) fn set_word(words: &mut Vec<TableFrame>, frame: u32, index: u32, word: u32)
     requires frame { frame < length words.old.items }
     requires index { index < NPTENTRIES }
     ensures row { length (get_or words.old.items frame []) ≡ NPTENTRIES }
@@ -63,15 +63,15 @@ pub(crate) fn count_at(counts: &[u64], frame: u32) -> u64
 
 /// Puts zeros into all words of a frame.
 #[tactic(auto, unfolding(crate::specs::Frames::zero_words))]
-pub(crate) fn clear_words(words: &mut Vec<Words>, frame: u32)
+pub(crate) fn clear_words(words: &mut Vec<TableFrame>, frame: u32)
     requires { frame < length words.old.items }
     ensures { words.new.items ≡ slice_set words.old.items frame zero_words }
 {
-    words[frame as usize] = [0; WORDS];
+    words[frame as usize] = [0; TABLE_WORDS];
 }
 
 /// A byte of a frame.
-pub(crate) fn byte_in(bytes: &[Page], frame: u32, offset: u32) -> u8
+pub(crate) fn byte_in(bytes: &[PageFrame], frame: u32, offset: u32) -> u8
     requires frame { frame < length bytes.now }
     requires offset { offset < PGSIZE }
     ensures { result ≡ get_or (get_or bytes.now frame []) offset 0 }
@@ -81,7 +81,7 @@ pub(crate) fn byte_in(bytes: &[Page], frame: u32, offset: u32) -> u8
 
 /// The bytes of a page from an offset on.
 #[inline(always)]
-pub(crate) fn bytes_from(bytes: &[Page], frame: u32, offset: u32) -> &[u8]
+pub(crate) fn bytes_from(bytes: &[PageFrame], frame: u32, offset: u32) -> &[u8]
     requires frame { frame < length bytes.now }
     requires offset { offset < PGSIZE }
     ensures items { result.now ≡ drop offset (get_or bytes.now frame []) }
@@ -92,7 +92,7 @@ pub(crate) fn bytes_from(bytes: &[Page], frame: u32, offset: u32) -> &[u8]
 
 /// Sets a byte of a frame.
 #[inline(always)]
-pub(crate) fn set_byte_at(bytes: &mut Vec<Page>, frame: u32, offset: u32, byte: u8)
+pub(crate) fn set_byte_at(bytes: &mut Vec<PageFrame>, frame: u32, offset: u32, byte: u8)
     requires frame { frame < length bytes.old.items }
     requires offset { offset < PGSIZE }
     ensures items { bytes.new.items ≡ slice_set bytes.old.items frame (slice_set (get_or bytes.old.items frame []) offset byte) }
@@ -104,7 +104,7 @@ pub(crate) fn set_byte_at(bytes: &mut Vec<Page>, frame: u32, offset: u32, byte: 
 /// Puts a word into these bytes of a page, the lowest byte first.
 #[inline(always)]
 #[tactic(auto, unfolding(crate::specs::AtHand::word_laid))]
-fn lay_word(page: &mut Page, offset: usize, word: u32)
+fn lay_word(page: &mut PageFrame, offset: usize, word: u32)
     requires { offset ≤ PGSIZE - 4 }
     ensures { page.new ≡ word_laid page.old offset word }
 {
@@ -117,7 +117,7 @@ fn lay_word(page: &mut Page, offset: usize, word: u32)
 
 /// Puts a word into a page, the lowest byte first.
 #[inline(always)]
-pub(crate) fn set_word_at(bytes: &mut Vec<Page>, frame: u32, offset: u32, word: u32)
+pub(crate) fn set_word_at(bytes: &mut Vec<PageFrame>, frame: u32, offset: u32, word: u32)
     requires frame { frame < length bytes.old.items }
     requires offset { offset ≤ PGSIZE - 4 }
     ensures { bytes.new.items ≡ slice_set bytes.old.items frame (word_laid (get_or bytes.old.items frame []) offset word) }
@@ -126,7 +126,7 @@ pub(crate) fn set_word_at(bytes: &mut Vec<Page>, frame: u32, offset: u32, word: 
 }
 
 /// Lays bytes into a page from an offset on.
-pub(crate) fn fill_at(pages: &mut Vec<Page>, frame: u32, offset: u32, bytes: &[u8])
+pub(crate) fn fill_at(pages: &mut Vec<PageFrame>, frame: u32, offset: u32, bytes: &[u8])
     requires frame { frame < length pages.old.items }
     requires room { offset + length bytes.now ≤ PGSIZE }
     ensures { pages.new.items ≡ slice_set pages.old.items frame (overlaid (get_or pages.old.items frame []) offset bytes.now) }
@@ -137,7 +137,7 @@ pub(crate) fn fill_at(pages: &mut Vec<Page>, frame: u32, offset: u32, bytes: &[u
 
 /// Puts zeros into all bytes of a frame.
 #[tactic(auto, unfolding(jos_base::specs::SpacesState::zero_page))]
-pub(crate) fn clear_bytes(bytes: &mut Vec<Page>, frame: u32)
+pub(crate) fn clear_bytes(bytes: &mut Vec<PageFrame>, frame: u32)
     requires { frame < length bytes.old.items }
     ensures { bytes.new.items ≡ slice_set bytes.old.items frame zero_page }
 {

@@ -9,7 +9,7 @@ ghost use Rattle.jos_space.specs.Frames.{state, records, AreSound};
 use crate::beginning::{
     byte_lists, first_order, first_roles, reserved, word_lists, zero_counts, zero_records,
 };
-use crate::lists::{Page, Record, Words};
+use crate::lists::{PageFrame, Record, TableFrame};
 use crate::role::Role;
 use jos_base::{Frame, NoMemory};
 use std::alloc::Global;
@@ -45,9 +45,9 @@ pub struct Empty;
 #[derive(Drop)]
 pub struct Spaces {
     /// The words of each frame that is a directory or a table.
-    words: Vec<Words>,
+    words: Vec<TableFrame>,
     /// The bytes of each frame that is a page or fresh.
-    bytes: Vec<Page>,
+    bytes: Vec<PageFrame>,
     /// What each frame is used for.
     roles: Vec<Role>,
     /// How many entries of pages name each frame.

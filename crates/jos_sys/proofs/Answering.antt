@@ -19,7 +19,7 @@ use Rattle.jos_base.specs.KernelState.{KernelState, slot_at, with_status, with_r
 use Rattle.jos_base.specs.SystemCalls.{Did, error_number, answered, refused, without_environment, env_destroy_of}
 use Rattle.jos_base.specs.SystemCalls.{environment_made, exofork, env_set_status_of, cputs, cputs_of, cgetc_from}
 use Rattle.jos_base.specs.SystemCalls.{user_bytes, with_bytes_reached}
-use Rattle.jos_sys.specs.declared.system.Answer.{Answer}
+use Rattle.jos_sys.specs.declared.system.CallAnswer.{CallAnswer}
 use Rattle.jos_sys.specs.System.{IsDone, Does, IsTaken}
 use Rattle.jos_base.proofs.Maps.{upd-at}
 
@@ -56,7 +56,7 @@ found_live e id caller control target is live = by_name (id == 0) is
 -- ---- answers
 
 -- a refusal in a state that is another's
-pub refused_in : (k m j : KernelState) (n : ℕ) (answer : Answer) (error : Errno) → m ≡ k → IsDone answer (refused m n error) j
+pub refused_in : (k m j : KernelState) (n : ℕ) (answer : CallAnswer) (error : Errno) → m ≡ k → IsDone answer (refused m n error) j
     → IsDone answer (refused k n error) j
 refused_in k m j n answer error same done = subst (λ z. IsDone answer (refused z n error) j) same done
 
@@ -67,7 +67,7 @@ self_destroyed k j n target f found same now =
     subst (λ z. IsDone (record { called = Ended; written = 0 }) (env_destroy_of k n z) j) found
     (rw test (now ∙ ap (without_environment k) same, refl, refl, refl))
 
-module _ (k j : KernelState) (n : ℕ) (answer : Answer) where
+module _ (k j : KernelState) (n : ℕ) (answer : CallAnswer) where
   module _ (f : Option ℕ) where
     pub none_destroyed : None ≡ f → IsDone answer (refused k n BadEnv) j → IsDone answer (env_destroy_of k n f) j
     none_destroyed none done = subst (λ z. IsDone answer (env_destroy_of k n z) j) none done
@@ -113,12 +113,12 @@ nothing_gained None bytes none = refl
 nothing_gained (Some told) bytes none = ap (λ z. Some z) (sym (ap (λ z. told ++ z) none ∙ append-nil told))
 
 -- what writes nothing is done, whatever the console is
-pub done_does : (answer : Answer) (did : Did) (j : KernelState) (console : Option (List ℕ)) → IsDone answer did j → Does (Ok answer) did j (from_to console console)
+pub done_does : (answer : CallAnswer) (did : Did) (j : KernelState) (console : Option (List ℕ)) → IsDone answer did j → Does (Ok answer) did j (from_to console console)
 done_does answer did j console done =
     (done.0, done.1, done.2 ∙ sym (ap length done.3), nothing_gained console did.written done.3)
 
 -- the same, where the call is known to be this
-pub call_does : {answer : Answer} {did : Did} {j : KernelState} {console : Option (List ℕ)} (call : Did) → call ≡ did → IsDone answer did j
+pub call_does : {answer : CallAnswer} {did : Did} {j : KernelState} {console : Option (List ℕ)} (call : Did) → call ≡ did → IsDone answer did j
     → Does (Ok answer) call j (from_to console console)
 call_does {answer = answer} {did = did} {j = j} {console = console} call is done =
     subst (λ d. Does (Ok answer) d j (from_to console console)) (sym is) (done_does answer did j console done)
@@ -136,7 +136,7 @@ module _ (k : KernelState) (n va len : ℕ) where
       rw test (ap (cputs_of k n va len) is)
 
   -- the caller has its answer after its bytes were reached
-  pub cputs_answered : (j m : KernelState) (bytes : List ℕ) (answer : Answer) → len ≤ CPUTS_MAX → user_bytes k n va len ≡ Ok bytes
+  pub cputs_answered : (j m : KernelState) (bytes : List ℕ) (answer : CallAnswer) → len ≤ CPUTS_MAX → user_bytes k n va len ≡ Ok bytes
       → m ≡ with_bytes_reached k n va len → IsDone answer (answered m n 0) j
       → (j ≡ (cputs k n va len).state) × (answer.called ≡ (cputs k n va len).called) × (bytes ≡ (cputs k n va len).written)
   cputs_answered j m bytes answer few is reached done =

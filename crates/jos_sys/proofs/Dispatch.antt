@@ -13,7 +13,7 @@ use Rattle.jos_base.specs.KernelState.{KernelState, slot_at, with_status}
 use Rattle.jos_base.specs.SystemCalls.{Did, call_of, system_call, answered, refused, cputs, cgetc_from, env_destroy_of, exofork}
 use Rattle.jos_base.specs.SystemCalls.{env_set_status_of, status_named, page_alloc_of, page_map_of, page_unmap_of}
 use Rattle.jos_base.specs.SystemCalls.{env_set_trapframe_of, env_set_pgfault_upcall_of, ipc_try_send_of, ipc_recv}
-use Rattle.jos_sys.specs.System.{may_write}
+use Rattle.jos_base.specs.SystemCalls.{may_print}
 
 module _ (k : KernelState) (n : ℕ) (regs : Regs) (same : regs ≡ (slot_at k n).registers) where
   called : {did : Did} → call_of k n regs ≡ did → system_call k n ≡ did
@@ -101,11 +101,11 @@ module _ (k : KernelState) (n : ℕ) (regs : Regs) (same : regs ≡ (slot_at k n
       rw (t0, t1, t2, t3, t4, t5, t6, t7, t8, t9, t10, t11, t12, t13) refl)
 
   -- a call that may write to the console may fail
-  pub cputs_fails : {T E : Type 0} (answer : Result T E) → regs.eax ≡ SYS_CPUTS → OnErr answer (may_write (slot_at k n).registers.eax ≡ true)
+  pub cputs_fails : {T E : Type 0} (answer : Result T E) → regs.eax ≡ SYS_CPUTS → OnErr answer (may_print (slot_at k n).registers.eax ≡ true)
   cputs_fails (Ok x) e = tt
-  cputs_fails (Err x) e = subst (λ (r : Regs). may_write r.eax ≡ true) same (rw e refl)
+  cputs_fails (Err x) e = subst (λ (r : Regs). may_print r.eax ≡ true) same (rw e refl)
 
   pub env_set_trapframe_fails : {T E : Type 0} (answer : Result T E) → regs.eax ≡ SYS_ENV_SET_TRAPFRAME →
-      OnErr answer (may_write (slot_at k n).registers.eax ≡ true)
+      OnErr answer (may_print (slot_at k n).registers.eax ≡ true)
   env_set_trapframe_fails (Ok x) e = tt
-  env_set_trapframe_fails (Err x) e = subst (λ (r : Regs). may_write r.eax ≡ true) same (rw e refl)
+  env_set_trapframe_fails (Err x) e = subst (λ (r : Regs). may_print r.eax ≡ true) same (rw e refl)

@@ -7,7 +7,7 @@ use Rattle.jos_base.specs.declared.memory.Access.{Access}
 use Rattle.jos_base.specs.declared.memory.Access.TheVariants.{Write}
 use Rattle.jos_base.specs.declared.memory.PageFault.{PageFault}
 use Rattle.jos_base.specs.declared.numbers.TheConstants.{PGSIZE, UXSTACKTOP}
-use Rattle.jos_base.specs.Reach.{Entry, Location, reach_entry, allows}
+use Rattle.jos_base.specs.Reach.{Entry, FrameOffset, reach_entry, allows}
 use Rattle.jos_base.specs.SpacesState.{SpacesState, overlaid, with_page_bytes}
 use Rattle.jos_base.specs.UserMemory.{reach_in, touched, touched_by}
 use Rattle.jos_base.specs.declared.registers.Regs.{Regs}
@@ -18,7 +18,7 @@ use Rattle.jos_base.specs.SystemCalls.{handled, handler_entered, answered, refus
 use Rattle.jos_base.specs.SystemCalls.{record_size, env_set_trapframe_of, env_set_trapframe_by, env_set_pgfault_upcall_of}
 use Rattle.jos_base.specs.declared.errno.Errno.TheVariants.{BadEnv}
 use Rattle.jos_base.specs.declared.line.Line.TheVariants.{UserMemCheck}
-use Rattle.jos_sys.specs.declared.system.Answer.{Answer}
+use Rattle.jos_sys.specs.declared.system.CallAnswer.{CallAnswer}
 use Rattle.jos_sys.specs.System.{IsDone}
 
 -- ---- the frame's place
@@ -39,11 +39,11 @@ place_within esp place is = by_tests (nat_le exception_stack esp && nat_lt esp U
         (omega (arith, same, above), omega (arith, same, above, below))
 
 -- where an access leads in its page
-pub reached_offset : (s : SpacesState) (d va : ℕ) (access : Access) (at : Location) → Ok at ≡ reach_in s d va access → at.offset ≡ va % PGSIZE
+pub reached_offset : (s : SpacesState) (d va : ℕ) (access : Access) (at : FrameOffset) → Ok at ≡ reach_in s d va access → at.offset ≡ va % PGSIZE
 reached_offset s d va access at is = by_entry _ is
   where
-    by_test : (frame : ℕ) (b : Bool) (f : PageFault) → Ok at ≡ if◌then◌else◌ {A = Result Location PageFault} b (Ok (record { frame = frame; offset = va % PGSIZE })) (Err f) → at.offset ≡ va % PGSIZE
-    by_test frame true f e = let same : ◌≡◌ {A = Location} at (record { frame = frame; offset = va % PGSIZE }) = cc in ap (λ (l : Location). l.offset) same
+    by_test : (frame : ℕ) (b : Bool) (f : PageFault) → Ok at ≡ if◌then◌else◌ {A = Result FrameOffset PageFault} b (Ok (record { frame = frame; offset = va % PGSIZE })) (Err f) → at.offset ≡ va % PGSIZE
+    by_test frame true f e = let same : ◌≡◌ {A = FrameOffset} at (record { frame = frame; offset = va % PGSIZE }) = cc in ap (λ (l : FrameOffset). l.offset) same
     by_test frame false f e = let none : ⊥ = cc in absurd none
 
     by_entry : (o : Option Entry) → Ok at ≡ reach_entry o va access → at.offset ≡ va % PGSIZE
@@ -71,7 +71,7 @@ module _ (k : KernelState) (n : ℕ) (fault : PageFault) where
     no_room none = rw (there, ← none) refl
 
     module _ (place : ℕ) (at_place : Some place ≡ upcall_place (slot_at k n).registers.esp) where
-      pub is_entered : (r : Result Location PageFault) → r ≡ reach_in k.spaces (slot_at k n).directory place Write
+      pub is_entered : (r : Result FrameOffset PageFault) → r ≡ reach_in k.spaces (slot_at k n).directory place Write
           → handled k n fault ≡ handler_entered k n fault place r
       unfolding handled
       is_entered r is = rw (there, ← at_place) (ap (handler_entered k n fault place) (sym is))
@@ -82,7 +82,7 @@ unfolding frame_words bytes_of_words
 frame_length fault regs = refl
 
 -- the frame is written and the handler goes on
-module _ (k : KernelState) (n : ℕ) (fault : PageFault) (place : ℕ) (at : Location) (t u : SpacesState) (d : ℕ) (bytes : List ℕ) (slot : Slot)
+module _ (k : KernelState) (n : ℕ) (fault : PageFault) (place : ℕ) (at : FrameOffset) (t u : SpacesState) (d : ℕ) (bytes : List ℕ) (slot : Slot)
     (same : slot ≡ slot_at k n) (space : d ≡ (slot_at k n).directory) (reached : t ≡ touched k.spaces d place Write)
     (written : u ≡ with_page_bytes t at.frame (overlaid (t.pages at.frame) at.offset bytes)) (bytes_are : bytes ≡ frame_bytes fault slot.registers) where
   reached_is : t ≡ touched k.spaces (slot_at k n).directory place Write
@@ -100,7 +100,7 @@ module _ (k : KernelState) (n : ℕ) (fault : PageFault) (place : ℕ) (at : Loc
 
 -- ---- the calls that set registers and handlers
 
-module _ (k j : KernelState) (n : ℕ) (answer : Answer) (f : Option ℕ) where
+module _ (k j : KernelState) (n : ℕ) (answer : CallAnswer) (f : Option ℕ) where
   pub no_upcall : (address : ℕ) → None ≡ f → IsDone answer (refused k n BadEnv) j → IsDone answer (env_set_pgfault_upcall_of k n f address) j
   no_upcall address none done = subst (λ z. IsDone answer (env_set_pgfault_upcall_of k n z address) j) none done
 

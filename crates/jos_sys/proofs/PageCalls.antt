@@ -10,7 +10,7 @@ use Rattle.jos_base.specs.SpacesState.{SpacesState, allocated, unmapped}
 use Rattle.jos_base.specs.KernelState.{KernelState, slot_at, with_spaces, with_refusal}
 use Rattle.jos_base.specs.SystemCalls.{answered, answered_with, refused, is_page_address, is_page_perm, shared_entry, entry_at}
 use Rattle.jos_base.specs.SystemCalls.{page_alloc_of, page_map_of, page_map_by, page_unmap_of}
-use Rattle.jos_sys.specs.declared.system.Answer.{Answer}
+use Rattle.jos_sys.specs.declared.system.CallAnswer.{CallAnswer}
 use Rattle.jos_sys.specs.System.{IsDone}
 use Rattle.std.proofs.lemmas.Bool.{and_parts}
 
@@ -31,7 +31,7 @@ page_of_number number = omega arith
 
 -- ---- answers
 
-module _ (k j : KernelState) (n : ℕ) (answer : Answer) where
+module _ (k j : KernelState) (n : ℕ) (answer : CallAnswer) where
   module _ (f : Option ℕ) (va perm : ℕ) where
     pub none_allocated : None ≡ f → IsDone answer (refused k n BadEnv) j → IsDone answer (page_alloc_of k n f va perm) j
     none_allocated none done = subst (λ z. IsDone answer (page_alloc_of k n z va perm) j) none done

@@ -14,7 +14,7 @@ use Rattle.jos_base.specs.Environments.{Slot, with_answer}
 use Rattle.jos_base.specs.KernelState.{KernelState, slot_at, with_slot_at, with_status, with_registers, with_rendezvous, with_spaces, with_refusal}
 use Rattle.jos_base.specs.SystemCalls.{Passing, nothing, a_page, invalid, answered, refused, shared_entry, entry_at, inserted_at}
 use Rattle.jos_base.specs.SystemCalls.{passing_of, message_taken, sent, ipc_try_send_of, ipc_recv}
-use Rattle.jos_sys.specs.declared.system.Answer.{Answer}
+use Rattle.jos_sys.specs.declared.system.CallAnswer.{CallAnswer}
 use Rattle.jos_sys.specs.System.{IsDone}
 use Rattle.jos_base.proofs.Maps.{upd-at, upd-twice}
 
@@ -65,7 +65,7 @@ woken_is m v j target regs runs same now =
 
 -- ---- answers
 
-module _ (k j : KernelState) (n : ℕ) (answer : Answer) where
+module _ (k j : KernelState) (n : ℕ) (answer : CallAnswer) where
   module _ (f : Option ℕ) (value va perm : ℕ) where
     pub no_receiver : None ≡ f → IsDone answer (refused k n BadEnv) j → IsDone answer (ipc_try_send_of k n f value va perm) j
     no_receiver none done = subst (λ z. IsDone answer (ipc_try_send_of k n z value va perm) j) none done

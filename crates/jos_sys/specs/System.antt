@@ -1,6 +1,6 @@
 -- What a system means in the kernel's state, and what its calls have done there.
-use Rattle.std.specs.Prelude.{◌≡◌, ◌≢◌, ℕ, ◌==◌, ◌||◌, Bool, List, [], ◌∷◌, length, drop, Option, Some, None, Result, Ok, Err}
-use Rattle.jos_base.specs.declared.numbers.TheConstants.{END_OF_INPUT, SYS_CPUTS, SYS_ENV_SET_TRAPFRAME}
+use Rattle.std.specs.Prelude.{◌≡◌, ◌≢◌, ℕ, Bool, List, [], ◌∷◌, length, drop, Option, Some, None, Result, Ok, Err}
+use Rattle.jos_base.specs.declared.numbers.TheConstants.{END_OF_INPUT}
 use Rattle.jos_host.specs.declared.host.Failed.{Failed}
 use Rattle.jos_host.specs.Frames.{Around}
 use Rattle.jos_host.specs.Gains.{Gains, GainsPart}
@@ -12,7 +12,7 @@ use Rattle.jos_space.specs.Frames.{state, records, AreSound}
 use Rattle.jos_envs.specs.Table.{environments}
 use Rattle.jos_sys.specs.declared.input.Input.{Input}
 use Rattle.jos_sys.specs.declared.system.System.{System}
-use Rattle.jos_sys.specs.declared.system.Answer.{Answer}
+use Rattle.jos_sys.specs.declared.system.CallAnswer.{CallAnswer}
 use Rattle.jos_sys.specs.declared.faults.Faulted.{Faulted}
 use Rattle.jos_sys.specs.declared.faults.Faulted.TheVariants.{Upcall, Killed}
 
@@ -59,14 +59,10 @@ abbrev pub is_live_in : System → ℕ → Bool
 is_live_in system n = is_live ((environments_of system).slots n)
 
 -- What is done is done, and all of its bytes are written; or the host failed in the middle of them.
-abbrev pub Does : Result Answer Failed → Did → KernelState → Around (Option (List ℕ)) → Type 0
+abbrev pub Does : Result CallAnswer Failed → Did → KernelState → Around (Option (List ℕ)) → Type 0
 Does (Ok answer) did state console =
     (state ≡ did.state) × (answer.called ≡ did.called) × (answer.written ≡ length did.written) × Gains console did.written
 Does (Err _) did state console = GainsPart console did.written
-
--- the calls that write to the console, with these numbers in EAX, so that the host may fail in them
-abbrev pub may_write : ℕ → Bool
-may_write number = (number == SYS_CPUTS) || (number == SYS_ENV_SET_TRAPFRAME)
 
 -- The next byte is taken, where there is one; else the answer is another number, and nothing is taken.
 abbrev pub IsTaken : List ℕ → ℕ → List ℕ → Type 0
@@ -74,7 +70,7 @@ IsTaken [] byte after = (byte ≡ END_OF_INPUT) × (after ≡ [])
 IsTaken (next ∷ rest) byte after = (byte ≡ next) × (after ≡ rest)
 
 -- the same where nothing is written
-abbrev pub IsDone : Answer → Did → KernelState → Type 0
+abbrev pub IsDone : CallAnswer → Did → KernelState → Type 0
 IsDone answer did state =
     (state ≡ did.state) × (answer.called ≡ did.called) × (answer.written ≡ 0) × (did.written ≡ [])
 

@@ -11,13 +11,13 @@ ghost use Rattle.jos_base.specs.Environments.{found};
 ghost use Rattle.jos_base.specs.KernelState.{slot_at};
 ghost use Rattle.jos_base.specs.SystemCalls.{answered, refused, killed, cputs, status_named, env_destroy_of, exofork};
 ghost use Rattle.jos_base.specs.SystemCalls.{env_set_status_of, env_set_trapframe_of, env_set_pgfault_upcall_of, system_call};
-ghost use Rattle.jos_base.specs.SystemCalls.{user_bytes, with_bytes_reached};
+ghost use Rattle.jos_base.specs.SystemCalls.{user_bytes, with_bytes_reached, may_print};
 ghost use Rattle.jos_space.specs.Frames.{state, records};
-ghost use Rattle.jos_sys.specs.System.{state_of, environments_of, left_of, Keeps, is_live_in, Does, IsDone, may_write};
+ghost use Rattle.jos_sys.specs.System.{state_of, environments_of, left_of, Keeps, is_live_in, Does, IsDone};
 
 use crate::input::Input;
 use crate::pages::PageOf;
-use crate::system::{Answer, System};
+use crate::system::{CallAnswer, System};
 use arrayvec::ArrayVec;
 use jos_base::{
     Access, CPUTS_MAX, Called, ENV_NOT_RUNNABLE, ENV_RUNNABLE, EnvId, Errno, Line, PageFault, Regs,
@@ -85,7 +85,7 @@ fn status_named(number: u32) -> Option<Status>
 
 impl System {
     /// Answers a system call.
-    pub(crate) fn answer(&mut self, current: usize, value: u32) -> Answer
+    pub(crate) fn answer(&mut self, current: usize, value: u32) -> CallAnswer
         requires live { is_live_in self.old current ≡ true }
         requires spaces { Keeps self.old }
         ensures state { (input : List ℕ) → IsDone result (answered (state_of self.old input) current value) (state_of self.new input) }
@@ -99,14 +99,14 @@ impl System {
                 ..registers
             },
         );
-        Answer {
+        CallAnswer {
             called: Called::Answered(value),
             written: 0,
         }
     }
 
     /// Refuses a system call.
-    pub(crate) fn refuse(&mut self, current: usize, error: Errno) -> Answer
+    pub(crate) fn refuse(&mut self, current: usize, error: Errno) -> CallAnswer
         requires live { is_live_in self.old current ≡ true }
         requires spaces { Keeps self.old }
         ensures state { (input : List ℕ) → IsDone result (refused (state_of self.old input) current error) (state_of self.new input) }
@@ -123,7 +123,7 @@ impl System {
         host: &mut H,
         current: usize,
         line: Line,
-    ) -> Result<Answer, Failed>
+    ) -> Result<CallAnswer, Failed>
         requires live { is_live_in self.old current ≡ true }
         requires spaces { Keeps self.old }
         ensures told { (input : List ℕ) → Does result (killed (state_of self.old input) current line) (state_of self.new input) (around H.console host.old host.new) }
@@ -135,7 +135,7 @@ impl System {
         let text = line_text(self.environment(current).id, line);
         self.destroy(current);
         match host.console_write(text.as_slice()) {
-            Ok(()) => Ok(Answer {
+            Ok(()) => Ok(CallAnswer {
                 called: Called::Ended,
                 written: text.len() as u32,
             }),
@@ -179,7 +179,7 @@ impl System {
         current: usize,
         va: u32,
         len: u32,
-    ) -> Result<Answer, Failed>
+    ) -> Result<CallAnswer, Failed>
         requires live { is_live_in self.old current ≡ true }
         requires spaces { Keeps self.old }
         ensures told { (input : List ℕ) → Does result (cputs (state_of self.old input) current va len) (state_of self.new input) (around H.console host.old host.new) }
@@ -195,7 +195,7 @@ impl System {
             Ok(bytes) => {
                 let answer = self.answer(current, 0);
                 match host.console_write(bytes.as_slice()) {
-                    Ok(()) => Ok(Answer {
+                    Ok(()) => Ok(CallAnswer {
                         written: bytes.len() as u32,
                         ..answer
                     }),
@@ -207,7 +207,7 @@ impl System {
     }
 
     /// Destroys the environment that an id names: the caller, or a child of its own.
-    fn env_destroy(&mut self, current: usize, id: EnvId) -> Answer
+    fn env_destroy(&mut self, current: usize, id: EnvId) -> CallAnswer
         requires live { is_live_in self.old current ≡ true }
         requires spaces { Keeps self.old }
         ensures state { (input : List ℕ) → IsDone result (env_destroy_of (state_of self.old input) current (found (state_of self.old input).environments id.0 current true)) (state_of self.new input) }
@@ -217,7 +217,7 @@ impl System {
             Some(target) => {
                 self.destroy(target);
                 if target == current {
-                    Answer {
+                    CallAnswer {
                         called: Called::Ended,
                         written: 0,
                     }
@@ -230,7 +230,7 @@ impl System {
     }
 
     /// Makes an environment with the caller's registers and no page.
-    fn exofork(&mut self, current: usize) -> Answer
+    fn exofork(&mut self, current: usize) -> CallAnswer
         requires live { is_live_in self.old current ≡ true }
         requires spaces { Keeps self.old }
         ensures state { (input : List ℕ) → IsDone result (exofork (state_of self.old input) current) (state_of self.new input) }
@@ -257,7 +257,7 @@ impl System {
     }
 
     /// Sets whether an environment may run: the caller, or a child of its own.
-    fn env_set_status(&mut self, current: usize, id: EnvId, status: Option<Status>) -> Answer
+    fn env_set_status(&mut self, current: usize, id: EnvId, status: Option<Status>) -> CallAnswer
         requires live { is_live_in self.old current ≡ true }
         requires spaces { Keeps self.old }
         requires status { IfSome status (λ s. s ≢ Free) }
@@ -282,7 +282,7 @@ impl System {
         current: usize,
         id: EnvId,
         va: u32,
-    ) -> Result<Answer, Failed>
+    ) -> Result<CallAnswer, Failed>
         requires live { is_live_in self.old current ≡ true }
         requires spaces { Keeps self.old }
         ensures told { (input : List ℕ) → Does result (env_set_trapframe_of (state_of self.old input) current (found (state_of self.old input).environments id.0 current true) va) (state_of self.new input) (around H.console host.old host.new) }
@@ -305,7 +305,7 @@ impl System {
     }
 
     /// Sets where the environment that an id names, the caller or a child of its own, handles its page faults.
-    fn env_set_pgfault_upcall(&mut self, current: usize, id: EnvId, address: u32) -> Answer
+    fn env_set_pgfault_upcall(&mut self, current: usize, id: EnvId, address: u32) -> CallAnswer
         requires live { is_live_in self.old current ≡ true }
         requires spaces { Keeps self.old }
         ensures state { (input : List ℕ) → IsDone result (env_set_pgfault_upcall_of (state_of self.old input) current (found (state_of self.old input).environments id.0 current true) address) (state_of self.new input) }
@@ -329,12 +329,12 @@ impl System {
         host: &mut H,
         input: &mut Input,
         current: usize,
-    ) -> Result<Answer, Failed>
+    ) -> Result<CallAnswer, Failed>
         requires live { is_live_in self.old current ≡ true }
         requires spaces { Keeps self.old }
         ensures told { Does result (system_call (state_of self.old (left_of input.old)) current) (state_of self.new (left_of input.new)) (around H.console host.old host.new) }
         ensures small { IfOk result (λ answer. answer.written ≤ CPUTS_MAX) }
-        ensures fails { OnErr result (may_write (slot_at (state_of self.old (left_of input.old)) current).registers.eax ≡ true) }
+        ensures fails { OnErr result (may_print (slot_at (state_of self.old (left_of input.old)) current).registers.eax ≡ true) }
         ensures spaces { Keeps self.new }
         ensures rest { Unchanged H.files H.input H.asked H.notes host.old host.new }
         ensures cause { HasCause (H.faults host.old) (H.faults host.new) result }

@@ -18,4 +18,4 @@ mod system;
 pub use calls::BUFFER_LEN;
 pub use faults::Faulted;
 pub use input::Input;
-pub use system::{Answer, System};
+pub use system::{CallAnswer, System};

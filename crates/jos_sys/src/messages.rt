@@ -5,11 +5,11 @@ ghost use Rattle.jos_base.specs.declared.numbers.TheConstants.{PGSIZE, UTOP};
 ghost use Rattle.jos_base.specs.Environments.{found};
 ghost use Rattle.jos_base.specs.KernelState.{slot_at};
 ghost use Rattle.jos_base.specs.Messages.{accepts};
-ghost use Rattle.jos_base.specs.SystemCalls.{answered, message_taken, passing_of, ipc_try_send_of, ipc_recv, is_page_perm};
+ghost use Rattle.jos_base.specs.SystemCalls.{answered, message_taken, passing_of, ipc_try_send_of, ipc_recv};
 ghost use Rattle.jos_sys.specs.Messages.{passing_is, IsPagePassing};
 ghost use Rattle.jos_sys.specs.System.{state_of, spaces_of, Keeps, is_live_in, IsDone};
 
-use crate::system::{Answer, System};
+use crate::system::{CallAnswer, System};
 use jos_base::{Called, EnvId, Errno, Frame, PGSIZE, Regs, Status, UTOP};
 use jos_ipc::Offer;
 use jos_space::Empty;
@@ -59,7 +59,7 @@ impl System {
     }
 
     /// Gives the caller's word to an environment that waits for it, which may run again.
-    fn send(&mut self, current: usize, target: usize, value: u32, perm: u32) -> Answer
+    fn send(&mut self, current: usize, target: usize, value: u32, perm: u32) -> CallAnswer
         requires live { is_live_in self.old current ≡ true }
         requires target { is_live_in self.old target ≡ true }
         requires spaces { Keeps self.old }
@@ -95,7 +95,7 @@ impl System {
         value: u32,
         va: u32,
         perm: u32,
-    ) -> Answer
+    ) -> CallAnswer
         requires live { is_live_in self.old current ≡ true }
         requires spaces { Keeps self.old }
         ensures state { (input : List ℕ) → IsDone result (ipc_try_send_of (state_of self.old input) current (found (state_of self.old input).environments id.0 current false) value va perm) (state_of self.new input) }
@@ -123,7 +123,7 @@ impl System {
     }
 
     /// Waits for a word, from this sender where its id is not 0, and for a page at an address below `UTOP`.
-    pub(crate) fn ipc_recv(&mut self, current: usize, va: u32, sender: EnvId) -> Answer
+    pub(crate) fn ipc_recv(&mut self, current: usize, va: u32, sender: EnvId) -> CallAnswer
         requires live { is_live_in self.old current ≡ true }
         requires spaces { Keeps self.old }
         ensures state { (input : List ℕ) → IsDone result (ipc_recv (state_of self.old input) current va sender.0) (state_of self.new input) }
@@ -136,7 +136,7 @@ impl System {
         rendezvous.want(va, sender);
         self.set_rendezvous(current, rendezvous);
         self.set_status(current, Status::NotRunnable);
-        Answer {
+        CallAnswer {
             called: Called::Blocked,
             written: 0,
         }

@@ -6,12 +6,12 @@ ghost use Rattle.jos_base.specs.SpacesState.{inserted, page};
 ghost use Rattle.jos_base.specs.Environments.{found};
 ghost use Rattle.jos_base.specs.KernelState.{with_spaces, with_refusal};
 ghost use Rattle.jos_base.specs.declared.errno.Errno.TheVariants.{NoMem};
-ghost use Rattle.jos_base.specs.SystemCalls.{refused, is_page_address, is_page_perm, shared_entry, entry_at, answered_with};
-ghost use Rattle.jos_base.specs.SystemCalls.{page_alloc_of, page_map_of, page_unmap_of, inserted_at};
-ghost use Rattle.jos_space.specs.Calls.{entry_looked, has_bytes};
+ghost use Rattle.jos_base.specs.SystemCalls.{refused, is_page_address, is_page_perm, shared_entry, entry_at};
+ghost use Rattle.jos_base.specs.SystemCalls.{page_alloc_of, page_map_of, page_unmap_of};
+ghost use Rattle.jos_space.specs.Calls.{entry_looked};
 ghost use Rattle.jos_sys.specs.System.{state_of, spaces_of, environments_of, Keeps, is_live_in, IsDone};
 
-use crate::system::{Answer, System};
+use crate::system::{CallAnswer, System};
 use jos_base::{EnvId, Errno, Frame, PGSIZE, PTE_P, PTE_SYSCALL, PTE_U, PTE_W, Perm, UTOP};
 use jos_space::Empty;
 
@@ -53,7 +53,7 @@ fn shared_frame(found: Option<(Frame, Perm)>, perm: u32) -> Option<Frame>
 
 impl System {
     /// Refuses a system call for want of a frame, and counts that.
-    pub(crate) fn refuse_frame(&mut self, current: usize) -> Answer
+    pub(crate) fn refuse_frame(&mut self, current: usize) -> CallAnswer
         requires live { is_live_in self.old current ≡ true }
         requires spaces { Keeps self.old }
         ensures state { (input : List ℕ) → IsDone result (refused (with_refusal (state_of self.old input)) current NoMem) (state_of self.new input) }
@@ -100,7 +100,7 @@ impl System {
     }
 
     /// Gives the environment that an id names, the caller or a child of its own, a new page of zeros.
-    pub(crate) fn page_alloc(&mut self, current: usize, id: EnvId, va: u32, perm: u32) -> Answer
+    pub(crate) fn page_alloc(&mut self, current: usize, id: EnvId, va: u32, perm: u32) -> CallAnswer
         requires live { is_live_in self.old current ≡ true }
         requires spaces { Keeps self.old }
         ensures state { (input : List ℕ) → IsDone result (page_alloc_of (state_of self.old input) current (found (state_of self.old input).environments id.0 current true) va perm) (state_of self.new input) }
@@ -124,7 +124,13 @@ impl System {
     }
 
     /// Gives a page of one environment to another, or to the same, each of which is the caller or a child of its own.
-    pub(crate) fn page_map(&mut self, current: usize, from: PageOf, to: PageOf, perm: u32) -> Answer
+    pub(crate) fn page_map(
+        &mut self,
+        current: usize,
+        from: PageOf,
+        to: PageOf,
+        perm: u32,
+    ) -> CallAnswer
         requires live { is_live_in self.old current ≡ true }
         requires spaces { Keeps self.old }
         ensures state { (input : List ℕ) → IsDone result (page_map_of (state_of self.old input) current (found (state_of self.old input).environments from.id.0 current true) from.va (found (state_of self.old input).environments to.id.0 current true) to.va perm) (state_of self.new input) }
@@ -154,7 +160,7 @@ impl System {
     }
 
     /// Takes a page from the environment that an id names, the caller or a child of its own, if it has one there.
-    pub(crate) fn page_unmap(&mut self, current: usize, id: EnvId, va: u32) -> Answer
+    pub(crate) fn page_unmap(&mut self, current: usize, id: EnvId, va: u32) -> CallAnswer
         requires live { is_live_in self.old current ≡ true }
         requires spaces { Keeps self.old }
         ensures state { (input : List ℕ) → IsDone result (page_unmap_of (state_of self.old input) current (found (state_of self.old input).environments id.0 current true) va) (state_of self.new input) }

@@ -22,7 +22,7 @@ use std::alloc::Global;
 
 /// What a system call or a trap is to its caller, and how many bytes it has written to the console.
 #[derive(Clone, Copy, Debug, PartialEq, Eq)]
-pub struct Answer {
+pub struct CallAnswer {
     pub called: Called,
     pub written: u32,
 }

@@ -3,6 +3,6 @@ use Rattle.std.specs.Prelude.{ℕ, Option, Some, None}
 use Rattle.jos_trap.specs.declared.place.UpcallPlace.{UpcallPlace}
 use Rattle.jos_trap.specs.declared.place.UpcallPlace.TheVariants.{At, Overflow}
 
-abbrev pub address_of : UpcallPlace → Option ℕ
-address_of (At address) = Some address
-address_of Overflow = None
+abbrev pub upcall_address : UpcallPlace → Option ℕ
+upcall_address (At address) = Some address
+upcall_address Overflow = None

@@ -2,7 +2,7 @@
 
 ghost use Rattle.std.specs.Prelude.{◌≡◌};
 ghost use Rattle.jos_base.specs.TrapFrames.{upcall_place};
-ghost use Rattle.jos_trap.specs.Places.{address_of};
+ghost use Rattle.jos_trap.specs.Places.{upcall_address};
 
 use crate::frame::FRAME_SIZE;
 use jos_base::{PGSIZE, UXSTACKTOP};
@@ -27,7 +27,7 @@ pub enum UpcallPlace {
 /// `page_fault_handler`)
 #[tactic(auto, unfolding(jos_base::specs::TrapFrames::upcall_place))]
 pub fn upcall_place(esp: u32) -> UpcallPlace
-    ensures { address_of result ≡ upcall_place esp }
+    ensures { upcall_address result ≡ upcall_place esp }
 {
     if esp < EXCEPTION_STACK || esp >= UXSTACKTOP {
         return UpcallPlace::At(UXSTACKTOP - FRAME_SIZE as u32);

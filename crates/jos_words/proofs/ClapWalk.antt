@@ -14,7 +14,7 @@ use Rattle.clap.proofs.TakesLemmas.{leaf_takes}
 use Rattle.clap.proofs.WalkLemmas.{both}
 use Rattle.clap.proofs.SimpleLemmas.{is_nil}
 use Rattle.jos_words.specs.Values.{is_value}
-use Rattle.jos_words.specs.Arguments.{Word, Arguments, Reading, Waiting, any_word, value_for, positional_word, is_option, is_end, parts_of, cut_at_equals, value_of, contains, with_option, with_positional, then_any, option_read, word_read_by, word_read, words_read, has_ended, ended, nothing_read, arguments_of}
+use Rattle.jos_words.specs.Arguments.{Word, Arguments, Reading, Waiting, any_word, value_for, positional_word, is_option, is_end, option_parts, cut_at_equals, value_of, has_option, with_option, with_positional, then_any, option_read, word_read_by, word_read, words_read, has_ended, ended, nothing_read, arguments_of}
 use Rattle.jos_words.specs.ClapCommands.{option_rule, app_with, clap_takes}
 use Rattle.jos_words.proofs.Rows.{bytes_eq-refl, same_text}
 use Rattle.jos_words.proofs.Rules.{IsArgument, option_named, option_is, lookup_long, lookup_id}
@@ -47,7 +47,7 @@ pub record Slot (f : Form) (k : ℕ) : Type 0 where
   pub one : clap.takes_several (f.slot k) ≡ false
   pub trailing : (f.slot k).trailing_var_arg ≡ false
   -- no option has its name
-  pub apart : (name : Text) → contains f.options name ≡ true → (bytes_eq name (f.slot k).id ≡ false) × (bytes_eq (f.slot k).id name ≡ false)
+  pub apart : (name : Text) → has_option f.options name ≡ true → (bytes_eq name (f.slot k).id ≡ false) × (bytes_eq (f.slot k).id name ≡ false)
 
 -- the command takes n positional words
 pub record Fits (f : Form) (n : ℕ) : Type 0 where
@@ -65,7 +65,7 @@ record IsOption (f : Form) (a : Rule) : Type 0 where
   takes_values : clap.takes_values a ≡ true
   most : clap.most_values a ≡ 1
 
-option_known : (f : Form) (name : Text) → contains f.options name ≡ true → IsOption f (option_named name)
+option_known : (f : Form) (name : Text) → has_option f.options name ≡ true → IsOption f (option_named name)
 unfolding rules_of
 option_known f name known = record {
   argument = option_is (rules_of f) name (lookup_id 1 f.options f.positionals name known);
@@ -77,7 +77,7 @@ option_known f name known = record {
 -- ---- the rows hold what is read
 
 record RowsHold (f : Form) (n : ℕ) (rows : List Row) (arguments : Arguments) : Type 0 where
-  options : (name : Text) → contains f.options name ≡ true → has_row name rows ≡ is_some (value_of name arguments.options)
+  options : (name : Text) → has_option f.options name ≡ true → has_row name rows ≡ is_some (value_of name arguments.options)
   given : (k : ℕ) → k < length arguments.positionals → is_given (f.slot k).id rows ≡ true
   free : (k : ℕ) → length arguments.positionals ≤ k → k < n → clap.is_multiple (f.slot k) ≡ false → has_row (f.slot k).id rows ≡ false
   within : length arguments.positionals ≤ n
@@ -91,7 +91,7 @@ abbrev pending_held : Text → List Text → List Row → ℕ → Held
 pending_held id values rows skip = record { rows = rows; pending = Some (id, values); skip = skip }
 
 module _ (f : Form) (n : ℕ) (fits : Fits f n) where
-  option_rows : (rows : List Row) (arguments : Arguments) (name : Text) (value : Word) → contains f.options name ≡ true → RowsHold f n rows arguments
+  option_rows : (rows : List Row) (arguments : Arguments) (name : Text) (value : Word) → has_option f.options name ≡ true → RowsHold f n rows arguments
       → RowsHold f n (clap.used (option_named name) (value.text ∷ []) rows) (one_more arguments name value)
   option_rows rows arguments name value known hold =
       let a = (option_known f name known).argument in
@@ -133,7 +133,7 @@ no_hyphen (x ∷ []) option end = by_test (x == 45)
     by_test false = (refl, refl)
 no_hyphen (x ∷ y ∷ rest) option end = rw option (refl, refl)
 
-long_option : (word name : Text) (value : Option Text) → is_end word ≡ false → parts_of word ≡ Some (name, value) → long_of word ≡ Some (name, value)
+long_option : (word name : Text) (value : Option Text) → is_end word ≡ false → option_parts word ≡ Some (name, value) → long_of word ≡ Some (name, value)
 long_option [] name value end e = absurd cc
 long_option (x ∷ []) name value end e = absurd cc
 long_option (x ∷ y ∷ []) name value end e = by_test (x == 45) (y == 45) end e
@@ -316,7 +316,7 @@ steps_on f n w next word rest arguments s e = record {
 data Stands (f : Form) (n : ℕ) : Walk → Reading → Type 0 where
   stands_open : (h : Held) (waiting : clap.Waiting) (arguments : Arguments) → is_open waiting ≡ true → Holds f n h arguments
       → Stands f n (at_walk h waiting (f.number (length arguments.positionals)) false) (record { arguments = arguments; waiting = any_word })
-  stands_waiting : (rows : List Row) (skip : ℕ) (name : Text) (arguments : Arguments) → contains f.options name ≡ true → RowsHold f n rows arguments
+  stands_waiting : (rows : List Row) (skip : ℕ) (name : Text) (arguments : Arguments) → has_option f.options name ≡ true → RowsHold f n rows arguments
       → Stands f n (at_walk (pending_held name [] rows skip) (clap.option name) (f.number (length arguments.positionals)) false) (record { arguments = arguments; waiting = value_for name })
   stands_trailing : (h : Held) (waiting : clap.Waiting) (arguments : Arguments) → Holds f n h arguments
       → Stands f n (at_walk h waiting (f.number (length arguments.positionals)) true) (record { arguments = arguments; waiting = positional_word })
@@ -340,11 +340,11 @@ room_left n arguments word waiting r is within =
 
 module _ (f : Form) (n : ℕ) (fits : Fits f n) where
   option_steps : (h : Held) (waiting : clap.Waiting) (arguments : Arguments) (place : ℕ) (word : Text) (parts : Option (Text × Option Text)) (r : Reading)
-      → is_open waiting ≡ true → Holds f n h arguments → is_end word ≡ false → parts_of word ≡ parts → option_read f.options arguments place parts ≡ Some r
+      → is_open waiting ≡ true → Holds f n h arguments → is_end word ≡ false → option_parts word ≡ parts → option_read f.options arguments place parts ≡ Some r
       → StepsTo f n (at_walk h waiting (f.number (length arguments.positionals)) false) word r
   option_steps h waiting arguments place word None r opn hold end parts e = absurd cc
   option_steps h waiting arguments place word (Some (name, None)) r opn hold end parts e =
-      let c = chosen (contains f.options name) (Some (record { arguments = arguments; waiting = value_for name })) r e in
+      let c = chosen (has_option f.options name) (Some (record { arguments = arguments; waiting = value_for name })) r e in
       let is : ◌≡◌ {A = Reading} (record { arguments = arguments; waiting = value_for name }) r = cc in
       record {
         next = _;
@@ -368,7 +368,7 @@ module _ (f : Form) (n : ℕ) (fits : Fits f n) where
             (stands_open (record h { rows = rows; pending = None }) clap.idle went.0 refl (record { passes = refl; rows = option_rows_hold f n fits (settled (rules_of f) h).rows arguments went.0 name value hold.rows t })));
       }
 
-  value_steps_to : (rows : List Row) (skip : ℕ) (name : Text) (arguments : Arguments) (word : Word) (r : Reading) → contains f.options name ≡ true → RowsHold f n rows arguments
+  value_steps_to : (rows : List Row) (skip : ℕ) (name : Text) (arguments : Arguments) (word : Word) (r : Reading) → has_option f.options name ≡ true → RowsHold f n rows arguments
       → then_any (with_option f.options arguments name word) ≡ Some r
       → StepsTo f n (at_walk (pending_held name [] rows skip) (clap.option name) (f.number (length arguments.positionals)) false) word.text r
   value_steps_to rows skip name arguments word r known hold e =
@@ -390,7 +390,7 @@ module _ (f : Form) (n : ℕ) (fits : Fits f n) where
   open_steps h waiting arguments word r opn hold e within = by_test (is_end word.text) (is_option word.text) refl refl e
     where
       by_test : (a b : Bool) → is_end word.text ≡ a → is_option word.text ≡ b
-          → cond a (Some (record { arguments = arguments; waiting = positional_word })) (cond b (option_read f.options arguments word.place (parts_of word.text)) (Some (record { arguments = with_positional arguments word; waiting = any_word }))) ≡ Some r
+          → cond a (Some (record { arguments = arguments; waiting = positional_word })) (cond b (option_read f.options arguments word.place (option_parts word.text)) (Some (record { arguments = with_positional arguments word; waiting = any_word }))) ≡ Some r
           → StepsTo f n (at_walk h waiting (f.number (length arguments.positionals)) false) word.text r
       by_test true b end option e =
           let is : ◌≡◌ {A = Reading} (record { arguments = arguments; waiting = positional_word }) r = cc in
@@ -399,7 +399,7 @@ module _ (f : Form) (n : ℕ) (fits : Fits f n) where
             steps = end_steps f h waiting (f.number (length arguments.positionals)) word.text opn end;
             stands = subst (λ (s : Reading). Stands f n (at_walk h waiting (f.number (length arguments.positionals)) true) s) is (stands_trailing h waiting arguments hold);
           }
-      by_test false true end option e = option_steps h waiting arguments word.place word.text (parts_of word.text) r opn hold end refl e
+      by_test false true end option e = option_steps h waiting arguments word.place word.text (option_parts word.text) r opn hold end refl e
       by_test false false end option e =
           let is : ◌≡◌ {A = Reading} (record { arguments = with_positional arguments word; waiting = any_word }) r = cc in
           let k = length arguments.positionals in

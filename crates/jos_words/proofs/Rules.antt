@@ -8,7 +8,7 @@ use Rattle.clap.specs.Simple.{filled, filled_from, new_rule, with_index}
 use Rattle.clap.specs.Takes.{use_passes, is_given}
 use Rattle.clap.specs.Walk as clap
 use Rattle.clap.specs.Walk.{Rule, Row, Text, has_row, arg_by_id, arg_by_long, arg_by_index, with_values, without}
-use Rattle.jos_words.specs.Arguments.{contains}
+use Rattle.jos_words.specs.Arguments.{has_option}
 use Rattle.jos_words.specs.ClapCommands.{option_rule}
 use Rattle.jos_words.proofs.Rows.{same_text, bytes_eq-sym, has_row-with, has_row-without, given-with, given-with_other, given-without}
 
@@ -80,39 +80,39 @@ words_are rules required i name by_id = record {
 
 -- ---- the options among the rules
 
-pub lookup_long : (i : ℕ) (options : List Text) (others : List Rule) (name : Text) → contains options name ≡ true
+pub lookup_long : (i : ℕ) (options : List Text) (others : List Rule) (name : Text) → has_option options name ≡ true
     → arg_by_long (filled_from i (map option_rule options ++ others)) name ≡ Some (option_named name)
 lookup_long i [] others name known = absurd (true≢false (sym known))
 lookup_long i (first ∷ rest) others name known = by_test (bytes_eq first name) refl known (lookup_long i rest others name)
   where
-    by_test : (t : Bool) → bytes_eq first name ≡ t → (t || contains rest name) ≡ true
-        → (contains rest name ≡ true → arg_by_long (filled_from i (map option_rule rest ++ others)) name ≡ Some (option_named name))
+    by_test : (t : Bool) → bytes_eq first name ≡ t → (t || has_option rest name) ≡ true
+        → (has_option rest name ≡ true → arg_by_long (filled_from i (map option_rule rest ++ others)) name ≡ Some (option_named name))
         → cond (t || false) (Some (option_named first)) (arg_by_long (filled_from i (map option_rule rest ++ others)) name) ≡ Some (option_named name)
     by_test true e known later = ap (λ (n : Text). Some (option_named n)) (same_text first name e)
     by_test false e known later = later known
 
-pub lookup_id : (i : ℕ) (options : List Text) (others : List Rule) (name : Text) → contains options name ≡ true
+pub lookup_id : (i : ℕ) (options : List Text) (others : List Rule) (name : Text) → has_option options name ≡ true
     → arg_by_id (filled_from i (map option_rule options ++ others)) name ≡ Some (option_named name)
 lookup_id i [] others name known = absurd (true≢false (sym known))
 lookup_id i (first ∷ rest) others name known = by_test (bytes_eq first name) refl known (lookup_id i rest others name)
   where
-    by_test : (t : Bool) → bytes_eq first name ≡ t → (t || contains rest name) ≡ true
-        → (contains rest name ≡ true → arg_by_id (filled_from i (map option_rule rest ++ others)) name ≡ Some (option_named name))
+    by_test : (t : Bool) → bytes_eq first name ≡ t → (t || has_option rest name) ≡ true
+        → (has_option rest name ≡ true → arg_by_id (filled_from i (map option_rule rest ++ others)) name ≡ Some (option_named name))
         → cond t (Some (option_named first)) (arg_by_id (filled_from i (map option_rule rest ++ others)) name) ≡ Some (option_named name)
     by_test true e known later = ap (λ (n : Text). Some (option_named n)) (same_text first name e)
     by_test false e known later = later known
 
 -- ---- a name that no option has
 
-pub apart_from : (options : List Text) (id name : Text) → list_any (λ known. bytes_eq known id) options ≡ false → contains options name ≡ true → bytes_eq name id ≡ false
+pub apart_from : (options : List Text) (id name : Text) → list_any (λ known. bytes_eq known id) options ≡ false → has_option options name ≡ true → bytes_eq name id ≡ false
 apart_from [] id name none known = absurd (true≢false (sym known))
 apart_from (first ∷ rest) id name none known = by_test (bytes_eq first id) (bytes_eq first name) refl refl none known (apart_from rest id name)
   where
-    by_test : (a b : Bool) → bytes_eq first id ≡ a → bytes_eq first name ≡ b → (a || list_any (λ known. bytes_eq known id) rest) ≡ false → (b || contains rest name) ≡ true
-        → (list_any (λ known. bytes_eq known id) rest ≡ false → contains rest name ≡ true → bytes_eq name id ≡ false) → bytes_eq name id ≡ false
+    by_test : (a b : Bool) → bytes_eq first id ≡ a → bytes_eq first name ≡ b → (a || list_any (λ known. bytes_eq known id) rest) ≡ false → (b || has_option rest name) ≡ true
+        → (list_any (λ known. bytes_eq known id) rest ≡ false → has_option rest name ≡ true → bytes_eq name id ≡ false) → bytes_eq name id ≡ false
     by_test true b e f none known later = absurd (true≢false none)
     by_test false true e f none known later = ap (λ (n : Text). bytes_eq n id) (sym (same_text first name f)) ∙ e
     by_test false false e f none known later = later none known
 
-pub apart_to : (options : List Text) (id name : Text) → list_any (λ known. bytes_eq known id) options ≡ false → contains options name ≡ true → bytes_eq id name ≡ false
+pub apart_to : (options : List Text) (id name : Text) → list_any (λ known. bytes_eq known id) options ≡ false → has_option options name ≡ true → bytes_eq id name ≡ false
 apart_to options id name none known = bytes_eq-sym id name ∙ apart_from options id name none known

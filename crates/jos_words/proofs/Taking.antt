@@ -5,7 +5,7 @@ use Rattle.std.specs.Str.{bytes_eq}
 use Rattle.std.proofs.lemmas.List.{length-append}
 use Rattle.clap.proofs.WalkLemmas.{both}
 use Rattle.jos_words.specs.Values.{is_value}
-use Rattle.jos_words.specs.Arguments.{◌>>=◌, Word, Given, Arguments, Reading, Waiting, any_word, value_for, positional_word, is_option, is_end, parts_of, value_of, contains, with_option, with_positional, then_any, option_read, word_read_by, word_read, words_read}
+use Rattle.jos_words.specs.Arguments.{◌>>=◌, Word, Given, Arguments, Reading, Waiting, any_word, value_for, positional_word, is_option, is_end, option_parts, value_of, has_option, with_option, with_positional, then_any, option_read, word_read_by, word_read, words_read}
 
 pub not_true : (b : Bool) → not b ≡ true → b ≡ false
 not_true true e = absurd (true≢false (sym e))
@@ -21,14 +21,14 @@ abbrev pub one_more : Arguments → List ℕ → Word → Arguments
 one_more arguments name value = record arguments { options = arguments.options ++ record { name = name; value = value } ∷ [] }
 
 pub record Taken (names : List (List ℕ)) (arguments : Arguments) (name : List ℕ) (value : Word) (after : Arguments) : Type 0 where
-  pub known : contains names name ≡ true
+  pub known : has_option names name ≡ true
   pub new : is_some (value_of name arguments.options) ≡ false
   pub value_is : is_value value.text ≡ true
   pub after_is : one_more arguments name value ≡ after
 
 pub taken : (names : List (List ℕ)) (arguments after : Arguments) (name : List ℕ) (value : Word) → with_option names arguments name value ≡ Some after → Taken names arguments name value after
 taken names arguments after name value e =
-    let known = contains names name in
+    let known = has_option names name in
     let given = is_some (value_of name arguments.options) in
     let c = chosen (known && not given && is_value value.text) (Some (one_more arguments name value)) after e in
     let last = both (known && not given) (is_value value.text) c.0 in
@@ -81,7 +81,7 @@ read_keeps : (names : List (List ℕ)) (arguments : Arguments) (place : ℕ) (pa
 unfolding count
 read_keeps names arguments place None r e = absurd cc
 read_keeps names arguments place (Some (name, None)) r e =
-    let c = chosen (contains names name) (Some (record { arguments = arguments; waiting = value_for name })) r e in
+    let c = chosen (has_option names name) (Some (record { arguments = arguments; waiting = value_for name })) r e in
     let is : ◌≡◌ {A = Reading} (record { arguments = arguments; waiting = value_for name }) r = cc in
     let there : length arguments.positionals ≡ length r.arguments.positionals = ap (λ (s : Reading). length s.arguments.positionals) is in
     omega arith
@@ -103,12 +103,12 @@ word_keeps names arguments (value_for name) word r e = option_keeps names argume
 word_keeps names arguments positional_word word r e = positional_keeps arguments positional_word positional_word word r e
 word_keeps names arguments any_word word r e = by_test (is_end word.text) (is_option word.text) e
   where
-    by_test : (a b : Bool) → cond a (Some (record { arguments = arguments; waiting = positional_word })) (cond b (option_read names arguments word.place (parts_of word.text)) (Some (record { arguments = with_positional arguments word; waiting = any_word }))) ≡ Some r
+    by_test : (a b : Bool) → cond a (Some (record { arguments = arguments; waiting = positional_word })) (cond b (option_read names arguments word.place (option_parts word.text)) (Some (record { arguments = with_positional arguments word; waiting = any_word }))) ≡ Some r
         → count (record { arguments = arguments; waiting = any_word }) ≤ count r
     by_test true b e =
         let is : ◌≡◌ {A = Reading} (record { arguments = arguments; waiting = positional_word }) r = cc in
         subst (λ (s : Reading). count (record { arguments = arguments; waiting = any_word }) ≤ count s) is (stays arguments)
-    by_test false true e = read_keeps names arguments word.place (parts_of word.text) r e
+    by_test false true e = read_keeps names arguments word.place (option_parts word.text) r e
     by_test false false e = positional_keeps arguments any_word any_word word r e
 
 pub words_keep : (names : List (List ℕ)) (words : List (List ℕ)) (r : Reading) (place : ℕ) (last : Reading) → words_read names r place words ≡ Some last → length r.arguments.positionals ≤ length last.arguments.positionals

@@ -7,9 +7,9 @@ use Rattle.std.specs.Borrow.{Bor}
 use Rattle.jos_words.specs.Values.{is_value}
 use Rattle.jos_words.specs.declared.words.WordAt.{WordAt}
 use Rattle.jos_words.specs.declared.arguments.GivenOption.{GivenOption}
-use Rattle.jos_words.specs.declared.arguments.Arguments.{Arguments as ReadArguments}
-use Rattle.jos_words.specs.declared.arguments.Waiting.{Waiting as ReadWaiting}
-use Rattle.jos_words.specs.declared.arguments.Waiting.TheVariants as read
+use Rattle.jos_words.specs.declared.arguments.ReadArguments.{ReadArguments}
+use Rattle.jos_words.specs.declared.arguments.ReadWaiting.{ReadWaiting}
+use Rattle.jos_words.specs.declared.arguments.ReadWaiting.TheVariants as read
 
 infixl 10 ◌>>=◌
 abbrev pub ◌>>=◌ : {A B : Type 0} → Option A → (A → Option B) → Option B
@@ -49,9 +49,9 @@ cut_at_equals text = (
 )
 
 -- the name and the value of `--name=value`, and the name of `--name`; no other word names an option
-abbrev pub parts_of : List ℕ → Option (List ℕ × Option (List ℕ))
-parts_of (first ∷ second ∷ rest) = if first == 45 && second == 45 then Some (cut_at_equals rest) else None
-parts_of _ = None
+abbrev pub option_parts : List ℕ → Option (List ℕ × Option (List ℕ))
+option_parts (first ∷ second ∷ rest) = if first == 45 && second == 45 then Some (cut_at_equals rest) else None
+option_parts _ = None
 
 -- ---- what is read so far
 
@@ -59,13 +59,13 @@ parts_of _ = None
 abbrev pub value_of : List ℕ → List Given → Option Word
 value_of name options = option_map (λ option. option.value) (find (λ option. bytes_eq option.name name) options)
 
-abbrev pub contains : List (List ℕ) → List ℕ → Bool
-contains names name = list_any (λ known. bytes_eq known name) names
+abbrev pub has_option : List (List ℕ) → List ℕ → Bool
+has_option names name = list_any (λ known. bytes_eq known name) names
 
 -- an option may be given if it is one of the command's, was not given before, and its value is one
 abbrev pub with_option : List (List ℕ) → Arguments → List ℕ → Word → Option Arguments
 with_option names arguments name value =
-    if contains names name && not (is_some (value_of name arguments.options)) && is_value value.text
+    if has_option names name && not (is_some (value_of name arguments.options)) && is_value value.text
     then Some (record arguments { options = arguments.options ++ record { name = name; value = value } ∷ [] }) else None
 
 abbrev pub with_positional : Arguments → Word → Arguments
@@ -90,7 +90,7 @@ then_any = option_map (λ arguments. record { arguments = arguments; waiting = a
 abbrev pub option_read : List (List ℕ) → Arguments → ℕ → Option (List ℕ × Option (List ℕ)) → Option Reading
 option_read names arguments place None = None
 option_read names arguments place (Some (name, None)) =
-    if contains names name then Some (record { arguments = arguments; waiting = value_for name }) else None
+    if has_option names name then Some (record { arguments = arguments; waiting = value_for name }) else None
 option_read names arguments place (Some (name, Some value)) =
     then_any (with_option names arguments name (record { place = place; text = value }))
 
@@ -98,7 +98,7 @@ option_read names arguments place (Some (name, Some value)) =
 abbrev pub word_read_by : List (List ℕ) → Arguments → Waiting → Word → Option Reading
 word_read_by names arguments any_word word =
     if is_end word.text then Some (record { arguments = arguments; waiting = positional_word })
-    else if is_option word.text then option_read names arguments word.place (parts_of word.text)
+    else if is_option word.text then option_read names arguments word.place (option_parts word.text)
     else Some (record { arguments = with_positional arguments word; waiting = any_word })
 word_read_by names arguments (value_for name) word = then_any (with_option names arguments name word)
 word_read_by names arguments positional_word word =

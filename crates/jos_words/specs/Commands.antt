@@ -11,8 +11,8 @@ use Rattle.jos_words.specs.declared.commands.DemoWords.{DemoWords}
 use Rattle.jos_words.specs.declared.commands.MkfsWords.{MkfsWords}
 use Rattle.jos_words.specs.declared.commands.LsWords.{LsWords}
 use Rattle.jos_words.specs.declared.commands.CatWords.{CatWords}
-use Rattle.jos_words.specs.declared.commands.Command.{Command as ReadCommand}
-use Rattle.jos_words.specs.declared.commands.Command.TheVariants as read
+use Rattle.jos_words.specs.declared.commands.CommandWords.{CommandWords}
+use Rattle.jos_words.specs.declared.commands.CommandWords.TheVariants as read
 
 -- ---- `exo [--frames N] [--steps N] [--schedule FILE] [--trace N] IMAGE..`
 
@@ -105,13 +105,13 @@ two_and_more (first ∷ second ∷ more) = Some (first, second, more)
 two_and_more _ = None
 
 -- a positional word that has to be a number
-abbrev pub number_at : Word → Option NumberAt
-number_at word = option_map (λ value. record { place = word.place; value = value }) (number_of word.text)
+abbrev pub placed_number : Word → Option NumberAt
+placed_number word = option_map (λ value. record { place = word.place; value = value }) (number_of word.text)
 
 unfoldable pub mkfs_of : Arguments → Option Mkfs
 mkfs_of arguments = do
   words ← two_and_more arguments.positionals
-  blocks ← number_at words.1
+  blocks ← placed_number words.1
   Some (record { disk = words.0; blocks = blocks; files = words.2 })
 
 -- the words behind `mkfs`, which has no options
@@ -217,7 +217,7 @@ ls_in_bytes words = record { disk = word_in_bytes words.disk; path = option_map 
 abbrev pub cat_in_bytes : CatWords → Cat
 cat_in_bytes words = record { disk = word_in_bytes words.disk; path = word_in_bytes words.path }
 
-abbrev pub in_bytes : ReadCommand → Command
+abbrev pub in_bytes : CommandWords → Command
 in_bytes (read.Exo words) = exo (exo_in_bytes words)
 in_bytes (read.Run words) = run (run_in_bytes words)
 in_bytes (read.Demo words) = demo (demo_in_bytes words)

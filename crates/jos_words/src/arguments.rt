@@ -2,9 +2,9 @@
 
 ghost use Rattle.std.specs.Prelude.{◌≡◌, ◌<◌, IfOk, IfErr, OnOk, Some, None, length, drop, map, option_map};
 ghost use Rattle.jos_words.specs.declared.words.WordsFault.TheVariants.{Usage, NoMemory};
-ghost use Rattle.jos_words.specs.Arguments.{is_option, parts_of, value_of, contains, with_option, with_positional};
+ghost use Rattle.jos_words.specs.Arguments.{is_option, option_parts, value_of, has_option, with_option, with_positional};
 ghost use Rattle.jos_words.specs.Arguments.{option_read, word_read, arguments_of, ended};
-ghost use Rattle.jos_words.specs.Arguments.{word_in_bytes, given_in_bytes, arguments_in_bytes, waiting_in_bytes};
+ghost use Rattle.jos_words.specs.Arguments.{word_in_bytes, given_in_bytes, arguments_in_bytes};
 ghost use Rattle.jos_words.specs.Arguments.{reading_in_bytes, texts};
 
 use crate::values::is_value;
@@ -20,14 +20,14 @@ pub(crate) struct GivenOption<'a> {
 
 /// The options and the positional words of a command, each list in the order of the words.
 #[derive(Drop)]
-pub(crate) struct Arguments<'a> {
+pub(crate) struct ReadArguments<'a> {
     pub(crate) options: Vec<GivenOption<'a>>,
     pub(crate) positionals: Vec<WordAt<'a>>,
 }
 
 /// What the next word may be.
 #[derive(Clone, Copy)]
-enum Waiting<'a> {
+enum ReadWaiting<'a> {
     /// Any word.
     AnyWord,
     /// The value of the option of this name.
@@ -47,8 +47,8 @@ fn is_option(word: &str) -> bool
 }
 
 /// The name of an option, and the value in its word if there is one.
-fn parts_of<'a>(word: &'a str) -> Option<(&'a str, Option<&'a str>)>
-    ensures { option_map (λ parts. (parts.0.now, option_map (λ value. value.now) parts.1)) result ≡ parts_of word.now }
+fn option_parts<'a>(word: &'a str) -> Option<(&'a str, Option<&'a str>)>
+    ensures { option_map (λ parts. (parts.0.now, option_map (λ value. value.now) parts.1)) result ≡ option_parts word.now }
 {
     let text = word.strip_prefix("--")?;
     match text.split_once('=') {
@@ -69,8 +69,8 @@ pub(crate) fn value_of<'a>(name: &str, options: &[GivenOption<'a>]) -> Option<Wo
     None
 }
 
-fn contains(names: &[&str], name: &str) -> bool
-    ensures { result ≡ contains (texts names.now) name.now }
+fn has_option(names: &[&str], name: &str) -> bool
+    ensures { result ≡ has_option (texts names.now) name.now }
 {
     for known in names {
         if *known == name {
@@ -80,7 +80,7 @@ fn contains(names: &[&str], name: &str) -> bool
     false
 }
 
-impl<'a> Arguments<'a> {
+impl<'a> ReadArguments<'a> {
     /// Takes an option, if it may be given.
     fn take_option(
         &mut self,
@@ -93,7 +93,7 @@ impl<'a> Arguments<'a> {
         ensures usage { IfErr result (λ fault. fault ≡ Usage →
             with_option (texts names.now) (arguments_in_bytes self.old) name.now (word_in_bytes value.entry) ≡ None) }
     {
-        if !contains(names, name)
+        if !has_option(names, name)
             || value_of(name, &self.options).is_some()
             || !is_value(value.text)
         {
@@ -115,19 +115,19 @@ impl<'a> Arguments<'a> {
 /// Reads a word that is an option.
 fn read_option<'a>(
     names: &[&str],
-    arguments: &mut Arguments<'a>,
+    arguments: &mut ReadArguments<'a>,
     word: WordAt<'a>,
-) -> Result<Waiting<'a>, WordsFault>
-    ensures ok { IfOk result (λ next. option_read (texts names.now) (arguments_in_bytes arguments.old) word.entry.place (parts_of word.entry.text.now)
+) -> Result<ReadWaiting<'a>, WordsFault>
+    ensures ok { IfOk result (λ next. option_read (texts names.now) (arguments_in_bytes arguments.old) word.entry.place (option_parts word.entry.text.now)
         ≡ Some (reading_in_bytes arguments.new next)) }
     ensures usage { IfErr result (λ fault. fault ≡ Usage →
-        option_read (texts names.now) (arguments_in_bytes arguments.old) word.entry.place (parts_of word.entry.text.now) ≡ None) }
+        option_read (texts names.now) (arguments_in_bytes arguments.old) word.entry.place (option_parts word.entry.text.now) ≡ None) }
 {
-    match parts_of(word.text) {
+    match option_parts(word.text) {
         None => Err(WordsFault::Usage),
         Some((name, None)) => {
-            if contains(names, name) {
-                Ok(Waiting::ValueFor(name))
+            if has_option(names, name) {
+                Ok(ReadWaiting::ValueFor(name))
             } else {
                 Err(WordsFault::Usage)
             }
@@ -138,7 +138,7 @@ fn read_option<'a>(
                 text,
             };
             arguments.take_option(names, name, value)?;
-            Ok(Waiting::AnyWord)
+            Ok(ReadWaiting::AnyWord)
         }
     }
 }
@@ -147,44 +147,47 @@ fn read_option<'a>(
 #[tactic(auto, unfolding(crate::specs::Arguments::word_read))]
 fn read_word<'a>(
     names: &[&str],
-    arguments: &mut Arguments<'a>,
-    waiting: Waiting<'a>,
+    arguments: &mut ReadArguments<'a>,
+    waiting: ReadWaiting<'a>,
     word: WordAt<'a>,
-) -> Result<Waiting<'a>, WordsFault>
+) -> Result<ReadWaiting<'a>, WordsFault>
     ensures ok { IfOk result (λ next. word_read (texts names.now) (reading_in_bytes arguments.old waiting.entry) (word_in_bytes word.entry)
         ≡ Some (reading_in_bytes arguments.new next)) }
     ensures usage { IfErr result (λ fault. fault ≡ Usage →
         word_read (texts names.now) (reading_in_bytes arguments.old waiting.entry) (word_in_bytes word.entry) ≡ None) }
 {
     match waiting {
-        Waiting::AnyWord => {
+        ReadWaiting::AnyWord => {
             if word.text == "--" {
-                Ok(Waiting::PositionalWord)
+                Ok(ReadWaiting::PositionalWord)
             } else if is_option(word.text) {
                 read_option(names, arguments, word)
             } else {
                 arguments.take_positional(word)?;
-                Ok(Waiting::AnyWord)
+                Ok(ReadWaiting::AnyWord)
             }
         }
-        Waiting::ValueFor(name) => {
+        ReadWaiting::ValueFor(name) => {
             arguments.take_option(names, name, word)?;
-            Ok(Waiting::AnyWord)
+            Ok(ReadWaiting::AnyWord)
         }
-        Waiting::PositionalWord => {
+        ReadWaiting::PositionalWord => {
             arguments.take_positional(word)?;
-            Ok(Waiting::PositionalWord)
+            Ok(ReadWaiting::PositionalWord)
         }
     }
 }
 
 /// The arguments, if no option lacks its value.
-fn end<'a>(arguments: Arguments<'a>, waiting: Waiting<'a>) -> Result<Arguments<'a>, WordsFault>
+fn end<'a>(
+    arguments: ReadArguments<'a>,
+    waiting: ReadWaiting<'a>,
+) -> Result<ReadArguments<'a>, WordsFault>
     ensures ok { IfOk result (λ read. ended (reading_in_bytes arguments.entry waiting.entry) ≡ Some (arguments_in_bytes read)) }
     ensures usage { IfErr result (λ fault. ended (reading_in_bytes arguments.entry waiting.entry) ≡ None) }
 {
     match waiting {
-        Waiting::ValueFor(_) => Err(WordsFault::Usage),
+        ReadWaiting::ValueFor(_) => Err(WordsFault::Usage),
         _ => Ok(arguments),
     }
 }
@@ -194,16 +197,16 @@ pub(crate) fn read_arguments<'a>(
     alloc: Global,
     names: &[&str],
     words: &[&'a str],
-) -> Result<Arguments<'a>, WordsFault>
+) -> Result<ReadArguments<'a>, WordsFault>
     requires { 0 < length words.now }
     ensures ok { IfOk result (λ read. arguments_of (texts names.now) (drop 1 (texts words.now)) ≡ Some (arguments_in_bytes read)) }
     ensures usage { IfErr result (λ fault. fault ≡ Usage → arguments_of (texts names.now) (drop 1 (texts words.now)) ≡ None) }
 {
-    let mut arguments = Arguments {
+    let mut arguments = ReadArguments {
         options: Vec::new(alloc),
         positionals: Vec::new(alloc),
     };
-    let mut waiting = Waiting::AnyWord;
+    let mut waiting = ReadWaiting::AnyWord;
     let mut place = 1;
     let behind = &words[1..];
     for text in behind {

@@ -7,7 +7,7 @@ ghost use Rattle.jos_words.specs.Arguments.{arguments_in_bytes, arguments_of, te
 ghost use Rattle.jos_words.specs.ClapCommands.{option_rule, required_rule, optional_rule, repeated_rule, optional_repeated_rule};
 ghost use Rattle.jos_words.specs.ClapCommands.{app_with, running_app, demo_app, mkfs_app, ls_app, cat_app, clap_takes, AreRefused};
 
-use crate::arguments::{Arguments, read_arguments};
+use crate::arguments::{ReadArguments, read_arguments};
 use crate::commands::RUNNING_OPTIONS;
 use crate::words::WordsFault;
 use clap::error::ErrorKind;
@@ -136,7 +136,7 @@ pub(crate) fn take_arguments<'a>(
     command: Command<'a>,
     names: &[&str],
     words: &'a [&'a str],
-) -> Result<Arguments<'a>, WordsFault>
+) -> Result<ReadArguments<'a>, WordsFault>
     requires { 0 < length words.now }
     ensures ok { IfOk result (λ read. arguments_of (texts names.now) (drop 1 (texts words.now)) ≡ Some (arguments_in_bytes read)) }
     ensures usage { IfErr result (λ fault. fault ≡ Usage → AreRefused (app_of command.entry) (texts names.now) (texts words.now)) }

@@ -3,11 +3,11 @@
 ghost use Rattle.std.specs.Prelude.{◌≡◌, ◌<◌, IfOk, IfErr, Some, None, length, map, option_map, drop};
 ghost use Rattle.jos_words.specs.declared.words.WordsFault.TheVariants.{Usage};
 ghost use Rattle.jos_words.specs.Arguments.{word_in_bytes, arguments_in_bytes, texts};
-ghost use Rattle.jos_words.specs.Commands.{number_in, number_at, exo_of, exo_words, run_of, run_words, demo_of, demo_words};
+ghost use Rattle.jos_words.specs.Commands.{number_in, placed_number, exo_of, exo_words, run_of, run_words, demo_of, demo_words};
 ghost use Rattle.jos_words.specs.Commands.{mkfs_of, mkfs_words, ls_of, ls_words, cat_of, cat_words, command_of};
 ghost use Rattle.jos_words.specs.Commands.{exo_in_bytes, run_in_bytes, demo_in_bytes, mkfs_in_bytes, ls_in_bytes, cat_in_bytes, in_bytes};
 
-use crate::arguments::{Arguments, value_of};
+use crate::arguments::{ReadArguments, value_of};
 use crate::clap_commands::{
     cat_command, demo_command, ls_command, mkfs_command, running_command, take_arguments,
 };
@@ -17,7 +17,7 @@ use std::alloc::Global;
 
 /// A command, with what its words say.
 #[derive(Drop)]
-pub enum Command<'a> {
+pub enum CommandWords<'a> {
     /// `exo [--frames N] [--steps N] [--schedule FILE] [--trace N] IMAGE..`: runs images.
     Exo(ExoWords<'a>),
     /// `run [--frames N] [--steps N] [--schedule FILE] [--trace N] IMAGE [WORD..]`: runs a program under the library.
@@ -88,8 +88,8 @@ pub struct CatWords<'a> {
 pub(crate) const RUNNING_OPTIONS: [&str; 4] = ["frames", "steps", "schedule", "trace"];
 
 /// The number that a word is.
-fn number_at<'a>(word: WordAt<'a>) -> Option<NumberAt>
-    ensures { result ≡ number_at (word_in_bytes word.entry) }
+fn placed_number<'a>(word: WordAt<'a>) -> Option<NumberAt>
+    ensures { result ≡ placed_number (word_in_bytes word.entry) }
 {
     let value = number_of(word.text)?;
     Some(NumberAt {
@@ -104,7 +104,7 @@ fn number_in<'a>(word: Option<WordAt<'a>>) -> Option<Option<NumberAt>>
 {
     match word {
         None => Some(None),
-        Some(word) => match number_at(word) {
+        Some(word) => match placed_number(word) {
             None => None,
             Some(number) => Some(Some(number)),
         },
@@ -113,7 +113,7 @@ fn number_in<'a>(word: Option<WordAt<'a>>) -> Option<Option<NumberAt>>
 
 /// The words of `exo`, if these are.
 #[tactic(auto, unfolding(crate::specs::Commands::exo_of))]
-fn exo_of<'a>(arguments: Arguments<'a>) -> Option<ExoWords<'a>>
+fn exo_of<'a>(arguments: ReadArguments<'a>) -> Option<ExoWords<'a>>
     ensures { option_map exo_in_bytes result ≡ exo_of (arguments_in_bytes arguments.entry) }
 {
     let frames = number_in(value_of("frames", &arguments.options))?;
@@ -134,7 +134,7 @@ fn exo_of<'a>(arguments: Arguments<'a>) -> Option<ExoWords<'a>>
 
 /// The words of `run`, if these are.
 #[tactic(auto, unfolding(crate::specs::Commands::run_of))]
-fn run_of<'a>(arguments: Arguments<'a>) -> Option<RunWords<'a>>
+fn run_of<'a>(arguments: ReadArguments<'a>) -> Option<RunWords<'a>>
     ensures { option_map run_in_bytes result ≡ run_of (arguments_in_bytes arguments.entry) }
 {
     let ExoWords {
@@ -155,7 +155,7 @@ fn run_of<'a>(arguments: Arguments<'a>) -> Option<RunWords<'a>>
 
 /// The words of `demo`, if these are.
 #[tactic(auto, unfolding(crate::specs::Commands::demo_of))]
-fn demo_of<'a>(arguments: Arguments<'a>) -> Option<DemoWords<'a>>
+fn demo_of<'a>(arguments: ReadArguments<'a>) -> Option<DemoWords<'a>>
     ensures { option_map demo_in_bytes result ≡ demo_of (arguments_in_bytes arguments.entry) }
 {
     match arguments.positionals.as_slice() {
@@ -169,7 +169,7 @@ fn demo_of<'a>(arguments: Arguments<'a>) -> Option<DemoWords<'a>>
 
 /// The words of `mkfs`, if these are.
 #[tactic(auto, unfolding(crate::specs::Commands::mkfs_of))]
-fn mkfs_of<'a>(arguments: Arguments<'a>) -> Option<MkfsWords<'a>>
+fn mkfs_of<'a>(arguments: ReadArguments<'a>) -> Option<MkfsWords<'a>>
     ensures { option_map mkfs_in_bytes result ≡ mkfs_of (arguments_in_bytes arguments.entry) }
 {
     let mut files = arguments.positionals;
@@ -177,7 +177,7 @@ fn mkfs_of<'a>(arguments: Arguments<'a>) -> Option<MkfsWords<'a>>
         return None;
     }
     let disk = files.remove(0);
-    let blocks = number_at(files.remove(0))?;
+    let blocks = placed_number(files.remove(0))?;
     Some(MkfsWords {
         disk,
         blocks,
@@ -187,7 +187,7 @@ fn mkfs_of<'a>(arguments: Arguments<'a>) -> Option<MkfsWords<'a>>
 
 /// The words of `ls`, if these are.
 #[tactic(auto, unfolding(crate::specs::Commands::ls_of))]
-fn ls_of<'a>(arguments: Arguments<'a>) -> Option<LsWords<'a>>
+fn ls_of<'a>(arguments: ReadArguments<'a>) -> Option<LsWords<'a>>
     ensures { option_map ls_in_bytes result ≡ ls_of (arguments_in_bytes arguments.entry) }
 {
     match arguments.positionals.as_slice() {
@@ -205,7 +205,7 @@ fn ls_of<'a>(arguments: Arguments<'a>) -> Option<LsWords<'a>>
 
 /// The words of `cat`, if these are.
 #[tactic(auto, unfolding(crate::specs::Commands::cat_of))]
-fn cat_of<'a>(arguments: Arguments<'a>) -> Option<CatWords<'a>>
+fn cat_of<'a>(arguments: ReadArguments<'a>) -> Option<CatWords<'a>>
     ensures { option_map cat_in_bytes result ≡ cat_of (arguments_in_bytes arguments.entry) }
 {
     match arguments.positionals.as_slice() {
@@ -288,7 +288,7 @@ fn read_cat<'a>(alloc: Global, words: &'a [&'a str]) -> Result<CatWords<'a>, Wor
 /// A number may be out of its range, there may be any number of images or of a program's words, and `demo` may have
 /// any name: the caller tests these.
 #[tactic(auto, unfolding(crate::specs::Commands::command_of))]
-pub fn read_words<'a>(alloc: Global, words: &'a [&'a str]) -> Result<Command<'a>, WordsFault>
+pub fn read_words<'a>(alloc: Global, words: &'a [&'a str]) -> Result<CommandWords<'a>, WordsFault>
     ensures ok { IfOk result (λ command. command_of (map (λ word. word.now) words.now) ≡ Some (in_bytes command)) }
     ensures usage { IfErr result (λ fault. fault ≡ Usage → command_of (map (λ word. word.now) words.now) ≡ None) }
 {
@@ -296,17 +296,17 @@ pub fn read_words<'a>(alloc: Global, words: &'a [&'a str]) -> Result<Command<'a>
         [] => Err(WordsFault::Usage),
         [name, ..] => {
             if *name == "exo" {
-                read_exo(alloc, words).map(Command::Exo)
+                read_exo(alloc, words).map(CommandWords::Exo)
             } else if *name == "run" {
-                read_run(alloc, words).map(Command::Run)
+                read_run(alloc, words).map(CommandWords::Run)
             } else if *name == "demo" {
-                read_demo(alloc, words).map(Command::Demo)
+                read_demo(alloc, words).map(CommandWords::Demo)
             } else if *name == "mkfs" {
-                read_mkfs(alloc, words).map(Command::Mkfs)
+                read_mkfs(alloc, words).map(CommandWords::Mkfs)
             } else if *name == "ls" {
-                read_ls(alloc, words).map(Command::Ls)
+                read_ls(alloc, words).map(CommandWords::Ls)
             } else if *name == "cat" {
-                read_cat(alloc, words).map(Command::Cat)
+                read_cat(alloc, words).map(CommandWords::Cat)
             } else {
                 Err(WordsFault::Usage)
             }

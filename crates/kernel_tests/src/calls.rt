@@ -11,10 +11,10 @@ use jos_base::{
 };
 use jos_host::MemHost;
 use jos_space::Space;
-use jos_sys::{Answer, Faulted, Input, System};
+use jos_sys::{CallAnswer, Faulted, Input, System};
 use std::alloc::Global;
 use std::marker::Model;
-use test_cases::{Bench, Told, WRITE, given, number, numbers};
+use test_cases::{Bench, Shown, WRITE, given, number, numbers};
 
 /// A system and what stands outside it.
 #[derive(Drop)]
@@ -89,7 +89,7 @@ impl CallBench {
         );
         match self.system.call(&mut self.host, &mut self.input, slot) {
             Ok(
-                Answer {
+                CallAnswer {
                     called: Called::Answered(value),
                     ..
                 },
@@ -177,40 +177,40 @@ impl CallBench {
         what: &str,
         slot: usize,
         numbers: &[u32],
-    ) -> anyhow::Result<Told>
+    ) -> anyhow::Result<Shown>
         requires { slot < NENV }
     {
         let (first, second) = (given(numbers, 0), given(numbers, 1));
         match what {
-            "call" => Ok(Told::word(self.call(slot, numbers))),
-            "writes" => Ok(Told::Is(self.write(slot, first, second))),
-            "reads" => Ok(Told::word(self.word(slot, first))),
+            "call" => Ok(Shown::word(self.call(slot, numbers))),
+            "writes" => Ok(Shown::Is(self.write(slot, first, second))),
+            "reads" => Ok(Shown::word(self.word(slot, first))),
             "faults" => Ok(match self.fault(slot, first, second) {
-                Some(faulted) => Told::Text(format!(in alloc; "{faulted:?}")?),
-                None => Told::Nothing,
+                Some(faulted) => Shown::Text(format!(in alloc; "{faulted:?}")?),
+                None => Shown::Nothing,
             }),
-            "eax" => Ok(Told::Word(self.system.environment(slot).registers.eax)),
-            "esp" => Ok(Told::Word(self.system.environment(slot).registers.esp)),
-            "eip" => Ok(Told::Word(self.system.environment(slot).registers.eip)),
+            "eax" => Ok(Shown::Word(self.system.environment(slot).registers.eax)),
+            "esp" => Ok(Shown::Word(self.system.environment(slot).registers.esp)),
+            "eip" => Ok(Shown::Word(self.system.environment(slot).registers.eip)),
             "registers" => {
                 let registers = self.system.environment(slot).registers;
-                Ok(Told::registers(alloc, &registers)?)
+                Ok(Shown::registers(alloc, &registers)?)
             }
             "status" => {
                 let status = self.system.environment(slot).status;
-                Ok(Told::Text(format!(in alloc; "{status:?}")?))
+                Ok(Shown::Text(format!(in alloc; "{status:?}")?))
             }
-            "writes_hi" => Ok(Told::is(self.write_page(slot))),
-            "takes_pages" => Ok(Told::Count(self.pages_taken(slot) as u64)),
-            "makes_children" => Ok(Told::Count(self.children_made(slot) as u64)),
+            "writes_hi" => Ok(Shown::is(self.write_page(slot))),
+            "takes_pages" => Ok(Shown::Count(self.pages_taken(slot) as u64)),
+            "makes_children" => Ok(Shown::Count(self.children_made(slot) as u64)),
             _ => bail!("{what} is no case of calls"),
         }
     }
 
     /// The console's bytes, as text.
-    fn console(&self, alloc: Global) -> anyhow::Result<Told> {
+    fn console(&self, alloc: Global) -> anyhow::Result<Shown> {
         let text = String::from_utf8_lossy(alloc, self.host.console())?;
-        Ok(Told::Text(format!(in alloc; "{text:?}")?))
+        Ok(Shown::Text(format!(in alloc; "{text:?}")?))
     }
 }
 
@@ -223,17 +223,17 @@ impl Bench for CallBench {
         CallBench::new(alloc, frames)
     }
 
-    fn answer(&mut self, alloc: Global, what: &str, words: &str) -> anyhow::Result<Told> {
+    fn answer(&mut self, alloc: Global, what: &str, words: &str) -> anyhow::Result<Shown> {
         let numbers = numbers(alloc, words)?;
         match what {
-            "refused" => Ok(Told::Count(self.system.refused())),
-            "upcalls" => Ok(Told::Count(self.system.upcalls())),
+            "refused" => Ok(Shown::Count(self.system.refused())),
+            "upcalls" => Ok(Shown::Count(self.system.upcalls())),
             "console" => self.console(alloc),
             _ => match numbers.split_first() {
                 Some((slot, rest)) if *slot < NENV => {
                     self.answer_slot(alloc, what, *slot as usize, rest)
                 }
-                _ => Ok(Told::Nothing),
+                _ => Ok(Shown::Nothing),
             },
         }
     }

@@ -2,7 +2,7 @@
 use Rattle.std.proofs.Common.{◌≡◌, ◌∙◌, ℕ, [], Some, refl, sym, ap}
 use Rattle.jos_base.specs.declared.environment.Status.TheVariants.{Runnable}
 use Rattle.jos_base.specs.declared.registers.Regs.{Regs}
-use Rattle.jos_base.specs.Environments.{Slot as KernelSlot}
+use Rattle.jos_base.specs.Environments.{Slot}
 use Rattle.jos_base.specs.KernelState.{KernelState, slot_at, with_status}
 use Rattle.lib_os.specs.declared.place.Place.TheVariants as place
 use Rattle.lib_os.specs.declared.place.Step.{Step}
@@ -10,7 +10,7 @@ use Rattle.lib_os.specs.declared.service.Service.TheVariants as service
 use Rattle.lib_os.specs.AbstractState.{AbstractState, Born, entered}
 use Rattle.lib_os.specs.Answers.{back_with}
 use Rattle.lib_os.specs.LibraryCall.{library_step}
-use Rattle.lib_os.specs.LibrarySteps.{answered}
+use Rattle.lib_os.specs.LibrarySteps.{service_answered}
 use Rattle.lib_os.specs.Places.{place_of}
 use Rattle.lib_os.specs.StandsFor.{StandsFor, Names}
 use Rattle.lib_os.proofs.Serving.{printed_nothing}
@@ -28,7 +28,7 @@ getid_step a n b regs = refl
 
 module _ (s : KernelState) (n : ℕ) (step : Step)
     (at : place_of (slot_at s n) ≡ place.InService service.GetId step) where
-  pub getid_leads : (names : Names) (a : AbstractState) → StandsFor names s a → Leads s n [] s (answered s n (slot_at s n).id) a
+  pub getid_leads : (names : Names) (a : AbstractState) → StandsFor names s a → Leads s n [] s (service_answered s n (slot_at s n).id) a
   getid_leads names a h =
       let i = here h n memory.GetId step at in
       let id_is : (slot_at s n).id ≡ i.b.id = i.own.id in
@@ -48,18 +48,18 @@ yield_step a n b regs = refl
 
 module _ (s : KernelState) (n : ℕ) (step : Step)
     (at : place_of (slot_at s n) ≡ place.InService service.Yield step) where
-  pub yield_leads : (names : Names) (a : AbstractState) → StandsFor names s a → Leads s n [] (with_status s n Runnable) (answered (with_status s n Runnable) n 0) a
+  pub yield_leads : (names : Names) (a : AbstractState) → StandsFor names s a → Leads s n [] (with_status s n Runnable) (service_answered (with_status s n Runnable) n 0) a
   yield_leads names a h =
       let i = here h n memory.Yield step at in
       let put : slot_at (with_status s n Runnable) n ≡ record (slot_at s n) { status = Runnable } =
       slot_put s n (record (slot_at s n) { status = Runnable }) in (
         back_with a n i.b (record (slot_at (with_status s n Runnable) n).registers { eax = 0 }),
         i.goes ∙ yield_step a n i.b (slot_at s n).registers
-            ∙ ap (λ (k : KernelSlot). Some (back_with a n i.b (record k.registers { eax = 0 }))) (sym put),
+            ∙ ap (λ (k : Slot). Some (back_with a n i.b (record k.registers { eax = 0 }))) (sym put),
         printed_nothing a,
         λ in_order quiet. (
           names,
           answer_stands (status_stands h n i.b i.is i.at.awake) n i.b i.is
-              (ap (λ (k : KernelSlot). k.rendezvous.receiving) put ∙ i.at.silent) i.at.awake 0,
+              (ap (λ (k : Slot). k.rendezvous.receiving) put ∙ i.at.silent) i.at.awake 0,
         ),
       )

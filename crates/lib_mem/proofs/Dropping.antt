@@ -17,10 +17,10 @@ use Rattle.lib_os.specs.AbstractState.{AbstractState, Born, entered}
 use Rattle.lib_os.specs.Answers.{back_with}
 use Rattle.lib_os.specs.Fence.{is_page_inside}
 use Rattle.lib_os.specs.LibraryCall.{library_step}
-use Rattle.lib_os.specs.LibrarySteps.{answered}
+use Rattle.lib_os.specs.LibrarySteps.{service_answered}
 use Rattle.lib_os.specs.Places.{place_of}
 use Rattle.lib_os.specs.StandsFor.{StandsFor, Names}
-use Rattle.lib_os.specs.UserCalls.{system, giving, Step as Call}
+use Rattle.lib_os.specs.UserCalls.{system, giving, CallStep}
 use Rattle.lib_os.proofs.Calls.{page_unmap_is}
 use Rattle.lib_os.proofs.Fences.{page_inside_address}
 use Rattle.lib_os.proofs.PagesStand.{removed_stands}
@@ -40,13 +40,13 @@ module _ (s : KernelState) (n va : ℕ) (step : Step) (rest : List ℕ) (live : 
   abbrev pub spaces : SpacesState
   spaces = unmapped s.spaces (slot_at s n).directory (page_number va)
 
-  abbrev pub asked : Call Called
+  abbrev pub asked : CallStep Called
   asked = system s n SYS_PAGE_UNMAP (0 ∷ va ∷ rest)
 
   pub asked_is : asked ≡ giving (with_spaces s spaces) (Answered 0)
   asked_is = page_unmap_is s n live va rest (page_inside_address va inside)
 
-  pub drop_leads : (names : Names) (a : AbstractState) → StandsFor names s a → Leads s n [] (with_spaces s spaces) (answered (with_spaces s spaces) n 0) a
+  pub drop_leads : (names : Names) (a : AbstractState) → StandsFor names s a → Leads s n [] (with_spaces s spaces) (service_answered (with_spaces s spaces) n 0) a
   drop_leads names a h =
       let i = here h n (memory.PageDrop va) step at in (
         back_with a n (without_page i.b va) (record (slot_at s n).registers { eax = 0 }),

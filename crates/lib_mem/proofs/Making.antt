@@ -10,22 +10,22 @@ use Rattle.jos_base.specs.Environments.{is_live}
 use Rattle.jos_base.specs.KernelState.{KernelState, slot_at, with_spaces, with_refusal}
 use Rattle.jos_base.specs.SpacesState.{SpacesState, allocated, zero_page}
 use Rattle.jos_base.specs.SystemCalls.{is_page_perm, has_write}
-use Rattle.jos_base.specs.Words.{negated, page_number, upd}
+use Rattle.jos_base.specs.Words.{negated, page_number, upd, has_bit}
 use Rattle.lib_os.specs.declared.place.Place.{Place}
 use Rattle.lib_os.specs.declared.place.Place.TheVariants as place
 use Rattle.lib_os.specs.declared.place.Step.{Step}
 use Rattle.lib_os.specs.declared.service.Service.TheVariants as service
 use Rattle.lib_os.specs.AbstractMemory.{with_page}
 use Rattle.lib_os.specs.AbstractState.{AbstractState, Born, own, named, entered, with_born}
-use Rattle.lib_os.specs.Answers.{answered as abstract_answered}
+use Rattle.lib_os.specs.Answers.{answered}
 use Rattle.lib_os.specs.Fence.{is_page_inside}
 use Rattle.lib_os.specs.InOrder.{IsInOrder}
 use Rattle.lib_os.specs.LibraryCall.{library_step}
-use Rattle.lib_os.specs.LibrarySteps.{Stands, answered}
-use Rattle.lib_os.specs.MemoryServices.{has_flag, page_made}
+use Rattle.lib_os.specs.LibrarySteps.{Stands, service_answered}
+use Rattle.lib_os.specs.MemoryServices.{page_made}
 use Rattle.lib_os.specs.Places.{place_of}
 use Rattle.lib_os.specs.StandsFor.{StandsFor, Names, is_shared}
-use Rattle.lib_os.specs.UserCalls.{system, giving, Step as Call}
+use Rattle.lib_os.specs.UserCalls.{system, giving, CallStep}
 use Rattle.lib_os.proofs.Calls.{page_alloc_some, page_alloc_none, refusal_is_seen}
 use Rattle.lib_os.proofs.Effects.{Made}
 use Rattle.lib_os.proofs.Fences.{page_inside_address}
@@ -33,7 +33,7 @@ use Rattle.lib_os.proofs.PagesStand.{made_own_stands, made_shared_stands}
 use Rattle.lib_os.proofs.Placing.{allocated_made}
 use Rattle.lib_os.proofs.Serving.{printed_nothing}
 use Rattle.lib_os.proofs.SlotsStand.{minds_page}
-use Rattle.lib_mem.specs.MemoryPlans.{perm_of}
+use Rattle.lib_mem.specs.MemoryPlans.{perm_of_flags}
 use Rattle.lib_mem.specs.declared.services.MemoryService.TheVariants as memory
 use Rattle.lib_mem.proofs.Passing.{IsHere, here, Leads, changed_stands}
 
@@ -47,8 +47,8 @@ bits_by true false = (refl, refl, refl)
 bits_by false true = (refl, refl, refl)
 bits_by false false = (refl, refl, refl)
 
-perm_is : (flags : ℕ) → (is_page_perm (perm_of flags) ≡ true) × (has_write (perm_of flags) ≡ has_flag flags 1) × (is_shared (perm_of flags) ≡ has_flag flags 2)
-perm_is flags = bits_by (has_flag flags 1) (has_flag flags 2)
+perm_is : (flags : ℕ) → (is_page_perm (perm_of_flags flags) ≡ true) × (has_write (perm_of_flags flags) ≡ has_bit flags 1) × (is_shared (perm_of_flags flags) ≡ has_bit flags 2)
+perm_is flags = bits_by (has_bit flags 1) (has_bit flags 2)
 
 -- ---- its step in the abstract system
 
@@ -63,12 +63,12 @@ abbrev with_name : AbstractState → AbstractState
 with_name a = record a { shared = upd a.shared a.next_name zero_page; next_name = a.next_name + 1 }
 
 nothing_printed : (a : AbstractState) (n : ℕ) (b : Born) (regs : Regs) (va flags : ℕ) → (page_made a n b regs va flags).console ≡ a.console
-nothing_printed a n b regs va flags = by_flag (has_flag flags 2)
+nothing_printed a n b regs va flags = by_flag (has_bit flags 2)
   where
     by_flag : (share : Bool) →
         (if share
-        then abstract_answered (with_name a) n (with_page b va (named a.next_name (has_flag flags 1))) regs 0
-        else abstract_answered a n (with_page b va (own zero_page (has_flag flags 1))) regs 0).console ≡ a.console
+        then answered (with_name a) n (with_page b va (named a.next_name (has_bit flags 1))) regs 0
+        else answered a n (with_page b va (own zero_page (has_bit flags 1))) regs 0).console ≡ a.console
     by_flag true = refl
     by_flag false = refl
 
@@ -76,11 +76,11 @@ nothing_printed a n b regs va flags = by_flag (has_flag flags 2)
 
 module _ (s : KernelState) (n va flags perm : ℕ) (step : Step) (rest : List ℕ) (live : is_live (slot_at s n) ≡ true)
     (at : place_of (slot_at s n) ≡ place.InService (service.PageNew va flags) step)
-    (few : flags ≤ 3) (inside : is_page_inside va ≡ true) (bits : perm ≡ perm_of flags) where
-  entry_bits : (is_page_perm perm ≡ true) × (has_write perm ≡ has_flag flags 1) × (is_shared perm ≡ has_flag flags 2)
-  entry_bits = subst (λ (p : ℕ). (is_page_perm p ≡ true) × (has_write p ≡ has_flag flags 1) × (is_shared p ≡ has_flag flags 2)) (sym bits) (perm_is flags)
+    (few : flags ≤ 3) (inside : is_page_inside va ≡ true) (bits : perm ≡ perm_of_flags flags) where
+  entry_bits : (is_page_perm perm ≡ true) × (has_write perm ≡ has_bit flags 1) × (is_shared perm ≡ has_bit flags 2)
+  entry_bits = subst (λ (p : ℕ). (is_page_perm p ≡ true) × (has_write p ≡ has_bit flags 1) × (is_shared p ≡ has_bit flags 2)) (sym bits) (perm_is flags)
 
-  abbrev pub asked : Call Called
+  abbrev pub asked : CallStep Called
   asked = system s n SYS_PAGE_ALLOC (0 ∷ va ∷ perm ∷ rest)
 
   abbrev pub found : Option (ℕ × SpacesState)
@@ -96,8 +96,8 @@ module _ (s : KernelState) (n va flags perm : ℕ) (step : Step) (rest : List �
 
     page_stands : {names : Names} {a : AbstractState} → StandsFor names s a → IsInOrder (with_spaces s t) →
         (i : IsHere names s a n (service.PageNew va flags)) →
-        Stands (answered (with_spaces s t) n 0) (page_made a n i.b (slot_at s n).registers va flags)
-    page_stands {names = names} {a = a} h in_order i = by_flag (has_flag flags 2) entry_bits.2
+        Stands (service_answered (with_spaces s t) n 0) (page_made a n i.b (slot_at s n).registers va flags)
+    page_stands {names = names} {a = a} h in_order i = by_flag (has_bit flags 2) entry_bits.2
       where
         made : Made s.spaces t (slot_at s n).directory (page_number va) perm
         made = allocated_made s.spaces t (slot_at s n).directory (page_number va) perm f h.in_order.frames in_order.frames permitted is
@@ -106,27 +106,27 @@ module _ (s : KernelState) (n va flags perm : ℕ) (step : Step) (rest : List �
         unminded = ap (λ (p : Place). minds_page p) at
 
         by_flag : (share : Bool) → is_shared perm ≡ share →
-            Stands (answered (with_spaces s t) n 0)
+            Stands (service_answered (with_spaces s t) n 0)
             (if share
-            then abstract_answered (with_name a) n (with_page i.b va (named a.next_name (has_flag flags 1))) (slot_at s n).registers 0
-            else abstract_answered a n (with_page i.b va (own zero_page (has_flag flags 1))) (slot_at s n).registers 0)
+            then answered (with_name a) n (with_page i.b va (named a.next_name (has_bit flags 1))) (slot_at s n).registers 0
+            else answered a n (with_page i.b va (own zero_page (has_bit flags 1))) (slot_at s n).registers 0)
         by_flag true share =
             let after = made_shared_stands h n i.b i.is va perm made permitted unminded in_order share in (
               after.0,
-              changed_stands (with_name a) n (with_page i.b va (named a.next_name (has_flag flags 1)))
+              changed_stands (with_name a) n (with_page i.b va (named a.next_name (has_bit flags 1)))
                   (subst (λ (w : Bool). StandsFor after.0 (with_spaces s t) (with_born (with_name a) n (with_page i.b va (named a.next_name w))))
                   entry_bits.1 after.1)
                   i.at.silent i.at.awake 0,
             )
         by_flag false share = (
           names,
-          changed_stands a n (with_page i.b va (own zero_page (has_flag flags 1)))
+          changed_stands a n (with_page i.b va (own zero_page (has_bit flags 1)))
               (subst (λ (w : Bool). StandsFor names (with_spaces s t) (with_born a n (with_page i.b va (own zero_page w))))
               entry_bits.1 (made_own_stands h n i.b i.is va perm made permitted unminded in_order share))
               i.at.silent i.at.awake 0,
         )
 
-    pub some_leads : (names : Names) (a : AbstractState) → StandsFor names s a → Leads s n [] (with_spaces s t) (answered (with_spaces s t) n 0) a
+    pub some_leads : (names : Names) (a : AbstractState) → StandsFor names s a → Leads s n [] (with_spaces s t) (service_answered (with_spaces s t) n 0) a
     some_leads names a h =
         let i = here h n (memory.PageNew va flags) step at in (
           page_made a n i.b (slot_at s n).registers va flags,
@@ -140,7 +140,7 @@ module _ (s : KernelState) (n va flags perm : ℕ) (step : Step) (rest : List �
     pub none_is : asked ≡ giving (with_refusal s) (Answered (negated E_NO_MEM))
     none_is = page_alloc_none s n live va perm rest (page_inside_address va inside) permitted none
 
-    pub none_leads : (names : Names) (a : AbstractState) → StandsFor names s a → Leads s n [] (with_refusal s) (answered (with_refusal s) n (negated E_NO_MEM)) a
+    pub none_leads : (names : Names) (a : AbstractState) → StandsFor names s a → Leads s n [] (with_refusal s) (service_answered (with_refusal s) n (negated E_NO_MEM)) a
     none_leads names a h =
         let i = here h n (memory.PageNew va flags) step at in (
           page_made a n i.b (slot_at s n).registers va flags,

@@ -18,10 +18,10 @@ use Rattle.lib_os.specs.declared.progress.Progress.TheVariants as progress
 use Rattle.lib_os.specs.AbstractState.{AbstractState}
 use Rattle.lib_os.specs.Fence.{is_buffer, is_page_inside}
 use Rattle.lib_os.specs.InOrder.{IsInOrder}
-use Rattle.lib_os.specs.LibrarySteps.{LeavesRest, KeepsUses, is_pausing, is_yield, answered}
+use Rattle.lib_os.specs.LibrarySteps.{LeavesRest, KeepsUses, is_pausing, is_yield, service_answered}
 use Rattle.lib_os.specs.Places.{place_of}
 use Rattle.lib_os.specs.StandsFor.{StandsFor, Names}
-use Rattle.lib_os.specs.UserCalls.{Step as Call, got, system}
+use Rattle.lib_os.specs.UserCalls.{CallStep, got, system}
 use Rattle.lib_os.proofs.Calls.{cputs_writes, cputs_ends, getenvid_is, yield_is}
 use Rattle.lib_os.proofs.GoingOn.{gives_nothing_up}
 use Rattle.lib_os.proofs.Leaving.{system_left}
@@ -36,7 +36,7 @@ use Rattle.lib_stage.specs.ServiceSteps.{Plan, PlanHolds, ServiceHolds}
 use Rattle.lib_stage.proofs.Laws.{Falls, IsAt, GoesOn, KeepsBy, FailsBy, is_plain, law_of}
 use Rattle.lib_mem.specs.declared.services.MemoryService.{MemoryService}
 use Rattle.lib_mem.specs.declared.services.MemoryService.TheVariants as memory
-use Rattle.lib_mem.specs.MemoryPlans.{number_in, is_refused, perm_of, call_of, passed_on, plan_by, memory_plan}
+use Rattle.lib_mem.specs.MemoryPlans.{service_number, is_refused, perm_of_flags, ask_of, passed_on, plan_by, memory_plan}
 use Rattle.lib_mem.proofs.Asking.{getid_leads, yield_leads}
 use Rattle.lib_mem.proofs.Dropping as dropping
 use Rattle.lib_mem.proofs.Making as making
@@ -62,7 +62,7 @@ module _ (s : KernelState) (n : ℕ) (step : Step) (live : is_live (slot_at s n)
   abbrev none : List ℕ
   none = 0 ∷ 0 ∷ 0 ∷ 0 ∷ 0 ∷ []
 
-  numbered : (m : MemoryService) → number_in m ≡ number_of (service_in m)
+  numbered : (m : MemoryService) → service_number m ≡ number_of (service_in m)
   numbered (memory.Cputs va len) = refl
   numbered memory.GetId = refl
   numbered memory.Yield = refl
@@ -85,15 +85,15 @@ module _ (s : KernelState) (n : ℕ) (step : Step) (live : is_live (slot_at s n)
 
   -- ---- by what the call comes to
 
-  by_call : (m : MemoryService) (plan : Plan) → IsAt s n plan (service_in m) step → (z : Call Called) → performed s n plan.asks ≡ z → GoesOn s n plan z →
+  by_call : (m : MemoryService) (plan : Plan) → IsAt s n plan (service_in m) step → (z : CallStep Called) → performed s n plan.asks ≡ z → GoesOn s n plan z →
       (IsInOrder z.state → KeepsBy s n plan z) → FailsBy s n plan z → ServiceHolds s n plan
   by_call m plan at z is goes keeps fails =
-      law_of s n plan (service_in m) step at (subst (λ (x : Call Called). GoesOn s n plan x) (sym is) goes)
-      (subst (λ (x : Call Called). IsInOrder x.state → KeepsBy s n plan x) (sym is) keeps)
-      (subst (λ (x : Call Called). FailsBy s n plan x) (sym is) fails)
+      law_of s n plan (service_in m) step at (subst (λ (x : CallStep Called). GoesOn s n plan x) (sym is) goes)
+      (subst (λ (x : CallStep Called). IsInOrder x.state → KeepsBy s n plan x) (sym is) keeps)
+      (subst (λ (x : CallStep Called). FailsBy s n plan x) (sym is) fails)
 
   abbrev passing : MemoryService → Ask → Plan
-  passing m asks = record { number = number_in m; asks = asks; next = passed_on }
+  passing m asks = record { number = service_number m; asks = asks; next = passed_on }
 
   passes_at : (m : MemoryService) (asks : Ask) → IsThere m → is_plain asks ≡ true → IsAt s n (passing m asks) (service_in m) step
   passes_at m asks there plain =
@@ -102,7 +102,7 @@ module _ (s : KernelState) (n : ℕ) (step : Step) (live : is_live (slot_at s n)
   -- a call that answers
   told_holds : (m : MemoryService) (asks : Ask) → IsThere m → is_plain asks ≡ true → (state : KernelState) (word : ℕ) (written : List ℕ) →
       performed s n asks ≡ telling state word written → is_live (slot_at state n) ≡ true → (slot_at state n).registers ≡ (slot_at s n).registers →
-      ((names : Names) (a : AbstractState) → StandsFor names s a → Leads s n written state (answered state n word) a) → ServiceHolds s n (passing m asks)
+      ((names : Names) (a : AbstractState) → StandsFor names s a → Leads s n written state (service_answered state n word) a) → ServiceHolds s n (passing m asks)
   told_holds m asks there plain state word written is lives kept leads =
       by_call m (passing m asks) (passes_at m asks there plain) (telling state word written) is
       (record { live = λ called given stays. lives; registers = λ called given stays. kept })
@@ -143,9 +143,9 @@ module _ (s : KernelState) (n : ℕ) (step : Step) (live : is_live (slot_at s n)
       let ran = with_status s n Runnable in
       let put : slot_at ran n ≡ record (slot_at s n) { status = Runnable } = slot_put s n (record (slot_at s n) { status = Runnable }) in
       let is : system s n SYS_YIELD none ≡ telling ran 0 [] = yield_is s n live none in
-      let rest : LeavesRest s ran = subst (λ (z : Call Called). LeavesRest s z.state) is (system_left s n SYS_YIELD none refl).rest in
-      let used : KeepsUses n s ran = subst (λ (z : Call Called). KeepsUses n s z.state) is (λ order is_there each. system_found s n SYS_YIELD none order is_there each) in
-      subst (λ (z : Call Called). PlanHolds s n (passing memory.Yield (ask.System SYS_YIELD none)) z) (sym is) (record {
+      let rest : LeavesRest s ran = subst (λ (z : CallStep Called). LeavesRest s z.state) is (system_left s n SYS_YIELD none refl).rest in
+      let used : KeepsUses n s ran = subst (λ (z : CallStep Called). KeepsUses n s z.state) is (λ order is_there each. system_found s n SYS_YIELD none order is_there each) in
+      subst (λ (z : CallStep Called). PlanHolds s n (passing memory.Yield (ask.System SYS_YIELD none)) z) (sym is) (record {
         lives = λ called given stays. ap (λ (k : Slot). is_live k) put;
         keeps = λ order a h quiet. let l = yield_leads s n step there h.0 a h.1 in (l.0, l.1, l.2, l.3 order quiet);
         fails = λ may a h. absurd (let contradiction : false ≡ true = may in cc);
@@ -155,7 +155,7 @@ module _ (s : KernelState) (n : ℕ) (step : Step) (live : is_live (slot_at s n)
           used,
         );
         lowers = tt;
-        gives_up = gives_nothing_up (Ok progress.Finished) (slot_at s n) (slot_at (answered ran n 0) n) (ap is_pausing there);
+        gives_up = gives_nothing_up (Ok progress.Finished) (slot_at s n) (slot_at (service_answered ran n 0) n) (ap is_pausing there);
       })
 
   module _ (va len : ℕ) (there : IsThere (memory.Cputs va len)) (few : len ≤ CPUTS_MAX) (buffer : is_buffer va len ≡ true) where
@@ -168,10 +168,10 @@ module _ (s : KernelState) (n : ℕ) (step : Step) (live : is_live (slot_at s n)
       where
         by_read : (r : Result (List ℕ) PageFault) → user_bytes s n va len ≡ r → ServiceHolds s n (plan_by false (memory.Cputs va len))
         by_read (Ok bytes) is =
-            told_holds (memory.Cputs va len) (call_of (memory.Cputs va len)) there refl (with_bytes_reached s n va len) 0 bytes
+            told_holds (memory.Cputs va len) (ask_of (memory.Cputs va len)) there refl (with_bytes_reached s n va len) 0 bytes
             (cputs_writes s n live va len rest few bytes is) live refl (bytes_leads s n va len step rest live there few buffer bytes is)
         by_read (Err fault) is =
-            over_holds (memory.Cputs va len) (call_of (memory.Cputs va len)) there refl (without_environment s n)
+            over_holds (memory.Cputs va len) (ask_of (memory.Cputs va len)) there refl (without_environment s n)
             (line s n va len step rest live there few buffer fault is)
             (cputs_ends s n live va len rest few fault is) (fault_leads s n va len step rest live there few buffer fault is)
 
@@ -180,7 +180,7 @@ module _ (s : KernelState) (n : ℕ) (step : Step) (live : is_live (slot_at s n)
     tail = 0 ∷ 0 ∷ []
 
     abbrev found : Option (ℕ × SpacesState)
-    found = making.found s n va flags (perm_of flags) step tail live there few inside refl
+    found = making.found s n va flags (perm_of_flags flags) step tail live there few inside refl
 
     page_new_holds : ServiceHolds s n (plan_by false (memory.PageNew va flags))
     unfolding performed
@@ -188,13 +188,13 @@ module _ (s : KernelState) (n : ℕ) (step : Step) (live : is_live (slot_at s n)
       where
         by_found : (o : Option (ℕ × SpacesState)) → found ≡ o → ServiceHolds s n (plan_by false (memory.PageNew va flags))
         by_found None is =
-            told_holds (memory.PageNew va flags) (call_of (memory.PageNew va flags)) there refl (with_refusal s) (negated E_NO_MEM) []
-            (making.none_is s n va flags (perm_of flags) step tail live there few inside refl is) live refl
-            (making.none_leads s n va flags (perm_of flags) step tail live there few inside refl is)
+            told_holds (memory.PageNew va flags) (ask_of (memory.PageNew va flags)) there refl (with_refusal s) (negated E_NO_MEM) []
+            (making.none_is s n va flags (perm_of_flags flags) step tail live there few inside refl is) live refl
+            (making.none_leads s n va flags (perm_of_flags flags) step tail live there few inside refl is)
         by_found (Some pair) is =
-            told_holds (memory.PageNew va flags) (call_of (memory.PageNew va flags)) there refl (with_spaces s pair.1) 0 []
-            (making.some_is s n va flags (perm_of flags) step tail live there few inside refl pair.0 pair.1 is) live refl
-            (making.some_leads s n va flags (perm_of flags) step tail live there few inside refl pair.0 pair.1 is)
+            told_holds (memory.PageNew va flags) (ask_of (memory.PageNew va flags)) there refl (with_spaces s pair.1) 0 []
+            (making.some_is s n va flags (perm_of_flags flags) step tail live there few inside refl pair.0 pair.1 is) live refl
+            (making.some_leads s n va flags (perm_of_flags flags) step tail live there few inside refl pair.0 pair.1 is)
 
   passed_holds : (m : MemoryService) → IsThere m → is_refused m ≡ false → ServiceHolds s n (plan_by false m)
   unfolding performed
@@ -211,7 +211,7 @@ module _ (s : KernelState) (n : ℕ) (step : Step) (live : is_live (slot_at s n)
   passed_holds (memory.PageDrop va) there off =
       let inside = negated_off (is_page_inside va) off in
       let rest = 0 ∷ 0 ∷ 0 ∷ [] in
-      told_holds (memory.PageDrop va) (call_of (memory.PageDrop va)) there refl (with_spaces s (dropping.spaces s n va step rest live there inside)) 0 []
+      told_holds (memory.PageDrop va) (ask_of (memory.PageDrop va)) there refl (with_spaces s (dropping.spaces s n va step rest live there inside)) 0 []
       (dropping.asked_is s n va step rest live there inside) live refl (dropping.drop_leads s n va step rest live there inside)
   passed_holds memory.Unknown there off = absurd (let contradiction : true ≡ false = off in cc)
 

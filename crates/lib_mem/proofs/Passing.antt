@@ -4,7 +4,7 @@ use Rattle.std.proofs.Common.{◌≡◌, ℕ, true, false, List, Some, refl, sub
 use Rattle.std.specs.Prelude.{◌++◌}
 use Rattle.jos_base.specs.declared.called.Called.{Called}
 use Rattle.jos_base.specs.declared.called.Called.TheVariants.{Answered, Ended}
-use Rattle.jos_base.specs.Environments.{Slot as KernelSlot}
+use Rattle.jos_base.specs.Environments.{Slot}
 use Rattle.jos_base.specs.KernelState.{KernelState, slot_at}
 use Rattle.lib_os.specs.declared.place.Place.TheVariants as place
 use Rattle.lib_os.specs.declared.place.Step.{Step}
@@ -16,10 +16,10 @@ use Rattle.lib_os.specs.AbstractRun.{abs_step}
 use Rattle.lib_os.specs.Answers.{back_with}
 use Rattle.lib_os.specs.InOrder.{IsInOrder}
 use Rattle.lib_os.specs.LibraryCall.{library_step}
-use Rattle.lib_os.specs.LibrarySteps.{Stands, NothingRefused, answered}
+use Rattle.lib_os.specs.LibrarySteps.{Stands, NothingRefused, service_answered}
 use Rattle.lib_os.specs.Places.{place_of}
-use Rattle.lib_os.specs.StandsFor.{StandsFor, Names, Row, rows_of, StandsForBorn, StandsAtStep, IsIn}
-use Rattle.lib_os.specs.UserCalls.{got, Step as Call}
+use Rattle.lib_os.specs.StandsFor.{StandsFor, Names, EntryRow, rows_of, StandsForBorn, StandsAtStep, IsIn}
+use Rattle.lib_os.specs.UserCalls.{got, CallStep}
 use Rattle.jos_base.proofs.Maps.{upd-at, upd-twice}
 use Rattle.lib_os.proofs.Answering.{back_stands}
 use Rattle.lib_os.proofs.Serving.{served, step_in}
@@ -38,7 +38,7 @@ service_in (memory.PageDrop va) = service.PageDrop va
 service_in memory.Unknown = service.Unknown
 
 -- each of these services is one step
-own_in : (row : Row) (k : KernelSlot) (b : Born) (m : MemoryService) (t : Step) → StandsAtStep row k b (service_in m) t → IsIn k b (service_in m) entered
+own_in : (row : EntryRow) (k : Slot) (b : Born) (m : MemoryService) (t : Step) → StandsAtStep row k b (service_in m) t → IsIn k b (service_in m) entered
 own_in row k b (memory.Cputs va len) step.Entered h = h
 own_in row k b memory.GetId step.Entered h = h
 own_in row k b memory.Yield step.Entered h = h
@@ -78,7 +78,7 @@ here {s = s} {a = a} h n m step at =
 -- whoever is in a service of this slot goes back to its program with an answer
 pub answer_stands : {names : Names} {s : KernelState} {a : AbstractState} → StandsFor names s a → (n : ℕ) (b : Born) → a.slots n ≡ born b →
     (slot_at s n).rendezvous.receiving ≡ false → b.blocked ≡ false → (word : ℕ) →
-    StandsFor names (answered s n word) (back_with a n b (record (slot_at s n).registers { eax = word }))
+    StandsFor names (service_answered s n word) (back_with a n b (record (slot_at s n).registers { eax = word }))
 answer_stands {s = s} h n b at silent awake word =
     back_stands h n b at (record (slot_at s n).registers { eax = word }) silent awake refl
 
@@ -88,10 +88,10 @@ born_twice a n b c = λ i. record a { slots = upd-twice a.slots n (born b) (born
 -- the same where its own part has changed before
 pub changed_stands : {names : Names} {s : KernelState} (a : AbstractState) (n : ℕ) (b : Born) → StandsFor names s (with_born a n b) →
     (slot_at s n).rendezvous.receiving ≡ false → b.blocked ≡ false → (word : ℕ) →
-    StandsFor names (answered s n word) (back_with a n b (record (slot_at s n).registers { eax = word }))
+    StandsFor names (service_answered s n word) (back_with a n b (record (slot_at s n).registers { eax = word }))
 changed_stands {names = names} {s = s} a n b h silent awake word =
     let back = record b { program = guest (record (slot_at s n).registers { eax = word }); phase = at_guest; blocked = false } in
-    subst (λ (x : AbstractState). StandsFor names (answered s n word) x) (born_twice a n b back)
+    subst (λ (x : AbstractState). StandsFor names (service_answered s n word) x) (born_twice a n b back)
     (answer_stands h n b (upd-at a.slots n (born b)) silent awake word)
 
 -- ---- the call
@@ -104,8 +104,8 @@ Leads s n written state last a =
     × (IsInOrder state → NothingRefused s last → Stands last b)
 
 -- a call that answers in a state, and one that ends the environment
-abbrev pub telling : KernelState → ℕ → List ℕ → Call Called
+abbrev pub telling : KernelState → ℕ → List ℕ → CallStep Called
 telling state word written = record { state = state; gives = got (Answered word); written = written }
 
-abbrev pub ending : KernelState → List ℕ → Call Called
+abbrev pub ending : KernelState → List ℕ → CallStep Called
 ending state written = record { state = state; gives = got Ended; written = written }

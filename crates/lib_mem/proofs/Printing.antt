@@ -20,11 +20,11 @@ use Rattle.lib_os.specs.declared.service.Service.TheVariants as service
 use Rattle.lib_os.specs.AbstractState.{AbstractState, Born, entered}
 use Rattle.lib_os.specs.Fence.{is_buffer}
 use Rattle.lib_os.specs.LibraryCall.{library_step}
-use Rattle.lib_os.specs.LibrarySteps.{answered}
+use Rattle.lib_os.specs.LibrarySteps.{service_answered}
 use Rattle.lib_os.specs.MemoryServices.{byte_or_fault, printed}
 use Rattle.lib_os.specs.Places.{place_of}
 use Rattle.lib_os.specs.StandsFor.{StandsFor, Names}
-use Rattle.lib_os.specs.UserCalls.{system, Step as Call}
+use Rattle.lib_os.specs.UserCalls.{system, CallStep}
 use Rattle.lib_os.proofs.BytesRead.{buffer_reads}
 use Rattle.lib_os.proofs.EndsStand.{ended_stands}
 use Rattle.lib_os.proofs.Removing.{destroyed_gone}
@@ -46,7 +46,7 @@ cputs_step a n b regs va len few buffer =
 module _ (s : KernelState) (n va len : ℕ) (step : Step) (rest : List ℕ) (live : is_live (slot_at s n) ≡ true)
     (at : place_of (slot_at s n) ≡ place.InService (service.Cputs va len) step)
     (few : len ≤ CPUTS_MAX) (buffer : is_buffer va len ≡ true) where
-  abbrev pub asked : Call Called
+  abbrev pub asked : CallStep Called
   asked = system s n SYS_CPUTS (va ∷ len ∷ rest)
 
   abbrev read : Result (List ℕ) PageFault
@@ -63,7 +63,7 @@ module _ (s : KernelState) (n va len : ℕ) (step : Step) (rest : List ℕ) (liv
   -- where all can be read
   module _ (bytes : List ℕ) (is : read ≡ Ok bytes) where
     pub bytes_leads : (names : Names) (a : AbstractState) → StandsFor names s a →
-        Leads s n bytes (with_bytes_reached s n va len) (answered (with_bytes_reached s n va len) n 0) a
+        Leads s n bytes (with_bytes_reached s n va len) (service_answered (with_bytes_reached s n va len) n 0) a
     bytes_leads names a h =
         let i = here h n (memory.Cputs va len) step at in
         let regs = (slot_at s n).registers in (

@@ -12,7 +12,7 @@ use Rattle.lib_os.specs.AbstractState.{AbstractState, Born, entered}
 use Rattle.lib_os.specs.Answers.{refused}
 use Rattle.lib_os.specs.Fence.{is_buffer, is_page_inside}
 use Rattle.lib_os.specs.LibraryCall.{library_step}
-use Rattle.lib_os.specs.LibrarySteps.{answered}
+use Rattle.lib_os.specs.LibrarySteps.{service_answered}
 use Rattle.lib_os.specs.Places.{place_of}
 use Rattle.lib_os.specs.StandsFor.{StandsFor, Names}
 use Rattle.lib_os.proofs.Serving.{printed_nothing}
@@ -61,7 +61,7 @@ module _ (a : AbstractState) (n : ℕ) (b : Born) (regs : Regs) where
 
 module _ (s : KernelState) (n : ℕ) (m : MemoryService) (step : Step)
     (at : place_of (slot_at s n) ≡ place.InService (service_in m) step) (is : is_refused m ≡ true) where
-  pub refused_leads : (names : Names) (a : AbstractState) → StandsFor names s a → Leads s n [] s (answered s n (negated E_INVAL)) a
+  pub refused_leads : (names : Names) (a : AbstractState) → StandsFor names s a → Leads s n [] s (service_answered s n (negated E_INVAL)) a
   refused_leads names a h =
       let i = here h n m step at in (
         refused a n i.b (slot_at s n).registers E_INVAL,

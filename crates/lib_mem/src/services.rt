@@ -51,8 +51,8 @@ impl MemoryService {
 }
 
 /// The bits of the entry of a page that is made by these flags: bit 0 says that it may be written, bit 1 that it is shared.
-fn perm_of(flags: u32) -> u32
-    ensures { result ≡ plans.perm_of flags }
+fn perm_of_flags(flags: u32) -> u32
+    ensures { result ≡ plans.perm_of_flags flags }
 {
     let write = if flags & 1 == 1 { PTE_W } else { 0 };
     let share = if flags & 2 == 2 { PTE_SHARE } else { 0 };
@@ -73,8 +73,8 @@ fn is_refused(service: MemoryService) -> bool
 }
 
 /// The call by which it is done.
-fn call_of(service: MemoryService) -> Ask
-    ensures { result ≡ plans.call_of service }
+fn ask_of(service: MemoryService) -> Ask
+    ensures { result ≡ plans.ask_of service }
 {
     match service {
         MemoryService::Cputs { va, len } => Ask::System {
@@ -91,7 +91,7 @@ fn call_of(service: MemoryService) -> Ask
         },
         MemoryService::PageNew { va, flags } => Ask::System {
             number: SYS_PAGE_ALLOC,
-            args: [0, va, perm_of(flags), 0, 0],
+            args: [0, va, perm_of_flags(flags), 0, 0],
         },
         MemoryService::PageDrop { va } => Ask::System {
             number: SYS_PAGE_UNMAP,
@@ -124,7 +124,7 @@ impl Planned for MemoryService {
                 args: [0; 5],
             };
         }
-        call_of(*self)
+        ask_of(*self)
     }
 
     fn next(&self, called: Called) -> Next {

@@ -12,10 +12,10 @@ use Rattle.lib_os.specs.declared.place.Step.TheVariants as step
 use Rattle.lib_os.specs.declared.progress.Progress.TheVariants as progress
 use Rattle.lib_os.specs.declared.service.Service.TheVariants as service
 use Rattle.lib_os.specs.AbstractMessages.{server_id, is_page_or_none, receive}
-use Rattle.lib_os.specs.AbstractState.{AbstractState, Born, Slot, entered, receiving, in_service, slot_id, with_born}
+use Rattle.lib_os.specs.AbstractState.{AbstractState, Born, AbstractSlot, entered, receiving, in_service, slot_id, with_born}
 use Rattle.lib_os.specs.Answers as abstract_system
 use Rattle.lib_os.specs.LibraryCall.{library_step}
-use Rattle.lib_os.specs.LibrarySteps.{Keeps}
+use Rattle.lib_os.specs.LibrarySteps.{KeepsStanding}
 use Rattle.lib_os.specs.Places.{place_of, words_at}
 use Rattle.lib_os.specs.StandsFor.{StandsFor, Names, IsIn, IsAboutToWait, destination_of}
 use Rattle.lib_os.specs.UserCalls.{system}
@@ -32,7 +32,7 @@ use Rattle.lib_msg.specs.ReceiveStages.{may_receive, next_of}
 -- ---- the abstract step
 
 pub server_is : {names : Names} {s : KernelState} {a : AbstractState} → StandsFor names s a → server_id a ≡ FIRST_ENV_ID
-server_is h = ap (λ (x : Slot). slot_id x) h.first
+server_is h = ap (λ (x : AbstractSlot). slot_id x) h.first
 
 refused_step : (a : AbstractState) (n : ℕ) (b : Born) (regs : Regs) (va from own : ℕ) → own ≡ b.id → server_id a ≡ FIRST_ENV_ID →
     may_receive va from own ≡ false →
@@ -85,11 +85,11 @@ module _ (s : KernelState) (n va from : ℕ)
   abbrev own : ℕ
   own = (slot_at s n).id
 
-  pub entered_keeps : let x = next_of va from stage.Entered own in Keeps (seen_as x) n s (settled SERVICE_RECEIVE x s n) []
+  pub entered_keeps : let x = next_of va from stage.Entered own in KeepsStanding (seen_as x) n s (settled SERVICE_RECEIVE x s n) []
   entered_keeps = by_test (may_receive va from own) refl
     where
       by_test : (t : Bool) → may_receive va from own ≡ t →
-          let x = if not t then next.Answer (negated E_INVAL) else next.GoOn (step.Receiving own) in Keeps (seen_as x) n s (settled SERVICE_RECEIVE x s n) []
+          let x = if not t then next.Answer (negated E_INVAL) else next.GoOn (step.Receiving own) in KeepsStanding (seen_as x) n s (settled SERVICE_RECEIVE x s n) []
       by_test false off a h quiet =
           let v = served h.1 n (service.Receive va from) step.Entered stands in
           let here : IsIn (slot_at s n) v.b (service.Receive va from) entered = v.at in
@@ -127,7 +127,7 @@ module _ (s : KernelState) (n va from id : ℕ)
   abbrev mid : KernelState
   mid = (system s n SYS_IPC_RECV (destination_of va ∷ from ∷ 0 ∷ 0 ∷ 0 ∷ [])).state
 
-  pub waiting_keeps : Keeps progress.Visible n s (with_extra mid n (words_at SERVICE_RECEIVE (step.ReadingValue id))) []
+  pub waiting_keeps : KeepsStanding progress.Visible n s (with_extra mid n (words_at SERVICE_RECEIVE (step.ReadingValue id))) []
   waiting_keeps a h quiet =
       let v = served h.1 n (service.Receive va from) (step.Receiving id) stands in
       let at : IsAboutToWait (slot_at s n) v.b va from id = v.at in (

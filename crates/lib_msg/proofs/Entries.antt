@@ -16,7 +16,7 @@ use Rattle.lib_os.specs.AbstractRun.{abs_step}
 use Rattle.lib_os.specs.AbstractState.{AbstractState}
 use Rattle.lib_os.specs.Answers as abstract_system
 use Rattle.lib_os.specs.InOrder.{IsInOrder}
-use Rattle.lib_os.specs.LibrarySteps.{Follows}
+use Rattle.lib_os.specs.LibrarySteps.{AbstractFollows}
 use Rattle.lib_os.specs.Places.{place_of, words_at}
 use Rattle.lib_os.specs.StandsFor.{StandsFor, Names, Rows, MaySend, IsLooking, is_shared}
 use Rattle.lib_os.specs.UserCalls.{load}
@@ -55,7 +55,7 @@ module _ (s : KernelState) (n id value va : ℕ)
       (sym (v.own.regions (page_number va / NPTENTRIES)) ∙ at.1)
 
   pub entry_follows : (names : Names) (a : AbstractState) (h : StandsFor names s a) → IsInOrder (loaded s n address) →
-      let x = next_of id va stage.ReadingEntry word in Follows (seen_as x) n (settled SERVICE_SEND x (loaded s n address) n) a []
+      let x = next_of id va stage.ReadingEntry word in AbstractFollows (seen_as x) n (settled SERVICE_SEND x (loaded s n address) n) a []
   entry_follows names a h order = by_tests (bit_and word PTE_P == PTE_P) (is_shared bits || not (has_write bits)) refl refl
     where
       v : IsServed names s a n (service.Send id value va) step.ReadingEntry
@@ -74,7 +74,7 @@ module _ (s : KernelState) (n id value va : ℕ)
       there = quiet_stands h (touched_quiet s.spaces (slot_at s n).directory address Read) order
 
       refused : abs_step a n ≡ Some (abstract_system.refused a n v.b (slot_at s n).registers E_INVAL) →
-          Follows (seen_as (next.Answer (negated E_INVAL))) n (settled SERVICE_SEND (next.Answer (negated E_INVAL)) (loaded s n address) n) a []
+          AbstractFollows (seen_as (next.Answer (negated E_INVAL))) n (settled SERVICE_SEND (next.Answer (negated E_INVAL)) (loaded s n address) n) a []
       refused is = (
         abstract_system.refused a n v.b (slot_at s n).registers E_INVAL,
         is,
@@ -84,7 +84,7 @@ module _ (s : KernelState) (n id value va : ℕ)
 
       by_tests : (t u : Bool) → (bit_and word PTE_P == PTE_P) ≡ t → (is_shared bits || not (has_write bits)) ≡ u →
           let x = if not (t && u) then next.Answer (negated E_INVAL) else next.GoOn (step.Trying bits) in
-          Follows (seen_as x) n (settled SERVICE_SEND x (loaded s n address) n) a []
+          AbstractFollows (seen_as x) n (settled SERVICE_SEND x (loaded s n address) n) a []
       by_tests false u first second = refused (refused_missing h n v.b v.is id value va at.is_in some first)
       by_tests true false first second = refused (refused_kept h n v.b v.is id value va at.is_in some first second)
       by_tests true true first second = (

@@ -25,9 +25,9 @@ use Rattle.lib_os.specs.Answers as abstract_system
 use Rattle.lib_os.specs.Fence.{is_page_inside}
 use Rattle.lib_os.specs.InOrder.{IsInOrder}
 use Rattle.lib_os.specs.LibraryCall.{library_step}
-use Rattle.lib_os.specs.LibrarySteps.{Follows, Keeps, answered}
+use Rattle.lib_os.specs.LibrarySteps.{AbstractFollows, KeepsStanding, service_answered}
 use Rattle.lib_os.specs.Places.{place_of, words_at}
-use Rattle.lib_os.specs.StandsFor.{StandsFor, Names, Row, rows_of, lasting, page_by, page_seen, IsIn, IsLooking, MaySend, MaySendBy, StandsAtStep}
+use Rattle.lib_os.specs.StandsFor.{StandsFor, Names, EntryRow, rows_of, lasting, page_by, page_seen, IsIn, IsLooking, MaySend, MaySendBy, StandsAtStep}
 use Rattle.lib_os.specs.UserCalls.{load}
 use Rattle.lib_os.proofs.Answering.{back_stands}
 use Rattle.lib_os.proofs.EntryWords.{region_told}
@@ -98,7 +98,7 @@ module _ (s : KernelState) (n id value va : ℕ)
 
   refused_so : ((names : Names) (a : AbstractState) → StandsFor names s a → (b : Born) → own ≡ b.id →
       library_step a n b (slot_at s n).registers (service.Send id value va) entered ≡ Some (abstract_system.refused a n b (slot_at s n).registers E_INVAL)) →
-      Keeps progress.Finished n s (answered s n (negated E_INVAL)) []
+      KeepsStanding progress.Finished n s (service_answered s n (negated E_INVAL)) []
   refused_so why a h quiet =
       let v = served h.1 n (service.Send id value va) step.Entered stands in
       let here : IsIn (slot_at s n) v.b (service.Send id value va) entered = v.at in
@@ -113,7 +113,7 @@ module _ (s : KernelState) (n id value va : ℕ)
   goes_so : (to : Step) → ((names : Names) (a : AbstractState) → StandsFor names s a → (b : Born) → own ≡ b.id →
       IsIn (slot_at s n) b (service.Send id value va) entered →
       StandsAtStep (rows_of s.spaces (slot_at s n).directory) (record (slot_at s n) { extra = words_at SERVICE_SEND to }) b (service.Send id value va) to) →
-      Keeps progress.Hidden n s (with_extra s n (words_at SERVICE_SEND to)) []
+      KeepsStanding progress.Hidden n s (with_extra s n (words_at SERVICE_SEND to)) []
   goes_so to there a h quiet =
       let v = served h.1 n (service.Send id value va) step.Entered stands in (
         refl,
@@ -124,11 +124,11 @@ module _ (s : KernelState) (n id value va : ℕ)
         ),
       )
 
-  no_page : (row : Row) → va ≡ 0 → MaySend row va 0
+  no_page : (row : EntryRow) → va ≡ 0 → MaySend row va 0
   no_page row none = let test : (va == 0) ≡ true = grind (arith, nat_tests) in subst (λ (t : Bool). MaySendBy t row va 0) (sym test) tt
 
   abbrev next_keeps : (x : Next) → Type 0
-  next_keeps x = Keeps (seen_as x) n s (settled SERVICE_SEND x s n) []
+  next_keeps x = KeepsStanding (seen_as x) n s (settled SERVICE_SEND x s n) []
 
   pub entered_keeps : next_keeps (next_of id va stage.Entered own)
   entered_keeps = by_tests (may_name id own) (va == 0) (is_page_inside va) refl refl refl
@@ -194,7 +194,7 @@ module _ (s : KernelState) (n id value va : ℕ)
       load_directory_word s n h.in_order.frames (va / PGSIZE / NPTENTRIES) (region_below va at.inside)
 
   pub region_follows : (names : Names) (a : AbstractState) (h : StandsFor names s a) → IsInOrder (loaded s n address) →
-      let x = next_of id va stage.ReadingRegion region_word in Follows (seen_as x) n (settled SERVICE_SEND x (loaded s n address) n) a []
+      let x = next_of id va stage.ReadingRegion region_word in AbstractFollows (seen_as x) n (settled SERVICE_SEND x (loaded s n address) n) a []
   region_follows names a h order = by_test (bit_and region_word PTE_P == PTE_P) refl
     where
       v : IsServed names s a n (service.Send id value va) step.ReadingRegion
@@ -208,7 +208,7 @@ module _ (s : KernelState) (n id value va : ℕ)
 
       by_test : (t : Bool) → (bit_and region_word PTE_P == PTE_P) ≡ t →
           let x = if not t then next.Answer (negated E_INVAL) else next.GoOn step.ReadingEntry in
-          Follows (seen_as x) n (settled SERVICE_SEND x (loaded s n address) n) a []
+          AbstractFollows (seen_as x) n (settled SERVICE_SEND x (loaded s n address) n) a []
       by_test false absent =
           let regs = (slot_at s n).registers in
           let no_page : page_at v.b va ≡ None =

@@ -11,7 +11,7 @@ use Rattle.lib_os.specs.declared.place.Step.TheVariants as step
 use Rattle.lib_os.specs.declared.service.Service.TheVariants as service
 use Rattle.lib_os.specs.Places.{place_of}
 use Rattle.lib_os.specs.StandsFor.{destination_of}
-use Rattle.lib_os.specs.UserCalls.{Step as Call, answer_of}
+use Rattle.lib_os.specs.UserCalls.{CallStep, answer_of}
 use Rattle.lib_os.proofs.Calls.{getenvid_is}
 use Rattle.lib_os.proofs.Trying.{LivesOn, recv_lives}
 use Rattle.lib_stage.specs.declared.ask.Next.TheVariants as next
@@ -57,8 +57,8 @@ module _ (s : KernelState) (n va from : ℕ) (live : is_live (slot_at s n) ≡ t
   receive_holds step.Entered stands =
       let args = 0 ∷ 0 ∷ 0 ∷ 0 ∷ 0 ∷ [] in
       law_of_call s n (plan stage.Entered) (service.Receive va from) step.Entered (here stage.Entered stands refl) SYS_GETENVID args refl refl
-      (subst (λ (z : Call Called). LivesOn z n (slot_at s n).registers) (sym (getenvid_is s n live args)) (record { live = live; registers = refl; written = refl }))
-      (λ order. subst (λ (z : Call Called). KeepsBy s n (plan stage.Entered) z) (sym (getenvid_is s n live args)) (entered_keeps s n va from stands))
+      (subst (λ (z : CallStep Called). LivesOn z n (slot_at s n).registers) (sym (getenvid_is s n live args)) (record { live = live; registers = refl; written = refl }))
+      (λ order. subst (λ (z : CallStep Called). KeepsBy s n (plan stage.Entered) z) (sym (getenvid_is s n live args)) (entered_keeps s n va from stands))
   receive_holds (step.Receiving id) stands =
       let args = destination_of va ∷ from ∷ 0 ∷ 0 ∷ 0 ∷ [] in
       law_of_call s n (plan (stage.Receiving id)) (service.Receive va from) (step.Receiving id) (here (stage.Receiving id) stands refl) SYS_IPC_RECV args refl refl

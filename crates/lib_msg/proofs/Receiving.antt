@@ -6,7 +6,7 @@ use Rattle.jos_base.specs.declared.environment.Status.TheVariants.{Runnable, Run
 use Rattle.jos_base.specs.declared.memory.Access.TheVariants.{Read}
 use Rattle.jos_base.specs.declared.numbers.TheConstants.{ENV_IPC_FROM, ENV_IPC_PERM, ENV_IPC_VALUE, ENV_SIZE, ENV_WORDS, NENV, UENVS}
 use Rattle.jos_base.specs.declared.registers.Regs.{Regs}
-use Rattle.jos_base.specs.Environments.{Slot as KernelSlot, is_runnable, is_running, record_words}
+use Rattle.jos_base.specs.Environments.{Slot, is_runnable, is_running, record_words}
 use Rattle.jos_base.specs.KernelState.{KernelState, slot_at, with_extra}
 use Rattle.lib_os.specs.declared.numbers.TheConstants.{SERVICE_RECEIVE}
 use Rattle.lib_os.specs.declared.place.Place.TheVariants as place
@@ -17,9 +17,9 @@ use Rattle.lib_os.specs.AbstractMessages.{received_answer}
 use Rattle.lib_os.specs.AbstractState.{AbstractState, Born, Message, received}
 use Rattle.lib_os.specs.InOrder.{IsInOrder}
 use Rattle.lib_os.specs.LibraryCall.{library_step}
-use Rattle.lib_os.specs.LibrarySteps.{Follows, gone_back}
+use Rattle.lib_os.specs.LibrarySteps.{AbstractFollows, gone_back}
 use Rattle.lib_os.specs.Places.{place_of, words_at}
-use Rattle.lib_os.specs.StandsFor.{StandsFor, Names, RunsAs, HasReceived, WaitsOrHas, waits, has, kind_by}
+use Rattle.lib_os.specs.StandsFor.{StandsFor, Names, IsStatusFor, HasReceived, WaitsOrHas, waits, has, kind_by}
 use Rattle.lib_os.specs.UserCalls.{load}
 use Rattle.lib_os.proofs.Answering.{back_stands}
 use Rattle.lib_os.proofs.GoingOn.{words_stand}
@@ -35,15 +35,15 @@ use Rattle.lib_msg.specs.ReceiveStages.{record_word}
 -- ---- the record
 
 -- the words of a message in a record
-value_word : (k : KernelSlot) → get_or (record_words k) ENV_IPC_VALUE 0 ≡ k.rendezvous.value
+value_word : (k : Slot) → get_or (record_words k) ENV_IPC_VALUE 0 ≡ k.rendezvous.value
 unfolding record_words
 value_word k = refl
 
-sender_word : (k : KernelSlot) → get_or (record_words k) ENV_IPC_FROM 0 ≡ k.rendezvous.sender
+sender_word : (k : Slot) → get_or (record_words k) ENV_IPC_FROM 0 ≡ k.rendezvous.sender
 unfolding record_words
 sender_word k = refl
 
-perm_word : (k : KernelSlot) → get_or (record_words k) ENV_IPC_PERM 0 ≡ k.rendezvous.perm
+perm_word : (k : Slot) → get_or (record_words k) ENV_IPC_PERM 0 ≡ k.rendezvous.perm
 unfolding record_words
 perm_word k = refl
 
@@ -59,19 +59,19 @@ own_word s n id i word numbered self short is small =
     ∙ (λ j. read_at s n (sym there j) (is j))
 
 -- an environment that may run does not wait
-awake_has : (k : KernelSlot) (b : Born) (va from : ℕ) → RunsAs k.status b.blocked →
+awake_has : (k : Slot) (b : Born) (va from : ℕ) → IsStatusFor k.status b.blocked →
     (is_runnable k.status || is_running k.status) ≡ true → WaitsOrHas k b va from →
     HasReceived k b va from
 awake_has k b va from runs awake (has h) = h
 awake_has k b va from runs awake (waits h) = absurd (never k.status b.blocked runs awake h.blocked)
   where
-    never : (status : Status) (blocked : Bool) → RunsAs status blocked → (is_runnable status || is_running status) ≡ true → blocked ≡ true → ⊥
+    never : (status : Status) (blocked : Bool) → IsStatusFor status blocked → (is_runnable status || is_running status) ≡ true → blocked ≡ true → ⊥
     never Runnable false r w e = let contradiction : false ≡ true = e in absurd cc
     never Running false r w e = let contradiction : false ≡ true = e in absurd cc
     never NotRunnable true r w e = let contradiction : false ≡ true = w in absurd cc
     never _ _ r w e = r
 
-with_words_received : {k : KernelSlot} {b : Born} {va from : ℕ} (words : List ℕ) → HasReceived k b va from →
+with_words_received : {k : Slot} {b : Born} {va from : ℕ} (words : List ℕ) → HasReceived k b va from →
     HasReceived (record k { extra = words }) b va from
 with_words_received words h = record {
   regs = h.regs;
@@ -85,7 +85,7 @@ with_words_received words h = record {
 }
 
 module _ (s : KernelState) (n va from id : ℕ) where
-  abbrev k : KernelSlot
+  abbrev k : Slot
   k = slot_at s n
 
   still_stands : (address : ℕ) {names : Names} {a : AbstractState} → StandsFor names s a → IsInOrder (loaded s n address) → StandsFor names (loaded s n address) a
@@ -96,7 +96,7 @@ module _ (s : KernelState) (n va from id : ℕ) where
   module _ (stands : place_of k ≡ place.InService (service.Receive va from) (step.ReadingValue id))
       (awake : (is_runnable k.status || is_running k.status) ≡ true)
       (names : Names) (a : AbstractState) (h : StandsFor names s a) where
-    came : (b : Born) → RunsAs k.status b.blocked → (id ≡ k.id) × WaitsOrHas k b va from → HasReceived k b va from
+    came : (b : Born) → IsStatusFor k.status b.blocked → (id ≡ k.id) × WaitsOrHas k b va from → HasReceived k b va from
     came b runs at = awake_has k b va from runs awake (at.1)
 
     pub value_there : load s n (record_word id ENV_IPC_VALUE) ≡ read_at s n (record_word id ENV_IPC_VALUE) k.rendezvous.value
@@ -106,7 +106,7 @@ module _ (s : KernelState) (n va from id : ℕ) where
         own_word s n id ENV_IPC_VALUE k.rendezvous.value (h.tabled.ids n (born_live v.own)) (at.0) (omega arith) (value_word k) (came v.b v.own.runs at).come.value_small
 
     pub value_follows : IsInOrder (loaded s n (record_word id ENV_IPC_VALUE)) →
-        Follows progress.Hidden n (with_extra (loaded s n (record_word id ENV_IPC_VALUE)) n (words_at SERVICE_RECEIVE (step.ReadingSender id k.rendezvous.value))) a []
+        AbstractFollows progress.Hidden n (with_extra (loaded s n (record_word id ENV_IPC_VALUE)) n (words_at SERVICE_RECEIVE (step.ReadingSender id k.rendezvous.value))) a []
     value_follows order =
         let v = served h n (service.Receive va from) (step.ReadingValue id) stands in
         let at : (id ≡ k.id) × WaitsOrHas k v.b va from = v.at in
@@ -132,7 +132,7 @@ module _ (s : KernelState) (n va from id : ℕ) where
         own_word s n id ENV_IPC_FROM k.rendezvous.sender (h.tabled.ids n (born_live v.own)) (at.0) (omega arith) (sender_word k) at.2.come.sender_small
 
     pub sender_follows : IsInOrder (loaded s n (record_word id ENV_IPC_FROM)) →
-        Follows progress.Hidden n (with_extra (loaded s n (record_word id ENV_IPC_FROM)) n (words_at SERVICE_RECEIVE (step.ReadingPerm id value k.rendezvous.sender))) a []
+        AbstractFollows progress.Hidden n (with_extra (loaded s n (record_word id ENV_IPC_FROM)) n (words_at SERVICE_RECEIVE (step.ReadingPerm id value k.rendezvous.sender))) a []
     sender_follows order =
         let v = served h n (service.Receive va from) (step.ReadingSender id value) stands in
         let at : (id ≡ k.id) × (value ≡ k.rendezvous.value) × HasReceived k v.b va from = v.at in
@@ -164,7 +164,7 @@ module _ (s : KernelState) (n va from id : ℕ) where
         own_word s n id ENV_IPC_PERM k.rendezvous.perm (h.tabled.ids n (born_live v.own)) (at.0) (omega arith) (perm_word k) (omega (arith, small))
 
     pub perm_follows : IsInOrder (loaded s n (record_word id ENV_IPC_PERM)) →
-        Follows progress.Finished n
+        AbstractFollows progress.Finished n
         (gone_back (loaded s n (record_word id ENV_IPC_PERM)) n (record k.registers { eax = 0; edx = sender; ecx = value; ebx = kind_by k.rendezvous.perm })) a []
     perm_follows order =
         let v = served h n (service.Receive va from) (step.ReadingPerm id value sender) stands in

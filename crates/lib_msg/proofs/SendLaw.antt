@@ -1,23 +1,26 @@
 -- The law of send: each of its stages is a part of its one step in the abstract system.
-use Rattle.std.proofs.Common.{◌≡◌, ◌+◌, ◌*◌, ◌/◌, ◌==◌, ◌^◌, ◌<◌, ℕ, Bool, true, false, not, [], ◌∷◌, refl, sym, subst, arith, if◌then◌else◌}
+use Rattle.std.proofs.Common.{◌≡◌, ◌+◌, ◌*◌, ◌/◌, ◌==◌, ◌^◌, ◌<◌, ℕ, Bool, true, false, not, [], ◌∷◌, refl, sym, ap, subst, arith, if◌then◌else◌}
 use Rattle.std.specs.Prelude.{bit_and}
 use Rattle.jos_base.specs.declared.called.Called.{Called}
 use Rattle.jos_base.specs.declared.numbers.TheConstants.{NPTENTRIES, PGSIZE, PTE_P, UVPT, E_INVAL, E_IPC_NOT_RECV}
 use Rattle.jos_base.specs.declared.numbers.TheConstants.{SYS_GETENVID, SYS_IPC_TRY_SEND}
-use Rattle.jos_base.specs.Environments.{is_live}
+use Rattle.jos_base.specs.Environments.{Slot, is_live}
 use Rattle.jos_base.specs.KernelState.{KernelState, slot_at}
 use Rattle.jos_base.specs.Words.{negated}
 use Rattle.lib_os.specs.declared.numbers.TheConstants.{SERVICE_SEND, UVPD}
 use Rattle.lib_os.specs.declared.place.Place.TheVariants as place
 use Rattle.lib_os.specs.declared.place.Step.{Step}
 use Rattle.lib_os.specs.declared.place.Step.TheVariants as step
+use Rattle.lib_os.specs.declared.service.Service.{Service}
 use Rattle.lib_os.specs.declared.service.Service.TheVariants as service
 use Rattle.lib_os.specs.Fence.{is_page_inside}
 use Rattle.lib_os.specs.LibrarySteps.{is_pausing}
 use Rattle.lib_os.specs.Places.{place_of}
+use Rattle.lib_os.specs.Services.{named_service, service_of}
 use Rattle.lib_os.specs.StandsFor.{destination_of}
-use Rattle.lib_os.specs.UserCalls.{Step as Call, answer_of}
+use Rattle.lib_os.specs.UserCalls.{CallStep, answer_of}
 use Rattle.lib_os.proofs.Calls.{getenvid_is}
+use Rattle.lib_os.proofs.Numbered.{named_at}
 use Rattle.lib_os.proofs.Trying.{LivesOn}
 use Rattle.lib_stage.specs.declared.ask.Next.{Next}
 use Rattle.lib_stage.specs.declared.ask.Next.TheVariants as next
@@ -37,6 +40,15 @@ step_of stage.ReadingRegion = step.ReadingRegion
 step_of stage.ReadingEntry = step.ReadingEntry
 step_of (stage.Trying perm) = step.Trying perm
 step_of (stage.Pausing perm) = step.Pausing perm
+
+-- the word that it is given stands in ECX
+abbrev word_in : Service → ℕ
+word_in (service.Send id value va) = value
+word_in _ = 0
+
+given_word : (k : Slot) (id value va : ℕ) (at : Step) → place_of k ≡ place.InService (service.Send id value va) at → k.registers.ecx ≡ value
+unfolding service_of named_service
+given_word k id value va at stands = ap (λ (x : Service). word_in x) (named_at k (service.Send id value va) at stands)
 
 module _ (s : KernelState) (n id value va : ℕ) (live : is_live (slot_at s n) ≡ true) where
   -- ---- where it goes on from where, lower
@@ -70,7 +82,8 @@ module _ (s : KernelState) (n id value va : ℕ) (live : is_live (slot_at s n) �
   abbrev plan : SendStage → Plan
   plan at = sending (record { id = id; value = value; va = va; at = at })
 
-  module _ (small : value < 2 ^ 32) where
+  -- what stands in ECX is a word
+  module _ (small : (slot_at s n).registers.ecx < 2 ^ 32) where
     here : (at : SendStage) → place_of (slot_at s n) ≡ place.InService (service.Send id value va) (step_of at) →
         is_plain (plan at).asks ≡ true → is_pausing (place.InService (service.Send id value va) (step_of at)) ≡ false →
         IsAt s n (plan at) (service.Send id value va) (step_of at)
@@ -82,8 +95,8 @@ module _ (s : KernelState) (n id value va : ℕ) (live : is_live (slot_at s n) �
     send_holds step.Entered stands =
         let args = 0 ∷ 0 ∷ 0 ∷ 0 ∷ 0 ∷ [] in
         law_of_call s n (plan stage.Entered) (service.Send id value va) step.Entered (here stage.Entered stands refl refl) SYS_GETENVID args refl refl
-        (subst (λ (z : Call Called). LivesOn z n (slot_at s n).registers) (sym (getenvid_is s n live args)) (record { live = live; registers = refl; written = refl }))
-        (λ order. subst (λ (z : Call Called). KeepsBy s n (plan stage.Entered) z) (sym (getenvid_is s n live args)) (entered_keeps s n id value va stands))
+        (subst (λ (z : CallStep Called). LivesOn z n (slot_at s n).registers) (sym (getenvid_is s n live args)) (record { live = live; registers = refl; written = refl }))
+        (λ order. subst (λ (z : CallStep Called). KeepsBy s n (plan stage.Entered) z) (sym (getenvid_is s n live args)) (entered_keeps s n id value va stands))
     send_holds step.ReadingRegion stands =
         law_of_load s n (plan stage.ReadingRegion) (service.Send id value va) step.ReadingRegion (here stage.ReadingRegion stands refl refl)
         (UVPD + 4 * (va / PGSIZE / NPTENTRIES)) refl
@@ -99,11 +112,12 @@ module _ (s : KernelState) (n id value va : ℕ) (live : is_live (slot_at s n) �
           entry_follows s n id value va stands names a h,
         ))
     send_holds (step.Trying perm) stands =
-        let it = sent s n id value va perm stands live small in
+        let word_small : value < 2 ^ 32 = subst (λ (w : ℕ). w < 2 ^ 32) (given_word (slot_at s n) id value va (step.Trying perm) stands) small in
+        let it = sent s n id value va perm stands live word_small in
         law_of_call s n (plan (stage.Trying perm)) (service.Send id value va) (step.Trying perm) (here (stage.Trying perm) stands refl refl)
         SYS_IPC_TRY_SEND (id ∷ value ∷ destination_of va ∷ perm ∷ 0 ∷ []) refl refl
         (record { live = it.live; registers = it.registers; written = it.written })
-        (answered_keeps s n (plan (stage.Trying perm)) (send_call s n id value va perm) it (trying_keeps s n id value va perm stands live small))
+        (answered_keeps s n (plan (stage.Trying perm)) (send_call s n id value va perm) it (trying_keeps s n id value va perm stands live word_small))
     send_holds (step.Pausing perm) stands =
         law_of_pause s n (service.Send id value va) (step.Pausing perm) (step.Trying perm) SERVICE_SEND (0 ∷ 0 ∷ 0 ∷ 0 ∷ 0 ∷ []) stands live refl refl
         (omega arith) (pausing_keeps s n id value va perm stands)

@@ -4,7 +4,7 @@ use Rattle.std.proofs.lemmas.Bool.Decides.{nat_tests}
 use Rattle.jos_base.specs.declared.called.Called.{Called}
 use Rattle.jos_base.specs.declared.environment.Status.TheVariants.{Runnable}
 use Rattle.jos_base.specs.declared.numbers.TheConstants.{SYS_IPC_TRY_SEND, E_IPC_NOT_RECV}
-use Rattle.jos_base.specs.Environments.{Slot as KernelSlot, is_live}
+use Rattle.jos_base.specs.Environments.{Slot, is_live}
 use Rattle.jos_base.specs.KernelState.{KernelState, slot_at, with_extra, with_status, with_refusal}
 use Rattle.jos_base.specs.Words.{negated}
 use Rattle.lib_os.specs.declared.numbers.TheConstants.{SERVICE_SEND, SHORT_QUANTUM}
@@ -14,11 +14,11 @@ use Rattle.lib_os.specs.declared.progress.Progress.TheVariants as progress
 use Rattle.lib_os.specs.declared.service.Service.TheVariants as service
 use Rattle.lib_os.specs.AbstractState.{entered}
 use Rattle.lib_os.specs.InOrder.{IsInOrder}
-use Rattle.lib_os.specs.LibrarySteps.{Follows, Keeps, NothingRefused, answered}
+use Rattle.lib_os.specs.LibrarySteps.{AbstractFollows, KeepsStanding, NothingRefused, service_answered}
 use Rattle.lib_os.specs.Places.{place_of, words_at}
 use Rattle.lib_os.specs.Services.{service_of}
 use Rattle.lib_os.specs.StandsFor.{StandsFor, rows_of, IsIn, IsTrying, destination_of}
-use Rattle.lib_os.specs.UserCalls.{Step as Call, system}
+use Rattle.lib_os.specs.UserCalls.{CallStep, system}
 use Rattle.lib_os.proofs.Calls.{refusal_is_seen}
 use Rattle.lib_os.proofs.GoingOn.{in_with_words, words_stand}
 use Rattle.jos_base.proofs.Maps.{upd-at}
@@ -37,7 +37,7 @@ use Rattle.lib_msg.specs.SendStages.{next_of}
 
 module _ (s : KernelState) (n id value va perm : ℕ)
     (stands : place_of (slot_at s n) ≡ place.InService (service.Send id value va) (step.Pausing perm)) where
-  pub pausing_keeps : Keeps progress.Hidden n s (with_extra (with_status s n Runnable) n (words_at SERVICE_SEND (step.Trying perm))) []
+  pub pausing_keeps : KeepsStanding progress.Hidden n s (with_extra (with_status s n Runnable) n (words_at SERVICE_SEND (step.Trying perm))) []
   pausing_keeps a h quiet =
       let v = served h.1 n (service.Send id value va) (step.Pausing perm) stands in
       let at : IsTrying (rows_of s.spaces (slot_at s n).directory) (slot_at s n) v.b id value va perm = v.at in
@@ -45,23 +45,23 @@ module _ (s : KernelState) (n id value va perm : ℕ)
       let w = words_at SERVICE_SEND (step.Trying perm) in
       let slot_is : slot_at (with_status s n Runnable) n ≡ record (slot_at s n) { status = Runnable } =
       upd-at s.environments.slots n (record (slot_at s n) { status = Runnable }) in
-      let k : KernelSlot = record (slot_at s n) { status = Runnable } in
+      let k : Slot = record (slot_at s n) { status = Runnable } in
       let in_it : IsIn k v.b (service.Send id value va) entered =
       record { program = at.is_in.program; phase = at.is_in.phase; silent = at.is_in.silent; awake = at.is_in.awake } in (
         refl,
         (
           h.0,
           words_stand ran n SERVICE_SEND v.b v.is (born_at ran n v.b v.is) (service.Send id value va) (step.Trying perm)
-              (subst (λ (x : KernelSlot). service_of (record x.registers { eax = SERVICE_SEND }) ≡ service.Send id value va) (sym slot_is)
+              (subst (λ (x : Slot). service_of (record x.registers { eax = SERVICE_SEND }) ≡ service.Send id value va) (sym slot_is)
               (named_at (slot_at s n) (service.Send id value va) (step.Pausing perm) stands))
-              (subst (λ (x : KernelSlot). IsTrying (rows_of s.spaces x.directory) (record x { extra = w }) v.b id value va perm) (sym slot_is)
+              (subst (λ (x : Slot). IsTrying (rows_of s.spaces x.directory) (record x { extra = w }) v.b id value va perm) (sym slot_is)
               (record { is_in = in_with_words w in_it; some = at.some; other = at.other; page = at.page })),
         ),
       )
 
 -- ---- it tries
 
-abbrev pub send_call : KernelState → ℕ → ℕ → ℕ → ℕ → ℕ → Call Called
+abbrev pub send_call : KernelState → ℕ → ℕ → ℕ → ℕ → ℕ → CallStep Called
 send_call s n id value va perm = system s n SYS_IPC_TRY_SEND (id ∷ value ∷ destination_of va ∷ perm ∷ 0 ∷ [])
 
 module _ (s : KernelState) (n id value va perm : ℕ)
@@ -74,7 +74,7 @@ module _ (s : KernelState) (n id value va perm : ℕ)
   mid = (send_call s n id value va perm).state
 
   pub trying_keeps : IsInOrder mid →
-      let x = next_of id va (stage.Trying perm) sent.answer in Keeps (seen_as x) n s (settled SERVICE_SEND x mid n) []
+      let x = next_of id va (stage.Trying perm) sent.answer in KeepsStanding (seen_as x) n s (settled SERVICE_SEND x mid n) []
   trying_keeps order a h quiet = by_test (sent.answer == negated E_IPC_NOT_RECV) refl quiet
     where
       outcome : HasTried h.0 s mid a n sent.answer
@@ -83,7 +83,7 @@ module _ (s : KernelState) (n id value va perm : ℕ)
           tried h.1 n v.b v.is id value va perm (0 ∷ []) v.at small mid sent.answer sent.gives refl order
 
       waits : sent.answer ≡ negated E_IPC_NOT_RECV → HasTried h.0 s mid a n sent.answer →
-          Follows progress.Waited n (with_extra mid n (words_at SERVICE_SEND (step.Pausing perm))) a []
+          AbstractFollows progress.Waited n (with_extra mid n (words_at SERVICE_SEND (step.Pausing perm))) a []
       waits not_received (goes_on other end stepped printed so) = absurd (other not_received)
       waits not_received (no_table other mid_is) = absurd (other not_received)
       waits not_received (not_yet is mid_is may) =
@@ -103,8 +103,8 @@ module _ (s : KernelState) (n id value va perm : ℕ)
             may SHORT_QUANTUM,
           )
 
-      over : sent.answer ≢ negated E_IPC_NOT_RECV → NothingRefused s (answered mid n sent.answer) → HasTried h.0 s mid a n sent.answer →
-          Follows progress.Finished n (answered mid n sent.answer) a []
+      over : sent.answer ≢ negated E_IPC_NOT_RECV → NothingRefused s (service_answered mid n sent.answer) → HasTried h.0 s mid a n sent.answer →
+          AbstractFollows progress.Finished n (service_answered mid n sent.answer) a []
       over other quiet (goes_on other_word end stepped printed so) = (end, stepped, printed ∙ printed_nothing a, (h.0, so))
       over other quiet (not_yet is mid_is may) = absurd (other is)
       over other quiet (no_table other_word mid_is) =
@@ -113,6 +113,6 @@ module _ (s : KernelState) (n id value va perm : ℕ)
 
       by_test : (t : Bool) → (sent.answer == negated E_IPC_NOT_RECV) ≡ t →
           let x = if t then next.Wait (step.Pausing perm) else next.Answer sent.answer in
-          NothingRefused s (settled SERVICE_SEND x mid n) → Follows (seen_as x) n (settled SERVICE_SEND x mid n) a []
+          NothingRefused s (settled SERVICE_SEND x mid n) → AbstractFollows (seen_as x) n (settled SERVICE_SEND x mid n) a []
       by_test true is quiet = waits (grind (arith, nat_tests)) outcome
       by_test false is quiet = over (grind (arith, nat_tests)) quiet outcome

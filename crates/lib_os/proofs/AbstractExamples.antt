@@ -11,7 +11,7 @@ use Rattle.fs_layout.specs.FileActs.{file_act, open_act, look_up, look_from, nam
 use Rattle.lib_os.specs.declared.service.Service.{Service}
 use Rattle.lib_os.specs.declared.service.Service.TheVariants as service
 use Rattle.lib_os.specs.AbstractState.{AbstractState, Born, own, free, born, serving, terminal, read_end, write_end}
-use Rattle.lib_os.specs.AbstractState.{Program, guest, shell, in_service, entered, idle}
+use Rattle.lib_os.specs.AbstractState.{ProgramState, guest, shell, in_service, entered, idle}
 use Rattle.fs_layout.specs.DiskImage.{some_below}
 use Rattle.lib_os.specs.Fence.{in_fence}
 use Rattle.lib_os.specs.GuestStep.{born_in}
@@ -69,7 +69,7 @@ abbrev registers_of : Option Born → Regs
 registers_of None = zero_registers
 registers_of (Some b) = registers_in b.program
   where
-    registers_in : Program → Regs
+    registers_in : ProgramState → Regs
     registers_in (guest regs) = regs
     registers_in (shell place) = zero_registers
 

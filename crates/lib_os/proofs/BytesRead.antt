@@ -20,8 +20,8 @@ use Rattle.jos_base.specs.UserMemory.{reach_in, is_allowed, fault_at, fault_or, 
 use Rattle.jos_base.specs.UserMemory.{byte_or_fault as kernel_byte_or_fault}
 use Rattle.jos_base.specs.Windows.{walked}
 use Rattle.jos_base.specs.Words.{page_number, page_offset}
-use Rattle.lib_os.specs.AbstractState.{AbstractState, Born, Page, own, named, Slot, born}
-use Rattle.lib_os.specs.AbstractMemory.{page_at, page_allows, page_fault, is_writable, bytes_of, byte_in}
+use Rattle.lib_os.specs.AbstractState.{AbstractState, Born, Page, own, named, AbstractSlot, born}
+use Rattle.lib_os.specs.AbstractMemory.{page_at, page_allows, page_fault, is_writable, bytes_of_page, byte_in}
 use Rattle.lib_os.specs.AbstractMemory.{byte_at as abstract_byte_at}
 use Rattle.lib_os.specs.Fence.{is_inside, is_buffer}
 use Rattle.lib_os.specs.MemoryServices.{byte_or_fault}
@@ -118,11 +118,11 @@ module _ (names : Names) (bytes : ℕ → List ℕ) where
 
   -- the bytes of its page are those of its frame
   entry_bytes : (a : AbstractState) (e : Entry) → (is_shared (lasting e).perm ≡ true → a.shared (names.name e.frame) ≡ bytes e.frame) →
-      bytes_of a (page_by names bytes (lasting e)) ≡ bytes e.frame
+      bytes_of_page a (page_by names bytes (lasting e)) ≡ bytes e.frame
   entry_bytes a e name = by_share (is_shared (lasting e).perm) name
     where
       by_share : (t : Bool) → (t ≡ true → a.shared (names.name e.frame) ≡ bytes e.frame) →
-          bytes_of a (if t then named (names.name e.frame) (has_write (lasting e).perm) else own (bytes e.frame) (has_write (lasting e).perm))
+          bytes_of_page a (if t then named (names.name e.frame) (has_write (lasting e).perm) else own (bytes e.frame) (has_write (lasting e).perm))
           ≡ bytes e.frame
       by_share true name = name refl
       by_share false name = refl
@@ -238,7 +238,7 @@ bytes_none f g va n none = rw none refl
 
 pub born_part : (names : Names) (s : KernelState) (a : AbstractState) (n : ℕ) (b : Born) → StandsFor names s a → a.slots n ≡ born b →
     StandsForBorn names s.spaces (slot_at s n) b
-born_part names s a n b stands is = subst (λ (slot : Slot). StandsForSlot names s.spaces (slot_at s n) slot) is (stands.slots n)
+born_part names s a n b stands is = subst (λ (slot : AbstractSlot). StandsForSlot names s.spaces (slot_at s n) slot) is (stands.slots n)
 
 module _ (names : Names) (s : KernelState) (a : AbstractState) (n : ℕ) (b : Born) (stands : StandsFor names s a) (is : a.slots n ≡ born b) where
   memory_is : (p : ℕ) → b.memory p ≡ page_seen names s.spaces (slot_at s n).directory p

@@ -8,12 +8,12 @@ use Rattle.jos_base.specs.Reach.{Entry}
 use Rattle.jos_base.specs.SpacesState.{SpacesState}
 use Rattle.jos_base.specs.SystemCalls.{has_write}
 use Rattle.jos_base.specs.Words.{page_number, page_offset, upd}
-use Rattle.lib_os.specs.AbstractState.{AbstractState, Born, Page, own, named, Slot, born, with_born}
+use Rattle.lib_os.specs.AbstractState.{AbstractState, Born, Page, own, named, AbstractSlot, born, with_born}
 use Rattle.lib_os.specs.AbstractMemory.{stored, stored_in}
 use Rattle.lib_os.specs.InOrder.{IsInOrder}
 use Rattle.lib_os.specs.Places.{place_of}
 use Rattle.lib_os.specs.StandsFor.{StandsFor, StandsForSlot, StandsForBorn, Names, Rows, rows_of, is_shared}
-use Rattle.lib_os.specs.StandsFor.{Apart, AreNamed, AreUsers, IsNamed}
+use Rattle.lib_os.specs.StandsFor.{AgreeWhereShared, AreNamed, AreUsers, IsNamed}
 use Rattle.lib_os.proofs.Effects.{Stored}
 use Rattle.lib_os.proofs.EntriesStand.{same_sharing, other_frame, seen_at, seen_own, seen_by}
 use Rattle.lib_os.proofs.SlotsStand.{SeenAlike, minds_page, sends_by_same, page_put, slot_stands, born_at}
@@ -59,8 +59,8 @@ module _ {names : Names} {s : KernelState} {a : AbstractState} {sp : SpacesState
     regions = st.regions q;
   }
 
-  apart_kept : Apart (rows_of sp)
-  apart_kept = subst (λ (rows : Rows). Apart rows) (sym st.rows) h.apart
+  apart_kept : AgreeWhereShared (rows_of sp)
+  apart_kept = subst (λ (rows : Rows). AgreeWhereShared rows) (sym st.rows) h.apart
 
   users_kept : AreUsers (rows_of sp)
   users_kept = subst (λ (rows : Rows). AreUsers rows) (sym st.rows) h.users
@@ -95,7 +95,7 @@ module _ {names : Names} {s : KernelState} {a : AbstractState} {sp : SpacesState
 
     own_stored : StandsFor names (with_spaces s sp) (with_born a n (record b { memory = upd b.memory p after }))
     own_stored = record {
-      slots = upd-all (λ m (y : Slot). StandsForSlot names sp (slot_at s m) y) a.slots n
+      slots = upd-all (λ m (y : AbstractSlot). StandsForSlot names sp (slot_at s m) y) a.slots n
           (born (record b { memory = upd b.memory p after })) mine
           (others_stand h n b at (λ q ne. space_alike q (λ r x hx own_too. own_elsewhere q r x (λ same too. ne same) hx own_too)));
       apart = apart_kept;

@@ -26,7 +26,7 @@ use Rattle.jos_base.specs.SystemCalls.{user_bytes, with_bytes_reached, cputs_of}
 use Rattle.jos_base.specs.UserMemory.{read_byte, all_touched}
 use Rattle.jos_base.specs.Words.{negated, page_number, upd}
 use Rattle.lib_os.specs.LibrarySteps.{NothingRefused}
-use Rattle.lib_os.specs.UserCalls.{Step, IsCallStep, got, giving, asking, taken_back, called_by, system, Output, Prints}
+use Rattle.lib_os.specs.UserCalls.{CallStep, IsCallStep, got, giving, asking, taken_back, called_by, system, Output, Prints}
 use Rattle.lib_os.proofs.SlotsSet.{set_twice}
 use Rattle.lib_os.proofs.Slots.{slot_put, slots_alike, registers_put, registers_back}
 use Rattle.jos_base.proofs.Maps.{upd-at, upd-twice}
@@ -34,29 +34,29 @@ use Rattle.jos_base.proofs.Maps.{upd-at, upd-twice}
 -- ---- the cases of a call that asks for frames, and of one that writes
 
 -- by the spaces after it, or None where no frame was free
-abbrev pub made_step : KernelState → Option SpacesState → Step Called
+abbrev pub made_step : KernelState → Option SpacesState → CallStep Called
 made_step s None = giving (with_refusal s) (Answered (negated E_NO_MEM))
 made_step s (Some spaces) = giving (with_spaces s spaces) (Answered 0)
 
 -- the caller is gone, and this is written
-abbrev pub gone_step : KernelState → ℕ → List ℕ → Step Called
+abbrev pub gone_step : KernelState → ℕ → List ℕ → CallStep Called
 gone_step s n written = record { state = without_environment s n; gives = got Ended; written = written }
 
 -- by the bytes that were read, or the fault
-abbrev pub cputs_step : KernelState → ℕ → ℕ → ℕ → Result (List ℕ) PageFault → Step Called
+abbrev pub cputs_step : KernelState → ℕ → ℕ → ℕ → Result (List ℕ) PageFault → CallStep Called
 cputs_step s n va len (Ok bytes) = record { state = with_bytes_reached s n va len; gives = got (Answered 0); written = bytes }
 cputs_step s n va len (Err fault) = gone_step s n (killed s n (UserMemCheck fault.va)).written
 
 -- ---- what a call gave
 
 -- what it gave, the state after it and what was written are those that the call comes to
-pub comes_to : (step : Step Called) (what called : Called) (after state : KernelState) (written : List ℕ) (output : Output) →
+pub comes_to : (step : CallStep Called) (what called : Called) (after state : KernelState) (written : List ℕ) (output : Output) →
     step ≡ record { state = after; gives = got what; written = written } → IsCallStep step (Ok called) state output →
     (called ≡ what) × (state ≡ after) × Prints output written
 comes_to step what called after state written output is came =
-    let gives : got what ≡ got called = sym (ap (λ (z : Step Called). z.gives) is) ∙ came.0 in
+    let gives : got what ≡ got called = sym (ap (λ (z : CallStep Called). z.gives) is) ∙ came.0 in
     let same : ◌≡◌ {A = Called} what called = cc in
-    (sym same, came.1 ∙ ap (λ (z : Step Called). z.state) is, subst (λ (z : Step Called). Prints output z.written) is came.2)
+    (sym same, came.1 ∙ ap (λ (z : CallStep Called). z.state) is, subst (λ (z : CallStep Called). Prints output z.written) is came.2)
 
 -- a caller that is killed
 pub killed_state : (s : KernelState) (n : ℕ) (line : Line) → (killed s n line).state ≡ without_environment s n
@@ -239,7 +239,7 @@ module _ (s : KernelState) (n : ℕ) where
     unfolding killed
     read_is q va len (Ok bytes) =
         let k : KernelState = with_registers s n q in
-        ap (λ (step : Step Called). record step { written = bytes }) (quiet_is q (with_bytes_reached k n va len) 0 refl)
+        ap (λ (step : CallStep Called). record step { written = bytes }) (quiet_is q (with_bytes_reached k n va len) 0 refl)
         ∙ (λ i. record { state = with_spaces s (all_touched s.spaces (caller_is q i).directory va len); gives = got (Answered 0); written = bytes })
     read_is q va len (Err fault) =
         gone_is q (slot_at s n).registers (line_text (slot_at (with_registers s n q) n).id (UserMemCheck fault.va))
@@ -311,21 +311,21 @@ refusal_is_seen s quiet =
     omega arith
 
 -- the page was made: its frame, and the spaces with it
-pub record PageMade (s : KernelState) (n va perm : ℕ) (asked : Step Called) : Type 0 where
+pub record PageMade (s : KernelState) (n va perm : ℕ) (asked : CallStep Called) : Type 0 where
   pub frame : ℕ
   pub spaces : SpacesState
   pub is : allocated s.spaces (slot_at s n).directory (page_number va) perm ≡ Some (frame, spaces)
   pub step : asked ≡ giving (with_spaces s spaces) (Answered 0)
 
 -- no frame was free
-pub record PageRefused (s : KernelState) (n va perm : ℕ) (asked : Step Called) : Type 0 where
+pub record PageRefused (s : KernelState) (n va perm : ℕ) (asked : CallStep Called) : Type 0 where
   pub is : allocated s.spaces (slot_at s n).directory (page_number va) perm ≡ None
   pub step : asked ≡ giving (with_refusal s) (Answered (negated E_NO_MEM))
 
 module _ (s : KernelState) (n va perm : ℕ) (rest : List ℕ) (live : is_live (slot_at s n) ≡ true) (address : is_page_address va ≡ true)
     (permitted : is_page_perm perm ≡ true) where
   -- the call, and what it asks the spaces for
-  abbrev pub page_asked : Step Called
+  abbrev pub page_asked : CallStep Called
   page_asked = system s n SYS_PAGE_ALLOC (0 ∷ va ∷ perm ∷ rest)
 
   pub page_made_or_refused : PageMade s n va perm page_asked ⊎ PageRefused s n va perm page_asked
@@ -346,7 +346,7 @@ module _ (s : KernelState) (n va perm : ℕ) (rest : List ℕ) (live : is_live (
   made_where_0 gives = elim page_made_or_refused [
     | inl made ↦ made
     | inr none ↦
-        let told : got (Answered (negated E_NO_MEM)) ≡ got (Answered 0) = sym (ap (λ (step : Step Called). step.gives) none.step) ∙ gives in
+        let told : got (Answered (negated E_NO_MEM)) ≡ got (Answered 0) = sym (ap (λ (step : CallStep Called). step.gives) none.step) ∙ gives in
         absurd (different told)
   ]
     where
@@ -357,5 +357,5 @@ module _ (s : KernelState) (n va perm : ℕ) (rest : List ℕ) (live : is_live (
   pub made_where_not_refused : NothingRefused s page_asked.state → PageMade s n va perm page_asked
   made_where_not_refused quiet = elim page_made_or_refused [
     | inl made ↦ made
-    | inr none ↦ absurd (refusal_is_seen s (subst (λ (step : Step Called). NothingRefused s step.state) none.step quiet))
+    | inr none ↦ absurd (refusal_is_seen s (subst (λ (step : CallStep Called). NothingRefused s step.state) none.step quiet))
   ]

@@ -4,13 +4,13 @@ use Rattle.std.proofs.Common.{◌≡◌, ◌≢◌, ◌∙◌, ◌==◌, ℕ, Bo
 use Rattle.std.proofs.lemmas.Bool.Decides.{nat_tests}
 use Rattle.std.specs.Prelude.{Some}
 use Rattle.std.proofs.lemmas.Option.{none-some}
-use Rattle.jos_base.specs.Environments.{Slot as KernelSlot, free_slot}
+use Rattle.jos_base.specs.Environments.{Slot, free_slot}
 use Rattle.jos_base.specs.KernelState.{KernelState, slot_at}
 use Rattle.jos_base.specs.Reach.{Entry}
 use Rattle.jos_base.specs.SpacesState.{SpacesState, destroyed}
 use Rattle.jos_base.specs.SystemCalls.{without_environment}
-use Rattle.lib_os.specs.AbstractState.{AbstractState, Born, Slot, free, born}
-use Rattle.lib_os.specs.AbstractMemory.{ended}
+use Rattle.lib_os.specs.AbstractState.{AbstractState, Born, AbstractSlot, free, born}
+use Rattle.lib_os.specs.AbstractMemory.{slot_freed}
 use Rattle.lib_os.specs.InOrder.{IsInOrder}
 use Rattle.lib_os.specs.StandsFor.{StandsFor, StandsForSlot, Names, rows_of}
 use Rattle.lib_os.proofs.Effects.{Gone}
@@ -38,11 +38,11 @@ gone_alike names gone q ne = record {
 
 pub ended_stands : {names : Names} {s : KernelState} {a : AbstractState} → StandsFor names s a → (n : ℕ) (b : Born) →
     a.slots n ≡ born b → Gone s.spaces (destroyed s.spaces (slot_at s n).directory) (slot_at s n).directory →
-    IsInOrder (without_environment s n) → StandsFor names (without_environment s n) (ended a n b)
+    IsInOrder (without_environment s n) → StandsFor names (without_environment s n) (slot_freed a n b)
 ended_stands {names = names} {s = s} {a = a} h n b at gone in_order =
     let t : SpacesState = destroyed s.spaces (slot_at s n).directory in
     record {
-      slots = upd-both (λ m (x : KernelSlot) (y : Slot). StandsForSlot names t x y) s.environments.slots a.slots n
+      slots = upd-both (λ m (x : Slot) (y : AbstractSlot). StandsForSlot names t x y) s.environments.slots a.slots n
           (free_slot (slot_at s n).id) (free b.id) (ap (λ (id : ℕ). free_slot id) (born_at h n b at).id)
           (others_stand h n b at (gone_alike names gone));
       apart = λ q r m o x y ne hx hy same.

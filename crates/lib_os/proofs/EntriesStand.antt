@@ -8,7 +8,7 @@ use Rattle.jos_base.specs.Reach.{Entry}
 use Rattle.jos_base.specs.SpacesState.{SpacesState, put}
 use Rattle.jos_base.specs.SystemCalls.{has_write}
 use Rattle.lib_os.specs.AbstractState.{own, named}
-use Rattle.lib_os.specs.StandsFor.{Names, Rows, rows_of, page_by, page_seen, is_shared, Agree, Apart}
+use Rattle.lib_os.specs.StandsFor.{Names, Rows, rows_of, page_by, page_seen, is_shared, Agree, AgreeWhereShared}
 use Rattle.lib_os.proofs.SlotsStand.{page_alike, option_map_alike}
 use Rattle.lib_os.proofs.Puts.{put-found}
 use Rattle.jos_base.proofs.Puts.{Elsewhere, place_cases}
@@ -24,7 +24,7 @@ same_entry rows d p q r x y same too hx hy =
     same_Some x y (sym hx ∙ ap (λ (n : ℕ). rows n p) same ∙ ap (λ (n : ℕ). rows q n) too ∙ hy)
 
 -- Two entries of one frame say the same of sharing.
-pub same_sharing : (rows : Rows) → Apart rows → (d p q r : ℕ) (x y : Entry) → rows d p ≡ Some x → rows q r ≡ Some y →
+pub same_sharing : (rows : Rows) → AgreeWhereShared rows → (d p q r : ℕ) (x y : Entry) → rows d p ≡ Some x → rows q r ≡ Some y →
     x.frame ≡ y.frame → is_shared x.perm ≡ is_shared y.perm
 same_sharing rows apart d p q r x y hx hy same = by_case (place_cases d p q r)
   where
@@ -33,14 +33,14 @@ same_sharing rows apart d p q r x y hx hy same = by_case (place_cases d p q r)
     by_case (inr ne) = (apart d p q r x y ne hx hy same).shared
 
 -- No page of one's own elsewhere is one that may be written here.
-pub other_frame : (rows : Rows) → Apart rows → (d p q r : ℕ) (x e : Entry) → Elsewhere q r d p → rows d p ≡ Some e →
+pub other_frame : (rows : Rows) → AgreeWhereShared rows → (d p q r : ℕ) (x e : Entry) → Elsewhere q r d p → rows d p ≡ Some e →
     has_write e.perm ≡ true → rows q r ≡ Some x → is_shared x.perm ≡ false → x.frame ≢ e.frame
 other_frame rows apart d p q r x e ne he writes hx own_page same =
     let contradiction : true ≡ false = sym writes ∙ ((apart q r d p x e ne hx he same).read_only own_page).1 in cc
 
-pub apart_put : (rows : Rows) (d p : ℕ) (v : Option Entry) → Apart rows →
+pub apart_put : (rows : Rows) (d p : ℕ) (v : Option Entry) → AgreeWhereShared rows →
     ((q r : ℕ) (x e : Entry) → Elsewhere q r d p → rows q r ≡ Some x → v ≡ Some e → x.frame ≡ e.frame → Agree x.perm e.perm) →
-    Apart (put rows d p v)
+    AgreeWhereShared (put rows d p v)
 apart_put rows d p v apart agree q r m o x y ne hx hy same = by_case (put-found rows d p v q r x hx) (put-found rows d p v m o y hy)
   where
     by_case : ((q ≡ d) × (r ≡ p) × (v ≡ Some x)) ⊎ ((e : Elsewhere q r d p) × (rows q r ≡ Some x)) →

@@ -9,7 +9,7 @@ use Rattle.jos_base.specs.declared.memory.Access.TheVariants.{Read}
 use Rattle.jos_base.specs.declared.memory.PageFault.{PageFault}
 use Rattle.jos_base.specs.declared.numbers.TheConstants.{NPTENTRIES}
 use Rattle.jos_base.specs.Counting.{page_limit}
-use Rattle.jos_base.specs.Reach.{Entry, Location}
+use Rattle.jos_base.specs.Reach.{Entry, FrameOffset}
 use Rattle.jos_base.specs.SpacesState.{Region, SpacesState, taken, fresh_of, fresh_from, frame_of, with_entry}
 use Rattle.jos_base.specs.SpacesState.{mapped, tabled_new}
 use Rattle.jos_base.specs.SpacesState.{tabled_by, tabled, inserted, allocated_in, allocated, without_entry, unmapped}
@@ -106,7 +106,7 @@ pub touched_frames : (s : SpacesState) (space va : ℕ) (access : Access) → (t
 unfolding touched
 touched_frames s space va access = by_reach (reach_in s space va access)
   where
-    by_reach : (reached : Result Location PageFault) → (touched_by s space va access reached).frames ≡ s.frames
+    by_reach : (reached : Result FrameOffset PageFault) → (touched_by s space va access reached).frames ≡ s.frames
     by_reach (Ok location) =
         let page = page_number va in
         by_test s (with_page_bits s space page access) (with_window_bits s space page) (nat_lt page page_limit) refl

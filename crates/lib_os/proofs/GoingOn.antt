@@ -4,7 +4,7 @@ use Rattle.std.proofs.Common.{◌≡◌, ◌∙◌, ◌<◌, ℕ, true, false, L
 use Rattle.jos_base.specs.declared.called.Called.{Called}
 use Rattle.jos_base.specs.declared.environment.Status.TheVariants.{Runnable}
 use Rattle.jos_base.specs.declared.registers.Regs.{Regs}
-use Rattle.jos_base.specs.Environments.{Slot as KernelSlot, is_runnable}
+use Rattle.jos_base.specs.Environments.{Slot, is_runnable}
 use Rattle.jos_base.specs.KernelState.{KernelState, slot_at, with_extra, with_status}
 use Rattle.jos_host.specs.declared.host.Failed.{Failed}
 use Rattle.lib_os.specs.declared.place.Place.{Place}
@@ -19,7 +19,7 @@ use Rattle.lib_os.specs.LibrarySteps.{IsLibraryStep, Lowers, GivesUp, NothingRef
 use Rattle.lib_os.specs.Places.{place_of, words_at}
 use Rattle.lib_os.specs.Services.{service_of}
 use Rattle.lib_os.specs.StandsFor.{StandsFor, Names, rows_of, StandsForBorn, StandsAt, StandsAtStep, IsIn}
-use Rattle.lib_os.specs.UserCalls.{Step as Call, IsCallStep, Output, Prints}
+use Rattle.lib_os.specs.UserCalls.{CallStep, IsCallStep, Output, Prints}
 use Rattle.lib_os.proofs.Numbered.{number_of, named_at}
 use Rattle.lib_os.proofs.StatesStand.{slot_replaced}
 use Rattle.lib_os.proofs.WordsTell.{place_at}
@@ -32,7 +32,7 @@ pub place_set : (s : KernelState) (n number : ℕ) (service : Service) (at : Ste
     service_of (record (slot_at s n).registers { eax = number }) ≡ service →
     place_of (slot_at (with_extra s n (words_at number at)) n) ≡ place.InService service at
 place_set s n number service at is =
-    ap (λ (k : KernelSlot). place_of k) (upd-at s.environments.slots n (record (slot_at s n) { extra = words_at number at }))
+    ap (λ (k : Slot). place_of k) (upd-at s.environments.slots n (record (slot_at s n) { extra = words_at number at }))
     ∙ place_at (slot_at s n).registers number at
     ∙ ap (λ (x : Service). place.InService x at) is
 
@@ -50,7 +50,7 @@ went_to s mid after n m p service from to was kept same too state =
 -- ---- words
 
 -- an environment whose words alone are others is in its service as before
-pub in_with_words : {k : KernelSlot} {b : Born} {service : Service} {stage : Stage} (words : List ℕ) → IsIn k b service stage →
+pub in_with_words : {k : Slot} {b : Born} {service : Service} {stage : Stage} (words : List ℕ) → IsIn k b service stage →
     IsIn (record k { extra = words }) b service stage
 in_with_words words h = record { program = h.program; phase = h.phase; silent = h.silent; awake = h.awake }
 
@@ -60,7 +60,7 @@ pub words_stand : {names : Names} {s : KernelState} {a : AbstractState} → Stan
     StandsAtStep (rows_of s.spaces (slot_at s n).directory) (record (slot_at s n) { extra = words_at number at }) b service at →
     StandsFor names (with_extra s n (words_at number at)) a
 words_stand {s = s} h n number b is own service at names_it so =
-    let k : KernelSlot = record (slot_at s n) { extra = words_at number at } in
+    let k : Slot = record (slot_at s n) { extra = words_at number at } in
     let there : place_of k ≡ place.InService service at =
     place_at (slot_at s n).registers number at ∙ ap (λ (x : Service). place.InService x at) names_it in
     slot_replaced h n b is k refl (record { id = refl; env_type = refl; calm = λ runs. runs }) (record {
@@ -85,7 +85,7 @@ pub hidden : (s after : KernelState) (n : ℕ) (output : Output) → Prints outp
 hidden s after n output gains goes = ([], gains, λ a h quiet. (refl, (h.0, goes h.0 a h.1 quiet)))
 
 -- no state in which the environment is there stands for an abstract one
-pub never : (s mid after : KernelState) (n : ℕ) (call : Call Called) (called : Called) (output : Output) (p : Progress) →
+pub never : (s mid after : KernelState) (n : ℕ) (call : CallStep Called) (called : Called) (output : Output) (p : Progress) →
     IsCallStep call (Ok called) mid output → ((names : Names) (a : AbstractState) → StandsFor names s a → ⊥) →
     IsLibraryStep (Ok p) n s after output
 never s mid after n call called output p is none = (call.written, is.2, λ a h quiet. absurd (none h.0 a h.1))
@@ -110,12 +110,12 @@ gave_up s mid after n m p words yielded same too state = λ pausing. (refl, ran)
     ran =
         (λ i. is_runnable (slot_at (state i) (too i)).status)
         ∙ (λ i. is_runnable (slot_at (with_extra (yielded i) (same i) words) (same i)).status)
-        ∙ ap (λ (k : KernelSlot). is_runnable k.status)
+        ∙ ap (λ (k : Slot). is_runnable k.status)
         (upd-at (with_status s n Runnable).environments.slots n (record (slot_at (with_status s n Runnable) n) { extra = words }))
-        ∙ ap (λ (k : KernelSlot). is_runnable k.status) (upd-at s.environments.slots n (record (slot_at s n) { status = Runnable }))
+        ∙ ap (λ (k : Slot). is_runnable k.status) (upd-at s.environments.slots n (record (slot_at s n) { status = Runnable }))
 
 -- one that is not about to give up its turn need not
-pub gives_nothing_up : (result : Result Progress Failed) (before after : KernelSlot) → is_pausing (place_of before) ≡ false →
+pub gives_nothing_up : (result : Result Progress Failed) (before after : Slot) → is_pausing (place_of before) ≡ false →
     GivesUp result before after
 gives_nothing_up (Ok p) before after not_pausing = λ pausing. absurd (let contradiction : true ≡ false = sym pausing ∙ not_pausing in cc)
 gives_nothing_up (Err e) before after not_pausing = tt

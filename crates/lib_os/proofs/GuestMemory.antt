@@ -8,7 +8,7 @@ use Rattle.jos_base.specs.Words.{page_number, page_offset, upd}
 use Rattle.jos_cpu.specs.declared.memory.MemFault.TheVariants as fault
 use Rattle.jos_cpu.specs.Memory.{IsLawful}
 use Rattle.jos_cpu.specs.MemoryProofs.{set_or_same}
-use Rattle.lib_os.specs.AbstractState.{AbstractState, Born, Page, own, named, Slot, free, unborn, born, serving}
+use Rattle.lib_os.specs.AbstractState.{AbstractState, Born, Page, own, named, AbstractSlot, free, unborn, born, serving}
 use Rattle.lib_os.specs.AbstractMemory.{page_allows, page_fault, byte_in, stored_in}
 use Rattle.lib_os.specs.Fence.{is_inside}
 use Rattle.lib_os.specs.GuestStep.{guest_memory, guest_byte, guest_allows, guest_fault, guest_stored, born_in}
@@ -100,7 +100,7 @@ module _ (n va byte : ℕ) where
       by_page b (Some (own bytes w)) e p = rw (upd-at a.slots n (born (own_after a n va byte b bytes w))) (alike b bytes w p)
       by_page b (Some (named name w)) e p = rw e refl
 
-      by_slot : (slot : Slot) → a.slots n ≡ slot →
+      by_slot : (slot : AbstractSlot) → a.slots n ≡ slot →
           seen (born_in ((guest_stored a n (born_in slot) va byte).slots n)) ≡ seen (born_in slot)
       by_slot (free id) e = rw e refl
       by_slot (unborn id parent) e = rw e refl
@@ -129,7 +129,7 @@ module _ (n va byte : ℕ) where
       by_page b (Some (own bytes w)) e p = rw (upd-at a.slots n (born (own_after a n va byte b bytes w))) (byte_own a n va byte b bytes w p q)
       by_page b (Some (named name w)) e p = rw e (byte_named a n va byte b name (b.memory (page_number q)) q)
 
-      by_slot : (slot : Slot) → a.slots n ≡ slot →
+      by_slot : (slot : AbstractSlot) → a.slots n ≡ slot →
           (guest_byte (guest_stored a n (born_in slot) va byte) (born_in ((guest_stored a n (born_in slot) va byte).slots n)) q ≡ guest_byte a (born_in slot) q)
           ⊎ (guest_byte (guest_stored a n (born_in slot) va byte) (born_in ((guest_stored a n (born_in slot) va byte).slots n)) q ≡ byte)
       by_slot (free id) e = rw e (inl refl)

@@ -23,7 +23,7 @@ use Rattle.jos_base.specs.Environments.{Slot, is_live, is_runnable, is_running, 
 use Rattle.jos_base.specs.KernelState.{KernelState, slot_at, with_slot_at, with_spaces, with_registers, with_status}
 use Rattle.jos_base.specs.KernelState.{with_rendezvous, with_upcall, with_refusal}
 use Rattle.jos_base.specs.Messages.{Rendezvous, accepts, delivered, wanting}
-use Rattle.jos_base.specs.Reach.{Entry, Location}
+use Rattle.jos_base.specs.Reach.{Entry, FrameOffset}
 use Rattle.jos_base.specs.SpacesState.{SpacesState, allocated, overlaid, unmapped, with_page_bytes}
 use Rattle.jos_base.specs.SystemCalls.{Did, answered as told, refused, without_environment, killed, user_bytes}
 use Rattle.jos_base.specs.SystemCalls.{with_bytes_reached, cputs_of, cputs}
@@ -306,7 +306,7 @@ module _ (P : Type 0) (s : KernelState) (n : ℕ) where
 
   -- ---- a load
 
-  entered_left : (fault : PageFault) (place : ℕ) (reached : Result Location PageFault) →
+  entered_left : (fault : PageFault) (place : ℕ) (reached : Result FrameOffset PageFault) →
       IfSome (handler_entered s n fault place reached) (Left P s n)
   entered_left fault place (Err refusal) = tt
   entered_left fault place (Ok at) =
@@ -339,7 +339,7 @@ module _ (P : Type 0) (s : KernelState) (n : ℕ) where
       by_fault fault (Some after) h = h
       by_fault fault None h = killed_left (UserFault fault.va (slot_at s n).registers.eip)
 
-      by_reach : (reached : Result Location PageFault) →
+      by_reach : (reached : Result FrameOffset PageFault) →
           Left P s n (accessing s n va Read (λ after. giving after (user_word after n va)) reached).state
       by_reach (Ok location) = spaces_left _ (touched_frames s.spaces (slot_at s n).directory va Read)
       by_reach (Err fault) = by_fault fault (handled s n fault) (handled_left fault)

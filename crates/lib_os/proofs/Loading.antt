@@ -4,7 +4,7 @@ use Rattle.jos_base.specs.declared.memory.Access.TheVariants.{Read}
 use Rattle.jos_base.specs.declared.memory.PageFault.{PageFault}
 use Rattle.jos_base.specs.Environments.{is_live}
 use Rattle.jos_base.specs.KernelState.{KernelState, slot_at, with_spaces}
-use Rattle.jos_base.specs.Reach.{Location}
+use Rattle.jos_base.specs.Reach.{FrameOffset}
 use Rattle.jos_base.specs.SystemCalls.{handled}
 use Rattle.jos_base.specs.UserMemory.{reach_in, touched}
 use Rattle.jos_host.specs.declared.host.Failed.{Failed}
@@ -18,7 +18,7 @@ use Rattle.lib_os.specs.AbstractState.{AbstractState}
 use Rattle.lib_os.specs.InOrder.{IsInOrder}
 use Rattle.lib_os.specs.LibrarySteps.{IsLibraryStep, IsStopped, Lowers}
 use Rattle.lib_os.specs.StandsFor.{StandsFor, Names}
-use Rattle.lib_os.specs.UserCalls.{Step, Got, got, to_handler, gone, giving, accessing, faulting, user_word, load, IsStep, HasStopCause, Output, Prints}
+use Rattle.lib_os.specs.UserCalls.{CallStep, Got, got, to_handler, gone, giving, accessing, faulting, user_word, load, IsStep, HasStopCause, Output, Prints}
 use Rattle.lib_os.proofs.StatesStand.{quiet_stands}
 use Rattle.lib_os.proofs.Touching.{touched_quiet}
 use Rattle.lib_os.proofs.WindowWords.{read_at}
@@ -36,7 +36,7 @@ load_got s n va word is = by_reach (reach_in s.spaces (slot_at s n).directory va
     by_handler fault (Some after) e = absurd (let contradiction : to_handler ≡ got word = e in cc)
     by_handler fault None e = absurd (let contradiction : gone ≡ got word = e in cc)
 
-    by_reach : (r : Result Location PageFault) →
+    by_reach : (r : Result FrameOffset PageFault) →
         (accessing s n va Read (λ after. giving after (user_word after n va)) r).gives ≡ got word →
         ((accessing s n va Read (λ after. giving after (user_word after n va)) r).state ≡ loaded s n va)
         × ((accessing s n va Read (λ after. giving after (user_word after n va)) r).written ≡ [])
@@ -62,7 +62,7 @@ module _ (s mid : KernelState) (n va word : ℕ) (output : Output) (call : IsSte
 
   pub loaded_word : (w : ℕ) → load s n va ≡ read_at s n va w → word ≡ w
   loaded_word w is =
-      let same : got w ≡ got word = sym (ap (λ (z : Step ℕ). z.gives) is) ∙ call.0 in
+      let same : got w ≡ got word = sym (ap (λ (z : CallStep ℕ). z.gives) is) ∙ call.0 in
       let it : ◌≡◌ {A = ℕ} word w = cc in it
 
 -- ---- a load in vain
@@ -85,21 +85,21 @@ stopped_step s mid n va stop.Failed (Err failed) output gives call is = (
   (load s n va).written,
   call.1,
   λ a h. let w = gives h.0 a h.1 in
-      absurd ((not_got w.word (load s n va).gives (ap (λ (z : Step ℕ). z.gives) w.is)).1 call.0),
+      absurd ((not_got w.word (load s n va).gives (ap (λ (z : CallStep ℕ). z.gives) w.is)).1 call.0),
 )
 stopped_step s mid n va stop.Failed (Ok p) output gives call is = absurd is
 stopped_step s mid n va stop.Upcall (Ok p) output gives call is = (
   (load s n va).written,
   call.2,
   λ a h quiet. let w = gives h.0 a h.1 in
-      absurd ((not_got w.word (load s n va).gives (ap (λ (z : Step ℕ). z.gives) w.is)).0 call.0),
+      absurd ((not_got w.word (load s n va).gives (ap (λ (z : CallStep ℕ). z.gives) w.is)).0 call.0),
 )
 stopped_step s mid n va stop.Upcall (Err failed) output gives call is = absurd is
 stopped_step s mid n va stop.Ended (Ok p) output gives call is = (
   (load s n va).written,
   call.2,
   λ a h quiet. let w = gives h.0 a h.1 in
-      absurd ((not_got w.word (load s n va).gives (ap (λ (z : Step ℕ). z.gives) w.is)).1 call.0),
+      absurd ((not_got w.word (load s n va).gives (ap (λ (z : CallStep ℕ). z.gives) w.is)).1 call.0),
 )
 stopped_step s mid n va stop.Ended (Err failed) output gives call is = absurd is
 

@@ -8,7 +8,7 @@ use Rattle.std.proofs.lemmas.Nat.{and_le_r}
 use Rattle.jos_base.specs.declared.environment.Status.TheVariants.{NotRunnable}
 use Rattle.jos_base.specs.declared.numbers.TheConstants.{E_INVAL, PTE_SYSCALL}
 use Rattle.jos_base.specs.declared.registers.Regs.{Regs}
-use Rattle.jos_base.specs.Environments.{Slot as KernelSlot}
+use Rattle.jos_base.specs.Environments.{Slot}
 use Rattle.jos_base.specs.KernelState.{KernelState, slot_at, with_slot_at, with_spaces}
 use Rattle.jos_base.specs.Messages.{wanting}
 use Rattle.jos_base.specs.Reach.{Entry}
@@ -22,13 +22,13 @@ use Rattle.lib_os.specs.declared.service.Service.{Service}
 use Rattle.lib_os.specs.declared.service.Service.TheVariants as service
 use Rattle.lib_os.specs.AbstractState.{AbstractState, Born, Page, own, named, born, Message, in_service, entered, receiving, received, with_born, slot_id}
 use Rattle.lib_os.specs.AbstractMemory.{page_at, with_page}
-use Rattle.lib_os.specs.AbstractMessages.{receive, received_answer, is_page_or_none, server_id, with_sent, woken, kind_of}
+use Rattle.lib_os.specs.AbstractMessages.{receive, received_answer, is_page_or_none, server_id, with_sent, woken, page_kind}
 use Rattle.lib_os.specs.AbstractRun.{abs_step}
 use Rattle.lib_os.specs.Answers.{refused, back_with}
 use Rattle.lib_os.specs.InOrder.{IsInOrder}
 use Rattle.lib_os.specs.LibraryCall.{library_step}
 use Rattle.lib_os.specs.LibrarySteps.{gone_back}
-use Rattle.lib_os.specs.Places.{place_in, place_of, words_at}
+use Rattle.lib_os.specs.Places.{place_in_words, place_of, words_at}
 use Rattle.lib_os.specs.Services.{service_of}
 use Rattle.lib_os.specs.StandsFor.{StandsFor, Names, rows_of, page_by, is_shared, StandsForBorn, StandsAt}
 use Rattle.lib_os.specs.StandsFor.{IsAboutToWait, destination_of, IsReceiving, kind_by, HasReceived, waits, has}
@@ -63,19 +63,19 @@ receive_is a n b regs va from page other server_not =
     by_tests true false true page_is own_is server_is = absurd cc
 
 -- the slot of one that begins to wait
-abbrev pub waiting_in_slot : KernelSlot → ℕ → ℕ → ℕ → KernelSlot
+abbrev pub waiting_in_slot : Slot → ℕ → ℕ → ℕ → Slot
 waiting_in_slot k va from id = record k {
   rendezvous = wanting k.rendezvous (destination_of va) from;
   status = NotRunnable;
   extra = words_at 9 (step.ReadingValue id);
 }
 
-waiting_own : {names : Names} {s : SpacesState} {k : KernelSlot} {b : Born} (va from id : ℕ) → StandsForBorn names s k b →
+waiting_own : {names : Names} {s : SpacesState} {k : Slot} {b : Born} (va from id : ℕ) → StandsForBorn names s k b →
     IsAboutToWait k b va from id → service_of (record k.registers { eax = 9 }) ≡ service.Receive va from →
     StandsForBorn names s (waiting_in_slot k va from id)
     (record b { phase = in_service (service.Receive va from) receiving; blocked = true })
 waiting_own {s = s} {k = k} {b = b} va from id own_part about names_it =
-    let j : KernelSlot = waiting_in_slot k va from id in
+    let j : Slot = waiting_in_slot k va from id in
     let c : Born = record b { phase = in_service (service.Receive va from) receiving; blocked = true } in
     let at : place_of j ≡ place.InService (service.Receive va from) (step.ReadingValue id) =
     place_at k.registers 9 (step.ReadingValue id) ∙ ap (λ (x : Service). place.InService x (step.ReadingValue id)) names_it in
@@ -121,7 +121,7 @@ waits_stand {names = names} {s = s} {a = a} h n b is va from id about names_it =
     (stopped_settles (slot_at s n) (waiting_in_slot (slot_at s n) va from id) refl refl refl) (waiting_own va from id (born_at h n b is) about names_it))
 
 -- its step
-pub receive_step : (a : AbstractState) (n : ℕ) (b : Born) (k : KernelSlot) (va from id : ℕ) → a.slots n ≡ born b →
+pub receive_step : (a : AbstractState) (n : ℕ) (b : Born) (k : Slot) (va from id : ℕ) → a.slots n ≡ born b →
     IsAboutToWait k b va from id → abs_step a n ≡ Some (receive a n b k.registers va from)
 unfolding library_step
 receive_step a n b k va from id is about = step_in a n b k (service.Receive va from) entered is about.is_in
@@ -129,16 +129,16 @@ receive_step a n b k va from id is about = step_in a n b k (service.Receive va f
 -- ---- a message comes
 
 -- where the receiver's slot stands after
-told_at : (k : KernelSlot) (id value perm : ℕ) → place_of (received_in k id value perm) ≡ place_of k
-unfolding place_in
+told_at : (k : Slot) (id value perm : ℕ) → place_of (received_in k id value perm) ≡ place_of k
+unfolding place_in_words
 told_at k id value perm = refl
 
-told_own : {names : Names} {s : SpacesState} {k : KernelSlot} {c d : Born} (sender : ℕ) (taken : IsTaken k c sender) →
+told_own : {names : Names} {s : SpacesState} {k : Slot} {c d : Born} (sender : ℕ) (taken : IsTaken k c sender) →
     (id value perm kind : ℕ) → StandsForBorn names s k d → d.program ≡ c.program → d.phase ≡ c.phase → d.blocked ≡ c.blocked →
     id ≡ sender → id < 2 ^ 32 → value < 2 ^ 32 → perm < 4096 → kind_by perm ≡ kind →
     StandsForBorn names s (received_in k id value perm) (woken c taken.w sender value (d, kind))
 told_own {s = s} {k = k} {c = c} {d = d} sender taken id value perm kind own_part program phase blocked sender_is id_small value_small perm_small kind_is =
-    let j : KernelSlot = received_in k id value perm in
+    let j : Slot = received_in k id value perm in
     let after : Born = woken c taken.w sender value (d, kind) in
     let message : Message = record { sender = sender; value = value; page = kind } in
     let came : HasReceived j after taken.w.va taken.w.from = record {
@@ -193,13 +193,13 @@ module _ {names : Names} {s : KernelState} {a : AbstractState} (h : StandsFor na
     where
       by_page : (page : Option Page) → with_sent c taken.w va b.id page ≡ (c, 0)
       by_page None = refl
-      by_page (Some page) = ap (λ (x : Bool). if x then (c, 0) else (with_page c taken.w.va page, kind_of page)) none
+      by_page (Some page) = ap (λ (x : Bool). if x then (c, 0) else (with_page c taken.w.va page, page_kind page)) none
 
 -- ---- a page comes with it
 
 -- what is told of a page is what its entry's bits are told as
 kind_alike : (names : Names) (bytes : ℕ → List ℕ) (x : Entry) → is_page_perm x.perm ≡ true →
-    kind_by x.perm ≡ kind_of (page_by names bytes x)
+    kind_by x.perm ≡ page_kind (page_by names bytes x)
 kind_alike names bytes x user =
     let some : (x.perm == 0) ≡ false = by_perm (x.perm == 0) refl in
     ap (λ (c : Bool). if c then 0 else if has_write x.perm then 2 else 1) some ∙ by_sharing (is_shared x.perm)
@@ -214,7 +214,7 @@ kind_alike names bytes x user =
         absurd (never (subst (λ (p : ℕ). is_page_perm p ≡ true) zero_is user))
 
     by_sharing : (c : Bool) → (if has_write x.perm then 2 else 1)
-        ≡ kind_of (if c then named (names.name x.frame) (has_write x.perm) else own (bytes x.frame) (has_write x.perm))
+        ≡ page_kind (if c then named (names.name x.frame) (has_write x.perm) else own (bytes x.frame) (has_write x.perm))
     by_sharing true = refl
     by_sharing false = refl
 
@@ -256,23 +256,23 @@ module _ {names : Names} {s : KernelState} {a : AbstractState} {sp : SpacesState
   put_there = upd-at a.slots t (born with_it)
 
   told : StandsFor names (with_message (with_spaces s sp) n t value x.perm)
-      (with_born (with_born a t with_it) t (woken c taken.w b.id value (with_it, kind_of page)))
+      (with_born (with_born a t with_it) t (woken c taken.w b.id value (with_it, page_kind page)))
   told =
       slot_changed placed t with_it put_there (received_in (slot_at s t) (slot_at s n).id value x.perm)
-      (woken c taken.w b.id value (with_it, kind_of page)) refl
+      (woken c taken.w b.id value (with_it, page_kind page)) refl
       (stopped_settles (slot_at s t) (received_in (slot_at s t) (slot_at s n).id value x.perm) refl refl refl)
-      (told_own b.id taken (slot_at s n).id value x.perm (kind_of page) (born_at placed t with_it put_there) refl refl refl
+      (told_own b.id taken (slot_at s n).id value x.perm (page_kind page) (born_at placed t with_it put_there) refl refl refl
       (born_at h n b at).id (born_at h n b at).id_small small (perm_small x.perm user) (kind_alike names s.spaces.pages x user))
     where
       user : is_page_perm x.perm ≡ true
       user = h.users (slot_at s n).directory (page_number va) x hx
 
-  sent_page : with_sent c taken.w va b.id (page_at b va) ≡ (with_it, kind_of page)
+  sent_page : with_sent c taken.w va b.id (page_at b va) ≡ (with_it, page_kind page)
   sent_page =
       let first : (va == 0) ≡ false = grind (arith, nat_tests) in
       let second : (taken.w.va == 0) ≡ false = grind (arith, nat_tests) in
       ap (λ (o : Option Page). with_sent c taken.w va b.id o) page_is
-      ∙ (λ i. if first i || second i then (c, 0) else (with_it, kind_of page))
+      ∙ (λ i. if first i || second i then (c, 0) else (with_it, page_kind page))
 
   pub page_stands : StandsFor names (with_message (with_spaces s sp) n t value x.perm)
       (with_born a t (woken c taken.w b.id value (with_sent c taken.w va b.id (page_at b va))))
@@ -281,7 +281,7 @@ module _ {names : Names} {s : KernelState} {a : AbstractState} {sp : SpacesState
       (with_born a t (woken c taken.w b.id value given_it)))
       (sym sent_page)
       (subst (λ (y : AbstractState). StandsFor names (with_message (with_spaces s sp) n t value x.perm) y)
-      (λ i. record a { slots = upd-twice a.slots t (born with_it) (born (woken c taken.w b.id value (with_it, kind_of page))) i })
+      (λ i. record a { slots = upd-twice a.slots t (born with_it) (born (woken c taken.w b.id value (with_it, page_kind page))) i })
       told)
 
 -- ---- what came is answered

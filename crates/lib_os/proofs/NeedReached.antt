@@ -7,12 +7,12 @@ use Rattle.std.specs.List.{Contains}
 use Rattle.std.specs.Option.{option_map}
 use Rattle.jos_base.specs.declared.numbers.TheConstants.{FIRST_ENV_ID, NENV}
 use Rattle.jos_base.specs.Counting.{total, page_limit}
-use Rattle.jos_base.specs.Environments.{Slot as KernelSlot, bit_of, free_slot, is_live}
+use Rattle.jos_base.specs.Environments.{Slot, bit_of, free_slot, is_live}
 use Rattle.jos_base.specs.KernelState.{KernelState, slot_at}
 use Rattle.jos_base.specs.Reach.{Entry}
 use Rattle.jos_base.specs.SpacesState.{SpacesState, Region, directory, is_directory, region_limit, reserved_frames}
 use Rattle.jos_base.specs.SystemCalls.{has_write}
-use Rattle.lib_os.specs.AbstractState.{AbstractState, Born, Page, own, named, Slot, free, unborn, born, serving}
+use Rattle.lib_os.specs.AbstractState.{AbstractState, Born, Page, own, named, AbstractSlot, free, unborn, born, serving}
 use Rattle.lib_os.specs.Need.{NeedIsReached, HasUse, in_list, in_entry, as_directory, as_table, EachHasUse, pool_of, need}
 use Rattle.lib_os.specs.Need.{slot_need, born_need}
 use Rattle.lib_os.specs.Need.{server_need, count_below, is_own, is_library_region, someone, born_passes, has_page_of, is_page_of}
@@ -39,13 +39,13 @@ abbrev head_of : List ℕ → Option ℕ
 head_of [] = None
 head_of (f ∷ rest) = Some f
 
-abbrev directory_of : KernelSlot → Option ℕ
+abbrev directory_of : Slot → Option ℕ
 directory_of k = where_so (is_live k) (Some k.directory)
 
-abbrev table_of : SpacesState → KernelSlot → ℕ → Option ℕ
+abbrev table_of : SpacesState → Slot → ℕ → Option ℕ
 table_of s k r = where_so (is_live k) (option_map (λ (x : Region). x.table) (s.regions k.directory r))
 
-abbrev page_of : SpacesState → KernelSlot → ℕ → Option ℕ
+abbrev page_of : SpacesState → Slot → ℕ → Option ℕ
 page_of s k p = where_so (is_live k) (own_frame (rows_of s k.directory p))
 
 abbrev named_frame : Names → AbstractState → ℕ → Option ℕ
@@ -79,7 +79,7 @@ so_of_page names bytes true (Some e) = by_test (is_shared e.perm)
     by_test true = omega arith
     by_test false = omega arith
 
-abbrev slot_frames : SpacesState → KernelSlot → ℕ
+abbrev slot_frames : SpacesState → Slot → ℕ
 slot_frames s k = bit_of (is_some (directory_of k)) + (filled region_limit (table_of s k) + filled page_limit (page_of s k))
 
 -- a slot that is not live has none
@@ -89,7 +89,7 @@ free_frames s id =
     let pages = total-none page_limit (λ p. bit_of (is_some (page_of s (free_slot id) p))) (λ q lt. refl) in
     omega (arith, tables, pages)
 
-born_frames : (names : Names) (s : SpacesState) (k : KernelSlot) (b : Born) → StandsForBorn names s k b →
+born_frames : (names : Names) (s : SpacesState) (k : Slot) (b : Born) → StandsForBorn names s k b →
     slot_frames s k ≤ born_need b
 born_frames names s k b h =
     let one = bit_small (is_some (directory_of k)) in
@@ -102,7 +102,7 @@ born_frames names s k b h =
     omega (arith, one, tables, pages)
 
 -- the server wants more than it has
-server_frames : (a : AbstractState) (s : SpacesState) (k : KernelSlot) (id : ℕ) → StandsForServer s k id →
+server_frames : (a : AbstractState) (s : SpacesState) (k : Slot) (id : ℕ) → StandsForServer s k id →
     1 + slot_frames s k ≤ server_need a
 server_frames a s k id h =
     let one = bit_small (is_some (directory_of k)) in
@@ -119,7 +119,7 @@ server_frames a s k id h =
     no_page false p = refl
     no_page true p = ap (λ (o : Option Entry). bit_of (is_some (own_frame o))) (h.empty p)
 
-wanted_frames : (names : Names) (a : AbstractState) (s : SpacesState) (k : KernelSlot) (slot : Slot) →
+wanted_frames : (names : Names) (a : AbstractState) (s : SpacesState) (k : Slot) (slot : AbstractSlot) →
     StandsForSlot names s k slot →
     slot_frames s k ≤ slot_need a slot
 wanted_frames names a s k (free id) h = let none = ap (slot_frames s) h ∙ free_frames s id in omega (arith, none)
@@ -135,7 +135,7 @@ listed_first (g ∷ rest) f small (zero, lt, at) = is_at-here (Some g) f g refl 
 listed_first (g ∷ rest) f small (suc k, lt, at) = absurd (omega (arith, small, lt))
 
 module _ (names : Names) (s : KernelState) (a : AbstractState) (h : StandsFor names s a) where
-  abbrev slot : ℕ → KernelSlot
+  abbrev slot : ℕ → Slot
   slot n = slot_at s n
 
   abbrev the_row : ℕ → ℕ → Option ℕ
@@ -195,8 +195,8 @@ module _ (names : Names) (s : KernelState) (a : AbstractState) (h : StandsFor na
       (b : Born) × (a.slots n ≡ born b)
   born_here n p e live stands = by_slot (a.slots n) refl (h.slots n)
     where
-      by_slot : (y : Slot) → a.slots n ≡ y → StandsForSlot names s.spaces (slot n) y → (b : Born) × (a.slots n ≡ born b)
-      by_slot (free id) at k_is = absurd (let e : ◌≡◌ {A = Bool} false true = sym (ap (λ (k : KernelSlot). is_live k) k_is)
+      by_slot : (y : AbstractSlot) → a.slots n ≡ y → StandsForSlot names s.spaces (slot n) y → (b : Born) × (a.slots n ≡ born b)
+      by_slot (free id) at k_is = absurd (let e : ◌≡◌ {A = Bool} false true = sym (ap (λ (k : Slot). is_live k) k_is)
           ∙ live in cc)
       by_slot (unborn id parent) at k_is = absurd k_is
       by_slot (born b) at k_is = (b, at)
@@ -256,8 +256,8 @@ module _ (names : Names) (s : KernelState) (a : AbstractState) (h : StandsFor na
   slots_want =
       total-less NENV 0 1 (λ n. slot_frames s.spaces (slot n)) (λ n. slot_need a (a.slots n)) (omega arith)
       (λ n lt. wanted_frames names a s.spaces (slot n) (a.slots n) (h.slots n))
-      (subst (λ (y : Slot). 1 + slot_frames s.spaces (slot 0) ≤ slot_need a y) (sym h.first)
-      (server_frames a s.spaces (slot 0) FIRST_ENV_ID (subst (λ (y : Slot). StandsForSlot names s.spaces (slot 0) y) h.first
+      (subst (λ (y : AbstractSlot). 1 + slot_frames s.spaces (slot 0) ≤ slot_need a y) (sym h.first)
+      (server_frames a s.spaces (slot 0) FIRST_ENV_ID (subst (λ (y : AbstractSlot). StandsForSlot names s.spaces (slot 0) y) h.first
       (h.slots 0))))
 
   names_want : filled a.next_name (named_frame names a) ≤ count_below a.next_name (λ name. someone a (has_page_of name))

@@ -3,13 +3,13 @@ use Rattle.std.proofs.Common.{◌≡◌, ◌≢◌, ◌∙◌, ◌==◌, ℕ, Bo
 use Rattle.std.specs.Prelude.{◌-◌, get_or}
 use Rattle.std.proofs.lemmas.Bool.Decides.{nat_tests}
 use Rattle.jos_base.specs.declared.registers.Regs.{Regs}
-use Rattle.jos_base.specs.Environments.{Slot as KernelSlot}
+use Rattle.jos_base.specs.Environments.{Slot}
 use Rattle.lib_os.specs.declared.place.Place.{Place}
 use Rattle.lib_os.specs.declared.place.Place.TheVariants as place
 use Rattle.lib_os.specs.declared.place.Step.{Step}
 use Rattle.lib_os.specs.declared.service.Service.{Service}
 use Rattle.lib_os.specs.declared.service.Service.TheVariants as service
-use Rattle.lib_os.specs.Places.{place_in, place_of}
+use Rattle.lib_os.specs.Places.{place_in_words, place_of}
 use Rattle.lib_os.specs.Services.{is_built, service_of, named_service}
 
 -- the number of a service that is built; any other has the one that names none
@@ -59,9 +59,9 @@ abbrev service_in : Place → Service
 service_in place.Guest = service.Unknown
 service_in (place.InService s at) = s
 
-pub named_at : (k : KernelSlot) (s : Service) (at : Step) → place_of k ≡ place.InService s at →
+pub named_at : (k : Slot) (s : Service) (at : Step) → place_of k ≡ place.InService s at →
     service_of (record k.registers { eax = number_of s }) ≡ s
-unfolding place_in
+unfolding place_in_words
 named_at k s at is = by_test (get_or k.extra 0 0 == 0) refl
   where
     by_test : (t : Bool) → (get_or k.extra 0 0 == 0) ≡ t → service_of (record k.registers { eax = number_of s }) ≡ s

@@ -17,20 +17,20 @@ use Rattle.fs_layout.specs.declared.numbers.TheConstants.{FTYPE_REG}
 use Rattle.fs_layout.specs.FileActs.{stat_bytes}
 use Rattle.lib_os.specs.declared.service.Service.{Service}
 use Rattle.lib_os.specs.declared.service.Service.TheVariants as service
-use Rattle.lib_os.specs.AbstractState.{AbstractState, Born, Page, own, named, Slot, Object, file, terminal, read_end}
-use Rattle.lib_os.specs.AbstractState.{write_end, Request, act, Program, guest, shell}
+use Rattle.lib_os.specs.AbstractState.{AbstractState, Born, Page, own, named, AbstractSlot, Object, file, terminal, read_end}
+use Rattle.lib_os.specs.AbstractState.{write_end, Request, act, ProgramState, guest, shell}
 use Rattle.lib_os.specs.AbstractState.{Phase, at_guest, faulted, in_service, Stage, entered, gathering, delivering}
 use Rattle.lib_os.specs.AbstractState.{received, asked, replied, moving, Server, idle}
 use Rattle.lib_os.specs.AbstractMemory.{stored_in, page_at}
 use Rattle.lib_os.specs.GuestStep.{GuestMemory, born_in, guest_memory, guest_stored, after_event, after_writes}
 use Rattle.lib_os.specs.GuestStep.{guest_step}
-use Rattle.lib_os.specs.Answers.{stored_into, all_stored, delivered_to, put, delivered, handed_back}
+use Rattle.lib_os.specs.Answers.{stored_into, all_stored, delivered_so_far, bytes_stored, bytes_delivered, handed_back}
 use Rattle.lib_os.specs.MemoryServices.{printed, cputs, wait, page_new, page_drop}
 use Rattle.lib_os.specs.AbstractMessages.{receive}
 use Rattle.lib_os.specs.Descriptors.{close, dup_onto, dup, pipe_on, exit_by, object_of, lowest_open, lowest_free}
 use Rattle.lib_os.specs.Descriptors.{next_free}
-use Rattle.lib_os.specs.AbstractPipes.{read_over, read_from, write_pipe}
-use Rattle.lib_os.specs.FileServer.{ask_of, ask}
+use Rattle.lib_os.specs.AbstractPipes.{read_over, read_from_pipe, write_pipe}
+use Rattle.lib_os.specs.FileServer.{request_taken, ask}
 use Rattle.lib_os.specs.FileServices.{after_asking, read_terminal, read_object, read_begun, read_moving, read_step}
 use Rattle.lib_os.specs.FileServices.{write_object, write_with, write_begun, write_gathering, write_moving, write_step}
 use Rattle.lib_os.specs.FileServices.{named_request, seek_begun, seek_step, set_size_begun, set_size_step}
@@ -52,10 +52,10 @@ module _ (a : AbstractState) (n m : ℕ) (ne : m ≢ n) where
   -- ---- what the steps are made of
 
   -- something else stands in slot n
-  set_left : (slot : Slot) → upd a.slots n slot m ≡ a.slots m
+  set_left : (slot : AbstractSlot) → upd a.slots n slot m ≡ a.slots m
   set_left slot = upd-other a.slots n slot m ne
 
-  set_left_in : (x : AbstractState) (slot : Slot) → Left x → upd x.slots n slot m ≡ a.slots m
+  set_left_in : (x : AbstractState) (slot : AbstractSlot) → Left x → upd x.slots n slot m ≡ a.slots m
   set_left_in x slot h = upd-other x.slots n slot m ne ∙ h
 
   if_left : (c : Bool) (x y : AbstractState) → Left x → Left y → Left (if c then x else y)
@@ -85,13 +85,13 @@ module _ (a : AbstractState) (n m : ℕ) (ne : m ≢ n) where
 
   to_left : (x : AbstractState) (regs : Regs) (s : Service) (va answer : ℕ) (bytes : List ℕ) (o : Option Born) →
       Left x →
-      Left (delivered_to x n regs s va answer bytes o)
+      Left (delivered_so_far x n regs s va answer bytes o)
   to_left x regs s va answer bytes None h = h
   to_left x regs s va answer [] (Some b) h = set_left_in x _ h
   to_left x regs s va answer (byte ∷ rest) (Some b) h = set_left_in x _ h
 
   put_left : (regs : Regs) (s : Service) (va : ℕ) (bytes : List ℕ) (answer count : ℕ) →
-      Left (put a n regs s va bytes answer count)
+      Left (bytes_stored a n regs s va bytes answer count)
   put_left regs s va bytes answer count =
       let x = all_stored a n va (take count bytes) in
       let h : Left x = all_left a va (take count bytes) refl in
@@ -156,7 +156,7 @@ module _ (a : AbstractState) (n m : ℕ) (ne : m ≢ n) where
     module _ (s : Service) where
       -- ---- handing back
 
-      delivered_left : (va : ℕ) (bytes : List ℕ) (answer : ℕ) → Left (delivered a n b regs s va bytes answer)
+      delivered_left : (va : ℕ) (bytes : List ℕ) (answer : ℕ) → Left (bytes_delivered a n b regs s va bytes answer)
       delivered_left va bytes answer = search (if_left, set_left, put_left)
 
       handed_left : (x : AbstractState) (va : ℕ) (bytes : List ℕ) (answer : ℕ) → Left x →
@@ -169,7 +169,7 @@ module _ (a : AbstractState) (n m : ℕ) (ne : m ≢ n) where
       over_left va pipe wanted [] = search (if_some, set_left)
       over_left va pipe wanted (byte ∷ rest) = set_left _
 
-      from_left : (va pipe wanted : ℕ) (taken held : List ℕ) → LeftIf (read_from a n b regs s va pipe wanted taken held)
+      from_left : (va pipe wanted : ℕ) (taken held : List ℕ) → LeftIf (read_from_pipe a n b regs s va pipe wanted taken held)
       from_left va pipe wanted taken [] = over_left va pipe wanted taken
       from_left va pipe wanted taken (byte ∷ rest) = search (if_some, set_left, over_left)
 
@@ -179,7 +179,7 @@ module _ (a : AbstractState) (n m : ℕ) (ne : m ≢ n) where
 
       -- ---- requests
 
-      asks_left : (request : Request) (server : Server) → LeftIf (ask_of a n b s request server)
+      asks_left : (request : Request) (server : Server) → LeftIf (request_taken a n b s request server)
       asks_left request idle = set_left _
       asks_left request _ = record {}
 
@@ -391,7 +391,7 @@ module _ (a : AbstractState) (n m : ℕ) (ne : m ≢ n) where
       let h : Spares a m s.memory = (step_through (spared a m) regs start Run (record { apart = ne; kept = refl })).0 in
       writes_left a n m ne s.memory.state regs.eip s.regs s.event (born_in (s.memory.state.slots n)) h.kept
 
-  program_left : (b : Born) (program : Program) (phase : Phase) → is_about_others phase ≡ false →
+  program_left : (b : Born) (program : ProgramState) (phase : Phase) → is_about_others phase ≡ false →
       LeftIf a n m ne (program_step a n b program phase)
   program_left b (guest regs) at_guest quiet = guest_left regs
   program_left b (guest regs) (faulted va ip) quiet = set_left a n m ne _
@@ -402,5 +402,5 @@ pub steps_leave_others : StepsLeaveOthers
 unfolding abs_step
 steps_leave_others a n m b ne e quiet =
     let h : LeftIf a n m ne (program_step a n b b.program b.phase) = program_left a n m ne b b.program b.phase quiet in
-    subst (λ (slot : Slot). LeftIf a n m ne (slot_step a n slot)) (sym e)
+    subst (λ (slot : AbstractSlot). LeftIf a n m ne (slot_step a n slot)) (sym e)
     (if_some a n m ne b.blocked None _ (record {}) h)

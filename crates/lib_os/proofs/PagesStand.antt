@@ -11,12 +11,12 @@ use Rattle.jos_base.specs.Reach.{Entry}
 use Rattle.jos_base.specs.SpacesState.{SpacesState, put, zero_page}
 use Rattle.jos_base.specs.SystemCalls.{has_write, is_page_perm}
 use Rattle.jos_base.specs.Words.{page_number, upd}
-use Rattle.lib_os.specs.AbstractState.{AbstractState, Born, Page, own, named, Slot, born, with_born}
+use Rattle.lib_os.specs.AbstractState.{AbstractState, Born, Page, own, named, AbstractSlot, born, with_born}
 use Rattle.lib_os.specs.AbstractMemory.{page_at, with_page, without_page}
 use Rattle.lib_os.specs.InOrder.{IsInOrder}
 use Rattle.lib_os.specs.Places.{place_of}
 use Rattle.lib_os.specs.StandsFor.{StandsFor, StandsForSlot, StandsForBorn, Names, Rows, rows_of, page_by, page_seen, is_shared}
-use Rattle.lib_os.specs.StandsFor.{Agree, Apart, AreNamed, AreUsers, IsNamed}
+use Rattle.lib_os.specs.StandsFor.{Agree, AgreeWhereShared, AreNamed, AreUsers, IsNamed}
 use Rattle.lib_os.proofs.Effects.{Placed, Made, Given, Removed}
 use Rattle.lib_os.proofs.EntriesStand.{apart_put, all_put, same_entry, seen_at, seen_own, seen_named, seen_by}
 use Rattle.lib_os.proofs.SlotsStand.{SeenAlike, minds_page, sends_unminded, tables_unminded, page_alike, page_put, born_at}
@@ -46,8 +46,8 @@ pub puts_stand : {names after : Names} {s : KernelState} {a : AbstractState} {sp
     (with_born (record a { shared = shared; next_name = next }) n (record b { memory = upd b.memory p page; regions = regions }))
 puts_stand {names = names} {after = after} {s = s} {a = a} {sp = sp} {p = p} {v = v} h n b at puts page here regions tables shared next
     are_named unminded in_order = record {
-      slots = upd-all (λ m (y : Slot). StandsForSlot after sp (slot_at s m) y) a.slots n changed mine (others_stand h n b at others);
-      apart = subst (λ (rows : Rows). Apart rows) (sym puts.rows) (apart_put (rows_of s.spaces) d p v h.apart puts.agree);
+      slots = upd-all (λ m (y : AbstractSlot). StandsForSlot after sp (slot_at s m) y) a.slots n changed mine (others_stand h n b at others);
+      apart = subst (λ (rows : Rows). AgreeWhereShared rows) (sym puts.rows) (apart_put (rows_of s.spaces) d p v h.apart puts.agree);
       named = are_named;
       users = subst (λ (rows : Rows). AreUsers rows) (sym puts.rows)
           (all_put (rows_of s.spaces) d p v (λ x. is_page_perm x.perm ≡ true) (λ q r x ne hx. h.users q r x hx) puts.user);
@@ -64,7 +64,7 @@ puts_stand {names = names} {after = after} {s = s} {a = a} {sp = sp} {p = p} {v 
     d : ℕ
     d = (slot_at s n).directory
 
-    changed : Slot
+    changed : AbstractSlot
     changed = born (record b { memory = upd b.memory p page; regions = regions })
 
     row_kept : (q r : ℕ) → Elsewhere q r d p → rows_of sp q r ≡ rows_of s.spaces q r

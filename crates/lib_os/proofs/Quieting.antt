@@ -4,7 +4,7 @@ use Rattle.jos_base.specs.declared.called.Called.{Called}
 use Rattle.jos_base.specs.declared.called.Called.TheVariants.{Answered}
 use Rattle.jos_base.specs.declared.environment.Status.TheVariants.{Runnable}
 use Rattle.jos_base.specs.declared.numbers.TheConstants.{SYS_GETENVID, SYS_YIELD}
-use Rattle.jos_base.specs.Environments.{Slot as KernelSlot, is_live}
+use Rattle.jos_base.specs.Environments.{Slot, is_live}
 use Rattle.jos_base.specs.KernelState.{KernelState, slot_at, with_status}
 use Rattle.lib_os.specs.UserCalls.{IsCallStep, answer_of, system, Output, Prints}
 use Rattle.lib_os.proofs.Calls.{comes_to, getenvid_is, yield_is}
@@ -51,7 +51,7 @@ module _ (s : KernelState) (n : ℕ) (args : List ℕ) (live : is_live (slot_at 
     ran = (λ i. slot_at (turn_given i) n) ∙ upd-at s.environments.slots n (record (slot_at s n) { status = Runnable })
 
     pub yielder_lives : (m : ℕ) → m ≡ n → is_live (slot_at mid m) ≡ true
-    yielder_lives m same = (λ i. is_live (slot_at mid (same i))) ∙ ap (λ (k : KernelSlot). is_live k) ran
+    yielder_lives m same = (λ i. is_live (slot_at mid (same i))) ∙ ap (λ (k : Slot). is_live k) ran
 
     pub yielder_keeps : (slot_at mid n).registers ≡ (slot_at s n).registers
-    yielder_keeps = ap (λ (k : KernelSlot). k.registers) ran
+    yielder_keeps = ap (λ (k : Slot). k.registers) ran

@@ -6,7 +6,7 @@ use Rattle.jos_base.specs.declared.called.Called.{Called}
 use Rattle.jos_base.specs.declared.called.Called.TheVariants.{Blocked}
 use Rattle.jos_base.specs.declared.environment.Status.TheVariants.{NotRunnable}
 use Rattle.jos_base.specs.declared.numbers.TheConstants.{SYS_IPC_RECV, PGSIZE, UTOP}
-use Rattle.jos_base.specs.Environments.{Slot as KernelSlot, is_live}
+use Rattle.jos_base.specs.Environments.{Slot, is_live}
 use Rattle.jos_base.specs.KernelState.{KernelState, slot_at, with_slot_at, with_extra}
 use Rattle.jos_base.specs.Messages.{wanting}
 use Rattle.lib_os.specs.declared.place.Step.TheVariants as step
@@ -17,7 +17,7 @@ use Rattle.lib_os.specs.Fence.{is_page_inside}
 use Rattle.lib_os.specs.Places.{words_at}
 use Rattle.lib_os.specs.Services.{service_of}
 use Rattle.lib_os.specs.StandsFor.{StandsFor, Names, IsAboutToWait, destination_of}
-use Rattle.lib_os.specs.UserCalls.{Step, got, system}
+use Rattle.lib_os.specs.UserCalls.{CallStep, got, system}
 use Rattle.lib_os.proofs.Calls.{ipc_recv_is, waits_is}
 use Rattle.lib_os.proofs.Fences.{page_inside_aligned}
 use Rattle.lib_os.proofs.MessagesStand.{waits_stand}
@@ -59,12 +59,12 @@ pub recv_stands : {names : Names} {s : KernelState} {a : AbstractState} → Stan
     mid ≡ (system s n SYS_IPC_RECV (destination_of va ∷ from ∷ rest)).state →
     StandsFor names (with_extra mid n (words_at 9 (step.ReadingValue id))) (receive a n b (slot_at s n).registers va from)
 recv_stands {names = names} {s = s} {a = a} h n b at va from id rest about names_it mid is =
-    let k : KernelSlot = record (slot_at s n) {
+    let k : Slot = record (slot_at s n) {
       rendezvous = wanting (slot_at s n).rendezvous (destination_of va) from;
       status = NotRunnable;
     } in
     let state : mid ≡ with_slot_at s n k =
-    is ∙ ap (λ (x : Step Called). x.state) (recv_is s n va from rest (born_live (born_at h n b at)) about.page) in
+    is ∙ ap (λ (x : CallStep Called). x.state) (recv_is s n va from rest (born_live (born_at h n b at)) about.page) in
     let after : with_extra mid n (words_at 9 (step.ReadingValue id)) ≡ with_slot_at s n (record k { extra = words_at 9 (step.ReadingValue id) }) =
     ap (λ (x : KernelState). with_extra x n (words_at 9 (step.ReadingValue id))) state ∙ words_put s n k (words_at 9 (step.ReadingValue id)) in
     subst (λ (x : KernelState). StandsFor names x (receive a n b (slot_at s n).registers va from)) (sym after)

@@ -6,7 +6,7 @@ use Rattle.std.specs.Prelude.{is_none}
 use Rattle.std.proofs.lemmas.Bool.Decides.{nat_tests}
 use Rattle.jos_base.specs.declared.numbers.TheConstants.{E_BAD_ENV, E_INVAL, FIRST_ENV_ID, NENV}
 use Rattle.jos_base.specs.declared.registers.Regs.{Regs}
-use Rattle.jos_base.specs.Environments.{Slot as KernelSlot}
+use Rattle.jos_base.specs.Environments.{Slot}
 use Rattle.jos_base.specs.KernelState.{KernelState, slot_at, with_spaces}
 use Rattle.jos_base.specs.Messages.{accepts}
 use Rattle.jos_base.specs.Reach.{Entry}
@@ -14,16 +14,16 @@ use Rattle.jos_base.specs.SpacesState.{SpacesState}
 use Rattle.jos_base.specs.SystemCalls.{has_write}
 use Rattle.jos_base.specs.Words.{page_number}
 use Rattle.lib_os.specs.declared.service.Service.TheVariants as service
-use Rattle.lib_os.specs.AbstractState.{AbstractState, Born, own, named, Slot, free, unborn, born, serving, Phase, entered, with_born, slot_id, is_live}
+use Rattle.lib_os.specs.AbstractState.{AbstractState, Born, own, named, AbstractSlot, free, unborn, born, serving, Phase, entered, with_born, slot_id, is_live}
 use Rattle.lib_os.specs.AbstractMemory.{page_at}
 use Rattle.lib_os.specs.AbstractMessages.{may_pass, is_page_to_send, server_id, with_sent, woken, sent, sent_to}
 use Rattle.lib_os.specs.AbstractRun.{abs_step, may_wait, phase_may_wait, slot_may_wait}
-use Rattle.lib_os.specs.Answers.{refused, answered as answered_with}
+use Rattle.lib_os.specs.Answers.{refused, answered}
 use Rattle.lib_os.specs.Fence.{is_page_inside}
 use Rattle.lib_os.specs.GuestStep.{born_in}
 use Rattle.lib_os.specs.InOrder.{IsInOrder}
 use Rattle.lib_os.specs.LibraryCall.{library_step}
-use Rattle.lib_os.specs.LibrarySteps.{answered}
+use Rattle.lib_os.specs.LibrarySteps.{service_answered}
 use Rattle.lib_os.specs.MemoryServices.{lives}
 use Rattle.lib_os.specs.StandsFor.{StandsFor, StandsForSlot, Names, rows_of, page_by, is_shared, MaySendBy, IsTrying}
 use Rattle.lib_os.proofs.Answering.{back_stands}
@@ -54,7 +54,7 @@ who_lives : {names : Names} {s : KernelState} {a : AbstractState} → StandsFor 
     slot_id (a.slots t) ≡ id → id ≢ FIRST_ENV_ID → (c : Born) × (a.slots t ≡ born c)
 who_lives {names = names} {s = s} {a = a} h t id live same other = by_slot (a.slots t) refl (h.slots t) live same
   where
-    by_slot : (slot : Slot) → a.slots t ≡ slot → StandsForSlot names s.spaces (slot_at s t) slot → is_live slot ≡ true → slot_id slot ≡ id →
+    by_slot : (slot : AbstractSlot) → a.slots t ≡ slot → StandsForSlot names s.spaces (slot_at s t) slot → is_live slot ≡ true → slot_id slot ≡ id →
         (c : Born) × (a.slots t ≡ born c)
     by_slot (free last) is k lives_in id_is = absurd (let contradiction : false ≡ true = lives_in in cc)
     by_slot (unborn own_id parent) is k lives_in id_is = absurd k
@@ -128,7 +128,7 @@ module _ {names : Names} {s : KernelState} {a : AbstractState} (h : StandsFor na
       to_named c is =
           tried_is
           ∙ ap (λ (x : Bool). if x then sent_to a n b regs t value va (born_in (a.slots t)) else Some (refused a n b regs E_BAD_ENV)) there
-          ∙ ap (λ (x : Slot). sent_to a n b regs t value va (born_in x)) is
+          ∙ ap (λ (x : AbstractSlot). sent_to a n b regs t value va (born_in x)) is
 
       module _ (c : Born) (is : a.slots t ≡ born c) where
         pub no_step_yet : accepts (slot_at s t).rendezvous (slot_at s n).id ≡ false → abs_step a n ≡ None
@@ -138,7 +138,7 @@ module _ {names : Names} {s : KernelState} {a : AbstractState} (h : StandsFor na
         pub may_wait_yet : accepts (slot_at s t).rendezvous (slot_at s n).id ≡ false → (quantum : ℕ) → may_wait a n quantum ≡ true
         unfolding may_wait
         may_wait_yet off quantum =
-            ap (λ (x : Slot). slot_may_wait a n x quantum) at
+            ap (λ (x : AbstractSlot). slot_may_wait a n x quantum) at
             ∙ ap (λ (x : Phase). phase_may_wait a n b x quantum) trying.is_in.phase
             ∙ (λ i. there i && is_none (no_step_yet off i))
 
@@ -149,11 +149,11 @@ module _ {names : Names} {s : KernelState} {a : AbstractState} (h : StandsFor na
 
 -- where its slot is as it was, whatever else is another
 pub answered_stands : {names : Names} {s : KernelState} {a : AbstractState} → StandsFor names s a → (n : ℕ) (b : Born) →
-    a.slots n ≡ born b → (k : KernelSlot) (word : ℕ) → slot_at s n ≡ k → k.rendezvous.receiving ≡ false → b.blocked ≡ false →
-    StandsFor names (answered s n word) (answered_with a n b k.registers word)
+    a.slots n ≡ born b → (k : Slot) (word : ℕ) → slot_at s n ≡ k → k.rendezvous.receiving ≡ false → b.blocked ≡ false →
+    StandsFor names (service_answered s n word) (answered a n b k.registers word)
 answered_stands {names = names} {s = s} {a = a} h n b at k word same silent awake =
-    subst (λ (x : KernelSlot). StandsFor names (answered s n word) (answered_with a n b x.registers word)) same
-    (back_stands h n b at (record (slot_at s n).registers { eax = word }) (ap (λ (x : KernelSlot). x.rendezvous.receiving) same ∙ silent) awake refl)
+    subst (λ (x : Slot). StandsFor names (service_answered s n word) (answered a n b x.registers word)) same
+    (back_stands h n b at (record (slot_at s n).registers { eax = word }) (ap (λ (x : Slot). x.rendezvous.receiving) same ∙ silent) awake refl)
 
 module _ {names : Names} {s : KernelState} {a : AbstractState} (h : StandsFor names s a) (n : ℕ) (b : Born) (at : a.slots n ≡ born b)
     (silent : (slot_at s n).rendezvous.receiving ≡ false) (awake : b.blocked ≡ false)
@@ -167,7 +167,7 @@ module _ {names : Names} {s : KernelState} {a : AbstractState} (h : StandsFor na
 
   -- the word alone came
   pub word_sent : ((va == 0) || (taken.w.va == 0)) ≡ true →
-      StandsFor names (answered (with_message s n t value 0) n 0) (sent a n b (slot_at s n).registers t value va c taken.w)
+      StandsFor names (service_answered (with_message s n t value 0) n 0) (sent a n b (slot_at s n).registers t value va c taken.w)
   word_sent none =
       answered_stands (word_alone h n b at t c there taken value small va none) n b still (slot_at s n) 0
       (slot_kept s t (received_in (slot_at s t) (slot_at s n).id value 0) n (λ e. ne (sym e))) silent awake
@@ -177,7 +177,7 @@ module _ {names : Names} {s : KernelState} {a : AbstractState} (h : StandsFor na
       (is_shared x.perm || not (has_write x.perm)) ≡ true →
       Given s.spaces sp (slot_at s t).directory (page_number taken.w.va) x → va ≢ 0 → taken.w.va ≢ 0 →
       IsInOrder (with_message (with_spaces s sp) n t value x.perm) →
-      StandsFor names (answered (with_message (with_spaces s sp) n t value x.perm) n 0)
+      StandsFor names (service_answered (with_message (with_spaces s sp) n t value x.perm) n 0)
       (sent a n b (slot_at s n).registers t value va c taken.w)
   page_sent {sp = sp} x hx passes given some wanted in_order =
       answered_stands (page_stands h n b at t c there taken value small va x hx passes given some wanted in_order) n b still (slot_at s n) 0

@@ -20,7 +20,7 @@ use Rattle.jos_base.specs.SystemCalls.{Passing, nothing, a_page, invalid, passin
 use Rattle.jos_base.specs.SystemCalls.{call_of, answered, refused, message_taken, sent, sent_with, ipc_try_send_of}
 use Rattle.jos_base.specs.Words.{negated, page_number}
 use Rattle.lib_os.specs.LibrarySteps.{NothingRefused}
-use Rattle.lib_os.specs.UserCalls.{Step, giving, asking, called_by, system}
+use Rattle.lib_os.specs.UserCalls.{CallStep, giving, asking, called_by, system}
 use Rattle.lib_os.proofs.SlotsSet.{set_twice}
 use Rattle.lib_os.proofs.Slots.{slot_put, slot_kept, slot_back, slots_swap, slots_alike}
 use Rattle.lib_os.proofs.Calls.{caller_is, system_is, answer_is, live_still, quiet_is, refusal_is_seen}
@@ -40,25 +40,25 @@ abbrev pub with_message : KernelState → ℕ → ℕ → ℕ → ℕ → Kernel
 with_message s n target value perm = with_slot_at s target (received_in (slot_at s target) (slot_at s n).id value perm)
 
 -- by the spaces with the page, or None where no frame was free for a table
-abbrev pub page_step : KernelState → ℕ → ℕ → ℕ → ℕ → Option SpacesState → Step Called
+abbrev pub page_step : KernelState → ℕ → ℕ → ℕ → ℕ → Option SpacesState → CallStep Called
 page_step s n target value perm None = giving (with_refusal s) (Answered (negated E_NO_MEM))
 page_step s n target value perm (Some spaces) = giving (with_message (with_spaces s spaces) n target value perm) (Answered 0)
 
 -- by what is to pass with the word
-abbrev pub passing_step : KernelState → ℕ → ℕ → ℕ → Passing → Step Called
+abbrev pub passing_step : KernelState → ℕ → ℕ → ℕ → Passing → CallStep Called
 passing_step s n target value nothing = giving (with_message s n target value 0) (Answered 0)
 passing_step s n target value (a_page entry) =
     page_step s n target value entry.perm (inserted_at s target (slot_at s target).rendezvous.destination entry)
 passing_step s n target value invalid = giving s (Answered (negated E_INVAL))
 
 -- by whether it is waited for
-abbrev pub waited_step : KernelState → ℕ → ℕ → ℕ → ℕ → ℕ → Bool → Step Called
+abbrev pub waited_step : KernelState → ℕ → ℕ → ℕ → ℕ → ℕ → Bool → CallStep Called
 waited_step s n target value va perm true =
     passing_step s n target value (passing_of s n (slot_at s target).rendezvous.destination va perm)
 waited_step s n target value va perm false = giving s (Answered (negated E_IPC_NOT_RECV))
 
 -- by who is named
-abbrev pub sending_step : KernelState → ℕ → Option ℕ → ℕ → ℕ → ℕ → Step Called
+abbrev pub sending_step : KernelState → ℕ → Option ℕ → ℕ → ℕ → ℕ → CallStep Called
 sending_step s n None value va perm = giving s (Answered (negated E_BAD_ENV))
 sending_step s n (Some target) value va perm =
     waited_step s n target value va perm (accepts (slot_at s target).rendezvous (slot_at s n).id)
@@ -250,7 +250,7 @@ module _ (s : KernelState) (n : ℕ) (live : is_live (slot_at s n) ≡ true) whe
 module _ (s : KernelState) (n id value va perm : ℕ) (rest : List ℕ) (live : is_live (slot_at s n) ≡ true)
     (idle : (slot_at s n).rendezvous.receiving ≡ false) where
   -- the call
-  abbrev pub send_asked : Step Called
+  abbrev pub send_asked : CallStep Called
   send_asked = system s n SYS_IPC_TRY_SEND (id ∷ value ∷ va ∷ perm ∷ rest)
 
   pub nobody_named : found s.environments id n false ≡ None → send_asked ≡ giving s (Answered (negated E_BAD_ENV))
@@ -331,5 +331,5 @@ module _ (s : KernelState) (n id value va perm : ℕ) (rest : List ℕ) (live : 
                     (spaces : SpacesState) × (inserted_at s target (slot_at s target).rendezvous.destination entry ≡ Some spaces)
                     × (send_asked ≡ giving (with_message (with_spaces s spaces) n target value perm) (Answered 0))
                 by_found None is =
-                    absurd (refusal_is_seen s (subst (λ (step : Step Called). NothingRefused s step.state) (page_has_no_table is) quiet))
+                    absurd (refusal_is_seen s (subst (λ (step : CallStep Called). NothingRefused s step.state) (page_has_no_table is) quiet))
                 by_found (Some spaces) is = (spaces, is, page_comes spaces is)

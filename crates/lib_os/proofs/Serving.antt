@@ -5,7 +5,7 @@ use Rattle.std.specs.Prelude.{◌++◌}
 use Rattle.std.proofs.lemmas.Bool.{false≢true}
 use Rattle.std.proofs.lemmas.List.{append-nil}
 use Rattle.jos_base.specs.declared.registers.Regs.{Regs}
-use Rattle.jos_base.specs.Environments.{Slot as KernelSlot, free_slot, no_extra}
+use Rattle.jos_base.specs.Environments.{Slot, free_slot, no_extra}
 use Rattle.jos_base.specs.KernelState.{KernelState, slot_at}
 use Rattle.jos_base.specs.SpacesState.{SpacesState}
 use Rattle.lib_os.specs.declared.place.Place.{Place}
@@ -13,18 +13,18 @@ use Rattle.lib_os.specs.declared.place.Place.TheVariants as place
 use Rattle.lib_os.specs.declared.place.Step.{Step}
 use Rattle.lib_os.specs.declared.service.Service.{Service}
 use Rattle.lib_os.specs.declared.progress.Progress.TheVariants as progress
-use Rattle.lib_os.specs.AbstractState.{AbstractState, Born, Slot, free, unborn, born, serving, Stage, guest, at_guest, in_service}
+use Rattle.lib_os.specs.AbstractState.{AbstractState, Born, AbstractSlot, free, unborn, born, serving, Stage, guest, at_guest, in_service}
 use Rattle.lib_os.specs.AbstractRun.{abs_step}
 use Rattle.lib_os.specs.Fence.{is_resident}
 use Rattle.lib_os.specs.LibraryCall.{library_step}
 use Rattle.lib_os.specs.LibrarySteps.{GoesOn, NothingRefused, IsLibraryStep}
-use Rattle.lib_os.specs.Places.{place_in, place_of}
-use Rattle.lib_os.specs.StandsFor.{StandsFor, Names, rows_of, StandsForSlot, StandsForBorn, StandsAt, StandsAtStep, RunsAs, IsIn}
+use Rattle.lib_os.specs.Places.{place_in_words, place_of}
+use Rattle.lib_os.specs.StandsFor.{StandsFor, Names, rows_of, StandsForSlot, StandsForBorn, StandsAt, StandsAtStep, IsStatusFor, IsIn}
 use Rattle.lib_os.specs.UserCalls.{Output, Prints}
 
 -- who keeps no words is at its program
-pub words_of_none : (regs : Regs) (words : List ℕ) → words ≡ no_extra → place_in regs words ≡ place.Guest
-unfolding place_in
+pub words_of_none : (regs : Regs) (words : List ℕ) → words ≡ no_extra → place_in_words regs words ≡ place.Guest
+unfolding place_in_words
 words_of_none regs words none = rw none refl
 
 abbrev is_at_guest : Place → Bool
@@ -47,10 +47,10 @@ pub served : {names : Names} {s : KernelState} {a : AbstractState} → StandsFor
     place_of (slot_at s n) ≡ place.InService service step → IsServed names s a n service step
 served {names = names} {s = s} {a = a} h n service step at = by_slot (a.slots n) refl (h.slots n)
   where
-    by_slot : (slot : Slot) → a.slots n ≡ slot → StandsForSlot names s.spaces (slot_at s n) slot → IsServed names s a n service step
+    by_slot : (slot : AbstractSlot) → a.slots n ≡ slot → StandsForSlot names s.spaces (slot_at s n) slot → IsServed names s a n service step
     by_slot (free id) is k =
         absurd (in_no_service _ service step
-        (ap (λ (x : KernelSlot). place_of x) k ∙ words_of_none (free_slot id).registers no_extra refl) at)
+        (ap (λ (x : Slot). place_of x) k ∙ words_of_none (free_slot id).registers no_extra refl) at)
     by_slot (unborn id parent) is k = absurd k
     by_slot (born b) is k = record {
       b = b;
@@ -70,14 +70,14 @@ unfolding abs_step
 service_step a n b regs service stage is program phase awake = rw (is, awake, program, phase) refl
 
 -- the same by where it stands
-pub step_in : (a : AbstractState) (n : ℕ) (b : Born) (k : KernelSlot) (service : Service) (stage : Stage) →
+pub step_in : (a : AbstractState) (n : ℕ) (b : Born) (k : Slot) (service : Service) (stage : Stage) →
     a.slots n ≡ born b → IsIn k b service stage → abs_step a n ≡ library_step a n b k.registers service stage
 step_in a n b k service stage is at = service_step a n b k.registers service stage is at.program at.phase at.awake
 
 -- ---- its answer
 
 -- the environment's own part, when it is back at its program
-pub back_at_guest : {names : Names} {s : SpacesState} {k : KernelSlot} {b : Born} (regs : Regs) → StandsForBorn names s k b →
+pub back_at_guest : {names : Names} {s : SpacesState} {k : Slot} {b : Born} (regs : Regs) → StandsForBorn names s k b →
     k.rendezvous.receiving ≡ false → b.blocked ≡ false → regs.esp ≡ k.registers.esp →
     StandsForBorn names s (record k { registers = regs; extra = no_extra })
     (record b { program = guest regs; phase = at_guest; blocked = false })
@@ -89,7 +89,7 @@ back_at_guest {s = s} {k = k} {b = b} regs own silent awake stack =
       id_small = own.id_small;
       parent = own.parent;
       env_type = own.env_type;
-      runs = subst (λ (blocked : Bool). RunsAs k.status blocked) awake own.runs;
+      runs = subst (λ (blocked : Bool). IsStatusFor k.status blocked) awake own.runs;
       upcall = own.upcall;
       descriptors = own.descriptors;
       memory = own.memory;

@@ -5,7 +5,7 @@ use Rattle.std.specs.Prelude.{Option, Some, None, is_some}
 use Rattle.std.specs.Option.{option_map}
 use Rattle.jos_base.specs.declared.environment.Status.{Status}
 use Rattle.jos_base.specs.declared.environment.Status.TheVariants.{Runnable, Running, NotRunnable}
-use Rattle.jos_base.specs.Environments.{Slot as KernelSlot, is_free, is_live as is_live_slot}
+use Rattle.jos_base.specs.Environments.{Slot, is_free, is_live as is_live_slot}
 use Rattle.jos_base.specs.KernelState.{KernelState, slot_at}
 use Rattle.jos_base.specs.Reach.{Entry}
 use Rattle.jos_base.specs.SpacesState.{SpacesState, Region}
@@ -18,11 +18,11 @@ use Rattle.lib_os.specs.declared.service.Service.{Service}
 use Rattle.lib_os.specs.declared.service.Service.TheVariants as service
 use Rattle.jos_base.specs.declared.numbers.TheConstants.{NPTENTRIES}
 use Rattle.jos_base.specs.Words.{page_number, upd}
-use Rattle.lib_os.specs.AbstractState.{AbstractState, Born, Page, own, named, Slot, free, unborn, born, serving}
+use Rattle.lib_os.specs.AbstractState.{AbstractState, Born, Page, own, named, AbstractSlot, free, unborn, born, serving}
 use Rattle.lib_os.specs.AbstractState.{Stage, slot_id, is_live}
 use Rattle.lib_os.specs.Places.{place_of}
 use Rattle.lib_os.specs.StandsFor.{StandsFor, StandsForSlot, StandsForBorn, StandsAt, StandsAtStep, Names}
-use Rattle.lib_os.specs.StandsFor.{Row, rows_of, page_by, page_seen, is_shared, RunsAs, MaySend, IsIn, IsTrying, IsWaiting}
+use Rattle.lib_os.specs.StandsFor.{EntryRow, rows_of, page_by, page_seen, is_shared, IsStatusFor, MaySend, IsIn, IsTrying, IsWaiting}
 use Rattle.lib_os.specs.StandsFor.{IsLooking, IsAboutToWait, IsReceiving, HasReceived, WaitsOrHas, waits, has, IsAtGuest}
 use Rattle.jos_base.proofs.Maps.{upd-all}
 
@@ -40,15 +40,15 @@ minds_page place.Guest = false
 minds_page (place.InService s stands) = minds_page_at s stands
 
 -- the pages that may be sent may be sent by the row after, too, where that is kept in mind
-abbrev pub SendsBy : Bool → Row → Row → Type 0
+abbrev pub SendsBy : Bool → EntryRow → EntryRow → Type 0
 SendsBy minds row after = minds ≡ true → (va perm : ℕ) → MaySend row va perm → MaySend after va perm
 
 -- the regions that have tables have them after, too, where that is kept in mind
 abbrev pub KeepsTables : Bool → (ℕ → Bool) → (ℕ → Bool) → Type 0
 KeepsTables minds regions after = minds ≡ true → (r : ℕ) → regions r ≡ true → after r ≡ true
 
-module _ (row after : Row) (k : KernelSlot) (b : Born) (status : Status) (runs : ℕ) (memory : ℕ → Option Page) (regions : ℕ → Bool) where
-  abbrev kernel_slot : KernelSlot
+module _ (row after : EntryRow) (k : Slot) (b : Born) (status : Status) (runs : ℕ) (memory : ℕ → Option Page) (regions : ℕ → Bool) where
+  abbrev kernel_slot : Slot
   kernel_slot = record k { status = status; runs = runs }
 
   abbrev environment : Born
@@ -125,11 +125,11 @@ module _ (row after : Row) (k : KernelSlot) (b : Born) (status : Status) (runs :
   at_kept (place.InService s stands) sends tables h = step_kept s stands sends tables h
 
 -- by the same row
-pub sends_by_same : (minds : Bool) (row after : Row) → after ≡ row → SendsBy minds row after
-sends_by_same minds row after same true-is va perm h = subst (λ (r : Row). MaySend r va perm) (sym same) h
+pub sends_by_same : (minds : Bool) (row after : EntryRow) → after ≡ row → SendsBy minds row after
+sends_by_same minds row after same true-is va perm h = subst (λ (r : EntryRow). MaySend r va perm) (sym same) h
 
 -- where no page is kept in mind
-pub sends_unminded : (minds : Bool) (row after : Row) → minds ≡ false → SendsBy minds row after
+pub sends_unminded : (minds : Bool) (row after : EntryRow) → minds ≡ false → SendsBy minds row after
 sends_unminded minds row after no_page is va perm h = absurd (let contradiction : true ≡ false = sym is ∙ no_page in cc)
 
 pub tables_unminded : (minds : Bool) (regions after : ℕ → Bool) → minds ≡ false → KeepsTables minds regions after
@@ -168,10 +168,10 @@ option_map_alike {X = X} f g o after same alike = ap (λ (r : Option X). option_
 pub seen_alike : {names after : Names} {s t : SpacesState} {d : ℕ} → SeenAlike names after s t d → (p : ℕ) →
     page_seen after t d p ≡ page_seen names s d p
 seen_alike {names = names} {after = after} {s = s} {t = t} {d = d} h p =
-    option_map_alike (page_by names s.pages) (page_by after t.pages) (rows_of s d p) (rows_of t d p) (ap (λ (r : Row). r p) h.rows)
+    option_map_alike (page_by names s.pages) (page_by after t.pages) (rows_of s d p) (rows_of t d p) (ap (λ (r : EntryRow). r p) h.rows)
     (λ x at. page_alike names after s.pages t.pages x (h.bytes p x at) (h.named_so p x at))
 
-pub born_stands : {names after : Names} {s t : SpacesState} (k : KernelSlot) (b : Born) → SeenAlike names after s t k.directory →
+pub born_stands : {names after : Names} {s t : SpacesState} (k : Slot) (b : Born) → SeenAlike names after s t k.directory →
     StandsForBorn names s k b → StandsForBorn after t k b
 born_stands {names = names} {after = after} {s = s} {t = t} k b same h = record {
   id = h.id;
@@ -184,27 +184,27 @@ born_stands {names = names} {after = after} {s = s} {t = t} k b same h = record 
   memory = λ p. h.memory p ∙ sym (seen_alike same p);
   regions = λ r. h.regions r ∙ sym (same.regions r);
   stack = h.stack;
-  at = subst (λ (row : Row). StandsAt (place_of k) row k b) (sym same.rows) h.at;
+  at = subst (λ (row : EntryRow). StandsAt (place_of k) row k b) (sym same.rows) h.at;
 }
 
 -- ---- who is live
 
-runs_live : (status : Status) (blocked : Bool) → RunsAs status blocked → not (is_free status) ≡ true
+runs_live : (status : Status) (blocked : Bool) → IsStatusFor status blocked → not (is_free status) ≡ true
 runs_live Runnable false h = refl
 runs_live Running false h = refl
 runs_live NotRunnable true h = refl
 runs_live _ _ h = absurd h
 
-pub slot_live : (names : Names) (s : SpacesState) (k : KernelSlot) (slot : Slot) → StandsForSlot names s k slot →
+pub slot_live : (names : Names) (s : SpacesState) (k : Slot) (slot : AbstractSlot) → StandsForSlot names s k slot →
     is_live_slot k ≡ is_live slot
-slot_live names s k (free id) h = ap (λ (x : KernelSlot). is_live_slot x) h
+slot_live names s k (free id) h = ap (λ (x : Slot). is_live_slot x) h
 slot_live names s k (unborn id parent) h = absurd h
 slot_live names s k (born b) h = runs_live k.status b.blocked h.runs
 slot_live names s k (serving id) h = ap (λ (x : Status). not (is_free x)) h.status
 
-pub slot_named : (names : Names) (s : SpacesState) (k : KernelSlot) (slot : Slot) → StandsForSlot names s k slot →
+pub slot_named : (names : Names) (s : SpacesState) (k : Slot) (slot : AbstractSlot) → StandsForSlot names s k slot →
     k.id ≡ slot_id slot
-slot_named names s k (free id) h = ap (λ (x : KernelSlot). x.id) h
+slot_named names s k (free id) h = ap (λ (x : Slot). x.id) h
 slot_named names s k (unborn id parent) h = absurd h
 slot_named names s k (born b) h = h.id
 slot_named names s k (serving id) h = h.id_is
@@ -220,7 +220,7 @@ ids_stand {names = names} {s = s} {a = a} h n = slot_named names s.spaces (slot_
 -- the environment in a slot
 pub born_at : {names : Names} {s : KernelState} {a : AbstractState} → StandsFor names s a → (n : ℕ) (b : Born) →
     a.slots n ≡ born b → StandsForBorn names s.spaces (slot_at s n) b
-born_at {names = names} {s = s} h n b at = subst (λ (slot : Slot). StandsForSlot names s.spaces (slot_at s n) slot) at (h.slots n)
+born_at {names = names} {s = s} h n b at = subst (λ (slot : AbstractSlot). StandsForSlot names s.spaces (slot_at s n) slot) at (h.slots n)
 
 -- ---- slots
 
@@ -230,7 +230,7 @@ is_none (Some region) is = absurd cc
 
 -- A slot stands for what it stood for while nothing that is seen of its space differs. Of a slot that is not live no space is
 -- seen.
-pub slot_stands : (names after : Names) (s t : SpacesState) (k : KernelSlot) (slot : Slot) → StandsForSlot names s k slot →
+pub slot_stands : (names after : Names) (s t : SpacesState) (k : Slot) (slot : AbstractSlot) → StandsForSlot names s k slot →
     (is_live slot ≡ true → SeenAlike names after s t k.directory) → StandsForSlot after t k slot
 slot_stands names after s t k (free id) h same = h
 slot_stands names after s t k (unborn id parent) h same = absurd h
@@ -242,11 +242,11 @@ slot_stands names after s t k (serving id) h same = record {
   status = h.status;
   silent = h.silent;
   words = h.words;
-  empty = λ p. ap (λ (r : Row). r p) (same refl).rows ∙ h.empty p;
+  empty = λ p. ap (λ (r : EntryRow). r p) (same refl).rows ∙ h.empty p;
   tables = λ r. is_none (t.regions k.directory r) ((same refl).regions r ∙ ap is_some (h.tables r));
 }
 
-pub other_stands : (names after : Names) (s t : SpacesState) (k : KernelSlot) (slot : Slot) → StandsForSlot names s k slot →
+pub other_stands : (names after : Names) (s t : SpacesState) (k : Slot) (slot : AbstractSlot) → StandsForSlot names s k slot →
     rows_of t k.directory ≡ rows_of s k.directory →
     ((p : ℕ) (x : Entry) → rows_of s k.directory p ≡ Some x → is_shared x.perm ≡ false → t.pages x.frame ≡ s.pages x.frame) →
     ((p : ℕ) (x : Entry) → rows_of s k.directory p ≡ Some x → is_shared x.perm ≡ true → after.name x.frame ≡ names.name x.frame) →
@@ -254,11 +254,11 @@ pub other_stands : (names after : Names) (s t : SpacesState) (k : KernelSlot) (s
 other_stands names after s t k slot h rows bytes named_so regions =
     slot_stands names after s t k slot h (λ live. record { rows = rows; bytes = bytes; named_so = named_so; regions = regions })
 
-pub born_live : {names : Names} {s : SpacesState} {k : KernelSlot} {b : Born} → StandsForBorn names s k b → is_live_slot k ≡ true
+pub born_live : {names : Names} {s : SpacesState} {k : Slot} {b : Born} → StandsForBorn names s k b → is_live_slot k ≡ true
 born_live {k = k} {b = b} h = runs_live k.status b.blocked h.runs
 
 -- an environment may get another status, in which it runs or waits as before
-pub status_born : {names : Names} {s : SpacesState} (k : KernelSlot) (b : Born) (status : Status) (runs : ℕ) → RunsAs status b.blocked →
+pub status_born : {names : Names} {s : SpacesState} (k : Slot) (b : Born) (status : Status) (runs : ℕ) → IsStatusFor status b.blocked →
     StandsForBorn names s k b → StandsForBorn names s (record k { status = status; runs = runs }) b
 status_born {s = s} k b status runs so h = record {
   id = h.id;
@@ -276,7 +276,7 @@ status_born {s = s} k b status runs so h = record {
 }
 
 -- one of its pages may be another
-pub page_put : (names after : Names) (s t : SpacesState) (k : KernelSlot) (b : Born) (p : ℕ) (page : Option Page) (regions : ℕ → Bool) →
+pub page_put : (names after : Names) (s t : SpacesState) (k : Slot) (b : Born) (p : ℕ) (page : Option Page) (regions : ℕ → Bool) →
     StandsForBorn names s k b → page ≡ page_seen after t k.directory p →
     ((q : ℕ) → q ≢ p → page_seen after t k.directory q ≡ page_seen names s k.directory q) →
     ((r : ℕ) → regions r ≡ is_some (t.regions k.directory r)) →

@@ -7,12 +7,12 @@ use Rattle.jos_base.specs.declared.environment.EnvType.TheVariants.{User}
 use Rattle.jos_base.specs.declared.environment.Status.{Status}
 use Rattle.jos_base.specs.declared.environment.Status.TheVariants.{Runnable, Running, NotRunnable}
 use Rattle.jos_base.specs.declared.numbers.TheConstants.{FIRST_ENV_ID, NENV}
-use Rattle.jos_base.specs.Environments.{Slot as KernelSlot, Environments, free_slot, is_live as is_live_slot, is_running}
+use Rattle.jos_base.specs.Environments.{Slot, Environments, free_slot, is_live as is_live_slot, is_running}
 use Rattle.jos_base.specs.KernelState.{KernelState, HasSpaces, slot_at, with_slot_at, with_spaces, with_status, turn_begun, turn_ended}
 use Rattle.jos_base.specs.SpacesState.{SpacesState, directories}
-use Rattle.lib_os.specs.AbstractState.{AbstractState, Born, Slot, free, unborn, born, serving, is_live, with_born, with_printed}
+use Rattle.lib_os.specs.AbstractState.{AbstractState, Born, AbstractSlot, free, unborn, born, serving, is_live, with_born, with_printed}
 use Rattle.lib_os.specs.InOrder.{HasOneUse, IsInOrder}
-use Rattle.lib_os.specs.StandsFor.{StandsFor, StandsForSlot, StandsForBorn, Names, Rows, rows_of, RunsAs, IsTabled, Apart, AreNamed, AreUsers}
+use Rattle.lib_os.specs.StandsFor.{StandsFor, StandsForSlot, StandsForBorn, Names, Rows, rows_of, IsStatusFor, IsTabled, AgreeWhereShared, AreNamed, AreUsers}
 use Rattle.lib_os.proofs.Effects.{Quiet}
 use Rattle.lib_os.proofs.SlotsStand.{SeenAlike, slot_stands, born_at, born_live, live_stands, status_born}
 use Rattle.jos_base.proofs.Maps.{upd-other, upd-alike, upd-all, upd-both}
@@ -35,13 +35,13 @@ pub born_not_first : {names : Names} {s : KernelState} {a : AbstractState} → S
 born_not_first {a = a} h n b at zero_is =
     let contradiction : serving FIRST_ENV_ID ≡ born b = sym h.first ∙ ap a.slots zero_is ∙ at in cc
 
-pub slot_in_order : (s : KernelState) (n : ℕ) (k : KernelSlot) → is_live_slot k ≡ is_live_slot (slot_at s n) →
+pub slot_in_order : (s : KernelState) (n : ℕ) (k : Slot) → is_live_slot k ≡ is_live_slot (slot_at s n) →
     k.directory ≡ (slot_at s n).directory → IsInOrder s → IsInOrder (with_slot_at s n k)
 slot_in_order s n k live directory h = record {
   frames = h.frames;
   spaces = spaces_alike s.spaces s.environments (with_slot_at s n k).environments
-      (upd-alike (λ (x : KernelSlot). is_live_slot x) s.environments.slots n k live)
-      (upd-alike (λ (x : KernelSlot). x.directory) s.environments.slots n k directory) h.spaces;
+      (upd-alike (λ (x : Slot). is_live_slot x) s.environments.slots n k live)
+      (upd-alike (λ (x : Slot). x.directory) s.environments.slots n k directory) h.spaces;
 }
 
 -- a state is in order where one is that has the same spaces, and the same slots live in them
@@ -54,23 +54,23 @@ in_order_alike s t same live directory h = record {
 }
 
 -- so it was before a slot was another, in the same space
-pub slot_was_in_order : (s : KernelState) (n : ℕ) (k : KernelSlot) → is_live_slot k ≡ is_live_slot (slot_at s n) →
+pub slot_was_in_order : (s : KernelState) (n : ℕ) (k : Slot) → is_live_slot k ≡ is_live_slot (slot_at s n) →
     k.directory ≡ (slot_at s n).directory → IsInOrder (with_slot_at s n k) → IsInOrder s
 slot_was_in_order s n k live directory h =
     in_order_alike (with_slot_at s n k) s refl
-    (λ m. sym (upd-alike (λ (x : KernelSlot). is_live_slot x) s.environments.slots n k live m))
-    (λ m. sym (upd-alike (λ (x : KernelSlot). x.directory) s.environments.slots n k directory m)) h
+    (λ m. sym (upd-alike (λ (x : Slot). is_live_slot x) s.environments.slots n k live m))
+    (λ m. sym (upd-alike (λ (x : Slot). x.directory) s.environments.slots n k directory m)) h
 
 -- ---- the table
 
 -- What a slot has when another is put in its place: its id and what it is there for, and it is not made RUNNING.
-pub record Settles (before after : KernelSlot) : Type 0 where
+pub record Settles (before after : Slot) : Type 0 where
   pub id : after.id ≡ before.id
   pub env_type : after.env_type ≡ before.env_type
   pub calm : is_running after.status ≡ true → is_running before.status ≡ true
 
 -- one that is not RUNNING
-pub stopped_settles : (before after : KernelSlot) → after.id ≡ before.id → after.env_type ≡ before.env_type →
+pub stopped_settles : (before after : Slot) → after.id ≡ before.id → after.env_type ≡ before.env_type →
     is_running after.status ≡ false → Settles before after
 stopped_settles before after id env_type stopped = record {
   id = id;
@@ -78,16 +78,16 @@ stopped_settles before after id env_type stopped = record {
   calm = λ runs. absurd (let contradiction : false ≡ true = sym stopped ∙ runs in cc);
 }
 
-tabled_at : {slots : ℕ → KernelSlot} {last : Option ℕ} → IsTabled slots last → (n : ℕ) (k : KernelSlot) → is_live_slot (slots n) ≡ true →
+tabled_at : {slots : ℕ → Slot} {last : Option ℕ} → IsTabled slots last → (n : ℕ) (k : Slot) → is_live_slot (slots n) ≡ true →
     Settles (slots n) k → (m : ℕ) → (is_live_slot (upd slots n k m) ≡ true → (upd slots n k m).id % NENV ≡ m)
     × (m ≢ 0 → (upd slots n k m).env_type ≡ User) × (is_running (upd slots n k m).status ≡ true → last ≡ Some m)
 tabled_at {slots = slots} {last = last} h n k live settles =
-    upd-all (λ m (x : KernelSlot). (is_live_slot x ≡ true → x.id % NENV ≡ m) × (m ≢ 0 → x.env_type ≡ User) × (is_running x.status ≡ true → last ≡ Some m))
+    upd-all (λ m (x : Slot). (is_live_slot x ≡ true → x.id % NENV ≡ m) × (m ≢ 0 → x.env_type ≡ User) × (is_running x.status ≡ true → last ≡ Some m))
     slots n k
     ((λ is. ap (λ (id : ℕ). id % NENV) settles.id ∙ h.ids n live), (λ other. settles.env_type ∙ h.servers n other), (λ runs. h.running n (settles.calm runs)))
     (λ m ne. (h.ids m, h.servers m, h.running m))
 
-pub tabled_set : {slots : ℕ → KernelSlot} {last : Option ℕ} → IsTabled slots last → (n : ℕ) (k : KernelSlot) → is_live_slot (slots n) ≡ true →
+pub tabled_set : {slots : ℕ → Slot} {last : Option ℕ} → IsTabled slots last → (n : ℕ) (k : Slot) → is_live_slot (slots n) ≡ true →
     Settles (slots n) k → IsTabled (upd slots n k) last
 tabled_set h n k live settles = record {
   ids = λ m. (tabled_at h n k live settles m).0;
@@ -95,7 +95,7 @@ tabled_set h n k live settles = record {
   running = λ m. (tabled_at h n k live settles m).2;
 }
 
-pub tabled_freed : {slots : ℕ → KernelSlot} {last : Option ℕ} → IsTabled slots last → (n id : ℕ) → IsTabled (upd slots n (free_slot id)) last
+pub tabled_freed : {slots : ℕ → Slot} {last : Option ℕ} → IsTabled slots last → (n id : ℕ) → IsTabled (upd slots n (free_slot id)) last
 tabled_freed {slots = slots} {last = last} h n id = record {
   ids = λ m. (at_slot m).0;
   servers = λ m. (at_slot m).1;
@@ -105,17 +105,17 @@ tabled_freed {slots = slots} {last = last} h n id = record {
     at_slot : (m : ℕ) → (is_live_slot (upd slots n (free_slot id) m) ≡ true → (upd slots n (free_slot id) m).id % NENV ≡ m)
         × (m ≢ 0 → (upd slots n (free_slot id) m).env_type ≡ User) × (is_running (upd slots n (free_slot id) m).status ≡ true → last ≡ Some m)
     at_slot =
-        upd-all (λ m (x : KernelSlot). (is_live_slot x ≡ true → x.id % NENV ≡ m) × (m ≢ 0 → x.env_type ≡ User) × (is_running x.status ≡ true → last ≡ Some m))
+        upd-all (λ m (x : Slot). (is_live_slot x ≡ true → x.id % NENV ≡ m) × (m ≢ 0 → x.env_type ≡ User) × (is_running x.status ≡ true → last ≡ Some m))
         slots n (free_slot id)
         ((λ is. absurd (let contradiction : false ≡ true = is in cc)), (λ other. refl), (λ is. absurd (let contradiction : false ≡ true = is in cc)))
         (λ m ne. (h.ids m, h.servers m, h.running m))
 
 -- the environment in a slot is another, in the same space
 pub slot_changed : {names : Names} {s : KernelState} {a : AbstractState} → StandsFor names s a → (n : ℕ) (b : Born) →
-    a.slots n ≡ born b → (k : KernelSlot) (after : Born) → k.directory ≡ (slot_at s n).directory → Settles (slot_at s n) k →
+    a.slots n ≡ born b → (k : Slot) (after : Born) → k.directory ≡ (slot_at s n).directory → Settles (slot_at s n) k →
     StandsForBorn names s.spaces k after → StandsFor names (with_slot_at s n k) (with_born a n after)
 slot_changed {names = names} {s = s} {a = a} h n b at k after directory settles so = record {
-  slots = upd-both (λ m (x : KernelSlot) (y : Slot). StandsForSlot names s.spaces x y) s.environments.slots a.slots n k (born after) so
+  slots = upd-both (λ m (x : Slot) (y : AbstractSlot). StandsForSlot names s.spaces x y) s.environments.slots a.slots n k (born after) so
       (λ m ne. h.slots m);
   apart = h.apart;
   named = h.named;
@@ -132,11 +132,11 @@ slot_changed {names = names} {s = s} {a = a} h n b at k after directory settles 
 
 -- only the kernel's slot is another
 pub slot_replaced : {names : Names} {s : KernelState} {a : AbstractState} → StandsFor names s a → (n : ℕ) (b : Born) →
-    a.slots n ≡ born b → (k : KernelSlot) → k.directory ≡ (slot_at s n).directory → Settles (slot_at s n) k → StandsForBorn names s.spaces k b →
+    a.slots n ≡ born b → (k : Slot) → k.directory ≡ (slot_at s n).directory → Settles (slot_at s n) k → StandsForBorn names s.spaces k b →
     StandsFor names (with_slot_at s n k) a
 slot_replaced {names = names} {s = s} {a = a} h n b at k directory settles so = record {
-  slots = upd-all (λ m (x : KernelSlot). StandsForSlot names s.spaces x (a.slots m)) s.environments.slots n k
-      (subst (λ (y : Slot). StandsForSlot names s.spaces k y) (sym at) so) (λ m ne. h.slots m);
+  slots = upd-all (λ m (x : Slot). StandsForSlot names s.spaces x (a.slots m)) s.environments.slots n k
+      (subst (λ (y : AbstractSlot). StandsForSlot names s.spaces k y) (sym at) so) (λ m ne. h.slots m);
   apart = h.apart;
   named = h.named;
   users = h.users;
@@ -186,10 +186,10 @@ printed_stands h bytes = record {
 }
 
 -- an environment that does not wait may be RUNNABLE or RUNNING
-awake_runs : (blocked : Bool) → blocked ≡ false → RunsAs Runnable blocked × RunsAs Running blocked
-awake_runs blocked awake = subst (λ c. RunsAs Runnable c × RunsAs Running c) (sym awake) (tt, tt)
+awake_runs : (blocked : Bool) → blocked ≡ false → IsStatusFor Runnable blocked × IsStatusFor Running blocked
+awake_runs blocked awake = subst (λ c. IsStatusFor Runnable c × IsStatusFor Running c) (sym awake) (tt, tt)
 
-runnable_settles : (k : KernelSlot) → Settles k (record k { status = Runnable })
+runnable_settles : (k : Slot) → Settles k (record k { status = Runnable })
 runnable_settles k = stopped_settles k (record k { status = Runnable }) refl refl refl
 
 pub status_stands : {names : Names} {s : KernelState} {a : AbstractState} → StandsFor names s a → (n : ℕ) (b : Born) →
@@ -203,11 +203,11 @@ pub turn_begun_stands : {names : Names} {s : KernelState} {a : AbstractState} �
     StandsFor names (turn_begun s n) (record a { last = Some n; turns = a.turns + 1 })
 turn_begun_stands {names = names} {s = s} {a = a} h n b at awake none =
     let runs = ((slot_at s n).runs + 1) % 2 ^ 32 in
-    let k : KernelSlot = record (slot_at s n) { status = Running; runs = runs } in
+    let k : Slot = record (slot_at s n) { status = Running; runs = runs } in
     let own = status_born (slot_at s n) b Running runs (awake_runs b.blocked awake).1 (born_at h n b at) in
     record {
-      slots = upd-all (λ m (x : KernelSlot). StandsForSlot names s.spaces x (a.slots m)) s.environments.slots n k
-          (subst (λ (y : Slot). StandsForSlot names s.spaces k y) (sym at) own) (λ m ne. h.slots m);
+      slots = upd-all (λ m (x : Slot). StandsForSlot names s.spaces x (a.slots m)) s.environments.slots n k
+          (subst (λ (y : AbstractSlot). StandsForSlot names s.spaces k y) (sym at) own) (λ m ne. h.slots m);
       apart = h.apart;
       named = h.named;
       users = h.users;
@@ -232,12 +232,12 @@ turn_begun_stands {names = names} {s = s} {a = a} h n b at awake none =
         × (m ≢ 0 → (upd s.environments.slots n (record (slot_at s n) { status = Running; runs = ((slot_at s n).runs + 1) % 2 ^ 32 }) m).env_type ≡ User)
         × (is_running (upd s.environments.slots n (record (slot_at s n) { status = Running; runs = ((slot_at s n).runs + 1) % 2 ^ 32 }) m).status ≡ true → Some n ≡ Some m)
     at_turn =
-        upd-all (λ m (x : KernelSlot). (is_live_slot x ≡ true → x.id % NENV ≡ m) × (m ≢ 0 → x.env_type ≡ User) × (is_running x.status ≡ true → Some n ≡ Some m))
+        upd-all (λ m (x : Slot). (is_live_slot x ≡ true → x.id % NENV ≡ m) × (m ≢ 0 → x.env_type ≡ User) × (is_running x.status ≡ true → Some n ≡ Some m))
         s.environments.slots n (record (slot_at s n) { status = Running; runs = ((slot_at s n).runs + 1) % 2 ^ 32 })
         ((λ is. h.tabled.ids n (born_live (born_at h n b at))), (λ other. h.tabled.servers n other), (λ is. refl))
         (λ m ne. (h.tabled.ids m, h.tabled.servers m, (λ is. absurd (let contradiction : false ≡ true = sym (none m) ∙ is in cc))))
 
-running_awake : (status : Status) (blocked : Bool) → RunsAs status blocked → is_running status ≡ true → RunsAs Runnable blocked
+running_awake : (status : Status) (blocked : Bool) → IsStatusFor status blocked → is_running status ≡ true → IsStatusFor Runnable blocked
 running_awake Running false h is = tt
 running_awake Runnable false h is = tt
 running_awake NotRunnable true h is = absurd (let contradiction : false ≡ true = is in cc)
@@ -247,10 +247,10 @@ pub turn_ended_stands : {names : Names} {s : KernelState} {a : AbstractState} �
     StandsFor names (turn_ended s n) a
 turn_ended_stands {names = names} {s = s} {a = a} h n = by_running (is_running (slot_at s n).status) refl
   where
-    by_slot : is_running (slot_at s n).status ≡ true → (slot : Slot) → a.slots n ≡ slot →
+    by_slot : is_running (slot_at s n).status ≡ true → (slot : AbstractSlot) → a.slots n ≡ slot →
         StandsForSlot names s.spaces (slot_at s n) slot → StandsFor names (with_status s n Runnable) a
     by_slot running (free id) at so =
-        absurd (let contradiction : true ≡ false = sym running ∙ ap (λ (x : KernelSlot). is_running x.status) so in cc)
+        absurd (let contradiction : true ≡ false = sym running ∙ ap (λ (x : Slot). is_running x.status) so in cc)
     by_slot running (unborn id parent) at so = absurd so
     by_slot running (born b) at so =
         slot_replaced h n b at (record (slot_at s n) { status = Runnable }) refl (runnable_settles (slot_at s n))
@@ -277,7 +277,7 @@ pub quiet_stands : {names : Names} {s : KernelState} {a : AbstractState} {sp : S
 quiet_stands {names = names} {s = s} {a = a} {sp = sp} h quiet in_order = record {
   slots = λ m. slot_stands names names s.spaces sp (slot_at s m) (a.slots m) (h.slots m)
       (λ live. quiet_alike names quiet (slot_at s m).directory);
-  apart = subst (λ (r : Rows). Apart r) (sym quiet.rows) h.apart;
+  apart = subst (λ (r : Rows). AgreeWhereShared r) (sym quiet.rows) h.apart;
   named = subst (λ (r : Rows). AreNamed names sp.pages a.shared a.next_name r) (sym quiet.rows)
       (subst (λ (pages : ℕ → List ℕ). AreNamed names pages a.shared a.next_name (rows_of s.spaces)) (sym quiet.pages) h.named);
   users = subst (λ (r : Rows). AreUsers r) (sym quiet.rows) h.users;

@@ -10,7 +10,7 @@ use Rattle.lib_os.specs.declared.progress.Progress.{Progress}
 use Rattle.lib_os.specs.declared.progress.Progress.TheVariants as progress
 use Rattle.lib_os.specs.declared.user_os.Stop.{Stop}
 use Rattle.lib_os.specs.declared.user_os.Stop.TheVariants as stop
-use Rattle.lib_os.specs.LibrarySteps.{LeavesRest, KeepsUses, Leaves, IsStopped, is_pausing, gone_back, answered}
+use Rattle.lib_os.specs.LibrarySteps.{LeavesRest, KeepsUses, Leaves, IsStopped, is_pausing, gone_back, service_answered}
 use Rattle.lib_os.specs.Places.{place_of}
 use Rattle.lib_os.specs.UserCalls.{IsStep, IsCallStep, Output, load, system}
 use Rattle.lib_os.proofs.UsesCalled.{system_found, load_found}
@@ -62,7 +62,7 @@ goes_back s mid after n m regs done h is =
       used = h.used;
     }))
 
-pub answers : (s mid after : KernelState) (n m word : ℕ) (done : Progress) → Behind s n mid → after ≡ answered mid m word →
+pub answers : (s mid after : KernelState) (n m word : ℕ) (done : Progress) → Behind s n mid → after ≡ service_answered mid m word →
     Leaves (Ok done) n s after
 answers s mid after n m word done h is = goes_back s mid after n m (record (slot_at mid m).registers { eax = word }) done h is
 

@@ -9,7 +9,7 @@ use Rattle.jos_base.specs.declared.memory.Access.TheVariants.{Read, Write}
 use Rattle.jos_base.specs.declared.memory.PageFault.{PageFault}
 use Rattle.jos_base.specs.declared.numbers.TheConstants.{NPTENTRIES}
 use Rattle.jos_base.specs.Words.{page_number, page_offset}
-use Rattle.jos_base.specs.Reach.{Entry, Location, reach_entry, allows}
+use Rattle.jos_base.specs.Reach.{Entry, FrameOffset, reach_entry, allows}
 use Rattle.jos_base.specs.Counting.{page_limit}
 use Rattle.jos_base.specs.SpacesState.{SpacesState, Region, with_page_bytes}
 use Rattle.jos_base.specs.Windows.{walked, table_index}
@@ -73,7 +73,7 @@ pub touched_quiet : (s : SpacesState) (d va : ℕ) (a : Access) → Quiet s (tou
 unfolding touched
 touched_quiet s d va a = by_outcome (reach_in s d va a)
   where
-    by_outcome : (r : Result Location PageFault) → Quiet s (touched_by s d va a r)
+    by_outcome : (r : Result FrameOffset PageFault) → Quiet s (touched_by s d va a r)
     by_outcome (Ok location) = bits_quiet s d (page_number va) a
     by_outcome (Err fault) = quiet_self s
 

@@ -21,10 +21,10 @@ use Rattle.lib_os.specs.AbstractRun.{abs_step, may_wait}
 use Rattle.lib_os.specs.Answers.{refused}
 use Rattle.lib_os.specs.Fence.{is_page_inside}
 use Rattle.lib_os.specs.InOrder.{IsInOrder}
-use Rattle.lib_os.specs.LibrarySteps.{answered}
+use Rattle.lib_os.specs.LibrarySteps.{service_answered}
 use Rattle.lib_os.specs.MemoryServices.{lives}
 use Rattle.lib_os.specs.StandsFor.{StandsFor, Names, rows_of, lasting, is_shared, MaySendBy, IsSendable, IsTrying, destination_of}
-use Rattle.lib_os.specs.UserCalls.{Got, got, Step, giving, system}
+use Rattle.lib_os.specs.UserCalls.{Got, got, CallStep, giving, system}
 use Rattle.lib_os.proofs.Effects.{Given}
 use Rattle.lib_os.proofs.EntryWords.{row_entry}
 use Rattle.lib_os.proofs.Fences.{page_inside_aligned, page_inside_below}
@@ -38,7 +38,7 @@ use Rattle.lib_os.proofs.Waiters.{IsTaken, accepted, no_destination, destination
 pub data HasTried (names : Names) (s mid : KernelState) (a : AbstractState) (n word : ℕ) : Type 0 where
   -- the service is over, and this is its answer
   goes_on : word ≢ negated E_IPC_NOT_RECV → (after : AbstractState) → abs_step a n ≡ Some after → after.console ≡ a.console →
-      StandsFor names (answered mid n word) after → HasTried names s mid a n word
+      StandsFor names (service_answered mid n word) after → HasTried names s mid a n word
   -- the other lives and does not wait for it
   not_yet : word ≡ negated E_IPC_NOT_RECV → mid ≡ s → ((quantum : ℕ) → may_wait a n quantum ≡ true) → HasTried names s mid a n word
   -- the page was to stand in a region without a table, and no frame was free
@@ -83,7 +83,7 @@ module _ {names : Names} {s : KernelState} {a : AbstractState} (h : StandsFor na
   d = (slot_at s n).directory
 
   -- the call, with this address
-  abbrev call : ℕ → Step Called
+  abbrev call : ℕ → CallStep Called
   call address = system s n SYS_IPC_TRY_SEND (id ∷ value ∷ address ∷ perm ∷ rest)
 
   module _ (gives : (call (destination_of va)).gives ≡ got (Answered word)) (state : mid ≡ (call (destination_of va)).state)
@@ -99,18 +99,18 @@ module _ {names : Names} {s : KernelState} {a : AbstractState} (h : StandsFor na
 
     came_to : (after : KernelState) (w : ℕ) → call (destination_of va) ≡ giving after (Answered w) → (word ≡ w) × (mid ≡ after)
     came_to after w is = (
-      ap (λ (x : Got Called). word_got x) (sym gives ∙ ap (λ (x : Step Called). x.gives) is),
-      state ∙ ap (λ (x : Step Called). x.state) is,
+      ap (λ (x : Got Called). word_got x) (sym gives ∙ ap (λ (x : CallStep Called). x.gives) is),
+      state ∙ ap (λ (x : CallStep Called). x.state) is,
     )
 
     over : (after : KernelState) (w : ℕ) → call (destination_of va) ≡ giving after (Answered w) → w ≢ negated E_IPC_NOT_RECV →
-        (end : AbstractState) → abs_step a n ≡ Some end → end.console ≡ a.console → StandsFor names (answered after n w) end →
+        (end : AbstractState) → abs_step a n ≡ Some end → end.console ≡ a.console → StandsFor names (service_answered after n w) end →
         HasTried names s mid a n word
     over after w is other end stepped printed so =
         let came = came_to after w is in
         goes_on (λ e. other (sym came.0 ∙ e)) end stepped printed
-        (subst (λ (x : KernelState). StandsFor names (answered x n word) end) (sym came.1)
-        (subst (λ (x : ℕ). StandsFor names (answered after n x) end) (sym came.0) so))
+        (subst (λ (x : KernelState). StandsFor names (service_answered x n word) end) (sym came.1)
+        (subst (λ (x : ℕ). StandsFor names (service_answered after n x) end) (sym came.0) so))
 
     -- ---- who is named
 

@@ -12,7 +12,7 @@ use Rattle.jos_base.specs.Messages.{Rendezvous, accepts, wanting}
 use Rattle.jos_base.specs.SpacesState.{SpacesState}
 use Rattle.jos_base.specs.SystemCalls.{Passing, nothing, a_page, invalid, call_of, answered, message_taken, sent, sent_with, passing_of, inserted_at, ipc_try_send_of}
 use Rattle.jos_base.specs.Words.{negated}
-use Rattle.lib_os.specs.UserCalls.{Step, got, asking, called_by, system}
+use Rattle.lib_os.specs.UserCalls.{CallStep, got, asking, called_by, system}
 use Rattle.lib_os.specs.AbstractState.{AbstractState}
 use Rattle.lib_os.specs.MemoryServices.{lives}
 use Rattle.lib_os.specs.StandsFor.{StandsFor, Names}
@@ -23,7 +23,7 @@ use Rattle.lib_os.proofs.SlotsStand.{live_stands, ids_stand}
 use Rattle.jos_base.proofs.Maps.{upd-all}
 
 -- the caller has an answer, and lives on with its registers; nothing is written
-pub record IsAnswered (call : Step Called) (n : ℕ) (regs : Regs) : Type 0 where
+pub record IsAnswered (call : CallStep Called) (n : ℕ) (regs : Regs) : Type 0 where
   pub answer : ℕ
   pub gives : call.gives ≡ got (Answered answer)
   pub live : is_live (slot_at call.state n) ≡ true
@@ -85,14 +85,14 @@ unfolding call_of
 try_send_answered s n id value va perm rest live =
     let q : Regs = asking (slot_at s n).registers SYS_IPC_TRY_SEND (id ∷ value ∷ va ∷ perm ∷ rest) in
     let k : KernelState = with_registers s n q in
-    subst (λ (call : Step Called). IsAnswered call n (slot_at s n).registers)
+    subst (λ (call : CallStep Called). IsAnswered call n (slot_at s n).registers)
     (sym (system_is s n SYS_IPC_TRY_SEND (id ∷ value ∷ va ∷ perm ∷ rest) (ipc_try_send_of k n (found k.environments id n false) value va perm) refl refl))
     (found_answered k n value va perm (slot_at s n).registers (live_still s n live q) (found k.environments id n false))
 
 -- ---- one that waits for a message
 
 -- the caller lives on with its registers; nothing is written
-pub record LivesOn (call : Step Called) (n : ℕ) (regs : Regs) : Type 0 where
+pub record LivesOn (call : CallStep Called) (n : ℕ) (regs : Regs) : Type 0 where
   pub live : is_live (slot_at call.state n) ≡ true
   pub registers : (slot_at call.state n).registers ≡ regs
   pub written : call.written ≡ []
@@ -108,13 +108,13 @@ recv_lives s n va sender rest live = by_test (nat_lt va UTOP && not (va % PGSIZE
         let waiting : Slot = record (slot_at s n) { rendezvous = r; status = NotRunnable } in
         let there : slot_at (with_status (with_rendezvous s n r) n NotRunnable) n ≡ waiting =
         ap (λ (k : KernelState). slot_at k n) (waits_is s n r NotRunnable) ∙ slot_put s n waiting in
-        subst (λ (call : Step Called). LivesOn call n (slot_at s n).registers) (sym (ipc_recv_is s n live va sender rest is))
+        subst (λ (call : CallStep Called). LivesOn call n (slot_at s n).registers) (sym (ipc_recv_is s n live va sender rest is))
         (record { live = ap (λ (x : Slot). is_live x) there; registers = ap (λ (x : Slot). x.registers) there; written = refl })
     by_test true is =
         let q : Regs = asking (slot_at s n).registers SYS_IPC_RECV (va ∷ sender ∷ rest) in
         let k : KernelState = with_registers s n q in
         let told = answer_called k n (slot_at s n).registers (negated E_INVAL) (live_still s n live q) in
-        subst (λ (call : Step Called). LivesOn call n (slot_at s n).registers)
+        subst (λ (call : CallStep Called). LivesOn call n (slot_at s n).registers)
         (sym (system_is s n SYS_IPC_RECV (va ∷ sender ∷ rest) (answered k n (negated E_INVAL)) refl (rw is refl)))
         (record { live = told.live; registers = told.registers; written = told.written })
 

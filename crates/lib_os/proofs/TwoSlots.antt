@@ -7,13 +7,13 @@ use Rattle.jos_base.specs.declared.environment.EnvType.TheVariants.{User, FileSe
 use Rattle.jos_base.specs.declared.environment.Status.TheVariants.{Runnable, NotRunnable}
 use Rattle.jos_base.specs.declared.numbers.TheConstants.{NENV}
 use Rattle.jos_base.specs.declared.registers.Regs.{Regs}
-use Rattle.jos_base.specs.Environments.{Slot as KernelSlot, free_slot, no_extra, is_live, is_running}
+use Rattle.jos_base.specs.Environments.{Slot, free_slot, no_extra, is_live, is_running}
 use Rattle.jos_base.specs.KernelState.{HasSpaces}
 use Rattle.jos_base.specs.SpacesState.{SpacesState, directories}
-use Rattle.lib_os.specs.AbstractState.{Born, Slot, free, born, serving, guest, at_guest}
+use Rattle.lib_os.specs.AbstractState.{Born, AbstractSlot, free, born, serving, guest, at_guest}
 use Rattle.lib_os.specs.declared.place.Place.{Place}
 use Rattle.lib_os.specs.Places.{place_of}
-use Rattle.lib_os.specs.StandsFor.{Names, Row, rows_of, StandsForSlot, StandsForServer, StandsForBorn, StandsAt, IsTabled}
+use Rattle.lib_os.specs.StandsFor.{Names, EntryRow, rows_of, StandsForSlot, StandsForServer, StandsForBorn, StandsAt, IsTabled}
 use Rattle.lib_os.proofs.Serving.{words_of_none}
 
 -- every slot is one of three
@@ -31,21 +31,21 @@ which_slot n = by_tests (n == 0) (n == 1) refl refl
     by_tests false false is_first is_second = unused is_first is_second
 
 -- the abstract system's slots
-abbrev pub slot_of : Born → ℕ → Slot
+abbrev pub slot_of : Born → ℕ → AbstractSlot
 slot_of b n = if n == 0 then serving 0x1000 else if n == 1 then born b else free 0
 
 module _ (first second : ℕ) (registers : Regs) where
-  abbrev pub the_server : KernelSlot
+  abbrev pub the_server : Slot
   the_server = record (free_slot 0x1000) { env_type = FileServer; status = NotRunnable; directory = first }
 
-  abbrev pub the_program : KernelSlot
+  abbrev pub the_program : Slot
   the_program = record (free_slot 0x1001) { status = Runnable; registers = registers; directory = second }
 
-  abbrev pub slots : ℕ → KernelSlot
+  abbrev pub slots : ℕ → Slot
   slots n = if n == 0 then the_server else if n == 1 then the_program else free_slot 0
 
   -- what holds of the three holds of each slot
-  pub each_slot : (P : ℕ → KernelSlot → Type 0) → P 0 the_server → P 1 the_program →
+  pub each_slot : (P : ℕ → Slot → Type 0) → P 0 the_server → P 1 the_program →
       ((n : ℕ) → (n == 0) ≡ false → (n == 1) ≡ false → P n (free_slot 0)) → (n : ℕ) → P n (slots n)
   each_slot P one two rest n = by_slot (which_slot n)
     where
@@ -69,7 +69,7 @@ module _ (first second : ℕ) (registers : Regs) where
 
   module _ (spaces : SpacesState) (one : directories spaces first ≡ true) (two : directories spaces second ≡ true) (other : first ≢ second)
       (others : (d : ℕ) → (d == first) ≡ false → (d == second) ≡ false → directories spaces d ≡ false) where
-    abbrev WhichLive : ℕ → KernelSlot → Type 0
+    abbrev WhichLive : ℕ → Slot → Type 0
     WhichLive n k = ((n ≡ 0) × (k.directory ≡ first)) ⊎ ((n ≡ 1) × (k.directory ≡ second))
 
     live_slots : (n : ℕ) → is_live (slots n) ≡ true → WhichLive n (slots n)
@@ -105,7 +105,7 @@ module _ (first second : ℕ) (registers : Regs) where
   -- ---- what each slot stands for
 
   -- the program is at its first instruction
-  pub at_start : (row : Row) (b : Born) → b.program ≡ guest registers → b.phase ≡ at_guest → b.blocked ≡ false →
+  pub at_start : (row : EntryRow) (b : Born) → b.program ≡ guest registers → b.phase ≡ at_guest → b.blocked ≡ false →
       StandsAt (place_of the_program) row the_program b
   at_start row b program_is phase awake =
       subst (λ (p : Place). StandsAt p row the_program b) (sym (words_of_none registers no_extra refl))

@@ -22,7 +22,7 @@ use Rattle.jos_base.specs.Counting.{page_limit}
 use Rattle.jos_base.specs.Environments.{Environments, Slot, allotted, found, found_at, is_live, may_change}
 use Rattle.jos_base.specs.KernelState.{KernelState, slot_at, with_registers}
 use Rattle.jos_base.specs.Messages.{accepts}
-use Rattle.jos_base.specs.Reach.{Entry, Location}
+use Rattle.jos_base.specs.Reach.{Entry, FrameOffset}
 use Rattle.jos_base.specs.SpacesState.{SpacesState, directory, created, allocated, overlaid}
 use Rattle.jos_base.specs.SystemCalls.{Did, Passing, a_page, invalid, nothing, killed, handler_entered}
 use Rattle.jos_base.specs.SystemCalls.{handled_at, handled, cputs, cputs_of, cgetc_from, env_destroy_of, made_of}
@@ -39,7 +39,7 @@ use Rattle.jos_base.specs.UserMemory.{reach_in, touched}
 use Rattle.jos_base.specs.Words.{page_number}
 use Rattle.lib_os.specs.InOrder.{HasOneUse, IsInOrder}
 use Rattle.lib_os.specs.Need.{EachHasUse}
-use Rattle.lib_os.specs.UserCalls.{Step, accessing, asking, exchange, faulting, load, load_byte, restored, restore_frame}
+use Rattle.lib_os.specs.UserCalls.{CallStep, accessing, asking, exchange, faulting, load, load_byte, restored, restore_frame}
 use Rattle.lib_os.specs.UserCalls.{sets_own, store}
 use Rattle.lib_os.specs.UserCalls.{store_byte, system, taken_back, user_byte, user_word, giving, got, with_bytes_put}
 use Rattle.lib_os.specs.UserCalls.{with_user_byte, with_user_word}
@@ -381,7 +381,7 @@ pub handled_found : (s : KernelState) (n : ℕ) (fault : PageFault) (after : Ker
 unfolding handled
 handled_found s n fault after all is = by_test ((slot_at s n).upcall == 0) is
   where
-    by_reach : (place : ℕ) (r : Result Location PageFault) → handler_entered s n fault place r ≡ Some after →
+    by_reach : (place : ℕ) (r : Result FrameOffset PageFault) → handler_entered s n fault place r ≡ Some after →
         EachHasUse after.spaces
     by_reach place (Err refusal) none = absurd cc
     by_reach place (Ok at) some =
@@ -403,7 +403,7 @@ handled_found s n fault after all is = by_test ((slot_at s n).upcall == 0) is
 
 -- ---- accesses
 
-record KeepsStep {X : Type 0} (step : Step X) : Type 0 where
+record KeepsStep {X : Type 0} (step : CallStep X) : Type 0 where
   each : EachHasUse step.state.spaces
 
 faulting_keeps : {X : Type 0} (s : KernelState) (n : ℕ) (fault : PageFault) → HasOneUse s.spaces → EachHasUse s.spaces →
@@ -414,9 +414,9 @@ faulting_keeps {X = X} s n fault h all = by_handler (handled s n fault) refl
     by_handler (Some after) at = record { each = handled_found s n fault after all at }
     by_handler None at = record { each = killed_found s n (UserFault fault.va (slot_at s n).registers.eip) h all }
 
-accessing_keeps : {X : Type 0} (s : KernelState) (n va : ℕ) (a : Access) (done : KernelState → Step X) → HasOneUse s.spaces →
+accessing_keeps : {X : Type 0} (s : KernelState) (n va : ℕ) (a : Access) (done : KernelState → CallStep X) → HasOneUse s.spaces →
     EachHasUse s.spaces →
-    ((k : KernelState) → EachHasUse k.spaces → KeepsStep (done k)) → (r : Result Location PageFault) →
+    ((k : KernelState) → EachHasUse k.spaces → KeepsStep (done k)) → (r : Result FrameOffset PageFault) →
     KeepsStep (accessing s n va a done r)
 accessing_keeps s n va a done h all keeps (Ok location) = keeps _ (touched_found s.spaces (slot_at s n).directory va a all)
 accessing_keeps s n va a done h all keeps (Err fault) = faulting_keeps s n fault h all

@@ -11,7 +11,7 @@ use Rattle.jos_base.specs.declared.memory.Access.TheVariants.{Read, Write}
 use Rattle.jos_base.specs.declared.memory.PageFault.{PageFault}
 use Rattle.jos_base.specs.declared.numbers.TheConstants.{NPTENTRIES}
 use Rattle.jos_base.specs.Words.{page_number}
-use Rattle.jos_base.specs.Reach.{Entry, Location}
+use Rattle.jos_base.specs.Reach.{Entry, FrameOffset}
 use Rattle.jos_base.specs.Counting.{total, named, page_count, frame_limit, page_limit}
 use Rattle.jos_base.specs.SpacesState.{SpacesState, Region, directory, freed, released, frame_of, reserved_frames, rising}
 use Rattle.jos_base.specs.SpacesState.{first_spaces}
@@ -132,7 +132,7 @@ touched_alike : (s : SpacesState) (d va : ℕ) (a : Access) → UsedAlike s (tou
 unfolding touched
 touched_alike s d va a = by_outcome (reach_in s d va a)
   where
-    by_outcome : (r : Result Location PageFault) → UsedAlike s (touched_by s d va a r)
+    by_outcome : (r : Result FrameOffset PageFault) → UsedAlike s (touched_by s d va a r)
     by_outcome (Ok location) = bits_alike s d (page_number va) a
     by_outcome (Err fault) = alike_self s
 
@@ -155,7 +155,7 @@ pub stored_found : (s : SpacesState) (d va byte : ℕ) → EachHasUse s → Each
 unfolding stored_byte
 stored_found s d va byte all = by_outcome (reach_in s d va Write)
   where
-    by_outcome : (r : Result Location PageFault) → EachHasUse (with_byte_at s byte r)
+    by_outcome : (r : Result FrameOffset PageFault) → EachHasUse (with_byte_at s byte r)
     by_outcome (Ok location) = bytes_found s location.frame _ all
     by_outcome (Err fault) = all
 

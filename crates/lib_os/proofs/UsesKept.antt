@@ -7,7 +7,7 @@ use Rattle.jos_base.specs.declared.memory.Access.TheVariants.{Read, Write}
 use Rattle.jos_base.specs.declared.memory.PageFault.{PageFault}
 use Rattle.jos_base.specs.declared.numbers.TheConstants.{NPTENTRIES}
 use Rattle.jos_base.specs.Words.{page_number}
-use Rattle.jos_base.specs.Reach.{Entry, Location}
+use Rattle.jos_base.specs.Reach.{Entry, FrameOffset}
 use Rattle.jos_base.specs.Counting.{page_limit, frame_limit}
 use Rattle.jos_base.specs.SpacesState.{SpacesState, Region, Use}
 use Rattle.jos_base.specs.Windows.{table_index}
@@ -112,7 +112,7 @@ pub touched_kept : (s : SpacesState) (d va : ℕ) (a : Access) → HasOneUse s �
 unfolding touched
 touched_kept s d va a h = by_outcome (reach_in s d va a)
   where
-    by_outcome : (r : Result Location PageFault) → HasOneUse (touched_by s d va a r)
+    by_outcome : (r : Result FrameOffset PageFault) → HasOneUse (touched_by s d va a r)
     by_outcome (Ok location) = bits_kept s d (page_number va) a h
     by_outcome (Err fault) = h
 
@@ -126,7 +126,7 @@ pub stored_kept : (s : SpacesState) (d va byte : ℕ) → HasOneUse s → HasOne
 unfolding stored_byte
 stored_kept s d va byte h = by_outcome (reach_in s d va Write)
   where
-    by_outcome : (r : Result Location PageFault) → HasOneUse (with_byte_at s byte r)
+    by_outcome : (r : Result FrameOffset PageFault) → HasOneUse (with_byte_at s byte r)
     by_outcome (Ok location) = record {
       pages = h.pages;
       owners = h.owners;

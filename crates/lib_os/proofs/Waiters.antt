@@ -5,7 +5,7 @@ use Rattle.std.proofs.Common.{refl, sym, ap, arith, if◌then◌else◌}
 use Rattle.std.proofs.lemmas.Bool.Decides.{nat_tests}
 use Rattle.jos_base.specs.declared.numbers.TheConstants.{UTOP}
 use Rattle.jos_base.specs.declared.registers.Regs.{Regs}
-use Rattle.jos_base.specs.Environments.{Slot as KernelSlot}
+use Rattle.jos_base.specs.Environments.{Slot}
 use Rattle.jos_base.specs.KernelState.{KernelState, slot_at}
 use Rattle.jos_base.specs.Messages.{accepts}
 use Rattle.lib_os.specs.declared.place.Place.{Place}
@@ -15,24 +15,24 @@ use Rattle.lib_os.specs.declared.place.Step.TheVariants as step
 use Rattle.lib_os.specs.declared.service.Service.{Service}
 use Rattle.lib_os.specs.declared.service.Service.TheVariants as service
 use Rattle.lib_os.specs.AbstractState.{AbstractState, Born, born, Phase, entered}
-use Rattle.lib_os.specs.AbstractMessages.{Waiting, waiting_at, waiting_in, takes, sent, sent_to_waiting}
+use Rattle.lib_os.specs.AbstractMessages.{Receiver, waiting_at, waiting_in, takes, sent, sent_to_waiting}
 use Rattle.lib_os.specs.Places.{place_of}
-use Rattle.lib_os.specs.StandsFor.{StandsFor, Names, Row, rows_of, StandsAt, StandsAtStep, IsIn, IsReceiving, HasReceived}
+use Rattle.lib_os.specs.StandsFor.{StandsFor, Names, EntryRow, rows_of, StandsAt, StandsAtStep, IsIn, IsReceiving, HasReceived}
 use Rattle.lib_os.specs.StandsFor.{WaitsOrHas, waits, has, destination_of}
 use Rattle.lib_os.proofs.SlotsStand.{born_at}
 
 -- ---- at each place
 
 -- It waits in receive, and stands where it will read the word.
-pub record Waits (p : Place) (k : KernelSlot) (c : Born) : Type 0 where
-  pub w : Waiting
+pub record Waits (p : Place) (k : Slot) (c : Born) : Type 0 where
+  pub w : Receiver
   pub id : ℕ
   pub at : p ≡ place.InService (service.Receive w.va w.from) (step.ReadingValue id)
   pub self : id ≡ k.id
   pub so : IsReceiving k c w.va w.from
 
 -- It waits in neither system.
-pub record WaitsNot (k : KernelSlot) (c : Born) : Type 0 where
+pub record WaitsNot (k : Slot) (c : Born) : Type 0 where
   pub silent : k.rendezvous.receiving ≡ false
   pub nowhere : waiting_in c.phase ≡ None
 
@@ -40,13 +40,13 @@ entered_only : (s : Service) → waiting_at s entered ≡ None
 entered_only (service.Receive va from) = refl
 entered_only _ = refl
 
-in_silence : {k : KernelSlot} {c : Born} (s : Service) → IsIn k c s entered → WaitsNot k c
+in_silence : {k : Slot} {c : Born} (s : Service) → IsIn k c s entered → WaitsNot k c
 in_silence s h = record { silent = h.silent; nowhere = ap (λ (p : Phase). waiting_in p) h.phase ∙ entered_only s }
 
-has_come : {k : KernelSlot} {c : Born} {va from : ℕ} → HasReceived k c va from → WaitsNot k c
+has_come : {k : Slot} {c : Born} {va from : ℕ} → HasReceived k c va from → WaitsNot k c
 has_come h = record { silent = h.silent; nowhere = ap (λ (p : Phase). waiting_in p) h.phase }
 
-at_step : (row : Row) (k : KernelSlot) (c : Born) (s : Service) (stands : Step) → StandsAtStep row k c s stands →
+at_step : (row : EntryRow) (k : Slot) (c : Born) (s : Service) (stands : Step) → StandsAtStep row k c s stands →
     WaitsNot k c ⊎ Waits (place.InService s stands) k c
 at_step row k c s step.Entered h = inl (in_silence s h)
 at_step row k c (service.Wait id) (step.Trying perm) h = inl (in_silence _ h.is_in)
@@ -65,15 +65,15 @@ at_step row k c (service.Receive va from) (step.ReadingSender id value) h = inl 
 at_step row k c (service.Receive va from) (step.ReadingPerm id value sender) h = inl (has_come h.3)
 at_step row k c _ _ h = absurd h
 
-pub waits_or_not : (p : Place) (row : Row) (k : KernelSlot) (c : Born) → StandsAt p row k c → WaitsNot k c ⊎ Waits p k c
+pub waits_or_not : (p : Place) (row : EntryRow) (k : Slot) (c : Born) → StandsAt p row k c → WaitsNot k c ⊎ Waits p k c
 waits_or_not place.Guest row k c h = inl (record { silent = h.silent; nowhere = ap (λ (p : Phase). waiting_in p) h.phase })
 waits_or_not (place.InService s stands) row k c h = at_step row k c s stands h
 
 -- ---- who is waited for
 
 -- One waits, and takes messages of this sender.
-pub record IsTaken (k : KernelSlot) (c : Born) (sender : ℕ) : Type 0 where
-  pub w : Waiting
+pub record IsTaken (k : Slot) (c : Born) (sender : ℕ) : Type 0 where
+  pub w : Receiver
   pub id : ℕ
   pub at : place_of k ≡ place.InService (service.Receive w.va w.from) (step.ReadingValue id)
   pub self : id ≡ k.id
@@ -82,10 +82,10 @@ pub record IsTaken (k : KernelSlot) (c : Born) (sender : ℕ) : Type 0 where
   pub takes_it : takes w sender ≡ true
 
 module _ (a : AbstractState) (n : ℕ) (b : Born) (regs : Regs) (t value va : ℕ) (c : Born) where
-  sent_by : (w : Waiting) (o : Option Waiting) (test : Bool) → o ≡ Some w → takes w b.id ≡ test →
+  sent_by : (w : Receiver) (o : Option Receiver) (test : Bool) → o ≡ Some w → takes w b.id ≡ test →
       sent_to_waiting a n b regs t value va c o ≡ (if test then Some (sent a n b regs t value va c w) else None)
   sent_by w o test is taken =
-      ap (λ (x : Option Waiting). sent_to_waiting a n b regs t value va c x) is
+      ap (λ (x : Option Receiver). sent_to_waiting a n b regs t value va c x) is
       ∙ ap (λ (x : Bool). if x then Some (sent a n b regs t value va c w) else None) taken
 
 module _ {names : Names} {s : KernelState} {a : AbstractState} (h : StandsFor names s a) (n : ℕ) (b : Born) (at : a.slots n ≡ born b)
@@ -122,12 +122,12 @@ module _ {names : Names} {s : KernelState} {a : AbstractState} (h : StandsFor na
     where
       by_case : WaitsNot (slot_at s t) c ⊎ Waits (place_of (slot_at s t)) (slot_at s t) c →
           sent_to_waiting a n b regs t value va c (waiting_in c.phase) ≡ None
-      by_case (inl off) = ap (λ (x : Option Waiting). sent_to_waiting a n b regs t value va c x) off.nowhere
+      by_case (inl off) = ap (λ (x : Option Receiver). sent_to_waiting a n b regs t value va c x) off.nowhere
       by_case (inr p) =
           sent_by a n b regs t value va c p.w (waiting_in c.phase) false (ap (λ (q : Phase). waiting_in q) p.so.phase) (sym (waited p) ∙ is)
 
 -- the step to one who takes the message
-pub taken_is_sent : (a : AbstractState) (n : ℕ) (b : Born) (regs : Regs) (t value va : ℕ) (k : KernelSlot) (c : Born) →
+pub taken_is_sent : (a : AbstractState) (n : ℕ) (b : Born) (regs : Regs) (t value va : ℕ) (k : Slot) (c : Born) →
     (taken : IsTaken k c b.id) →
     sent_to_waiting a n b regs t value va c (waiting_in c.phase) ≡ Some (sent a n b regs t value va c taken.w)
 taken_is_sent a n b regs t value va k c taken =
@@ -135,7 +135,7 @@ taken_is_sent a n b regs t value va k c taken =
 
 -- ---- where it wants a page
 
-module _ {k : KernelSlot} {c : Born} {va from : ℕ} (so : IsReceiving k c va from) where
+module _ {k : Slot} {c : Born} {va from : ℕ} (so : IsReceiving k c va from) where
   -- it wants none
   pub no_destination : va ≡ 0 → UTOP ≤ k.rendezvous.destination
   no_destination none =

@@ -21,7 +21,7 @@ use Rattle.jos_base.specs.Windows.{entry_above, entry_word, table_index, envs_in
 use Rattle.jos_base.specs.Words.{page_number, page_offset}
 use Rattle.lib_os.specs.declared.numbers.TheConstants.{UVPD}
 use Rattle.lib_os.specs.InOrder.{HasOneUse}
-use Rattle.lib_os.specs.UserCalls.{Step, got, load, accessing, giving, user_word}
+use Rattle.lib_os.specs.UserCalls.{CallStep, got, load, accessing, giving, user_word}
 use Rattle.jos_base.proofs.Puts.{put-at, put-other}
 use Rattle.jos_base.proofs.Options.{some_is}
 
@@ -69,7 +69,7 @@ module _ (s : SpacesState) (d : ℕ) where
       ap (byte_or_zero records s d (va + k)) (window_reached (va + k) frame at) ∙ rw (past_k, here, low) refl
 
 -- the state after a load, and the word that it gives
-abbrev pub read_at : KernelState → ℕ → ℕ → ℕ → Step ℕ
+abbrev pub read_at : KernelState → ℕ → ℕ → ℕ → CallStep ℕ
 read_at s n va word =
     record { state = with_spaces s (touched s.spaces (slot_at s n).directory va Read); gives = got word; written = [] }
 

@@ -34,13 +34,13 @@ page_fault page va access = record { va = va; error = FEC_U + presence_bit page 
 
 -- ---- bytes
 
-abbrev pub bytes_of : AbstractState → Page → List ℕ
-bytes_of a (own bytes writable) = bytes
-bytes_of a (named name writable) = a.shared name
+abbrev pub bytes_of_page : AbstractState → Page → List ℕ
+bytes_of_page a (own bytes writable) = bytes
+bytes_of_page a (named name writable) = a.shared name
 
 abbrev pub byte_in : AbstractState → Option Page → ℕ → ℕ
 byte_in a None offset = 0
-byte_in a (Some page) offset = slice_index (bytes_of a page) offset
+byte_in a (Some page) offset = slice_index (bytes_of_page a page) offset
 
 -- the byte of an environment at an address; 0 where no page is
 abbrev pub byte_at : AbstractState → Born → ℕ → ℕ
@@ -76,9 +76,9 @@ has_page_in memory region = some_below NPTENTRIES (λ p. is_some (memory (region
 -- ---- the end
 
 -- An environment ends: its memory and its descriptors are gone, and its slot is the next to be given.
-abbrev pub ended : AbstractState → ℕ → Born → AbstractState
-ended a n b = record (with_slot a n (free b.id)) { free_slots = n ∷ a.free_slots }
+abbrev pub slot_freed : AbstractState → ℕ → Born → AbstractState
+slot_freed a n b = record (with_slot a n (free b.id)) { free_slots = n ∷ a.free_slots }
 
 -- It ends with a line that tells why.
 abbrev pub ended_with : AbstractState → ℕ → Born → List ℕ → AbstractState
-ended_with a n b line = with_printed (ended a n b) line
+ended_with a n b line = with_printed (slot_freed a n b) line

@@ -46,44 +46,44 @@ abbrev pub is_page_to_send : Born → ℕ → Bool
 is_page_to_send b va = (va == 0) || (is_page_inside va && may_pass (page_at b va))
 
 -- where a receiver wants a page, and from whom it takes a message; 0 is any
-pub record Waiting : Type 0 where
+pub record Receiver : Type 0 where
   pub va : ℕ
   pub from : ℕ
 
-abbrev pub waiting_at : Service → Stage → Option Waiting
+abbrev pub waiting_at : Service → Stage → Option Receiver
 waiting_at (service.Receive va from) receiving = Some (record { va = va; from = from })
 waiting_at _ _ = None
 
-abbrev pub waiting_in : Phase → Option Waiting
+abbrev pub waiting_in : Phase → Option Receiver
 waiting_in (in_service service stage) = waiting_at service stage
 waiting_in _ = None
 
-abbrev pub takes : Waiting → ℕ → Bool
+abbrev pub takes : Receiver → ℕ → Bool
 takes w sender = (w.from == 0) || (w.from == sender)
 
 -- what a receiver is told of a page: 1 where it may be read, 2 where it may be written
-abbrev pub kind_of : Page → ℕ
-kind_of page = if is_writable page then 2 else 1
+abbrev pub page_kind : Page → ℕ
+page_kind page = if is_writable page then 2 else 1
 
 -- the receiver with the page at the address where it wants one, and the word of it
-abbrev pub with_sent : Born → Waiting → ℕ → ℕ → Option Page → Born × ℕ
+abbrev pub with_sent : Born → Receiver → ℕ → ℕ → Option Page → Born × ℕ
 with_sent target w va sender None = (target, 0)
 with_sent target w va sender (Some page) =
-    if (va == 0) || (w.va == 0) then (target, 0) else (with_page target w.va page, kind_of page)
+    if (va == 0) || (w.va == 0) then (target, 0) else (with_page target w.va page, page_kind page)
 
 -- The receiver has the message, and may run again.
-abbrev pub woken : Born → Waiting → ℕ → ℕ → Born × ℕ → Born
+abbrev pub woken : Born → Receiver → ℕ → ℕ → Born × ℕ → Born
 woken target w sender value given = record given.0 {
   phase = in_service (service.Receive w.va w.from) (received (record { sender = sender; value = value; page = given.1 }));
   blocked = false;
 }
 
-abbrev pub sent : AbstractState → ℕ → Born → Regs → ℕ → ℕ → ℕ → Born → Waiting → AbstractState
+abbrev pub sent : AbstractState → ℕ → Born → Regs → ℕ → ℕ → ℕ → Born → Receiver → AbstractState
 sent a n b regs target value va other w =
     answered (with_born a target (woken other w b.id value (with_sent other w va b.id (page_at b va)))) n b regs 0
 
 -- There is no step while the target does not wait for this sender.
-abbrev pub sent_to_waiting : AbstractState → ℕ → Born → Regs → ℕ → ℕ → ℕ → Born → Option Waiting → Option AbstractState
+abbrev pub sent_to_waiting : AbstractState → ℕ → Born → Regs → ℕ → ℕ → ℕ → Born → Option Receiver → Option AbstractState
 sent_to_waiting a n b regs target value va other None = None
 sent_to_waiting a n b regs target value va other (Some w) =
     if takes w b.id then Some (sent a n b regs target value va other w) else None

@@ -49,16 +49,16 @@ read_over a n b regs service va pipe wanted (byte ∷ rest) =
     Some (handed_back a n b regs service va (byte ∷ rest) (length (byte ∷ rest)))
 
 -- A byte that is there is taken, up to so many as are wanted.
-abbrev pub read_from : AbstractState → ℕ → Born → Regs → Service → ℕ → ℕ → ℕ → List ℕ → List ℕ → Option AbstractState
-read_from a n b regs service va pipe wanted taken [] = read_over a n b regs service va pipe wanted taken
-read_from a n b regs service va pipe wanted taken (byte ∷ rest) =
+abbrev pub read_from_pipe : AbstractState → ℕ → Born → Regs → Service → ℕ → ℕ → ℕ → List ℕ → List ℕ → Option AbstractState
+read_from_pipe a n b regs service va pipe wanted taken [] = read_over a n b regs service va pipe wanted taken
+read_from_pipe a n b regs service va pipe wanted taken (byte ∷ rest) =
     if nat_lt (length taken) wanted
     then Some (at_stage (record a { pipes = upd a.pipes pipe rest }) n b service
     (moving (taken ++ byte ∷ []) (length taken + 1)))
     else read_over a n b regs service va pipe wanted taken
 
 abbrev pub read_pipe : AbstractState → ℕ → Born → Regs → Service → ℕ → ℕ → ℕ → List ℕ → Option AbstractState
-read_pipe a n b regs service va pipe wanted taken = read_from a n b regs service va pipe wanted taken (a.pipes pipe)
+read_pipe a n b regs service va pipe wanted taken = read_from_pipe a n b regs service va pipe wanted taken (a.pipes pipe)
 
 -- ---- writing
 

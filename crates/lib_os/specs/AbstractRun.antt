@@ -6,7 +6,7 @@ use Rattle.jos_base.specs.declared.numbers.TheConstants.{NENV}
 use Rattle.lib_os.specs.declared.numbers.TheConstants.{PIPEBUFSIZ, SHORT_QUANTUM}
 use Rattle.lib_os.specs.declared.service.Service.{Service}
 use Rattle.lib_os.specs.declared.service.Service.TheVariants as service
-use Rattle.lib_os.specs.AbstractState.{AbstractState, Born, Slot, free, unborn, born, serving, Program, guest, shell, Phase, at_guest, faulted, in_service}
+use Rattle.lib_os.specs.AbstractState.{AbstractState, Born, AbstractSlot, free, unborn, born, serving, ProgramState, guest, shell, Phase, at_guest, faulted, in_service}
 use Rattle.lib_os.specs.AbstractState.{Server, idle, acted, is_idle, Object, read_end, write_end}
 use Rattle.fs_layout.specs.DiskImage.{some_below}
 use Rattle.lib_os.specs.GuestStep.{guest_step, ends_with, born_in}
@@ -19,13 +19,13 @@ use Rattle.lib_os.specs.LibraryCall.{library_step}
 -- ---- a step
 
 -- The shell's steps are told with its script.
-abbrev pub program_step : AbstractState → ℕ → Born → Program → Phase → Option AbstractState
+abbrev pub program_step : AbstractState → ℕ → Born → ProgramState → Phase → Option AbstractState
 program_step a n b (guest regs) at_guest = Some (guest_step a n regs)
 program_step a n b (guest regs) (faulted va ip) = Some (ends_with a n b (line.UserFault va ip))
 program_step a n b (guest regs) (in_service service stage) = library_step a n b regs service stage
 program_step a n b (shell place) phase = None
 
-abbrev pub slot_step : AbstractState → ℕ → Slot → Option AbstractState
+abbrev pub slot_step : AbstractState → ℕ → AbstractSlot → Option AbstractState
 slot_step a n (free id) = None
 slot_step a n (unborn id parent) = None
 slot_step a n (born b) = if b.blocked then None else program_step a n b b.program b.phase
@@ -88,12 +88,12 @@ changes_holders (Some (service.Close fd)) = true
 changes_holders (Some service.Exit) = true
 changes_holders _ = false
 
-abbrev pub is_end : ℕ → Object → Bool
-is_end pipe object = is_read_end pipe object || is_write_end pipe object
+abbrev pub is_pipe_end : ℕ → Object → Bool
+is_pipe_end pipe object = is_read_end pipe object || is_write_end pipe object
 
 abbrev pub is_changing : AbstractState → ℕ → Option Born → Bool
 is_changing a pipe None = false
-is_changing a pipe (Some b) = holds_such a (is_end pipe) (Some b) && changes_holders (service_of_phase b.phase)
+is_changing a pipe (Some b) = holds_such a (is_pipe_end pipe) (Some b) && changes_holders (service_of_phase b.phase)
 
 -- a slot that holds an end of the pipe is about to give it on, or to drop it
 abbrev pub is_changed : AbstractState → ℕ → Bool
@@ -134,7 +134,7 @@ abbrev pub reply_may_wait : Server → Option AbstractState → Bool
 reply_may_wait (acted client answer bytes object) None = true
 reply_may_wait _ _ = false
 
-abbrev pub slot_may_wait : AbstractState → ℕ → Slot → ℕ → Bool
+abbrev pub slot_may_wait : AbstractState → ℕ → AbstractSlot → ℕ → Bool
 slot_may_wait a n (free id) quantum = false
 slot_may_wait a n (unborn id parent) quantum = false
 slot_may_wait a n (born b) quantum = phase_may_wait a n b b.phase quantum

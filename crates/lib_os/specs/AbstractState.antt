@@ -6,7 +6,7 @@ use Rattle.std.specs.Prelude.{ℕ, not, Bool, true, false, List, ◌++◌, Optio
 use Rattle.jos_base.specs.declared.registers.Regs.{Regs}
 use Rattle.jos_base.specs.Words.{upd}
 use Rattle.lib_os.specs.declared.service.Service.{Service}
-use Rattle.fs_layout.specs.FileTree.{FileSystem, Act}
+use Rattle.fs_layout.specs.FileTree.{FileSystem, FileAct}
 
 -- ---- memory
 
@@ -41,9 +41,9 @@ pub record ShellPlace : Type 0 where
   pub line : List ℕ
   pub answers : List ℕ
 
-pub data Program : Type 0 where
-  guest : Regs → Program
-  shell : ShellPlace → Program
+pub data ProgramState : Type 0 where
+  guest : Regs → ProgramState
+  shell : ShellPlace → ProgramState
 
 -- ---- where a program stands
 
@@ -57,7 +57,7 @@ pub record Message : Type 0 where
 -- What the file server is asked for: an act on the files, with the object whose offset goes on by what is read or
 -- written; or that an object's offset be another.
 pub data Request : Type 0 where
-  act : Act → Option ℕ → Request
+  act : FileAct → Option ℕ → Request
   seek : ℕ → ℕ → Request
 
 -- How far a service is.
@@ -94,7 +94,7 @@ pub data Phase : Type 0 where
 pub record Born : Type 0 where
   pub id : ℕ
   pub parent : ℕ
-  pub program : Program
+  pub program : ProgramState
   -- by the numbers of pages
   pub memory : ℕ → Option Page
   -- the regions of 4 MB in which it ever had a page
@@ -105,14 +105,14 @@ pub record Born : Type 0 where
   -- it has no turn before another environment's step
   pub blocked : Bool
 
-pub data Slot : Type 0 where
+pub data AbstractSlot : Type 0 where
   -- with the last id
-  free : ℕ → Slot
+  free : ℕ → AbstractSlot
   -- a child that is being made: its id, and its parent's
-  unborn : ℕ → ℕ → Slot
-  born : Born → Slot
+  unborn : ℕ → ℕ → AbstractSlot
+  born : Born → AbstractSlot
   -- the server's, which is slot 0, with its id
-  serving : ℕ → Slot
+  serving : ℕ → AbstractSlot
 
 -- ---- the file server
 
@@ -137,7 +137,7 @@ pub record TablePlace : Type 0 where
 -- ---- the state
 
 pub record AbstractState : Type 0 where
-  pub slots : ℕ → Slot
+  pub slots : ℕ → AbstractSlot
   -- the next to be given first
   pub free_slots : List ℕ
   -- the bytes of the shared pages, by their names
@@ -159,7 +159,7 @@ pub record AbstractState : Type 0 where
   -- how many turns were begun
   pub turns : ℕ
 
-abbrev pub with_slot : AbstractState → ℕ → Slot → AbstractState
+abbrev pub with_slot : AbstractState → ℕ → AbstractSlot → AbstractState
 with_slot a n slot = record a { slots = upd a.slots n slot }
 
 abbrev pub with_born : AbstractState → ℕ → Born → AbstractState
@@ -170,13 +170,13 @@ with_printed a bytes = record a { console = a.console ++ bytes }
 
 -- ---- who is there
 
-abbrev pub slot_id : Slot → ℕ
+abbrev pub slot_id : AbstractSlot → ℕ
 slot_id (free id) = id
 slot_id (unborn id parent) = id
 slot_id (born b) = b.id
 slot_id (serving id) = id
 
-abbrev pub is_live : Slot → Bool
+abbrev pub is_live : AbstractSlot → Bool
 is_live (free id) = false
 is_live (unborn id parent) = true
 is_live (born b) = true
@@ -186,7 +186,7 @@ abbrev pub is_idle : Server → Bool
 is_idle idle = true
 is_idle _ = false
 
-abbrev pub can_run_as : Server → Slot → Bool
+abbrev pub can_run_as : Server → AbstractSlot → Bool
 can_run_as server (free id) = false
 can_run_as server (unborn id parent) = false
 can_run_as server (born b) = not b.blocked

@@ -57,32 +57,32 @@ all_stored a n va (byte ∷ rest) =
 
 -- One step takes the next bytes from an address on, of which so many are still wanted; `stage_of` says at which stage
 -- the service is with them.
-abbrev pub gathered : AbstractState → ℕ → Born → Regs → Service → ℕ → ℕ → (List ℕ → Stage) → AbstractState
-gathered a n b regs service va wanted stage_of =
+abbrev pub bytes_gathered : AbstractState → ℕ → Born → Regs → Service → ℕ → ℕ → (List ℕ → Stage) → AbstractState
+bytes_gathered a n b regs service va wanted stage_of =
     if page_allows (page_at b va) Read
     then at_stage a n b service (stage_of (bytes_from a b va (moved_at_once va wanted)))
     else ended_at a n b regs va
 
 -- ---- handing back
 
-abbrev pub delivered_to : AbstractState → ℕ → Regs → Service → ℕ → ℕ → List ℕ → Option Born → AbstractState
-delivered_to a n regs service va answer rest None = a
-delivered_to a n regs service va answer [] (Some b) = answered a n b regs answer
-delivered_to a n regs service va answer (byte ∷ rest) (Some b) =
+abbrev pub delivered_so_far : AbstractState → ℕ → Regs → Service → ℕ → ℕ → List ℕ → Option Born → AbstractState
+delivered_so_far a n regs service va answer rest None = a
+delivered_so_far a n regs service va answer [] (Some b) = answered a n b regs answer
+delivered_so_far a n regs service va answer (byte ∷ rest) (Some b) =
     at_stage a n b service (delivering va (byte ∷ rest) answer)
 
 -- so many of the bytes are put, and the rest are still to be
-abbrev pub put : AbstractState → ℕ → Regs → Service → ℕ → List ℕ → ℕ → ℕ → AbstractState
-put a n regs service va bytes answer count =
+abbrev pub bytes_stored : AbstractState → ℕ → Regs → Service → ℕ → List ℕ → ℕ → ℕ → AbstractState
+bytes_stored a n regs service va bytes answer count =
     let after = all_stored a n va (take count bytes) in
-    delivered_to after n regs service ((va + count) % 2 ^ 32) answer (drop count bytes) (born_in (after.slots n))
+    delivered_so_far after n regs service ((va + count) % 2 ^ 32) answer (drop count bytes) (born_in (after.slots n))
 
 -- One step puts the next bytes; the one that puts the last of them answers.
-abbrev pub delivered : AbstractState → ℕ → Born → Regs → Service → ℕ → List ℕ → ℕ → AbstractState
-delivered a n b regs service va bytes answer =
-    if page_allows (page_at b va) Write then put a n regs service va bytes answer (moved_at_once va (length bytes))
+abbrev pub bytes_delivered : AbstractState → ℕ → Born → Regs → Service → ℕ → List ℕ → ℕ → AbstractState
+bytes_delivered a n b regs service va bytes answer =
+    if page_allows (page_at b va) Write then bytes_stored a n regs service va bytes answer (moved_at_once va (length bytes))
     else ended_at a n b regs va
 
 -- An act has given bytes for an address, and an answer. Where there are no bytes, the act is the answer.
 abbrev pub handed_back : AbstractState → ℕ → Born → Regs → Service → ℕ → List ℕ → ℕ → AbstractState
-handed_back a n b regs service va bytes answer = delivered_to a n regs service va answer bytes (Some b)
+handed_back a n b regs service va bytes answer = delivered_so_far a n regs service va answer bytes (Some b)

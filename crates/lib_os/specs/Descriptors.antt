@@ -8,7 +8,7 @@ use Rattle.jos_base.specs.Words.{upd}
 use Rattle.lib_os.specs.declared.numbers.TheConstants.{DESCRIPTORS}
 use Rattle.lib_os.specs.AbstractState.{AbstractState, Born, Object, read_end, write_end, with_born}
 use Rattle.fs_layout.specs.DiskImage.{some_below}
-use Rattle.lib_os.specs.AbstractMemory.{ended}
+use Rattle.lib_os.specs.AbstractMemory.{slot_freed}
 use Rattle.lib_os.specs.GuestStep.{born_in}
 use Rattle.lib_os.specs.Answers.{answered, refused, back_with}
 
@@ -102,7 +102,7 @@ pipe a n b regs = pipe_on a n b regs (lowest_free b) (next_free b (lowest_free b
 
 -- One step drops the lowest descriptor that is open; when none is, the environment ends.
 abbrev pub exit_by : AbstractState → ℕ → Born → Option ℕ → AbstractState
-exit_by a n b None = ended a n b
+exit_by a n b None = slot_freed a n b
 exit_by a n b (Some fd) = with_born a n (with_descriptor b fd None)
 
 abbrev pub exit : AbstractState → ℕ → Born → AbstractState

@@ -6,7 +6,7 @@ use Rattle.jos_base.specs.Words.{negated, upd}
 use Rattle.jos_base.specs.declared.numbers.TheConstants.{E_MAX_OPEN}
 use Rattle.lib_os.specs.declared.numbers.TheConstants.{MAXOPEN}
 use Rattle.lib_os.specs.declared.service.Service.{Service}
-use Rattle.fs_layout.specs.FileTree.{Act, open_path}
+use Rattle.fs_layout.specs.FileTree.{FileAct, open_path}
 use Rattle.fs_layout.specs.FileActs.{Acted, file_act, file_named}
 use Rattle.lib_os.specs.AbstractState.{AbstractState, Born, Object, file, Request, act, seek}
 use Rattle.lib_os.specs.AbstractState.{Server, leaving, idle, looking, busy, acted, asked, awaiting, replied, Phase, in_service}
@@ -19,17 +19,17 @@ use Rattle.lib_os.specs.AbstractPipes.{is_such_held}
 -- ---- the client
 
 -- A request that opens a file wants a place of the table of open files first.
-abbrev pub begun : ℕ → Request → Server
-begun n (act (open_path path mode) object) = looking n (act (open_path path mode) object) 0
-begun n request = busy n request None
+abbrev pub request_begun : ℕ → Request → Server
+request_begun n (act (open_path path mode) object) = looking n (act (open_path path mode) object) 0
+request_begun n request = busy n request None
 
 -- The client asks; there is no step while the server is not idle.
-abbrev pub ask_of : AbstractState → ℕ → Born → Service → Request → Server → Option AbstractState
-ask_of a n b service request idle = Some (at_stage (record a { server = begun n request }) n b service asked)
-ask_of a n b service request _ = None
+abbrev pub request_taken : AbstractState → ℕ → Born → Service → Request → Server → Option AbstractState
+request_taken a n b service request idle = Some (at_stage (record a { server = request_begun n request }) n b service asked)
+request_taken a n b service request _ = None
 
 abbrev pub ask : AbstractState → ℕ → Born → Service → Request → Option AbstractState
-ask a n b service request = ask_of a n b service request a.server
+ask a n b service request = request_taken a n b service request a.server
 
 -- Its next step waits.
 abbrev pub await_reply : AbstractState → ℕ → Born → Service → AbstractState
@@ -58,8 +58,8 @@ is_at way (file f) = bytes_eq f.way way
 is_at way _ = false
 
 -- an environment has the file at a way open
-abbrev pub is_open : AbstractState → List ℕ → Bool
-is_open a way = is_such_held a (is_at way)
+abbrev pub is_file_open : AbstractState → List ℕ → Bool
+is_file_open a way = is_such_held a (is_at way)
 
 abbrev pub with_offset_of : AbstractState → ℕ → ℕ → Object → AbstractState
 with_offset_of a name offset (file f) = record a { objects = upd a.objects name (file (record f { offset = offset })) }
@@ -99,7 +99,7 @@ abbrev pub low_mode : ℕ → ℕ
 low_mode mode = mode % 4
 
 -- after the act on the files
-abbrev pub after_act : AbstractState → ℕ → Act → Option ℕ → Option ℕ → Acted → AbstractState
+abbrev pub after_act : AbstractState → ℕ → FileAct → Option ℕ → Option ℕ → Acted → AbstractState
 after_act a client (open_path path mode) object place did =
     if did.answer == 0
     then file_opened (record a { files = did.files }) client 0 place (file_named did.files path) (low_mode mode)
@@ -107,9 +107,9 @@ after_act a client (open_path path mode) object place did =
 after_act a client _ object place did =
     moved_on (record a { files = did.files; server = acted client did.answer did.bytes None }) object did.answer
 
-abbrev pub made : AbstractState → ℕ → Request → Option ℕ → AbstractState
-made a client (act request object) place = after_act a client request object place (file_act (is_open a) a.files request)
-made a client (seek name offset) place = with_offset (record a { server = acted client 0 [] None }) name offset
+abbrev pub act_done : AbstractState → ℕ → Request → Option ℕ → AbstractState
+act_done a client (act request object) place = after_act a client request object place (file_act (is_file_open a) a.files request)
+act_done a client (seek name offset) place = with_offset (record a { server = acted client 0 [] None }) name offset
 
 -- ---- the reply
 
@@ -139,7 +139,7 @@ abbrev pub served : AbstractState → Server → Option AbstractState
 served a leaving = Some (record a { server = idle })
 served a idle = None
 served a (looking client request k) = Some (looked a client request k)
-served a (busy client request place) = Some (made a client request place)
+served a (busy client request place) = Some (act_done a client request place)
 served a (acted client answer bytes object) = reply a client answer bytes object (born_in (a.slots client))
 
 unfoldable pub server_step : AbstractState → Option AbstractState

@@ -15,7 +15,7 @@ use Rattle.fs_layout.specs.FileTree.{open_path, read_file, write_file, set_file_
 use Rattle.lib_os.specs.AbstractState.{AbstractState, Born, Object, file, terminal, read_end, write_end, Request, act, seek}
 use Rattle.lib_os.specs.AbstractState.{Stage, entered, gathering, delivering, moving, asked, replied, with_printed}
 use Rattle.lib_os.specs.Fence.{in_fence, is_buffer}
-use Rattle.lib_os.specs.Answers.{answered, refused, gathered, delivered, handed_back}
+use Rattle.lib_os.specs.Answers.{answered, refused, bytes_gathered, bytes_delivered, handed_back}
 use Rattle.lib_os.specs.Descriptors.{object_name, object_of, lowest_free}
 use Rattle.lib_os.specs.AbstractPipes.{read_pipe, write_pipe}
 use Rattle.lib_os.specs.FileServer.{ask, await_reply}
@@ -38,8 +38,8 @@ is_only_for_reading _ = false
 abbrev pub after_asking : AbstractState → ℕ → Born → Regs → Service → ℕ → Stage → Option AbstractState
 after_asking a n b regs service va asked = Some (await_reply a n b service)
 after_asking a n b regs service va (replied [] answer) = Some (answered a n b regs answer)
-after_asking a n b regs service va (replied (byte ∷ rest) answer) = Some (delivered a n b regs service va (byte ∷ rest) answer)
-after_asking a n b regs service va (delivering at bytes answer) = Some (delivered a n b regs service at bytes answer)
+after_asking a n b regs service va (replied (byte ∷ rest) answer) = Some (bytes_delivered a n b regs service va (byte ∷ rest) answer)
+after_asking a n b regs service va (delivering at bytes answer) = Some (bytes_delivered a n b regs service at bytes answer)
 after_asking a n b regs service va _ = None
 
 -- ---- read
@@ -92,7 +92,7 @@ write_object a n b regs service bytes name (read_end pipe) = None
 abbrev pub write_with : AbstractState → ℕ → Born → Regs → Service → ℕ → ℕ → ℕ → List ℕ → Object → Option AbstractState
 write_with a n b regs service fd va wanted bytes object =
     if nat_lt (length bytes) wanted
-    then Some (gathered a n b regs service ((va + length bytes) % 2 ^ 32) (wanted - length bytes) (λ more. gathering (bytes ++ more)))
+    then Some (bytes_gathered a n b regs service ((va + length bytes) % 2 ^ 32) (wanted - length bytes) (λ more. gathering (bytes ++ more)))
     else write_object a n b regs service bytes (object_name b fd) object
 
 abbrev pub write_begun : AbstractState → ℕ → Born → Regs → Service → ℕ → ℕ → ℕ → Option Object → Option AbstractState
@@ -175,7 +175,7 @@ path_step a n b regs service path taken next =
     if nat_lt (position_or_len is_nul taken) (length taken) then next (before_first is_nul taken)
     else if nat_le MAXPATHLEN (length taken) then Some (refused a n b regs E_BAD_PATH)
     else if not (in_fence ((path + length taken) % 2 ^ 32) 1) then Some (refused a n b regs E_INVAL)
-    else Some (gathered a n b regs service ((path + length taken) % 2 ^ 32) (MAXPATHLEN - length taken) (λ more. gathering (taken ++ more)))
+    else Some (bytes_gathered a n b regs service ((path + length taken) % 2 ^ 32) (MAXPATHLEN - length taken) (λ more. gathering (taken ++ more)))
 
 abbrev pub is_mode : ℕ → Bool
 is_mode mode = (bit_and mode MODE_BITS == mode) && not (bit_and mode 3 == 3)

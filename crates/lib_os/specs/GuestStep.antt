@@ -14,7 +14,7 @@ use Rattle.jos_cpu.specs.declared.memory.MemFault.{MemFault}
 use Rattle.jos_cpu.specs.declared.memory.MemFault.TheVariants.{Page, Fence}
 use Rattle.jos_cpu.specs.Memory.{Memory}
 use Rattle.jos_cpu.specs.Steps as cpu
-use Rattle.lib_os.specs.AbstractState.{AbstractState, Born, Slot, free, unborn, born, serving, guest, in_service, entered, with_born}
+use Rattle.lib_os.specs.AbstractState.{AbstractState, Born, AbstractSlot, free, unborn, born, serving, guest, in_service, entered, with_born}
 use Rattle.lib_os.specs.AbstractMemory.{byte_at, page_at, page_allows, page_fault, stored, ended_with}
 use Rattle.lib_os.specs.Fence.{is_inside, is_resident}
 use Rattle.lib_os.specs.Services.{service_of}
@@ -27,7 +27,7 @@ pub record GuestMemory : Type 0 where
   pub slot : ℕ
 
 -- the environment in a slot that has one
-abbrev pub born_in : Slot → Option Born
+abbrev pub born_in : AbstractSlot → Option Born
 born_in (free id) = None
 born_in (unborn id parent) = None
 born_in (born b) = Some b

@@ -5,7 +5,7 @@ use Rattle.std.specs.Prelude.{◌≡◌, ◌<◌, ◌≤◌, ℕ, ◌+◌, ◌-�
 use Rattle.jos_host.specs.declared.host.Failed.{Failed}
 use Rattle.jos_host.specs.Frames.{Around}
 use Rattle.jos_base.specs.declared.registers.Regs.{Regs}
-use Rattle.jos_base.specs.Environments.{Slot as KernelSlot, is_live, is_runnable, is_running, no_extra}
+use Rattle.jos_base.specs.Environments.{Slot, is_live, is_runnable, is_running, no_extra}
 use Rattle.jos_base.specs.KernelState.{KernelState, slot_at, with_slot_at}
 use Rattle.lib_os.specs.declared.user_os.Stop.{Stop}
 use Rattle.lib_os.specs.declared.user_os.Stop.TheVariants as stop
@@ -37,12 +37,12 @@ abbrev pub GoesOn : ℕ → KernelState → AbstractState → List ℕ → Type 
 GoesOn n after a written =
     (b : AbstractState) × (abs_step a n ≡ Some b) × (b.console ≡ a.console ++ written) × Stands after b
 
-abbrev pub Follows : Progress → ℕ → KernelState → AbstractState → List ℕ → Type 0
-Follows progress.Hidden n after a written = Stays after a written
-Follows progress.Waited n after a written = Stays after a written × (may_wait a n SHORT_QUANTUM ≡ true)
-Follows progress.Visible n after a written = GoesOn n after a written
-Follows progress.Finished n after a written = GoesOn n after a written
-Follows progress.Ended n after a written = GoesOn n after a written
+abbrev pub AbstractFollows : Progress → ℕ → KernelState → AbstractState → List ℕ → Type 0
+AbstractFollows progress.Hidden n after a written = Stays after a written
+AbstractFollows progress.Waited n after a written = Stays after a written × (may_wait a n SHORT_QUANTUM ≡ true)
+AbstractFollows progress.Visible n after a written = GoesOn n after a written
+AbstractFollows progress.Finished n after a written = GoesOn n after a written
+AbstractFollows progress.Ended n after a written = GoesOn n after a written
 
 -- Nothing was refused: the count of refusals did not rise, and was not at the end of its type, where it stands still.
 pub record NothingRefused (before after : KernelState) : Type 0 where
@@ -50,15 +50,15 @@ pub record NothingRefused (before after : KernelState) : Type 0 where
   pub could : before.refusals < 2 ^ 64 - 1
 
 -- A step of the environment in slot n that has come to this, from one state of the kernel to another.
-abbrev pub Keeps : Progress → ℕ → KernelState → KernelState → List ℕ → Type 0
-Keeps progress n before after written =
-    (a : AbstractState) → Stands before a → NothingRefused before after → Follows progress n after a written
+abbrev pub KeepsStanding : Progress → ℕ → KernelState → KernelState → List ℕ → Type 0
+KeepsStanding progress n before after written =
+    (a : AbstractState) → Stands before a → NothingRefused before after → AbstractFollows progress n after a written
 
 -- The same with what was printed. Where the host failed, nothing is said of the state, and what came is a part of what the
 -- slot's step prints.
 abbrev pub IsLibraryStep : Result Progress Failed → ℕ → KernelState → KernelState → Output → Type 0
 IsLibraryStep (Ok progress) n before after output =
-    (written : List ℕ) × Prints output written × Keeps progress n before after written
+    (written : List ℕ) × Prints output written × KeepsStanding progress n before after written
 IsLibraryStep (Err _) n before after output =
     (written : List ℕ) × PrintsPart output written
     × ((a : AbstractState) → Stands before a → (b : AbstractState) × (abs_step a n ≡ Some b) × (b.console ≡ a.console ++ written))
@@ -91,7 +91,7 @@ MayGiveUp progress.Finished at = is_yield at ≡ true
 MayGiveUp _ at = ⊥
 
 -- An environment in its turn, which waits for nothing, is RUNNABLE after its step only where it may give up its turn.
-abbrev pub KeepsTurn : Progress → KernelSlot → KernelSlot → Type 0
+abbrev pub KeepsTurn : Progress → Slot → Slot → Type 0
 KeepsTurn done before after =
     is_running before.status ≡ true → before.rendezvous.receiving ≡ false → is_runnable after.status ≡ true →
     MayGiveUp done (place_of before)
@@ -129,7 +129,7 @@ Lowers (Ok progress.Waited) before after = is_pausing after ≡ true
 Lowers _ before after = Unit {0}
 
 -- The step of one that gives up its turn does that, and is hidden. Where the host failed nothing is said.
-abbrev pub GivesUp : Result Progress Failed → KernelSlot → KernelSlot → Type 0
+abbrev pub GivesUp : Result Progress Failed → Slot → Slot → Type 0
 GivesUp (Ok done) before after =
     is_pausing (place_of before) ≡ true → (done ≡ progress.Hidden) × (is_runnable after.status ≡ true)
 GivesUp (Err _) before after = Unit {0}
@@ -155,5 +155,5 @@ abbrev pub gone_back : KernelState → ℕ → Regs → KernelState
 gone_back s n regs = with_slot_at s n (record (slot_at s n) { registers = regs; extra = no_extra })
 
 -- and with an answer
-abbrev pub answered : KernelState → ℕ → ℕ → KernelState
-answered s n word = gone_back s n (record (slot_at s n).registers { eax = word })
+abbrev pub service_answered : KernelState → ℕ → ℕ → KernelState
+service_answered s n word = gone_back s n (record (slot_at s n).registers { eax = word })

@@ -1,13 +1,13 @@
 -- The services on the environment itself and its pages: cputs, getid, yield, wait, page_new and page_drop. Each is
 -- one step.
-use Rattle.std.specs.Prelude.{ℕ, ◌+◌, ◌%◌, ◌==◌, ◌&&◌, ◌||◌, nat_lt, not, Bool, List, Option, Some, None, Result, Ok, Err, bit_and}
+use Rattle.std.specs.Prelude.{ℕ, ◌+◌, ◌%◌, ◌==◌, ◌&&◌, ◌||◌, nat_lt, not, Bool, List, Option, Some, None, Result, Ok, Err}
 use Rattle.std.specs.Prelude.{if◌then◌else◌}
 use Rattle.jos_base.specs.declared.registers.Regs.{Regs}
 use Rattle.jos_base.specs.declared.line.Line.TheVariants as line
 use Rattle.jos_base.specs.declared.memory.Access.TheVariants.{Read}
 use Rattle.jos_base.specs.declared.memory.PageFault.{PageFault}
 use Rattle.jos_base.specs.declared.numbers.TheConstants.{CPUTS_MAX, E_INVAL, NENV}
-use Rattle.jos_base.specs.Words.{upd}
+use Rattle.jos_base.specs.Words.{upd, has_bit}
 use Rattle.jos_base.specs.Lines.{line_text}
 use Rattle.jos_base.specs.Reach.{bytes_read}
 use Rattle.jos_base.specs.SpacesState.{zero_page}
@@ -48,16 +48,13 @@ wait a n b regs id =
 
 -- ---- pages
 
-abbrev pub has_flag : ℕ → ℕ → Bool
-has_flag flags flag = bit_and flags flag == flag
-
 -- a page of zeros under a new name, or one of the environment's own
 abbrev pub page_made : AbstractState → ℕ → Born → Regs → ℕ → ℕ → AbstractState
 page_made a n b regs va flags =
-    if has_flag flags 2
+    if has_bit flags 2
     then answered (record a { shared = upd a.shared a.next_name zero_page; next_name = a.next_name + 1 }) n
-    (with_page b va (named a.next_name (has_flag flags 1))) regs 0
-    else answered a n (with_page b va (own zero_page (has_flag flags 1))) regs 0
+    (with_page b va (named a.next_name (has_bit flags 1))) regs 0
+    else answered a n (with_page b va (own zero_page (has_bit flags 1))) regs 0
 
 abbrev pub page_new : AbstractState → ℕ → Born → Regs → ℕ → ℕ → AbstractState
 page_new a n b regs va flags =

@@ -9,10 +9,10 @@ use Rattle.jos_base.specs.Environments.{bit_of}
 use Rattle.jos_base.specs.KernelState.{KernelState}
 use Rattle.jos_base.specs.Reach.{Entry}
 use Rattle.jos_base.specs.SpacesState.{SpacesState, Region, directory, region_limit, reserved_frames}
-use Rattle.jos_base.specs.Words.{page_number}
+use Rattle.jos_base.specs.Words.{page_number, is_exactly}
 use Rattle.fs_layout.specs.DiskImage.{some_below}
 use Rattle.lib_os.specs.declared.numbers.TheConstants.{DESCRIPTORS, MAXOPEN}
-use Rattle.lib_os.specs.AbstractState.{AbstractState, Born, Page, own, named, Slot, free, unborn, born, serving}
+use Rattle.lib_os.specs.AbstractState.{AbstractState, Born, Page, own, named, AbstractSlot, free, unborn, born, serving}
 use Rattle.lib_os.specs.AbstractState.{Object, read_end, write_end}
 use Rattle.lib_os.specs.StandsFor.{StandsFor, Names}
 
@@ -38,12 +38,12 @@ EachHasUse s = (f : ℕ) → reserved_frames s.frames ≤ f → f < s.frames →
 abbrev pub count_below : ℕ → (ℕ → Bool) → ℕ
 count_below n passes = total n (λ k. bit_of (passes k))
 
-abbrev pub region_of : ℕ → ℕ
-region_of va = page_number va / NPTENTRIES
+abbrev pub region_index : ℕ → ℕ
+region_index va = page_number va / NPTENTRIES
 
 -- The library has pages in these regions: those that it works with, its descriptors, and its stacks.
 abbrev pub is_library_region : ℕ → Bool
-is_library_region r = (r == region_of UTEMP) || (r == region_of FDTABLE) || (r == region_of USTACKTOP)
+is_library_region r = (r == region_index UTEMP) || (r == region_index FDTABLE) || (r == region_index USTACKTOP)
 
 -- an environment's directory, the stack of its handler of page faults, and the pages that the library works with
 abbrev pub directory_frames : ℕ
@@ -78,12 +78,12 @@ server_need a =
 
 -- ---- a slot
 
-abbrev pub parent_need : Slot → ℕ
+abbrev pub parent_need : AbstractSlot → ℕ
 parent_need (born b) = born_need b
 parent_need _ = 0
 
 -- a child that is being made has what its parent has
-abbrev pub slot_need : AbstractState → Slot → ℕ
+abbrev pub slot_need : AbstractState → AbstractSlot → ℕ
 slot_need a (free id) = 0
 slot_need a (unborn id parent) = parent_need (a.slots (parent % NENV))
 slot_need a (born b) = born_need b
@@ -91,7 +91,7 @@ slot_need a (serving id) = server_need a
 
 -- ---- what several may have: shared pages, objects and pipes, each once
 
-abbrev pub born_passes : (Born → Bool) → Slot → Bool
+abbrev pub born_passes : (Born → Bool) → AbstractSlot → Bool
 born_passes passes (born b) = passes b
 born_passes passes _ = false
 
@@ -105,12 +105,8 @@ is_page_of name _ = false
 abbrev pub has_page_of : ℕ → Born → Bool
 has_page_of name b = some_below page_limit (λ p. is_page_of name (b.memory p))
 
-abbrev pub is_object_of : ℕ → Option ℕ → Bool
-is_object_of name None = false
-is_object_of name (Some other) = other == name
-
 abbrev pub has_object_of : ℕ → Born → Bool
-has_object_of name b = some_below DESCRIPTORS (λ fd. is_object_of name (b.descriptors fd))
+has_object_of name b = some_below DESCRIPTORS (λ fd. is_exactly name (b.descriptors fd))
 
 abbrev pub is_end_of : ℕ → Object → Bool
 is_end_of name (read_end pipe) = pipe == name

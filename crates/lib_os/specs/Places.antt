@@ -46,31 +46,31 @@ step_in words =
     else if n == STEP_READING_SENDER then step.ReadingSender (first_word words) (second_word words)
     else step.ReadingPerm (first_word words) (second_word words) (third_word words)
 
-unfoldable pub place_in : Regs → List ℕ → Place
-place_in regs words =
+unfoldable pub place_in_words : Regs → List ℕ → Place
+place_in_words regs words =
     if service_word words == 0 then place.Guest
     else place.InService (service_of (record regs { eax = service_word words - 1 })) (step_in words)
 
 -- where the environment of a slot stands
 abbrev pub place_of : Slot → Place
-place_of slot = place_in slot.registers slot.extra
+place_of slot = place_in_words slot.registers slot.extra
 
 -- ---- their words
 
-abbrev pub words_from : ℕ → ℕ → ℕ → ℕ → ℕ → List ℕ
-words_from number n first second third =
+abbrev pub place_words : ℕ → ℕ → ℕ → ℕ → ℕ → List ℕ
+place_words number n first second third =
     (number + 1) ∷ n ∷ first ∷ second ∷ third ∷ 0 ∷ 0 ∷ 0 ∷ 0 ∷ 0 ∷ 0 ∷ 0 ∷ []
 
 unfoldable pub words_at : ℕ → Step → List ℕ
-words_at number step.Entered = words_from number STEP_ENTERED 0 0 0
-words_at number (step.Trying perm) = words_from number STEP_TRYING perm 0 0
-words_at number (step.Pausing perm) = words_from number STEP_PAUSING perm 0 0
-words_at number step.ReadingRegion = words_from number STEP_READING_REGION 0 0 0
-words_at number step.ReadingEntry = words_from number STEP_READING_ENTRY 0 0 0
-words_at number (step.Receiving id) = words_from number STEP_RECEIVING id 0 0
-words_at number (step.ReadingValue id) = words_from number STEP_READING_VALUE id 0 0
-words_at number (step.ReadingSender id value) = words_from number STEP_READING_SENDER id value 0
-words_at number (step.ReadingPerm id value sender) = words_from number STEP_READING_PERM id value sender
+words_at number step.Entered = place_words number STEP_ENTERED 0 0 0
+words_at number (step.Trying perm) = place_words number STEP_TRYING perm 0 0
+words_at number (step.Pausing perm) = place_words number STEP_PAUSING perm 0 0
+words_at number step.ReadingRegion = place_words number STEP_READING_REGION 0 0 0
+words_at number step.ReadingEntry = place_words number STEP_READING_ENTRY 0 0 0
+words_at number (step.Receiving id) = place_words number STEP_RECEIVING id 0 0
+words_at number (step.ReadingValue id) = place_words number STEP_READING_VALUE id 0 0
+words_at number (step.ReadingSender id value) = place_words number STEP_READING_SENDER id value 0
+words_at number (step.ReadingPerm id value sender) = place_words number STEP_READING_PERM id value sender
 
 -- the words with which a program's INT 0x40 leaves it; all numbers that name no service are kept as one
 abbrev pub words_entered : Regs → List ℕ

@@ -10,7 +10,7 @@ use Rattle.jos_base.specs.declared.environment.Status.{Status}
 use Rattle.jos_base.specs.declared.environment.Status.TheVariants.{Runnable, Running, NotRunnable}
 use Rattle.jos_base.specs.declared.numbers.TheConstants.{FIRST_ENV_ID, NENV, NPTENTRIES, PTE_SYSCALL, UTOP}
 use Rattle.jos_base.specs.declared.registers.Regs.{Regs}
-use Rattle.jos_base.specs.Environments.{Slot as KernelSlot, free_slot, no_extra, is_live, is_running}
+use Rattle.jos_base.specs.Environments.{Slot, free_slot, no_extra, is_live, is_running}
 use Rattle.jos_base.specs.KernelState.{KernelState, slot_at}
 use Rattle.jos_base.specs.Messages.{Rendezvous}
 use Rattle.jos_base.specs.Reach.{Entry}
@@ -24,7 +24,7 @@ use Rattle.lib_os.specs.declared.place.Step.{Step}
 use Rattle.lib_os.specs.declared.place.Step.TheVariants as step
 use Rattle.lib_os.specs.declared.service.Service.{Service}
 use Rattle.lib_os.specs.declared.service.Service.TheVariants as service
-use Rattle.lib_os.specs.AbstractState.{AbstractState, Born, Page, own, named, Slot, free, unborn, born, serving, idle}
+use Rattle.lib_os.specs.AbstractState.{AbstractState, Born, Page, own, named, AbstractSlot, free, unborn, born, serving, idle}
 use Rattle.lib_os.specs.AbstractState.{Stage, entered, receiving, received, Message, guest, at_guest, in_service}
 use Rattle.lib_os.specs.AbstractMessages.{is_page_or_none}
 use Rattle.lib_os.specs.Fence.{is_page_inside, is_resident}
@@ -38,11 +38,11 @@ abbrev pub lasting : Entry → Entry
 lasting e = record e { perm = bit_and e.perm PTE_SYSCALL }
 
 -- what the pages of a space are, by the frame of its directory and their numbers
-abbrev pub Row : Type 0
-Row = ℕ → Option Entry
+abbrev pub EntryRow : Type 0
+EntryRow = ℕ → Option Entry
 
 abbrev pub Rows : Type 0
-Rows = ℕ → Row
+Rows = ℕ → EntryRow
 
 unfoldable pub rows_of : SpacesState → Rows
 rows_of s d p = option_map lasting (s.entries d p)
@@ -71,8 +71,8 @@ pub record Agree (x y : ℕ) : Type 0 where
   pub read_only : is_shared x ≡ false → (has_write x ≡ false) × (has_write y ≡ false)
 
 -- Whatever stands at two places agrees.
-abbrev pub Apart : Rows → Type 0
-Apart rows = (d p e q : ℕ) (x y : Entry) → (d ≡ e → p ≡ q → ⊥) → rows d p ≡ Some x → rows e q ≡ Some y →
+abbrev pub AgreeWhereShared : Rows → Type 0
+AgreeWhereShared rows = (d p e q : ℕ) (x y : Entry) → (d ≡ e → p ≡ q → ⊥) → rows d p ≡ Some x → rows e q ≡ Some y →
     x.frame ≡ y.frame → Agree x.perm y.perm
 
 -- A shared frame is that of its page's name, and has the page's bytes.
@@ -92,7 +92,7 @@ AreUsers rows = (d p : ℕ) (x : Entry) → rows d p ≡ Some x → is_page_perm
 -- ---- an environment at its place
 
 -- it is in a service, at a stage, and its registers are those of the program
-pub record IsIn (k : KernelSlot) (b : Born) (s : Service) (stage : Stage) : Type 0 where
+pub record IsIn (k : Slot) (b : Born) (s : Service) (stage : Stage) : Type 0 where
   pub program : b.program ≡ guest k.registers
   pub phase : b.phase ≡ in_service s stage
   pub silent : k.rendezvous.receiving ≡ false
@@ -103,7 +103,7 @@ abbrev pub IsOther : Born → ℕ → Type 0
 IsOther b id = (id ≢ b.id) × (id ≢ FIRST_ENV_ID)
 
 -- the page at an address may pass, by its entry's bits
-pub record IsSendable (row : Row) (va perm : ℕ) : Type 0 where
+pub record IsSendable (row : EntryRow) (va perm : ℕ) : Type 0 where
   pub inside : is_page_inside va ≡ true
   pub entry : Entry
   pub stands : row (page_number va) ≡ Some entry
@@ -111,26 +111,26 @@ pub record IsSendable (row : Row) (va perm : ℕ) : Type 0 where
   pub passes : is_shared perm || not (has_write perm) ≡ true
 
 -- there is no page to send, or it may pass
-abbrev pub MaySendBy : Bool → Row → ℕ → ℕ → Type 0
+abbrev pub MaySendBy : Bool → EntryRow → ℕ → ℕ → Type 0
 MaySendBy true row va perm = Unit {0}
 MaySendBy false row va perm = IsSendable row va perm
 
-abbrev pub MaySend : Row → ℕ → ℕ → Type 0
+abbrev pub MaySend : EntryRow → ℕ → ℕ → Type 0
 MaySend row va perm = MaySendBy (va == 0) row va perm
 
-pub record IsTrying (row : Row) (k : KernelSlot) (b : Born) (id value va perm : ℕ) : Type 0 where
+pub record IsTrying (row : EntryRow) (k : Slot) (b : Born) (id value va perm : ℕ) : Type 0 where
   pub is_in : IsIn k b (service.Send id value va) entered
   pub some : id ≢ 0
   pub other : IsOther b id
   pub page : MaySend row va perm
 
-pub record IsWaiting (k : KernelSlot) (b : Born) (id : ℕ) : Type 0 where
+pub record IsWaiting (k : Slot) (b : Born) (id : ℕ) : Type 0 where
   pub is_in : IsIn k b (service.Wait id) entered
   pub some : id ≢ 0
   pub other : id ≢ b.id
 
 -- send, before it knows the bits of its page; where it reads its entry, the page's region is known to have a table
-pub record IsLooking (k : KernelSlot) (b : Born) (id value va : ℕ) : Type 0 where
+pub record IsLooking (k : Slot) (b : Born) (id value va : ℕ) : Type 0 where
   pub is_in : IsIn k b (service.Send id value va) entered
   pub some : id ≢ 0
   pub other : IsOther b id
@@ -138,7 +138,7 @@ pub record IsLooking (k : KernelSlot) (b : Born) (id value va : ℕ) : Type 0 wh
   pub inside : is_page_inside va ≡ true
 
 -- receive, before it waits
-pub record IsAboutToWait (k : KernelSlot) (b : Born) (va from id : ℕ) : Type 0 where
+pub record IsAboutToWait (k : Slot) (b : Born) (va from id : ℕ) : Type 0 where
   pub is_in : IsIn k b (service.Receive va from) entered
   pub self : id ≡ k.id
   pub page : is_page_or_none va ≡ true
@@ -149,7 +149,7 @@ abbrev pub destination_of : ℕ → ℕ
 destination_of va = if va == 0 then UTOP else va
 
 -- receive, while it waits
-pub record IsReceiving (k : KernelSlot) (b : Born) (va from : ℕ) : Type 0 where
+pub record IsReceiving (k : Slot) (b : Born) (va from : ℕ) : Type 0 where
   pub program : b.program ≡ guest k.registers
   pub phase : b.phase ≡ in_service (service.Receive va from) receiving
   pub blocked : b.blocked ≡ true
@@ -172,7 +172,7 @@ pub record HasCome (r : Rendezvous) (m : Message) : Type 0 where
   pub perm_small : r.perm < 4096
 
 -- Receive, when a message has come: the kernel has set EAX to 0.
-pub record HasReceived (k : KernelSlot) (b : Born) (va from : ℕ) : Type 0 where
+pub record HasReceived (k : Slot) (b : Born) (va from : ℕ) : Type 0 where
   pub regs : Regs
   pub program : b.program ≡ guest regs
   pub registers : k.registers ≡ record regs { eax = 0 }
@@ -183,12 +183,12 @@ pub record HasReceived (k : KernelSlot) (b : Born) (va from : ℕ) : Type 0 wher
   pub come : HasCome k.rendezvous message
 
 -- receive, where it waits, or where the message has come and nothing of it is read
-pub data WaitsOrHas (k : KernelSlot) (b : Born) (va from : ℕ) : Type 0 where
+pub data WaitsOrHas (k : Slot) (b : Born) (va from : ℕ) : Type 0 where
   waits : IsReceiving k b va from → WaitsOrHas k b va from
   has : HasReceived k b va from → WaitsOrHas k b va from
 
 -- at each step of a service what is so; ⊥ for a step that the service has not
-abbrev pub StandsAtStep : Row → KernelSlot → Born → Service → Step → Type 0
+abbrev pub StandsAtStep : EntryRow → Slot → Born → Service → Step → Type 0
 StandsAtStep row k b s step.Entered = IsIn k b s entered
 StandsAtStep row k b (service.Wait id) (step.Trying perm) = IsWaiting k b id
 StandsAtStep row k b (service.Wait id) (step.Pausing perm) = IsWaiting k b id
@@ -206,33 +206,33 @@ StandsAtStep row k b (service.Receive va from) (step.ReadingPerm id value sender
 StandsAtStep row k b _ _ = ⊥
 
 -- at its program it keeps no words
-pub record IsAtGuest (k : KernelSlot) (b : Born) : Type 0 where
+pub record IsAtGuest (k : Slot) (b : Born) : Type 0 where
   pub program : b.program ≡ guest k.registers
   pub phase : b.phase ≡ at_guest
   pub words : k.extra ≡ no_extra
   pub silent : k.rendezvous.receiving ≡ false
   pub awake : b.blocked ≡ false
 
-abbrev pub StandsAt : Place → Row → KernelSlot → Born → Type 0
+abbrev pub StandsAt : Place → EntryRow → Slot → Born → Type 0
 StandsAt place.Guest row k b = IsAtGuest k b
 StandsAt (place.InService s step) row k b = StandsAtStep row k b s step
 
 -- ---- slots
 
 -- it may run, or waits
-abbrev pub RunsAs : Status → Bool → Type 0
-RunsAs Runnable false = Unit {0}
-RunsAs Running false = Unit {0}
-RunsAs NotRunnable true = Unit {0}
-RunsAs _ _ = ⊥
+abbrev pub IsStatusFor : Status → Bool → Type 0
+IsStatusFor Runnable false = Unit {0}
+IsStatusFor Running false = Unit {0}
+IsStatusFor NotRunnable true = Unit {0}
+IsStatusFor _ _ = ⊥
 
 -- an environment: what is its own
-pub record StandsForBorn (names : Names) (s : SpacesState) (k : KernelSlot) (b : Born) : Type 0 where
+pub record StandsForBorn (names : Names) (s : SpacesState) (k : Slot) (b : Born) : Type 0 where
   pub id : k.id ≡ b.id
   pub id_small : k.id < 2 ^ 32
   pub parent : k.parent ≡ b.parent
   pub env_type : k.env_type ≡ User
-  pub runs : RunsAs k.status b.blocked
+  pub runs : IsStatusFor k.status b.blocked
   pub upcall : k.upcall ≡ 0
   pub descriptors : (fd : ℕ) → b.descriptors fd ≡ None
   pub memory : (p : ℕ) → b.memory p ≡ page_seen names s k.directory p
@@ -241,7 +241,7 @@ pub record StandsForBorn (names : Names) (s : SpacesState) (k : KernelSlot) (b :
   pub at : StandsAt (place_of k) (rows_of s k.directory) k b
 
 -- the file server, which nobody has asked for anything: it has a space without pages and tables, and never runs
-pub record StandsForServer (s : SpacesState) (k : KernelSlot) (id : ℕ) : Type 0 where
+pub record StandsForServer (s : SpacesState) (k : Slot) (id : ℕ) : Type 0 where
   pub first : id ≡ FIRST_ENV_ID
   pub id_is : k.id ≡ id
   pub env_type : k.env_type ≡ FileServer
@@ -251,7 +251,7 @@ pub record StandsForServer (s : SpacesState) (k : KernelSlot) (id : ℕ) : Type 
   pub empty : (p : ℕ) → rows_of s k.directory p ≡ None
   pub tables : (r : ℕ) → s.regions k.directory r ≡ None
 
-abbrev pub StandsForSlot : Names → SpacesState → KernelSlot → Slot → Type 0
+abbrev pub StandsForSlot : Names → SpacesState → Slot → AbstractSlot → Type 0
 StandsForSlot names s k (free id) = k ≡ free_slot id
 StandsForSlot names s k (unborn id parent) = ⊥
 StandsForSlot names s k (born b) = StandsForBorn names s k b
@@ -260,7 +260,7 @@ StandsForSlot names s k (serving id) = StandsForServer s k id
 -- ---- the table
 
 -- An id names its slot, a file server stands in slot 0 alone, and no slot is RUNNING but that which had the last turn.
-pub record IsTabled (slots : ℕ → KernelSlot) (last : Option ℕ) : Type 0 where
+pub record IsTabled (slots : ℕ → Slot) (last : Option ℕ) : Type 0 where
   pub ids : (n : ℕ) → is_live (slots n) ≡ true → (slots n).id % NENV ≡ n
   pub servers : (n : ℕ) → n ≢ 0 → (slots n).env_type ≡ User
   pub running : (n : ℕ) → is_running (slots n).status ≡ true → last ≡ Some n
@@ -271,7 +271,7 @@ pub record StandsFor (names : Names) (s : KernelState) (a : AbstractState) : Typ
   -- each slot
   pub slots : (n : ℕ) → StandsForSlot names s.spaces (slot_at s n) (a.slots n)
   -- each frame
-  pub apart : Apart (rows_of s.spaces)
+  pub apart : AgreeWhereShared (rows_of s.spaces)
   pub named : AreNamed names s.spaces.pages a.shared a.next_name (rows_of s.spaces)
   pub users : AreUsers (rows_of s.spaces)
   -- what is there once

@@ -1,11 +1,11 @@
 //! How a service goes on and how it ends.
 
-ghost use Rattle.std.specs.Prelude.{◌≡◌, ◌≤◌, ℕ, true};
+ghost use Rattle.std.specs.Prelude.{◌≡◌, ◌≤◌, true};
 ghost use Rattle.jos_base.specs.Environments.{is_live};
 ghost use Rattle.jos_base.specs.KernelState.{slot_at, with_extra};
 ghost use Rattle.lib_os.specs.declared.numbers.TheConstants.{SERVICES};
 ghost use Rattle.lib_os.specs.Places.{words_at};
-ghost use Rattle.lib_os.specs.LibrarySteps.{gone_back, answered, IsStopped};
+ghost use Rattle.lib_os.specs.LibrarySteps.{gone_back, service_answered, IsStopped};
 ghost use Rattle.lib_os.specs.UserCalls.{answer_of};
 
 use crate::place::{Step, words_at};
@@ -29,7 +29,7 @@ pub fn go_back<O: UserOs>(os: &mut O, registers: Regs)
 /// The service is over, and answers with a word.
 pub fn answer<O: UserOs>(os: &mut O, word: u32)
     requires { is_live (slot_at (O.state os.old) (O.slot os.old)) ≡ true }
-    ensures state { O.state os.new ≡ answered (O.state os.old) (O.slot os.old) word }
+    ensures state { O.state os.new ≡ service_answered (O.state os.old) (O.slot os.old) word }
     ensures slot { O.slot os.new ≡ O.slot os.old }
     ensures calls { O.calls os.new ≡ O.calls os.old }
     ensures written { O.written os.new ≡ O.written os.old }

@@ -1,6 +1,6 @@
 //! Where an environment stands between two steps: at its program, or in a service and how far in it.
 
-ghost use Rattle.std.specs.Prelude.{◌≡◌, ◌≤◌, ℕ};
+ghost use Rattle.std.specs.Prelude.{◌≡◌, ◌≤◌};
 ghost use Rattle.lib_os.specs.declared.numbers.TheConstants.{SERVICES};
 ghost use Rattle.lib_os.specs.Places as places;
 
@@ -70,9 +70,9 @@ fn find_step(words: &Extra) -> Step
 }
 
 /// Where an environment stands, by its registers and the words that it keeps for the library.
-#[tactic(auto, unfolding(crate::specs::Places::place_in))]
+#[tactic(auto, unfolding(crate::specs::Places::place_in_words))]
 pub fn find_place(registers: &Regs, words: &Extra) -> Place
-    ensures { result ≡ places.place_in registers.now words.now.0 }
+    ensures { result ≡ places.place_in_words registers.now words.now.0 }
 {
     let [number, _, _, _, _, _, _, _, _, _, _, _] = words.0;
     if number == 0 {

@@ -5,9 +5,10 @@ ghost use Rattle.jos_host.specs.Told.{HasCause};
 ghost use Rattle.jos_host.specs.Frames.{Unchanged, around, from_to};
 ghost use Rattle.jos_base.specs.Environments.{is_live};
 ghost use Rattle.jos_base.specs.KernelState.{KernelState, slot_at, with_registers, with_extra};
+ghost use Rattle.jos_base.specs.SystemCalls.{may_print};
 ghost use Rattle.lib_os.specs.InOrder.{IsInOrder};
 ghost use Rattle.lib_os.specs.UserCalls as call;
-ghost use Rattle.lib_os.specs.UserCalls.{IsStep, IsCallStep, HasStopCause, output, may_print};
+ghost use Rattle.lib_os.specs.UserCalls.{IsStep, IsCallStep, HasStopCause, output};
 
 use jos_base::{Called, Extra, Regs};
 use jos_host::{Failed, Host};

@@ -12,7 +12,7 @@ use Rattle.lib_os.specs.declared.place.Step.TheVariants as step
 use Rattle.lib_os.specs.declared.service.Service.TheVariants as service
 use Rattle.lib_os.specs.LibrarySteps.{is_pausing}
 use Rattle.lib_os.specs.Places.{place_of}
-use Rattle.lib_os.specs.UserCalls.{Step as Call, answer_of}
+use Rattle.lib_os.specs.UserCalls.{CallStep, answer_of}
 use Rattle.lib_os.proofs.Calls.{getenvid_is}
 use Rattle.lib_os.proofs.Trying.{LivesOn}
 use Rattle.lib_stage.specs.declared.ask.Next.TheVariants as next
@@ -56,8 +56,8 @@ module _ (s : KernelState) (n id : ℕ) (live : is_live (slot_at s n) ≡ true) 
   wait_holds step.Entered stands =
       let args = 0 ∷ 0 ∷ 0 ∷ 0 ∷ 0 ∷ [] in
       law_of_call s n (plan stage.Entered) (service.Wait id) step.Entered (here stage.Entered stands refl refl) SYS_GETENVID args refl refl
-      (subst (λ (z : Call Called). LivesOn z n (slot_at s n).registers) (sym (getenvid_is s n live args)) (record { live = live; registers = refl; written = refl }))
-      (λ order. subst (λ (z : Call Called). KeepsBy s n (plan stage.Entered) z) (sym (getenvid_is s n live args)) (entered_keeps s n id stands))
+      (subst (λ (z : CallStep Called). LivesOn z n (slot_at s n).registers) (sym (getenvid_is s n live args)) (record { live = live; registers = refl; written = refl }))
+      (λ order. subst (λ (z : CallStep Called). KeepsBy s n (plan stage.Entered) z) (sym (getenvid_is s n live args)) (entered_keeps s n id stands))
   wait_holds (step.Trying perm) stands =
       let it = tried_is s n id perm stands live in
       law_of_call s n (plan (stage.Trying perm)) (service.Wait id) (step.Trying perm) (here (stage.Trying perm) stands refl refl)

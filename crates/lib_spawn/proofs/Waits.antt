@@ -8,7 +8,7 @@ use Rattle.jos_base.specs.declared.called.Called.TheVariants.{Answered}
 use Rattle.jos_base.specs.declared.environment.Status.TheVariants.{Runnable}
 use Rattle.jos_base.specs.declared.numbers.TheConstants.{SYS_IPC_TRY_SEND, E_BAD_ENV, E_INVAL, E_IPC_NOT_RECV, NENV}
 use Rattle.jos_base.specs.declared.registers.Regs.{Regs}
-use Rattle.jos_base.specs.Environments.{Slot as KernelSlot, is_live, found}
+use Rattle.jos_base.specs.Environments.{Slot, is_live, found}
 use Rattle.jos_base.specs.KernelState.{KernelState, slot_at, with_extra, with_status}
 use Rattle.jos_base.specs.Messages.{accepts}
 use Rattle.jos_base.specs.Words.{negated}
@@ -18,15 +18,15 @@ use Rattle.lib_os.specs.declared.place.Step.TheVariants as step
 use Rattle.lib_os.specs.declared.progress.Progress.TheVariants as progress
 use Rattle.lib_os.specs.declared.service.Service.TheVariants as service
 use Rattle.lib_os.specs.AbstractRun.{abs_step, may_wait, phase_may_wait, slot_may_wait}
-use Rattle.lib_os.specs.AbstractState.{AbstractState, Born, Slot, Phase, born, entered}
+use Rattle.lib_os.specs.AbstractState.{AbstractState, Born, AbstractSlot, Phase, born, entered}
 use Rattle.lib_os.specs.Answers as abstract_system
 use Rattle.lib_os.specs.LibraryCall.{library_step}
-use Rattle.lib_os.specs.LibrarySteps.{Follows, Keeps}
+use Rattle.lib_os.specs.LibrarySteps.{AbstractFollows, KeepsStanding}
 use Rattle.lib_os.specs.MemoryServices.{lives}
 use Rattle.lib_os.specs.Places.{place_of, words_at}
 use Rattle.lib_os.specs.Services.{service_of}
 use Rattle.lib_os.specs.StandsFor.{StandsFor, Names, IsIn, IsWaiting}
-use Rattle.lib_os.specs.UserCalls.{Step as Call, Got, got, giving, system}
+use Rattle.lib_os.specs.UserCalls.{CallStep, Got, got, giving, system}
 use Rattle.lib_os.proofs.Answering.{back_stands}
 use Rattle.lib_os.proofs.GoingOn.{in_with_words, words_stand}
 use Rattle.jos_base.proofs.Maps.{upd-at}
@@ -70,13 +70,13 @@ no_step_yet a n b regs id some other there =
     let second : (id == b.id) ≡ false = grind (arith, nat_tests) in
     rw (first, second, there) refl
 
-waits_step : (a : AbstractState) (n : ℕ) (b : Born) (k : KernelSlot) (id quantum : ℕ) → a.slots n ≡ born b →
+waits_step : (a : AbstractState) (n : ℕ) (b : Born) (k : Slot) (id quantum : ℕ) → a.slots n ≡ born b →
     IsWaiting k b id → lives a id ≡ true → may_wait a n quantum ≡ true
 unfolding may_wait
 waits_step a n b k id quantum is at there =
     let none : abs_step a n ≡ None =
     step_in a n b k (service.Wait id) entered is at.is_in ∙ no_step_yet a n b k.registers id at.some at.other there in
-    ap (λ (x : Slot). slot_may_wait a n x quantum) is
+    ap (λ (x : AbstractSlot). slot_may_wait a n x quantum) is
     ∙ ap (λ (x : Phase). phase_may_wait a n b x quantum) at.is_in.phase
     ∙ (λ i. there i && is_none (none i))
 
@@ -86,10 +86,10 @@ module _ (s : KernelState) (n id : ℕ) (stands : place_of (slot_at s n) ≡ pla
   abbrev own : ℕ
   own = (slot_at s n).id
 
-  pub entered_keeps : let x = next_of id stage.Entered own in Keeps (seen_as x) n s (settled SERVICE_WAIT x s n) []
+  pub entered_keeps : let x = next_of id stage.Entered own in KeepsStanding (seen_as x) n s (settled SERVICE_WAIT x s n) []
   entered_keeps = by_tests (id == 0) (id == own) refl refl
     where
-      refused : (id ≡ 0) ⊎ (id ≡ own) → let x = next.Answer (negated E_INVAL) in Keeps (seen_as x) n s (settled SERVICE_WAIT x s n) []
+      refused : (id ≡ 0) ⊎ (id ≡ own) → let x = next.Answer (negated E_INVAL) in KeepsStanding (seen_as x) n s (settled SERVICE_WAIT x s n) []
       refused why a h quiet =
           let v = served h.1 n (service.Wait id) step.Entered stands in
           let here : IsIn (slot_at s n) v.b (service.Wait id) entered = v.at in
@@ -104,7 +104,7 @@ module _ (s : KernelState) (n id : ℕ) (stands : place_of (slot_at s n) ≡ pla
           by_own b e (inl none) = inl none
           by_own b e (inr o) = inr (o ∙ e)
 
-      goes_on : id ≢ 0 → id ≢ own → let x = next.GoOn (step.Trying 0) in Keeps (seen_as x) n s (settled SERVICE_WAIT x s n) []
+      goes_on : id ≢ 0 → id ≢ own → let x = next.GoOn (step.Trying 0) in KeepsStanding (seen_as x) n s (settled SERVICE_WAIT x s n) []
       goes_on some other a h quiet =
           let v = served h.1 n (service.Wait id) step.Entered stands in
           let here : IsIn (slot_at s n) v.b (service.Wait id) entered = v.at in (
@@ -117,14 +117,14 @@ module _ (s : KernelState) (n id : ℕ) (stands : place_of (slot_at s n) ≡ pla
           )
 
       by_tests : (t u : Bool) → (id == 0) ≡ t → (id == own) ≡ u →
-          let x = if t || u then next.Answer (negated E_INVAL) else next.GoOn (step.Trying 0) in Keeps (seen_as x) n s (settled SERVICE_WAIT x s n) []
+          let x = if t || u then next.Answer (negated E_INVAL) else next.GoOn (step.Trying 0) in KeepsStanding (seen_as x) n s (settled SERVICE_WAIT x s n) []
       by_tests true u none mine = refused (inl (grind (arith, nat_tests)))
       by_tests false true some mine = refused (inr (grind (arith, nat_tests)))
       by_tests false false some other = goes_on (grind (arith, nat_tests)) (grind (arith, nat_tests))
 
 -- ---- what it tries
 
-abbrev pub wait_call : KernelState → ℕ → ℕ → Call Called
+abbrev pub wait_call : KernelState → ℕ → ℕ → CallStep Called
 wait_call s n id = system s n SYS_IPC_TRY_SEND (id ∷ 0 ∷ 1 ∷ 0 ∷ 0 ∷ [])
 
 -- what was tried tells whether the other lives
@@ -160,8 +160,8 @@ module _ (s : KernelState) (n id perm : ℕ) (stands : place_of (slot_at s n) �
     where
       told : (w : ℕ) → wait_call s n id ≡ giving s (Answered w) → (word ≡ w) × (mid ≡ s)
       told w is = (
-        ap (λ (g : Got Called). word_got g) (sym tried_is.gives ∙ ap (λ (z : Call Called). z.gives) is),
-        ap (λ (z : Call Called). z.state) is,
+        ap (λ (g : Got Called). word_got g) (sym tried_is.gives ∙ ap (λ (z : CallStep Called). z.gives) is),
+        ap (λ (z : CallStep Called). z.state) is,
       )
 
       by_found : (f : Option ℕ) → found s.environments id n false ≡ f → Tried s mid n id word a
@@ -176,7 +176,7 @@ module _ (s : KernelState) (n id perm : ℕ) (stands : place_of (slot_at s n) �
           lives_on (other_answer (accepts (slot_at s target).rendezvous (slot_at s n).id) word (came.0)) (came.1)
           (sym (there_stands h id) ∙ rw (there.1, test) refl)
 
-  pub trying_keeps : let x = next_of id (stage.Trying perm) word in Keeps (seen_as x) n s (settled SERVICE_WAIT x mid n) []
+  pub trying_keeps : let x = next_of id (stage.Trying perm) word in KeepsStanding (seen_as x) n s (settled SERVICE_WAIT x mid n) []
   trying_keeps a h quiet = by_test (word == negated E_BAD_ENV) refl (tried h.1 v.b v.at)
     where
       v : IsServed h.0 s a n (service.Wait id) (step.Trying perm)
@@ -186,12 +186,12 @@ module _ (s : KernelState) (n id perm : ℕ) (stands : place_of (slot_at s n) �
       at = v.at
 
       by_test : (t : Bool) → (word == negated E_BAD_ENV) ≡ t → Tried s mid n id word a →
-          let x = if t then next.Answer 0 else next.Wait (step.Pausing perm) in Follows (seen_as x) n (settled SERVICE_WAIT x mid n) a []
+          let x = if t then next.Answer 0 else next.Wait (step.Pausing perm) in AbstractFollows (seen_as x) n (settled SERVICE_WAIT x mid n) a []
       by_test true is (lives_on other as_before there) = absurd (other (grind (arith, nat_tests)))
       by_test false is (over bad as_before gone) = absurd (let no_bad : word ≢ negated E_BAD_ENV = grind (arith, nat_tests) in no_bad bad)
       by_test true is (over bad as_before gone) =
           let regs = (slot_at s n).registers in
-          subst (λ (t : KernelState). Follows progress.Finished n (settled SERVICE_WAIT (next.Answer 0) t n) a []) (sym as_before) (
+          subst (λ (t : KernelState). AbstractFollows progress.Finished n (settled SERVICE_WAIT (next.Answer 0) t n) a []) (sym as_before) (
             abstract_system.answered a n v.b regs 0,
             step_in a n v.b (slot_at s n) (service.Wait id) entered v.is at.is_in ∙ over_step a n v.b regs id at.some at.other gone,
             printed_nothing a,
@@ -199,7 +199,7 @@ module _ (s : KernelState) (n id perm : ℕ) (stands : place_of (slot_at s n) �
           )
       by_test false is (lives_on other as_before there) =
           let words = words_at SERVICE_WAIT (step.Pausing perm) in
-          subst (λ (t : KernelState). Follows progress.Waited n (settled SERVICE_WAIT (next.Wait (step.Pausing perm)) t n) a []) (sym as_before) (
+          subst (λ (t : KernelState). AbstractFollows progress.Waited n (settled SERVICE_WAIT (next.Wait (step.Pausing perm)) t n) a []) (sym as_before) (
             (
               refl,
               (
@@ -215,7 +215,7 @@ module _ (s : KernelState) (n id perm : ℕ) (stands : place_of (slot_at s n) �
 -- ---- it gives up its turn
 
 module _ (s : KernelState) (n id perm : ℕ) (stands : place_of (slot_at s n) ≡ place.InService (service.Wait id) (step.Pausing perm)) where
-  pub pausing_keeps : Keeps progress.Hidden n s (with_extra (with_status s n Runnable) n (words_at SERVICE_WAIT (step.Trying perm))) []
+  pub pausing_keeps : KeepsStanding progress.Hidden n s (with_extra (with_status s n Runnable) n (words_at SERVICE_WAIT (step.Trying perm))) []
   pausing_keeps a h quiet =
       let v = served h.1 n (service.Wait id) (step.Pausing perm) stands in
       let at : IsWaiting (slot_at s n) v.b id = v.at in
@@ -223,16 +223,16 @@ module _ (s : KernelState) (n id perm : ℕ) (stands : place_of (slot_at s n) �
       let w = words_at SERVICE_WAIT (step.Trying perm) in
       let slot_is : slot_at (with_status s n Runnable) n ≡ record (slot_at s n) { status = Runnable } =
       upd-at s.environments.slots n (record (slot_at s n) { status = Runnable }) in
-      let k : KernelSlot = record (slot_at s n) { status = Runnable } in
+      let k : Slot = record (slot_at s n) { status = Runnable } in
       let in_it : IsIn k v.b (service.Wait id) entered =
       record { program = at.is_in.program; phase = at.is_in.phase; silent = at.is_in.silent; awake = at.is_in.awake } in (
         refl,
         (
           h.0,
           words_stand ran n SERVICE_WAIT v.b v.is (born_at ran n v.b v.is) (service.Wait id) (step.Trying perm)
-              (subst (λ (x : KernelSlot). service_of (record x.registers { eax = SERVICE_WAIT }) ≡ service.Wait id) (sym slot_is)
+              (subst (λ (x : Slot). service_of (record x.registers { eax = SERVICE_WAIT }) ≡ service.Wait id) (sym slot_is)
               (named_at (slot_at s n) (service.Wait id) (step.Pausing perm) stands))
-              (subst (λ (x : KernelSlot). IsWaiting (record x { extra = w }) v.b id) (sym slot_is)
+              (subst (λ (x : Slot). IsWaiting (record x { extra = w }) v.b id) (sym slot_is)
               (record { is_in = in_with_words w in_it; some = at.some; other = at.other })),
         ),
       )

@@ -10,7 +10,7 @@ use Rattle.lib_os.specs.declared.progress.Progress.{Progress}
 use Rattle.lib_os.specs.declared.user_os.Stop.{Stop}
 use Rattle.lib_os.specs.declared.user_os.Stop.TheVariants as stop
 use Rattle.lib_os.specs.InOrder.{IsInOrder}
-use Rattle.lib_os.specs.LibrarySteps.{IsLibraryStep, IsStopped, Keeps, Leaves, Lowers, GivesUp}
+use Rattle.lib_os.specs.LibrarySteps.{IsLibraryStep, IsStopped, KeepsStanding, Leaves, Lowers, GivesUp}
 use Rattle.lib_os.specs.Places.{place_of}
 use Rattle.lib_os.specs.UserCalls.{Got, got, to_handler, gone, Output, Prints, HasStopCause}
 use Rattle.lib_stage.specs.declared.ask.Ask.{Ask}
@@ -78,8 +78,8 @@ module _ (s : KernelState) (n : ℕ) (plan : Plan) where
         let did = service_step s n plan in (
           did.written,
           h.2,
-          subst (λ (p : Progress). Keeps p n s after did.written) (sym h.0)
-              (subst (λ (t : KernelState). Keeps did.progress n s t did.written) (sym h.1) (law.keeps order)),
+          subst (λ (p : Progress). KeepsStanding p n s after did.written) (sym h.0)
+              (subst (λ (t : KernelState). KeepsStanding did.progress n s t did.written) (sym h.1) (law.keeps order)),
         )
     law_step (Err failed) after output h order = ((performed s n plan.asks).written, h.1, law.fails h.0)
 

@@ -8,20 +8,20 @@ use Rattle.jos_base.specs.declared.environment.Status.TheVariants.{Runnable}
 use Rattle.jos_base.specs.declared.numbers.TheConstants.{SYS_EXOFORK, SYS_YIELD}
 use Rattle.jos_base.specs.Environments.{Slot, is_live}
 use Rattle.jos_base.specs.KernelState.{KernelState, slot_at, with_extra, with_registers, with_status}
-use Rattle.jos_base.specs.SystemCalls.{system_call}
+use Rattle.jos_base.specs.SystemCalls.{system_call, may_print}
 use Rattle.jos_base.proofs.Maps.{upd-at}
 use Rattle.lib_os.specs.declared.numbers.TheConstants.{SERVICES}
 use Rattle.lib_os.specs.declared.place.Place.TheVariants as place
-use Rattle.lib_os.specs.declared.place.Step.{Step as At}
+use Rattle.lib_os.specs.declared.place.Step.{Step}
 use Rattle.lib_os.specs.declared.progress.Progress.TheVariants as progress
 use Rattle.lib_os.specs.declared.service.Service.{Service}
 use Rattle.lib_os.specs.AbstractRun.{abs_step}
 use Rattle.lib_os.specs.AbstractState.{AbstractState, Born}
 use Rattle.lib_os.specs.InOrder.{IsInOrder}
-use Rattle.lib_os.specs.LibrarySteps.{Stands, Follows, Keeps, KeepsUses, Leaves, LeavesRest, Lowers, is_pausing, steps_left}
+use Rattle.lib_os.specs.LibrarySteps.{Stands, AbstractFollows, KeepsStanding, KeepsUses, Leaves, LeavesRest, Lowers, is_pausing, steps_left}
 use Rattle.lib_os.specs.Places.{place_of, words_at}
-use Rattle.lib_os.specs.StandsFor.{StandsFor, Names, Row, rows_of, StandsAtStep}
-use Rattle.lib_os.specs.UserCalls.{Step, Got, got, to_handler, gone, giving, load, asking, system, may_print, Output}
+use Rattle.lib_os.specs.StandsFor.{StandsFor, Names, EntryRow, rows_of, StandsAtStep}
+use Rattle.lib_os.specs.UserCalls.{CallStep, Got, got, to_handler, gone, giving, load, asking, system, Output}
 use Rattle.lib_os.proofs.Calls.{yield_is}
 use Rattle.lib_os.proofs.GoingOn.{went_to, lowered, gave_up, gives_nothing_up}
 use Rattle.lib_os.proofs.Leaving.{load_left, system_left, wakes}
@@ -86,24 +86,24 @@ plain_leaves s n plan plain = by_got (performed s n plan.asks).gives
 -- ---- who goes on
 
 -- Where the call gives a word, and the service is not gone by it, the environment lives on with its registers.
-pub record GoesOn (s : KernelState) (n : ℕ) (plan : Plan) (step : Step Called) : Type 0 where
+pub record GoesOn (s : KernelState) (n : ℕ) (plan : Plan) (step : CallStep Called) : Type 0 where
   pub live : (called : Called) → step.gives ≡ got called → is_gone (plan.next called) ≡ false → is_live (slot_at step.state n) ≡ true
   pub registers : (called : Called) → step.gives ≡ got called → is_gone (plan.next called) ≡ false →
       (slot_at step.state n).registers ≡ (slot_at s n).registers
 
 -- the number falls, or the service gives up its turn by its next step
-abbrev pub Falls : Service → At → Next → Type 0
+abbrev pub Falls : Service → Step → Next → Type 0
 Falls service from (next.GoOn to) = steps_left (place.InService service to) < steps_left (place.InService service from)
 Falls service from (next.Wait to) = is_pausing (place.InService service to) ≡ true
 Falls service from _ = Unit {0}
 
-pub falling_lowers : (s : KernelState) (n : ℕ) (plan : Plan) (step : Step Called) (service : Service) (from : At) →
+pub falling_lowers : (s : KernelState) (n : ℕ) (plan : Plan) (step : CallStep Called) (service : Service) (from : Step) →
     place_of (slot_at s n) ≡ place.InService service from → plan.number ≡ number_of service → GoesOn s n plan step →
     ((called : Called) → Falls service from (plan.next called)) →
     let did = upshot_by plan n step step.gives in Lowers (Ok did.progress) (place_of (slot_at s n)) (place_of (slot_at did.state n))
 falling_lowers s n plan step service from stands numbered goes falls = by_got step.gives refl
   where
-    there : (to : At) → (slot_at step.state n).registers ≡ (slot_at s n).registers →
+    there : (to : Step) → (slot_at step.state n).registers ≡ (slot_at s n).registers →
         place_of (slot_at (settled plan.number (next.GoOn to) step.state n) n) ≡ place.InService service to
     there to kept =
         went_to s step.state (settled plan.number (next.GoOn to) step.state n) n n n service from to stands kept refl refl
@@ -127,18 +127,18 @@ falling_lowers s n plan step service from stands numbered goes falls = by_got st
 -- ---- the law, by its parts
 
 -- the parts that are a service's own, by what its call comes to
-abbrev pub FollowsBy : KernelState → ℕ → Plan → AbstractState → Step Called → Type 0
-FollowsBy s n plan a step = let did = upshot_by plan n step step.gives in Follows did.progress n did.state a did.written
+abbrev pub FollowsBy : KernelState → ℕ → Plan → AbstractState → CallStep Called → Type 0
+FollowsBy s n plan a step = let did = upshot_by plan n step step.gives in AbstractFollows did.progress n did.state a did.written
 
-abbrev pub KeepsBy : KernelState → ℕ → Plan → Step Called → Type 0
-KeepsBy s n plan step = let did = upshot_by plan n step step.gives in Keeps did.progress n s did.state did.written
+abbrev pub KeepsBy : KernelState → ℕ → Plan → CallStep Called → Type 0
+KeepsBy s n plan step = let did = upshot_by plan n step step.gives in KeepsStanding did.progress n s did.state did.written
 
-abbrev pub FailsBy : KernelState → ℕ → Plan → Step Called → Type 0
+abbrev pub FailsBy : KernelState → ℕ → Plan → CallStep Called → Type 0
 FailsBy s n plan step = MayFail plan.asks step.gives → (a : AbstractState) → Stands s a →
     (b : AbstractState) × (abs_step a n ≡ Some b) × (b.console ≡ a.console ++ step.written)
 
 -- a stage of a service, at which it stands and from which it goes on lower, and does not give up its turn
-pub record IsAt (s : KernelState) (n : ℕ) (plan : Plan) (service : Service) (from : At) : Type 0 where
+pub record IsAt (s : KernelState) (n : ℕ) (plan : Plan) (service : Service) (from : Step) : Type 0 where
   pub stands : place_of (slot_at s n) ≡ place.InService service from
   pub live : is_live (slot_at s n) ≡ true
   pub numbered : plan.number ≡ number_of service
@@ -146,7 +146,7 @@ pub record IsAt (s : KernelState) (n : ℕ) (plan : Plan) (service : Service) (f
   pub goes_on : is_pausing (place.InService service from) ≡ false
   pub falls : (called : Called) → Falls service from (plan.next called)
 
-pub law_of : (s : KernelState) (n : ℕ) (plan : Plan) (service : Service) (from : At) → IsAt s n plan service from →
+pub law_of : (s : KernelState) (n : ℕ) (plan : Plan) (service : Service) (from : Step) → IsAt s n plan service from →
     GoesOn s n plan (performed s n plan.asks) → (IsInOrder (performed s n plan.asks).state → KeepsBy s n plan (performed s n plan.asks)) →
     FailsBy s n plan (performed s n plan.asks) → ServiceHolds s n plan
 law_of s n plan service from at goes keeps fails = record {
@@ -163,10 +163,10 @@ law_of s n plan service from at goes keeps fails = record {
 -- ---- a call that is known, and prints nothing
 
 -- the environment lives on with its registers
-pub giving_goes : (s : KernelState) (n : ℕ) (plan : Plan) (step : Step Called) → LivesOn step n (slot_at s n).registers → GoesOn s n plan step
+pub giving_goes : (s : KernelState) (n : ℕ) (plan : Plan) (step : CallStep Called) → LivesOn step n (slot_at s n).registers → GoesOn s n plan step
 giving_goes s n plan step on = record { live = λ called is stays. on.live; registers = λ called is stays. on.registers }
 
-pub law_of_call : (s : KernelState) (n : ℕ) (plan : Plan) (service : Service) (from : At) → IsAt s n plan service from →
+pub law_of_call : (s : KernelState) (n : ℕ) (plan : Plan) (service : Service) (from : Step) → IsAt s n plan service from →
     (number : ℕ) (args : List ℕ) → plan.asks ≡ ask.System number args → may_print number ≡ false →
     LivesOn (system s n number args) n (slot_at s n).registers →
     (IsInOrder (system s n number args).state → KeepsBy s n plan (system s n number args)) → ServiceHolds s n plan
@@ -174,17 +174,17 @@ unfolding performed
 law_of_call s n plan service from at number args asks silent on keeps =
     let is : performed s n plan.asks ≡ system s n number args = ap (λ (x : Ask). performed s n x) asks in
     law_of s n plan service from at
-    (subst (λ (z : Step Called). GoesOn s n plan z) (sym is) (giving_goes s n plan (system s n number args) on))
-    (subst (λ (z : Step Called). IsInOrder z.state → KeepsBy s n plan z) (sym is) keeps)
+    (subst (λ (z : CallStep Called). GoesOn s n plan z) (sym is) (giving_goes s n plan (system s n number args) on))
+    (subst (λ (z : CallStep Called). IsInOrder z.state → KeepsBy s n plan z) (sym is) keeps)
     (λ may a h. absurd (let contradiction : true ≡ false = sym (subst (λ (x : Ask). MayFail x (performed s n plan.asks).gives) asks may) ∙ silent in cc))
 
 -- a call that has answered, by its answer
-pub answered_keeps : (s : KernelState) (n : ℕ) (plan : Plan) (step : Step Called) (it : IsAnswered step n (slot_at s n).registers) →
-    (IsInOrder step.state → let x = plan.next (Answered it.answer) in Keeps (seen_as x) n s (settled plan.number x step.state n) []) →
+pub answered_keeps : (s : KernelState) (n : ℕ) (plan : Plan) (step : CallStep Called) (it : IsAnswered step n (slot_at s n).registers) →
+    (IsInOrder step.state → let x = plan.next (Answered it.answer) in KeepsStanding (seen_as x) n s (settled plan.number x step.state n) []) →
     IsInOrder step.state → KeepsBy s n plan step
 answered_keeps s n plan step it keeps order =
-    subst (λ (g : Got Called). let did = upshot_by plan n step g in Keeps did.progress n s did.state did.written) (sym it.gives)
-    (subst (λ (written : List ℕ). let x = plan.next (Answered it.answer) in Keeps (seen_as x) n s (settled plan.number x step.state n) written) (sym it.written) (keeps order))
+    subst (λ (g : Got Called). let did = upshot_by plan n step g in KeepsStanding did.progress n s did.state did.written) (sym it.gives)
+    (subst (λ (written : List ℕ). let x = plan.next (Answered it.answer) in KeepsStanding (seen_as x) n s (settled plan.number x step.state n) written) (sym it.written) (keeps order))
 
 -- a system call always gives something
 pub system_gives : (s : KernelState) (n number : ℕ) (args : List ℕ) → (called : Called) × ((system s n number args).gives ≡ got called)
@@ -192,26 +192,26 @@ unfolding system
 system_gives s n number args = ((system_call (with_registers s n (asking (slot_at s n).registers number args)) n).called, refl)
 
 -- a system call after which the service shows its step and goes on, whatever is answered
-pub shown_keeps : (s : KernelState) (n number : ℕ) (args : List ℕ) (plan : Plan) (to : At) → LivesOn (system s n number args) n (slot_at s n).registers →
+pub shown_keeps : (s : KernelState) (n number : ℕ) (args : List ℕ) (plan : Plan) (to : Step) → LivesOn (system s n number args) n (slot_at s n).registers →
     ((called : Called) → plan.next called ≡ next.Show to) →
-    Keeps progress.Visible n s (with_extra (system s n number args).state n (words_at plan.number to)) [] → KeepsBy s n plan (system s n number args)
+    KeepsStanding progress.Visible n s (with_extra (system s n number args).state n (words_at plan.number to)) [] → KeepsBy s n plan (system s n number args)
 shown_keeps s n number args plan to on shows keeps =
     let step = system s n number args in
     let gives = system_gives s n number args in
-    subst (λ (g : Got Called). let did = upshot_by plan n step g in Keeps did.progress n s did.state did.written) (sym gives.1)
-    (subst (λ (x : Next). Keeps (seen_as x) n s (settled plan.number x step.state n) step.written) (sym (shows gives.0))
-    (subst (λ (written : List ℕ). Keeps progress.Visible n s (with_extra step.state n (words_at plan.number to)) written) (sym on.written) keeps))
+    subst (λ (g : Got Called). let did = upshot_by plan n step g in KeepsStanding did.progress n s did.state did.written) (sym gives.1)
+    (subst (λ (x : Next). KeepsStanding (seen_as x) n s (settled plan.number x step.state n) step.written) (sym (shows gives.0))
+    (subst (λ (written : List ℕ). KeepsStanding progress.Visible n s (with_extra step.state n (words_at plan.number to)) written) (sym on.written) keeps))
 
 -- ---- a system call that prints nothing, behind which the environment is gone
 
-gone_lowers : (s : KernelState) (n number : ℕ) (asks : Ask) (step : Step Called) (g : Got Called) →
+gone_lowers : (s : KernelState) (n number : ℕ) (asks : Ask) (step : CallStep Called) (g : Got Called) →
     let did = upshot_by (record { number = number; asks = asks; next = λ called. next.Gone }) n step g in
     Lowers (Ok did.progress) (place_of (slot_at s n)) (place_of (slot_at did.state n))
 gone_lowers s n number asks step (got called) = tt
 gone_lowers s n number asks step to_handler = tt
 gone_lowers s n number asks step gone = tt
 
-module _ (s : KernelState) (n : ℕ) (service : Service) (from : At) (stands : place_of (slot_at s n) ≡ place.InService service from)
+module _ (s : KernelState) (n : ℕ) (service : Service) (from : Step) (stands : place_of (slot_at s n) ≡ place.InService service from)
     (goes_on : is_pausing (place.InService service from) ≡ false) (number call : ℕ) (args : List ℕ)
     (plain : is_plain (ask.System call args) ≡ true) (silent : may_print call ≡ false) where
   abbrev ending : Plan
@@ -233,8 +233,8 @@ module _ (s : KernelState) (n : ℕ) (service : Service) (from : At) (stands : p
 -- ---- a step that the service has not
 
 -- Nothing stands there, so that no state stands for an abstract one.
-module _ (s : KernelState) (n : ℕ) (service : Service) (at : At) (stands : place_of (slot_at s n) ≡ place.InService service at)
-    (goes_on : is_pausing (place.InService service at) ≡ false) (none : (row : Row) (k : Slot) (b : Born) → StandsAtStep row k b service at → ⊥) where
+module _ (s : KernelState) (n : ℕ) (service : Service) (at : Step) (stands : place_of (slot_at s n) ≡ place.InService service at)
+    (goes_on : is_pausing (place.InService service at) ≡ false) (none : (row : EntryRow) (k : Slot) (b : Born) → StandsAtStep row k b service at → ⊥) where
   nobody : (names : Names) (a : AbstractState) → StandsFor names s a → ⊥
   nobody names a h = let v = served h n service at stands in none (rows_of s.spaces (slot_at s n).directory) (slot_at s n) v.b v.at
 
@@ -254,7 +254,7 @@ module _ (s : KernelState) (n : ℕ) (service : Service) (at : At) (stands : pla
 -- ---- a load at a window
 
 -- what a load comes to that gives a word
-abbrev pub word_read : KernelState → ℕ → ℕ → ℕ → Step Called
+abbrev pub word_read : KernelState → ℕ → ℕ → ℕ → CallStep Called
 word_read s n va word = told_as (λ w. w) (read_at s n va word)
 
 told_got : (word : ℕ → ℕ) (called : Called) (g : Got ℕ) → got_as word g ≡ got called → (w : ℕ) × (g ≡ got w)
@@ -279,17 +279,17 @@ load_goes s n plan va live = record {
 }
 
 -- It gives a word wherever the state stands for an abstract one, and what follows is told by that word.
-pub law_of_load : (s : KernelState) (n : ℕ) (plan : Plan) (service : Service) (from : At) → IsAt s n plan service from →
+pub law_of_load : (s : KernelState) (n : ℕ) (plan : Plan) (service : Service) (from : Step) → IsAt s n plan service from →
     (va : ℕ) → plan.asks ≡ ask.Load va →
     ((names : Names) (a : AbstractState) → StandsFor names s a →
     (w : GivesWord s n va) × (IsInOrder (loaded s n va) → FollowsBy s n plan a (word_read s n va w.word))) → ServiceHolds s n plan
 unfolding performed
 law_of_load s n plan service from at va asks gives =
     law_of s n plan service from at
-    (subst (λ (z : Step Called). GoesOn s n plan z) (sym is) (load_goes s n plan va at.live))
-    (subst (λ (z : Step Called). IsInOrder z.state → KeepsBy s n plan z) (sym is) keeps)
+    (subst (λ (z : CallStep Called). GoesOn s n plan z) (sym is) (load_goes s n plan va at.live))
+    (subst (λ (z : CallStep Called). IsInOrder z.state → KeepsBy s n plan z) (sym is) keeps)
     (λ may a h. let w = (gives h.0 a h.1).0 in
-    let given : (performed s n plan.asks).gives ≡ got (Answered w.word) = ap (λ (z : Step Called). z.gives) is ∙ ap (λ (z : Step ℕ). got_as (λ w. w) z.gives) w.is in
+    let given : (performed s n plan.asks).gives ≡ got (Answered w.word) = ap (λ (z : CallStep Called). z.gives) is ∙ ap (λ (z : CallStep ℕ). got_as (λ w. w) z.gives) w.is in
     let none : (performed s n plan.asks).gives ≡ gone = subst (λ (x : Ask). MayFail x (performed s n plan.asks).gives) asks may in
     absurd (let contradiction : gone ≡ got (Answered w.word) = sym none ∙ given in cc))
   where
@@ -299,12 +299,12 @@ law_of_load s n plan service from at va asks gives =
     keeps : IsInOrder (load s n va).state → KeepsBy s n plan (told_as (λ w. w) (load s n va))
     keeps order a h quiet =
         let it = gives h.0 a h.1 in
-        subst (λ (z : Step ℕ). FollowsBy s n plan a (told_as (λ w. w) z)) (sym it.0.is)
-        (it.1 (subst (λ (t : KernelState). IsInOrder t) (ap (λ (z : Step ℕ). z.state) it.0.is) order))
+        subst (λ (z : CallStep ℕ). FollowsBy s n plan a (told_as (λ w. w) z)) (sym it.0.is)
+        (it.1 (subst (λ (t : KernelState). IsInOrder t) (ap (λ (z : CallStep ℕ). z.state) it.0.is) order))
 
 -- ---- a stage that gives up its turn, and then goes on
 
-module _ (s : KernelState) (n : ℕ) (service : Service) (from to : At) (number : ℕ) (args : List ℕ)
+module _ (s : KernelState) (n : ℕ) (service : Service) (from to : Step) (number : ℕ) (args : List ℕ)
     (stands : place_of (slot_at s n) ≡ place.InService service from) (live : is_live (slot_at s n) ≡ true)
     (numbered : number ≡ number_of service) (pausing : is_pausing (place.InService service from) ≡ true) where
   abbrev pub pause : Plan
@@ -320,17 +320,17 @@ module _ (s : KernelState) (n : ℕ) (service : Service) (from to : At) (number 
   slot_is = upd-at s.environments.slots n (record (slot_at s n) { status = Runnable })
 
   rest : LeavesRest s ran
-  rest = subst (λ (z : Step Called). LeavesRest s z.state) (yield_is s n live args) (system_left s n SYS_YIELD args refl).rest
+  rest = subst (λ (z : CallStep Called). LeavesRest s z.state) (yield_is s n live args) (system_left s n SYS_YIELD args refl).rest
 
   used : KeepsUses n s ran
-  used = subst (λ (z : Step Called). KeepsUses n s z.state) (yield_is s n live args) (λ in_order live each. system_found s n SYS_YIELD args in_order live each)
+  used = subst (λ (z : CallStep Called). KeepsUses n s z.state) (yield_is s n live args) (λ in_order live each. system_found s n SYS_YIELD args in_order live each)
 
-  pub law_of_pause : steps_left (place.InService service to) < steps_left (place.InService service from) → Keeps progress.Hidden n s after [] →
+  pub law_of_pause : steps_left (place.InService service to) < steps_left (place.InService service from) → KeepsStanding progress.Hidden n s after [] →
       ServiceHolds s n pause
   unfolding performed
   law_of_pause falls keeps =
-      let call : Step Called = giving ran (Answered 0) in
-      subst (λ (z : Step Called). PlanHolds s n pause z) (sym (yield_is s n live args)) (record {
+      let call : CallStep Called = giving ran (Answered 0) in
+      subst (λ (z : CallStep Called). PlanHolds s n pause z) (sym (yield_is s n live args)) (record {
         lives = λ called is stays. ap (λ (k : Slot). is_live k) slot_is;
         keeps = λ order. keeps;
         fails = λ may a h. absurd (let contradiction : false ≡ true = may in cc);

@@ -3,10 +3,11 @@ use Rattle.std.specs.Prelude.{◌≡◌, ℕ, ◌%◌, true, List, [], ◌∷◌
 use Rattle.jos_base.specs.declared.called.Called.{Called}
 use Rattle.jos_base.specs.declared.called.Called.TheVariants.{Answered}
 use Rattle.jos_base.specs.KernelState.{KernelState}
+use Rattle.jos_base.specs.SystemCalls.{may_print}
 use Rattle.lib_os.specs.declared.user_os.Stop.{Stop}
 use Rattle.lib_os.specs.declared.user_os.Stop.TheVariants as stop
 use Rattle.lib_os.specs.UserCalls as call
-use Rattle.lib_os.specs.UserCalls.{Step, Got, got, to_handler, gone, Output, Prints, PrintsPart, may_print}
+use Rattle.lib_os.specs.UserCalls.{CallStep, Got, got, to_handler, gone, Output, Prints, PrintsPart}
 use Rattle.lib_stage.specs.declared.ask.Ask.{Ask}
 use Rattle.lib_stage.specs.declared.ask.Ask.TheVariants as ask
 
@@ -21,11 +22,11 @@ got_as word (got x) = got (Answered (word x))
 got_as word to_handler = to_handler
 got_as word gone = gone
 
-abbrev pub told_as : {X : Type 0} → (X → ℕ) → Step X → Step Called
+abbrev pub told_as : {X : Type 0} → (X → ℕ) → CallStep X → CallStep Called
 told_as word step = record { state = step.state; gives = got_as word step.gives; written = step.written }
 
 -- the state after the call, what it gives and what is written
-unfoldable pub performed : KernelState → ℕ → Ask → Step Called
+unfoldable pub performed : KernelState → ℕ → Ask → CallStep Called
 performed s n (ask.System number args) = call.system s n number args
 performed s n (ask.Load va) = told_as (λ word. word) (call.load s n va)
 performed s n (ask.LoadByte va) = told_as (λ byte. byte) (call.load_byte s n va)
@@ -47,7 +48,7 @@ MayFail (ask.System number args) gives = may_print number ≡ true
 MayFail _ gives = gives ≡ gone
 
 -- what came of it
-abbrev pub IsPerformed : Ask → Step Called → Result Called Stop → KernelState → Output → Type 0
+abbrev pub IsPerformed : Ask → CallStep Called → Result Called Stop → KernelState → Output → Type 0
 IsPerformed a step (Ok called) state output = (step.gives ≡ got called) × (state ≡ step.state) × Prints output step.written
 IsPerformed a step (Err stop.Upcall) state output = (step.gives ≡ to_handler) × (state ≡ step.state) × Prints output step.written
 IsPerformed a step (Err stop.Ended) state output = (step.gives ≡ gone) × (state ≡ step.state) × Prints output step.written

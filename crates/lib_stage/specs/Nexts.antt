@@ -3,7 +3,7 @@ use Rattle.std.specs.Prelude.{ℕ, Bool, true, false}
 use Rattle.jos_base.specs.KernelState.{KernelState, slot_at, with_extra}
 use Rattle.lib_os.specs.declared.progress.Progress.{Progress}
 use Rattle.lib_os.specs.declared.progress.Progress.TheVariants as progress
-use Rattle.lib_os.specs.LibrarySteps.{answered, gone_back}
+use Rattle.lib_os.specs.LibrarySteps.{service_answered, gone_back}
 use Rattle.lib_os.specs.Places.{words_at}
 use Rattle.lib_stage.specs.declared.ask.Next.{Next}
 use Rattle.lib_stage.specs.declared.ask.Next.TheVariants as next
@@ -22,7 +22,7 @@ is_gone _ = false
 
 -- of the environment in slot n, which is in the service of a number
 abbrev pub settled : ℕ → Next → KernelState → ℕ → KernelState
-settled number (next.Answer word) s n = answered s n word
+settled number (next.Answer word) s n = service_answered s n word
 settled number (next.Answers eax edx ecx ebx) s n =
     gone_back s n (record (slot_at s n).registers { eax = eax; edx = edx; ecx = ecx; ebx = ebx })
 settled number (next.GoOn step) s n = with_extra s n (words_at number step)

@@ -11,9 +11,9 @@ use Rattle.lib_os.specs.declared.progress.Progress.TheVariants as progress
 use Rattle.lib_os.specs.AbstractRun.{abs_step}
 use Rattle.lib_os.specs.AbstractState.{AbstractState}
 use Rattle.lib_os.specs.InOrder.{IsInOrder}
-use Rattle.lib_os.specs.LibrarySteps.{Stands, Keeps, Leaves, Lowers, GivesUp}
+use Rattle.lib_os.specs.LibrarySteps.{Stands, KeepsStanding, Leaves, Lowers, GivesUp}
 use Rattle.lib_os.specs.Places.{place_of}
-use Rattle.lib_os.specs.UserCalls.{Step, Got, got, to_handler, gone, Output, Prints, PrintsPart}
+use Rattle.lib_os.specs.UserCalls.{CallStep, Got, got, to_handler, gone, Output, Prints, PrintsPart}
 use Rattle.lib_stage.specs.declared.ask.Ask.{Ask}
 use Rattle.lib_stage.specs.declared.ask.Ask.TheVariants as ask
 use Rattle.lib_stage.specs.declared.ask.Next.{Next}
@@ -34,7 +34,7 @@ pub record Upshot : Type 0 where
   pub written : List ℕ
 
 -- An access that faults has left the environment to its handler, or destroyed it.
-abbrev pub upshot_by : Plan → ℕ → Step Called → Got Called → Upshot
+abbrev pub upshot_by : Plan → ℕ → CallStep Called → Got Called → Upshot
 upshot_by plan n step (got called) = record {
   state = settled plan.number (plan.next called) step.state n;
   progress = seen_as (plan.next called);
@@ -55,10 +55,10 @@ IsServiceStep (Err _) s n plan state output =
 
 -- The law of a service, over states, by what its call comes to: what its step is in the abstract system, what it leaves,
 -- and that it comes to an end.
-pub record PlanHolds (s : KernelState) (n : ℕ) (plan : Plan) (step : Step Called) : Type 0 where
+pub record PlanHolds (s : KernelState) (n : ℕ) (plan : Plan) (step : CallStep Called) : Type 0 where
   -- who goes on is there
   pub lives : (called : Called) → step.gives ≡ got called → is_gone (plan.next called) ≡ false → is_live (slot_at step.state n) ≡ true
-  pub keeps : IsInOrder step.state → let did = upshot_by plan n step step.gives in Keeps did.progress n s did.state did.written
+  pub keeps : IsInOrder step.state → let did = upshot_by plan n step step.gives in KeepsStanding did.progress n s did.state did.written
   pub fails : MayFail plan.asks step.gives → (a : AbstractState) → Stands s a →
       (b : AbstractState) × (abs_step a n ≡ Some b) × (b.console ≡ a.console ++ step.written)
   pub leaves : let did = upshot_by plan n step step.gives in Leaves (Ok did.progress) n s did.state

@@ -23,7 +23,7 @@
 mod arithmetic;
 mod instructions;
 
-use case_words::{Answers, Words, named, tell_cases};
+use case_words::{AnswersCases, Words, named, tell_cases};
 use jos_base::Errno;
 use std::alloc::Global;
 use std::io;
@@ -42,7 +42,7 @@ const ERRORS: [(&str, Errno); 7] = [
 #[derive(Clone, Copy)]
 struct Tried;
 
-impl Answers for Tried {
+impl AnswersCases for Tried {
     fn answer(&mut self, alloc: Global, out: &mut String, mut words: Words) -> io::Result<()> {
         match words.word() {
             "error" => match named(&ERRORS, words.word()) {

@@ -8,7 +8,7 @@ use anyhow::{Context, bail};
 use jos_envs::Table;
 use jos_ipc::Rendezvous;
 use std::alloc::Global;
-use test_cases::{Bench, Told};
+use test_cases::{Bench, Shown};
 
 /// What is tried.
 #[derive(Drop)]
@@ -37,7 +37,7 @@ impl Bench for PartBench {
         }
     }
 
-    fn answer(&mut self, alloc: Global, what: &str, words: &str) -> anyhow::Result<Told> {
+    fn answer(&mut self, alloc: Global, what: &str, words: &str) -> anyhow::Result<Shown> {
         match self {
             PartBench::Schedules => tell_schedules(alloc, what, words),
             PartBench::Frames => tell_frames(alloc, what, words),

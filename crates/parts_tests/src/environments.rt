@@ -8,7 +8,7 @@ use jos_envs::{Environment, Table};
 use jos_ipc::Rendezvous;
 use jos_sched::next;
 use std::alloc::Global;
-use test_cases::{Told, given, numbers};
+use test_cases::{Shown, given, numbers};
 
 /// Gives a slot to an environment that the kernel makes, and tells the slot and the environment's id.
 fn allot(table: &mut Table) -> Option<(usize, u32)> {
@@ -88,21 +88,21 @@ fn tell_slot(
     what: &str,
     slot: usize,
     times: u32,
-) -> anyhow::Result<Told>
+) -> anyhow::Result<Shown>
     requires { slot < NENV }
 {
     match what {
         "end" => {
             end(table, slot);
-            Ok(Told::Nothing)
+            Ok(Shown::Nothing)
         }
-        "renew" => Ok(Told::Word(renew(table, slot, times))),
+        "renew" => Ok(Shown::Word(renew(table, slot, times))),
         "runnable" => {
             make_runnable(table, slot);
-            Ok(Told::Nothing)
+            Ok(Shown::Nothing)
         }
-        "next_behind" => Ok(Told::count(next(table, Some(slot)).map(|slot| slot as u64))),
-        "record" => Ok(Told::words(alloc, &table.get(slot).record())?),
+        "next_behind" => Ok(Shown::count(next(table, Some(slot)).map(|slot| slot as u64))),
+        "record" => Ok(Shown::words(alloc, &table.get(slot).record())?),
         _ => anyhow::bail!("{what} is no case of environments"),
     }
 }
@@ -113,18 +113,18 @@ pub(crate) fn tell_environments(
     alloc: Global,
     what: &str,
     words: &str,
-) -> anyhow::Result<Told> {
+) -> anyhow::Result<Shown> {
     let numbers = numbers(alloc, words)?;
     let slot = given(&numbers, 0) as usize;
     match what {
-        "is_unused" => Ok(Told::Is(table.is_unused())),
+        "is_unused" => Ok(Shown::Is(table.is_unused())),
         "allot" => match allot(table) {
-            Some((slot, id)) => Ok(Told::Text(format!(in alloc; "slot {slot}, id {id:#x}")?)),
-            None => Ok(Told::Nothing),
+            Some((slot, id)) => Ok(Shown::Text(format!(in alloc; "slot {slot}, id {id:#x}")?)),
+            None => Ok(Shown::Nothing),
         },
-        "first_next" => Ok(Told::count(next(table, None).map(|slot| slot as u64))),
-        "full_record" => Ok(Told::words(alloc, &environment().record())?),
+        "first_next" => Ok(Shown::count(next(table, None).map(|slot| slot as u64))),
+        "full_record" => Ok(Shown::words(alloc, &environment().record())?),
         _ if slot < NENV as usize => tell_slot(table, alloc, what, slot, given(&numbers, 1)),
-        _ => Ok(Told::Nothing),
+        _ => Ok(Shown::Nothing),
     }
 }

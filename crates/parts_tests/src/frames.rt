@@ -6,7 +6,7 @@ use jos_trap::{
     words_of_record,
 };
 use std::alloc::Global;
-use test_cases::{Told, given, numbers};
+use test_cases::{Shown, given, numbers};
 
 /// Registers that differ from each other.
 fn registers(esp: u32) -> Regs {
@@ -37,7 +37,7 @@ fn record(numbers: &[u32]) -> [u8; RECORD_SIZE] {
 }
 
 /// What comes of a case. Of a fault its address, its error and ESP are given.
-pub(crate) fn tell_frames(alloc: Global, what: &str, words: &str) -> anyhow::Result<Told> {
+pub(crate) fn tell_frames(alloc: Global, what: &str, words: &str) -> anyhow::Result<Shown> {
     let numbers = numbers(alloc, words)?;
     let fault = PageFault {
         va: given(&numbers, 0),
@@ -48,24 +48,24 @@ pub(crate) fn tell_frames(alloc: Global, what: &str, words: &str) -> anyhow::Res
     let record = words_of_record(&record(&numbers));
     match what {
         "upcall_place" => Ok(match upcall_place(fault.va) {
-            UpcallPlace::At(place) => Told::Word(place),
-            UpcallPlace::Overflow => Told::Nothing,
+            UpcallPlace::At(place) => Shown::Word(place),
+            UpcallPlace::Overflow => Shown::Nothing,
         }),
-        "frame_words" => Ok(Told::words(alloc, &frame)?),
-        "from_frame" => Ok(Told::registers(alloc, &from_frame(&frame))?),
+        "frame_words" => Ok(Shown::words(alloc, &frame)?),
+        "from_frame" => Ok(Shown::registers(alloc, &from_frame(&frame))?),
         "frame_bytes" => {
             let bytes = frame_bytes(fault, &registers);
             let mut shown = Vec::new(alloc);
             for byte in bytes[0..6].iter().chain(&bytes[48..52]) {
                 shown.push(*byte as u32)?;
             }
-            Ok(Told::Words(shown))
+            Ok(Shown::Words(shown))
         }
-        "record_words" => Ok(Told::words(alloc, &record)?),
+        "record_words" => Ok(Shown::words(alloc, &record)?),
         "from_record" => {
             let registers = from_record(&record);
             let told = [registers.eflags, registers.esp, registers.eip];
-            Ok(Told::words(alloc, &told)?)
+            Ok(Shown::words(alloc, &told)?)
         }
         _ => anyhow::bail!("{what} is no case of frames"),
     }

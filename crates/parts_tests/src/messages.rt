@@ -3,10 +3,10 @@
 use jos_base::EnvId;
 use jos_ipc::{Offer, Rendezvous};
 use std::alloc::Global;
-use test_cases::{Told, given, numbers};
+use test_cases::{Shown, given, numbers};
 
 /// What a rendezvous holds, as words in the order of its fields.
-fn words_of(alloc: Global, rendezvous: &Rendezvous) -> anyhow::Result<Told> {
+fn words_of(alloc: Global, rendezvous: &Rendezvous) -> anyhow::Result<Shown> {
     let words = [
         rendezvous.receiving as u32,
         rendezvous.wanted.0,
@@ -15,7 +15,7 @@ fn words_of(alloc: Global, rendezvous: &Rendezvous) -> anyhow::Result<Told> {
         rendezvous.sender.0,
         rendezvous.perm,
     ];
-    Ok(Told::words(alloc, &words)?)
+    Ok(Shown::words(alloc, &words)?)
 }
 
 /// What comes of a case over a rendezvous.
@@ -24,7 +24,7 @@ pub(crate) fn tell_messages(
     alloc: Global,
     what: &str,
     words: &str,
-) -> anyhow::Result<Told> {
+) -> anyhow::Result<Shown> {
     let numbers = numbers(alloc, words)?;
     let first = given(&numbers, 0);
     match what {
@@ -32,10 +32,10 @@ pub(crate) fn tell_messages(
             rendezvous.want(first, EnvId(given(&numbers, 1)));
             words_of(alloc, rendezvous)
         }
-        "accepts" => Ok(Told::Is(rendezvous.accepts(EnvId(first)))),
+        "accepts" => Ok(Shown::Is(rendezvous.accepts(EnvId(first)))),
         "offer" => {
             let offer = rendezvous.offer(EnvId(first), given(&numbers, 1), given(&numbers, 2));
-            Ok(Told::Is(offer == Offer::Taken))
+            Ok(Shown::Is(offer == Offer::Taken))
         }
         "holds" => words_of(alloc, rendezvous),
         _ => anyhow::bail!("{what} is no case of messages"),

@@ -3,7 +3,7 @@
 use anyhow::{Context, ensure};
 use jos_sched::{Schedule, ScheduleFault, parse_schedule};
 use std::alloc::Global;
-use test_cases::{Told, numbers};
+use test_cases::{Shown, numbers};
 
 /// The bytes of a text between quotes, in which `\t`, `\r` and `\n` are what they are in Rust.
 fn text_of(alloc: Global, quoted: &str) -> anyhow::Result<Vec<u8>> {
@@ -28,32 +28,32 @@ fn text_of(alloc: Global, quoted: &str) -> anyhow::Result<Vec<u8>> {
 }
 
 /// The numbers of a schedule, or what is wrong with its text.
-fn read(alloc: Global, quoted: &str) -> anyhow::Result<Told> {
+fn read(alloc: Global, quoted: &str) -> anyhow::Result<Shown> {
     let text = text_of(alloc, quoted)?;
     ensure!(text.len() < 1 << 32, "a long text");
     match parse_schedule(alloc, &text) {
-        Ok(schedule) => Ok(Told::Text(format!(in alloc; "{:?}", schedule.numbers())?)),
-        Err(fault) => Ok(Told::Text(format!(in alloc; "{fault}")?)),
+        Ok(schedule) => Ok(Shown::Text(format!(in alloc; "{:?}", schedule.numbers())?)),
+        Err(fault) => Ok(Shown::Text(format!(in alloc; "{fault}")?)),
     }
 }
 
 /// The steps of a turn, by the schedule 3, 5.
-fn quantum(alloc: Global, words: &str) -> anyhow::Result<Told> {
+fn quantum(alloc: Global, words: &str) -> anyhow::Result<Shown> {
     let schedule = Schedule::from_numbers(alloc, &[3, 5])
         .ok()
         .context("no memory")?;
     let numbers = numbers(alloc, words)?;
     let turn = numbers.first().copied().unwrap_or(0);
-    Ok(Told::Count(schedule.quantum(turn) as u64))
+    Ok(Shown::Count(schedule.quantum(turn) as u64))
 }
 
 /// What comes of a case.
-pub(crate) fn tell_schedules(alloc: Global, what: &str, words: &str) -> anyhow::Result<Told> {
+pub(crate) fn tell_schedules(alloc: Global, what: &str, words: &str) -> anyhow::Result<Shown> {
     match what {
         "read" => read(alloc, words),
         "quantum" => quantum(alloc, words),
-        "too_many" => Ok(Told::Text(format!(in alloc; "{}", ScheduleFault::TooMany)?)),
-        "no_memory" => Ok(Told::Text(format!(in alloc; "{}", ScheduleFault::NoMemory)?)),
+        "too_many" => Ok(Shown::Text(format!(in alloc; "{}", ScheduleFault::TooMany)?)),
+        "no_memory" => Ok(Shown::Text(format!(in alloc; "{}", ScheduleFault::NoMemory)?)),
         _ => anyhow::bail!("{what} is no case of schedules"),
     }
 }

@@ -14,7 +14,7 @@
 mod memory;
 mod processor;
 
-use case_words::{Answers, Words, tell_cases};
+use case_words::{AnswersCases, Words, tell_cases};
 use jos_cpu::Decodings;
 use std::alloc::Global;
 use std::io;
@@ -25,7 +25,7 @@ struct Tried {
     decodings: Decodings,
 }
 
-impl Answers for Tried {
+impl AnswersCases for Tried {
     fn answer(&mut self, alloc: Global, out: &mut String, mut words: Words) -> io::Result<()> {
         match words.word() {
             "cpu" => processor::answer(alloc, &mut self.decodings, out, words),

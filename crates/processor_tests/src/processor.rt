@@ -48,7 +48,7 @@ fn memory_of(code: &[u8]) -> TestMemory {
 
 /// Code that is run from the base up to its end or for so many steps.
 #[derive(Clone, Copy)]
-struct Machine {
+struct TestMachine {
     end: u32,
     most: u32,
     regs: Regs,
@@ -57,7 +57,7 @@ struct Machine {
 
 /// Runs it step by step with no memory at hand, or in bursts of one step with all memory at hand. There is nothing where
 /// a step is not simply done.
-fn run(decodings: &mut Decodings, from: &Machine, standing: bool) -> Option<Machine> {
+fn run(decodings: &mut Decodings, from: &TestMachine, standing: bool) -> Option<TestMachine> {
     let mut to = *from;
     to.memory.standing = standing;
     for _ in 0..from.most {
@@ -76,7 +76,7 @@ fn run(decodings: &mut Decodings, from: &Machine, standing: bool) -> Option<Mach
 }
 
 /// Whether two runs came to the same registers and bytes.
-fn are_same(a: &Option<Machine>, b: &Option<Machine>) -> bool {
+fn are_same(a: &Option<TestMachine>, b: &Option<TestMachine>) -> bool {
     match (a, b) {
         (Some(a), Some(b)) => {
             a.regs == b.regs && a.memory.bytes.as_slice() == b.memory.bytes.as_slice()
@@ -117,7 +117,7 @@ fn tell_regs(out: &mut String, regs: &Regs, mask: u32) -> Result<(), AllocError>
 fn tell_run(
     decodings: &mut Decodings,
     out: &mut String,
-    from: &Machine,
+    from: &TestMachine,
     mask: u32,
 ) -> Result<(), AllocError> {
     let plain = run(decodings, from, false);
@@ -137,7 +137,7 @@ fn tell_run(
 fn tell_burst(
     decodings: &mut Decodings,
     out: &mut String,
-    from: &Machine,
+    from: &TestMachine,
 ) -> Result<(), AllocError> {
     let mut plain = *from;
     let mut event = Event::Next;
@@ -166,7 +166,7 @@ fn tell_burst(
 
 /// What comes of one step, how many bytes it reached, and whether it left the registers as they were where it raised a
 /// trap.
-fn tell_event(out: &mut String, gates: Gates, from: &Machine) -> Result<(), AllocError> {
+fn tell_event(out: &mut String, gates: Gates, from: &TestMachine) -> Result<(), AllocError> {
     let mut to = *from;
     match step(&mut to.regs, &mut to.memory, gates) {
         Event::Next => out.push_str("next")?,
@@ -189,7 +189,7 @@ pub fn answer(
 ) -> io::Result<()> {
     let kind = words.word();
     let code = words.bytes(alloc)?;
-    let mut from = Machine {
+    let mut from = TestMachine {
         end: 0,
         most: 0,
         regs: read_regs(&mut words),

@@ -2,7 +2,7 @@
 
 ghost use Rattle.std.specs.Prelude.{◌<◌, ◌^◌, IfOk, length};
 
-use crate::calls::Bench;
+use crate::calls::ServedBench;
 use jos_base::{
     EnvId, FRAMES_MAX, FRAMES_MIN, PGSIZE, PTE_P, PTE_U, PTE_W, Perm, Status, UTEMP, UTEXT,
 };
@@ -57,7 +57,7 @@ fn tell_system(alloc: Global, system: &System) -> Result<String, AllocError> {
 /// Boots the program, which is asked in the lines that follow.
 pub(crate) fn boot(
     alloc: Global,
-    bench: &mut Option<Bench>,
+    bench: &mut Option<ServedBench>,
     given: &str,
 ) -> Result<String, AllocError> {
     let (frames, words) = given.split_once(' ').unwrap_or((given, ""));
@@ -74,7 +74,7 @@ pub(crate) fn boot(
         Ok(system) => {
             let told = tell_system(alloc, &system)?;
             let served = Served::new(system, Input::new(Vec::new(alloc)));
-            *bench = Some(Bench::new(alloc, served, 1));
+            *bench = Some(ServedBench::new(alloc, served, 1));
             Ok(told)
         }
         Err(BootFault::Pool) => String::from_str(alloc, "Pool"),
@@ -83,7 +83,7 @@ pub(crate) fn boot(
 }
 
 /// The first environment, in slot 0, with a page of zeros at `UTEMP` that it may write.
-fn first_environment(alloc: Global) -> Option<Bench> {
+fn first_environment(alloc: Global) -> Option<ServedBench> {
     let Ok(mut system) = System::new(alloc, FRAMES_MIN) else {
         return None;
     };
@@ -93,11 +93,11 @@ fn first_environment(alloc: Global) -> Option<Bench> {
     system.set_status(slot, Status::Runnable);
     system.allocate(slot, UTEMP, Perm(PTE_P + PTE_W + PTE_U))?;
     let served = Served::new(system, Input::new(Vec::new(alloc)));
-    Some(Bench::new(alloc, served, 0))
+    Some(ServedBench::new(alloc, served, 0))
 }
 
 /// Begins with it.
-pub(crate) fn first(alloc: Global, bench: &mut Option<Bench>) -> Result<String, AllocError> {
+pub(crate) fn first(alloc: Global, bench: &mut Option<ServedBench>) -> Result<String, AllocError> {
     *bench = first_environment(alloc);
     match bench {
         Some(_) => String::from_str(alloc, "begins"),

@@ -15,7 +15,7 @@ use test_cases::{given_registers, register_words, twelve_numbers};
 
 /// An environment in a slot, over a host without files and input at which no call fails.
 #[derive(Drop)]
-pub(crate) struct Bench {
+pub(crate) struct ServedBench {
     served: Served,
     host: MemHost,
     slot: usize,
@@ -45,13 +45,13 @@ fn tell_done(alloc: Global, done: Result<(), Stop>) -> Result<String, AllocError
     }
 }
 
-impl Bench {
+impl ServedBench {
     /// The environment that stands in a slot.
-    pub(crate) fn new(alloc: Global, served: Served, slot: usize) -> Bench
+    pub(crate) fn new(alloc: Global, served: Served, slot: usize) -> ServedBench
         requires { slot < NENV }
     {
         let host = MemHost::new(alloc, Vec::new(alloc), Vec::new(alloc), Vec::new(alloc));
-        Bench { served, host, slot }
+        ServedBench { served, host, slot }
     }
 
     /// Makes a system call.
@@ -144,7 +144,7 @@ impl Bench {
 
     /// How the environment stands at last, how many bytes were printed, and which.
     pub(crate) fn end(self, alloc: Global) -> Result<String, AllocError> {
-        let Bench { served, host, slot } = self;
+        let ServedBench { served, host, slot } = self;
         let written = served.written();
         let (system, _input) = served.into_parts();
         let status = system.environment(slot).status;

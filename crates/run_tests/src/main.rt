@@ -21,13 +21,17 @@ mod stepping;
 mod telling;
 
 use crate::beginning::{boot, first, frames};
-use crate::calls::Bench;
+use crate::calls::ServedBench;
 use crate::stepping::steps;
 use std::alloc::{AllocError, Global};
 use test_cases::tell_lines;
 
 /// What is told for a line, by the environment of the lines before it.
-fn answer(alloc: Global, bench: &mut Option<Bench>, line: &str) -> Result<String, AllocError> {
+fn answer(
+    alloc: Global,
+    bench: &mut Option<ServedBench>,
+    line: &str,
+) -> Result<String, AllocError> {
     let (case, given) = line.split_once(' ').unwrap_or((line, ""));
     match case {
         "steps" => steps(alloc, given),

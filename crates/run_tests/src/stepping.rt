@@ -1,6 +1,6 @@
 //! Programs step by step: the server in slot 0, and one environment.
 
-use crate::calls::Bench;
+use crate::calls::ServedBench;
 use jos_base::{
     EnvId, EnvType, FRAMES_MIN, PTE_P, PTE_U, PTE_W, Perm, Regs, Status, USTACKTOP, UTEXT,
 };
@@ -29,7 +29,7 @@ fn environment(alloc: Global) -> Option<Served> {
 }
 
 /// Such an environment with two words of code, which stands before the first of them.
-fn program(alloc: Global, code: [u32; 2], registers: Regs) -> Option<Bench> {
+fn program(alloc: Global, code: [u32; 2], registers: Regs) -> Option<ServedBench> {
     let mut served = environment(alloc)?;
     served.serve(1);
     let mut host = MemHost::new(alloc, Vec::new(alloc), Vec::new(alloc), Vec::new(alloc));
@@ -44,7 +44,7 @@ fn program(alloc: Global, code: [u32; 2], registers: Regs) -> Option<Bench> {
     if !served.is_live() || served.store(&mut host, UTEXT + 4, second).is_err() {
         return None;
     }
-    Some(Bench::new(alloc, served, 1))
+    Some(ServedBench::new(alloc, served, 1))
 }
 
 /// What comes of so many steps of a program.

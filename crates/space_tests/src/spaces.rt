@@ -11,7 +11,7 @@ use jos_base::{Access, ENV_WORDS, FRAMES_MIN, Frame, NENV, PGSIZE, Perm, UTOP};
 use jos_space::{Space, Spaces};
 use std::alloc::Global;
 use std::marker::Model;
-use test_cases::{Bench, READ, Told, WRITE, given, numbers};
+use test_cases::{Bench, READ, Shown, WRITE, given, numbers};
 
 /// Frames, and a space of them until it is destroyed.
 #[derive(Drop)]
@@ -84,11 +84,11 @@ fn put_page(
 }
 
 /// What is told of a page that was put.
-fn page_told(alloc: Global, put: Option<(Frame, bool)>) -> anyhow::Result<Told> {
+fn page_told(alloc: Global, put: Option<(Frame, bool)>) -> anyhow::Result<Shown> {
     match put {
-        Some((frame, true)) => Ok(Told::Count(frame.0 as u64)),
-        Some((frame, false)) => Ok(Told::Text(format!(in alloc; "no place for {}", frame.0)?)),
-        None => Ok(Told::Nothing),
+        Some((frame, true)) => Ok(Shown::Count(frame.0 as u64)),
+        Some((frame, false)) => Ok(Shown::Text(format!(in alloc; "no place for {}", frame.0)?)),
+        None => Ok(Shown::Nothing),
     }
 }
 
@@ -122,8 +122,8 @@ fn word_read(spaces: &Spaces, space: Space, va: u32) -> u32
 }
 
 /// What is told of a frame and of a number beside it.
-fn frame_told(alloc: Global, frame: Frame, what: &str, number: u32) -> anyhow::Result<Told> {
-    Ok(Told::Text(format!(in alloc; "frame {}, {what} {number:#x}", frame.0)?))
+fn frame_told(alloc: Global, frame: Frame, what: &str, number: u32) -> anyhow::Result<Shown> {
+    Ok(Shown::Text(format!(in alloc; "frame {}, {what} {number:#x}", frame.0)?))
 }
 
 /// Where an access leads, or its fault.
@@ -133,7 +133,7 @@ fn access(
     alloc: Global,
     va: u32,
     access: Access,
-) -> anyhow::Result<Told>
+) -> anyhow::Result<Shown>
     requires { (state spaces.old).uses space.directory.0 ≡ directory }
     ensures { (state spaces.new).uses space.directory.0 ≡ directory }
 {
@@ -141,20 +141,20 @@ fn access(
         Ok(location) => frame_told(alloc, location.frame, "offset", location.offset),
         Err(fault) => {
             let text = format!(in alloc; "fault at {:#x}, error {}", fault.va, fault.error)?;
-            Ok(Told::Text(text))
+            Ok(Shown::Text(text))
         }
     }
 }
 
 /// The bytes that are read from an address on by the page at hand of another address.
-fn bytes_by(spaces: &Spaces, space: Space, alloc: Global, numbers: &[u32]) -> anyhow::Result<Told>
+fn bytes_by(spaces: &Spaces, space: Space, alloc: Global, numbers: &[u32]) -> anyhow::Result<Shown>
     requires { (state spaces.now).uses space.directory.0 ≡ directory }
 {
     match spaces.page_at_hand(space, given(numbers, 0)) {
-        None => Ok(Told::Nothing),
+        None => Ok(Shown::Nothing),
         Some(page) => {
             let bytes = spaces.bytes_by(page, given(numbers, 1));
-            Ok(Told::Text(format!(in alloc; "frame {}, {bytes:?}", page.frame.0)?))
+            Ok(Shown::Text(format!(in alloc; "frame {}, {bytes:?}", page.frame.0)?))
         }
     }
 }
@@ -166,20 +166,20 @@ fn tell_reads(
     alloc: Global,
     what: &str,
     numbers: &[u32],
-) -> anyhow::Result<Told>
+) -> anyhow::Result<Shown>
     requires { (state spaces.now).uses space.directory.0 ≡ directory }
 {
     let va = given(numbers, 0);
     match what {
-        "directory" => Ok(Told::Count(space.directory.0 as u64)),
+        "directory" => Ok(Shown::Count(space.directory.0 as u64)),
         "look" => match spaces.look(space, va) {
             Some((frame, perm)) => frame_told(alloc, frame, "bits", perm.0),
-            None => Ok(Told::Nothing),
+            None => Ok(Shown::Nothing),
         },
-        "word" => Ok(Told::Word(word_read(spaces, space, va))),
-        "byte" => Ok(Told::Count(spaces.byte_at(space, va) as u64)),
-        "byte_or_fault" => Ok(Told::Text(format!(in alloc; "{:?}", spaces.read(space, va))?)),
-        "bytes" => Ok(Told::Text(format!(in alloc; "{:?}", spaces.user_bytes(space, va))?)),
+        "word" => Ok(Shown::Word(word_read(spaces, space, va))),
+        "byte" => Ok(Shown::Count(spaces.byte_at(space, va) as u64)),
+        "byte_or_fault" => Ok(Shown::Text(format!(in alloc; "{:?}", spaces.read(space, va))?)),
+        "bytes" => Ok(Shown::Text(format!(in alloc; "{:?}", spaces.user_bytes(space, va))?)),
         "bytes_by" => bytes_by(spaces, space, alloc, numbers),
         _ => bail!("{what} is no case of spaces"),
     }
@@ -192,7 +192,7 @@ fn tell_writes(
     alloc: Global,
     what: &str,
     numbers: &[u32],
-) -> anyhow::Result<Told>
+) -> anyhow::Result<Shown>
     requires { (state spaces.old).uses space.directory.0 ≡ directory }
     ensures { (state spaces.new).uses space.directory.0 ≡ directory }
 {
@@ -201,8 +201,8 @@ fn tell_writes(
     match what {
         "reads" => access(spaces, space, alloc, va, Access::Read),
         "writes" => access(spaces, space, alloc, va, Access::Write),
-        "put_byte" => Ok(Told::Is(spaces.put_byte(space, va, (number % 256) as u8))),
-        "put_word" => Ok(Told::Is(spaces.put_word(space, va, number))),
+        "put_byte" => Ok(Shown::Is(spaces.put_byte(space, va, (number % 256) as u8))),
+        "put_word" => Ok(Shown::Is(spaces.put_word(space, va, number))),
         _ => tell_reads(spaces, space, alloc, what, numbers),
     }
 }
@@ -214,20 +214,20 @@ fn tell_pages(
     alloc: Global,
     what: &str,
     numbers: &[u32],
-) -> anyhow::Result<Told>
+) -> anyhow::Result<Shown>
     requires { (state spaces.old).uses space.directory.0 ≡ directory }
     ensures { (state spaces.new).uses space.directory.0 ≡ directory }
 {
     match what {
         "page" => page_told(alloc, put_page(spaces, space, numbers, &[])),
         "page_of_six" => page_told(alloc, put_page(spaces, space, numbers, &[1, 2, 3, 4, 5, 6])),
-        "share" => Ok(Told::is(share(spaces, space, numbers))),
+        "share" => Ok(Shown::is(share(spaces, space, numbers))),
         "remove" => {
             let va = given(numbers, 0);
             if is_place(va) {
                 spaces.remove(space, va);
             }
-            Ok(Told::Nothing)
+            Ok(Shown::Nothing)
         }
         _ => tell_writes(spaces, space, alloc, what, numbers),
     }
@@ -263,10 +263,15 @@ impl SpaceBench {
     }
 
     /// What comes of a case over the space.
-    fn answer_space(&mut self, alloc: Global, what: &str, numbers: &[u32]) -> anyhow::Result<Told> {
+    fn answer_space(
+        &mut self,
+        alloc: Global,
+        what: &str,
+        numbers: &[u32],
+    ) -> anyhow::Result<Shown> {
         match self.space {
             Some(space) => tell_pages(&mut self.spaces, space, alloc, what, numbers),
-            None => Ok(Told::Nothing),
+            None => Ok(Shown::Nothing),
         }
     }
 
@@ -287,24 +292,26 @@ impl Bench for SpaceBench {
         }
     }
 
-    fn answer(&mut self, alloc: Global, what: &str, words: &str) -> anyhow::Result<Told> {
+    fn answer(&mut self, alloc: Global, what: &str, words: &str) -> anyhow::Result<Shown> {
         let numbers = numbers(alloc, words)?;
         let first = given(&numbers, 0);
         match what {
-            "take" => Ok(Told::count(take(&mut self.spaces, first).map(|frame| frame.0 as u64))),
-            "create" => Ok(Told::count(self.spaces.create().map(|space| space.directory.0 as u64))),
-            "count" => Ok(Told::Count(self.spaces.count(Frame(first)))),
+            "take" => Ok(Shown::count(take(&mut self.spaces, first).map(|frame| frame.0 as u64))),
+            "create" => Ok(Shown::count(
+                self.spaces.create().map(|space| space.directory.0 as u64),
+            )),
+            "count" => Ok(Shown::Count(self.spaces.count(Frame(first)))),
             "set_word" => {
                 set_record(&mut self.spaces, &numbers, false);
-                Ok(Told::Nothing)
+                Ok(Shown::Nothing)
             }
             "set_words" => {
                 set_record(&mut self.spaces, &numbers, true);
-                Ok(Told::Nothing)
+                Ok(Shown::Nothing)
             }
             "destroy" => {
                 self.destroy();
-                Ok(Told::Nothing)
+                Ok(Shown::Nothing)
             }
             _ => self.answer_space(alloc, what, &numbers),
         }

@@ -1,7 +1,7 @@
 //! What is tried, and how the lines reach it.
 
 use crate::lines::tell_lines;
-use crate::told::Told;
+use crate::told::Shown;
 use anyhow::bail;
 use std::alloc::Global;
 use std::io::Input;
@@ -12,7 +12,7 @@ pub trait Bench: Sized + Drop {
     fn of(alloc: Global, line: &str) -> anyhow::Result<Self>;
 
     /// What comes of a case: of what is done with the words.
-    fn answer(&mut self, alloc: Global, what: &str, words: &str) -> anyhow::Result<Told>;
+    fn answer(&mut self, alloc: Global, what: &str, words: &str) -> anyhow::Result<Shown>;
 }
 
 /// Does what a line says, and tells what comes of it.

@@ -19,4 +19,4 @@ pub use bench::{Bench, tell_cases};
 pub use digits::{given_registers, program_words, register_words, twelve_numbers};
 pub use lines::tell_lines;
 pub use names::{READ, WRITE, given, number, numbers};
-pub use told::Told;
+pub use told::Shown;

@@ -7,7 +7,7 @@ use std::fmt;
 
 /// What comes of a case, as it is printed.
 #[derive(Drop)]
-pub enum Told {
+pub enum Shown {
     Nothing,
     /// Whether it is so.
     Is(bool),
@@ -21,48 +21,48 @@ pub enum Told {
     Text(String),
 }
 
-impl Told {
+impl Shown {
     /// A word, if there is one.
-    pub fn word(word: Option<u32>) -> Told {
-        word.map_or(Told::Nothing, Told::Word)
+    pub fn word(word: Option<u32>) -> Shown {
+        word.map_or(Shown::Nothing, Shown::Word)
     }
 
     /// A slot or a frame, if there is one.
-    pub fn count(count: Option<u64>) -> Told {
-        count.map_or(Told::Nothing, Told::Count)
+    pub fn count(count: Option<u64>) -> Shown {
+        count.map_or(Shown::Nothing, Shown::Count)
     }
 
     /// Whether it is so, if that can be said.
-    pub fn is(is: Option<bool>) -> Told {
-        is.map_or(Told::Nothing, Told::Is)
+    pub fn is(is: Option<bool>) -> Shown {
+        is.map_or(Shown::Nothing, Shown::Is)
     }
 
     /// Words.
-    pub fn words(alloc: Global, words: &[u32]) -> Result<Told, AllocError> {
-        Ok(Told::Words(words.to_vec(alloc)?))
+    pub fn words(alloc: Global, words: &[u32]) -> Result<Shown, AllocError> {
+        Ok(Shown::Words(words.to_vec(alloc)?))
     }
 
     /// EAX, ECX, EDX, EBX, ESP, EBP, ESI, EDI, EIP and EFLAGS.
-    pub fn registers(alloc: Global, registers: &Regs) -> Result<Told, AllocError> {
-        Told::words(alloc, &register_words(registers))
+    pub fn registers(alloc: Global, registers: &Regs) -> Result<Shown, AllocError> {
+        Shown::words(alloc, &register_words(registers))
     }
 }
 
-impl fmt::Display for Told {
+impl fmt::Display for Shown {
     fn fmt<W: fmt::Write>(&self, f: &mut fmt::Formatter<W>) -> fmt::Result {
         match self {
-            Told::Nothing => write!(f, "none"),
-            Told::Is(is) => write!(f, "{is}"),
-            Told::Count(count) => write!(f, "{count}"),
-            Told::Word(word) => write!(f, "{word:#x}"),
-            Told::Words(words) => {
+            Shown::Nothing => write!(f, "none"),
+            Shown::Is(is) => write!(f, "{is}"),
+            Shown::Count(count) => write!(f, "{count}"),
+            Shown::Word(word) => write!(f, "{word:#x}"),
+            Shown::Words(words) => {
                 for (place, word) in words.iter().enumerate() {
                     let blank = if place == 0 { "" } else { " " };
                     write!(f, "{blank}{word:#x}")?;
                 }
                 Ok(())
             }
-            Told::Text(text) => write!(f, "{text}"),
+            Shown::Text(text) => write!(f, "{text}"),
         }
     }
 }

@@ -4,13 +4,13 @@
 ghost use Rattle.std.specs.Prelude.{◌≡◌, IfSome};
 ghost use Rattle.jos_cpu.specs.declared.forms.Form.TheVariants.{Compute};
 ghost use Rattle.jos_cpu.specs.Forms.{form_of};
-ghost use Rattle.jos_cpu.specs.AtHand.{IsInput};
+ghost use Rattle.jos_cpu.specs.AtHand.{IsInputAt};
 ghost use Rattle.jos_cpu.specs.Bursts.{IsQuick};
 
 use crate::accesses::{AccessAt, Accesses, is_read, is_written, usage_of, used_operand};
 use crate::acts::make_computation;
 use crate::events::Gates;
-use crate::forms::{Act, Form, Place};
+use crate::forms::{Act, Form, Site};
 use crate::memory::Mem;
 use crate::transfers::Inputs;
 use jos_alu::{Width, advance};
@@ -20,7 +20,7 @@ use jos_isa::Insn;
 /// What an access reads, where that is at hand: 0 where it only writes.
 #[inline(always)]
 fn input_at_hand<M: Mem>(mem: &M, reach: AccessAt) -> Option<u32>
-    ensures { IfSome result (IsInput M.table (M.seen mem.now) reach.usage reach.width reach.va) }
+    ensures { IfSome result (IsInputAt M.table (M.seen mem.now) reach.usage reach.width reach.va) }
 {
     if is_read(reach.usage) {
         mem.get_at_hand(reach.width, reach.va)
@@ -33,7 +33,7 @@ fn input_at_hand<M: Mem>(mem: &M, reach: AccessAt) -> Option<u32>
 fn compute_at_hand<M: Mem>(
     act: Act,
     width: Width,
-    places: (Place, Place, Place),
+    places: (Site, Site, Site),
     insn: &Insn,
     len: u32,
     regs: &mut Regs,

@@ -1,21 +1,21 @@
 use Rattle.std.specs.Prelude.{slice_index, length}
-use Rattle.fs_layout.specs.DiskFiles.{files_of}
+use Rattle.fs_layout.specs.DiskFiles.{file_system_of}
 use Rattle.fs_layout.specs.FileActs.{look_up}
 use Rattle.fs_layout.proofs.DiskSound.{disks-sound}
 use Rattle.fs_contents.specs.Contents.{found_node}
 use Rattle.fs_contents.proofs.Found.{found-readable, file-invalid, file-read, kind-is, kind-is_not}
 use Rattle.fs_contents.proofs.files.read_file.Goals as goal
 
-pub returns-then-kind_of-eq-FTYPE_DIR : goal.returns-then-kind_of-eq-FTYPE_DIR
-returns-then-kind_of-eq-FTYPE_DIR c =
-    file-invalid (slice_index c.args.image.now) (found_node (look_up (files_of (slice_index c.args.image.now)) c.args.path.now))
+pub returns-then-kind_at-eq-FTYPE_DIR : goal.returns-then-kind_at-eq-FTYPE_DIR
+returns-then-kind_at-eq-FTYPE_DIR c =
+    file-invalid (slice_index c.args.image.now) (found_node (look_up (file_system_of (slice_index c.args.image.now)) c.args.path.now))
     c.in_ok-place.place c.in_ok-place.ensures.found
-    (kind-is c.new.result.bytes.now c.args.image.now c.in_ok-place.place c.kind_of.result c.new.ensures c.kind_of.ensures
-    c.if-kind_of-eq-FTYPE_DIR.true)
+    (kind-is c.new.result.bytes.now c.args.image.now c.in_ok-place.place c.kind_at.result c.new.ensures c.kind_at.ensures
+    c.if-kind_at-eq-FTYPE_DIR.true)
 
 pub read_blocks-requires-clause-readable : goal.read_blocks-requires-clause-readable
 read_blocks-requires-clause-readable c =
-    found-readable (slice_index c.args.image.now) (found_node (look_up (files_of (slice_index c.args.image.now)) c.args.path.now))
+    found-readable (slice_index c.args.image.now) (found_node (look_up (file_system_of (slice_index c.args.image.now)) c.args.path.now))
     c.in_ok-place.place c.in_ok-place.ensures.found
 
 pub read_blocks-requires-clause-blocks : goal.read_blocks-requires-clause-blocks
@@ -24,8 +24,8 @@ read_blocks-requires-clause-blocks c =
 
 pub returns : goal.returns
 returns c =
-    file-read (slice_index c.args.image.now) (found_node (look_up (files_of (slice_index c.args.image.now)) c.args.path.now))
+    file-read (slice_index c.args.image.now) (found_node (look_up (file_system_of (slice_index c.args.image.now)) c.args.path.now))
     c.in_ok-place.place c.in_ok-read_blocks.field-0.items c.in_ok-place.ensures.found
-    (kind-is_not c.new.result.bytes.now c.args.image.now c.in_ok-place.place c.kind_of.result c.new.ensures c.kind_of.ensures
-    c.if-kind_of-eq-FTYPE_DIR.false)
+    (kind-is_not c.new.result.bytes.now c.args.image.now c.in_ok-place.place c.kind_at.result c.new.ensures c.kind_at.ensures
+    c.if-kind_at-eq-FTYPE_DIR.false)
     c.in_ok-read_blocks.ensures

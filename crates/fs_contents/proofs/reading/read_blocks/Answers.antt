@@ -1,7 +1,7 @@
 use Rattle.std.proofs.Common.{◌≡◌, ◌∙◌, ◌+◌, ◌*◌, ◌-◌, ◌/◌, ◌<◌, ◌≤◌, min, ℕ, List, ap, arith, subst, sym}
 use Rattle.std.specs.Prelude.{slice_index, length}
 use Rattle.std.specs.Int.{div_ceil}
-use Rattle.fs_layout.specs.DiskImage.{number_of, size_of, block_count}
+use Rattle.fs_layout.specs.DiskImage.{block_number_at, size_of, block_count}
 use Rattle.fs_contents.proofs.Places.{number-below, block-within}
 use Rattle.fs_contents.proofs.Blocks.{no-blocks, one-block, all-blocks}
 use Rattle.fs_contents.proofs.reading.read_blocks.Goals as goal
@@ -11,9 +11,9 @@ loop-i-init c =
     no-blocks (slice_index c.args.image.now) c.args.place c.size_of-size.result c.in_ok-bytes.bytes.items c.in_ok-bytes.ensures.items
 
 -- what is read of the disk is read of the image
-number-in : (xs ys : List ℕ) → xs ≡ ys → (place i number : ℕ) → number ≡ number_of (slice_index xs) place i →
-    number ≡ number_of (slice_index ys) place i
-number-in xs ys e place i number h = h ∙ ap (λ (l : List ℕ). number_of (slice_index l) place i) e
+number-in : (xs ys : List ℕ) → xs ≡ ys → (place i number : ℕ) → number ≡ block_number_at (slice_index xs) place i →
+    number ≡ block_number_at (slice_index ys) place i
+number-in xs ys e place i number h = h ∙ ap (λ (l : List ℕ). block_number_at (slice_index l) place i) e
 
 size-in : (xs ys : List ℕ) → xs ≡ ys → (place size : ℕ) → size ≡ size_of (slice_index xs) place →
     size ≡ size_of (slice_index ys) place
@@ -25,8 +25,8 @@ blocks-are size = omega arith
 pub loop-i-preserved : goal.loop-i-preserved
 loop-i-preserved c =
     let number =
-    number-in c.new-disk.result.bytes.now c.args.image.now c.new-disk.ensures c.args.place c.loop-i.i c.number_of.result
-    c.number_of.ensures in
+    number-in c.new-disk.result.bytes.now c.args.image.now c.new-disk.ensures c.args.place c.loop-i.i c.block_number_at.result
+    c.block_number_at.ensures in
     let size =
     size-in c.new-disk.result.bytes.now c.args.image.now c.new-disk.ensures c.args.place c.size_of-size.result
     c.size_of-size.ensures in
@@ -35,15 +35,15 @@ loop-i-preserved c =
     let needed = subst (λ n. c.loop-i.i < (n + 4095) / 4096) size within in
     let below =
     number-below (slice_index c.args.image.now) c.args.place c.loop-i.i c.requires.readable needed in
-    let count : 4096 * c.number_of.result + c.min.result - 4096 * c.number_of.result ≡ c.min.result = omega arith in
+    let count : 4096 * c.block_number_at.result + c.min.result - 4096 * c.block_number_at.result ≡ c.min.result = omega arith in
     let short : c.min.result ≤ 4096 = omega arith in
     let least : c.min.result ≡ min (c.size_of-size.result - 4096 * c.loop-i.i) 4096 = c.min.ensures in
     let held =
-    block-within c.number_of.result (block_count (slice_index c.args.image.now)) (length c.args.image.now)
-    (4096 * c.number_of.result + c.min.result - 4096 * c.number_of.result) (subst (λ n. n < block_count (slice_index c.args.image.now)) (sym number) below) c.requires.blocks (omega arith) in
+    block-within c.block_number_at.result (block_count (slice_index c.args.image.now)) (length c.args.image.now)
+    (4096 * c.block_number_at.result + c.min.result - 4096 * c.block_number_at.result) (subst (λ n. n < block_count (slice_index c.args.image.now)) (sym number) below) c.requires.blocks (omega arith) in
     c.in_ok-extend_from_slice.ensures.items
-    ∙ one-block c.loop-i.bytes.items c.args.image.now c.args.place c.size_of-size.result c.loop-i.i c.number_of.result
-    (4096 * c.number_of.result + c.min.result - 4096 * c.number_of.result) c.loop-i.invariant within number (count ∙ least) held
+    ∙ one-block c.loop-i.bytes.items c.args.image.now c.args.place c.size_of-size.result c.loop-i.i c.block_number_at.result
+    (4096 * c.block_number_at.result + c.min.result - 4096 * c.block_number_at.result) c.loop-i.invariant within number (count ∙ least) held
 
 pub returns : goal.returns
 returns c =

@@ -23,8 +23,8 @@ count-in xs ys e directory size h = ap (λ n. n / 256) (h ∙ ap (λ (l : List �
 pub loop-i-init : goal.loop-i-init
 loop-i-init c = entries-none (slice_index c.args.image.now) c.args.directory c.new-entries.result.items c.new-entries.ensures.items
 
-pub entry_at-requires : goal.entry_at-requires
-entry_at-requires c =
+pub file_entry_at-requires : goal.file_entry_at-requires
+file_entry_at-requires c =
     let byte : ℕ → ℕ = slice_index c.args.image.now in
     let at =
     place-in c.new-disk.result.bytes.now c.args.image.now c.new-disk.ensures c.args.directory c.loop-i.i
@@ -49,8 +49,8 @@ loop-i-preserved c =
     elim c.if-byte-ne0.branch [
       | then-byte-ne0+in_ok-push w ↦
           ap (λ v. v.items) w.entries-is ∙ w.in_ok-push.ensures.items
-          ∙ entries-more byte c.args.directory c.loop-i.i c.slot_place-place.result c.loop-i.entries.items w.entry_at.result
-          c.loop-i.invariant at (λ e. w.if-byte-ne0.true (sym read ∙ e)) w.entry_at.ensures
+          ∙ entries-more byte c.args.directory c.loop-i.i c.slot_place-place.result c.loop-i.entries.items w.file_entry_at.result
+          c.loop-i.invariant at (λ e. w.if-byte-ne0.true (sym read ∙ e)) w.file_entry_at.ensures
       | else-byte-ne0 w ↦
           ap (λ v. v.items) w.entries-is
           ∙ entries-passed byte c.args.directory c.loop-i.i c.slot_place-place.result c.loop-i.entries.items c.loop-i.invariant at

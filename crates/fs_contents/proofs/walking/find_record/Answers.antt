@@ -13,7 +13,7 @@ loop-i-preserved c =
 
 pub returns-then-has_name-clause-found : goal.returns-then-has_name-clause-found
 returns-then-has_name-clause-found c = record {
-  in_directory = ap (λ kind. kind == 1) (sym c.kind_of.ensures ∙ c.if-kind_of-ne-FTYPE_DIR.false);
+  in_directory = ap (λ kind. kind == 1) (sym c.kind_at.ensures ∙ c.if-kind_at-ne-FTYPE_DIR.false);
   slot = c.loop-i.i;
   within = subst (λ size. c.loop-i.i < size / 256) c.size_of-i-end.ensures c.loop-i-test.true;
   stands = c.slot_place-place.ensures.place;

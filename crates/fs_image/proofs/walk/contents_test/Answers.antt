@@ -2,7 +2,7 @@ use Rattle.std.specs.Prelude.{slice_index}
 use Rattle.std.proofs.Common.{◌≡◌, ◌∙◌, ◌<◌, List, [], ◌∷◌, ◌++◌, length, sym, subst, ap, arith, length-append}
 use Rattle.std.proofs.lemmas.List.{nil_from_length}
 use Rattle.fs_layout.specs.DiskImage.{contents_test, slot_count}
-use Rattle.fs_image.specs.declared.walk.Frame.{Frame}
+use Rattle.fs_image.specs.declared.walk.WalkFrame.{WalkFrame}
 use Rattle.fs_image.specs.Answers.{blocks_in}
 use Rattle.fs_image.specs.Walk.{rest_of_way, AreFrames, steps_left}
 use Rattle.fs_image.proofs.Walking.{no_deeper, way_first, way_none, frames_front, frames_last, tells_fault}
@@ -43,7 +43,7 @@ returns-in-Err-step c =
 
 pub loop-frame-smaller : goal.loop-frame-smaller
 loop-frame-smaller c =
-    subst (λ (way : List Frame). steps_left c.args.depth c.step.new.way.items < steps_left c.args.depth way) (sym c.in-Some.ensures.items) c.in_default-step.ensures.fewer
+    subst (λ (way : List WalkFrame). steps_left c.args.depth c.step.new.way.items < steps_left c.args.depth way) (sym c.in-Some.ensures.items) c.in_default-step.ensures.fewer
 
 pub loop-frame-preserved : goal.loop-frame-preserved
 loop-frame-preserved c = record {

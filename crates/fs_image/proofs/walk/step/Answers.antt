@@ -1,7 +1,7 @@
 use Rattle.std.specs.Prelude.{slice_index}
 use Rattle.std.proofs.Common.{◌≡◌, ◌≢◌, ◌∙◌, ◌+◌, ◌-◌, ◌<◌, Ok, List, [], ◌∷◌, ◌++◌, length, sym, subst, ap, arith, eq-eqb, length-append}
 use Rattle.fs_layout.specs.DiskImage.{contents_test, slot_count, slot_place}
-use Rattle.fs_image.specs.declared.walk.Frame.{Frame}
+use Rattle.fs_image.specs.declared.walk.WalkFrame.{WalkFrame}
 use Rattle.fs_image.specs.Answers.{blocks_in, fault_of}
 use Rattle.fs_image.specs.Walk.{rest_of_way, AreFrames, steps_left}
 use Rattle.fs_image.proofs.OneSlot.{slot_empty, slot_fails, slot_file, slot_directory}
@@ -33,7 +33,7 @@ pub returns-then-byte-eq0-clause-fewer : goal.returns-then-byte-eq0-clause-fewer
 returns-then-byte-eq0-clause-fewer c =
     let pushed : c.push.new.self.items ≡ c.args.way.now.items ++ onward c.args.frame ∷ [] = c.in_default.ensures.items in
     let more : c.args.frame.next < c.args.frame.count = omega (arith, c.requires.frame.ahead, c.requires.frame.first.within) in
-    subst (λ (way : List Frame). steps_left c.args.depth way < steps_left c.args.depth (c.args.way.now.items ++ c.args.frame ∷ [])) (sym pushed) (steps_passed c.args.depth c.args.way.now.items c.args.frame more)
+    subst (λ (way : List WalkFrame). steps_left c.args.depth way < steps_left c.args.depth (c.args.way.now.items ++ c.args.frame ∷ [])) (sym pushed) (steps_passed c.args.depth c.args.way.now.items c.args.frame more)
 
 pub returns-in-Some-clause-exact : goal.returns-in-Some-clause-exact
 returns-in-Some-clause-exact c =
@@ -42,26 +42,26 @@ returns-in-Some-clause-exact c =
     step_failed (slice_index c.args.disk.now.bytes.now) c.args.depth c.args.way.now.items c.args.frame (blocks_in c.args.named.now) (fault_of c.in-Some.fault) more
     (slot_fails (contents_test (c.args.depth - length c.args.way.now.items - 1) (slice_index c.args.disk.now.bytes.now)) (slice_index c.args.disk.now.bytes.now) c.args.frame.directory c.args.frame.next c.slot_place-place.result (blocks_in c.args.named.now) (fault_of c.in-Some.fault) c.slot_place-place.ensures.place full (sym c.in-Some.ensures.exact))
 
-pub returns-then-kind_of-ne-FTYPE_DIR-clause-exact : goal.returns-then-kind_of-ne-FTYPE_DIR-clause-exact
-returns-then-kind_of-ne-FTYPE_DIR-clause-exact c =
+pub returns-then-kind_at-ne-FTYPE_DIR-clause-exact : goal.returns-then-kind_at-ne-FTYPE_DIR-clause-exact
+returns-then-kind_at-ne-FTYPE_DIR-clause-exact c =
     let pushed : c.push.new.self.items ≡ c.args.way.now.items ++ onward c.args.frame ∷ [] = c.in_default.ensures.items in
     let more : c.args.frame.next < c.args.frame.count = omega (arith, c.requires.frame.ahead, c.requires.frame.first.within) in
     let full : slice_index c.args.disk.now.bytes.now c.slot_place-place.result ≢ 0 = omega arith in
-    let slot = slot_file (contents_test (c.args.depth - length c.args.way.now.items - 1) (slice_index c.args.disk.now.bytes.now)) (slice_index c.args.disk.now.bytes.now) c.args.frame.directory c.args.frame.next c.slot_place-place.result (blocks_in c.args.named.now) (blocks_in c.own_test.new.named) c.slot_place-place.ensures.place full (sym c.in_default-own_test.ensures.exact) (λ e. c.if-kind_of-ne-FTYPE_DIR.true (c.kind_of.ensures ∙ e)) in
+    let slot = slot_file (contents_test (c.args.depth - length c.args.way.now.items - 1) (slice_index c.args.disk.now.bytes.now)) (slice_index c.args.disk.now.bytes.now) c.args.frame.directory c.args.frame.next c.slot_place-place.result (blocks_in c.args.named.now) (blocks_in c.own_test.new.named) c.slot_place-place.ensures.place full (sym c.in_default-own_test.ensures.exact) (λ e. c.if-kind_at-ne-FTYPE_DIR.true (c.kind_at.ensures ∙ e)) in
     step_passed (slice_index c.args.disk.now.bytes.now) c.args.depth c.args.way.now.items c.args.frame (blocks_in c.args.named.now) (blocks_in c.own_test.new.named) more slot ∙ ap (λ way. rest_of_way (slice_index c.args.disk.now.bytes.now) c.args.depth way (blocks_in c.own_test.new.named)) (sym pushed)
 
-pub returns-then-kind_of-ne-FTYPE_DIR-clause-frames : goal.returns-then-kind_of-ne-FTYPE_DIR-clause-frames
-returns-then-kind_of-ne-FTYPE_DIR-clause-frames c =
+pub returns-then-kind_at-ne-FTYPE_DIR-clause-frames : goal.returns-then-kind_at-ne-FTYPE_DIR-clause-frames
+returns-then-kind_at-ne-FTYPE_DIR-clause-frames c =
     let pushed : c.push.new.self.items ≡ c.args.way.now.items ++ onward c.args.frame ∷ [] = c.in_default.ensures.items in
     let more : c.args.frame.next < c.args.frame.count = omega (arith, c.requires.frame.ahead, c.requires.frame.first.within) in
     subst (AreFrames (slice_index c.args.disk.now.bytes.now)) (sym pushed)
     (frames_more (slice_index c.args.disk.now.bytes.now) c.args.way.now.items (onward c.args.frame) c.requires.frames (frame_onward (slice_index c.args.disk.now.bytes.now) c.args.frame c.requires.frame more (λ e. let same = eq-eqb c.args.frame.next c.args.frame.taken e in absurd (cc (c.in_default-own_test.ensures.free)))))
 
-pub returns-then-kind_of-ne-FTYPE_DIR-clause-fewer : goal.returns-then-kind_of-ne-FTYPE_DIR-clause-fewer
-returns-then-kind_of-ne-FTYPE_DIR-clause-fewer c =
+pub returns-then-kind_at-ne-FTYPE_DIR-clause-fewer : goal.returns-then-kind_at-ne-FTYPE_DIR-clause-fewer
+returns-then-kind_at-ne-FTYPE_DIR-clause-fewer c =
     let pushed : c.push.new.self.items ≡ c.args.way.now.items ++ onward c.args.frame ∷ [] = c.in_default.ensures.items in
     let more : c.args.frame.next < c.args.frame.count = omega (arith, c.requires.frame.ahead, c.requires.frame.first.within) in
-    subst (λ (way : List Frame). steps_left c.args.depth way < steps_left c.args.depth (c.args.way.now.items ++ c.args.frame ∷ [])) (sym pushed) (steps_passed c.args.depth c.args.way.now.items c.args.frame more)
+    subst (λ (way : List WalkFrame). steps_left c.args.depth way < steps_left c.args.depth (c.args.way.now.items ++ c.args.frame ∷ [])) (sym pushed) (steps_passed c.args.depth c.args.way.now.items c.args.frame more)
 
 pub returns-then-len-depth-clause-exact : goal.returns-then-len-depth-clause-exact
 returns-then-len-depth-clause-exact c =
@@ -69,7 +69,7 @@ returns-then-len-depth-clause-exact c =
     let more : c.args.frame.next < c.args.frame.count = omega (arith, c.requires.frame.ahead, c.requires.frame.first.within) in
     let full : slice_index c.args.disk.now.bytes.now c.slot_place-place.result ≢ 0 = omega arith in
     let last : c.args.depth - length c.args.way.now.items - 1 ≡ 0 = omega (arith, ap length pushed, length-append c.args.way.now.items (onward c.args.frame ∷ [])) in
-    let slot = slot_directory (contents_test (c.args.depth - length c.args.way.now.items - 1) (slice_index c.args.disk.now.bytes.now)) (slice_index c.args.disk.now.bytes.now) c.args.frame.directory c.args.frame.next c.slot_place-place.result (blocks_in c.args.named.now) (blocks_in c.own_test.new.named) (Ok (blocks_in c.own_test.new.named)) c.slot_place-place.ensures.place full (sym c.in_default-own_test.ensures.exact) (sym c.kind_of.ensures ∙ c.if-kind_of-ne-FTYPE_DIR.false) (no_deeper (slice_index c.args.disk.now.bytes.now) _ c.slot_place-place.result (blocks_in c.own_test.new.named) last) in
+    let slot = slot_directory (contents_test (c.args.depth - length c.args.way.now.items - 1) (slice_index c.args.disk.now.bytes.now)) (slice_index c.args.disk.now.bytes.now) c.args.frame.directory c.args.frame.next c.slot_place-place.result (blocks_in c.args.named.now) (blocks_in c.own_test.new.named) (Ok (blocks_in c.own_test.new.named)) c.slot_place-place.ensures.place full (sym c.in_default-own_test.ensures.exact) (sym c.kind_at.ensures ∙ c.if-kind_at-ne-FTYPE_DIR.false) (no_deeper (slice_index c.args.disk.now.bytes.now) _ c.slot_place-place.result (blocks_in c.own_test.new.named) last) in
     step_passed (slice_index c.args.disk.now.bytes.now) c.args.depth c.args.way.now.items c.args.frame (blocks_in c.args.named.now) (blocks_in c.own_test.new.named) more slot ∙ ap (λ way. rest_of_way (slice_index c.args.disk.now.bytes.now) c.args.depth way (blocks_in c.own_test.new.named)) (sym pushed)
 
 pub returns-then-len-depth-clause-frames : goal.returns-then-len-depth-clause-frames
@@ -83,7 +83,7 @@ pub returns-then-len-depth-clause-fewer : goal.returns-then-len-depth-clause-few
 returns-then-len-depth-clause-fewer c =
     let pushed : c.push.new.self.items ≡ c.args.way.now.items ++ onward c.args.frame ∷ [] = c.in_default.ensures.items in
     let more : c.args.frame.next < c.args.frame.count = omega (arith, c.requires.frame.ahead, c.requires.frame.first.within) in
-    subst (λ (way : List Frame). steps_left c.args.depth way < steps_left c.args.depth (c.args.way.now.items ++ c.args.frame ∷ [])) (sym pushed) (steps_passed c.args.depth c.args.way.now.items c.args.frame more)
+    subst (λ (way : List WalkFrame). steps_left c.args.depth way < steps_left c.args.depth (c.args.way.now.items ++ c.args.frame ∷ [])) (sym pushed) (steps_passed c.args.depth c.args.way.now.items c.args.frame more)
 
 pub returns-in-Ok-push-clause-exact : goal.returns-in-Ok-push-clause-exact
 returns-in-Ok-push-clause-exact c =
@@ -92,7 +92,7 @@ returns-in-Ok-push-clause-exact c =
     let more : c.args.frame.next < c.args.frame.count = omega (arith, c.requires.frame.ahead, c.requires.frame.first.within) in
     let full : slice_index c.args.disk.now.bytes.now c.slot_place-place.result ≢ 0 = omega arith in
     let deep : length c.args.way.now.items + 1 < c.args.depth = omega (arith, ap length pushed, length-append c.args.way.now.items (onward c.args.frame ∷ []), c.requires.deep) in
-    let slot = slot_directory (contents_test (c.args.depth - length c.args.way.now.items - 1) (slice_index c.args.disk.now.bytes.now)) (slice_index c.args.disk.now.bytes.now) c.args.frame.directory c.args.frame.next c.slot_place-place.result (blocks_in c.args.named.now) (blocks_in c.own_test.new.named) _ c.slot_place-place.ensures.place full (sym c.in_default-own_test.ensures.exact) (sym c.kind_of.ensures ∙ c.if-kind_of-ne-FTYPE_DIR.false) (ap (λ p. contents_test (c.args.depth - length c.args.way.now.items - 1) (slice_index c.args.disk.now.bytes.now) p (blocks_in c.own_test.new.named)) (sym c.in-Ok.ensures.directory)) in
+    let slot = slot_directory (contents_test (c.args.depth - length c.args.way.now.items - 1) (slice_index c.args.disk.now.bytes.now)) (slice_index c.args.disk.now.bytes.now) c.args.frame.directory c.args.frame.next c.slot_place-place.result (blocks_in c.args.named.now) (blocks_in c.own_test.new.named) _ c.slot_place-place.ensures.place full (sym c.in_default-own_test.ensures.exact) (sym c.kind_at.ensures ∙ c.if-kind_at-ne-FTYPE_DIR.false) (ap (λ p. contents_test (c.args.depth - length c.args.way.now.items - 1) (slice_index c.args.disk.now.bytes.now) p (blocks_in c.own_test.new.named)) (sym c.in-Ok.ensures.directory)) in
     step_deeper (slice_index c.args.disk.now.bytes.now) c.args.depth c.args.way.now.items c.args.frame c.in-Ok.below (blocks_in c.args.named.now) (blocks_in c.own_test.new.named) more deep c.in-Ok.ensures.next (c.in-Ok.ensures.count ∙ ap (slot_count (slice_index c.args.disk.now.bytes.now)) (sym c.in-Ok.ensures.directory)) slot
     ∙ ap (λ way. rest_of_way (slice_index c.args.disk.now.bytes.now) c.args.depth way (blocks_in c.own_test.new.named)) (sym pushed_2)
 
@@ -112,4 +112,4 @@ returns-in-Ok-push-clause-fewer c =
     let pushed_2 : c.push-2.new.self.items ≡ (c.args.way.now.items ++ onward c.args.frame ∷ []) ++ c.in-Ok.below ∷ [] = c.in-Ok-push.ensures.items ∙ ap (λ way. way ++ c.in-Ok.below ∷ []) pushed in
     let more : c.args.frame.next < c.args.frame.count = omega (arith, c.requires.frame.ahead, c.requires.frame.first.within) in
     let deep : length c.args.way.now.items + 1 < c.args.depth = omega (arith, ap length pushed, length-append c.args.way.now.items (onward c.args.frame ∷ []), c.requires.deep) in
-    subst (λ (way : List Frame). steps_left c.args.depth way < steps_left c.args.depth (c.args.way.now.items ++ c.args.frame ∷ [])) (sym pushed_2) (steps_deeper c.args.depth c.args.way.now.items c.args.frame c.in-Ok.below more deep c.in-Ok.ensures.few)
+    subst (λ (way : List WalkFrame). steps_left c.args.depth way < steps_left c.args.depth (c.args.way.now.items ++ c.args.frame ∷ [])) (sym pushed_2) (steps_deeper c.args.depth c.args.way.now.items c.args.frame c.in-Ok.below more deep c.in-Ok.ensures.few)

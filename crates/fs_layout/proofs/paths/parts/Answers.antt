@@ -2,15 +2,15 @@ use Rattle.std.proofs.Common.{◌≡◌, ℕ, ◌+◌, ◌++◌, ◌∙◌, [], 
 use Rattle.std.specs.List.{list_all}
 use Rattle.std.proofs.lemmas.List.{append-nil}
 use Rattle.fs_layout.specs.declared.paths.Span.{Span}
-use Rattle.fs_layout.specs.Paths.{span_between, spans_from, spans_of, is_short}
+use Rattle.fs_layout.specs.Paths.{span_between, spans_from, name_spans, is_short}
 use Rattle.fs_layout.proofs.PathNames.{spans-end, spans-slash, spans-other, short-more, length-more, on_err}
 use Rattle.fs_layout.proofs.PathNames.{parts-long_path, parts-long_name, parts-passed, parts-lie}
 use Rattle.fs_layout.proofs.paths.parts.Goals as goal
 use Rattle.fs_layout.proofs.paths.parts.Goals.{then-byte-eq47+in_ok-add_name, else-byte-eq47}
 
 -- at the end of the path
-names_are : (path : List ℕ) (names : List Span) (from at : ℕ) → at ≡ length path → names ++ spans_from from at (drop at path) ≡ spans_of path →
-    names ++ span_between from (length path) ≡ spans_of path
+names_are : (path : List ℕ) (names : List Span) (from at : ℕ) → at ≡ length path → names ++ spans_from from at (drop at path) ≡ name_spans path →
+    names ++ span_between from (length path) ≡ name_spans path
 names_are path names from at end whole =
     ap (λ (n : ℕ). names ++ span_between from n) (sym end) ∙ ap (λ (l : List Span). names ++ l) (sym (spans-end from at path (omega arith))) ∙ whole
 
@@ -48,7 +48,7 @@ returns-in_err-add_name-2-clause-err c =
     (parts-long_name c.args.path.now c.loop-at.names.items [] c.loop-at.from (length c.args.path.now) (ap (λ (l : List Span). c.loop-at.names.items ++ l) (append-nil _) ∙ names_are c.args.path.now c.loop-at.names.items c.loop-at.from c.loop-at.at (omega arith) c.loop-at.invariant.names) c.in_err-add_name-2.ensures.err)
 
 -- the names at the end
-names_at_end : (c : goal.In_ok-add_name-2) → c.add_name-2.new.names.items ≡ spans_of c.args.path.now
+names_at_end : (c : goal.In_ok-add_name-2) → c.add_name-2.new.names.items ≡ name_spans c.args.path.now
 names_at_end c = c.in_ok-add_name-2.ensures.names ∙ names_are c.args.path.now c.loop-at.names.items c.loop-at.from c.loop-at.at (omega arith) c.loop-at.invariant.names
 
 short_at_end : (c : goal.In_ok-add_name-2) → list_all is_short c.add_name-2.new.names.items ≡ true

@@ -1,10 +1,11 @@
 use Rattle.std.proofs.Common.{◌+◌, ◌*◌, arith, ◌∙◌, length-set}
 use Rattle.std.specs.Prelude.{slice_index}
 use Rattle.std.proofs.lemmas.List.FromFn.{fill_by_all}
-use Rattle.fs_layout.specs.Layout.{word_at, words_from}
+use Rattle.fs_layout.specs.Layout.{words_from}
 use Rattle.fs_layout.specs.declared.numbers.TheConstants.{NDIRECT}
 use Rattle.fs_layout.proofs.records.direct_at.Goals as goal
 use Rattle.jos_base.proofs.Lists.{one_more}
+use Rattle.jos_base.specs.Words.{word_at}
 
 pub loop-place-preserved : goal.loop-place-preserved
 loop-place-preserved c = record {

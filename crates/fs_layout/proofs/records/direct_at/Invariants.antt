@@ -1,6 +1,6 @@
 use Rattle.std.proofs.Common.{◌≡◌, ℕ, ◌<◌, ◌+◌, ◌*◌, length, get_or}
 use Rattle.std.specs.Prelude.{slice_index}
-use Rattle.fs_layout.specs.Layout.{word_at}
+use Rattle.jos_base.specs.Words.{word_at}
 use Rattle.fs_layout.specs.declared.numbers.TheConstants.{NDIRECT}
 use Rattle.fs_layout.proofs.records.direct_at.Given as goal
 

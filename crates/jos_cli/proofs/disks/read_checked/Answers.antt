@@ -1,5 +1,5 @@
 use Rattle.std.proofs.Common.{sym, subst}
-use Rattle.fs_image.specs.DiskHeld.{Held}
+use Rattle.fs_image.specs.DiskHeld.{HeldDisk}
 use Rattle.jos_words.specs.Arguments.{word_in_bytes}
 use Rattle.jos_cli.specs.Answer.{Judged}
 use Rattle.jos_cli.specs.Stages.{Judges}
@@ -12,7 +12,7 @@ pub returns-in-Ok-clause-told : goal.returns-in-Ok-clause-told
 returns-in-Ok-clause-told g c =
     let told = c.in-Ok.ensures.told in
     let at = disk_read (g.H.Host.files c.args.host.now) (word_in_bytes c.args.word) told.0 c.in-Ok.disk told.1 told.2 in
-    (at.0, at.1, subst (λ (j : Judged Held). Judges j (λ (disk : Held). disk) c.checked.result) (sym at.2) c.checked.ensures.told)
+    (at.0, at.1, subst (λ (j : Judged HeldDisk). Judges j (λ (disk : HeldDisk). disk) c.checked.result) (sym at.2) c.checked.ensures.told)
 
 pub returns-in-Ok-clause-did : goal.returns-in-Ok-clause-did
 returns-in-Ok-clause-did g c =

@@ -25,6 +25,6 @@ returns-clause-told g c =
     let told = c.in-Ok.ensures.told in (
       told.0,
       told.1,
-      subst (λ (o : Outcome). RefusesBy (schedule_of told.0) (kind_of o)) (sym c.refusal_of.ensures.refusal)
+      subst (λ (o : Outcome). RefusesBy (schedule_of told.0) (kind_of o)) (sym c.schedule_refusal.ensures.refusal)
           (schedule_fault told.0 c.in-Ok.text.items c.in-Err-parse_schedule.fault told.2 (λ e. ap parsed (sym c.deref.ensures.value) ∙ c.in-Err-parse_schedule.ensures.fault e)),
     )

@@ -1,7 +1,7 @@
 use Rattle.jos_host.specs.Frames.{around}
 use Rattle.jos_words.specs.Commands.{run_in_bytes}
 use Rattle.jos_cli.specs.Outside.{outside}
-use Rattle.jos_cli.specs.RunAnswers.{program_of}
+use Rattle.jos_cli.specs.RunAnswers.{job_of}
 use Rattle.jos_cli.specs.Stages.{gathered_of}
 use Rattle.jos_cli.proofs.RunAnswered.{runs_as, ran_cause}
 use Rattle.jos_cli.proofs.Doing.{did_nothing, run_unread, run_ran}
@@ -18,7 +18,7 @@ returns-in-Ok-gather g c =
     record {
       did = rw c.outcome_of_run.ensures (run_ran g.H.Host c.args.host.now c.gather.new.host c.run_loaded.new.host told.0 told.1 told.3 (gathered_of c.in-Ok-gather.read)
           ran c.run_loaded.ensures.rest r told.2 told.4 (rw c.image_word.ensures at c.in-Ok-gather.ensures.did)
-          (runs_as (program_of r (gathered_of c.in-Ok-gather.read)) ran (around g.H.Host.console c.gather.new.host c.run_loaded.new.host) c.run_loaded.ensures.told)
+          (runs_as (job_of r (gathered_of c.in-Ok-gather.read)) ran (around g.H.Host.console c.gather.new.host c.run_loaded.new.host) c.run_loaded.ensures.told)
           (ran_cause ran (around g.H.Host.faults c.gather.new.host c.run_loaded.new.host) c.run_loaded.ensures.cause));
     }
 

@@ -5,7 +5,7 @@ use Rattle.jos_isa.proofs.lengths.least_length.Goals as goal
 
 pub returns-in-len1-clause-short : goal.returns-in-len1-clause-short
 returns-in-len1-clause-short c =
-    let rest = c.entry_rest.ensures ∙ ap entry_rest c.entry_at.ensures in
+    let rest = c.entry_rest.ensures ∙ ap entry_rest c.opcode_entry.ensures in
     let is : least_length c.args.bytes.now ≡ 1 + c.entry_rest.result =
     one_is c.args.bytes.now c.in-len1.len_at_least c.in-len1.len_below ∙ ap (λ (n : ℕ). 1 + n) (sym rest)
     in

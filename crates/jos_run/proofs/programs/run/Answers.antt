@@ -1,6 +1,6 @@
 use Rattle.jos_sys.specs.System.{state_of}
 use Rattle.lib_spawn.specs.StackPage.{texts}
-use Rattle.jos_run.specs.RunEnds.{given_program}
+use Rattle.jos_run.specs.RunEnds.{given_job}
 use Rattle.jos_run.proofs.ProgramsRun.{booted_answers, unbooted_answers}
 use Rattle.jos_run.proofs.programs.run.Goals as goal
 
@@ -16,5 +16,5 @@ returns-in-Ok-boot_program-clause-told g c =
 
 pub returns-in-Err-boot_program-clause-told : goal.returns-in-Err-boot_program-clause-told
 returns-in-Err-boot_program-clause-told g c =
-    unbooted_answers (given_program c.args.image.now c.args.file.now (texts c.args.words.now) c.args.setup) c.in-Err-boot_program.fault _
+    unbooted_answers (given_job c.args.image.now c.args.file.now (texts c.args.words.now) c.args.setup) c.in-Err-boot_program.fault _
     (λ pool. c.in-Err-boot_program.ensures.pool pool c.args.setup.input.items)

@@ -1,5 +1,5 @@
 use Rattle.std.proofs.Common.{◌≡◌, ◌∙◌, ℕ, List, length, sym, ap, subst, arith}
-use Rattle.jos_sched.specs.Schedule.{fault_of}
+use Rattle.jos_sched.specs.Schedule.{number_fault}
 use Rattle.jos_sched.proofs.Reading.{AreRead, read_blank, read_other, read_all, number_faults, number_read}
 use Rattle.jos_sched.proofs.parser.read_numbers.Goals as goal
 
@@ -8,7 +8,7 @@ returns-in-Some-clause-fault c =
     let len : length c.loop-at.numbers.items ≡ c.len.result = omega (arith, c.len.ensures, c.loop-at.numbers.ok) in
     λ _. number_faults c.args.text.now c.loop-at.at c.loop-at.numbers.items c.read_number-number.result.0 c.read_number-number.result.1 c.loop-at-test.true
     (sym c.is_digit.ensures ∙ c.if-is_digit.true) c.loop-at.invariant.read c.read_number-number.ensures.value c.read_number-number.ensures.end c.in-Some.fault
-    (ap (λ n. fault_of n c.loop-at.at c.read_number-number.result.0) len ∙ sym c.fault_of.ensures ∙ c.in-Some.is)
+    (ap (λ n. number_fault n c.loop-at.at c.read_number-number.result.0) len ∙ sym c.number_fault.ensures ∙ c.in-Some.is)
 
 pub loop-at-preserved-in-Ok : goal.loop-at-preserved-in-Ok
 loop-at-preserved-in-Ok c =
@@ -18,7 +18,7 @@ loop-at-preserved-in-Ok c =
       read = subst (λ (numbers : List ℕ). AreRead c.args.text.now c.read_number-number.result.1 numbers) (sym c.in-Ok.ensures.items)
           (number_read c.args.text.now c.loop-at.at c.loop-at.numbers.items c.read_number-number.result.0 c.read_number-number.result.1 c.loop-at-test.true
           (sym c.is_digit.ensures ∙ c.if-is_digit.true) c.loop-at.invariant.read c.read_number-number.ensures.value c.read_number-number.ensures.end
-          (ap (λ n. fault_of n c.loop-at.at c.read_number-number.result.0) len ∙ sym c.fault_of.ensures ∙ c.in_default.is));
+          (ap (λ n. number_fault n c.loop-at.at c.read_number-number.result.0) len ∙ sym c.number_fault.ensures ∙ c.in_default.is));
     }
 
 pub loop-at-preserved : goal.loop-at-preserved

@@ -9,7 +9,7 @@ use Rattle.lib_os.specs.declared.progress.Progress.{Progress}
 use Rattle.lib_os.specs.UserCalls.{Output}
 use Rattle.lib_os.proofs.NeedReached.{need_is_reached}
 use Rattle.jos_run.specs.declared.library_run.LibraryRun.{LibraryRun}
-use Rattle.jos_run.specs.declared.steps.Stepped.{Stepped}
+use Rattle.jos_run.specs.declared.steps.StepOutcome.{StepOutcome}
 use Rattle.jos_run.specs.LibraryRuns.{visible_steps, hidden_steps}
 use Rattle.jos_run.specs.Running.{state_of, entered, Counted}
 use Rattle.jos_run.specs.Served.{kernel_state}
@@ -29,7 +29,7 @@ module _ (g : given.Over) (c : goal.After-make_steps-made g) where
       printed (around g.H.Host.console c.args.host.now c.make_steps-made.new.host) c.enter_turn.new.self.served.written
       c.make_steps-made.new.self.written
 
-  abbrev HasMade : Result Stepped Failed → Type 0
+  abbrev HasMade : Result StepOutcome Failed → Type 0
   HasMade last =
       MakesSteps c.args.slot c.make_steps-made.result.going last (entered c.args.self.now c.args.slot)
       (kernel_state c.make_steps-made.new.self) output_made
@@ -39,7 +39,7 @@ module _ (g : given.Over) (c : goal.After-make_steps-made g) where
       moved (λ n s. MakesSteps n c.make_steps-made.result.going c.make_steps-made.result.last s (kernel_state c.make_steps-made.new.self)
       output_made) c.enter_turn.ensures.slot c.enter_turn.ensures.state c.make_steps-made.ensures.made
 
-  abbrev before_last : (last : Result Stepped Failed) → HasMade last → Reaches c.args.self.now c.args.slot c.make_steps-made.result.going
+  abbrev before_last : (last : Result StepOutcome Failed) → HasMade last → Reaches c.args.self.now c.args.slot c.make_steps-made.result.going
   before_last last b =
       let within : c.make_steps-made.result.going < c.min-most.result = c.make_steps-made.ensures.within in
       reaches c.requires.holds c.requires.chosen (omega (arith, within, c.min-most.ensures, c.steps_left-left_of_turn.ensures.exact))
@@ -55,7 +55,7 @@ abbrev made_so : (g : given.Over) (c : goal.After-count_steps g) → goal.After-
 made_so g c = (goal.at.After-count_steps g c).After-make_steps-made
 
 made_ok : (g : given.Over) (c : goal.After-count_steps g) → HasMade g (made_so g c) (Ok c.in-Ok.stepped)
-made_ok g c = subst (λ (last : Result Stepped Failed). HasMade g (made_so g c) last) c.in-Ok.is (has_made g (made_so g c))
+made_ok g c = subst (λ (last : Result StepOutcome Failed). HasMade g (made_so g c) last) c.in-Ok.is (has_made g (made_so g c))
 
 makes : (g : given.Over) (c : goal.After-count_steps g) →
     Makes c.args.self.now (behind g c) c.args.slot c.make_steps-made.result.going c.in-Ok.stepped.progress (made_ok g c).step.0
@@ -132,7 +132,7 @@ pub returns-in-Err-clause-told : goal.returns-in-Err-clause-told
 returns-in-Err-clause-told g c =
     let at = (goal.at.returns-in-Err-clause-told g c).After-make_steps-made in
     let before = c.enter_turn.ensures in
-    let b = subst (λ (last : Result Stepped Failed). HasMade g at last) c.in-Err.is (has_made g at) in
+    let b = subst (λ (last : Result StepOutcome Failed). HasMade g at last) c.in-Err.is (has_made g at) in
     failed_last (record {
       before = before_last g at (Err c.in-Err.failed) b;
       would = b.step.2;

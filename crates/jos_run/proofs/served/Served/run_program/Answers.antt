@@ -7,7 +7,7 @@ use Rattle.jos_kernel.specs.Machine as kernel
 use Rattle.lib_os.proofs.Slots.{slot_put}
 use Rattle.lib_os.specs.declared.place.Place.TheVariants as place
 use Rattle.lib_os.specs.Places.{place_of}
-use Rattle.jos_run.specs.declared.steps.Stepped.{Stepped}
+use Rattle.jos_run.specs.declared.steps.StepOutcome.{StepOutcome}
 use Rattle.jos_run.specs.Guest.{Follows}
 use Rattle.jos_run.specs.GuestSteps.{after_event}
 use Rattle.jos_run.specs.Served.{Parts, kernel_state}
@@ -64,7 +64,7 @@ returns-clause-made g c =
     let count : burst.result.steps ≡ burst.ensures.going + 1 = burst.ensures.count in
     let going_is : burst.ensures.going ≡ burst.result.steps - 1 = omega (arith, count) in
     rw (← c.self.view_is)
-    (subst (λ (last : Result Stepped Failed). MakesSteps n (burst.result.steps - 1) last s (kernel_state after) output) (sym c.came_to.ensures)
+    (subst (λ (last : Result StepOutcome Failed). MakesSteps n (burst.result.steps - 1) last s (kernel_state after) output) (sym c.came_to.ensures)
     (subst (λ (k : ℕ). MakesSteps n k (came_to c.is_live.result c.follow_guest-followed.result) s (kernel_state after) output) going_is made))
 
 pub returns-clause-within : goal.returns-clause-within

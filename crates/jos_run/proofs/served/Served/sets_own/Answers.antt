@@ -1,7 +1,7 @@
 use Rattle.std.proofs.Common.{◌≡◌, ◌∙◌, true, get_or, ap, sym, subst}
 use Rattle.jos_base.specs.Environments.{Environments, found, is_live}
 use Rattle.jos_base.specs.KernelState.{slot_at}
-use Rattle.lib_os.specs.UserCalls.{is_slot}
+use Rattle.jos_base.specs.Words.{is_exactly}
 use Rattle.jos_run.specs.Served.{Parts, kernel_state}
 use Rattle.jos_run.proofs.Looked.{table_looked}
 use Rattle.jos_run.proofs.served.Served.sets_own.Goals as goal
@@ -15,10 +15,10 @@ pub returns-in-Some : goal.returns-in-Some
 returns-in-Some c =
     let n = c.self.inside.slot in
     rw (← c.self.view_is, c.if-number-ne-SYS_ENV_SET_TRAPFRAME.false)
-    (ap (is_slot n) (c.in-Some.ensures ∙ ap (λ (e : Environments). found e (get_or c.args.args 0 0) n true) (table_looked c.self.inside.machine c.system.ensures.system c.table.ensures)))
+    (ap (is_exactly n) (c.in-Some.ensures ∙ ap (λ (e : Environments). found e (get_or c.args.args 0 0) n true) (table_looked c.self.inside.machine c.system.ensures.system c.table.ensures)))
 
 pub returns-in-None : goal.returns-in-None
 returns-in-None c =
     let n = c.self.inside.slot in
     rw (← c.self.view_is, c.if-number-ne-SYS_ENV_SET_TRAPFRAME.false)
-    (ap (is_slot n) (c.in-None.ensures ∙ ap (λ (e : Environments). found e (get_or c.args.args 0 0) n true) (table_looked c.self.inside.machine c.system.ensures.system c.table.ensures)))
+    (ap (is_exactly n) (c.in-None.ensures ∙ ap (λ (e : Environments). found e (get_or c.args.args 0 0) n true) (table_looked c.self.inside.machine c.system.ensures.system c.table.ensures)))

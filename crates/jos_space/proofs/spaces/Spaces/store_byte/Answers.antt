@@ -1,6 +1,6 @@
 use Rattle.std.proofs.Common.{◌∙◌, ◌/◌, ap, sym, Option}
 use Rattle.jos_base.specs.declared.memory.Access.TheVariants.{Read}
-use Rattle.jos_base.specs.Reach.{Entry, Location, reach_entry}
+use Rattle.jos_base.specs.Reach.{Entry, FrameOffset, reach_entry}
 use Rattle.jos_base.specs.SpacesState.{SpacesState}
 use Rattle.jos_base.specs.UserMemory.{byte_at, byte_or_zero, stored_byte, with_byte_at}
 use Rattle.jos_base.specs.Windows.{walked}
@@ -24,7 +24,7 @@ returns-in-Ok-clause-put c =
     let d = c.args.space.directory.0 in
     let old = state c.args.self.now in
     let new = state c.set_byte.new.self in
-    let place : Location = record { frame = c.in-Ok.location.frame.0; offset = c.in-Ok.location.offset } in
+    let place : FrameOffset = record { frame = c.in-Ok.location.frame.0; offset = c.in-Ok.location.offset } in
     let low = write_low old d c.args.va place (sym c.in-Ok.ensures.result) in
     let read = read_where_written (walked old d (c.args.va / 4096)) c.args.va place (sym c.in-Ok.ensures.result) in
     let entries = ap (λ (s : SpacesState). s.entries d (c.args.va / 4096)) c.set_byte.ensures.after in

@@ -1,7 +1,7 @@
 use Rattle.std.proofs.Common.{◌∙◌, Ok, Err, length, min, ◌+◌, ◌^◌, ◌-◌, refl, sym, ap, arith}
 use Rattle.jos_base.specs.Environments.{Slot}
 use Rattle.jos_base.specs.declared.memory.Access.TheVariants.{Write}
-use Rattle.jos_base.specs.Reach.{Location}
+use Rattle.jos_base.specs.Reach.{FrameOffset}
 use Rattle.jos_base.specs.TrapFrames.{upcall_place}
 use Rattle.jos_base.specs.UserMemory.{reach_in}
 use Rattle.jos_envs.proofs.Kept.{live_within}
@@ -45,7 +45,7 @@ fill-requires-clause-room c =
 pub returns-in-Ok-clause-told : goal.returns-in-Ok-clause-told
 returns-in-Ok-clause-told c = λ input.
     let k = state_of c.args.self.now input in
-    let at : Location = record { frame = c.in-Ok.location.frame.0; offset = c.in-Ok.location.offset } in
+    let at : FrameOffset = record { frame = c.in-Ok.location.frame.0; offset = c.in-Ok.location.offset } in
     is_entered k c.args.current c.args.fault c.environment-environment.result.upcall
     (ap (λ (z : Slot). z.upcall) (c.environment-environment.ensures input)) c.if-environment-eq0.false c.in-At.place
     (c.in-At.ensures ∙ ap (λ (z : Slot). upcall_place z.registers.esp) (c.environment-environment.ensures input)) (Ok at)

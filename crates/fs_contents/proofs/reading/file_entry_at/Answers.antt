@@ -1,6 +1,6 @@
 use Rattle.std.proofs.Common.{◌≡◌, ◌∙◌, ◌+◌, ◌-◌, arith}
 use Rattle.fs_contents.proofs.Records.{copied-entry}
-use Rattle.fs_contents.proofs.reading.entry_at.Goals as goal
+use Rattle.fs_contents.proofs.reading.file_entry_at.Goals as goal
 
 pub returns : goal.returns
 returns c =

@@ -1,7 +1,7 @@
 use Rattle.std.proofs.Common.{◌≡◌, ◌≢◌, ◌∙◌, ◌+◌, arith}
 use Rattle.std.specs.Prelude.{slice_index}
 use Rattle.fs_image.proofs.NameBytes.{named_none, named_more, named_nul, named_all, within_bytes}
-use Rattle.fs_image.proofs.disk.Memory.name.Goals as goal
+use Rattle.fs_image.proofs.disk.MemoryDisk.name.Goals as goal
 
 pub loop-len-init : goal.loop-len-init
 loop-len-init c = record { named = named_none c.args.self.now.bytes.now c.args.place; within = λ h. absurd (omega (arith, h)) }

@@ -2,7 +2,7 @@ use Rattle.std.proofs.Common.{◌≡◌, ◌∙◌, ℕ, ◌∷◌, List, Some, 
 use Rattle.std.proofs.lemmas.Str.Pattern.{split_parts}
 use Rattle.clap.proofs.CutLemmas.{Lacks, list_any-Lacks, before_first-Lacks}
 use Rattle.jos_words.specs.Arguments.{cut_at_equals}
-use Rattle.jos_words.proofs.arguments.parts_of.Goals as goal
+use Rattle.jos_words.proofs.arguments.option_parts.Goals as goal
 
 without_equals : (text : List ℕ) → Lacks 61 text → cut_at_equals text ≡ (text, None)
 without_equals text lacks = rw (list_any-Lacks 61 text lacks, before_first-Lacks 61 text lacks) refl

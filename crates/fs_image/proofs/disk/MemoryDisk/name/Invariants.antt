@@ -1,6 +1,6 @@
 use Rattle.std.proofs.Common.{◌≤◌, ◌+◌, ◌<◌, length}
 use Rattle.fs_image.proofs.NameBytes.{IsNamedBy}
-use Rattle.fs_image.proofs.disk.Memory.name.Given as goal
+use Rattle.fs_image.proofs.disk.MemoryDisk.name.Given as goal
 
 abbrev pub invariant-loop-len : goal.invariant-loop-len
 invariant-loop-len l = record {
