@@ -1,13 +1,13 @@
 //! How a run begins: the file server's environment in slot 0, and a program with its words in slot 1.
 
-ghost use Rattle.std.specs.Prelude.{◌≡◌, ℕ, ◌/◌, ◌<◌, ◌≤◌, List, [], ◌∷◌, Some, None, Ok, All, IfOk, IfErr, length, true, false};
+ghost use Rattle.std.specs.Prelude.{◌≡◌, ℕ, ◌/◌, ◌<◌, ◌≤◌, List, [], ◌∷◌, Some, None, Ok, All, IfOk, IfErr, length, true, false, map};
 ghost use Rattle.jos_base.specs.declared.numbers.TheConstants.{FDTABLE, FRAMES_MAX, FRAMES_MIN, NPTENTRIES, PGSIZE};
 ghost use Rattle.jos_base.specs.SystemCalls.{environment_made};
 ghost use Rattle.jos_elf.specs.Parsed.{Lies, parsed};
 ghost use Rattle.jos_sys.specs.System.{state_of, spaces_of, Keeps, is_live_in};
 ghost use Rattle.jos_kernel.specs.Boot.{page_loaded, stack_page};
 ghost use Rattle.jos_kernel.specs.Loading.{directory_of, Loads};
-ghost use Rattle.lib_spawn.specs.StackPage.{texts, fits_stack, stack_contents};
+ghost use Rattle.lib_spawn.specs.StackPage.{fits_stack, stack_contents};
 ghost use Rattle.lib_os.specs.LibrarySteps.{Stands};
 ghost use Rattle.jos_run.specs.Start.{start_state};
 ghost use Rattle.jos_run.specs.Begun.{IsNew, ProgramsBegin, ProgramsBoot};
@@ -85,9 +85,9 @@ pub fn boot_frames(image: &Image) -> u32
 fn load_stack(system: &mut System, slot: usize, words: &[&str]) -> bool
     requires live { is_live_in system.old slot ≡ true }
     requires spaces { Keeps system.old }
-    requires fits { fits_stack (texts words.now) ≡ true }
+    requires fits { fits_stack (map (λ w. w.now) words.now) ≡ true }
     ensures loads { (input : List ℕ) →
-        Loads (page_loaded (stack_segment (texts words.now) ∷ []) (stack_contents (texts words.now)) (directory_of system.old slot)
+        Loads (page_loaded (stack_segment (map (λ w. w.now) words.now) ∷ []) (stack_contents (map (λ w. w.now) words.now)) (directory_of system.old slot)
         stack_page (spaces_of system.old)) result (state_of system.old input) (state_of system.new input) }
     ensures spaces { Keeps system.new }
 {
@@ -112,9 +112,9 @@ fn load_program(
     requires live { is_live_in system.old slot ≡ true }
     requires spaces { Keeps system.old }
     requires lie { All (Lies (length file.now)) segments.now }
-    requires fits { fits_stack (texts words.now) ≡ true }
+    requires fits { fits_stack (map (λ w. w.now) words.now) ≡ true }
     ensures loads { (input : List ℕ) →
-        Loads (program_loaded segments.now file.now (texts words.now) (directory_of system.old slot) (spaces_of system.old))
+        Loads (program_loaded segments.now file.now (map (λ w. w.now) words.now) (directory_of system.old slot) (spaces_of system.old))
         result (state_of system.old input) (state_of system.new input) }
     ensures spaces { Keeps system.new }
 {
@@ -126,8 +126,8 @@ fn load_program(
 
 /// The registers of a program that begins at this address, with these words.
 fn program_registers(entry: u32, words: &[&str]) -> Regs
-    requires { fits_stack (texts words.now) ≡ true }
-    ensures { result ≡ program_registers entry (texts words.now) }
+    requires { fits_stack (map (λ w. w.now) words.now) ≡ true }
+    ensures { result ≡ program_registers entry (map (λ w. w.now) words.now) }
 {
     Regs {
         esp: stack_pointer(words),
@@ -139,12 +139,12 @@ fn program_registers(entry: u32, words: &[&str]) -> Regs
 fn start_program(system: &mut System, image: &Image, file: &[u8], words: &[&str]) -> bool
     requires spaces { Keeps system.old }
     requires lie { All (Lies (length file.now)) image.now.segments }
-    requires fits { fits_stack (texts words.now) ≡ true }
+    requires fits { fits_stack (map (λ w. w.now) words.now) ≡ true }
     ensures booted { result ≡ true → (input : List ℕ) →
-        program_in image.now file.now (texts words.now) (environment_made (state_of system.old input) 0)
+        program_in image.now file.now (map (λ w. w.now) words.now) (environment_made (state_of system.old input) 0)
         ≡ Some (state_of system.new input) }
     ensures full { result ≡ false → (input : List ℕ) →
-        program_in image.now file.now (texts words.now) (environment_made (state_of system.old input) 0) ≡ None }
+        program_in image.now file.now (map (λ w. w.now) words.now) (environment_made (state_of system.old input) 0) ≡ None }
     ensures spaces { Keeps system.new }
 {
     let slot = match system.make_environment(EnvId(0)) {
@@ -190,15 +190,15 @@ pub fn boot_program(
     frames: u32,
 ) -> Result<System, BootFault>
     requires read { parsed file.now ≡ Ok image.now }
-    requires fits { fits_stack (texts words.now) ≡ true }
+    requires fits { fits_stack (map (λ w. w.now) words.now) ≡ true }
     requires least { FRAMES_MIN ≤ frames }
     requires most { frames ≤ FRAMES_MAX }
     ensures booted { IfOk result (λ system. (input : List ℕ) →
-        booted_within image.now file.now (texts words.now) frames input ≡ Some (state_of system input)) }
+        booted_within image.now file.now (map (λ w. w.now) words.now) frames input ≡ Some (state_of system input)) }
     ensures pool { IfErr result (λ fault. fault ≡ BootFault.Pool → (input : List ℕ) →
-        booted_within image.now file.now (texts words.now) frames input ≡ None) }
+        booted_within image.now file.now (map (λ w. w.now) words.now) frames input ≡ None) }
     ensures stands { IfOk result (λ system. (input : List ℕ) →
-        Stands (state_of system input) (start_state image.now file.now (texts words.now) input)) }
+        Stands (state_of system input) (start_state image.now file.now (map (λ w. w.now) words.now) input)) }
     ensures new { IfOk result (λ system. (input : List ℕ) → IsNew (state_of system input) frames) }
     ensures keeps { IfOk result Keeps }
 {

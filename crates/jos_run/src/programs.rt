@@ -1,6 +1,6 @@
 //! A program is run under the library.
 
-ghost use Rattle.std.specs.Prelude.{◌≡◌, ◌≤◌, [], Ok, true, vec_capacity};
+ghost use Rattle.std.specs.Prelude.{◌≡◌, ◌≤◌, [], Ok, true, vec_capacity, map};
 ghost use Rattle.circular_buffer.specs.Buffer.{buffer};
 ghost use Rattle.jos_host.specs.Frames.{Unchanged, around};
 ghost use Rattle.jos_base.specs.declared.numbers.TheConstants.{FRAMES_MIN, FRAMES_MAX, TURN_MAX};
@@ -8,7 +8,7 @@ ghost use Rattle.jos_elf.specs.Parsed.{parsed};
 ghost use Rattle.jos_sys.specs.System.{state_of, Keeps};
 ghost use Rattle.lib_os.specs.AbstractState.{AbstractState};
 ghost use Rattle.lib_os.specs.LibrarySteps.{Stands};
-ghost use Rattle.lib_spawn.specs.StackPage.{fits_stack, texts};
+ghost use Rattle.lib_spawn.specs.StackPage.{fits_stack};
 ghost use Rattle.jos_run.specs.Begun.{IsNew};
 ghost use Rattle.jos_run.specs.RunEnds.{AnswersFor, HasEndCause, HasRunCause, RunsFrom, given_job};
 
@@ -90,8 +90,8 @@ pub fn run<H: Host>(
     requires read { parsed file.now ≡ Ok image.now }
     requires least { FRAMES_MIN ≤ setup.frames }
     requires most { setup.frames ≤ FRAMES_MAX }
-    requires words { fits_stack (texts words.now) ≡ true }
-    ensures told { AnswersFor (given_job image.now file.now (texts words.now) setup) result (around H.console host.old host.new) }
+    requires words { fits_stack (map (λ w. w.now) words.now) ≡ true }
+    ensures told { AnswersFor (given_job image.now file.now (map (λ w. w.now) words.now) setup) result (around H.console host.old host.new) }
     ensures rest { Unchanged H.files H.input H.asked H.notes host.old host.new }
     ensures cause { HasRunCause (around H.faults host.old host.new) result }
 {

@@ -1,5 +1,5 @@
 -- What stands on the first page of a stack, string by string.
-use Rattle.std.proofs.Common.{◌≡◌, ◌∙◌, ℕ, suc, ◌+◌, ◌-◌, ◌*◌, ◌<◌, ◌≤◌, ◌&&◌, nat_le, Bool, true, false, List, [], ◌∷◌, ◌++◌}
+use Rattle.std.proofs.Common.{◌≡◌, ◌∙◌, ℕ, suc, ◌+◌, ◌-◌, ◌*◌, ◌<◌, ◌≤◌, ◌&&◌, nat_le, Bool, true, false, List, [], ◌∷◌, ◌++◌, map}
 use Rattle.std.proofs.Common.{length, get_or}
 use Rattle.std.proofs.Common.{drop, replicate, refl, sym, ap, arith, length-append, add-one, drop-cons, append_assoc}
 use Rattle.std.specs.Borrow.{Bor}
@@ -8,7 +8,7 @@ use Rattle.std.proofs.lemmas.List.{length-replicate, drop_all}
 use Rattle.std.proofs.lemmas.Bool.Decides.{nat_tests}
 use Rattle.jos_base.specs.declared.numbers.TheConstants.{USTACKTOP}
 use Rattle.jos_base.specs.TrapFrames.{bytes_of_words}
-use Rattle.lib_spawn.specs.StackPage.{texts, strings_of, addresses_from, in_words, strings_size, stack_size, stack_pointer}
+use Rattle.lib_spawn.specs.StackPage.{strings_of, addresses_from, in_words, strings_size, stack_size, stack_pointer}
 use Rattle.lib_spawn.specs.StackPage.{stack_contents, fits_stack}
 use Rattle.jos_base.proofs.WordBytes.{length-bytes_of_words}
 
@@ -22,27 +22,27 @@ module _ (words : List (Bor (List ℕ))) (i : ℕ) (within : i < length words) w
   abbrev pub text : List ℕ
   text = (get_or words i no_text).now
 
-  pub texts-next : texts (drop i words) ≡ text ∷ texts (drop (i + 1) words)
+  pub texts-next : map (λ w. w.now) (drop i words) ≡ text ∷ map (λ w. w.now) (drop (i + 1) words)
   texts-next = let next : drop i words ≡ get_or words i no_text ∷ drop (i + 1) words = rw (add-one, drop-cons words i no_text)
-      refl in ap texts next
+      refl in ap (map (λ w. w.now)) next
 
-  pub strings-next : strings_of (texts (drop i words)) ≡ text ++ (0 ∷ strings_of (texts (drop (i + 1) words)))
+  pub strings-next : strings_of (map (λ w. w.now) (drop i words)) ≡ text ++ (0 ∷ strings_of (map (λ w. w.now) (drop (i + 1) words)))
   unfolding strings_of
   strings-next = ap strings_of texts-next
 
-  pub size-next : strings_size (texts (drop i words)) ≡ length text + 1 + strings_size (texts (drop (i + 1) words))
+  pub size-next : strings_size (map (λ w. w.now) (drop i words)) ≡ length text + 1 + strings_size (map (λ w. w.now) (drop (i + 1) words))
   size-next =
-      let whole : strings_size (texts (drop i words)) ≡ length text + suc (strings_size (texts (drop (i + 1) words))) =
-      ap length strings-next ∙ length-append text (0 ∷ strings_of (texts (drop (i + 1) words))) in
+      let whole : strings_size (map (λ w. w.now) (drop i words)) ≡ length text + suc (strings_size (map (λ w. w.now) (drop (i + 1) words))) =
+      ap length strings-next ∙ length-append text (0 ∷ strings_of (map (λ w. w.now) (drop (i + 1) words))) in
       omega (arith, whole)
 
-  pub addresses-next : (at : ℕ) → bytes_of_words (addresses_from at (texts (drop i words)))
-      ≡ to_le_bytes w32 at ++ bytes_of_words (addresses_from (at + length text + 1) (texts (drop (i + 1) words)))
+  pub addresses-next : (at : ℕ) → bytes_of_words (addresses_from at (map (λ w. w.now) (drop i words)))
+      ≡ to_le_bytes w32 at ++ bytes_of_words (addresses_from (at + length text + 1) (map (λ w. w.now) (drop (i + 1) words)))
   unfolding addresses_from bytes_of_words
   addresses-next at = ap (λ (list : List (List ℕ)). bytes_of_words (addresses_from at list)) texts-next
 
-pub texts-end : (words : List (Bor (List ℕ))) (i : ℕ) → length words ≤ i → texts (drop i words) ≡ []
-texts-end words i le = ap texts (drop_all i words le)
+pub texts-end : (words : List (Bor (List ℕ))) (i : ℕ) → length words ≤ i → map (λ w. w.now) (drop i words) ≡ []
+texts-end words i le = ap (map (λ w. w.now)) (drop_all i words le)
 
 pub strings-none : strings_of [] ≡ []
 unfolding strings_of
@@ -54,7 +54,7 @@ addresses-none at = refl
 
 -- ---- how many bytes
 
-pub length-texts : (words : List (Bor (List ℕ))) → length (texts words) ≡ length words
+pub length-texts : (words : List (Bor (List ℕ))) → length (map (λ w. w.now) words) ≡ length words
 length-texts [] = refl
 length-texts (word ∷ rest) = ap suc (length-texts rest)
 

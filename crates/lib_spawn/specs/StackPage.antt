@@ -8,10 +8,6 @@ use Rattle.jos_base.specs.declared.numbers.TheConstants.{PGSIZE, USTACKTOP}
 use Rattle.jos_base.specs.TrapFrames.{bytes_of_words}
 use Rattle.lib_spawn.specs.declared.stack.TheConstants.{ARGS_MAX}
 
--- the bytes of texts
-abbrev pub texts : List (Bor (List ℕ)) → List (List ℕ)
-texts = map (λ text. text.now)
-
 -- the words one after another, a 0 behind each
 unfoldable pub strings_of : List (List ℕ) → List ℕ
 strings_of [] = []

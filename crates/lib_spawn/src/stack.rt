@@ -1,9 +1,9 @@
 //! The first page of a program's stack, with the words that it is given.
 
-ghost use Rattle.std.specs.Prelude.{◌≡◌, ◌+◌, ◌-◌, ◌*◌, ◌^◌, ◌<◌, ◌≤◌, ◌++◌, length, true, replicate, min};
+ghost use Rattle.std.specs.Prelude.{◌≡◌, ◌+◌, ◌-◌, ◌*◌, ◌^◌, ◌<◌, ◌≤◌, ◌++◌, length, true, replicate, min, map};
 ghost use Rattle.std.specs.Int.{w32, to_le_bytes};
 ghost use Rattle.jos_base.specs.TrapFrames.{bytes_of_words};
-ghost use Rattle.lib_spawn.specs.StackPage.{texts, strings_of, addresses_from, strings_size, in_words, stack_size};
+ghost use Rattle.lib_spawn.specs.StackPage.{strings_of, addresses_from, strings_size, in_words, stack_size};
 ghost use Rattle.lib_spawn.specs.StackPage.{stack_pointer, stack_contents, fits_stack};
 
 use arrayvec::ArrayVec;
@@ -22,7 +22,7 @@ pub type StackBytes = ArrayVec<u8, STACK_ROOM>;
 
 /// How many bytes the strings have; one more than a page where there are more.
 fn strings_size(words: &[&str]) -> usize
-    ensures { result ≡ min (strings_size (texts words.now)) (PGSIZE + 1) }
+    ensures { result ≡ min (strings_size (map (λ w. w.now) words.now)) (PGSIZE + 1) }
 {
     let mut size = 0;
     for word in words {
@@ -33,7 +33,7 @@ fn strings_size(words: &[&str]) -> usize
 
 /// Whether a program may be given these words.
 pub fn fits_stack(words: &[&str]) -> bool
-    ensures { result ≡ fits_stack (texts words.now) }
+    ensures { result ≡ fits_stack (map (λ w. w.now) words.now) }
 {
     let count = words.len();
     let size = strings_size(words);
@@ -45,8 +45,8 @@ pub fn fits_stack(words: &[&str]) -> bool
 
 /// How many bytes stand on the stack of a program that is given these words.
 pub fn stack_size(words: &[&str]) -> u32
-    requires { fits_stack (texts words.now) ≡ true }
-    ensures size { result ≡ stack_size (texts words.now) }
+    requires { fits_stack (map (λ w. w.now) words.now) ≡ true }
+    ensures size { result ≡ stack_size (map (λ w. w.now) words.now) }
     ensures most { result ≤ PGSIZE }
 {
     let size = strings_size(words) as u32;
@@ -55,8 +55,8 @@ pub fn stack_size(words: &[&str]) -> u32
 
 /// Where its stack pointer stands.
 pub fn stack_pointer(words: &[&str]) -> u32
-    requires { fits_stack (texts words.now) ≡ true }
-    ensures { result ≡ stack_pointer (texts words.now) }
+    requires { fits_stack (map (λ w. w.now) words.now) ≡ true }
+    ensures { result ≡ stack_pointer (map (λ w. w.now) words.now) }
 {
     USTACKTOP - stack_size(words)
 }
@@ -82,8 +82,8 @@ fn push_word(page: &mut StackBytes, word: u32)
 /// Adds the addresses of the strings, the first of which stands at this one, and a 0.
 fn push_addresses(page: &mut StackBytes, words: &[&str], first: u32)
     requires room { length page.old.items + 4 * (length words.now + 1) ≤ STACK_ROOM }
-    requires below { first + strings_size (texts words.now) < 2 ^ 32 }
-    ensures { page.new.items ≡ page.old.items ++ bytes_of_words (addresses_from first (texts words.now)) }
+    requires below { first + strings_size (map (λ w. w.now) words.now) < 2 ^ 32 }
+    ensures { page.new.items ≡ page.old.items ++ bytes_of_words (addresses_from first (map (λ w. w.now) words.now)) }
 {
     let mut at = first;
     for word in words {
@@ -95,8 +95,8 @@ fn push_addresses(page: &mut StackBytes, words: &[&str], first: u32)
 
 /// Adds the strings.
 fn push_strings(page: &mut StackBytes, words: &[&str])
-    requires { length page.old.items + strings_size (texts words.now) ≤ STACK_ROOM }
-    ensures { page.new.items ≡ page.old.items ++ strings_of (texts words.now) }
+    requires { length page.old.items + strings_size (map (λ w. w.now) words.now) ≤ STACK_ROOM }
+    ensures { page.new.items ≡ page.old.items ++ strings_of (map (λ w. w.now) words.now) }
 {
     for word in words {
         push_bytes(page, word.as_bytes());
@@ -106,9 +106,9 @@ fn push_strings(page: &mut StackBytes, words: &[&str])
 
 /// What stands from the stack pointer up to the top of the stack of a program that is given these words.
 pub fn stack_contents(words: &[&str]) -> StackBytes
-    requires { fits_stack (texts words.now) ≡ true }
-    ensures bytes { result.items ≡ stack_contents (texts words.now) }
-    ensures size { length result.items ≡ stack_size (texts words.now) }
+    requires { fits_stack (map (λ w. w.now) words.now) ≡ true }
+    ensures bytes { result.items ≡ stack_contents (map (λ w. w.now) words.now) }
+    ensures size { length result.items ≡ stack_size (map (λ w. w.now) words.now) }
 {
     let size = strings_size(words) as u32;
     let padding = (size + 3) / 4 * 4 - size;

@@ -1,11 +1,11 @@
-use Rattle.std.proofs.Common.{◌∙◌, ◌-◌, [], ◌∷◌, refl, sym, ap, arith}
+use Rattle.std.proofs.Common.{◌∙◌, ◌-◌, [], ◌∷◌, refl, sym, ap, arith, map}
 use Rattle.jos_base.specs.KernelState.{slot_at}
 use Rattle.jos_base.specs.SpacesState.{overlaid}
 use Rattle.jos_kernel.specs.Boot.{perm_of, stack_page}
 use Rattle.jos_kernel.specs.Loading.{with_bytes_in}
 use Rattle.jos_kernel.proofs.PagesLoaded.{loads-none, loads-filled}
 use Rattle.jos_sys.specs.System.{state_of}
-use Rattle.lib_spawn.specs.StackPage.{texts, stack_contents}
+use Rattle.lib_spawn.specs.StackPage.{stack_contents}
 use Rattle.lib_spawn.proofs.StackPages.{fits}
 use Rattle.jos_run.specs.Boot.{stack_segment}
 use Rattle.jos_run.proofs.StackLoaded.{fits-some, stack-touched, stack-writes, stack-laid}
@@ -13,7 +13,7 @@ use Rattle.jos_run.proofs.boot.load_stack.Goals as goal
 
 pub returns-in-None-clause-loads : goal.returns-in-None-clause-loads
 returns-in-None-clause-loads c =
-    let words = texts c.args.words.now in
+    let words = map (λ w. w.now) c.args.words.now in
     let h = fits words c.requires.fits in
     λ input. loads-none (stack_segment words ∷ []) (stack_contents words)
     (slot_at (state_of c.args.system.now input) c.args.slot).directory stack_page 977917 7
@@ -22,7 +22,7 @@ returns-in-None-clause-loads c =
 
 pub returns-in-Some-clause-loads : goal.returns-in-Some-clause-loads
 returns-in-Some-clause-loads c =
-    let words = texts c.args.words.now in
+    let words = map (λ w. w.now) c.args.words.now in
     let h = fits words c.requires.fits in
     λ input. loads-filled (stack_segment words ∷ []) (stack_contents words)
     (slot_at (state_of c.args.system.now input) c.args.slot).directory stack_page 977917 7

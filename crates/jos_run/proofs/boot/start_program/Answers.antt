@@ -1,15 +1,14 @@
-use Rattle.std.proofs.Common.{[], ap, ◌∙◌}
+use Rattle.std.proofs.Common.{[], ap, ◌∙◌, map}
 use Rattle.jos_base.specs.KernelState.{KernelState, slot_at}
 use Rattle.jos_base.specs.Environments.{is_live}
 use Rattle.jos_sys.specs.System.{state_of}
-use Rattle.lib_spawn.specs.StackPage.{texts}
 use Rattle.jos_run.specs.Boot.{program_registers}
 use Rattle.jos_run.proofs.StackLoaded.{started-none, started-some}
 use Rattle.jos_run.proofs.boot.start_program.Goals as goal
 
 pub returns-then-not-load_program-clause-full : goal.returns-then-not-load_program-clause-full
 returns-then-not-load_program-clause-full c = λ full input.
-    started-none c.args.image.now c.args.file.now (texts c.args.words.now) (state_of c.args.system.now input)
+    started-none c.args.image.now c.args.file.now (map (λ w. w.now) c.args.words.now) (state_of c.args.system.now input)
     (state_of c.make_environment.new.self input)
     (state_of c.load_program.new.system input) c.in-Ok.slot c.segments.result.now (c.in-Ok.ensures.ok input) c.segments.ensures
     (c.if-not-load_program.ensures.loads input)
@@ -24,10 +23,10 @@ set_status-requires-clause-live c = c.set_registers.ensures.live c.in-Ok.slot
 
 pub returns-clause-booted : goal.returns-clause-booted
 returns-clause-booted c = λ done input.
-    started-some c.args.image.now c.args.file.now (texts c.args.words.now) (state_of c.args.system.now input)
+    started-some c.args.image.now c.args.file.now (map (λ w. w.now) c.args.words.now) (state_of c.args.system.now input)
     (state_of c.make_environment.new.self input)
     (state_of c.load_program.new.system input) c.in-Ok.slot c.segments.result.now (c.in-Ok.ensures.ok input) c.segments.ensures
     (state_of c.set_registers.new.self input) (state_of c.set_status.new.self input) c.program_registers.result
     (c.if-not-load_program.ensures.loads input)
-    (c.program_registers.ensures ∙ ap (λ n. program_registers n (texts c.args.words.now)) c.entry.ensures)
+    (c.program_registers.ensures ∙ ap (λ n. program_registers n (map (λ w. w.now) c.args.words.now)) c.entry.ensures)
     (c.set_registers.ensures.state input) (c.set_status.ensures.state input)

@@ -1,7 +1,7 @@
-use Rattle.std.proofs.Common.{◌≡◌, ◌∙◌, ◌+◌, ◌++◌, ℕ, List, drop, sym, ap, arith, length, length-append}
+use Rattle.std.proofs.Common.{◌≡◌, ◌∙◌, ◌+◌, ◌++◌, ℕ, List, drop, sym, ap, arith, length, length-append, map}
 use Rattle.std.specs.Int.{w32, to_le_bytes}
 use Rattle.jos_base.specs.TrapFrames.{bytes_of_words}
-use Rattle.lib_spawn.specs.StackPage.{texts, addresses_from}
+use Rattle.lib_spawn.specs.StackPage.{addresses_from}
 use Rattle.lib_spawn.proofs.StackPages.{text, size-next, addresses-next, texts-end, addresses-none, more}
 use Rattle.lib_spawn.proofs.stack.push_addresses.Goals as goal
 
@@ -31,7 +31,7 @@ loop-word-preserved c =
       bytes = more c.loop-word.page.items (to_le_bytes w32 c.loop-word.at) _ c.push_word.new.page.items _ c.push_word.ensures
           (addresses-next c.args.words.now c.loop-word.word-index c.loop-word-test.true c.loop-word.at
           ∙ ap (λ (at : ℕ). to_le_bytes w32 c.loop-word.at ++ bytes_of_words
-          (addresses_from at (texts (drop (c.loop-word.word-index + 1) c.args.words.now)))) (sym further))
+          (addresses_from at (map (λ w. w.now) (drop (c.loop-word.word-index + 1) c.args.words.now)))) (sym further))
           ∙ c.loop-word.invariant.bytes;
       below = omega (arith, next);
       room = omega arith;

@@ -1,22 +1,22 @@
-use Rattle.std.proofs.Common.{◌≡◌, ◌∙◌, ◌+◌, ◌++◌, ℕ, List, [], ◌∷◌, drop, sym, ap, arith, append_assoc, length, length-append}
+use Rattle.std.proofs.Common.{◌≡◌, ◌∙◌, ◌+◌, ◌++◌, ℕ, List, [], ◌∷◌, drop, sym, ap, arith, append_assoc, length, length-append, map}
 use Rattle.std.proofs.lemmas.List.{append-nil}
-use Rattle.lib_spawn.specs.StackPage.{texts, strings_of}
+use Rattle.lib_spawn.specs.StackPage.{strings_of}
 use Rattle.lib_spawn.proofs.StackPages.{text, size-next, strings-next, texts-end, strings-none, more}
 use Rattle.lib_spawn.proofs.stack.push_strings.Goals as goal
 
 pub push_bytes-requires : goal.push_bytes-requires
 push_bytes-requires c =
     let next = size-next c.args.words.now c.loop-word.word-index c.loop-word-test.true in
-    let before = sym (length-append c.loop-word.page.items (strings_of (texts (drop c.loop-word.word-index c.args.words.now))))
-    ∙ ap length c.loop-word.invariant.bytes ∙ length-append c.args.page.now.items (strings_of (texts c.args.words.now)) in
+    let before = sym (length-append c.loop-word.page.items (strings_of (map (λ w. w.now) (drop c.loop-word.word-index c.args.words.now))))
+    ∙ ap length c.loop-word.invariant.bytes ∙ length-append c.args.page.now.items (strings_of (map (λ w. w.now) c.args.words.now)) in
     let same = ap length c.as_bytes.ensures.value in
     omega (arith, next, before, same)
 
 pub push-requires : goal.push-requires
 push-requires c =
     let next = size-next c.args.words.now c.loop-word.word-index c.loop-word-test.true in
-    let before = sym (length-append c.loop-word.page.items (strings_of (texts (drop c.loop-word.word-index c.args.words.now))))
-    ∙ ap length c.loop-word.invariant.bytes ∙ length-append c.args.page.now.items (strings_of (texts c.args.words.now)) in
+    let before = sym (length-append c.loop-word.page.items (strings_of (map (λ w. w.now) (drop c.loop-word.word-index c.args.words.now))))
+    ∙ ap length c.loop-word.invariant.bytes ∙ length-append c.args.page.now.items (strings_of (map (λ w. w.now) c.args.words.now)) in
     let same = ap length c.as_bytes.ensures.value in
     let added = ap length c.push_bytes.ensures ∙ length-append c.loop-word.page.items c.as_bytes.result.now in
     omega (arith, next, before, same, added)
@@ -31,7 +31,7 @@ loop-word-preserved c =
     record {
       bytes = more c.loop-word.page.items (word ++ (0 ∷ [])) _ c.push.new.self.items _ added
           (strings-next c.args.words.now c.loop-word.word-index c.loop-word-test.true
-          ∙ sym (append_assoc word (0 ∷ []) (strings_of (texts (drop (c.loop-word.word-index + 1) c.args.words.now)))))
+          ∙ sym (append_assoc word (0 ∷ []) (strings_of (map (λ w. w.now) (drop (c.loop-word.word-index + 1) c.args.words.now)))))
           ∙ c.loop-word.invariant.bytes;
     }
 

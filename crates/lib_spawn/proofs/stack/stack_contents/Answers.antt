@@ -1,16 +1,16 @@
-use Rattle.std.proofs.Common.{◌≡◌, ◌∙◌, ◌+◌, ◌-◌, ◌*◌, ◌/◌, ◌≤◌, ◌++◌, ℕ, List, [], ◌∷◌, sym, ap, arith, length, length-append}
+use Rattle.std.proofs.Common.{◌≡◌, ◌∙◌, ◌+◌, ◌-◌, ◌*◌, ◌/◌, ◌≤◌, ◌++◌, ℕ, List, [], ◌∷◌, sym, ap, arith, length, length-append, map}
 use Rattle.std.proofs.Common.{take, replicate}
 use Rattle.std.proofs.lemmas.List.{take-replicate, length-take}
 use Rattle.std.specs.Int.{w32, to_le_bytes}
 use Rattle.jos_base.specs.TrapFrames.{bytes_of_words}
-use Rattle.lib_spawn.specs.StackPage.{texts, stack_size, strings_size, in_words, addresses_from}
+use Rattle.lib_spawn.specs.StackPage.{stack_size, strings_size, in_words, addresses_from}
 use Rattle.lib_spawn.proofs.StackPages.{length-texts, fits, length-addresses, stack-has_size, stack-built}
 use Rattle.lib_spawn.proofs.stack.stack_contents.Goals as goal
 use Rattle.jos_base.proofs.WordBytes.{length-bytes_of_words}
 
 pub overflow_cast-words : goal.overflow_cast-words
 overflow_cast-words c =
-    let h = fits (texts c.args.words.now) c.requires in omega (arith, h.few, length-texts c.args.words.now)
+    let h = fits (map (λ w. w.now) c.args.words.now) c.requires in omega (arith, h.few, length-texts c.args.words.now)
 
 -- how many bytes two words are, and then the addresses too
 two_words : (count esp : ℕ) (none one two : List ℕ) → none ≡ [] → one ≡ none ++ to_le_bytes w32 count →
@@ -31,7 +31,7 @@ with_addresses words first two three eight d =
 
 pub push_addresses-requires-clause-room : goal.push_addresses-requires-clause-room
 push_addresses-requires-clause-room c =
-    let h = fits (texts c.args.words.now) c.requires in
+    let h = fits (map (λ w. w.now) c.args.words.now) c.requires in
     let two = two_words (length c.args.words.now) (c.stack_pointer.result + 8) c.new-page.result.items c.push_word.new.page.items
     c.push_word-2.new.page.items
     c.new-page.ensures c.push_word.ensures c.push_word-2.ensures in
@@ -39,7 +39,7 @@ push_addresses-requires-clause-room c =
 
 pub push_addresses-requires-clause-below : goal.push_addresses-requires-clause-below
 push_addresses-requires-clause-below c =
-    let h = fits (texts c.args.words.now) c.requires in omega (arith, h.strings)
+    let h = fits (map (λ w. w.now) c.args.words.now) c.requires in omega (arith, h.strings)
 
 abbrev zeros : List ℕ
 zeros = 0 ∷ 0 ∷ 0 ∷ []
@@ -49,11 +49,11 @@ few_zeros n = let exact = length-take n zeros in (omega (arith, exact), omega (a
 
 pub push_bytes-requires : goal.push_bytes-requires
 push_bytes-requires c =
-    let h = fits (texts c.args.words.now) c.requires in
+    let h = fits (map (λ w. w.now) c.args.words.now) c.requires in
     let two = two_words (length c.args.words.now) (c.stack_pointer.result + 8) c.new-page.result.items c.push_word.new.page.items
     c.push_word-2.new.page.items
     c.new-page.ensures c.push_word.ensures c.push_word-2.ensures in
-    let three = with_addresses (texts c.args.words.now) (4005552128 - c.strings_size-size.result) c.push_word-2.new.page.items
+    let three = with_addresses (map (λ w. w.now) c.args.words.now) (4005552128 - c.strings_size-size.result) c.push_word-2.new.page.items
     c.push_addresses.new.page.items two c.push_addresses.ensures in
     let few = few_zeros ((c.strings_size-size.result + 3) / 4 * 4 - c.strings_size-size.result) in
     omega (arith, h.few, length-texts c.args.words.now, three, few.1)
@@ -61,11 +61,11 @@ push_bytes-requires c =
 pub push_strings-requires : goal.push_strings-requires
 unfolding stack_size
 push_strings-requires c =
-    let h = fits (texts c.args.words.now) c.requires in
+    let h = fits (map (λ w. w.now) c.args.words.now) c.requires in
     let two = two_words (length c.args.words.now) (c.stack_pointer.result + 8) c.new-page.result.items c.push_word.new.page.items
     c.push_word-2.new.page.items
     c.new-page.ensures c.push_word.ensures c.push_word-2.ensures in
-    let three = with_addresses (texts c.args.words.now) (4005552128 - c.strings_size-size.result) c.push_word-2.new.page.items
+    let three = with_addresses (map (λ w. w.now) c.args.words.now) (4005552128 - c.strings_size-size.result) c.push_word-2.new.page.items
     c.push_addresses.new.page.items two c.push_addresses.ensures in
     let padding : ℕ = (c.strings_size-size.result + 3) / 4 * 4 - c.strings_size-size.result in
     let few = few_zeros padding in
@@ -74,11 +74,11 @@ push_strings-requires c =
 
 pub returns-clause-bytes : goal.returns-clause-bytes
 returns-clause-bytes c =
-    let h = fits (texts c.args.words.now) c.requires in
+    let h = fits (map (λ w. w.now) c.args.words.now) c.requires in
     let padding : ℕ = (c.strings_size-size.result + 3) / 4 * 4 - c.strings_size-size.result in
-    let exact : c.strings_size-size.result ≡ strings_size (texts c.args.words.now) = omega (arith, h.strings) in
+    let exact : c.strings_size-size.result ≡ strings_size (map (λ w. w.now) c.args.words.now) = omega (arith, h.strings) in
     let none : take padding zeros ≡ replicate padding 0 = take-replicate padding 3 0 (omega arith) in
-    stack-built (texts c.args.words.now) (length c.args.words.now) (c.stack_pointer.result + 8)
+    stack-built (map (λ w. w.now) c.args.words.now) (length c.args.words.now) (c.stack_pointer.result + 8)
     (4005552128 - c.strings_size-size.result) padding
     c.push_word.new.page.items c.push_word-2.new.page.items c.push_addresses.new.page.items c.push_bytes.new.page.items
     c.push_strings.new.page.items
@@ -89,4 +89,4 @@ returns-clause-bytes c =
     (c.push_bytes.ensures ∙ ap (λ (bytes : List ℕ). c.push_addresses.new.page.items ++ bytes) none) c.push_strings.ensures
 
 pub returns-clause-size : goal.returns-clause-size
-returns-clause-size c = ap length (returns-clause-bytes c) ∙ stack-has_size (texts c.args.words.now)
+returns-clause-size c = ap length (returns-clause-bytes c) ∙ stack-has_size (map (λ w. w.now) c.args.words.now)
