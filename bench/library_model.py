@@ -4,8 +4,9 @@
     python3 bench/library_model.py [--frames N] [--steps N] [--schedule FILE] [--trace N] [--] IMAGE [WORD..]
 
 It is written after docs/library.md, and shares nothing with the code: the fence, the services 0 to 3 and 5 to 9, each with
-its refusals and its steps, and turns. The processor is that of processor.py, and the frames are those of model.py. It takes
-the words of the command and answers with its console, notes and status; what it does not have is `Unmodelled`.
+its refusals and its steps, the handler of page faults, and turns. The processor is that of processor.py, and the frames are
+those of model.py. It takes the words of the command and answers with its console, notes and status; what it does not have
+is `Unmodelled`.
 """
 import argparse
 import pathlib
@@ -13,7 +14,7 @@ import struct
 import sys
 
 from model import ACCESSED, BAD_ENVIRONMENT, DIRTY, EAX, EBX, ECX, EDX, ESP, INVALID, MASK, NO_MEMORY, P, PAGE_SIZE, U, W
-from model import Frames, PageFault, STACK_TOP, Trap, Unmodelled
+from model import EXCEPTION_STACK, Frames, PageFault, STACK_TOP, Trap, Unmodelled
 from processor import Processor
 
 SHARED = 0x400
@@ -87,13 +88,14 @@ class Run:
     def __init__(self, image, words, frames, schedule, steps, traps):
         self.frames = Frames(frames)
         self.schedule, self.steps_left, self.traps_kept = schedule, steps, traps
-        self.steps = self.turns = self.refused = 0
+        self.steps = self.turns = self.refused = self.upcalls = 0
         self.output, self.traps = bytearray(), []
         self.frames.create()  # the server's, which has no pages
         self.directory = self.frames.create()
         self.memory = Memory(self.frames, self.directory)
         self.is_live, self.status = True, "runnable"
         self.service, self.stage = None, 0
+        self.fault = None  # that the handler of page faults has, with how many steps it still makes
         self.load(image)
         self.begin(words)
 
@@ -120,7 +122,9 @@ class Run:
         return self.frames.bytes[self.frames.entries[self.directory][va >> 12][0]]
 
     def begin(self, words):
-        """The strings end at the top of the stack; below them are their addresses and a 0, and below these argv and argc."""
+        """The strings end at the top of the stack; below them are their addresses and a 0, and below these argv and argc.
+
+        The handler of page faults has a stack of its own."""
         strings = [word + b"\0" for word in words]
         length = sum(map(len, strings))
         first = STACK_TOP - length
@@ -131,6 +135,7 @@ class Run:
         table = struct.pack("<%dI" % (len(words) + 3), len(words), esp + 8, *places, 0)
         stack[esp % PAGE_SIZE:esp % PAGE_SIZE + len(table)] = table
         stack[PAGE_SIZE - length:] = b"".join(strings)
+        assert self.frames.allocate(self.directory, EXCEPTION_STACK >> 12, P | U | W)
         self.processor = Processor(self.entry, esp)
 
     # ---- services
@@ -231,14 +236,32 @@ class Run:
             self.output += b"[%08x] %s\n" % (PROGRAM, line.encode())
         self.is_live = False
 
-    def trap(self, number, error, va, ip):
-        self.traps.append((PROGRAM, number, error, va, ip))
-        if number == 14:
+    def trap(self, number, error, ip):
+        """Any trap but a page fault."""
+        self.traps.append((PROGRAM, number, error, 0, ip))
+        self.end("trap %d err %x ip %08x" % (number, error, ip))
+
+    def page_fault(self, error, va, ip):
+        """It goes to the handler. No page waits to be copied, so it can't be mended, and ends the program with the last step.
+
+        The handler reads the address and the error code; where a page is that may not be written, it looks at its entry; it
+        reads the address of the instruction, sets that there is no handler any more, and raises the fault again."""
+        self.traps.append((PROGRAM, 14, error, va, ip))
+        self.upcalls += 1
+        self.fault = (6 if error == U | W | P else 5, error, va, ip)
+
+    def handle(self):
+        """A step of the handler of page faults."""
+        left, error, va, ip = self.fault
+        self.fault = (left - 1, error, va, ip)
+        if left == 1:
+            self.traps.append((PROGRAM, 14, error, va, ip))
             self.end("user fault va %08x ip %08x" % (va, ip))
-        else:
-            self.end("trap %d err %x ip %08x" % (number, error, ip))
 
     def step(self):
+        if self.fault is not None:
+            self.handle()
+            return
         if self.service is not None:
             self.serve()
             return
@@ -246,14 +269,14 @@ class Run:
         try:
             vector = self.processor.step(self.memory)
         except PageFault as fault:
-            self.trap(14, fault.error, fault.address, ip)
+            self.page_fault(fault.error, fault.address, ip)
         except Trap as trap:
-            self.trap(trap.number, trap.error, 0, trap.address)
+            self.trap(trap.number, trap.error, trap.address)
         else:
             if vector is not None:
                 self.service, self.stage = self.processor.registers[EAX], 0
             elif self.processor.registers[ESP] in RESIDENT:
-                self.trap(13, 0, 0, ip)
+                self.trap(13, 0, ip)
 
     def turn(self):
         """A turn; True where the budget ended it."""
@@ -287,7 +310,7 @@ class Run:
     def notes(self, end):
         kept = self.traps[-self.traps_kept:] if self.traps_kept else []
         lines = ["[%08x] trap %d err %x va %08x ip %08x\n" % trap for trap in kept]
-        told = "%s steps %d turns %d refused %d upcalls 0\n" % (end, self.steps, self.turns, self.refused)
+        told = "%s steps %d turns %d refused %d upcalls %d\n" % (end, self.steps, self.turns, self.refused, self.upcalls)
         return "".join(lines) + told
 
 

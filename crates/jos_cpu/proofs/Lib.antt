@@ -13,4 +13,8 @@ pub mod Related
 pub mod Through
 pub mod Fenced
 pub mod Locality
+pub mod FewerWrites
+pub mod FaultsRaised
+pub mod Stretches
 pub mod RegistersLeft
+pub mod FlagsKept

@@ -1,7 +1,8 @@
--- A step in two related memories: the same comes of it, with the same registers, and its memories are related. It is
--- shown for whatever is fetched, by the table's five words alone, so that no instruction has a part in it.
+-- A step in two related memories: the same comes of it, with the same registers, and its memories are related; or, where
+-- the first table may refuse what the second allows, such a refusal has stopped it. It is shown for whatever is fetched,
+-- by the table's five words alone, so that no instruction has a part in it.
 use Rattle.std.proofs.Common.{◌≡◌, ℕ, zero, suc, ◌/◌, ◌%◌, Bool, true, false, List, [], ◌∷◌, Option, None, Some}
-use Rattle.std.proofs.Common.{Result, Ok, Err, ◌<◌, refl, sym, ap, subst, ◌∙◌, arith, if◌then◌else◌}
+use Rattle.std.proofs.Common.{◌<◌, ◌⊎◌, inl, inr, refl, sym, ap, subst, ◌∙◌, arith, if◌then◌else◌}
 use Rattle.jos_base.specs.declared.registers.Regs.{Regs}
 use Rattle.jos_base.specs.declared.memory.Access.{Access}
 use Rattle.jos_base.specs.declared.memory.Access.TheVariants.{Read, Write}
@@ -25,92 +26,160 @@ use Rattle.jos_cpu.specs.Probes.{Probe, probes_of, probed_all, on_refusal}
 use Rattle.jos_cpu.specs.Transfers.{Number, number_at, input_of, popped_words, inputs_of, stored_number, stored_all}
 use Rattle.jos_cpu.specs.Fetch.{FetchedFrom, byte_reached, read_after, fetched_as, with_byte, on_byte, next_address}
 use Rattle.jos_cpu.specs.Fetch.{fetched_from, fetched_at}
-use Rattle.jos_cpu.specs.Steps.{Stepped, probes, accesses, after_probes, executed, after_fetch, step_of}
-use Rattle.jos_cpu.proofs.Agreement.{Rights, AgreesReading, AgreesWriting, SameStep}
+use Rattle.jos_cpu.specs.Steps.{Stepped, probes, accesses, fault_event, after_probes, executed, after_fetch, step_of}
+use Rattle.jos_cpu.specs.Steps.{accesses_left, left_after_fetch, probes_left}
+use Rattle.jos_cpu.proofs.Agreement.{Rights, AgreesReading, AllowsFewer, AgreesWriting, SameStep}
+use Rattle.jos_cpu.proofs.Agreement.{IsAmong, IsProbed, ReachesFor, IsDenied, IsStopped}
 use Rattle.jos_cpu.proofs.Allowed.{one, two, four, all_words, AllProbed, AllWritable, all_writable}
 use Rattle.std.proofs.lemmas.Bool.{and_from}
 
-module _ {M N : Type 0} {t : Memory M} {u : Memory N} {R : M → N → Type 0} {rights : M → Rights} (h : AgreesReading t u R rights) where
+module _ {M N : Type 0} {t : Memory M} {u : Memory N} {R : M → N → Type 0} {rights : M → Rights} (h : AllowsFewer t u R rights) where
   -- two probes, before which the rights were these, and what the rights allow if the probes are not refused
-  record SameProbe (before : Rights) (Passed : Rights → Type 0) (p : Probed M) (q : Probed N) : Type 0 where
+  record SameProbe (before : Rights) (Passed : Type 0) (p : Probed M) (q : Probed N) : Type 0 where
     memory : R p.memory q.memory
     refusal : q.refusal ≡ p.refusal
     stays : rights p.memory ≡ before
-    passed : p.refusal ≡ None → Passed before
+    passed : p.refusal ≡ None → Passed
 
   record SameFetch (p : FetchedFrom M) (q : FetchedFrom N) : Type 0 where
     memory : R p.memory q.memory
     fetched : q.fetched ≡ p.fetched
 
+  -- ---- either the same, or denied
+
+  abbrev Places : Type 1
+  Places = ℕ → Access → Type 0
+
+  abbrev Denied : Places → (MemFault → Type 0) → M → Type 0
+  Denied Place Told m = IsDenied t u R Place Told m
+
+  -- with another place and another outcome
+  moved : {P Q : Places} {A B : MemFault → Type 0} {m : M} (d : Denied P A m) → ((va : ℕ) (access : Access) → P va access → Q va access) →
+      B (t.fault m d.va d.access) → Denied Q B m
+  moved d place told = record {
+    second = d.second;
+    va = d.va;
+    access = d.access;
+    related = d.related;
+    refused = d.refused;
+    allowed = d.allowed;
+    place = place d.va d.access d.place;
+    told = told;
+  }
+
+  -- two probes are the same, or the first alone was refused
+  abbrev Probes : Rights → Type 0 → Places → Probed M → Probed N → Type 0
+  Probes before Passed Place p q = SameProbe before Passed p q ⊎ Denied Place (λ fault. p.refusal ≡ Some fault) p.memory
+
+  -- the same is fetched, or a byte of the instruction was refused by the first alone
+  abbrev Fetches : FetchedFrom M → FetchedFrom N → Type 0
+  Fetches p q = SameFetch p q ⊎ Denied (λ va access. access ≡ Read) (λ fault. p.fetched ≡ Fault fault) p.memory
+
   -- ---- probes
 
-  choose : (a b : Bool) → b ≡ a → {before : Rights} {Passed : Rights → Type 0} {p p' : Probed M} {q q' : Probed N} →
-      (a ≡ true → SameProbe before Passed p q) → (a ≡ false → SameProbe before Passed p' q') →
-      SameProbe before Passed (if a then p else p') (if b then q else q')
-  choose true b e on off = rw e (on refl)
-  choose false b e on off = rw e (off refl)
+  choose : (a b : Bool) → (a ≡ true → b ≡ true) → {before : Rights} {Passed : Type 0} {Place : Places} {p p' : Probed M} {q q' : Probed N} →
+      (a ≡ true → Probes before Passed Place p q) → (a ≡ false → b ≡ false → Probes before Passed Place p' q') →
+      (a ≡ false → b ≡ true → Probes before Passed Place p' q) →
+      Probes before Passed Place (if a then p else p') (if b then q else q')
+  choose true b e on off lost = rw (e refl) (on refl)
+  choose false true e on off lost = lost refl refl
+  choose false false e on off lost = off refl refl
+
+  -- an address is among those of a probe
+  abbrev InProbe : ℕ → ℕ → Access → Places
+  InProbe va len access q a = (a ≡ access) × IsAmong va len q
 
   -- the first byte before the rest
   with_first : {before now : Rights} → now ≡ before → (va len : ℕ) (access : Access) → before va access ≡ true → {p : Probed M} {q : Probed N} →
-      SameProbe now (λ g. all_allowed g (after va) len access ≡ true) p q → SameProbe before (λ g. all_allowed g va (suc len) access ≡ true) p q
+      Probes now (all_allowed now (after va) len access ≡ true) (InProbe (after va) len access) p q →
+      Probes before (all_allowed before va (suc len) access ≡ true) (InProbe va (suc len) access) p q
   unfolding all_allowed
-  with_first {before} e va len access first s = record {
+  with_first {before} e va len access first (inl s) = inl (record {
     memory = s.memory;
     refusal = s.refusal;
     stays = s.stays ∙ e;
     passed = λ none. and_from (before va access) _ first (ap (λ g. all_allowed g (after va) len access) (sym e) ∙ s.passed none);
-  }
+  })
+  with_first e va len access first (inr d) = inr (moved d (λ q a k. (k.0, inr k.1)) d.told)
 
   probe : (len : ℕ) {m : M} {n : N} → R m n → (va : ℕ) (access : Access) →
-      SameProbe (rights m) (λ g. all_allowed g va len access ≡ true) (probed t m va len access) (probed u n va len access)
+      Probes (rights m) (all_allowed (rights m) va len access ≡ true) (InProbe va len access) (probed t m va len access) (probed u n va len access)
   unfolding probed all_allowed
-  probe zero r va access = record { memory = r; refusal = refl; stays = refl; passed = λ none. refl }
-  probe (suc len) r va access =
+  probe zero r va access = inl (record { memory = r; refusal = refl; stays = refl; passed = λ none. refl })
+  probe (suc len) {m} {n} r va access =
       choose _ _ (h.allowed r va access)
       (λ on. with_first (h.stays r va access on) va len access (h.enough r va access on) (probe len (h.reached r va access on) (after va) access))
-      (λ off. record { memory = r; refusal = ap Some (h.fault r va access off); stays = refl; passed = λ none. absurd cc })
+      (λ off other. inl (record { memory = r; refusal = ap Some (h.fault r va access off other); stays = refl; passed = λ none. absurd cc }))
+      (λ off other. inr (record {
+        second = n;
+        va = va;
+        access = access;
+        related = r;
+        refused = off;
+        allowed = other;
+        place = (refl, inl refl);
+        told = refl;
+      }))
 
-  onward : (a b : Option MemFault) → b ≡ a → {m : M} {n : N} → R m n → {before : Rights} {First : Type 0} {Rest : Rights → Type 0} →
-      rights m ≡ before → (a ≡ None → First) → {k : M → Probed M} {l : N → Probed N} →
-      ((x : M) (y : N) → R x y → SameProbe (rights x) Rest (k x) (l y)) →
-      SameProbe before (λ g. First × Rest before) (on_refusal a m k) (on_refusal b n l)
-  onward None b e {m} {n} r {Rest = Rest} same first more =
-      let s = more m n r in
-      rw e (record { memory = s.memory; refusal = s.refusal; stays = s.stays ∙ same; passed = λ none. (first refl, subst Rest same (s.passed none)) })
-  onward (Some fault) b e r same first more = rw e (record { memory = r; refusal = refl; stays = same; passed = λ none. absurd cc })
+  onward : (Rest : Rights → Type 0) {before : Rights} {First : Type 0} {P Q : Places} {p : Probed M} {q : Probed N} → Probes before First P p q →
+      {k : M → Probed M} {l : N → Probed N} →
+      ((x : M) (y : N) → R x y → Probes (rights x) (Rest (rights x)) Q (k x) (l y)) →
+      Probes before (First × Rest before) (λ va access. P va access ⊎ Q va access) (on_refusal p.refusal p.memory k) (on_refusal q.refusal q.memory l)
+  onward Rest {before} {First} {P} {Q} {p} {q} (inl s) {k} {l} more = go p.refusal q.refusal s.refusal s.memory s.stays s.passed
+    where
+      go : (a : Option MemFault) (b : Option MemFault) → b ≡ a → {m : M} {n : N} → R m n → rights m ≡ before → (a ≡ None → First) →
+          Probes before (First × Rest before) (λ va access. P va access ⊎ Q va access) (on_refusal a m k) (on_refusal b n l)
+      go None b e {m} {n} r same first = rw e (by_rest (more m n r))
+        where
+          by_rest : {p : Probed M} {q : Probed N} → Probes (rights m) (Rest (rights m)) Q p q →
+              Probes before (First × Rest before) (λ va access. P va access ⊎ Q va access) p q
+          by_rest (inl s) = inl (record {
+            memory = s.memory;
+            refusal = s.refusal;
+            stays = s.stays ∙ same;
+            passed = λ none. (first refl, subst Rest same (s.passed none));
+          })
+          by_rest (inr d) = inr (moved d (λ va access place. inr place) d.told)
+      go (Some fault) b e r same first = rw e (inl (record { memory = r; refusal = refl; stays = same; passed = λ none. absurd cc }))
+  onward Rest (inr d) more = rw d.told (inr (moved d (λ va access place. inl place) refl))
 
-  probe_all : (ps : List Probe) {m : M} {n : N} → R m n → SameProbe (rights m) (λ g. AllProbed g ps) (probed_all t m ps) (probed_all u n ps)
+  probe_all : (ps : List Probe) {m : M} {n : N} → R m n →
+      Probes (rights m) (AllProbed (rights m) ps) (IsProbed ps) (probed_all t m ps) (probed_all u n ps)
   unfolding probed_all
-  probe_all [] r = record { memory = r; refusal = refl; stays = refl; passed = λ none. tt }
-  probe_all (p ∷ rest) r =
-      let q = probe p.len r p.va p.access in
-      let s = onward _ _ q.refusal q.memory q.stays q.passed (λ x y s. probe_all rest s) in
-      record { memory = s.memory; refusal = s.refusal; stays = s.stays; passed = s.passed }
+  probe_all [] r = inl (record { memory = r; refusal = refl; stays = refl; passed = λ none. tt })
+  probe_all (p ∷ rest) r = onward (λ g. AllProbed g rest) (probe p.len r p.va p.access) (λ x y s. probe_all rest s)
 
   -- ---- the fetch
 
-  read : (a b : Option MemFault) → b ≡ a → {m : M} {n : N} → R m n → (va : ℕ) → (a ≡ None → rights m va Read ≡ true) → read_after u va b n ≡ read_after t va a m
-  read None b e r va passed = rw e (ap Ok (h.byte r va Read (passed refl)))
-  read (Some fault) b e r va passed = rw e refl
-
-  judge : (d : Decoded) {m : M} {n : N} → R m n → {p : FetchedFrom M} {q : FetchedFrom N} → SameFetch p q → SameFetch (fetched_as d m p) (fetched_as d n q)
-  judge (Found insn len) r same = record { memory = r; fetched = refl }
-  judge Illegal r same = record { memory = r; fetched = refl }
+  judge : (d : Decoded) {m : M} {n : N} → R m n → {p : FetchedFrom M} {q : FetchedFrom N} → Fetches p q →
+      Fetches (fetched_as d m p) (fetched_as d n q)
+  judge (Found insn len) r same = inl (record { memory = r; fetched = refl })
+  judge Illegal r same = inl (record { memory = r; fetched = refl })
   judge Short r same = same
 
-  take_byte : (a b : Result ℕ MemFault) → b ≡ a → {m : M} {n : N} → R m n → (bytes : List ℕ) {k : List ℕ → FetchedFrom M} {l : List ℕ → FetchedFrom N} →
-      ((longer : List ℕ) → SameFetch (k longer) (l longer)) → SameFetch (on_byte a m bytes k) (on_byte b n bytes l)
-  take_byte (Ok byte) b e r bytes more = rw e (judge (decoded (with_byte bytes byte)) r (more (with_byte bytes byte)))
-  take_byte (Err fault) b e r bytes more = rw e (record { memory = r; fetched = refl })
+  take_byte : {m : M} {p : Probed M} {q : Probed N} (va : ℕ) (bytes : List ℕ) →
+      Probes (rights m) (all_allowed (rights m) va 1 Read ≡ true) (InProbe va 1 Read) p q →
+      {k : M → List ℕ → FetchedFrom M} {l : N → List ℕ → FetchedFrom N} →
+      ((x : M) (y : N) (longer : List ℕ) → R x y → Fetches (k x longer) (l y longer)) →
+      Fetches (on_byte (read_after t va p.refusal p.memory) p.memory bytes (k p.memory))
+      (on_byte (read_after u va q.refusal q.memory) q.memory bytes (l q.memory))
+  take_byte {m} {p} {q} va bytes (inl s) {k} {l} more =
+      go p.refusal q.refusal s.refusal s.memory (λ none. ap (λ g. g va Read) s.stays ∙ one _ va Read (s.passed none))
+    where
+      go : (a b : Option MemFault) → b ≡ a → {m : M} {n : N} → R m n → (a ≡ None → rights m va Read ≡ true) →
+          Fetches (on_byte (read_after t va a m) m bytes (k m)) (on_byte (read_after u va b n) n bytes (l n))
+      go None b e {m} {n} r passed =
+          rw (e, h.byte r va Read (passed refl))
+          (judge (decoded (with_byte bytes (t.byte m va))) r (more m n (with_byte bytes (t.byte m va)) r))
+      go (Some fault) b e r passed = rw e (inl (record { memory = r; fetched = refl }))
+  take_byte va bytes (inr d) more = rw d.told (inr (moved d (λ va access place. place.0) refl))
 
-  fetch_from : (ip room : ℕ) {m : M} {n : N} → R m n → (bytes : List ℕ) → SameFetch (fetched_from t ip room m bytes) (fetched_from u ip room n bytes)
+  fetch_from : (ip room : ℕ) {m : M} {n : N} → R m n → (bytes : List ℕ) → Fetches (fetched_from t ip room m bytes) (fetched_from u ip room n bytes)
   unfolding fetched_from byte_reached
-  fetch_from ip zero r bytes = record { memory = r; fetched = refl }
+  fetch_from ip zero r bytes = inl (record { memory = r; fetched = refl })
   fetch_from ip (suc room) r bytes =
       let va = next_address ip bytes in
-      let p = probe 1 r va Read in
-      take_byte _ _ (read _ _ p.refusal p.memory va (λ none. ap (λ g. g va Read) p.stays ∙ one _ va Read (p.passed none))) p.memory bytes
-      (λ longer. fetch_from ip room p.memory longer)
+      take_byte va bytes (probe 1 r va Read) (λ x y longer s. fetch_from ip room s longer)
 
   -- ---- what is read
 
@@ -174,38 +243,94 @@ module _ {M N : Type 0} {t : Memory M} {u : Memory N} {R : M → N → Type 0} {
     second_new = d;
   }
 
-  act : (insn : Insn) (len : ℕ) (regs : Regs) (gates : Gates) (a b : Option MemFault) → b ≡ a → {m : M} {n : N} → R m n →
-      (a ≡ None → AllProbed (rights m) (probes insn regs)) →
-      SameNumbers (after_probes t insn len regs gates a m) (after_probes u insn len regs gates b n)
-  act insn len regs gates None b e {m} {n} r passed =
-      let k = passed refl in
-      rw (e, inputs r (accesses insn regs) k) (record {
-        first = m;
-        second = n;
-        numbers = _;
-        related = r;
-        writable = all_writable (rights m) (accesses insn regs) regs _ k;
-        regs = refl;
-        event = refl;
-        first_new = refl;
-        second_new = refl;
-      })
-  act insn len regs gates (Some fault) b e r passed = rw e (still r refl refl refl refl)
+  -- stopped, with this left by the probes
+  record Stopped (old : Regs) (left : M) (Place : Places) (s : Stepped M) : Type 0 where
+    regs_kept : s.regs ≡ old
+    untouched : s.memory ≡ left
+    denied : Denied Place (λ fault. s.event ≡ fault_event fault) s.memory
 
-  execute : (insn : Insn) (len : ℕ) (regs : Regs) (gates : Gates) {m : M} {n : N} → R m n → SameNumbers (executed t insn len regs m gates) (executed u insn len regs n gates)
+  -- the same numbers are put, or a refusal of the first alone has stopped the step
+  abbrev Steps : Regs → M → Places → Stepped M → Stepped N → Type 0
+  Steps old left Place s r = SameNumbers s r ⊎ Stopped old left Place s
+
+  act : (insn : Insn) (len : ℕ) (regs : Regs) (gates : Gates) {m : M} {p : Probed M} {q : Probed N} →
+      Probes (rights m) (AllProbed (rights m) (probes insn regs)) (IsProbed (probes insn regs)) p q →
+      Steps regs p.memory (IsProbed (probes insn regs))
+      (after_probes t insn len regs gates p.refusal p.memory) (after_probes u insn len regs gates q.refusal q.memory)
+  act insn len regs gates {p = p} {q} (inl s) =
+      inl (go p.refusal q.refusal s.refusal s.memory (λ none. subst (λ g. AllProbed g (probes insn regs)) (sym s.stays) (s.passed none)))
+    where
+      go : (a b : Option MemFault) → b ≡ a → {m : M} {n : N} → R m n → (a ≡ None → AllProbed (rights m) (probes insn regs)) →
+          SameNumbers (after_probes t insn len regs gates a m) (after_probes u insn len regs gates b n)
+      go None b e {m} {n} r passed =
+          let k = passed refl in
+          rw (e, inputs r (accesses insn regs) k) (record {
+            first = m;
+            second = n;
+            numbers = _;
+            related = r;
+            writable = all_writable (rights m) (accesses insn regs) regs _ k;
+            regs = refl;
+            event = refl;
+            first_new = refl;
+            second_new = refl;
+          })
+      go (Some fault) b e r passed = rw e (still r refl refl refl refl)
+  act insn len regs gates (inr d) = rw d.told (inr (record {
+    regs_kept = refl;
+    untouched = refl;
+    denied = moved d (λ va access place. place) refl;
+  }))
+
+  execute : (insn : Insn) (len : ℕ) (regs : Regs) (gates : Gates) {m : M} {n : N} → R m n →
+      Steps regs (accesses_left t insn regs m) (IsProbed (probes insn regs)) (executed t insn len regs m gates) (executed u insn len regs n gates)
   unfolding executed
-  execute insn len regs gates r =
-      let p = probe_all (probes insn regs) r in
-      act insn len regs gates _ _ p.refusal p.memory (λ none. subst (λ g. AllProbed g (probes insn regs)) (sym p.stays) (p.passed none))
+  execute insn len regs gates r = act insn len regs gates (probe_all (probes insn regs) r)
 
-  go_on : (regs : Regs) (gates : Gates) (a b : Fetched) → b ≡ a → {m : M} {n : N} → R m n → SameNumbers (after_fetch t regs gates a m) (after_fetch u regs gates b n)
-  go_on regs gates (Instruction insn len) b e r = rw e (execute insn len regs gates r)
-  go_on regs gates (Fault fault) b e r = rw e (still r refl refl refl refl)
-  go_on regs gates Unknown b e r = rw e (still r refl refl refl refl)
+  go_on : (regs : Regs) (gates : Gates) {p : FetchedFrom M} {q : FetchedFrom N} → Fetches p q →
+      Steps regs (left_after_fetch t regs p.fetched p.memory) (ReachesFor regs p.fetched)
+      (after_fetch t regs gates p.fetched p.memory) (after_fetch u regs gates q.fetched q.memory)
+  go_on regs gates {p} {q} (inl s) = go p.fetched q.fetched s.fetched s.memory
+    where
+      go : (a b : Fetched) → b ≡ a → {m : M} {n : N} → R m n →
+          Steps regs (left_after_fetch t regs a m) (ReachesFor regs a) (after_fetch t regs gates a m) (after_fetch u regs gates b n)
+      go (Instruction insn len) b e r = rw e (execute insn len regs gates r)
+      go (Fault fault) b e r = rw e (inl (still r refl refl refl refl))
+      go Unknown b e r = rw e (inl (still r refl refl refl refl))
+  go_on regs gates (inr d) = rw d.told (inr (record {
+    regs_kept = refl;
+    untouched = refl;
+    denied = moved d (λ va access place. place) refl;
+  }))
 
-  pub same_numbers : (regs : Regs) (gates : Gates) {m : M} {n : N} → R m n → SameNumbers (step_of t regs m gates) (step_of u regs n gates)
-  unfolding step_of fetched_at
-  same_numbers regs gates r = let p = fetch_from regs.eip INSTRUCTION_MAX r [] in go_on regs gates _ _ p.fetched p.memory
+  -- The same numbers are put into related memories, or a refusal of the first alone has stopped the step.
+  pub fewer_numbers : (regs : Regs) (gates : Gates) {m : M} {n : N} → R m n →
+      SameNumbers (step_of t regs m gates) (step_of u regs n gates) ⊎ IsStopped t u R regs m (step_of t regs m gates)
+  unfolding step_of fetched_at probes_left
+  fewer_numbers regs gates {m} r = by_step (go_on regs gates (fetch_from regs.eip INSTRUCTION_MAX r []))
+    where
+      by_step : {s : Stepped M} {r : Stepped N} →
+          Steps regs (probes_left t regs m) (ReachesFor regs (fetched_at t m regs.eip).fetched) s r → SameNumbers s r ⊎ IsStopped t u R regs m s
+      by_step (inl same) = inl same
+      by_step (inr stop) = inr (record { regs_kept = stop.regs_kept; untouched = stop.untouched; denied = stop.denied })
+
+-- Where both tables allow the same, nothing is refused by the first alone.
+module _ {M N : Type 0} {t : Memory M} {u : Memory N} {R : M → N → Type 0} {rights : M → Rights} (h : AgreesReading t u R rights) where
+  pub no_fewer : AllowsFewer t u R rights
+  no_fewer = record {
+    allowed = λ {m} {n} r va access on. h.allowed r va access ∙ on;
+    fault = λ {m} {n} r va access off other. h.fault r va access off;
+    byte = λ {m} {n} r va access on. h.byte r va access on;
+    reached = λ {m} {n} r va access on. h.reached r va access on;
+    enough = λ {m} {n} r va access on. h.enough r va access on;
+    stays = λ {m} {n} r va access on. h.stays r va access on;
+  }
+
+  pub same_numbers : (regs : Regs) (gates : Gates) {m : M} {n : N} → R m n → SameNumbers no_fewer (step_of t regs m gates) (step_of u regs n gates)
+  same_numbers regs gates r = elim (fewer_numbers no_fewer regs gates r) [
+    | inl same ↦ same
+    | inr stop ↦ let d = stop.denied in let e : true ≡ false = sym d.allowed ∙ h.allowed d.related d.va d.access ∙ d.refused in absurd cc
+  ]
 
 -- ---- what is written
 
@@ -244,3 +369,17 @@ module _ {M N : Type 0} {t : Memory M} {u : Memory N} {R : M → N → Type 0} {
       let s = same_numbers reading regs gates r in
       let w = store_all s.numbers (record { memory = s.related; stays = refl }) s.writable in
       record { regs = s.regs; memory = rw (s.first_new, s.second_new) w.memory; event = s.event }
+
+-- What is asked of reading may be asked of fewer memories than what is asked of writing.
+module _ {M N : Type 0} {t : Memory M} {u : Memory N} {R S : M → N → Type 0} {rights : M → Rights} (reading : AllowsFewer t u R rights)
+    (writing : AgreesWriting t u S rights) (both : (m : M) (n : N) → R m n → S m n) where
+  -- A step over a table that may refuse what another allows: the same comes of it as over the other, with the same registers
+  -- and related memories, or it is stopped by such a refusal.
+  pub fewer_step : (regs : Regs) (gates : Gates) {m : M} {n : N} → R m n →
+      SameStep S (step_of t regs m gates) (step_of u regs n gates) ⊎ IsStopped t u R regs m (step_of t regs m gates)
+  fewer_step regs gates r = elim (fewer_numbers reading regs gates r) [
+    | inl s ↦
+        let w = store_all writing s.numbers (record { memory = both s.first s.second s.related; stays = refl }) s.writable in
+        inl (record { regs = s.regs; memory = rw (s.first_new, s.second_new) w.memory; event = s.event })
+    | inr stop ↦ inr stop
+  ]

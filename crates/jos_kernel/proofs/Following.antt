@@ -1,7 +1,9 @@
 -- What comes of an instruction is what its system call or its trap has done.
 use Rattle.std.proofs.Common.{true, ◌≡◌, ◌≢◌, ◌==◌, ℕ, false, List, [], length, Option, Some, None, Result, Ok, Err}
 use Rattle.std.proofs.Common.{refl, sym, ap, subst, ◌∙◌, arith}
+use Rattle.std.specs.Prelude.{◌&&◌, is_some}
 use Rattle.std.proofs.lemmas.Bool.Decides.{nat_tests}
+use Rattle.std.proofs.Math.Bool.{and-false}
 use Rattle.std.proofs.lemmas.List.{append-nil}
 use Rattle.jos_host.specs.declared.host.Failed.{Failed}
 use Rattle.jos_host.specs.Frames.{Around, from_to}
@@ -20,7 +22,7 @@ use Rattle.jos_kernel.specs.Machine.{Follows}
 use Rattle.jos_kernel.specs.declared.machine.Followed.{Followed}
 use Rattle.jos_kernel.specs.declared.trace.TrapLine.{TrapLine}
 use Rattle.jos_base.proofs.Maps.{upd-at}
-use Rattle.jos_kernel.specs.Steps.{EnvStep, trapped, after_call, after_event, after_trap}
+use Rattle.jos_kernel.specs.Steps.{EnvStep, trapped, after_call, after_event, after_trap, is_handed}
 
 -- ---- what is done, and what a step leaves
 
@@ -69,6 +71,16 @@ pub trap_line : (s : KernelState) (n trap error va ip : ℕ) (told : Line) → t
 trap_line s n trap error va ip told ne is =
     let other : (trap == T_PGFLT) ≡ false = grind (arith, nat_tests) in
     rw (other, is) refl
+
+-- where no handler goes on, the environment is ended
+pub fault_unhanded : (s : KernelState) (n trap error va : ℕ) → handled s n (record { va = va; error = error }) ≡ None →
+    is_handed s n trap error va ≡ false
+fault_unhanded s n trap error va none = (λ i. (trap == T_PGFLT) && is_some (none i)) ∙ and-false (trap == T_PGFLT)
+
+pub trap_unhanded : (s : KernelState) (n trap error va : ℕ) → trap ≢ T_PGFLT → is_handed s n trap error va ≡ false
+trap_unhanded s n trap error va ne =
+    let other : (trap == T_PGFLT) ≡ false = grind (arith, nat_tests) in
+    rw other refl
 
 -- the registers that were put into a slot stand there
 pub registers_there : (s t : KernelState) (n : ℕ) (regs : Regs) → s ≡ with_registers t n regs → (slot_at s n).registers ≡ regs

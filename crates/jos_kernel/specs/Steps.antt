@@ -1,10 +1,10 @@
 -- One step of an environment: an instruction with the system call or the trap that it raises.
 -- (MIT 6.828, kern/trap.c, and inc/trap.h for the gates.)
-use Rattle.std.specs.Prelude.{ℕ, ◌==◌, List, [], Option, Some, None, if◌then◌else◌}
+use Rattle.std.specs.Prelude.{ℕ, ◌==◌, ◌&&◌, Bool, List, [], is_some, Option, Some, None, if◌then◌else◌}
 use Rattle.jos_base.specs.declared.line.Line.TheVariants as line
 use Rattle.jos_base.specs.declared.numbers.TheConstants.{T_BRKPT, T_PGFLT, T_SYSCALL}
 use Rattle.jos_base.specs.KernelState.{KernelState, slot_at, with_registers}
-use Rattle.jos_base.specs.SystemCalls.{Did, Trapped, system_call, deliver_fault, killed, trapped_by}
+use Rattle.jos_base.specs.SystemCalls.{Did, Trapped, system_call, handled, deliver_fault, killed, trapped_by}
 use Rattle.jos_cpu.specs.declared.events.Event.{Event}
 use Rattle.jos_cpu.specs.declared.events.Event.TheVariants.{Next, Soft, Raised}
 use Rattle.jos_cpu.specs.declared.events.Gates.TheVariants.{Exo}
@@ -34,6 +34,10 @@ after_trap s n trap error va ip =
       written = done.written;
       trap = Some (record { id = (slot_at s n).id; trap = trap; error = error; va = va; ip = ip });
     }
+
+-- It is a page fault with which the environment's handler goes on, so that nobody is ended by it.
+abbrev pub is_handed : KernelState → ℕ → ℕ → ℕ → ℕ → Bool
+is_handed s n trap error va = (trap == T_PGFLT) && is_some (handled s n (record { va = va; error = error }))
 
 -- After an instruction of the environment in slot n, whose registers stand in its slot. A trap leaves EIP at the
 -- instruction; the breakpoint is told for the address after it.

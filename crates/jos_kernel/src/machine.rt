@@ -1,6 +1,6 @@
 //! The machine: the system with the console's input, and the memory of the environment that runs.
 
-ghost use Rattle.std.specs.Prelude.{◌≡◌, ◌==◌, ◌<◌, ◌≤◌, ◌-◌, ◌^◌, Bool, None, Some, Ok, Err, IfOk, IfErr, OnOk, OnErr, is_ok, true, not, length};
+ghost use Rattle.std.specs.Prelude.{◌≡◌, ◌==◌, ◌<◌, ◌≤◌, ◌-◌, ◌^◌, Bool, None, Some, Ok, Err, IfOk, IfErr, OnOk, OnErr, is_ok, true, false, not, length};
 ghost use Rattle.std.specs.Option.{ForSome};
 ghost use Rattle.std.specs.Result.{result_err};
 ghost use Rattle.jos_host.specs.Told.{HasCause};
@@ -16,7 +16,7 @@ ghost use Rattle.jos_envs.specs.Table.{any_live};
 ghost use Rattle.jos_sys.specs.System.{state_of, left_of, Keeps, Does, IsFaulted, in_use};
 ghost use Rattle.jos_kernel.specs.Machine.{kernel_state, loaded, running_of, KnowsCode, Follows, IsHanded};
 ghost use Rattle.jos_kernel.specs.Running.{memory_inside, unloaded};
-ghost use Rattle.jos_kernel.specs.Steps.{after_trap, after_event};
+ghost use Rattle.jos_kernel.specs.Steps.{after_trap, after_event, is_handed};
 ghost use Rattle.jos_kernel.specs.ExoRun.{current, next_slot};
 
 use crate::fence::Fence;
@@ -463,6 +463,7 @@ impl<F: Fence> Machine<F> {
     ) -> Result<Followed, Failed>
         requires { is_live (slot_at (kernel_state self.old) slot) ≡ true }
         ensures told { Follows result (after_trap (kernel_state self.old) slot trap error va ip) (kernel_state self.new) (around H.console host.old host.new) }
+        ensures ended { OnErr result (is_handed (kernel_state self.old) slot trap error va ≡ false) }
         ensures small { IfOk result (λ followed. followed.written ≤ CPUTS_MAX) }
         ensures rest { Unchanged H.files H.input H.asked H.notes host.old host.new }
         ensures cause { HasCause (H.faults host.old) (H.faults host.new) result }

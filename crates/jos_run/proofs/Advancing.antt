@@ -22,7 +22,10 @@ use Rattle.lib_os.specs.declared.service.Service.TheVariants as service
 use Rattle.lib_os.specs.AbstractState.{AbstractState, Born}
 use Rattle.lib_os.specs.LibrarySteps.{KeepsStanding, NothingRefused, KeepsTurn, MayGiveUp}
 use Rattle.lib_os.specs.Places.{place_of}
-use Rattle.lib_os.specs.StandsFor.{StandsFor, StandsAt, StandsAtStep, Names, EntryRow, rows_of, IsStatusFor, WaitsOrHas, waits, has}
+use Rattle.lib_os.specs.LibraryPages.{View}
+use Rattle.lib_os.specs.StandsInHandler.{CopiesOrEnds, copies, ends}
+use Rattle.lib_os.specs.Rows.{Names}
+use Rattle.lib_os.specs.StandsFor.{StandsFor, StandsAt, StandsAtStep, IsStatusFor, WaitsOrHas, waits, has, view_of}
 use Rattle.lib_os.proofs.SlotsStand.{born_at}
 use Rattle.jos_run.specs.AbstractTurns.{turn_begun, may_end}
 use Rattle.jos_run.specs.LibraryRuns.{IsBetween, IsInTurn, visible_steps}
@@ -42,28 +45,33 @@ awake_running Runnable false h runs = refl
 awake_running NotRunnable true h runs = absurd (let contradiction : false ≡ true = runs in cc)
 awake_running _ _ h runs = absurd h
 
-silent_step : (row : EntryRow) (k : Slot) (b : Born) (s : Service) (stands : Step) → StandsAtStep row k b s stands → b.blocked ≡ false →
+silent_step : (v : View) (k : Slot) (b : Born) (s : Service) (stands : Step) → StandsAtStep v k b s stands → b.blocked ≡ false →
     k.rendezvous.receiving ≡ false
-silent_step row k b s step.Entered h awake = h.silent
-silent_step row k b (service.Wait id) (step.Trying perm) h awake = h.is_in.silent
-silent_step row k b (service.Wait id) (step.Pausing perm) h awake = h.is_in.silent
-silent_step row k b (service.Send id value va) (step.Trying perm) h awake = h.is_in.silent
-silent_step row k b (service.Send id value va) (step.Pausing perm) h awake = h.is_in.silent
-silent_step row k b (service.Send id value va) step.ReadingRegion h awake = h.is_in.silent
-silent_step row k b (service.Send id value va) step.ReadingEntry h awake = h.0.is_in.silent
-silent_step row k b (service.Receive va from) (step.Receiving id) h awake = h.is_in.silent
-silent_step row k b (service.Receive va from) (step.ReadingValue id) h awake = by_come h.1
+silent_step v k b s step.Entered h awake = h.silent
+silent_step v k b (service.Wait id) (step.Trying perm) h awake = h.is_in.silent
+silent_step v k b (service.Wait id) (step.Pausing perm) h awake = h.is_in.silent
+silent_step v k b (service.Send id value va) (step.Trying perm) h awake = h.is_in.silent
+silent_step v k b (service.Send id value va) (step.Pausing perm) h awake = h.is_in.silent
+silent_step v k b (service.Send id value va) step.ReadingRegion h awake = h.is_in.silent
+silent_step v k b (service.Send id value va) step.ReadingEntry h awake = h.0.is_in.silent
+silent_step v k b (service.Receive va from) (step.Receiving id) h awake = h.is_in.silent
+silent_step v k b (service.Receive va from) (step.ReadingValue id) h awake = by_come h.1
   where
     by_come : WaitsOrHas k b va from → k.rendezvous.receiving ≡ false
     by_come (waits so) = absurd (let contradiction : true ≡ false = sym so.blocked ∙ awake in cc)
     by_come (has so) = so.silent
-silent_step row k b (service.Receive va from) (step.ReadingSender id value) h awake = h.2.silent
-silent_step row k b (service.Receive va from) (step.ReadingPerm id value sender) h awake = h.3.silent
-silent_step row k b _ _ h awake = absurd h
+silent_step v k b (service.Receive va from) (step.ReadingSender id value) h awake = h.2.silent
+silent_step v k b (service.Receive va from) (step.ReadingPerm id value sender) h awake = h.3.silent
+silent_step v k b _ _ h awake = absurd h
 
-silent_at : (row : EntryRow) (k : Slot) (b : Born) (p : Place) → StandsAt p row k b → b.blocked ≡ false → k.rendezvous.receiving ≡ false
-silent_at row k b place.Guest h awake = h.silent
-silent_at row k b (place.InService s stands) h awake = silent_step row k b s stands h awake
+silent_at : (v : View) (k : Slot) (b : Born) (p : Place) → StandsAt p v k b → b.blocked ≡ false → k.rendezvous.receiving ≡ false
+silent_at v k b place.Guest h awake = h.silent
+silent_at v k b (place.InService s stands) h awake = silent_step v k b s stands h awake
+silent_at v k b (place.InHandler stands) h awake = by_way h.way
+  where
+    by_way : CopiesOrEnds stands v k b h.fault h.regs → k.rendezvous.receiving ≡ false
+    by_way (copies way) = way.guest.silent
+    by_way (ends way) = way.silent
 
 -- it waits for no message
 pub running_silent : {names : Names} {s : KernelState} {a : AbstractState} → StandsFor names s a → (n : ℕ) →
@@ -71,7 +79,7 @@ pub running_silent : {names : Names} {s : KernelState} {a : AbstractState} → S
 running_silent {s = s} h n runs =
     let who = running_born h n runs in
     let own = born_at h n who.0 who.1 in
-    silent_at (rows_of s.spaces (slot_at s n).directory) (slot_at s n) who.0 (place_of (slot_at s n)) own.at
+    silent_at (view_of s.spaces (slot_at s n).directory) (slot_at s n) who.0 (place_of (slot_at s n)) own.at
     (awake_running (slot_at s n).status who.0.blocked own.runs runs)
 
 -- ---- a step

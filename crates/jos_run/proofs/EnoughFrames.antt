@@ -1,50 +1,52 @@
 -- In the frames that it wants, a program is booted: a page takes a frame, and one more where its region has no page yet.
 use Rattle.std.proofs.Common.{◌≡◌, ◌∙◌, ◌+◌, ◌-◌, ◌*◌, ◌/◌, ◌<◌, ◌≤◌, ◌&&◌, ℕ, zero, suc, not, Bool, true, false, List, [], ◌∷◌}
 use Rattle.std.proofs.Common.{Option, Some, None}
-use Rattle.std.proofs.Common.{length, refl, sym, ap, arith, if◌then◌else◌}
+use Rattle.std.proofs.Common.{length, refl, ap, arith, if◌then◌else◌}
 use Rattle.std.specs.Prelude.{is_some, option_and_then}
-use Rattle.std.specs.Option.{option_map}
+use Rattle.std.specs.List.{All}
 use Rattle.jos_base.specs.Counting.{frame_limit}
-use Rattle.jos_base.specs.Environments.{bit_of, no_extra}
+use Rattle.jos_base.specs.Environments.{bit_of, is_live}
 use Rattle.jos_base.specs.KernelState.{KernelState, slot_at, with_spaces}
 use Rattle.jos_base.specs.SpacesState.{SpacesState, allocated, reserved_frames, rising, with_page_bytes}
 use Rattle.jos_base.specs.Words.{upd}
 use Rattle.jos_elf.specs.declared.image.Segment.{Segment}
-use Rattle.jos_elf.specs.Parsed.{Layout}
-use Rattle.jos_kernel.specs.Boot.{any_touches, any_writes, filled, page_bytes, page_loaded, pages_loaded, perm_of, stack_page}
+use Rattle.jos_elf.specs.Parsed.{Layout, Lies}
+use Rattle.jos_kernel.specs.Boot.{any_touches, any_writes, filled, only_state, page_bytes, page_loaded, pages_loaded, perm_of}
+use Rattle.jos_kernel.specs.Boot.{stack_page}
+use Rattle.jos_kernel.proofs.ImagesRead.{read_lie}
 use Rattle.lib_os.specs.AbstractMemory.{has_page_in}
 use Rattle.lib_os.specs.AbstractState.{Page, own}
-use Rattle.lib_os.proofs.SlotsStand.{born_at}
 use Rattle.lib_spawn.specs.StackPage.{stack_contents, stack_size}
 use Rattle.lib_spawn.proofs.StackPages.{fits}
 use Rattle.jos_run.specs.Begun.{ProgramsBoot}
-use Rattle.jos_run.specs.Boot.{boot_frames, program_loaded, stack_segment, touches_region}
-use Rattle.jos_run.specs.Start.{program_with}
+use Rattle.jos_run.specs.Boot.{boot_frames, booted_within, handler_page, handler_stack_loaded, program_loaded, space_loaded, stack_segment}
+use Rattle.jos_run.specs.Boot.{touches_region}
 use Rattle.jos_run.proofs.Booted.{booted-enough}
-use Rattle.jos_run.proofs.FirstSpaces.{has_frames, spaces_two}
+use Rattle.jos_run.proofs.BootedPages.{no_row}
+use Rattle.jos_run.proofs.FirstState.{base, base_stage, booted_with, space_small}
+use Rattle.jos_run.proofs.FirstSpaces.{HasFrames, has_frames, spaces_two}
 use Rattle.jos_run.proofs.FramesTaken.{allocated_some, allocated_spends}
-use Rattle.jos_run.proofs.PagesBegin.{Stage, the_names, no_entry, memory_below, below-at, below-none, touched_next, untouched_next}
-use Rattle.jos_run.proofs.PagesBegin.{pages_stage, limit_small}
+use Rattle.jos_run.proofs.PagesBegin.{Stage, no_entry, memory_below, below-at, below-none, touched_next, untouched_next}
+use Rattle.jos_run.proofs.PagesBegin.{pages_stage, limit_small, no_stack}
 use Rattle.jos_run.proofs.PagesFilled.{has_page-put}
 use Rattle.jos_run.proofs.StackLoaded.{fits-some, stack-touched}
-use Rattle.jos_run.proofs.StartStands.{base, base_stage, booted_is, space_small}
 use Rattle.jos_run.proofs.Touched.{counted, counted-next, counted-none, counted-grows, counted-same, counted-drop}
 use Rattle.jos_base.proofs.Maps.{upd-at, upd-other}
 use Rattle.fs_layout.proofs.Below.{some_below-at, some_below-none}
 
-module _ (image : Layout) (words : List (List ℕ)) (input : List ℕ) (frames : ℕ) (kernel : KernelState)
-    (at_guest : (slot_at kernel 1).extra ≡ no_extra) (small : (slot_at kernel 1).directory < frame_limit) (file : List ℕ) where
+module _ (frames : ℕ) (kernel : KernelState) (live : is_live (slot_at kernel 1) ≡ true) (small : (slot_at kernel 1).directory < frame_limit)
+    (image : Layout) (words : List (List ℕ)) (file : List ℕ) where
   abbrev d : ℕ
   d = (slot_at kernel 1).directory
 
   abbrev At : (ℕ → Option Page) → SpacesState → Type 0
-  At = Stage image words input frames kernel at_guest small
+  At = Stage frames kernel live small
 
   abbrev segments : List Segment
   segments = image.segments
 
   abbrev below : ℕ → ℕ → Option Page
-  below = memory_below image words input frames kernel at_guest small file
+  below = memory_below frames kernel live small image words file
 
   abbrev touched : ℕ → Bool
   touched k = any_touches k segments
@@ -56,9 +58,9 @@ module _ (image : Layout) (words : List (List ℕ)) (input : List ℕ) (frames :
   abbrev wanted : ℕ → ℕ
   wanted n = counted (wants_by (below n)) 832
 
-  -- as many frames are left as the pages from a number on and those regions want, and two
+  -- as many frames are left as the pages from a number on and those regions want, and four
   record Suffices (n : ℕ) (t : SpacesState) : Type 0 where
-    enough : counted touched 851968 + wanted n + 2 ≤ length t.free + counted touched n
+    enough : counted touched 851968 + wanted n + 4 ≤ length t.free + counted touched n
 
   bits : (n : ℕ) → touches_region segments n ≡ true → (b : Bool) → bit_of (touches_region segments n && not b) ≡ bit_of (not b)
   bits n is b = ap (λ (c : Bool). bit_of (c && not b)) is
@@ -77,7 +79,7 @@ module _ (image : Layout) (words : List (List ℕ)) (input : List ℕ) (frames :
       let page : Page = own (page_bytes segments file n) (any_writes n segments) in
       let memory : ℕ → Option Page = upd (below n) n (Some page) in
       let after : wanted (suc n) ≡ counted (wants_by memory) 832 =
-      ap (λ (m : ℕ → Option Page). counted (wants_by m) 832) (touched_next image words input frames kernel at_guest small file n is) in
+      ap (λ (m : ℕ → Option Page). counted (wants_by m) 832) (touched_next frames kernel live small image words file n is) in
       let here : has_page_in memory (n / 1024) ≡ true =
       has_page-put (below n) n page (n / 1024) ∙ upd-at (has_page_in (below n)) (n / 1024) true in
       let none : bit_of (wants_by memory (n / 1024)) ≡ 0 = bits (n / 1024) (region_is n is) (has_page_in memory (n / 1024))
@@ -106,7 +108,7 @@ module _ (image : Layout) (words : List (List ℕ)) (input : List ℕ) (frames :
               let next = counted-next touched n in
               let suc_is : counted touched (suc n) ≡ counted touched (n + 1) = ap (counted touched) (omega arith) in
               let same : wanted (suc n) ≡ wanted n =
-              ap (λ (m : ℕ → Option Page). counted (wants_by m) 832) (untouched_next image words input frames kernel at_guest small
+              ap (λ (m : ℕ → Option Page). counted (wants_by m) 832) (untouched_next frames kernel live small image words
               file n is) in
               let none : bit_of (touched n) ≡ 0 = ap bit_of is in
               let before = s.enough in
@@ -120,12 +122,10 @@ module _ (image : Layout) (words : List (List ℕ)) (input : List ℕ) (frames :
           let grows = counted-grows touched (suc n) 851968 (omega arith) in
           let before = s.enough in
           let some = allocated_some t d n (perm_of (any_writes n segments)) (omega (arith, next, suc_is, one, grows, before)) in
-          let own_memory = born_at h.stands 1 (program_with image words (below n)) refl in
-          let none = no_entry the_names t d n (sym (own_memory.memory n) ∙ below-at image words input frames kernel at_guest small
-          file n) in
+          let none = no_entry t d n (no_row h.has n (below-at frames kernel live small image words file n)) in
           let spent = allocated_spends t some.0.1 d n (perm_of (any_writes n segments)) some.0.0 none some.1 in
           let same : bit_of (not (has_page_in (below n) (n / 1024))) ≡ bit_of (not (is_some (t.regions d (n / 1024)))) =
-          ap (λ (b : Bool). bit_of (not b)) (own_memory.regions (n / 1024)) in
+          ap (λ (b : Bool). bit_of (not b)) (h.has.tables (n / 1024)) in
           let less = wanted_next n lt is in (
             with_page_bytes some.0.1 some.0.0 (page_bytes segments file n),
             ap (λ (b : Bool). if b then filled (page_bytes segments file n) (allocated t d n (perm_of (any_writes n segments)))
@@ -139,42 +139,77 @@ module _ (image : Layout) (words : List (List ℕ)) (input : List ℕ) (frames :
   pages_suffice first h s zero le = (first, refl, s)
   pages_suffice first h s (suc n) le =
       let before = pages_suffice first h s n (omega arith) in
-      let stage = pages_stage image words input frames kernel at_guest small file first h n (let lim = limit_small in
+      let stage = pages_stage frames kernel live small image words file first h n (let lim = limit_small in
       omega (arith, lim)) before.0 before.1 in
       let next = page_suffices n before.0 (omega arith) stage before.2 in
       (next.0, ap (λ (o : Option SpacesState). option_and_then (page_loaded segments file d n) o) before.1 ∙ next.1, next.2)
 
-  -- all pages, and that of the stack
-  program_suffices : 0 < stack_size words → stack_size words ≤ 4096 → (first : SpacesState) → At (λ p. None) first → Suffices 0 first →
-      (u : SpacesState) × (program_loaded segments file words d first ≡ Some u)
-  unfolding program_loaded
-  program_suffices some most first h s =
-      let loaded = pages_suffice first h s 851968 (omega arith) in
-      let t = loaded.0 in
-      let last = allocated_some t d stack_page (perm_of (any_writes stack_page (stack_segment words ∷ [])))
-      (let enough = loaded.2.enough in omega (arith, enough)) in
+  -- the page of the stack, and two frames are left
+  abbrev StackLoaded : SpacesState → Type 0
+  StackLoaded t = (u : SpacesState)
+      × (page_loaded (stack_segment words ∷ []) (stack_contents words) d stack_page t ≡ Some u) × (2 ≤ length u.free)
+
+  stack_suffices : 0 < stack_size words → stack_size words ≤ 4096 → (t : SpacesState) → t.entries d stack_page ≡ None →
+      4 ≤ length t.free → StackLoaded t
+  stack_suffices some most t none enough =
+      let bits = perm_of (any_writes stack_page (stack_segment words ∷ [])) in
+      let one = allocated_some t d stack_page bits (omega (arith, enough)) in
+      let spent = allocated_spends t one.0.1 d stack_page bits one.0.0 none one.1 in
+      let table = bit_small (not (is_some (t.regions d (stack_page / 1024)))) in
       let bytes : List ℕ = page_bytes (stack_segment words ∷ []) (stack_contents words) stack_page in (
-        with_page_bytes last.0.1 last.0.0 bytes,
-        ap (λ (o : Option SpacesState). option_and_then (page_loaded (stack_segment words ∷ []) (stack_contents words) d stack_page) o) loaded.1
-            ∙ ap (λ (b : Bool). if b then filled bytes
-            (allocated t d stack_page (perm_of (any_writes stack_page (stack_segment words ∷ [])))) else Some t)
-            (stack-touched words some most)
-            ∙ ap (filled bytes) last.1,
+        with_page_bytes one.0.1 one.0.0 bytes,
+        ap (λ (b : Bool). if b then filled bytes (allocated t d stack_page bits) else Some t) (stack-touched words some most)
+            ∙ ap (filled bytes) one.1,
+        omega (arith, enough, spent, table),
       )
+    where
+      bit_small : (b : Bool) → bit_of b ≤ 1
+      bit_small true = omega arith
+      bit_small false = omega arith
+
+  -- all pages of the image, and that of the stack
+  program_suffices : All (Lies (length file)) image.segments → 0 < stack_size words → stack_size words ≤ 4096 → (first : SpacesState) →
+      At (λ p. None) first → Suffices 0 first →
+      (u : SpacesState) × (program_loaded segments file words d first ≡ Some u) × (2 ≤ length u.free)
+  unfolding program_loaded
+  program_suffices lie some most first h s =
+      let loaded = pages_suffice first h s 851968 (omega arith) in
+      let stage = pages_stage frames kernel live small image words file first h 851968 limit_small loaded.0 loaded.1 in
+      let none = no_entry loaded.0 d stack_page
+      (no_row stage.has stack_page (no_stack frames kernel live small image words file lie some most)) in
+      let last = stack_suffices some most loaded.0 none (let enough = loaded.2.enough in omega (arith, enough)) in (
+        last.0,
+        ap (λ (o : Option SpacesState). option_and_then (page_loaded (stack_segment words ∷ []) (stack_contents words) d stack_page) o)
+            loaded.1 ∙ last.1,
+        last.2,
+      )
+
+  -- and that of the handler's stack
+  handler_suffices : (t : SpacesState) → 2 ≤ length t.free → (u : SpacesState) × (handler_stack_loaded d t ≡ Some u)
+  unfolding handler_stack_loaded
+  handler_suffices t enough =
+      let last = allocated_some t d handler_page (perm_of true) enough in (last.0.1, ap only_state last.1)
+
+  space_suffices : All (Lies (length file)) image.segments → 0 < stack_size words → stack_size words ≤ 4096 → (first : SpacesState) →
+      At (λ p. None) first → Suffices 0 first → (u : SpacesState) × (space_loaded segments file words d first ≡ Some u)
+  unfolding space_loaded
+  space_suffices lie some most first h s =
+      let loaded = program_suffices lie some most first h s in
+      let last = handler_suffices loaded.0 loaded.2 in (last.0, ap (option_and_then (handler_stack_loaded d)) loaded.1 ∙ last.1)
 
   -- at the beginning every region that is touched wants a table
   wanted_first : wanted 0 ≡ counted (touches_region segments) 832
   wanted_first = counted-same (wants_by (below 0)) (touches_region segments) 832
       (λ r lt. ap (λ (b : Bool). touches_region segments r && not b)
       (some_below-none (λ p. is_some (below 0 (r * 1024 + p))) 1024
-      (λ p low. ap is_some (below-none image words input frames kernel at_guest small file (r * 1024 + p))))
+      (λ p low. ap is_some (below-none frames kernel live small image words file (r * 1024 + p))))
       ∙ and_true (touches_region segments r))
     where
       and_true : (b : Bool) → (b && true) ≡ b
       and_true true = refl
       and_true false = refl
 
-  suffices_first : (first : SpacesState) → counted touched 851968 + counted (touches_region segments) 832 + 2 ≤ length first.free →
+  suffices_first : (first : SpacesState) → counted touched 851968 + counted (touches_region segments) 832 + 4 ≤ length first.free →
       Suffices 0 first
   suffices_first first le = record {
     enough = let none = counted-none touched in let regions = wanted_first in omega (arith, le, none, regions);
@@ -185,6 +220,16 @@ unfolding rising
 length-rising first zero = refl
 length-rising first (suc n) = ap suc (length-rising (first + 1) n)
 
+-- where its space is loaded, the program is booted
+booted_enough : (image : Layout) (file : List ℕ) (words : List (List ℕ)) (frames : ℕ) (input : List ℕ) (first n : ℕ)
+    (has : HasFrames frames first n) → boot_frames image ≤ frames → (u : SpacesState) →
+    space_loaded image.segments file words (first + 1) (spaces_two frames first n has) ≡ Some u →
+    (s : KernelState) × (booted_within image file words frames input ≡ Some s)
+booted_enough image file words frames input first n has least u is = (
+  with_spaces (base image words input frames first n has) u,
+  booted-enough image file words frames input least ∙ booted_with image words input frames first n has file u is,
+)
+
 pub programs_boot : ProgramsBoot
 unfolding boot_frames
 programs_boot image file words frames input read fit least most =
@@ -193,13 +238,10 @@ programs_boot image file words frames input read fit least most =
     let first = reserved_frames frames in
     let n = frames - reserved_frames frames - 2 in
     let left = length-rising (first + 1 + 1) n in
-    let kernel = base image words input frames first n has h.size in
-    let small = space_small image words input frames first n has h.size in
-    let loaded = program_suffices image words input frames kernel refl small file (fits-some words h) h.size
+    let kernel = base image words input frames first n has in
+    let small = space_small image words input frames first n has in
+    let loaded = space_suffices frames kernel refl small image words file (read_lie file image read) (fits-some words h) h.size
     (spaces_two frames first n has)
-    (base_stage image words input frames first n has h.size)
-    (suffices_first image words input frames kernel refl small file (spaces_two frames first n has) (omega (arith, left))) in (
-      with_spaces kernel loaded.0,
-      booted-enough image file words frames input least ∙ booted_is image words input frames first n has h.size file
-          ∙ ap (option_map (with_spaces kernel)) loaded.1,
-    )
+    (base_stage image words input frames first n has)
+    (suffices_first frames kernel refl small image words file (spaces_two frames first n has) (omega (arith, left))) in
+    booted_enough image file words frames input first n has least loaded.0 loaded.1

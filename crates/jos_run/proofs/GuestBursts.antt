@@ -1,7 +1,7 @@
 -- A burst of the processor inside the fence, with the registers put back into the slot behind it, is as many instructions of
 -- the program: those that go on, and the last, with what comes of it.
-use Rattle.std.proofs.Common.{◌≡◌, ◌∙◌, ◌==◌, ℕ, zero, suc, Bool, true, false, Some, refl, sym, ap, subst, if◌then◌else◌}
-use Rattle.std.specs.Prelude.{not}
+use Rattle.std.proofs.Common.{◌≡◌, ◌∙◌, ◌==◌, ℕ, zero, suc, Bool, true, false, List, Some, refl, sym, ap, subst, if◌then◌else◌}
+use Rattle.std.specs.Prelude.{◌-◌, not}
 use Rattle.std.proofs.lemmas.Bool.{false≢true}
 use Rattle.jos_base.specs.declared.registers.Regs.{Regs}
 use Rattle.jos_base.specs.Environments.{Slot, is_live}
@@ -11,7 +11,7 @@ use Rattle.jos_cpu.specs.declared.events.Event.{Event}
 use Rattle.jos_cpu.specs.declared.events.Event.TheVariants.{Next, Soft, Raised}
 use Rattle.jos_cpu.specs.declared.events.Gates.TheVariants.{Run}
 use Rattle.jos_cpu.specs.Bursts.{ProcessorState, StepsTo, StepsOn, IsBurst}
-use Rattle.jos_cpu.specs.Steps.{step_of}
+use Rattle.jos_cpu.specs.Steps.{Stepped, step_of}
 use Rattle.jos_cpu.proofs.Agreement.{through}
 use Rattle.jos_kernel.specs.Running.{Running, memory_inside, loaded_in}
 use Rattle.jos_kernel.proofs.EnvSteps.{with_registers_in, registers_twice, step_with_registers}
@@ -19,11 +19,13 @@ use Rattle.jos_kernel.proofs.KeepsRest.{KeepsRest, directory_is, slot_is, steps_
 use Rattle.lib_os.specs.declared.place.Place.{Place}
 use Rattle.lib_os.specs.declared.place.Place.TheVariants as place
 use Rattle.lib_os.specs.Fence.{is_inside, is_resident}
-use Rattle.lib_os.specs.Places.{place_in_words, place_of, service_word}
+use Rattle.lib_os.specs.Places.{handler_step_in, is_handlers, place_in_words, place_of, service_word, step_in}
+use Rattle.lib_os.specs.Services.{service_of}
 use Rattle.lib_os.proofs.Slots as slots
 use Rattle.jos_run.specs.FencedMemory.{fenced_memory, may_stand}
 use Rattle.jos_run.specs.GuestSteps.{quietly, after_event, after_instruction, guest_instruction}
 use Rattle.jos_run.specs.StepsAtOnce.{GuestGoesOn}
+use Rattle.jos_run.proofs.GuestStands.{instruction_end, instruction_step, not_handlers}
 use Rattle.jos_run.proofs.StepsAtOnce.{IsGuestBurst}
 
 -- ---- the program's steps
@@ -31,6 +33,36 @@ use Rattle.jos_run.proofs.StepsAtOnce.{IsGuestBurst}
 abbrev is_program : Place → Bool
 is_program place.Guest = true
 is_program _ = false
+
+-- where it stands at its program, it keeps no words
+words_are_none : (regs : Regs) (words : List ℕ) → place_in_words regs words ≡ place.Guest → (service_word words == 0) ≡ true
+unfolding place_in_words
+words_are_none regs words is =
+    by_tests (is_handlers regs.esp) (service_word words == 0) (place.InHandler (handler_step_in regs))
+    (place.InService (service_of (record regs { eax = service_word words - 1 })) (step_in words)) refl refl is
+  where
+    by_tests : (esp none : Bool) (p q : Place) → is_program p ≡ false → is_program q ≡ false →
+        (if esp then p else if none then place.Guest else q) ≡ place.Guest → none ≡ true
+    by_tests true none p q no_p no_q is = absurd (false≢true (sym no_p ∙ ap is_program is))
+    by_tests false true p q no_p no_q is = refl
+    by_tests false false p q no_p no_q is = absurd (false≢true (sym no_q ∙ ap is_program is))
+
+none_are_guests : (regs : Regs) (words : List ℕ) → is_handlers regs.esp ≡ false → (service_word words == 0) ≡ true →
+    place_in_words regs words ≡ place.Guest
+unfolding place_in_words
+none_are_guests regs words outside none = rw (outside, none) refl
+
+free_stack : (esp : ℕ) → may_stand esp ≡ true → is_resident esp ≡ false
+free_stack esp may = by_test (is_resident esp) may
+  where
+    by_test : (c : Bool) → not c ≡ true → c ≡ false
+    by_test true is = absurd (false≢true is)
+    by_test false is = refl
+
+-- where so many of its instructions go on, it stands at its program behind them
+guest_reached : (n k : ℕ) (s t : KernelState) → GuestGoesOn n k s t → place_of (slot_at s n) ≡ place.Guest → place_of (slot_at t n) ≡ place.Guest
+guest_reached n zero s t same guest = (λ i. place_of (slot_at (same i) n)) ∙ guest
+guest_reached n (suc k) s t g guest = guest_reached n k g.0 t g.3 g.2
 
 module _ (n : ℕ) where
   -- the kernel's state with the registers in the slot
@@ -46,29 +78,40 @@ module _ (n : ℕ) where
   abbrev IsAtProgram : ProcessorState Running → Type 0
   IsAtProgram m = place_of (slot_at (put_back m) n) ≡ place.Guest
 
-  -- A step of the processor, with what comes of it, is the program's.
+  -- A step of the processor is the program's instruction.
+  step_is : {event : Event} (before after : ProcessorState Running) → StepsTo (memory_inside is_inside) Run before event after → IsLoaded before →
+      instruction_step (put_back before) n
+      ≡ through (with_registers_in n before.regs) (record { regs = after.regs; memory = after.memory; event = event })
+  unfolding fenced_memory
+  step_is before after step loaded =
+      let entered = put_back before in
+      (λ i. step_of (memory_inside is_inside) (slot_back before i).registers
+      (record { state = entered; directory = Some (slot_back before i).directory }) Run)
+      ∙ (λ i. step_of (memory_inside is_inside) before.regs (record { state = entered; directory = sym loaded i }) Run)
+      ∙ step_with_registers n before.regs is_inside before.regs before.memory Run
+      ∙ (λ i. through (with_registers_in n before.regs) (step i))
+
+  end_is : {event : Event} (before after : ProcessorState Running) → StepsTo (memory_inside is_inside) Run before event after → IsLoaded before →
+      instruction_end (put_back before) n ≡ put_back after
+  end_is before after step loaded =
+      ap (λ (s : Stepped Running). with_registers s.memory.state n s.regs) (step_is before after step loaded)
+      ∙ registers_twice after.memory.state n before.regs after.regs
+
+  -- With what comes of it, it is the program's step.
   instruction_is : {event : Event} (before after : ProcessorState Running) → StepsTo (memory_inside is_inside) Run before event after → IsLoaded before →
       guest_instruction (put_back before) n ≡ after_event (put_back after) n before.regs.eip event
-  unfolding guest_instruction fenced_memory
+  unfolding guest_instruction
   instruction_is {event = event} before after step loaded =
-      let entered = put_back before in
       let ip = before.regs.eip in
-      (λ i. after_instruction n (slot_back before i).registers.eip (step_of (memory_inside is_inside) (slot_back before i).registers
-      (record { state = entered; directory = Some (slot_back before i).directory }) Run))
-      ∙ (λ i. after_instruction n ip (step_of (memory_inside is_inside) before.regs (record { state = entered; directory = sym loaded i }) Run))
-      ∙ ap (after_instruction n ip) (step_with_registers n before.regs is_inside before.regs before.memory Run)
-      ∙ (λ i. after_instruction n ip (through (with_registers_in n before.regs) (step i)))
+      (λ i. after_instruction n (slot_back before i).registers.eip (instruction_step (put_back before) n))
+      ∙ ap (after_instruction n ip) (step_is before after step loaded)
       ∙ (λ i. after_event (registers_twice after.memory.state n before.regs after.regs i) n ip event)
 
   resident_is : (m : ProcessorState Running) → is_resident (slot_at (put_back m) n).registers.esp ≡ is_resident m.regs.esp
   resident_is m = ap (λ (slot : Slot). is_resident slot.registers.esp) (slot_back m)
 
   not_resident : (m : ProcessorState Running) → may_stand m.regs.esp ≡ true → is_resident (slot_at (put_back m) n).registers.esp ≡ false
-  not_resident m may = resident_is m ∙ by_test (is_resident m.regs.esp) may
-    where
-      by_test : (c : Bool) → not c ≡ true → c ≡ false
-      by_test true is = absurd (false≢true is)
-      by_test false is = refl
+  not_resident m may = resident_is m ∙ free_stack m.regs.esp may
 
   -- one that goes on is told nothing
   goes_quietly : (m : ProcessorState Running) (ip : ℕ) → may_stand m.regs.esp ≡ true → after_event (put_back m) n ip Next ≡ quietly (put_back m)
@@ -77,17 +120,15 @@ module _ (n : ℕ) where
   loaded_still : (before after : ProcessorState Running) → KeepsRest before.memory after.memory → IsLoaded before → IsLoaded after
   loaded_still before after k loaded = directory_is k ∙ loaded ∙ (λ i. Some (sym (slot_is k n) i).directory)
 
-  -- where an environment stands at its program, it does so with any registers
-  guest_still : (before after : ProcessorState Running) → KeepsRest before.memory after.memory → IsAtProgram before → IsAtProgram after
-  unfolding place_in_words
-  guest_still before after k is =
-      (λ i. place_of (slot_back after i)) ∙ (λ i. place_in_words after.regs (slot_is k n i).extra)
-      ∙ by_word (service_word (slot_at before.memory.state n).extra == 0) _ _ refl ((λ i. place_of (sym (slot_back before) i)) ∙ is)
-    where
-      by_word : (c : Bool) (p q : Place) → is_program p ≡ false → (if c then place.Guest else p) ≡ place.Guest →
-          (if c then place.Guest else q) ≡ place.Guest
-      by_word true p q none is = refl
-      by_word false p q none is = absurd (false≢true (sym none ∙ ap is_program is))
+  -- Where an environment stands at its program, it does so with any registers, but where ESP is no program's.
+  guest_still : (before after : ProcessorState Running) → KeepsRest before.memory after.memory → may_stand after.regs.esp ≡ true → IsAtProgram before →
+      IsAtProgram after
+  guest_still before after k may is =
+      let word : (service_word (slot_at before.memory.state n).extra == 0) ≡ true =
+      words_are_none before.regs (slot_at before.memory.state n).extra ((λ i. place_of (sym (slot_back before) i)) ∙ is) in
+      (λ i. place_of (slot_back after i))
+      ∙ none_are_guests after.regs (slot_at after.memory.state n).extra (not_handlers after.regs.esp (free_stack after.regs.esp may))
+      ((λ i. service_word (slot_is k n i).extra == 0) ∙ word)
 
   pub goes_on : (k : ℕ) (before after : ProcessorState Running) → StepsOn (memory_inside is_inside) may_stand Run k before after → IsLoaded before →
       IsAtProgram before → GuestGoesOn n k (put_back before) (put_back after)
@@ -95,7 +136,7 @@ module _ (n : ℕ) where
   goes_on (suc k) before after g loaded guest =
       let next = g.0 in
       let kept = steps_keeps is_inside Run Next before next g.1 in
-      let guest_next = guest_still before next kept guest in (
+      let guest_next = guest_still before next kept g.2 guest in (
         put_back next,
         instruction_is before next g.1 loaded ∙ goes_quietly next before.regs.eip g.2,
         guest_next,
@@ -128,13 +169,16 @@ guest_burst : (n going ip : ℕ) {event : Event} (s : KernelState) (before reach
 guest_burst n going ip {event = event} s before reached after went last at begun loaded guest =
     let guest_before : IsAtProgram n before = (λ i. place_of (slot_at (sym begun i) n)) ∙ guest in
     let kept = going_keeps is_inside may_stand Run going before reached went in
+    let loaded_there = loaded_still n before reached kept loaded in
+    let all = subst (λ (x : KernelState). GuestGoesOn n going x (put_back n reached)) (sym begun)
+    (goes_on n going before reached went loaded guest_before) in
     record {
       reached = put_back n reached;
-      went = subst (λ (x : KernelState). GuestGoesOn n going x (put_back n reached)) (sym begun)
-          (goes_on n going before reached went loaded guest_before);
-      is_guest = guest_still n before reached kept guest_before;
-      last = instruction_is n reached after last (loaded_still n before reached kept loaded)
-          ∙ address_told n after reached.regs.eip ip event (λ ends. sym (at ends));
+      went = all;
+      is_guest = guest_reached n going s (put_back n reached) all guest;
+      event_is = ap (λ (s : Stepped Running). s.event) (step_is n reached after last loaded_there);
+      end_is = end_is n reached after last loaded_there;
+      last = instruction_is n reached after last loaded_there ∙ address_told n after reached.regs.eip ip event (λ ends. sym (at ends));
     }
 
 -- A burst was made: its environment is live still, and it is one of the program.

@@ -10,6 +10,7 @@ pub mod RunsKept
 pub mod TurnsTaken
 pub mod SpacesKept
 pub mod ServicesEntered
+pub mod GuestMemories
 pub mod GuestStands
 pub mod GuestUses
 pub mod GuestLeaves
@@ -21,14 +22,19 @@ pub mod Touched
 pub mod Booted
 pub mod FramesTaken
 pub mod PagesFilled
+pub mod PagesWhole
+pub mod BootedPages
 pub mod FirstSpaces
 pub mod PagesBegin
+pub mod BootedSpace
+pub mod FirstState
 pub mod StartStands
 pub mod EnoughFrames
 pub mod Refusals
 pub mod Advancing
 pub mod QuietSteps
 pub mod RunSteps
+pub mod LibraryMade
 pub mod StepsAtOnce
 pub mod GuestBursts
 pub mod StepsMade

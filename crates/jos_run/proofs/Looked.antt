@@ -1,5 +1,12 @@
 -- What is looked at in the machine's system is so in the kernel's state.
-use Rattle.std.proofs.Common.{◌≡◌, ◌∙◌, ℕ, List}
+use Rattle.std.proofs.Common.{◌≡◌, ◌∙◌, ◌/◌, ℕ, Bool, false, List, refl, ap}
+use Rattle.std.specs.Prelude.{Option, Some, None, nat_eq, bit_and}
+use Rattle.std.specs.Option.{option_map}
+use Rattle.jos_base.specs.declared.numbers.TheConstants.{PGSIZE}
+use Rattle.jos_base.specs.Reach.{Entry}
+use Rattle.jos_base.specs.Words.{page_number}
+use Rattle.lib_os.specs.LibrarySteps.{is_to_copy}
+use Rattle.lib_os.specs.Rows.{lasting, rows_of}
 use Rattle.jos_base.specs.Environments.{Environments, Slot}
 use Rattle.jos_base.specs.UserMemory.{byte_at}
 use Rattle.jos_base.specs.KernelState.{slot_at}
@@ -21,3 +28,23 @@ module _ (machine : Parts) {system : System} (is : system ≡ machine.system) wh
   byte_looked n va keeps told there =
       told ∙ (λ i. byte_at (keeps.records i) (spaces_of system) (there (left_of machine.input) i) va)
       ∙ (λ i. user_byte (state_of (is i) (left_of machine.input)) n va)
+
+-- whether a page waits to be copied, by the bits of its entry
+abbrev pub copied_by : Option ℕ → Bool
+copied_by None = false
+copied_by (Some perm) = nat_eq (bit_and (bit_and perm 0xe07) 0x800) 0x800
+
+entry_copied : (o : Option Entry) → copied_by (option_map (λ (e : Entry). e.perm) o) ≡ is_to_copy (option_map lasting o)
+entry_copied None = refl
+entry_copied (Some e) = refl
+
+module _ (machine : Parts) {system : System} (is : system ≡ machine.system) where
+  pub copied_looked : (n va : ℕ) {directory : ℕ} (found : Option ℕ) →
+      found ≡ option_map (λ (e : Entry). e.perm) ((spaces_of system).entries directory (va / PGSIZE)) →
+      ((input : List ℕ) → directory ≡ (slot_at (state_of system input) n).directory) →
+      copied_by found ≡ is_to_copy (rows_of (kernel_state machine).spaces (slot_at (kernel_state machine) n).directory (page_number va))
+  unfolding rows_of
+  copied_looked n va found told there =
+      ap copied_by told ∙ entry_copied ((spaces_of system).entries _ (va / PGSIZE))
+      ∙ (λ i. is_to_copy (rows_of (spaces_of system) (there (left_of machine.input) i) (page_number va)))
+      ∙ (λ i. let s = state_of (is i) (left_of machine.input) in is_to_copy (rows_of s.spaces (slot_at s n).directory (page_number va)))

@@ -1,5 +1,4 @@
--- The pages of a program are loaded one after another, and the state after each stands for an abstract one, whose program has
--- the pages that are loaded.
+-- The pages of a program are loaded one after another, and after each its space has the pages that are loaded.
 use Rattle.std.proofs.Common.{◌≡◌, ◌≢◌, ◌∙◌, ◌<◌, ◌≤◌, ◌==◌, ◌⊎◌, inl, inr, ℕ, zero, suc, Bool, true, false, List, [], ◌∷◌, Option}
 use Rattle.std.proofs.Common.{Some, None}
 use Rattle.std.proofs.Common.{length, refl, sym, ap, subst, arith, if◌then◌else◌}
@@ -10,50 +9,44 @@ use Rattle.std.proofs.lemmas.Bool.{cases_eq}
 use Rattle.std.proofs.lemmas.Bool.Decides.{nat_tests}
 use Rattle.std.proofs.lemmas.Option.{same_Some}
 use Rattle.jos_base.specs.Counting.{frame_limit, page_limit}
-use Rattle.jos_base.specs.Environments.{Environments, no_extra}
+use Rattle.jos_base.specs.Environments.{Environments, is_live}
 use Rattle.jos_base.specs.KernelState.{KernelState, HasSpaces, slot_at, with_spaces}
 use Rattle.jos_base.specs.Reach.{Entry}
-use Rattle.jos_base.specs.SpacesState.{SpacesState, directory, is_directory, allocated}
+use Rattle.jos_base.specs.SpacesState.{SpacesState, directory, is_directory, allocated, zero_page}
 use Rattle.jos_base.specs.SpacesState.{with_page_bytes}
-use Rattle.jos_base.specs.SystemCalls.{has_write, is_page_perm}
+use Rattle.jos_base.specs.SystemCalls.{is_page_perm}
 use Rattle.jos_base.specs.Words.{upd}
 use Rattle.jos_elf.specs.declared.image.Segment.{Segment}
 use Rattle.jos_elf.specs.Parsed.{Layout, Lies}
-use Rattle.jos_kernel.specs.Boot.{any_touches, any_writes, filled, page_bytes, page_loaded, pages_loaded, perm_of, stack_page}
+use Rattle.jos_kernel.specs.Boot.{any_touches, any_writes, filled, only_state, page_bytes, page_loaded, pages_loaded, perm_of, stack_page}
 use Rattle.jos_kernel.proofs.PagesTouched.{touched_below}
-use Rattle.lib_os.specs.AbstractMemory.{has_page_in}
-use Rattle.lib_os.specs.AbstractState.{AbstractState, Born, Page, own, born, free as unused, serving, with_born}
+use Rattle.lib_os.specs.AbstractState.{Page, own}
 use Rattle.lib_os.specs.InOrder.{IsInOrder}
 use Rattle.lib_os.specs.Need.{EachHasUse}
-use Rattle.lib_os.specs.StandsFor.{StandsFor, Names, rows_of, page_by, page_seen, is_shared, lasting}
+use Rattle.lib_os.specs.Rows.{rows_of, lasting}
 use Rattle.lib_os.proofs.Effects.{Made}
-use Rattle.lib_os.proofs.PagesStand.{regions_placed, row_placed}
+use Rattle.lib_os.proofs.PagesStand.{row_placed}
 use Rattle.lib_os.proofs.Placing.{allocated_made}
-use Rattle.lib_os.proofs.Serving.{words_of_none}
-use Rattle.lib_os.proofs.SlotsStand.{minds_page, born_at, born_live}
 use Rattle.lib_os.proofs.UsesFound.{bytes_found}
 use Rattle.lib_os.proofs.UsesPlaced.{allocated_found}
 use Rattle.lib_spawn.specs.StackPage.{stack_contents, stack_size}
-use Rattle.jos_run.specs.Boot.{program_loaded, stack_segment}
-use Rattle.jos_run.specs.Start.{first_memory, first_slot, page_of, program_with, stack_of, start_with}
+use Rattle.jos_run.specs.Boot.{handler_page, handler_stack_loaded, program_loaded, space_loaded, stack_segment}
+use Rattle.jos_run.specs.Start.{first_memory, page_of, stack_of}
+use Rattle.jos_run.proofs.BootedPages.{HasPages, no_row, page_more}
 use Rattle.jos_run.proofs.FramesTaken.{AreBelow, Takes, allocated_entry, allocated_takes}
-use Rattle.jos_run.proofs.PagesFilled.{filled_one_use, filled_stands, has_page-put}
+use Rattle.jos_run.proofs.PagesFilled.{filled_one_use}
 use Rattle.jos_run.proofs.StackLoaded.{stack-touched, stack-writes}
-use Rattle.jos_base.proofs.Maps.{upd-at, upd-other}
+use Rattle.jos_base.proofs.Maps.{upd-at, upd-other, upd-stays}
 use Rattle.jos_base.proofs.Uses.{directory_is}
-
-abbrev pub the_names : Names
-the_names = record { name = λ f. f; frame = λ name. name }
 
 -- ---- small facts
 
--- where no page is seen there is no entry
-pub no_entry : (names : Names) (s : SpacesState) (d p : ℕ) → page_seen names s d p ≡ None → s.entries d p ≡ None
+-- where no entry is seen there is none
+pub no_entry : (s : SpacesState) (d p : ℕ) → rows_of s d p ≡ None → s.entries d p ≡ None
 unfolding rows_of
-no_entry names s d p none = by_entry (s.entries d p) refl none
+no_entry s d p none = by_entry (s.entries d p) refl none
   where
-    by_entry : (o : Option Entry) → s.entries d p ≡ o → option_map (page_by names s.pages) (option_map lasting o) ≡ None →
-        s.entries d p ≡ None
+    by_entry : (o : Option Entry) → s.entries d p ≡ o → option_map lasting o ≡ None → s.entries d p ≡ None
     by_entry None at seen = at
     by_entry (Some e) at seen = absurd cc
 
@@ -78,17 +71,13 @@ bits-user : (writable : Bool) → is_page_perm (perm_of writable) ≡ true
 bits-user true = refl
 bits-user false = refl
 
-bits-own : (writable : Bool) → is_shared (perm_of writable) ≡ false
-bits-own true = refl
-bits-own false = refl
-
-bits-write : (writable : Bool) → has_write (perm_of writable) ≡ writable
-bits-write true = refl
-bits-write false = refl
-
 bits-small : (writable : Bool) → perm_of writable < 4096
 bits-small true = omega arith
 bits-small false = omega arith
+
+-- the pages of the program, and that of the stack of its handler of page faults
+abbrev pub space_memory : Layout → List ℕ → List (List ℕ) → ℕ → Option Page
+space_memory image file words = upd (first_memory image file words) handler_page (Some (own zero_page true))
 
 -- there are so many pages
 pub limit_small : 851968 ≤ page_limit
@@ -99,88 +88,68 @@ pub stack_small : stack_page < page_limit
 unfolding page_limit
 stack_small = omega arith
 
--- the program is another
-program_put : (b c : Born) (input : List ℕ) → with_born (start_with b input) 1 c ≡ start_with c input
-unfolding upd
-program_put b c input = λ i. record (start_with b input) { slots = λ n. same n i }
-  where
-    same : (n : ℕ) → upd (first_slot b) 1 (born c) n ≡ first_slot c n
-    same n = by_tests (n == 0) (n == 1) refl refl
-      where
-        by_tests : (t u : Bool) → (n == 0) ≡ t → (n == 1) ≡ u →
-            (if u then born c else if t then serving 0x1000 else if u then born b else unused 0) ≡ (if t then serving 0x1000 else
-            if u then born c else unused 0)
-        by_tests true true first second = absurd (let at : n ≡ 0 = grind (arith, nat_tests) in
-            let too : n ≡ 1 = grind (arith, nat_tests) in omega arith)
-        by_tests true false first second = refl
-        by_tests false true first second = refl
-        by_tests false false first second = refl
+pub handler_small : handler_page < page_limit
+unfolding page_limit
+handler_small = omega arith
 
 -- ---- one page more
 
-module _ (image : Layout) (words : List (List ℕ)) (input : List ℕ) (frames : ℕ) (base : KernelState)
-    (at_guest : (slot_at base 1).extra ≡ no_extra) (space_small : (slot_at base 1).directory < frame_limit) where
+module _ (frames : ℕ) (base : KernelState) (live : is_live (slot_at base 1) ≡ true)
+    (space_small : (slot_at base 1).directory < frame_limit) where
   abbrev pub space : ℕ
   space = (slot_at base 1).directory
 
-  -- the spaces stand for a program with these pages
+  -- the space has these pages, and the frames are in order
   pub record Stage (memory : ℕ → Option Page) (t : SpacesState) : Type 0 where
-    pub stands : StandsFor the_names (with_spaces base t) (start_with (program_with image words memory) input)
+    pub has : HasPages space memory t
+    pub in_order : IsInOrder (with_spaces base t)
     pub below : AreBelow t.free
     pub frames_are : t.frames ≡ frames
     pub used : EachHasUse t
 
   module _ (memory : ℕ → Option Page) (t : SpacesState) (h : Stage memory t) (number : ℕ) (small : number < page_limit)
-      (none : memory number ≡ None) (writable : Bool) (bytes : List ℕ) (f : ℕ) (v : SpacesState)
+      (none : memory number ≡ None) (writable : Bool) (f : ℕ) (v : SpacesState)
       (is : allocated t space number (perm_of writable) ≡ Some (f, v)) where
-    abbrev b : Born
-    b = program_with image words memory
-
     abbrev perm : ℕ
     perm = perm_of writable
 
     space_is : t.uses space ≡ directory
-    space_is = directory_is (t.uses space) (h.stands.in_order.spaces.in_use 1 (born_live (born_at h.stands 1 b refl)))
+    space_is = directory_is (t.uses space) (h.in_order.spaces.in_use 1 live)
 
     takes : Takes t v
-    takes = allocated_takes t h.stands.in_order.frames h.below space number perm space_is space_small small (bits-small writable)
-        (no_entry the_names t space number (sym ((born_at h.stands 1 b refl).memory number) ∙ none)) f v is
+    takes = allocated_takes t h.in_order.frames h.below space number perm space_is space_small small (bits-small writable)
+        (no_entry t space number (no_row h.has number none)) f v is
 
     made : Made t v space number perm
-    made = allocated_made t v space number perm f h.stands.in_order.frames takes.one_use (bits-user writable) is
+    made = allocated_made t v space number perm f h.in_order.frames takes.one_use (bits-user writable) is
 
-    in_order : IsInOrder (with_spaces base (with_page_bytes v f bytes))
-    in_order = record {
-      frames = filled_one_use v f bytes takes.one_use;
-      spaces = spaces_kept t (with_page_bytes v f bytes) base.environments takes.directories h.stands.in_order.spaces;
+    frame_is : made.frame ≡ f
+    frame_is = made_frame t v space number perm f made (allocated_entry t v space number perm f is)
+
+    -- with these bytes
+    pub stage_next : (bytes : List ℕ) → Stage (upd memory number (Some (own bytes writable))) (with_page_bytes v f bytes)
+    stage_next bytes = record {
+      has = page_more h.has number f writable bytes made frame_is;
+      in_order = record {
+        frames = filled_one_use v f bytes takes.one_use;
+        spaces = spaces_kept t (with_page_bytes v f bytes) base.environments takes.directories h.in_order.spaces;
+      };
+      below = takes.below;
+      frames_are = takes.frames ∙ h.frames_are;
+      used = bytes_found v f bytes (allocated_found t space number perm (f, v) h.in_order.frames space_is small h.used is);
     }
 
-    abbrev after : ℕ → Option Page
-    after = upd memory number (Some (own bytes (has_write perm)))
-
-    after_stands : StandsFor the_names (with_spaces base (with_page_bytes v f bytes)) (start_with (program_with image words after) input)
-    after_stands =
-        subst (λ (a : AbstractState). StandsFor the_names (with_spaces base (with_page_bytes v f bytes)) a)
-        (program_put b (program_with image words after) input)
-        (filled_stands h.stands 1 b refl number perm f made
-        (made_frame t v space number perm f made (allocated_entry t v space number perm f is)) bytes
-        (bits-user writable) (bits-own writable) (ap minds_page (words_of_none (slot_at base 1).registers (slot_at base 1).extra
-        at_guest)) in_order
-        (has_page_in after)
-        (λ r. has_page-put memory number (own bytes (has_write perm)) r
-        ∙ regions_placed made.placed (has_page_in memory) (born_at h.stands 1 b refl).regions r))
-
-    after_used : EachHasUse (with_page_bytes v f bytes)
-    after_used =
-        bytes_found v f bytes (allocated_found t space number perm (f, v) h.stands.in_order.frames space_is small h.used is)
-
-    pub stage_next : Stage (upd memory number (Some (own bytes writable))) (with_page_bytes v f bytes)
-    stage_next = subst (λ (w : Bool). Stage (upd memory number (Some (own bytes w))) (with_page_bytes v f bytes)) (bits-write writable)
-        (record { stands = after_stands; below = takes.below; frames_are = takes.frames ∙ h.frames_are; used = after_used })
+    -- with the zeros that it has
+    pub stage_zero : Stage (upd memory number (Some (own zero_page writable))) v
+    stage_zero =
+        let clear : v.pages f ≡ zero_page = sym (ap v.pages frame_is) ∙ made.zero in
+        subst (λ (z : SpacesState). Stage (upd memory number (Some (own zero_page writable))) z)
+        (λ i. record v { pages = λ q. upd-stays v.pages f zero_page (sym clear) q i })
+        (stage_next zero_page)
 
   -- ---- all pages of the image
 
-  module _ (file : List ℕ) where
+  module _ (image : Layout) (words : List (List ℕ)) (file : List ℕ) where
     abbrev pub segments : List Segment
     segments = image.segments
 
@@ -246,7 +215,8 @@ module _ (image : Layout) (words : List (List ℕ)) (input : List ℕ) (frames :
             (same_Some (with_page_bytes made.1 made.0 (page_bytes segments file n)) u some)
             (subst (λ (m : ℕ → Option Page). Stage m (with_page_bytes made.1 made.0 (page_bytes segments file n)))
             (sym (touched_next n touched))
-            (stage_next (memory_below n) t h n small (below-at n) (any_writes n segments) (page_bytes segments file n) made.0 made.1 at))
+            (stage_next (memory_below n) t h n small (below-at n) (any_writes n segments) made.0 made.1 at
+            (page_bytes segments file n)))
 
         by_touch : (b : Bool) → any_touches n segments ≡ b →
             (if b then filled (page_bytes segments file n) (allocated t space n (perm_of (any_writes n segments))) else Some
@@ -322,7 +292,7 @@ module _ (image : Layout) (words : List (List ℕ)) (input : List ℕ) (frames :
               subst (λ (z : SpacesState). Stage (first_memory image file words) z)
               (same_Some (with_page_bytes made.1 made.0 stack_bytes) u found)
               (subst (λ (m : ℕ → Option Page). Stage m (with_page_bytes made.1 made.0 stack_bytes)) (λ i p. with_stack p i)
-              (stage_next (memory_below 851968) t h stack_page stack_small no_stack true stack_bytes made.0 made.1 at))
+              (stage_next (memory_below 851968) t h stack_page stack_small no_stack true made.0 made.1 at stack_bytes))
 
       pub program_stage : (first u : SpacesState) → Stage (λ p. None) first →
           program_loaded segments file words space first ≡ Some u → Stage (first_memory image file words) u
@@ -334,3 +304,31 @@ module _ (image : Layout) (words : List (List ℕ)) (input : List ℕ) (frames :
               Stage (first_memory image file words) u
           by_pages None at none = absurd cc
           by_pages (Some t) at found = stack_next t u (pages_stage first h 851968 limit_small t at) found
+
+      -- ---- the page of the handler's stack
+
+      no_handler : first_memory image file words handler_page ≡ None
+      no_handler = by_touch (any_touches handler_page segments) refl
+        where
+          by_touch : (touch : Bool) → any_touches handler_page segments ≡ touch → first_memory image file words handler_page ≡ None
+          by_touch true is = absurd (let low = touched_below (length file) handler_page segments lie is in omega (arith, low))
+          by_touch false is =
+              ap (λ (c : Bool). if c then Some (own (page_bytes segments file handler_page) (any_writes handler_page segments)) else None) is
+
+      pub space_stage : (first u : SpacesState) → Stage (λ p. None) first →
+          space_loaded segments file words space first ≡ Some u → Stage (space_memory image file words) u
+      unfolding space_loaded handler_stack_loaded
+      space_stage first u h is = by_program (program_loaded segments file words space first) refl is
+        where
+          by_frame : (t : SpacesState) → Stage (first_memory image file words) t → (o : Option (ℕ × SpacesState)) →
+              allocated t space handler_page (perm_of true) ≡ o → only_state o ≡ Some u → Stage (space_memory image file words) u
+          by_frame t stage None at none = absurd cc
+          by_frame t stage (Some made) at found =
+              subst (λ (z : SpacesState). Stage (space_memory image file words) z) (same_Some made.1 u found)
+              (stage_zero (first_memory image file words) t stage handler_page handler_small no_handler true made.0 made.1 at)
+
+          by_program : (o : Option SpacesState) → program_loaded segments file words space first ≡ o →
+              option_and_then (handler_stack_loaded space) o ≡ Some u → Stage (space_memory image file words) u
+          by_program None at none = absurd cc
+          by_program (Some t) at found =
+              by_frame t (program_stage first t h at) (allocated t space handler_page (perm_of true)) refl found

@@ -1,5 +1,5 @@
 -- A step of a program is one that the library promises.
-use Rattle.std.proofs.Common.{◌≡◌, ◌≢◌, ◌∙◌, ℕ, true, false, Option, Ok, Err, refl, sym, ap, subst}
+use Rattle.std.proofs.Common.{◌≡◌, ◌≢◌, ◌∙◌, ◌<◌, ◌++◌, inl, inr, ℕ, true, false, Option, Some, Ok, Err, refl, sym, ap, subst}
 use Rattle.std.proofs.lemmas.Bool.{false≢true}
 use Rattle.jos_host.specs.declared.host.Failed.{Failed}
 use Rattle.jos_base.specs.declared.environment.Status.{Status}
@@ -12,14 +12,17 @@ use Rattle.lib_os.specs.declared.place.Place.TheVariants as place
 use Rattle.lib_os.specs.declared.progress.Progress.TheVariants as progress
 use Rattle.lib_os.specs.AbstractState.{AbstractState, Born, AbstractSlot, free, unborn, born, serving}
 use Rattle.lib_os.specs.InOrder.{IsInOrder}
-use Rattle.lib_os.specs.LibrarySteps.{Stands, GoesOn, IsLibraryStep}
+use Rattle.lib_os.specs.AbstractRun.{abs_step}
+use Rattle.lib_os.specs.LibrarySteps.{Stands, GoesOn, IsLibraryStep, Lowers, LowersAt, hidden_left}
 use Rattle.lib_os.specs.Places.{place_of}
-use Rattle.lib_os.specs.StandsFor.{StandsFor, Names, StandsForSlot}
+use Rattle.lib_os.specs.Rows.{Names}
+use Rattle.lib_os.specs.StandsFor.{StandsFor, StandsForSlot}
 use Rattle.lib_os.specs.UserCalls.{Output}
 use Rattle.jos_run.specs.Guest.{Follows}
-use Rattle.jos_run.specs.GuestSteps.{guest_instruction}
+use Rattle.jos_run.specs.GuestSteps.{guest_instruction, is_handed_over}
 use Rattle.jos_run.specs.Steps.{is_awake, Raises}
-use Rattle.jos_run.proofs.GuestStands.{guest_goes_on, guest_stands}
+use Rattle.jos_run.proofs.GuestStands.{IsCopied, SmallAtFault, copying_at, instruction_end, instruction_step}
+use Rattle.jos_run.proofs.GuestStands.{guest_copied, guest_goes_on, guest_stands}
 
 -- a status that is another than RUNNABLE
 pub not_runnable : (status : Status) → status ≢ Runnable → false ≡ is_runnable status
@@ -41,31 +44,60 @@ awake_born names s a h n awake = by_slot (a.slots n) refl (h.slots n)
     by_slot (serving id) is k = absurd (false≢true (sym (ap is_awake k.status) ∙ awake))
 
 module _ (s after : KernelState) (n : ℕ) (output : Output) (awake : is_awake (slot_at s n).status ≡ true)
-    (is_guest : place_of (slot_at s n) ≡ place.Guest) (order : IsInOrder after) where
-  goes_on : (trap : Option TrapLine) → Follows (Ok trap) (guest_instruction s n) after output → (a : AbstractState) → Stands s a →
-      GoesOn n after a (guest_instruction s n).written
-  goes_on trap told a h =
+    (is_guest : place_of (slot_at s n) ≡ place.Guest) (small : SmallAtFault (slot_at s n).registers (instruction_step s n).event)
+    (order : IsInOrder after) where
+  -- ---- one that is seen
+
+  goes_on : copying_at s n ≡ false → (trap : Option TrapLine) → Follows (Ok trap) (guest_instruction s n) after output → (a : AbstractState) →
+      Stands s a → GoesOn n after a (guest_instruction s n).written
+  goes_on seen trap told a h =
       let b = awake_born h.0 s a h.1 n awake in
       subst (λ (t : KernelState). GoesOn n t a (guest_instruction s n).written) (sym told.0)
-      (guest_goes_on h.0 s a n b.0 h.1 b.1 is_guest (subst IsInOrder told.0 order))
+      (guest_goes_on h.0 s a n b.0 h.1 b.1 is_guest small seen (subst IsInOrder told.0 order))
 
-  pub program_goes_on : (trap : Option TrapLine) → Follows (Ok trap) (guest_instruction s n) after output →
+  pub program_goes_on : copying_at s n ≡ false → (trap : Option TrapLine) → Follows (Ok trap) (guest_instruction s n) after output →
       IsLibraryStep (Ok progress.Visible) n s after output
-  program_goes_on trap told = ((guest_instruction s n).written, told.2, λ a h quiet. goes_on trap told a h)
+  program_goes_on seen trap told = ((guest_instruction s n).written, told.2, λ a h quiet. goes_on seen trap told a h)
 
-  pub program_ends : (trap : Option TrapLine) → Follows (Ok trap) (guest_instruction s n) after output →
+  pub program_ends : copying_at s n ≡ false → (trap : Option TrapLine) → Follows (Ok trap) (guest_instruction s n) after output →
       IsLibraryStep (Ok progress.Ended) n s after output
-  program_ends trap told = ((guest_instruction s n).written, told.2, λ a h quiet. goes_on trap told a h)
+  program_ends seen trap told = ((guest_instruction s n).written, told.2, λ a h quiet. goes_on seen trap told a h)
+
+  -- ---- one that a page to be copied has stopped
+
+  copied : copying_at s n ≡ true → (a : AbstractState) (h : Stands s a) → IsCopied h.0 s a n
+  copied is a h = let b = awake_born h.0 s a h.1 n awake in guest_copied h.0 s a n b.0 h.1 b.1 is_guest small is
+
+  pub program_copies : copying_at s n ≡ true → (trap : Option TrapLine) → Follows (Ok trap) (guest_instruction s n) after output →
+      IsLibraryStep (Ok progress.Hidden) n s after output
+  program_copies is trap told = (
+    (guest_instruction s n).written,
+    told.2,
+    λ a h quiet.
+        let c = copied is a h in
+        (c.written, (h.0, subst (λ (t : KernelState). StandsFor h.0 t a) (sym told.0) (c.stands (subst IsInOrder told.0 order)))),
+  )
+
+  pub program_lowers : copying_at s n ≡ true → (trap : Option TrapLine) → Follows (Ok trap) (guest_instruction s n) after output →
+      Lowers (Ok progress.Hidden) n s after
+  program_lowers is trap told =
+      subst (λ (p : Place). LowersAt p n s after) (sym is_guest)
+      (λ a h quiet. subst (λ (t : KernelState). hidden_left t n < hidden_left s n) (sym told.0) (copied is a h).lowers)
+
+  -- ---- one in which the host failed
 
   pub program_fails : (failed : Failed) → Follows (Err failed) (guest_instruction s n) after output →
-      IsLibraryStep (Err failed) n s after output
-  program_fails failed told = (
-    (guest_instruction s n).written,
-    told,
-    λ a h.
-        let b = awake_born h.0 s a h.1 n awake in
-        let g = guest_stands h.0 s a n b.0 h.1 b.1 is_guest in (g.next, g.step_is, g.console),
-  )
+      is_handed_over (instruction_end s n) n (instruction_step s n).event ≡ false → IsLibraryStep (Err failed) n s after output
+  program_fails failed told ended = ((guest_instruction s n).written, told, λ a h. by_step a h)
+    where
+      by_step : (a : AbstractState) → Stands s a →
+          (b : AbstractState) × (abs_step a n ≡ Some b) × (b.console ≡ a.console ++ (guest_instruction s n).written)
+      by_step a h =
+          let b = awake_born h.0 s a h.1 n awake in
+          elim (guest_stands h.0 s a n b.0 h.1 b.1 is_guest small) [
+            | inl seen ↦ (seen.next, seen.step_is, seen.console)
+            | inr copied ↦ absurd (false≢true (sym ended ∙ copied.handed_over))
+          ]
 
 -- ---- traps
 

@@ -32,13 +32,13 @@ use Rattle.lib_os.proofs.Slots.{slot_put}
 use Rattle.lib_os.proofs.StatesStand.{slot_in_order}
 use Rattle.lib_os.proofs.UsesKept.{touched_kept, stored_kept}
 use Rattle.jos_run.specs.FencedMemory.{fenced_memory}
-use Rattle.jos_run.specs.GuestSteps.{quietly, service_entered, after_event, after_instruction, guest_instruction}
+use Rattle.jos_run.specs.GuestSteps.{quietly, service_entered, after_event, after_instruction, guest_instruction, is_copying}
 use Rattle.jos_run.specs.LibraryRuns.{IsInTurn}
 use Rattle.jos_run.specs.Steps.{is_awake}
 use Rattle.jos_run.specs.StepsAtOnce.{GuestGoesOn}
 use Rattle.jos_run.proofs.Choices.{only_runs}
 use Rattle.jos_run.proofs.GuestLeaves.{GuestLeaves, instruction_left}
-use Rattle.jos_run.proofs.GuestStands.{guest_goes_on}
+use Rattle.jos_run.proofs.GuestStands.{SmallAtFault, guest_goes_on, instruction_end, instruction_step}
 use Rattle.jos_run.proofs.GuestUses.{guest_uses}
 use Rattle.jos_run.proofs.ProgramSteps.{awake_born}
 use Rattle.jos_run.proofs.RunsKept.{step_visible}
@@ -139,6 +139,25 @@ module _ (s : KernelState) (n : ℕ) where
       stepped_calm k.registers.eip (step_of fenced_memory k.registers (loaded_in s k.directory) Run)
       (memory_calm k.registers (loaded_in s k.directory) (record { status = refl; in_order = λ order. order }))
 
+-- One that tells of no trap has raised none: no page to be copied has stopped it, nor any other page fault.
+pub record RaisesNone (n : ℕ) (regs : Regs) (left : KernelState) (event : Event) : Type 0 where
+  pub seen : is_copying left n event ≡ false
+  pub small : SmallAtFault regs event
+
+module _ (n : ℕ) where
+  raises_none : (regs : Regs) (left t : KernelState) (ip : ℕ) (event : Event) → tells (after_event t n ip event) ≡ false →
+      RaisesNone n regs left event
+  raises_none regs left t ip Next none = record { seen = refl; small = tt }
+  raises_none regs left t ip (Soft vector) none = record { seen = refl; small = tt }
+  raises_none regs left t ip (Raised trap error va) none = absurd (let contradiction : true ≡ false = none in cc)
+
+  instruction_none : (s : KernelState) → tells (guest_instruction s n) ≡ false →
+      RaisesNone n (slot_at s n).registers (instruction_end s n) (instruction_step s n).event
+  unfolding guest_instruction
+  instruction_none s =
+      let step = instruction_step s n in
+      raises_none (slot_at s n).registers (instruction_end s n) (instruction_end s n) (slot_at s n).registers.eip step.event
+
 -- one that goes on
 module _ (s after : KernelState) (n : ℕ) (is : guest_instruction s n ≡ quietly after) where
   state_is : (guest_instruction s n).state ≡ after
@@ -153,8 +172,9 @@ module _ (s after : KernelState) (n : ℕ) (is : guest_instruction s n ≡ quiet
   pub quiet_keeps : is_awake (slot_at s n).status ≡ true → place_of (slot_at s n) ≡ place.Guest → KeepsStanding progress.Visible n s after []
   quiet_keeps awake guest a h none_refused =
       let b = awake_born h.0 s a h.1 n awake in
+      let none = instruction_none n s (ap tells is) in
       subst (λ (step : EnvStep). GoesOn n step.state a step.written) is
-      (guest_goes_on h.0 s a n b.0 h.1 b.1 guest (subst IsInOrder (sym state_is) (quiet_calm.in_order h.1.in_order)))
+      (guest_goes_on h.0 s a n b.0 h.1 b.1 guest none.small none.seen (subst IsInOrder (sym state_is) (quiet_calm.in_order h.1.in_order)))
 
   quiet_uses : IsInOrder s → is_live (slot_at s n) ≡ true → EachHasUse s.spaces → EachHasUse after.spaces
   quiet_uses order live each = subst (λ (t : KernelState). EachHasUse t.spaces) state_is (guest_uses s n order live each)

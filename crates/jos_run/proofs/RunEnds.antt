@@ -25,7 +25,8 @@ use Rattle.jos_kernel.specs.Books.{turn_of, made, HasRoom}
 use Rattle.jos_kernel.proofs.ToldBytes.{gains_none, gains_more}
 use Rattle.lib_os.specs.AbstractState.{AbstractState, AbstractSlot, can_run}
 use Rattle.lib_os.specs.LibrarySteps.{Stands}
-use Rattle.lib_os.specs.StandsFor.{StandsFor, Names}
+use Rattle.lib_os.specs.Rows.{Names}
+use Rattle.lib_os.specs.StandsFor.{StandsFor}
 use Rattle.lib_os.proofs.SlotsStand.{born_at}
 use Rattle.lib_os.proofs.StatesStand.{turn_ended_stands}
 use Rattle.jos_run.specs.Begun.{IsNew}

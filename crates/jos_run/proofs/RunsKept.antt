@@ -28,7 +28,9 @@ use Rattle.lib_os.specs.AbstractState.{AbstractState, Born, AbstractSlot, free, 
 use Rattle.lib_os.specs.AbstractRun.{abs_step}
 use Rattle.lib_os.specs.LibrarySteps.{Stands, Stays, GoesOn, KeepsStanding, NothingRefused, is_pausing, is_yield}
 use Rattle.lib_os.specs.Places.{place_of}
-use Rattle.lib_os.specs.StandsFor.{StandsFor, StandsForSlot, StandsAt, StandsAtStep, Names, EntryRow, rows_of, IsStatusFor, WaitsOrHas, waits, has}
+use Rattle.lib_os.specs.LibraryPages.{View}
+use Rattle.lib_os.specs.Rows.{Names}
+use Rattle.lib_os.specs.StandsFor.{StandsFor, StandsForSlot, StandsAt, StandsAtStep, IsStatusFor, WaitsOrHas, waits, has, view_of}
 use Rattle.lib_os.proofs.SlotsStand.{born_at}
 use Rattle.lib_os.proofs.StatesStand.{turn_begun_stands, turn_ended_stands}
 use Rattle.jos_run.specs.AbstractTurns.{turn_begun, steps_taken, abs_run, waits_in, stands_waiting}
@@ -227,30 +229,30 @@ pub running_born : {names : Names} {s : KernelState} {a : AbstractState} → Sta
     is_running (slot_at s n).status ≡ true → (b : Born) × (a.slots n ≡ born b)
 running_born {names = names} {s = s} {a = a} h n runs = running_slot names s.spaces (slot_at s n) (a.slots n) (h.slots n) runs
 
-step_phase : (row : EntryRow) (k : Slot) (b : Born) (s : Service) (stands : Step) → StandsAtStep row k b s stands →
+step_phase : (v : View) (k : Slot) (b : Born) (s : Service) (stands : Step) → StandsAtStep v k b s stands →
     (stage : Stage) × (b.phase ≡ in_service s stage)
-step_phase row k b s step.Entered h = (_, h.phase)
-step_phase row k b (service.Wait id) (step.Trying perm) h = (_, h.is_in.phase)
-step_phase row k b (service.Wait id) (step.Pausing perm) h = (_, h.is_in.phase)
-step_phase row k b (service.Send id value va) (step.Trying perm) h = (_, h.is_in.phase)
-step_phase row k b (service.Send id value va) (step.Pausing perm) h = (_, h.is_in.phase)
-step_phase row k b (service.Send id value va) step.ReadingRegion h = (_, h.is_in.phase)
-step_phase row k b (service.Send id value va) step.ReadingEntry h = (_, h.0.is_in.phase)
-step_phase row k b (service.Receive va from) (step.Receiving id) h = (_, h.is_in.phase)
-step_phase row k b (service.Receive va from) (step.ReadingValue id) h = by_come h.1
+step_phase v k b s step.Entered h = (_, h.phase)
+step_phase v k b (service.Wait id) (step.Trying perm) h = (_, h.is_in.phase)
+step_phase v k b (service.Wait id) (step.Pausing perm) h = (_, h.is_in.phase)
+step_phase v k b (service.Send id value va) (step.Trying perm) h = (_, h.is_in.phase)
+step_phase v k b (service.Send id value va) (step.Pausing perm) h = (_, h.is_in.phase)
+step_phase v k b (service.Send id value va) step.ReadingRegion h = (_, h.is_in.phase)
+step_phase v k b (service.Send id value va) step.ReadingEntry h = (_, h.0.is_in.phase)
+step_phase v k b (service.Receive va from) (step.Receiving id) h = (_, h.is_in.phase)
+step_phase v k b (service.Receive va from) (step.ReadingValue id) h = by_come h.1
   where
     by_come : WaitsOrHas k b va from → (stage : Stage) × (b.phase ≡ in_service (service.Receive va from) stage)
     by_come (waits so) = (_, so.phase)
     by_come (has so) = (_, so.phase)
-step_phase row k b (service.Receive va from) (step.ReadingSender id value) h = (_, h.2.phase)
-step_phase row k b (service.Receive va from) (step.ReadingPerm id value sender) h = (_, h.3.phase)
-step_phase row k b _ _ h = absurd h
+step_phase v k b (service.Receive va from) (step.ReadingSender id value) h = (_, h.2.phase)
+step_phase v k b (service.Receive va from) (step.ReadingPerm id value sender) h = (_, h.3.phase)
+step_phase v k b _ _ h = absurd h
 
-pausing_phase : (row : EntryRow) (k : Slot) (b : Born) (p : Place) → StandsAt p row k b → is_pausing p ≡ true → waits_in b.phase ≡ true
-pausing_phase row k b (place.InService (service.Wait id) (step.Pausing perm)) h pauses = ap (λ (x : Phase). waits_in x) h.is_in.phase
-pausing_phase row k b (place.InService (service.Send id value va) (step.Pausing perm)) h pauses = ap (λ (x : Phase). waits_in x) h.is_in.phase
-pausing_phase row k b (place.InService _ (step.Pausing perm)) h pauses = absurd h
-pausing_phase row k b _ h pauses = absurd (let contradiction : false ≡ true = pauses in cc)
+pausing_phase : (v : View) (k : Slot) (b : Born) (p : Place) → StandsAt p v k b → is_pausing p ≡ true → waits_in b.phase ≡ true
+pausing_phase v k b (place.InService (service.Wait id) (step.Pausing perm)) h pauses = ap (λ (x : Phase). waits_in x) h.is_in.phase
+pausing_phase v k b (place.InService (service.Send id value va) (step.Pausing perm)) h pauses = ap (λ (x : Phase). waits_in x) h.is_in.phase
+pausing_phase v k b (place.InService _ (step.Pausing perm)) h pauses = absurd h
+pausing_phase v k b _ h pauses = absurd (let contradiction : false ≡ true = pauses in cc)
 
 -- One that is about to give up its turn waits in a service.
 pub pausing_waits : {names : Names} {s : KernelState} {a : AbstractState} → StandsFor names s a → (n : ℕ) → is_running (slot_at s n).status ≡ true →
@@ -258,19 +260,19 @@ pub pausing_waits : {names : Names} {s : KernelState} {a : AbstractState} → St
 pausing_waits {s = s} h n runs pauses =
     let who = running_born h n runs in
     ap (λ (slot : AbstractSlot). stands_waiting slot) who.1
-    ∙ pausing_phase (rows_of s.spaces (slot_at s n).directory) (slot_at s n) who.0 (place_of (slot_at s n)) (born_at h n who.0 who.1).at pauses
+    ∙ pausing_phase (view_of s.spaces (slot_at s n).directory) (slot_at s n) who.0 (place_of (slot_at s n)) (born_at h n who.0 who.1).at pauses
 
-yield_phase : (row : EntryRow) (k : Slot) (b : Born) (p : Place) → StandsAt p row k b → is_yield p ≡ true → yields_in b.phase ≡ true
-yield_phase row k b (place.InService service.Yield stands) h yields =
-    ap (λ (x : Phase). yields_in x) (step_phase row k b service.Yield stands h).1
-yield_phase row k b _ h yields = absurd (let contradiction : false ≡ true = yields in cc)
+yield_phase : (v : View) (k : Slot) (b : Born) (p : Place) → StandsAt p v k b → is_yield p ≡ true → yields_in b.phase ≡ true
+yield_phase v k b (place.InService service.Yield stands) h yields =
+    ap (λ (x : Phase). yields_in x) (step_phase v k b service.Yield stands h).1
+yield_phase v k b _ h yields = absurd (let contradiction : false ≡ true = yields in cc)
 
 pub yield_tells : {names : Names} {s : KernelState} {a : AbstractState} → StandsFor names s a → (n : ℕ) → is_running (slot_at s n).status ≡ true →
     is_yield (place_of (slot_at s n)) ≡ true → is_yielding (a.slots n) ≡ true
 yield_tells {s = s} h n runs yields =
     let who = running_born h n runs in
     ap (λ (slot : AbstractSlot). is_yielding slot) who.1
-    ∙ yield_phase (rows_of s.spaces (slot_at s n).directory) (slot_at s n) who.0 (place_of (slot_at s n)) (born_at h n who.0 who.1).at yields
+    ∙ yield_phase (view_of s.spaces (slot_at s n).directory) (slot_at s n) who.0 (place_of (slot_at s n)) (born_at h n who.0 who.1).at yields
 
 -- A turn ends where its steps are as many as the schedule gives it.
 pub turn_ends_whole : {schedule : List ℕ} {first : AbstractState} {turns : List Turn} {n visible : ℕ} {s : KernelState} {written : List ℕ} →

@@ -1,4 +1,5 @@
--- The words that INT 0x40 leaves tell which service was asked for, and that nothing of it is done.
+-- The words that INT 0x40 leaves tell which service was asked for, and that nothing of it is done, where ESP lies on no stack of the
+-- handler of page faults.
 use Rattle.std.proofs.Common.{◌≡◌, ◌∙◌, ◌<◌, ◌≤◌, Bool, true, false, ℕ, refl, ap, arith}
 use Rattle.std.specs.Prelude.{min, nat_lt}
 use Rattle.std.proofs.lemmas.Bool.Decides.{nat_tests}
@@ -7,7 +8,7 @@ use Rattle.lib_os.specs.declared.numbers.TheConstants.{SERVICES}
 use Rattle.lib_os.specs.declared.place.Place.TheVariants as place
 use Rattle.lib_os.specs.declared.place.Step.TheVariants as step
 use Rattle.lib_os.specs.declared.service.Service.{Service}
-use Rattle.lib_os.specs.Places.{place_in_words, words_entered}
+use Rattle.lib_os.specs.Places.{place_in_words, is_handlers, words_entered}
 use Rattle.lib_os.specs.Services.{is_built, service_of}
 use Rattle.lib_os.proofs.WordsTell.{place_at}
 
@@ -27,6 +28,7 @@ number_kept regs = by_number (nat_lt regs.eax SERVICES) refl
         let unbuilt : is_built regs.eax ≡ false = grind (arith, nat_tests) in
         rw (same, unbuilt) refl
 
-pub place_entered : (regs : Regs) → place_in_words regs (words_entered regs) ≡ place.InService (service_of regs) step.Entered
-place_entered regs =
-    place_at regs (min regs.eax SERVICES) step.Entered ∙ ap (λ (s : Service). place.InService s step.Entered) (number_kept regs)
+pub place_entered : (regs : Regs) → is_handlers regs.esp ≡ false →
+    place_in_words regs (words_entered regs) ≡ place.InService (service_of regs) step.Entered
+place_entered regs outside =
+    place_at regs (min regs.eax SERVICES) step.Entered outside ∙ ap (λ (s : Service). place.InService s step.Entered) (number_kept regs)

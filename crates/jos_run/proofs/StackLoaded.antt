@@ -1,27 +1,30 @@
--- The page of a program's stack is loaded, and then the program begins.
+-- The page of a program's stack is loaded, and that of the stack of its handler of page faults, and then the program begins.
 use Rattle.std.proofs.Common.{◌≡◌, ◌∙◌, ℕ, ◌+◌, ◌-◌, ◌/◌, ◌<◌, ◌≤◌, ◌&&◌, ◌||◌, Bool, true, false, List, [], ◌∷◌, Option, Some}
 use Rattle.std.proofs.Common.{None, Ok, Err}
-use Rattle.std.proofs.Common.{take, refl, sym, ap, arith}
-use Rattle.std.specs.Prelude.{nat_lt, option_and_then}
+use Rattle.std.proofs.Common.{take, refl, sym, ap, subst, arith}
+use Rattle.std.specs.Prelude.{IfSome, IsNone, is_some, nat_lt, option_and_then}
 use Rattle.std.specs.Option.{option_map}
 use Rattle.std.proofs.lemmas.Bool.{lt-ltb}
 use Rattle.std.proofs.lemmas.List.{take_all}
 use Rattle.jos_base.specs.declared.environment.EnvType.TheVariants.{FileServer}
 use Rattle.jos_base.specs.declared.environment.Status.TheVariants.{Runnable}
 use Rattle.jos_base.specs.declared.errno.Errno.{Errno}
+use Rattle.jos_base.specs.declared.memory.Frame.{Frame}
 use Rattle.jos_base.specs.declared.numbers.TheConstants.{FDTABLE, PGSIZE}
 use Rattle.jos_base.specs.declared.registers.Regs.{Regs}
-use Rattle.jos_base.specs.KernelState.{KernelState, slot_at, with_env_type, with_registers, with_spaces, with_status}
-use Rattle.jos_base.specs.SpacesState.{SpacesState, overlaid}
+use Rattle.jos_base.specs.KernelState.{KernelState, slot_at, with_env_type, with_registers, with_spaces, with_status, with_upcall}
+use Rattle.jos_base.specs.SpacesState.{SpacesState, allocated, overlaid}
 use Rattle.jos_base.specs.SystemCalls.{environment_made}
 use Rattle.jos_elf.specs.declared.image.Segment.{Segment}
 use Rattle.jos_elf.specs.Parsed.{Layout}
-use Rattle.jos_kernel.specs.Boot.{any_touches, any_writes, laid_all, page_loaded, pages_loaded, stack_page, touches}
+use Rattle.jos_kernel.specs.Boot.{any_touches, any_writes, laid_all, only_state, page_loaded, pages_loaded, stack_page, touches}
 use Rattle.jos_kernel.specs.Loading.{Loads}
 use Rattle.jos_kernel.proofs.Laying.{laid-part}
+use Rattle.lib_os.specs.declared.numbers.TheConstants.{PGFAULT_UPCALL}
 use Rattle.lib_spawn.specs.StackPage.{stack_contents, stack_pointer, stack_size}
 use Rattle.lib_spawn.proofs.StackPages.{Fits, stack-has_size}
-use Rattle.jos_run.specs.Boot.{stack_segment, program_loaded, program_registers, program_started, program_in, server_in}
+use Rattle.jos_run.specs.Boot.{stack_segment, program_loaded, handler_stack_loaded, space_loaded}
+use Rattle.jos_run.specs.Boot.{program_registers, program_started, program_in, server_in}
 
 -- ---- the page of the stack
 
@@ -61,29 +64,66 @@ pub fits-some : (words : List (List ℕ)) → Fits words → 0 < stack_size word
 unfolding stack_size
 fits-some words fits = omega arith
 
+-- ---- one thing is loaded after another
+
+module _ (next : ℕ → SpacesState → Option SpacesState) (first : Option SpacesState) (slot : ℕ) (s t : KernelState) where
+  abbrev both : Option SpacesState
+  both = option_and_then (next (slot_at s slot).directory) first
+
+  then-none : Loads first false s t → Loads both false s t
+  then-none h = (ap (λ (loaded : Option SpacesState). option_and_then (next (slot_at s slot).directory) loaded) h.0, h.1)
+
+  module _ (h : Loads first true s t) where
+    then-last : both ≡ next (slot_at t slot).directory t.spaces
+    then-last =
+        ap (λ (loaded : Option SpacesState). option_and_then (next (slot_at s slot).directory) loaded) h.0
+        ∙ ap (λ (k : KernelState). next (slot_at k slot).directory t.spaces) (sym h.1)
+
+    then-loads : (some : Bool) (u : KernelState) → Loads (next (slot_at t slot).directory t.spaces) some t u → Loads both some s u
+    then-loads true u more = (then-last ∙ more.0, more.1 ∙ ap (λ (k : KernelState). with_spaces k u.spaces) h.1)
+    then-loads false u more = (then-last ∙ more.0, more.1 ∙ ap (λ (k : KernelState). with_spaces k u.spaces) h.1)
+
 -- ---- the pages of the program
 
 module _ (segments : List Segment) (file : List ℕ) (words : List (List ℕ)) (slot : ℕ) (s t : KernelState) where
-  pub program-none : Loads (pages_loaded segments file (slot_at s slot).directory s.spaces (FDTABLE / PGSIZE)) false s t
-      → Loads (program_loaded segments file words (slot_at s slot).directory s.spaces) false s t
+  abbrev stack_next : ℕ → SpacesState → Option SpacesState
+  stack_next d = page_loaded (stack_segment words ∷ []) (stack_contents words) d stack_page
+
+  abbrev image_pages : Option SpacesState
+  image_pages = pages_loaded segments file (slot_at s slot).directory s.spaces (FDTABLE / PGSIZE)
+
+  pub program-none : Loads image_pages false s t → Loads (program_loaded segments file words (slot_at s slot).directory s.spaces) false s t
   unfolding program_loaded
-  program-none pages = (rw pages.0 refl, pages.1)
+  program-none = then-none stack_next image_pages slot s t
 
-  module _ (pages : Loads (pages_loaded segments file (slot_at s slot).directory s.spaces (FDTABLE / PGSIZE)) true s t) where
-    program-last : program_loaded segments file words (slot_at s slot).directory s.spaces
-        ≡ page_loaded (stack_segment words ∷ []) (stack_contents words) (slot_at t slot).directory stack_page t.spaces
-    unfolding program_loaded
-    program-last =
-        ap (λ (loaded : Option SpacesState). option_and_then (page_loaded (stack_segment words ∷ []) (stack_contents words)
-        (slot_at s slot).directory stack_page) loaded) pages.0
-        ∙ ap (λ (k : KernelState). page_loaded (stack_segment words ∷ []) (stack_contents words) (slot_at k slot).directory
-        stack_page t.spaces) (sym pages.1)
+  pub program-loads : Loads image_pages true s t → (some : Bool) (u : KernelState) →
+      Loads (stack_next (slot_at t slot).directory t.spaces) some t u →
+      Loads (program_loaded segments file words (slot_at s slot).directory s.spaces) some s u
+  unfolding program_loaded
+  program-loads = then-loads stack_next image_pages slot s t
 
-    pub program-loads : (some : Bool) (u : KernelState) →
-        Loads (page_loaded (stack_segment words ∷ []) (stack_contents words) (slot_at t slot).directory stack_page t.spaces) some t u →
-        Loads (program_loaded segments file words (slot_at s slot).directory s.spaces) some s u
-    program-loads true u h = (program-last ∙ h.0, h.1 ∙ ap (λ (k : KernelState). with_spaces k u.spaces) pages.1)
-    program-loads false u h = (program-last ∙ h.0, h.1 ∙ ap (λ (k : KernelState). with_spaces k u.spaces) pages.1)
+  -- and that of the handler's stack
+
+  pub space-none : Loads (program_loaded segments file words (slot_at s slot).directory s.spaces) false s t →
+      Loads (space_loaded segments file words (slot_at s slot).directory s.spaces) false s t
+  unfolding space_loaded
+  space-none = then-none handler_stack_loaded (program_loaded segments file words (slot_at s slot).directory s.spaces) slot s t
+
+  pub space-loads : Loads (program_loaded segments file words (slot_at s slot).directory s.spaces) true s t → (some : Bool) (u : KernelState) →
+      Loads (handler_stack_loaded (slot_at t slot).directory t.spaces) some t u →
+      Loads (space_loaded segments file words (slot_at s slot).directory s.spaces) some s u
+  unfolding space_loaded
+  space-loads = then-loads handler_stack_loaded (program_loaded segments file words (slot_at s slot).directory s.spaces) slot s t
+
+module _ (s t : KernelState) (d : ℕ) (rest : t ≡ with_spaces s t.spaces) where
+  pub handler-loads : (page : Option Frame) (some : Bool) → some ≡ is_some page →
+      IfSome page (λ frame. allocated s.spaces d 977919 7 ≡ Some (frame.0, t.spaces)) →
+      (IsNone page → allocated s.spaces d 977919 7 ≡ None) → Loads (handler_stack_loaded d s.spaces) some s t
+  unfolding handler_stack_loaded
+  handler-loads (Some frame) some is found absent =
+      subst (λ (b : Bool). Loads (handler_stack_loaded d s.spaces) b s t) (sym is) (ap only_state found, rest)
+  handler-loads None some is found absent =
+      subst (λ (b : Bool). Loads (handler_stack_loaded d s.spaces) b s t) (sym is) (ap only_state (absent refl), rest)
 
 -- ---- the environments
 
@@ -93,24 +133,25 @@ module _ (image : Layout) (file : List ℕ) (words : List (List ℕ)) (s : Kerne
 
   module _ (t u : KernelState) (n : ℕ) (segments : List Segment) (made : environment_made s 0 ≡ Ok (n, t))
       (whole : segments ≡ image.segments) where
-    loaded_at : {loaded : Option SpacesState} → program_loaded segments file words (slot_at t n).directory t.spaces ≡ loaded
-        → program_loaded image.segments file words (slot_at t n).directory t.spaces ≡ loaded
-    loaded_at is = ap (λ (list : List Segment). program_loaded list file words (slot_at t n).directory t.spaces) (sym whole) ∙ is
+    loaded_at : {loaded : Option SpacesState} → space_loaded segments file words (slot_at t n).directory t.spaces ≡ loaded
+        → space_loaded image.segments file words (slot_at t n).directory t.spaces ≡ loaded
+    loaded_at is = ap (λ (list : List Segment). space_loaded list file words (slot_at t n).directory t.spaces) (sym whole) ∙ is
 
-    pub started-none : Loads (program_loaded segments file words (slot_at t n).directory t.spaces) false t u →
+    pub started-none : Loads (space_loaded segments file words (slot_at t n).directory t.spaces) false t u →
         program_in image file words (environment_made s 0) ≡ None
     started-none loads = ap (program_in image file words) made ∙ ap (option_map (program_started t n image.entry words))
         (loaded_at loads.0)
 
-    pub started-some : (v w : KernelState) (registers : Regs) →
-        Loads (program_loaded segments file words (slot_at t n).directory t.spaces) true t u
-        → registers ≡ program_registers image.entry words → v ≡ with_registers u n registers → w ≡ with_status v n Runnable
-        → program_in image file words (environment_made s 0) ≡ Some w
-    started-some v w registers loads is_registers v_is w_is =
-        let state : w ≡ program_started t n image.entry words u.spaces =
-        w_is ∙ ap (λ (k : KernelState). with_status k n Runnable)
+    pub started-some : (v w x : KernelState) (registers : Regs) →
+        Loads (space_loaded segments file words (slot_at t n).directory t.spaces) true t u
+        → registers ≡ program_registers image.entry words → v ≡ with_registers u n registers → w ≡ with_upcall v n PGFAULT_UPCALL →
+        x ≡ with_status w n Runnable → program_in image file words (environment_made s 0) ≡ Some x
+    started-some v w x registers loads is_registers v_is w_is x_is =
+        let state : x ≡ program_started t n image.entry words u.spaces =
+        x_is ∙ ap (λ (k : KernelState). with_status k n Runnable)
+        (w_is ∙ ap (λ (k : KernelState). with_upcall k n PGFAULT_UPCALL)
         (v_is ∙ ap (with_registers u n) is_registers
-        ∙ ap (λ (k : KernelState). with_registers k n (program_registers image.entry words)) loads.1) in
+        ∙ ap (λ (k : KernelState). with_registers k n (program_registers image.entry words)) loads.1)) in
         ap (program_in image file words) made ∙ ap (option_map (program_started t n image.entry words)) (loaded_at loads.0)
         ∙ ap Some (sym state)
 

@@ -1,37 +1,44 @@
--- Steps of a run that are made at once: instructions of a program that go on, and one more step, which may be a service's.
+-- Steps of a run that are made at once: instructions of a program that go on, and one more step, which may be the library's.
 use Rattle.std.proofs.Common.{◌≡◌, ◌∙◌, ℕ, ◌+◌, ◌<◌, zero, suc, Bool, true, false, List, [], ◌∷◌, ◌++◌, length, Option, Some, None, Ok}
 use Rattle.std.proofs.Common.{Result, Err, refl, sym, ap, subst, arith, if◌then◌else◌}
-use Rattle.std.specs.Prelude.{IfOk}
+use Rattle.std.specs.Prelude.{IfOk, OnErr}
 use Rattle.jos_host.specs.declared.host.Failed.{Failed}
 use Rattle.jos_base.specs.declared.environment.Status.{Status}
-use Rattle.jos_base.specs.Environments.{is_running}
+use Rattle.jos_base.specs.declared.registers.Regs.{Regs}
+use Rattle.jos_base.specs.Environments.{Slot, is_running}
 use Rattle.jos_base.specs.KernelState.{KernelState, slot_at, turn_begun, turn_ended}
 use Rattle.jos_cpu.specs.declared.events.Event.{Event}
+use Rattle.jos_cpu.specs.declared.events.Event.TheVariants.{Next, Soft, Raised}
+use Rattle.jos_cpu.specs.declared.events.Gates.TheVariants.{Run}
+use Rattle.jos_cpu.specs.Steps.{Stepped}
+use Rattle.jos_cpu.proofs.RegistersLeft.{Leaves as RegistersLeft, step_leaves}
 use Rattle.jos_sched.specs.RoundRobin.{next}
 use Rattle.jos_kernel.specs.declared.report.Turn.{Turn}
 use Rattle.jos_kernel.specs.declared.trace.TrapLine.{TrapLine}
 use Rattle.jos_kernel.specs.Books.{turn_of}
+use Rattle.jos_kernel.specs.Running.{Running, loaded_in}
 use Rattle.jos_kernel.specs.Steps.{EnvStep}
-use Rattle.lib_os.specs.declared.place.Place.{Place}
 use Rattle.lib_os.specs.declared.place.Place.TheVariants as place
-use Rattle.lib_os.specs.declared.place.Step.{Step}
-use Rattle.lib_os.specs.declared.service.Service.{Service}
 use Rattle.lib_os.specs.declared.progress.Progress.{Progress}
 use Rattle.lib_os.specs.declared.progress.Progress.TheVariants as progress
-use Rattle.lib_os.specs.LibrarySteps.{KeepsStanding, IsLibraryStep, Leaves, Lowers, GivesUp, is_pausing}
+use Rattle.lib_os.specs.LibrarySteps.{KeepsStanding, IsLibraryStep, Leaves, Lowers, is_pausing}
 use Rattle.lib_os.specs.InOrder.{IsInOrder}
 use Rattle.lib_os.specs.Places.{place_of}
 use Rattle.lib_os.specs.UserCalls.{Output}
+use Rattle.lib_os.specs.StandsInHandler.{AreSmall}
 use Rattle.lib_os.proofs.GoingOn.{gives_nothing_up}
+use Rattle.lib_os.proofs.Slots.{slot_put}
+use Rattle.jos_run.specs.FencedMemory.{fenced_memory}
 use Rattle.jos_run.specs.declared.steps.StepOutcome.{StepOutcome}
 use Rattle.jos_run.specs.Guest.{Follows}
-use Rattle.jos_run.specs.GuestSteps.{quietly, after_event, guest_instruction}
+use Rattle.jos_run.specs.GuestSteps.{quietly, after_event, guest_instruction, is_copying, is_handed_over}
 use Rattle.jos_run.specs.LibraryRuns.{visible_steps, hidden_steps}
 use Rattle.jos_run.specs.RunSteps.{StepMade, IsMade, LeadTo, traps_of, written_in, turns_with}
 use Rattle.jos_run.specs.Steps.{is_awake, step_progress, Raises}
 use Rattle.jos_run.specs.StepsAtOnce.{GuestGoesOn, came_to, MakesSteps}
 use Rattle.jos_run.proofs.GuestLeaves.{guest_leaves}
-use Rattle.jos_run.proofs.ProgramSteps.{program_goes_on, program_ends, program_fails, guest_raises}
+use Rattle.jos_run.proofs.GuestStands.{SmallAtFault, copying_at, instruction_end, instruction_step}
+use Rattle.jos_run.proofs.ProgramSteps.{program_goes_on, program_ends, program_copies, program_lowers, program_fails, guest_raises}
 use Rattle.jos_run.proofs.QuietSteps.{gone_quietly, quiet_calm, quiet_keeps, running_awake}
 use Rattle.jos_run.proofs.RunSteps.{turns_further, turn_longer}
 
@@ -42,16 +49,35 @@ pub record IsGuestBurst (n going : ℕ) (s after : KernelState) (ip : ℕ) (even
   pub reached : KernelState
   pub went : GuestGoesOn n going s reached
   pub is_guest : place_of (slot_at reached n) ≡ place.Guest
+  pub event_is : (instruction_step reached n).event ≡ event
+  pub end_is : instruction_end reached n ≡ after
   pub last : guest_instruction reached n ≡ after_event after n ip event
+
+-- A trap leaves the registers, so that they are small where they are small behind it.
+small_before : (event : Event) (old new : Regs) → RegistersLeft event old new → AreSmall new → SmallAtFault old event
+small_before Next old new left small = tt
+small_before (Soft vector) old new left small = tt
+small_before (Raised trap error va) old new left small = λ is. subst AreSmall left small
 
 -- so it is as many steps of its environment
 module _ {n going ip : ℕ} {event : Event} (s mid after : KernelState) (output : Output) (b : IsGuestBurst n going s mid ip event)
-    (awake : is_awake (slot_at s n).status ≡ true) (guest : place_of (slot_at s n) ≡ place.Guest) (order : IsInOrder after) where
+    (awake : is_awake (slot_at s n).status ≡ true) (guest : place_of (slot_at s n) ≡ place.Guest) (small : AreSmall (slot_at mid n).registers)
+    (order : IsInOrder after) where
   still_awake : is_awake (slot_at b.reached n).status ≡ true
   still_awake = ap (λ (x : Status). is_awake x) (gone_quietly n going s b.reached b.went).status ∙ awake
 
-  makes : (last : Result StepOutcome Failed) → IsLibraryStep (step_progress last) n b.reached after output → Leaves (step_progress last) n b.reached after →
-      Lowers (step_progress last) (place_of (slot_at b.reached n)) (place_of (slot_at after n)) →
+  abbrev step : Stepped Running
+  step = instruction_step b.reached n
+
+  still_small : SmallAtFault (slot_at b.reached n).registers step.event
+  still_small =
+      let k = slot_at b.reached n in
+      let set : Slot = record (slot_at step.memory.state n) { registers = step.regs } in
+      small_before step.event k.registers step.regs (step_leaves fenced_memory Run k.registers (loaded_in b.reached k.directory))
+      (subst AreSmall ((λ i. (slot_at (sym b.end_is i) n).registers) ∙ ap (λ (x : Slot). x.registers) (slot_put step.memory.state n set)) small)
+
+  makes : (last : Result StepOutcome Failed) → IsLibraryStep (step_progress last) n b.reached after output →
+      Leaves (step_progress last) n b.reached after → Lowers (step_progress last) n b.reached after →
       IfOk last (λ stepped. Raises (place_of (slot_at b.reached n)) n b.reached stepped.trap after) → MakesSteps n going last s after output
   makes last step leaves lowers raises = record {
     reached = b.reached;
@@ -64,47 +90,34 @@ module _ {n going ip : ℕ} {event : Event} (s mid after : KernelState) (output 
     raises = raises;
   }
 
-  by_followed : (live : Bool) (followed : Result (Option TrapLine) Failed) → Follows followed (guest_instruction b.reached n) after output →
-      MakesSteps n going (came_to live followed) s after output
-  by_followed true (Ok trap) told =
+  by_followed : (copying live : Bool) → copying_at b.reached n ≡ copying → (followed : Result (Option TrapLine) Failed) →
+      Follows followed (guest_instruction b.reached n) after output →
+      OnErr followed (is_handed_over (instruction_end b.reached n) n step.event ≡ false) →
+      MakesSteps n going (came_to copying live followed) s after output
+  by_followed true live is (Ok trap) told ended =
+      makes (Ok (record { progress = progress.Hidden; trap = trap }))
+      (program_copies b.reached after n output still_awake b.is_guest still_small order is trap told)
+      (guest_leaves b.reached after n progress.Hidden told.0)
+      (program_lowers b.reached after n output still_awake b.is_guest still_small order is trap told)
+      (guest_raises b.reached after n trap b.is_guest told.0 told.1)
+  by_followed false true is (Ok trap) told ended =
       makes (Ok (record { progress = progress.Visible; trap = trap }))
-      (program_goes_on b.reached after n output still_awake b.is_guest order trap told)
+      (program_goes_on b.reached after n output still_awake b.is_guest still_small order is trap told)
       (guest_leaves b.reached after n progress.Visible told.0) tt (guest_raises b.reached after n trap b.is_guest told.0 told.1)
-  by_followed false (Ok trap) told =
+  by_followed false false is (Ok trap) told ended =
       makes (Ok (record { progress = progress.Ended; trap = trap }))
-      (program_ends b.reached after n output still_awake b.is_guest order trap told)
+      (program_ends b.reached after n output still_awake b.is_guest still_small order is trap told)
       (guest_leaves b.reached after n progress.Ended told.0) tt (guest_raises b.reached after n trap b.is_guest told.0 told.1)
-  by_followed live (Err failed) told =
-      makes (Err failed) (program_fails b.reached after n output still_awake b.is_guest order failed told) tt tt tt
+  by_followed copying live is (Err failed) told ended =
+      makes (Err failed) (program_fails b.reached after n output still_awake b.is_guest still_small order failed told ended) tt tt tt
 
-  pub program_made : (live : Bool) (followed : Result (Option TrapLine) Failed) → Follows followed (after_event mid n ip event) after output →
-      MakesSteps n going (came_to live followed) s after output
-  program_made live followed told =
-      by_followed live followed (subst (λ (step : EnvStep). Follows followed step after output) (sym b.last) told)
-
--- ---- a service
-
--- One step of a service, with no instruction before it. It raises no trap.
-module _ (s after : KernelState) (n : ℕ) (output : Output) (service : Service) (step : Step)
-    (is : place_of (slot_at s n) ≡ place.InService service step) (did : Result Progress Failed) where
-  raises_none : (last : Result StepOutcome Failed) → IfOk last (λ stepped. stepped.trap ≡ None) →
-      IfOk last (λ stepped. Raises (place_of (slot_at s n)) n s stepped.trap after)
-  raises_none (Ok stepped) none = subst (λ (p : Place). Raises p n s stepped.trap after) (sym is) none
-  raises_none (Err failed) none = tt
-
-  pub service_made : (last : Result StepOutcome Failed) → step_progress last ≡ did → IfOk last (λ stepped. stepped.trap ≡ None) →
-      IsLibraryStep did n s after output → Leaves did n s after → Lowers did (place_of (slot_at s n)) (place_of (slot_at after n)) →
-      GivesUp did (slot_at s n) (slot_at after n) → MakesSteps n 0 last s after output
-  service_made last told none library leaves lowers gives_up = record {
-    reached = s;
-    went = refl;
-    is_guest = λ some. absurd (omega (arith, some));
-    step = subst (λ (r : Result Progress Failed). IsLibraryStep r n s after output) (sym told) library;
-    leaves = subst (λ (r : Result Progress Failed). Leaves r n s after) (sym told) leaves;
-    lowers = subst (λ (r : Result Progress Failed). Lowers r (place_of (slot_at s n)) (place_of (slot_at after n))) (sym told) lowers;
-    gives_up = subst (λ (r : Result Progress Failed). GivesUp r (slot_at s n) (slot_at after n)) (sym told) gives_up;
-    raises = raises_none last none;
-  }
+  pub program_made : (copying live : Bool) → copying ≡ is_copying mid n event → (followed : Result (Option TrapLine) Failed) →
+      Follows followed (after_event mid n ip event) after output → OnErr followed (is_handed_over mid n event ≡ false) →
+      MakesSteps n going (came_to copying live followed) s after output
+  program_made copying live is followed told ended =
+      by_followed copying live ((λ i. is_copying (b.end_is i) n (b.event_is i)) ∙ sym is) followed
+      (subst (λ (step : EnvStep). Follows followed step after output) (sym b.last) told)
+      (subst (λ (handed : Bool). OnErr followed (handed ≡ false)) (λ i. is_handed_over (sym b.end_is i) n (sym b.event_is i)) ended)
 
 -- ---- steps of a run
 

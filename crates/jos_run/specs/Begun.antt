@@ -3,9 +3,10 @@ use Rattle.std.specs.Prelude.{◌≡◌, ◌≤◌, ℕ, true, List, None, Some,
 use Rattle.jos_base.specs.declared.numbers.TheConstants.{FRAMES_MIN, FRAMES_MAX}
 use Rattle.jos_base.specs.KernelState.{KernelState}
 use Rattle.jos_elf.specs.Parsed.{Layout, parsed}
+use Rattle.lib_os.specs.Rows.{AreBytes}
 use Rattle.lib_os.specs.LibrarySteps.{Stands}
 use Rattle.lib_os.specs.Need.{EachHasUse}
-use Rattle.lib_spawn.specs.StackPage.{fits_stack}
+use Rattle.lib_spawn.specs.StackPage.{fits_stack, strings_of}
 use Rattle.jos_run.specs.Boot.{boot_frames, booted_within, program_booted}
 use Rattle.jos_run.specs.LibraryRuns.{NoneRuns}
 use Rattle.jos_run.specs.Start.{start_state}
@@ -19,10 +20,10 @@ pub record IsNew (s : KernelState) (frames : ℕ) : Type 0 where
   pub frames_are : s.spaces.frames ≡ frames
   pub used : EachHasUse s.spaces
 
--- A program that is booted stands for the abstract state in which its run begins.
+-- A program that is booted, from a file of bytes and with words of bytes, stands for the abstract state in which its run begins.
 abbrev pub ProgramsBegin : Type 0
 ProgramsBegin = (image : Layout) (file : List ℕ) (words : List (List ℕ)) (frames : ℕ) (input : List ℕ) (s : KernelState) →
-    parsed file ≡ Ok image → fits_stack words ≡ true → FRAMES_MIN ≤ frames → frames ≤ FRAMES_MAX →
+    AreBytes file → AreBytes (strings_of words) → parsed file ≡ Ok image → fits_stack words ≡ true → FRAMES_MIN ≤ frames → frames ≤ FRAMES_MAX →
     program_booted image file words frames input ≡ Some s → Stands s (start_state image file words input) × IsNew s frames
 
 -- And in the frames that it wants, every program is booted.

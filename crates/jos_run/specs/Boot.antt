@@ -1,6 +1,7 @@
 -- How a run begins: the file server's environment in slot 0, which has no pages and never runs, and a program in slot 1,
--- with the pages of its image and a page of stack on which its words stand.
--- (MIT 6.828, env_create and load_icode of kern/env.c, and init_stack of lib/spawn.c.)
+-- with the pages of its image, a page of stack on which its words stand, and a page for the stack of the library's handler of page
+-- faults, to which its page faults go.
+-- (MIT 6.828, env_create and load_icode of kern/env.c, init_stack of lib/spawn.c, and set_pgfault_handler of lib/pgfault.c.)
 use Rattle.std.specs.Prelude.{ℕ, ◌+◌, ◌*◌, ◌/◌, nat_lt, Bool, true, List, [], ◌∷◌, Option, None, Some, Result, Ok, Err, if◌then◌else◌}
 use Rattle.std.specs.Prelude.{option_and_then}
 use Rattle.std.specs.Option.{option_map}
@@ -12,11 +13,13 @@ use Rattle.jos_base.specs.declared.registers.Regs.{Regs}
 use Rattle.jos_base.specs.Counting.{total}
 use Rattle.jos_base.specs.Environments.{bit_of}
 use Rattle.jos_base.specs.KernelState.{KernelState, first_state, slot_at, with_env_type, with_registers, with_spaces, with_status}
-use Rattle.jos_base.specs.SpacesState.{SpacesState}
+use Rattle.jos_base.specs.KernelState.{with_upcall}
+use Rattle.jos_base.specs.SpacesState.{SpacesState, allocated}
 use Rattle.jos_base.specs.SystemCalls.{environment_made}
 use Rattle.jos_elf.specs.declared.image.Segment.{Segment}
 use Rattle.jos_elf.specs.Parsed.{Layout}
-use Rattle.jos_kernel.specs.Boot.{any_touches, first_registers, page_loaded, pages_loaded, stack_page}
+use Rattle.jos_kernel.specs.Boot.{any_touches, first_registers, only_state, page_loaded, pages_loaded, perm_of, stack_page}
+use Rattle.lib_os.specs.declared.numbers.TheConstants.{PGFAULT_UPCALL, UXSTACK}
 use Rattle.lib_spawn.specs.StackPage.{stack_contents, stack_pointer, stack_size}
 use Rattle.fs_layout.specs.DiskImage.{some_below}
 use Rattle.jos_run.specs.declared.boot.TheConstants.{FRAMES_BESIDE}
@@ -39,19 +42,32 @@ program_loaded segments file words space s =
     option_and_then (page_loaded (stack_segment words ∷ []) (stack_contents words) space stack_page)
     (pages_loaded segments file space s (FDTABLE / PGSIZE))
 
+abbrev pub handler_page : ℕ
+handler_page = UXSTACK / PGSIZE
+
+-- a page of zeros for the stack of the handler of page faults
+unfoldable pub handler_stack_loaded : ℕ → SpacesState → Option SpacesState
+handler_stack_loaded space s = only_state (allocated s space handler_page (perm_of true))
+
+-- the program, and then the stack of the handler
+unfoldable pub space_loaded : List Segment → List ℕ → List (List ℕ) → ℕ → SpacesState → Option SpacesState
+space_loaded segments file words space s =
+    option_and_then (handler_stack_loaded space) (program_loaded segments file words space s)
+
 -- it stands at the image's entry, and ESP at its words
 abbrev pub program_registers : ℕ → List (List ℕ) → Regs
 program_registers entry words = record (first_registers entry) { esp = stack_pointer words }
 
+-- its page faults go to the handler, and it may run
 abbrev pub program_started : KernelState → ℕ → ℕ → List (List ℕ) → SpacesState → KernelState
 program_started s n entry words spaces =
-    with_status (with_registers (with_spaces s spaces) n (program_registers entry words)) n Runnable
+    with_status (with_upcall (with_registers (with_spaces s spaces) n (program_registers entry words)) n PGFAULT_UPCALL) n Runnable
 
 abbrev pub program_in : Layout → List ℕ → List (List ℕ) → Result (ℕ × KernelState) Errno → Option KernelState
 program_in image file words (Err error) = None
 program_in image file words (Ok made) =
     option_map (program_started made.1 made.0 image.entry words)
-    (program_loaded image.segments file words (slot_at made.1 made.0).directory made.1.spaces)
+    (space_loaded image.segments file words (slot_at made.1 made.0).directory made.1.spaces)
 
 -- ---- the server
 

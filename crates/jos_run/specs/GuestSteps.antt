@@ -1,16 +1,20 @@
 -- One step of a program under the library, as the kernel makes it: an instruction over the memory inside the fence, with
 -- what comes of it.
-use Rattle.std.specs.Prelude.{ℕ, ◌==◌, [], None, if◌then◌else◌}
-use Rattle.jos_base.specs.declared.numbers.TheConstants.{T_BRKPT, T_GPFLT, T_SERVICE}
+use Rattle.std.specs.Prelude.{ℕ, ◌==◌, ◌&&◌, Bool, false, [], None, if◌then◌else◌}
+use Rattle.jos_base.specs.declared.numbers.TheConstants.{T_BRKPT, T_GPFLT, T_PGFLT, T_SERVICE}
 use Rattle.jos_base.specs.KernelState.{KernelState, slot_at, with_registers, with_extra}
+use Rattle.jos_base.specs.Words.{page_number}
 use Rattle.jos_cpu.specs.declared.events.Event.{Event}
 use Rattle.jos_cpu.specs.declared.events.Event.TheVariants.{Next, Soft, Raised}
 use Rattle.jos_cpu.specs.declared.events.Gates.TheVariants.{Run}
 use Rattle.jos_cpu.specs.Steps as cpu
 use Rattle.lib_os.specs.Fence.{is_resident}
+use Rattle.lib_os.specs.LibrarySteps.{is_to_copy}
 use Rattle.lib_os.specs.Places.{words_entered}
+use Rattle.lib_os.specs.Rows.{rows_of}
+use Rattle.lib_os.specs.StandsInHandler.{is_write}
 use Rattle.jos_kernel.specs.Running.{Running, loaded_in}
-use Rattle.jos_kernel.specs.Steps.{EnvStep, after_trap}
+use Rattle.jos_kernel.specs.Steps.{EnvStep, after_trap, is_handed}
 use Rattle.jos_run.specs.FencedMemory.{fenced_memory}
 
 -- nothing is written, and no trap was raised
@@ -42,3 +46,17 @@ unfoldable pub guest_instruction : KernelState → ℕ → EnvStep
 guest_instruction s n =
     let slot = slot_at s n in
     after_instruction n slot.registers.eip (cpu.step_of fenced_memory slot.registers (loaded_in s slot.directory) Run)
+
+-- ---- what is seen of it
+
+-- The instruction of the program in slot n has written to a page that is copied when it is written, and so has raised a page fault:
+-- the handler copies the page, and nobody sees either.
+abbrev pub is_copying : KernelState → ℕ → Event → Bool
+is_copying s n (Raised trap error va) =
+    (trap == T_PGFLT) && (is_write error && is_to_copy (rows_of s.spaces (slot_at s n).directory (page_number va)))
+is_copying s n _ = false
+
+-- It has raised a page fault with which the environment's handler goes on, so that nobody is ended by it.
+abbrev pub is_handed_over : KernelState → ℕ → Event → Bool
+is_handed_over s n (Raised trap error va) = is_handed s n trap error va
+is_handed_over s n _ = false

@@ -8,7 +8,8 @@ use Rattle.jos_kernel.specs.Books.{turn_of}
 use Rattle.lib_os.specs.declared.progress.Progress.{Progress}
 use Rattle.lib_os.specs.AbstractState.{AbstractState}
 use Rattle.lib_os.specs.LibrarySteps.{Stands, KeepsStanding, NothingRefused}
-use Rattle.lib_os.specs.StandsFor.{StandsFor, Names}
+use Rattle.lib_os.specs.Rows.{Names}
+use Rattle.lib_os.specs.StandsFor.{StandsFor}
 use Rattle.jos_run.specs.AbstractTurns.{next_slot, end_of, turn_fits, fits}
 use Rattle.jos_run.specs.LibraryRuns.{NoneRuns, OnlyRuns, OnlyFirstServes, IsBetween, IsInTurn, visible_steps, end_seen}
 

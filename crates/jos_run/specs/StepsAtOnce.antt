@@ -19,10 +19,12 @@ GuestGoesOn n (suc more) before after =
     (next : KernelState) × (guest_instruction before n ≡ quietly next) × (place_of (slot_at next n) ≡ place.Guest)
     × GuestGoesOn n more next after
 
--- what an instruction has come to that leaves its environment live or not, with the trap that it raised
-abbrev pub came_to : Bool → Result (Option TrapLine) Failed → Result StepOutcome Failed
-came_to live (Ok trap) = Ok (record { progress = if live then progress.Visible else progress.Ended; trap = trap })
-came_to live (Err failed) = Err failed
+-- what an instruction has come to that was stopped by a page to be copied or not, and leaves its environment live or not, with the
+-- trap that it raised
+abbrev pub came_to : Bool → Bool → Result (Option TrapLine) Failed → Result StepOutcome Failed
+came_to copying live (Ok trap) =
+    Ok (record { progress = if copying then progress.Hidden else if live then progress.Visible else progress.Ended; trap = trap })
+came_to copying live (Err failed) = Err failed
 
 -- The environment in slot n makes so many steps that go on, and one more, which has come to this.
 pub record MakesSteps (n going : ℕ) (last : Result StepOutcome Failed) (before after : KernelState) (output : Output) : Type 0 where
@@ -32,6 +34,6 @@ pub record MakesSteps (n going : ℕ) (last : Result StepOutcome Failed) (before
   pub is_guest : 0 < going → place_of (slot_at before n) ≡ place.Guest
   pub step : IsLibraryStep (step_progress last) n reached after output
   pub leaves : Leaves (step_progress last) n reached after
-  pub lowers : Lowers (step_progress last) (place_of (slot_at reached n)) (place_of (slot_at after n))
+  pub lowers : Lowers (step_progress last) n reached after
   pub gives_up : GivesUp (step_progress last) (slot_at reached n) (slot_at after n)
   pub raises : IfOk last (λ stepped. Raises (place_of (slot_at reached n)) n reached stepped.trap after)

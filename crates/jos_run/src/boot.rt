@@ -1,4 +1,5 @@
-//! How a run begins: the file server's environment in slot 0, and a program with its words in slot 1.
+//! How a run begins: the file server's environment in slot 0, and a program with its words in slot 1, with the stack of the
+//! library's handler of page faults.
 
 ghost use Rattle.std.specs.Prelude.{◌≡◌, ℕ, ◌/◌, ◌<◌, ◌≤◌, List, [], ◌∷◌, Some, None, Ok, All, IfOk, IfErr, length, true, false, map};
 ghost use Rattle.jos_base.specs.declared.numbers.TheConstants.{FDTABLE, FRAMES_MAX, FRAMES_MIN, NPTENTRIES, PGSIZE};
@@ -7,12 +8,13 @@ ghost use Rattle.jos_elf.specs.Parsed.{Lies, parsed};
 ghost use Rattle.jos_sys.specs.System.{state_of, spaces_of, Keeps, is_live_in};
 ghost use Rattle.jos_kernel.specs.Boot.{page_loaded, stack_page};
 ghost use Rattle.jos_kernel.specs.Loading.{directory_of, Loads};
-ghost use Rattle.lib_spawn.specs.StackPage.{fits_stack, stack_contents};
+ghost use Rattle.lib_spawn.specs.StackPage.{fits_stack, stack_contents, strings_of};
 ghost use Rattle.lib_os.specs.LibrarySteps.{Stands};
 ghost use Rattle.jos_run.specs.Start.{start_state};
 ghost use Rattle.jos_run.specs.Begun.{IsNew, ProgramsBegin, ProgramsBoot};
+ghost use Rattle.lib_os.specs.Rows.{AreBytes};
 ghost use Rattle.jos_run.specs.Boot.{pages_touched, touches_region, regions_touched, boot_frames, stack_segment, program_loaded};
-ghost use Rattle.jos_run.specs.Boot.{program_registers, program_in, server_in, booted_within};
+ghost use Rattle.jos_run.specs.Boot.{handler_stack_loaded, program_registers, program_in, server_in, booted_within};
 
 use jos_base::{
     EnvId, EnvType, FDTABLE, NPTENTRIES, PGSIZE, PTE_P, PTE_U, PTE_W, Perm, Regs, Status, USTACKTOP,
@@ -20,6 +22,7 @@ use jos_base::{
 use jos_elf::{Image, Segment};
 use jos_kernel::{BootFault, first_registers, load_pages, next_touched};
 use jos_sys::System;
+use lib_os::{PGFAULT_UPCALL, UXSTACK};
 use lib_spawn::{stack_contents, stack_pointer};
 use std::alloc::Global;
 
@@ -81,6 +84,11 @@ pub fn boot_frames(image: &Image) -> u32
 
 // ---- the program
 
+/// Tells that bytes are bytes. Nothing is done.
+fn keep_bytes(bytes: &[u8])
+    ensures { AreBytes bytes.now }
+{}
+
 /// A page at the top of the stack, with the program's words. False where a frame is wanted and none is free.
 fn load_stack(system: &mut System, slot: usize, words: &[&str]) -> bool
     requires live { is_live_in system.old slot ≡ true }
@@ -89,12 +97,14 @@ fn load_stack(system: &mut System, slot: usize, words: &[&str]) -> bool
     ensures loads { (input : List ℕ) →
         Loads (page_loaded (stack_segment (map (λ w. w.now) words.now) ∷ []) (stack_contents (map (λ w. w.now) words.now)) (directory_of system.old slot)
         stack_page (spaces_of system.old)) result (state_of system.old input) (state_of system.new input) }
+    ensures bytes { result ≡ true → AreBytes (strings_of (map (λ w. w.now) words.now)) }
     ensures spaces { Keeps system.new }
 {
     match system.allocate(slot, USTACKTOP - PGSIZE, Perm(PTE_P + PTE_W + PTE_U)) {
         None => false,
         Some(frame) => {
             let bytes = stack_contents(words);
+            keep_bytes(bytes.as_slice());
             system.fill(frame, PGSIZE - bytes.len() as u32, bytes.as_slice());
             true
         }
@@ -116,12 +126,27 @@ fn load_program(
     ensures loads { (input : List ℕ) →
         Loads (program_loaded segments.now file.now (map (λ w. w.now) words.now) (directory_of system.old slot) (spaces_of system.old))
         result (state_of system.old input) (state_of system.new input) }
+    ensures bytes { result ≡ true → AreBytes (strings_of (map (λ w. w.now) words.now)) }
     ensures spaces { Keeps system.new }
 {
     if !load_pages(system, slot, segments, file) {
         return false;
     }
     load_stack(system, slot, words)
+}
+
+/// A page of zeros for the stack of the handler of page faults. False where a frame is wanted and none is free.
+fn load_handler_stack(system: &mut System, slot: usize) -> bool
+    requires live { is_live_in system.old slot ≡ true }
+    requires spaces { Keeps system.old }
+    ensures loads { (input : List ℕ) →
+        Loads (handler_stack_loaded (directory_of system.old slot) (spaces_of system.old)) result
+        (state_of system.old input) (state_of system.new input) }
+    ensures spaces { Keeps system.new }
+{
+    system
+        .allocate(slot, UXSTACK, Perm(PTE_P + PTE_W + PTE_U))
+        .is_some()
 }
 
 /// The registers of a program that begins at this address, with these words.
@@ -135,7 +160,8 @@ fn program_registers(entry: u32, words: &[&str]) -> Regs
     }
 }
 
-/// The environment of the program, which may run. False where a frame or a slot is wanted and none is free.
+/// The environment of the program, whose page faults go to the handler, and which may run. False where a frame or a slot is
+/// wanted and none is free.
 fn start_program(system: &mut System, image: &Image, file: &[u8], words: &[&str]) -> bool
     requires spaces { Keeps system.old }
     requires lie { All (Lies (length file.now)) image.now.segments }
@@ -145,6 +171,7 @@ fn start_program(system: &mut System, image: &Image, file: &[u8], words: &[&str]
         ≡ Some (state_of system.new input) }
     ensures full { result ≡ false → (input : List ℕ) →
         program_in image.now file.now (map (λ w. w.now) words.now) (environment_made (state_of system.old input) 0) ≡ None }
+    ensures bytes { result ≡ true → AreBytes (strings_of (map (λ w. w.now) words.now)) }
     ensures spaces { Keeps system.new }
 {
     let slot = match system.make_environment(EnvId(0)) {
@@ -154,7 +181,11 @@ fn start_program(system: &mut System, image: &Image, file: &[u8], words: &[&str]
     if !load_program(system, slot, image.segments(), file, words) {
         return false;
     }
+    if !load_handler_stack(system, slot) {
+        return false;
+    }
     system.set_registers(slot, program_registers(image.entry(), words));
+    system.set_upcall(slot, PGFAULT_UPCALL);
     system.set_status(slot, Status::Runnable);
     true
 }

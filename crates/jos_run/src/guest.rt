@@ -1,15 +1,15 @@
 //! What comes of an instruction of the program of an environment that the library serves.
 
-ghost use Rattle.std.specs.Prelude.{◌≡◌, true};
+ghost use Rattle.std.specs.Prelude.{◌≡◌, true, false, OnErr};
 ghost use Rattle.jos_host.specs.Told.{HasCause};
 ghost use Rattle.jos_host.specs.Frames.{Unchanged, from_to};
 ghost use Rattle.jos_base.specs.Environments.{is_live};
 ghost use Rattle.jos_base.specs.KernelState.{slot_at};
-ghost use Rattle.jos_kernel.specs.Steps.{after_trap};
+ghost use Rattle.jos_kernel.specs.Steps.{after_trap, is_handed};
 ghost use Rattle.lib_os.specs.Places.{words_entered};
 ghost use Rattle.lib_os.specs.UserCalls.{output};
 ghost use Rattle.jos_run.specs.Guest.{Follows};
-ghost use Rattle.jos_run.specs.GuestSteps.{after_event};
+ghost use Rattle.jos_run.specs.GuestSteps.{after_event, is_handed_over};
 ghost use Rattle.jos_run.specs.Served.{kernel_state};
 
 use crate::served::Served;
@@ -40,6 +40,7 @@ impl Served {
     ) -> Result<Option<TrapLine>, Failed>
         requires { is_live (slot_at (kernel_state self.old) self.old.slot) ≡ true }
         ensures told { Follows result (after_trap (kernel_state self.old) self.old.slot trap error va ip) (kernel_state self.new) (output H.console (λ s. s.written) (from_to host.old host.new) (from_to self.old self.new)) }
+        ensures ended { OnErr result (is_handed (kernel_state self.old) self.old.slot trap error va ≡ false) }
         ensures slot { self.new.slot ≡ self.old.slot }
         ensures calls { self.new.calls ≡ self.old.calls }
         ensures rest { Unchanged H.files H.input H.asked H.notes host.old host.new }
@@ -66,6 +67,7 @@ impl Served {
     ) -> Result<Option<TrapLine>, Failed>
         requires { is_live (slot_at (kernel_state self.old) self.old.slot) ≡ true }
         ensures told { Follows result (after_event (kernel_state self.old) self.old.slot ip event) (kernel_state self.new) (output H.console (λ s. s.written) (from_to host.old host.new) (from_to self.old self.new)) }
+        ensures ended { OnErr result (is_handed_over (kernel_state self.old) self.old.slot event ≡ false) }
         ensures slot { self.new.slot ≡ self.old.slot }
         ensures calls { self.new.calls ≡ self.old.calls }
         ensures rest { Unchanged H.files H.input H.asked H.notes host.old host.new }

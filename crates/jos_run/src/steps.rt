@@ -9,16 +9,22 @@ ghost use Rattle.lib_os.specs.Places.{place_of};
 ghost use Rattle.lib_os.specs.UserCalls.{output};
 ghost use Rattle.lib_os.specs.declared.place.Place.TheVariants as place;
 ghost use Rattle.jos_run.specs.Served.{kernel_state};
-ghost use Rattle.jos_run.specs.Steps.{is_awake, step_progress};
+ghost use Rattle.jos_base.specs.Words.{page_number};
+ghost use Rattle.lib_os.specs.LibrarySteps.{is_to_copy};
+ghost use Rattle.lib_os.specs.Rows.{rows_of};
+ghost use Rattle.lib_os.specs.StandsInHandler.{AreSmall};
+ghost use Rattle.jos_run.specs.GuestSteps.{is_copying};
+ghost use Rattle.jos_run.specs.Steps.{is_awake, raised_again, step_progress};
 ghost use Rattle.jos_run.specs.StepsAtOnce.{came_to, MakesSteps};
 
 use crate::served::Served;
 use crate::services::stage_of;
-use jos_base::Status;
-use jos_cpu::{Decodings, Gates, make_burst};
+use jos_base::{FEC_WR, PTE_SYSCALL, Status, T_PGFLT};
+use jos_cpu::{Decodings, Event, Gates, make_burst};
 use jos_host::{Failed, Host};
 use jos_kernel::TrapLine;
-use lib_os::{Place, Progress, UserOs, find_place};
+use lib_fault::PageFaultHandler;
+use lib_os::{HandlerStep, PTE_COW, Place, Progress, UserOs, find_place};
 use lib_stage::drive;
 
 /// What a step has come to, and the trap that it raised, if it raised one.
@@ -35,14 +41,20 @@ pub struct Steps {
     pub last: Result<StepOutcome, Failed>,
 }
 
-/// What the last instruction of a program has come to, by whether its environment is live, and the trap that it raised, if it
-/// raised one.
-fn came_to(live: bool, followed: Result<Option<TrapLine>, Failed>) -> Result<StepOutcome, Failed>
-    ensures { result ≡ came_to live followed }
+/// What the last instruction of a program has come to, by whether it was stopped by a page to be copied and whether its
+/// environment is live, and the trap that it raised, if it raised one.
+fn came_to(
+    copying: bool,
+    live: bool,
+    followed: Result<Option<TrapLine>, Failed>,
+) -> Result<StepOutcome, Failed>
+    ensures { result ≡ came_to copying live followed }
 {
     match followed {
         Ok(trap) => {
-            let progress = if live {
+            let progress = if copying {
+                Progress::Hidden
+            } else if live {
                 Progress::Visible
             } else {
                 Progress::Ended
@@ -53,16 +65,16 @@ fn came_to(live: bool, followed: Result<Option<TrapLine>, Failed>) -> Result<Ste
     }
 }
 
-/// A step of a service raises no trap.
-fn served_quietly(answer: Result<Progress, Failed>) -> Result<StepOutcome, Failed>
+/// A step of the library has come to this, with the trap that it raised, if it raised one.
+fn came_with(
+    answer: Result<Progress, Failed>,
+    trap: Option<TrapLine>,
+) -> Result<StepOutcome, Failed>
     ensures answer { step_progress result ≡ answer }
-    ensures quiet { IfOk result (λ stepped. stepped.trap ≡ None) }
+    ensures trap { IfOk result (λ stepped. stepped.trap ≡ trap) }
 {
     match answer {
-        Ok(progress) => Ok(StepOutcome {
-            progress,
-            trap: None,
-        }),
+        Ok(progress) => Ok(StepOutcome { progress, trap }),
         Err(failed) => Err(failed),
     }
 }
@@ -92,6 +104,57 @@ impl Served {
         self.is_runnable() || self.is_running()
     }
 
+    /// Tells that the registers of the environment have 32 bits each. Nothing is done.
+    #[inline(always)]
+    fn keep_small(&self)
+        requires { is_live (slot_at (kernel_state self.now) self.now.slot) ≡ true }
+        ensures { AreSmall (slot_at (kernel_state self.now) self.now.slot).registers }
+    {
+        self.registers();
+    }
+
+    /// Whether what came of the program's instruction is that it was stopped by a page to be copied.
+    fn is_copying(&self, event: Event) -> bool
+        requires { is_live (slot_at (kernel_state self.now) self.now.slot) ≡ true }
+        ensures { result ≡ is_copying (kernel_state self.now) self.now.slot event }
+    {
+        match event {
+            Event::Raised { trap, error, va } => {
+                trap == T_PGFLT && (error & FEC_WR == FEC_WR && self.waits_to_be_copied(va))
+            }
+            Event::Next | Event::Soft(_) => false,
+        }
+    }
+
+    /// Whether the page of an address waits to be copied.
+    #[tactic(auto, unfolding(lib_os::specs::Rows::rows_of))]
+    fn waits_to_be_copied(&self, va: u32) -> bool
+        requires { is_live (slot_at (kernel_state self.now) self.now.slot) ≡ true }
+        ensures { result ≡ is_to_copy (rows_of (kernel_state self.now).spaces (slot_at (kernel_state self.now) self.now.slot).directory (page_number va)) }
+    {
+        let system = self.machine.system();
+        match system.page_perm(system.space(self.slot), va) {
+            Some(perm) => perm.0 & PTE_SYSCALL & PTE_COW == PTE_COW,
+            None => false,
+        }
+    }
+
+    /// The trap that a step of the handler of page faults raises, if it raises one.
+    fn raised_again(&self, step: HandlerStep) -> Option<TrapLine>
+        ensures { result ≡ raised_again (kernel_state self.now) self.now.slot step }
+    {
+        match step {
+            HandlerStep::Touching { va, error, ip } => Some(TrapLine {
+                id: self.machine.system().environment(self.slot).id.0,
+                trap: T_PGFLT,
+                error,
+                va,
+                ip,
+            }),
+            _ => None,
+        }
+    }
+
     /// Makes instructions of the program: up to the first that raises or calls something, or that leaves the stack pointer
     /// among the library's stacks, and so many at most.
     fn run_program<H: Host>(&mut self, host: &mut H, decodings: &mut Decodings, limit: u32) -> Steps
@@ -116,16 +179,18 @@ impl Served {
             limit,
         );
         self.machine.set_registers(self.slot, registers);
+        self.keep_small();
+        let copying = self.is_copying(burst.event);
         let followed = self.follow_guest(host, burst.ip, burst.event);
         self.keep_in_order();
         Steps {
             going: burst.steps - 1,
-            last: came_to(self.is_live(), followed),
+            last: came_to(copying, self.is_live(), followed),
         }
     }
 
     /// Makes steps of the environment that is served: instructions of its program, so many at most, or one step of the
-    /// service that it is in.
+    /// service that it is in, or of its handler of page faults.
     ///
     /// # Errors
     /// A call of the host failed while the last step wrote to the console.
@@ -152,8 +217,16 @@ impl Served {
             Place::Guest => self.run_program(host, decodings, limit),
             Place::InService { service, step } => Steps {
                 going: 0,
-                last: served_quietly(drive(&stage_of(service, step), self, host)),
+                last: came_with(drive(&stage_of(service, step), self, host), None),
             },
+            Place::InHandler { step } => {
+                let trap = self.raised_again(step);
+                let answer = drive(&PageFaultHandler { step }, self, host);
+                Steps {
+                    going: 0,
+                    last: came_with(answer, trap),
+                }
+            }
         }
     }
 }

@@ -40,6 +40,17 @@ impl System {
         self.spaces.byte_at(space, va)
     }
 
+    /// The bits of the entry of a page, below UTOP. None where there is no page.
+    pub fn page_perm(&self, space: Space, va: u32) -> Option<Perm>
+        requires { in_use self.now space.directory.0 ≡ true }
+        ensures { option_map (λ perm. perm.0) result ≡ option_map (λ entry. entry.perm) ((spaces_of self.now).entries space.directory.0 (va / PGSIZE)) }
+    {
+        match self.spaces.look(space, va) {
+            Some((_, perm)) => Some(perm),
+            None => None,
+        }
+    }
+
     /// Writes a byte at an address where a user may write. It sets no bit.
     pub fn store_byte(&mut self, space: Space, va: u32, byte: u8)
         requires space { in_use self.old space.directory.0 ≡ true }

@@ -168,7 +168,7 @@ impl System {
     }
 
     /// Sets where an environment handles its page faults; 0 where it does not.
-    pub(crate) fn set_upcall(&mut self, slot: usize, address: u32)
+    pub fn set_upcall(&mut self, slot: usize, address: u32)
         requires live { is_live_in self.old slot ≡ true }
         ensures state { (input : List ℕ) → state_of self.new input ≡ with_upcall (state_of self.old input) slot address }
         ensures live { KeepsLive (environments_of self.old) (environments_of self.new) }

@@ -19,10 +19,12 @@ use Rattle.lib_os.specs.Fence.{is_page_inside}
 use Rattle.lib_os.specs.LibraryCall.{library_step}
 use Rattle.lib_os.specs.LibrarySteps.{service_answered}
 use Rattle.lib_os.specs.Places.{place_of}
-use Rattle.lib_os.specs.StandsFor.{StandsFor, Names}
+use Rattle.lib_os.specs.Rows.{Names}
+use Rattle.lib_os.specs.StandsFor.{StandsFor}
 use Rattle.lib_os.specs.UserCalls.{system, giving, CallStep}
 use Rattle.lib_os.proofs.Calls.{page_unmap_is}
 use Rattle.lib_os.proofs.Fences.{page_inside_address}
+use Rattle.lib_os.proofs.Logical.{page_inside_programs}
 use Rattle.lib_os.proofs.PagesStand.{removed_stands}
 use Rattle.lib_os.proofs.Removing.{unmapped_removed}
 use Rattle.lib_os.proofs.Serving.{printed_nothing}
@@ -55,8 +57,8 @@ module _ (s : KernelState) (n va : ℕ) (step : Step) (rest : List ℕ) (live : 
         λ in_order quiet. (
           names,
           changed_stands a n (without_page i.b va)
-              (removed_stands h n i.b i.is va (unmapped_removed s.spaces (slot_at s n).directory (page_number va) h.in_order.frames)
+              (removed_stands h n i.b i.is va (page_inside_programs va inside) (unmapped_removed s.spaces (slot_at s n).directory (page_number va) h.in_order.frames)
               (ap (λ (p : Place). minds_page p) at) in_order)
-              i.at.silent i.at.awake 0,
+              i.at.silent i.at.awake i.outside 0,
         ),
       )

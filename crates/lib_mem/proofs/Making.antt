@@ -24,11 +24,13 @@ use Rattle.lib_os.specs.LibraryCall.{library_step}
 use Rattle.lib_os.specs.LibrarySteps.{Stands, service_answered}
 use Rattle.lib_os.specs.MemoryServices.{page_made}
 use Rattle.lib_os.specs.Places.{place_of}
-use Rattle.lib_os.specs.StandsFor.{StandsFor, Names, is_shared}
+use Rattle.lib_os.specs.Rows.{Names, IsUsers, is_cow, is_shared}
+use Rattle.lib_os.specs.StandsFor.{StandsFor}
 use Rattle.lib_os.specs.UserCalls.{system, giving, CallStep}
 use Rattle.lib_os.proofs.Calls.{page_alloc_some, page_alloc_none, refusal_is_seen}
 use Rattle.lib_os.proofs.Effects.{Made}
 use Rattle.lib_os.proofs.Fences.{page_inside_address}
+use Rattle.lib_os.proofs.Logical.{page_inside_programs}
 use Rattle.lib_os.proofs.PagesStand.{made_own_stands, made_shared_stands}
 use Rattle.lib_os.proofs.Placing.{allocated_made}
 use Rattle.lib_os.proofs.Serving.{printed_nothing}
@@ -41,13 +43,14 @@ use Rattle.lib_mem.proofs.Passing.{IsHere, here, Leads, changed_stands}
 
 bits_by : (write share : Bool) →
     let perm = (5 + (if write then 2 else 0)) + (if share then 0x400 else 0) in
-    (is_page_perm perm ≡ true) × (has_write perm ≡ write) × (is_shared perm ≡ share)
-bits_by true true = (refl, refl, refl)
-bits_by true false = (refl, refl, refl)
-bits_by false true = (refl, refl, refl)
-bits_by false false = (refl, refl, refl)
+    (is_page_perm perm ≡ true) × (has_write perm ≡ write) × (is_shared perm ≡ share) × (is_cow perm ≡ false)
+bits_by true true = (refl, refl, refl, refl)
+bits_by true false = (refl, refl, refl, refl)
+bits_by false true = (refl, refl, refl, refl)
+bits_by false false = (refl, refl, refl, refl)
 
-perm_is : (flags : ℕ) → (is_page_perm (perm_of_flags flags) ≡ true) × (has_write (perm_of_flags flags) ≡ has_bit flags 1) × (is_shared (perm_of_flags flags) ≡ has_bit flags 2)
+perm_is : (flags : ℕ) → (is_page_perm (perm_of_flags flags) ≡ true) × (has_write (perm_of_flags flags) ≡ has_bit flags 1)
+    × (is_shared (perm_of_flags flags) ≡ has_bit flags 2) × (is_cow (perm_of_flags flags) ≡ false)
 perm_is flags = bits_by (has_bit flags 1) (has_bit flags 2)
 
 -- ---- its step in the abstract system
@@ -77,8 +80,10 @@ nothing_printed a n b regs va flags = by_flag (has_bit flags 2)
 module _ (s : KernelState) (n va flags perm : ℕ) (step : Step) (rest : List ℕ) (live : is_live (slot_at s n) ≡ true)
     (at : place_of (slot_at s n) ≡ place.InService (service.PageNew va flags) step)
     (few : flags ≤ 3) (inside : is_page_inside va ≡ true) (bits : perm ≡ perm_of_flags flags) where
-  entry_bits : (is_page_perm perm ≡ true) × (has_write perm ≡ has_bit flags 1) × (is_shared perm ≡ has_bit flags 2)
-  entry_bits = subst (λ (p : ℕ). (is_page_perm p ≡ true) × (has_write p ≡ has_bit flags 1) × (is_shared p ≡ has_bit flags 2)) (sym bits) (perm_is flags)
+  entry_bits : (is_page_perm perm ≡ true) × (has_write perm ≡ has_bit flags 1) × (is_shared perm ≡ has_bit flags 2) × (is_cow perm ≡ false)
+  entry_bits =
+      subst (λ (p : ℕ). (is_page_perm p ≡ true) × (has_write p ≡ has_bit flags 1) × (is_shared p ≡ has_bit flags 2) × (is_cow p ≡ false))
+      (sym bits) (perm_is flags)
 
   abbrev pub asked : CallStep Called
   asked = system s n SYS_PAGE_ALLOC (0 ∷ va ∷ perm ∷ rest)
@@ -102,6 +107,12 @@ module _ (s : KernelState) (n va flags perm : ℕ) (step : Step) (rest : List �
         made : Made s.spaces t (slot_at s n).directory (page_number va) perm
         made = allocated_made s.spaces t (slot_at s n).directory (page_number va) perm f h.in_order.frames in_order.frames permitted is
 
+        user : IsUsers perm
+        user = record {
+          page = permitted;
+          copied = λ is. absurd (let contradiction : true ≡ false = sym is ∙ entry_bits.3 in cc);
+        }
+
         unminded : minds_page (place_of (slot_at s n)) ≡ false
         unminded = ap (λ (p : Place). minds_page p) at
 
@@ -111,19 +122,19 @@ module _ (s : KernelState) (n va flags perm : ℕ) (step : Step) (rest : List �
             then answered (with_name a) n (with_page i.b va (named a.next_name (has_bit flags 1))) (slot_at s n).registers 0
             else answered a n (with_page i.b va (own zero_page (has_bit flags 1))) (slot_at s n).registers 0)
         by_flag true share =
-            let after = made_shared_stands h n i.b i.is va perm made permitted unminded in_order share in (
+            let after = made_shared_stands h n i.b i.is va perm (page_inside_programs va inside) made user unminded in_order share in (
               after.0,
               changed_stands (with_name a) n (with_page i.b va (named a.next_name (has_bit flags 1)))
                   (subst (λ (w : Bool). StandsFor after.0 (with_spaces s t) (with_born (with_name a) n (with_page i.b va (named a.next_name w))))
                   entry_bits.1 after.1)
-                  i.at.silent i.at.awake 0,
+                  i.at.silent i.at.awake i.outside 0,
             )
         by_flag false share = (
           names,
           changed_stands a n (with_page i.b va (own zero_page (has_bit flags 1)))
               (subst (λ (w : Bool). StandsFor names (with_spaces s t) (with_born a n (with_page i.b va (own zero_page w))))
-              entry_bits.1 (made_own_stands h n i.b i.is va perm made permitted unminded in_order share))
-              i.at.silent i.at.awake 0,
+              entry_bits.1 (made_own_stands h n i.b i.is va perm (page_inside_programs va inside) made user unminded in_order share entry_bits.3))
+              i.at.silent i.at.awake i.outside 0,
         )
 
     pub some_leads : (names : Names) (a : AbstractState) → StandsFor names s a → Leads s n [] (with_spaces s t) (service_answered (with_spaces s t) n 0) a

@@ -20,7 +20,8 @@ use Rattle.lib_os.specs.Fence.{is_buffer, is_page_inside}
 use Rattle.lib_os.specs.InOrder.{IsInOrder}
 use Rattle.lib_os.specs.LibrarySteps.{LeavesRest, KeepsUses, is_pausing, is_yield, service_answered}
 use Rattle.lib_os.specs.Places.{place_of}
-use Rattle.lib_os.specs.StandsFor.{StandsFor, Names}
+use Rattle.lib_os.specs.Rows.{Names}
+use Rattle.lib_os.specs.StandsFor.{StandsFor}
 use Rattle.lib_os.specs.UserCalls.{CallStep, got, system}
 use Rattle.lib_os.proofs.Calls.{cputs_writes, cputs_ends, getenvid_is, yield_is}
 use Rattle.lib_os.proofs.GoingOn.{gives_nothing_up}

@@ -1,6 +1,6 @@
 -- A service of this crate, at its only step, and its answer. Where the kernel's state stands for an abstract one, so it does
 -- behind the answer.
-use Rattle.std.proofs.Common.{◌≡◌, ℕ, true, false, List, Some, refl, subst}
+use Rattle.std.proofs.Common.{◌≡◌, ℕ, false, List, Some, refl, subst}
 use Rattle.std.specs.Prelude.{◌++◌}
 use Rattle.jos_base.specs.declared.called.Called.{Called}
 use Rattle.jos_base.specs.declared.called.Called.TheVariants.{Answered, Ended}
@@ -17,8 +17,10 @@ use Rattle.lib_os.specs.Answers.{back_with}
 use Rattle.lib_os.specs.InOrder.{IsInOrder}
 use Rattle.lib_os.specs.LibraryCall.{library_step}
 use Rattle.lib_os.specs.LibrarySteps.{Stands, NothingRefused, service_answered}
-use Rattle.lib_os.specs.Places.{place_of}
-use Rattle.lib_os.specs.StandsFor.{StandsFor, Names, EntryRow, rows_of, StandsForBorn, StandsAtStep, IsIn}
+use Rattle.lib_os.specs.LibraryPages.{View}
+use Rattle.lib_os.specs.Places.{place_of, is_handlers}
+use Rattle.lib_os.specs.Rows.{Names}
+use Rattle.lib_os.specs.StandsFor.{StandsFor, StandsForBorn, StandsAtStep, IsIn, view_of}
 use Rattle.lib_os.specs.UserCalls.{got, CallStep}
 use Rattle.jos_base.proofs.Maps.{upd-at, upd-twice}
 use Rattle.lib_os.proofs.Answering.{back_stands}
@@ -38,25 +40,26 @@ service_in (memory.PageDrop va) = service.PageDrop va
 service_in memory.Unknown = service.Unknown
 
 -- each of these services is one step
-own_in : (row : EntryRow) (k : Slot) (b : Born) (m : MemoryService) (t : Step) → StandsAtStep row k b (service_in m) t → IsIn k b (service_in m) entered
-own_in row k b (memory.Cputs va len) step.Entered h = h
-own_in row k b memory.GetId step.Entered h = h
-own_in row k b memory.Yield step.Entered h = h
-own_in row k b (memory.PageNew va flags) step.Entered h = h
-own_in row k b (memory.PageDrop va) step.Entered h = h
-own_in row k b memory.Unknown step.Entered h = h
-own_in row k b (memory.Cputs va len) _ h = absurd h
-own_in row k b memory.GetId _ h = absurd h
-own_in row k b memory.Yield _ h = absurd h
-own_in row k b (memory.PageNew va flags) _ h = absurd h
-own_in row k b (memory.PageDrop va) _ h = absurd h
-own_in row k b memory.Unknown _ h = absurd h
+own_in : (v : View) (k : Slot) (b : Born) (m : MemoryService) (t : Step) → StandsAtStep v k b (service_in m) t → IsIn k b (service_in m) entered
+own_in v k b (memory.Cputs va len) step.Entered h = h
+own_in v k b memory.GetId step.Entered h = h
+own_in v k b memory.Yield step.Entered h = h
+own_in v k b (memory.PageNew va flags) step.Entered h = h
+own_in v k b (memory.PageDrop va) step.Entered h = h
+own_in v k b memory.Unknown step.Entered h = h
+own_in v k b (memory.Cputs va len) _ h = absurd h
+own_in v k b memory.GetId _ h = absurd h
+own_in v k b memory.Yield _ h = absurd h
+own_in v k b (memory.PageNew va flags) _ h = absurd h
+own_in v k b (memory.PageDrop va) _ h = absurd h
+own_in v k b memory.Unknown _ h = absurd h
 
 -- an environment that is in one of them
 pub record IsHere (names : Names) (s : KernelState) (a : AbstractState) (n : ℕ) (service : Service) : Type 0 where
   pub b : Born
   pub is : a.slots n ≡ born b
   pub own : StandsForBorn names s.spaces (slot_at s n) b
+  pub outside : is_handlers (slot_at s n).registers.esp ≡ false
   pub at : IsIn (slot_at s n) b service entered
   pub goes : abs_step a n ≡ library_step a n b (slot_at s n).registers service entered
 
@@ -64,11 +67,12 @@ pub here : {names : Names} {s : KernelState} {a : AbstractState} → StandsFor n
     place_of (slot_at s n) ≡ place.InService (service_in m) step → IsHere names s a n (service_in m)
 here {s = s} {a = a} h n m step at =
     let begun = served h n (service_in m) step at in
-    let is_in = own_in (rows_of s.spaces (slot_at s n).directory) (slot_at s n) begun.b m step begun.at in
+    let is_in = own_in (view_of s.spaces (slot_at s n).directory) (slot_at s n) begun.b m step begun.at in
     record {
       b = begun.b;
       is = begun.is;
       own = begun.own;
+      outside = begun.outside;
       at = is_in;
       goes = step_in a n begun.b (slot_at s n) (service_in m) entered begun.is is_in;
     }
@@ -77,22 +81,22 @@ here {s = s} {a = a} h n m step at =
 
 -- whoever is in a service of this slot goes back to its program with an answer
 pub answer_stands : {names : Names} {s : KernelState} {a : AbstractState} → StandsFor names s a → (n : ℕ) (b : Born) → a.slots n ≡ born b →
-    (slot_at s n).rendezvous.receiving ≡ false → b.blocked ≡ false → (word : ℕ) →
+    (slot_at s n).rendezvous.receiving ≡ false → b.blocked ≡ false → is_handlers (slot_at s n).registers.esp ≡ false → (word : ℕ) →
     StandsFor names (service_answered s n word) (back_with a n b (record (slot_at s n).registers { eax = word }))
-answer_stands {s = s} h n b at silent awake word =
-    back_stands h n b at (record (slot_at s n).registers { eax = word }) silent awake refl
+answer_stands {s = s} h n b at silent awake outside word =
+    back_stands h n b at (record (slot_at s n).registers { eax = word }) silent awake outside refl refl
 
 born_twice : (a : AbstractState) (n : ℕ) (b c : Born) → with_born (with_born a n b) n c ≡ with_born a n c
 born_twice a n b c = λ i. record a { slots = upd-twice a.slots n (born b) (born c) i }
 
 -- the same where its own part has changed before
 pub changed_stands : {names : Names} {s : KernelState} (a : AbstractState) (n : ℕ) (b : Born) → StandsFor names s (with_born a n b) →
-    (slot_at s n).rendezvous.receiving ≡ false → b.blocked ≡ false → (word : ℕ) →
+    (slot_at s n).rendezvous.receiving ≡ false → b.blocked ≡ false → is_handlers (slot_at s n).registers.esp ≡ false → (word : ℕ) →
     StandsFor names (service_answered s n word) (back_with a n b (record (slot_at s n).registers { eax = word }))
-changed_stands {names = names} {s = s} a n b h silent awake word =
+changed_stands {names = names} {s = s} a n b h silent awake outside word =
     let back = record b { program = guest (record (slot_at s n).registers { eax = word }); phase = at_guest; blocked = false } in
     subst (λ (x : AbstractState). StandsFor names (service_answered s n word) x) (born_twice a n b back)
-    (answer_stands h n b (upd-at a.slots n (born b)) silent awake word)
+    (answer_stands h n b (upd-at a.slots n (born b)) silent awake outside word)
 
 -- ---- the call
 

@@ -11,7 +11,6 @@ use Rattle.jos_base.specs.Environments.{is_live}
 use Rattle.jos_base.specs.KernelState.{KernelState, slot_at}
 use Rattle.jos_base.specs.Lines.{line_text}
 use Rattle.jos_base.specs.Reach.{bytes_read}
-use Rattle.jos_base.specs.SpacesState.{directory}
 use Rattle.jos_base.specs.SystemCalls.{user_bytes, with_bytes_reached, without_environment}
 use Rattle.jos_base.proofs.Uses.{directory_is}
 use Rattle.lib_os.specs.declared.place.Place.TheVariants as place
@@ -23,7 +22,8 @@ use Rattle.lib_os.specs.LibraryCall.{library_step}
 use Rattle.lib_os.specs.LibrarySteps.{service_answered}
 use Rattle.lib_os.specs.MemoryServices.{byte_or_fault, printed}
 use Rattle.lib_os.specs.Places.{place_of}
-use Rattle.lib_os.specs.StandsFor.{StandsFor, Names}
+use Rattle.lib_os.specs.Rows.{Names}
+use Rattle.lib_os.specs.StandsFor.{StandsFor}
 use Rattle.lib_os.specs.UserCalls.{system, CallStep}
 use Rattle.lib_os.proofs.BytesRead.{buffer_reads}
 use Rattle.lib_os.proofs.EndsStand.{ended_stands}
@@ -73,7 +73,7 @@ module _ (s : KernelState) (n va len : ℕ) (step : Step) (rest : List ℕ) (liv
           λ in_order quiet. (
             names,
             answer_stands (printed_stands (quiet_stands h (all_touched_quiet s.spaces (slot_at s n).directory va len) in_order) bytes)
-                n i.b i.is i.at.silent i.at.awake 0,
+                n i.b i.is i.at.silent i.at.awake i.outside 0,
           ),
         )
 

@@ -14,7 +14,8 @@ use Rattle.lib_os.specs.Fence.{is_buffer, is_page_inside}
 use Rattle.lib_os.specs.LibraryCall.{library_step}
 use Rattle.lib_os.specs.LibrarySteps.{service_answered}
 use Rattle.lib_os.specs.Places.{place_of}
-use Rattle.lib_os.specs.StandsFor.{StandsFor, Names}
+use Rattle.lib_os.specs.Rows.{Names}
+use Rattle.lib_os.specs.StandsFor.{StandsFor}
 use Rattle.lib_os.proofs.Serving.{printed_nothing}
 use Rattle.lib_mem.specs.declared.services.MemoryService.{MemoryService}
 use Rattle.lib_mem.specs.declared.services.MemoryService.TheVariants as memory
@@ -67,5 +68,5 @@ module _ (s : KernelState) (n : ℕ) (m : MemoryService) (step : Step)
         refused a n i.b (slot_at s n).registers E_INVAL,
         i.goes ∙ refused_step a n i.b (slot_at s n).registers m is,
         printed_nothing a,
-        λ in_order quiet. (names, answer_stands h n i.b i.is i.at.silent i.at.awake (negated E_INVAL)),
+        λ in_order quiet. (names, answer_stands h n i.b i.is i.at.silent i.at.awake i.outside (negated E_INVAL)),
       )

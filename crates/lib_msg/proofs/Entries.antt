@@ -1,11 +1,10 @@
 -- send reads the entry of its page: whether it is there and may pass.
-use Rattle.std.proofs.Common.{◌≡◌, ◌∙◌, ◌==◌, ◌+◌, ◌*◌, ◌/◌, ◌&&◌, ◌||◌, ℕ, Bool, true, false, not, [], Some, refl, sym, subst, arith, if◌then◌else◌}
-use Rattle.std.specs.Prelude.{bit_and}
+use Rattle.std.proofs.Common.{◌≡◌, ◌==◌, ◌+◌, ◌*◌, ◌/◌, ◌&&◌, ◌||◌, ℕ, Bool, true, false, not, [], Some, refl, sym, subst, arith, if◌then◌else◌}
+use Rattle.std.specs.Prelude.{bit_and, is_some}
 use Rattle.std.proofs.lemmas.Bool.Decides.{nat_tests}
 use Rattle.jos_base.specs.declared.memory.Access.TheVariants.{Read}
 use Rattle.jos_base.specs.declared.numbers.TheConstants.{E_INVAL, NPTENTRIES, PGSIZE, PTE_P, PTE_SYSCALL, UVPT}
 use Rattle.jos_base.specs.KernelState.{KernelState, slot_at}
-use Rattle.jos_base.specs.SystemCalls.{has_write}
 use Rattle.jos_base.specs.Windows.{entry_word}
 use Rattle.jos_base.specs.Words.{negated, page_number}
 use Rattle.lib_os.specs.declared.numbers.TheConstants.{SERVICE_SEND}
@@ -18,7 +17,8 @@ use Rattle.lib_os.specs.Answers as abstract_system
 use Rattle.lib_os.specs.InOrder.{IsInOrder}
 use Rattle.lib_os.specs.LibrarySteps.{AbstractFollows}
 use Rattle.lib_os.specs.Places.{place_of, words_at}
-use Rattle.lib_os.specs.StandsFor.{StandsFor, Names, Rows, MaySend, IsLooking, is_shared}
+use Rattle.lib_os.specs.Rows.{Names, Rows, is_shared, may_write}
+use Rattle.lib_os.specs.StandsFor.{StandsFor, MaySend, IsLooking}
 use Rattle.lib_os.specs.UserCalls.{load}
 use Rattle.lib_os.proofs.Answering.{back_stands}
 use Rattle.lib_os.proofs.Fences.{page_inside_number}
@@ -47,21 +47,24 @@ module _ (s : KernelState) (n id value va : ℕ)
   abbrev bits : ℕ
   bits = bit_and word PTE_SYSCALL
 
+  -- the page's region has a table
+  abbrev HasTable : Type 0
+  HasTable = is_some (s.spaces.regions (slot_at s n).directory (page_number va / NPTENTRIES)) ≡ true
+
   pub entry_there : (names : Names) (a : AbstractState) → StandsFor names s a → load s n address ≡ read_at s n address word
   entry_there names a h =
       let v = served h n (service.Send id value va) step.ReadingEntry stands in
-      let at : IsLooking (slot_at s n) v.b id value va × (v.b.regions (page_number va / NPTENTRIES) ≡ true) = v.at in
-      load_table_word s n h.in_order.frames (va / PGSIZE) (page_inside_number va at.0.inside)
-      (sym (v.own.regions (page_number va / NPTENTRIES)) ∙ at.1)
+      let at : IsLooking (slot_at s n) v.b id value va × HasTable = v.at in
+      load_table_word s n h.in_order.frames (va / PGSIZE) (page_inside_number va at.0.inside) at.1
 
   pub entry_follows : (names : Names) (a : AbstractState) (h : StandsFor names s a) → IsInOrder (loaded s n address) →
       let x = next_of id va stage.ReadingEntry word in AbstractFollows (seen_as x) n (settled SERVICE_SEND x (loaded s n address) n) a []
-  entry_follows names a h order = by_tests (bit_and word PTE_P == PTE_P) (is_shared bits || not (has_write bits)) refl refl
+  entry_follows names a h order = by_tests (bit_and word PTE_P == PTE_P) (is_shared bits || not (may_write bits)) refl refl
     where
       v : IsServed names s a n (service.Send id value va) step.ReadingEntry
       v = served h n (service.Send id value va) step.ReadingEntry stands
 
-      looking : IsLooking (slot_at s n) v.b id value va × (v.b.regions (page_number va / NPTENTRIES) ≡ true)
+      looking : IsLooking (slot_at s n) v.b id value va × HasTable
       looking = v.at
 
       at : IsLooking (slot_at s n) v.b id value va
@@ -79,19 +82,19 @@ module _ (s : KernelState) (n id value va : ℕ)
         abstract_system.refused a n v.b (slot_at s n).registers E_INVAL,
         is,
         printed_nothing a,
-        (names, back_stands there n v.b v.is (record (slot_at s n).registers { eax = negated E_INVAL }) at.is_in.silent at.is_in.awake refl),
+        (names, back_stands there n v.b v.is (record (slot_at s n).registers { eax = negated E_INVAL }) at.is_in.silent at.is_in.awake v.outside refl refl),
       )
 
-      by_tests : (t u : Bool) → (bit_and word PTE_P == PTE_P) ≡ t → (is_shared bits || not (has_write bits)) ≡ u →
+      by_tests : (t u : Bool) → (bit_and word PTE_P == PTE_P) ≡ t → (is_shared bits || not (may_write bits)) ≡ u →
           let x = if not (t && u) then next.Answer (negated E_INVAL) else next.GoOn (step.Trying bits) in
           AbstractFollows (seen_as x) n (settled SERVICE_SEND x (loaded s n address) n) a []
-      by_tests false u first second = refused (refused_missing h n v.b v.is id value va at.is_in some first)
-      by_tests true false first second = refused (refused_kept h n v.b v.is id value va at.is_in some first second)
+      by_tests false u first second = refused (refused_missing h n v.b v.is id value va at.is_in some at.inside first)
+      by_tests true false first second = refused (refused_kept h n v.b v.is id value va at.is_in some at.inside first second)
       by_tests true true first second = (
         refl,
         (
           names,
-          words_stand there n SERVICE_SEND v.b v.is (born_at there n v.b v.is) (service.Send id value va) (step.Trying bits)
+          words_stand there n SERVICE_SEND v.b v.is (born_at there n v.b v.is) v.outside (service.Send id value va) (step.Trying bits)
               (named_at (slot_at s n) (service.Send id value va) step.ReadingEntry stands)
               (record {
                 is_in = in_with_words (words_at SERVICE_SEND (step.Trying bits)) at.is_in;
@@ -99,7 +102,7 @@ module _ (s : KernelState) (n id value va : ℕ)
                 other = at.other;
                 page = subst (λ (r : Rows). MaySend (r (slot_at s n).directory) va bits)
                     (sym (touched_quiet s.spaces (slot_at s n).directory address Read).rows)
-                    (may_send_it h n v.b v.is id value va at.is_in some first at.inside second);
+                    (may_send_it h n v.b v.is id value va at.is_in some at.inside first second);
               }),
         ),
       )

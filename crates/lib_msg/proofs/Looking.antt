@@ -1,6 +1,6 @@
 -- send, up to where it has found its region: what it refuses, and what it has found out of its page.
 use Rattle.std.proofs.Common.{◌≡◌, ◌≢◌, ◌∙◌, ◌==◌, ◌+◌, ◌*◌, ◌/◌, ◌&&◌, ◌||◌, ◌<◌, ℕ, Bool, true, false, not, [], Option, Some, None}
-use Rattle.std.proofs.Common.{refl, sym, ap, subst, arith, if◌then◌else◌}
+use Rattle.std.proofs.Common.{refl, sym, subst, arith, if◌then◌else◌}
 use Rattle.std.specs.Prelude.{is_some, bit_and}
 use Rattle.std.specs.Option.{option_map}
 use Rattle.std.proofs.lemmas.Bool.Decides.{nat_tests}
@@ -27,9 +27,11 @@ use Rattle.lib_os.specs.InOrder.{IsInOrder}
 use Rattle.lib_os.specs.LibraryCall.{library_step}
 use Rattle.lib_os.specs.LibrarySteps.{AbstractFollows, KeepsStanding, service_answered}
 use Rattle.lib_os.specs.Places.{place_of, words_at}
-use Rattle.lib_os.specs.StandsFor.{StandsFor, Names, EntryRow, rows_of, lasting, page_by, page_seen, IsIn, IsLooking, MaySend, MaySendBy, StandsAtStep}
+use Rattle.lib_os.specs.Rows.{Names, EntryRow, rows_of, lasting, page_seen}
+use Rattle.lib_os.specs.StandsFor.{StandsFor, IsIn, IsLooking, MaySend, MaySendBy, StandsAtStep, view_of}
 use Rattle.lib_os.specs.UserCalls.{load}
 use Rattle.lib_os.proofs.Answering.{back_stands}
+use Rattle.lib_os.proofs.EntriesStand.{seen_none}
 use Rattle.lib_os.proofs.EntryWords.{region_told}
 use Rattle.lib_os.proofs.Fences.{page_inside_below}
 use Rattle.lib_os.proofs.GoingOn.{in_with_words, words_stand}
@@ -106,20 +108,20 @@ module _ (s : KernelState) (n id value va : ℕ)
         abstract_system.refused a n v.b regs E_INVAL,
         step_in a n v.b (slot_at s n) (service.Send id value va) entered v.is here ∙ why h.0 a h.1 v.b v.own.id,
         printed_nothing a,
-        (h.0, back_stands h.1 n v.b v.is (record regs { eax = negated E_INVAL }) here.silent here.awake refl),
+        (h.0, back_stands h.1 n v.b v.is (record regs { eax = negated E_INVAL }) here.silent here.awake v.outside refl refl),
       )
 
   -- it goes on, where what is to stand there does
   goes_so : (to : Step) → ((names : Names) (a : AbstractState) → StandsFor names s a → (b : Born) → own ≡ b.id →
       IsIn (slot_at s n) b (service.Send id value va) entered →
-      StandsAtStep (rows_of s.spaces (slot_at s n).directory) (record (slot_at s n) { extra = words_at SERVICE_SEND to }) b (service.Send id value va) to) →
+      StandsAtStep (view_of s.spaces (slot_at s n).directory) (record (slot_at s n) { extra = words_at SERVICE_SEND to }) b (service.Send id value va) to) →
       KeepsStanding progress.Hidden n s (with_extra s n (words_at SERVICE_SEND to)) []
   goes_so to there a h quiet =
       let v = served h.1 n (service.Send id value va) step.Entered stands in (
         refl,
         (
           h.0,
-          words_stand h.1 n SERVICE_SEND v.b v.is v.own (service.Send id value va) to
+          words_stand h.1 n SERVICE_SEND v.b v.is v.own v.outside (service.Send id value va) to
               (named_at (slot_at s n) (service.Send id value va) step.Entered stands) (there h.0 a h.1 v.b v.own.id v.at),
         ),
       )
@@ -166,9 +168,9 @@ module _ (s : KernelState) (n id value va : ℕ)
 no_table : (names : Names) (s : KernelState) (d p : ℕ) → IsInOrder s → is_some (s.spaces.regions d (p / NPTENTRIES)) ≡ false →
     page_seen names s.spaces d p ≡ None
 unfolding rows_of
-no_table names s d p in_order none = by_entry (s.spaces.entries d p) refl
+no_table names s d p in_order none = seen_none names s.spaces d p (by_entry (s.spaces.entries d p) refl)
   where
-    by_entry : (o : Option Entry) → s.spaces.entries d p ≡ o → option_map (page_by names s.spaces.pages) (option_map lasting o) ≡ None
+    by_entry : (o : Option Entry) → s.spaces.entries d p ≡ o → option_map lasting o ≡ None
     by_entry None is = refl
     by_entry (Some e) is = absurd (let contradiction : true ≡ false = sym (in_order.frames.regions d p e is) ∙ none in cc)
 
@@ -218,15 +220,16 @@ module _ (s : KernelState) (n id value va : ℕ)
                 ∙ no_page_step a n v.b regs id value va at.some (at.other.0) (λ x. at.other.1 (x ∙ server_is h))
                 (missing v.b va at.somewhere at.inside no_page),
             printed_nothing a,
-            (names, back_stands there n v.b v.is (record regs { eax = negated E_INVAL }) at.is_in.silent at.is_in.awake refl),
+            (names, back_stands there n v.b v.is (record regs { eax = negated E_INVAL }) at.is_in.silent at.is_in.awake v.outside refl refl),
           )
       by_test true present =
-          let known : v.b.regions (va / PGSIZE / NPTENTRIES) ≡ true =
-          v.own.regions (va / PGSIZE / NPTENTRIES) ∙ sym (region_told region) ∙ present in (
+          let known : is_some ((loaded s n address).spaces.regions (slot_at s n).directory (va / PGSIZE / NPTENTRIES)) ≡ true =
+          (touched_quiet s.spaces (slot_at s n).directory address Read).regions (slot_at s n).directory (va / PGSIZE / NPTENTRIES)
+          ∙ sym (region_told region) ∙ present in (
             refl,
             (
               names,
-              words_stand there n SERVICE_SEND v.b v.is (born_at there n v.b v.is) (service.Send id value va) step.ReadingEntry
+              words_stand there n SERVICE_SEND v.b v.is (born_at there n v.b v.is) v.outside (service.Send id value va) step.ReadingEntry
                   (named_at (slot_at s n) (service.Send id value va) step.ReadingRegion stands) (
                     record {
                       is_in = in_with_words (words_at SERVICE_SEND step.ReadingEntry) at.is_in;

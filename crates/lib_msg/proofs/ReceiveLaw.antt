@@ -86,7 +86,7 @@ module _ (s : KernelState) (n va from : ℕ) (live : is_live (slot_at s n) ≡ t
         record { word = (slot_at s n).rendezvous.perm; is = perm_there s n va from id value sender stands names a h },
         perm_follows s n va from id value sender stands names a h,
       ))
-  receive_holds (step.Trying perm) stands = law_of_nowhere s n (service.Receive va from) (step.Trying perm) stands refl (λ row k b h. h)
-  receive_holds (step.Pausing perm) stands = law_of_nowhere s n (service.Receive va from) (step.Pausing perm) stands refl (λ row k b h. h)
-  receive_holds step.ReadingRegion stands = law_of_nowhere s n (service.Receive va from) step.ReadingRegion stands refl (λ row k b h. h)
-  receive_holds step.ReadingEntry stands = law_of_nowhere s n (service.Receive va from) step.ReadingEntry stands refl (λ row k b h. h)
+  receive_holds (step.Trying perm) stands = law_of_nowhere s n (service.Receive va from) (step.Trying perm) stands refl (λ view k b h. h)
+  receive_holds (step.Pausing perm) stands = law_of_nowhere s n (service.Receive va from) (step.Pausing perm) stands refl (λ view k b h. h)
+  receive_holds step.ReadingRegion stands = law_of_nowhere s n (service.Receive va from) step.ReadingRegion stands refl (λ view k b h. h)
+  receive_holds step.ReadingEntry stands = law_of_nowhere s n (service.Receive va from) step.ReadingEntry stands refl (λ view k b h. h)

@@ -19,7 +19,8 @@ use Rattle.lib_os.specs.InOrder.{IsInOrder}
 use Rattle.lib_os.specs.LibraryCall.{library_step}
 use Rattle.lib_os.specs.LibrarySteps.{AbstractFollows, gone_back}
 use Rattle.lib_os.specs.Places.{place_of, words_at}
-use Rattle.lib_os.specs.StandsFor.{StandsFor, Names, IsStatusFor, HasReceived, WaitsOrHas, waits, has, kind_by}
+use Rattle.lib_os.specs.Rows.{Names}
+use Rattle.lib_os.specs.StandsFor.{StandsFor, IsStatusFor, HasReceived, WaitsOrHas, waits, has, kind_by}
 use Rattle.lib_os.specs.UserCalls.{load}
 use Rattle.lib_os.proofs.Answering.{back_stands}
 use Rattle.lib_os.proofs.GoingOn.{words_stand}
@@ -115,7 +116,7 @@ module _ (s : KernelState) (n va from id : ℕ) where
           refl,
           (
             names,
-            words_stand there n SERVICE_RECEIVE v.b v.is (born_at there n v.b v.is) (service.Receive va from) to
+            words_stand there n SERVICE_RECEIVE v.b v.is (born_at there n v.b v.is) v.outside (service.Receive va from) to
                 (named_at k (service.Receive va from) (step.ReadingValue id) stands)
                 (at.0, refl, with_words_received (words_at SERVICE_RECEIVE to) (came v.b v.own.runs at)),
           ),
@@ -141,7 +142,7 @@ module _ (s : KernelState) (n va from id : ℕ) where
           refl,
           (
             names,
-            words_stand there n SERVICE_RECEIVE v.b v.is (born_at there n v.b v.is) (service.Receive va from) to
+            words_stand there n SERVICE_RECEIVE v.b v.is (born_at there n v.b v.is) v.outside (service.Receive va from) to
                 (named_at k (service.Receive va from) (step.ReadingSender id value) stands)
                 (at.0, at.1, refl, with_words_received (words_at SERVICE_RECEIVE to) (at.2)),
           ),
@@ -178,7 +179,8 @@ module _ (s : KernelState) (n va from id : ℕ) where
         let state_is : gone_back (loaded s n address) n (record k.registers { eax = 0; edx = sender; ecx = value; ebx = kind_by k.rendezvous.perm })
         ≡ gone_back (loaded s n address) n told =
         λ i. gone_back (loaded s n address) n (record (it.registers i) { eax = 0; edx = sender_is i; ecx = value_is i; ebx = come.page i }) in
-        let stack : told.esp ≡ k.registers.esp = sym (ap (λ (x : Regs). x.esp) it.registers) in (
+        let stack : told.esp ≡ k.registers.esp = sym (ap (λ (x : Regs). x.esp) it.registers) in
+        let flags : told.eflags ≡ k.registers.eflags = sym (ap (λ (x : Regs). x.eflags) it.registers) in (
           received_answer a n v.b it.regs it.message,
           service_step a n v.b it.regs (service.Receive va from) (received it.message) v.is it.program it.phase it.awake
               ∙ answer_step a v.b it.regs it.message,
@@ -186,6 +188,6 @@ module _ (s : KernelState) (n va from id : ℕ) where
           (
             names,
             subst (λ (t : KernelState). StandsFor names t (received_answer a n v.b it.regs it.message)) (sym state_is)
-                (back_stands (still_stands address h order) n v.b v.is told it.silent it.awake stack),
+                (back_stands (still_stands address h order) n v.b v.is told it.silent it.awake v.outside stack flags),
           ),
         )

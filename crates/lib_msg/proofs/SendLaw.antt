@@ -121,9 +121,9 @@ module _ (s : KernelState) (n id value va : ℕ) (live : is_live (slot_at s n) �
     send_holds (step.Pausing perm) stands =
         law_of_pause s n (service.Send id value va) (step.Pausing perm) (step.Trying perm) SERVICE_SEND (0 ∷ 0 ∷ 0 ∷ 0 ∷ 0 ∷ []) stands live refl refl
         (omega arith) (pausing_keeps s n id value va perm stands)
-    send_holds (step.Receiving own) stands = law_of_nowhere s n (service.Send id value va) (step.Receiving own) stands refl (λ row k b h. h)
-    send_holds (step.ReadingValue own) stands = law_of_nowhere s n (service.Send id value va) (step.ReadingValue own) stands refl (λ row k b h. h)
+    send_holds (step.Receiving own) stands = law_of_nowhere s n (service.Send id value va) (step.Receiving own) stands refl (λ view k b h. h)
+    send_holds (step.ReadingValue own) stands = law_of_nowhere s n (service.Send id value va) (step.ReadingValue own) stands refl (λ view k b h. h)
     send_holds (step.ReadingSender own word) stands =
-        law_of_nowhere s n (service.Send id value va) (step.ReadingSender own word) stands refl (λ row k b h. h)
+        law_of_nowhere s n (service.Send id value va) (step.ReadingSender own word) stands refl (λ view k b h. h)
     send_holds (step.ReadingPerm own word sender) stands =
-        law_of_nowhere s n (service.Send id value va) (step.ReadingPerm own word sender) stands refl (λ row k b h. h)
+        law_of_nowhere s n (service.Send id value va) (step.ReadingPerm own word sender) stands refl (λ view k b h. h)

@@ -3,13 +3,13 @@ use Rattle.std.specs.Prelude.{ℕ, ◌+◌, ◌*◌, ◌/◌, ◌==◌, ◌&&◌
 use Rattle.std.specs.Option.{option_map}
 use Rattle.jos_base.specs.declared.numbers.TheConstants.{E_INVAL, E_IPC_NOT_RECV, FIRST_ENV_ID, NPTENTRIES, PGSIZE, PTE_P, PTE_SYSCALL, UVPT}
 use Rattle.jos_base.specs.declared.numbers.TheConstants.{SYS_GETENVID, SYS_IPC_TRY_SEND, SYS_YIELD}
-use Rattle.jos_base.specs.SystemCalls.{has_write}
 use Rattle.jos_base.specs.Words.{negated}
 use Rattle.lib_os.specs.declared.numbers.TheConstants.{SERVICE_SEND, UVPD}
 use Rattle.lib_os.specs.declared.place.Step.{Step}
 use Rattle.lib_os.specs.declared.place.Step.TheVariants as step
 use Rattle.lib_os.specs.Fence.{is_page_inside}
-use Rattle.lib_os.specs.StandsFor.{destination_of, is_shared}
+use Rattle.lib_os.specs.Rows.{is_shared, may_write}
+use Rattle.lib_os.specs.StandsFor.{destination_of}
 use Rattle.lib_os.specs.UserCalls.{answer_of}
 use Rattle.lib_stage.specs.declared.ask.Ask.{Ask}
 use Rattle.lib_stage.specs.declared.ask.Ask.TheVariants as ask
@@ -50,10 +50,11 @@ ask_of id value va (stage.Pausing perm) = ask.System SYS_YIELD no_args
 abbrev pub may_name : ℕ → ℕ → Bool
 may_name id own = not (id == 0) && (not (id == own) && not (id == FIRST_ENV_ID))
 
--- the page of an entry's word is there and may pass: it is shared, or may not be written
+-- The page of an entry's word is there and may pass: it is shared, or may not be written, neither where it stands nor as a copy
+-- of it.
 abbrev pub may_pass : ℕ → Bool
 may_pass word =
-    (bit_and word PTE_P == PTE_P) && (is_shared (bit_and word PTE_SYSCALL) || not (has_write (bit_and word PTE_SYSCALL)))
+    (bit_and word PTE_P == PTE_P) && (is_shared (bit_and word PTE_SYSCALL) || not (may_write (bit_and word PTE_SYSCALL)))
 
 -- by the word that came
 abbrev pub next_of : ℕ → ℕ → SendStage → ℕ → Next

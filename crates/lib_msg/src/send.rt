@@ -8,7 +8,7 @@ use jos_base::{
     Called, E_INVAL, E_IPC_NOT_RECV, FIRST_ENV_ID, NPTENTRIES, PGSIZE, PTE_P, PTE_SYSCALL, PTE_W,
     SYS_GETENVID, SYS_IPC_TRY_SEND, SYS_YIELD, UTOP, UVPT,
 };
-use lib_os::{PTE_SHARE, SERVICE_SEND, Step, UVPD, answer_of, is_page_inside};
+use lib_os::{PTE_COW, PTE_SHARE, SERVICE_SEND, Step, UVPD, answer_of, is_page_inside};
 use lib_stage::{Ask, Next, Planned};
 
 /// How far send is.
@@ -59,12 +59,14 @@ fn may_name(id: u32, own: u32) -> bool
     id != 0 && id != own && id != FIRST_ENV_ID
 }
 
-/// Whether the page of an entry's word is there and may pass: it is shared, or may not be written.
+/// Whether the page of an entry's word is there and may pass: it is shared, or may not be written, neither where it stands nor
+/// as a copy of it.
 fn may_pass(word: u32) -> bool
     ensures { result ≡ may_pass word }
 {
     let perm = word & PTE_SYSCALL;
-    word & PTE_P == PTE_P && (perm & PTE_SHARE == PTE_SHARE || perm & PTE_W != PTE_W)
+    let may_write = perm & PTE_W == PTE_W || perm & PTE_COW == PTE_COW;
+    word & PTE_P == PTE_P && (perm & PTE_SHARE == PTE_SHARE || !may_write)
 }
 
 /// From where the kernel is told to take a page.

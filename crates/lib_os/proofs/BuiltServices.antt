@@ -9,7 +9,7 @@ use Rattle.lib_os.specs.declared.place.Place.TheVariants as place
 use Rattle.lib_os.specs.declared.place.Step.{Step}
 use Rattle.lib_os.specs.declared.service.Service.{Service}
 use Rattle.lib_os.specs.declared.service.Service.TheVariants as service
-use Rattle.lib_os.specs.Places.{place_in_words, step_in}
+use Rattle.lib_os.specs.Places.{place_in_words, step_in, is_handlers, handler_step_in}
 use Rattle.lib_os.specs.Services.{is_built, first_services, last_services, named_service, service_of, is_built_service}
 
 built_of : (r : Regs) → is_built r.eax ≡ true → is_built_service (named_service r) ≡ true
@@ -45,13 +45,16 @@ built_service r = by_number (is_built r.eax) refl
 abbrev is_built_at : Place → Bool
 is_built_at place.Guest = true
 is_built_at (place.InService s step) = is_built_service s
+is_built_at (place.InHandler step) = true
 
 -- the service that an environment is in is built
 pub built_at : (regs : Regs) (words : List ℕ) (s : Service) (step : Step) → place_in_words regs words ≡ place.InService s step → is_built_service s ≡ true
 unfolding place_in_words
-built_at regs words s step at = ap is_built_at (sym at) ∙ by_words (get_or words 0 0 == 0)
+built_at regs words s step at = ap is_built_at (sym at) ∙ by_words (is_handlers regs.esp) (get_or words 0 0 == 0)
   where
-    by_words : (t : Bool) →
-        is_built_at (if t then place.Guest else place.InService (service_of (record regs { eax = get_or words 0 0 - 1 })) (step_in words)) ≡ true
-    by_words true = refl
-    by_words false = built_service (record regs { eax = get_or words 0 0 - 1 })
+    by_words : (c t : Bool) →
+        is_built_at (if c then place.InHandler (handler_step_in regs)
+        else if t then place.Guest else place.InService (service_of (record regs { eax = get_or words 0 0 - 1 })) (step_in words)) ≡ true
+    by_words true t = refl
+    by_words false true = refl
+    by_words false false = built_service (record regs { eax = get_or words 0 0 - 1 })

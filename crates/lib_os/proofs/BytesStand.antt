@@ -1,6 +1,6 @@
 -- The kernel's state goes on standing for the abstract one where a byte is stored: in a page of the environment's own, which
 -- nobody else sees, or in a shared one, which all see who have it.
-use Rattle.std.proofs.Common.{◌≡◌, ◌≢◌, ◌∙◌, ◌==◌, ℕ, Bool, true, false, List, refl, sym, ap, subst, arith, if◌then◌else◌}
+use Rattle.std.proofs.Common.{◌≡◌, ◌≢◌, ◌∙◌, ◌<◌, ◌==◌, ℕ, Bool, true, false, List, refl, sym, ap, subst, arith, if◌then◌else◌}
 use Rattle.std.proofs.lemmas.Bool.Decides.{nat_tests}
 use Rattle.std.specs.Prelude.{Option, Some, slice_set}
 use Rattle.jos_base.specs.KernelState.{KernelState, slot_at, with_spaces}
@@ -8,21 +8,27 @@ use Rattle.jos_base.specs.Reach.{Entry}
 use Rattle.jos_base.specs.SpacesState.{SpacesState}
 use Rattle.jos_base.specs.SystemCalls.{has_write}
 use Rattle.jos_base.specs.Words.{page_number, page_offset, upd}
-use Rattle.lib_os.specs.AbstractState.{AbstractState, Born, Page, own, named, AbstractSlot, born, with_born}
+use Rattle.lib_os.specs.AbstractState.{AbstractState, Born, Page, own, named, born, with_born}
 use Rattle.lib_os.specs.AbstractMemory.{stored, stored_in}
 use Rattle.lib_os.specs.InOrder.{IsInOrder}
 use Rattle.lib_os.specs.Places.{place_of}
-use Rattle.lib_os.specs.StandsFor.{StandsFor, StandsForSlot, StandsForBorn, Names, Rows, rows_of, is_shared}
-use Rattle.lib_os.specs.StandsFor.{AgreeWhereShared, AreNamed, AreUsers, IsNamed}
+use Rattle.lib_os.specs.Rows.{Names, Rows, rows_of, logical, is_programs, is_shared, may_write, AgreeWhereShared, AreNamed, AreUsers, AreWhole, IsNamed, IsPage}
+use Rattle.lib_os.specs.StandsFor.{StandsFor, StandsForBorn, view_of}
 use Rattle.lib_os.proofs.Effects.{Stored}
+use Rattle.lib_os.proofs.EntriesCount.{entry_counts}
 use Rattle.lib_os.proofs.EntriesStand.{same_sharing, other_frame, seen_at, seen_own, seen_by}
-use Rattle.lib_os.proofs.SlotsStand.{SeenAlike, minds_page, sends_by_same, page_put, slot_stands, born_at}
-use Rattle.lib_os.proofs.StatesStand.{born_not_first, others_stand}
-use Rattle.jos_base.proofs.Maps.{upd-at, upd-other, upd-all}
-use Rattle.jos_base.proofs.Puts.{Elsewhere}
+use Rattle.lib_os.proofs.Logical.{logical_alike, logical_beside, logical_plain, programs_beside}
+use Rattle.lib_os.proofs.PageBytes.{page_set}
+use Rattle.lib_os.proofs.SlotsStand.{SeenAlike, kept_rows, library_alike, page_put, slot_stands, born_at, born_live}
+use Rattle.lib_os.proofs.Serving.{plain_counts}
+use Rattle.lib_os.proofs.StatesStand.{space_moves}
+use Rattle.lib_os.proofs.WordsTell.{is_in_handler}
+use Rattle.jos_base.proofs.Maps.{upd-at, upd-other}
 
 module _ {names : Names} {s : KernelState} {a : AbstractState} {sp : SpacesState} (h : StandsFor names s a) (n : ℕ) (b : Born)
-    (at : a.slots n ≡ born b) (va byte : ℕ) (e : Entry) (he : rows_of s.spaces (slot_at s n).directory (page_number va) ≡ Some e)
+    (at : a.slots n ≡ born b) (outside : is_in_handler (place_of (slot_at s n)) ≡ false)
+    (va byte : ℕ) (small : byte < 256) (inside : is_programs (page_number va) ≡ true) (e : Entry)
+    (he : rows_of s.spaces (slot_at s n).directory (page_number va) ≡ Some e)
     (writes : has_write e.perm ≡ true) (st : Stored s.spaces sp e.frame (page_offset va) byte) (in_order : IsInOrder (with_spaces s sp)) where
   abbrev d : ℕ
   d = (slot_at s n).directory
@@ -30,25 +36,64 @@ module _ {names : Names} {s : KernelState} {a : AbstractState} {sp : SpacesState
   abbrev p : ℕ
   p = page_number va
 
+  abbrev before : Rows
+  before = logical s.spaces s.environments.slots
+
+  abbrev put_bytes : List ℕ
+  put_bytes = slice_set (s.spaces.pages e.frame) (page_offset va) byte
+
   row_kept : (q r : ℕ) → rows_of sp q r ≡ rows_of s.spaces q r
   row_kept q r = ap (λ (rows : Rows). rows q r) st.rows
 
+  -- entries count as they did
+  counts_kept : (m q : ℕ) → logical sp s.environments.slots m q ≡ before m q
+  counts_kept m q = logical_alike s.spaces sp s.environments.slots s.environments.slots m refl refl (λ live. ap (λ (rows : Rows). rows (slot_at s m).directory) st.rows) q
+
+  -- this one among them
+  counts_here : before n p ≡ Some e
+  counts_here = logical_beside s.spaces s.environments.slots n (born_live (born_at h n b at)) p (programs_beside p inside).0 ∙ he
+
   -- another frame's bytes
   bytes_kept : (x : Entry) → x.frame ≢ e.frame → sp.pages x.frame ≡ s.spaces.pages x.frame
-  bytes_kept x ne =
-      ap (λ (pages : ℕ → List ℕ). pages x.frame) st.pages
-      ∙ upd-other s.spaces.pages e.frame (slice_set (s.spaces.pages e.frame) (page_offset va) byte) x.frame ne
+  bytes_kept x ne = ap (λ (pages : ℕ → List ℕ). pages x.frame) st.pages ∙ upd-other s.spaces.pages e.frame put_bytes x.frame ne
 
-  bytes_put : sp.pages e.frame ≡ slice_set (s.spaces.pages e.frame) (page_offset va) byte
-  bytes_put =
-      ap (λ (pages : ℕ → List ℕ). pages e.frame) st.pages
-      ∙ upd-at s.spaces.pages e.frame (slice_set (s.spaces.pages e.frame) (page_offset va) byte)
+  bytes_put : sp.pages e.frame ≡ put_bytes
+  bytes_put = ap (λ (pages : ℕ → List ℕ). pages e.frame) st.pages ∙ upd-at s.spaces.pages e.frame put_bytes
 
-  -- a page of one's own elsewhere keeps its bytes
-  own_elsewhere : (q r : ℕ) (x : Entry) → Elsewhere q r d p → rows_of s.spaces q r ≡ Some x → is_shared x.perm ≡ false →
-      sp.pages x.frame ≡ s.spaces.pages x.frame
+  -- a page stays a page
+  page_kept : (f : ℕ) → IsPage (s.spaces.pages f) → IsPage (sp.pages f)
+  page_kept f page = by_frame (f == e.frame) refl
+    where
+      by_frame : (c : Bool) → (f == e.frame) ≡ c → IsPage (sp.pages f)
+      by_frame true test =
+          let same : f ≡ e.frame = grind (arith, nat_tests) in
+          subst (λ (g : ℕ). IsPage (sp.pages g)) (sym same)
+          (subst (λ (l : List ℕ). IsPage l) (sym bytes_put)
+          (page_set (s.spaces.pages e.frame) (page_offset va) byte small (subst (λ (g : ℕ). IsPage (s.spaces.pages g)) same page)))
+      by_frame false test =
+          subst (λ (l : List ℕ). IsPage l) (sym (bytes_kept (record { frame = f; perm = 0 }) (grind (arith, nat_tests)))) page
+
+  whole_kept : AreWhole sp.pages (logical sp s.environments.slots)
+  whole_kept m q x hx = page_kept x.frame (h.whole m q x (sym (counts_kept m q) ∙ hx))
+
+  -- what stands in its own space counts
+  own_counts : (q : ℕ) (x : Entry) → rows_of s.spaces d q ≡ Some x → before n q ≡ Some x
+  own_counts q x hx =
+      logical_plain s.spaces s.environments.slots n (born_live (born_at h n b at)) (plain_counts (place_of (slot_at s n)) outside) q ∙ hx
+
+  -- another page of one's own keeps its bytes, in this space
+  own_beside : (q : ℕ) (x : Entry) → q ≢ p → rows_of s.spaces d q ≡ Some x → is_shared x.perm ≡ false → sp.pages x.frame ≡ s.spaces.pages x.frame
+  own_beside q x ne hx own_page =
+      bytes_kept x (other_frame before h.apart n p n q x e (λ same too. ne too) counts_here writes (own_counts q x hx) own_page)
+
+  -- and in any other
+  own_elsewhere : (q r : ℕ) (x : Entry) → q ≢ d → rows_of s.spaces q r ≡ Some x → is_shared x.perm ≡ false → sp.pages x.frame ≡ s.spaces.pages x.frame
   own_elsewhere q r x ne hx own_page =
-      bytes_kept x (other_frame (rows_of s.spaces) h.apart d p q r x e ne he writes hx own_page)
+      let found = entry_counts h q r x hx in
+      let other : found.slot ≢ n = λ same. ne (sym found.home ∙ ap (λ (m : ℕ). (slot_at s m).directory) same) in
+      let apart : found.entry.frame ≢ e.frame =
+      other_frame before h.apart n p found.slot found.page found.entry e (λ same too. other same) counts_here writes found.counts (found.sharing ∙ own_page) in
+      bytes_kept x (λ same. apart (found.frame ∙ same))
 
   space_alike : (q : ℕ) → ((r : ℕ) (x : Entry) → rows_of s.spaces q r ≡ Some x → is_shared x.perm ≡ false →
       sp.pages x.frame ≡ s.spaces.pages x.frame) → SeenAlike names names s.spaces sp q
@@ -59,57 +104,45 @@ module _ {names : Names} {s : KernelState} {a : AbstractState} {sp : SpacesState
     regions = st.regions q;
   }
 
-  apart_kept : AgreeWhereShared (rows_of sp)
-  apart_kept = subst (λ (rows : Rows). AgreeWhereShared rows) (sym st.rows) h.apart
+  apart_kept : AgreeWhereShared (logical sp s.environments.slots)
+  apart_kept m o q r x y ne hx hy same = h.apart m o q r x y ne (sym (counts_kept m o) ∙ hx) (sym (counts_kept q r) ∙ hy) same
 
-  users_kept : AreUsers (rows_of sp)
-  users_kept = subst (λ (rows : Rows). AreUsers rows) (sym st.rows) h.users
+  users_kept : AreUsers (logical sp s.environments.slots)
+  users_kept m q x hx = h.users m q x (sym (counts_kept m q) ∙ hx)
 
   -- in a page of its own
   module _ (own_page : is_shared e.perm ≡ false) where
     abbrev after : Option Page
-    after = Some (own (slice_set (s.spaces.pages e.frame) (page_offset va) byte) (has_write e.perm))
+    after = Some (own put_bytes (may_write e.perm))
 
     -- it is no shared frame's
-    shared_elsewhere : (q r : ℕ) (x : Entry) → rows_of s.spaces q r ≡ Some x → is_shared x.perm ≡ true → x.frame ≢ e.frame
-    shared_elsewhere q r x hx shared_page same =
-        let contradiction : true ≡ false =
-        sym shared_page ∙ same_sharing (rows_of s.spaces) h.apart q r d p x e hx he same ∙ own_page in
-        cc
+    shared_elsewhere : (m q : ℕ) (x : Entry) → before m q ≡ Some x → is_shared x.perm ≡ true → x.frame ≢ e.frame
+    shared_elsewhere m q x hx shared_page same =
+        let contradiction : true ≡ false = sym shared_page ∙ same_sharing before h.apart m q n p x e hx counts_here same ∙ own_page in cc
 
-    named_kept : AreNamed names sp.pages a.shared a.next_name (rows_of sp)
-    named_kept q r x hx shared_page =
-        let before : rows_of s.spaces q r ≡ Some x = sym (row_kept q r) ∙ hx in
-        let was = h.named q r x before shared_page in
-        record { home = was.home; bytes = was.bytes ∙ sym (bytes_kept x (shared_elsewhere q r x before shared_page)); old = was.old }
+    named_kept : AreNamed names sp.pages a.shared a.next_name (logical sp s.environments.slots)
+    named_kept m q x hx shared_page =
+        let there : before m q ≡ Some x = sym (counts_kept m q) ∙ hx in
+        let was = h.named m q x there shared_page in
+        record { home = was.home; bytes = was.bytes ∙ sym (bytes_kept x (shared_elsewhere m q x there shared_page)); old = was.old }
 
     mine : StandsForBorn names sp (slot_at s n) (record b { memory = upd b.memory p after })
     mine = page_put names names s.spaces sp (slot_at s n) b p after b.regions (born_at h n b at)
-        (sym (seen_own names sp d p e (row_kept d p ∙ he) own_page
-        ∙ ap (λ (bytes : List ℕ). Some (own bytes (has_write e.perm))) bytes_put))
-        (λ q ne. seen_at names names s.spaces sp d q (row_kept d q) (λ x hx own_too. own_elsewhere d q x (λ same too. ne too) hx own_too)
-        (λ x hx shared_too. refl))
-        (λ r. (born_at h n b at).regions r ∙ sym (st.regions d r))
-        (sends_by_same (minds_page (place_of (slot_at s n))) (rows_of s.spaces d) (rows_of sp d) (ap (λ (rows : Rows). rows d) st.rows))
-        (λ minds r table. table)
+        (sym (seen_own names sp d p e inside (row_kept d p ∙ he) own_page
+        ∙ ap (λ (bytes : List ℕ). Some (own bytes (may_write e.perm))) bytes_put))
+        (λ q ne. seen_at names names s.spaces sp d q (row_kept d q) (λ x hx own_too. own_beside q x ne hx own_too) (λ x hx shared_too. refl))
+        (library_alike (place_of (slot_at s n)) (rows_of s.spaces d) (rows_of sp d) (ap (λ (rows : Rows). rows d) st.rows) (born_at h n b at).library)
+        (record {
+          have = λ r is. st.regions d r ∙ (born_at h n b at).regions_have r is;
+          only = λ r is. (born_at h n b at).regions_only r (sym (st.regions d r) ∙ is);
+        })
+        (kept_rows (place_of (slot_at s n)) (view_of s.spaces d) (view_of sp d) outside (ap (λ (rows : Rows). rows d) st.rows) (st.regions d))
 
     own_stored : StandsFor names (with_spaces s sp) (with_born a n (record b { memory = upd b.memory p after }))
-    own_stored = record {
-      slots = upd-all (λ m (y : AbstractSlot). StandsForSlot names sp (slot_at s m) y) a.slots n
-          (born (record b { memory = upd b.memory p after })) mine
-          (others_stand h n b at (λ q ne. space_alike q (λ r x hx own_too. own_elsewhere q r x (λ same too. ne same) hx own_too)));
-      apart = apart_kept;
-      named = named_kept;
-      users = users_kept;
-      free_slots = h.free_slots;
-      first = upd-other a.slots n (born (record b { memory = upd b.memory p after })) 0 (born_not_first h n b at) ∙ h.first;
-      server = h.server;
-      input = h.input;
-      last = h.last;
-      turns = h.turns;
-      tabled = h.tabled;
-      in_order = in_order;
-    }
+    own_stored =
+        space_moves h n b at sp (record b { memory = upd b.memory p after }) a.shared a.next_name
+        (λ q ne. space_alike q (λ r x hx own_too. own_elsewhere q r x ne hx own_too)) mine
+        (record { apart = apart_kept; named = named_kept; users = users_kept; whole = whole_kept }) in_order
 
   -- in a shared page
   module _ (shared_page : is_shared e.perm ≡ true) where
@@ -122,19 +155,20 @@ module _ {names : Names} {s : KernelState} {a : AbstractState} {sp : SpacesState
     -- a page of one's own is another's frame
     own_other : (q r : ℕ) (x : Entry) → rows_of s.spaces q r ≡ Some x → is_shared x.perm ≡ false → x.frame ≢ e.frame
     own_other q r x hx own_page same =
+        let found = entry_counts h q r x hx in
         let contradiction : true ≡ false =
-        sym shared_page ∙ sym (same_sharing (rows_of s.spaces) h.apart q r d p x e hx he same) ∙ own_page in
+        sym shared_page
+        ∙ sym (same_sharing before h.apart found.slot found.page n p found.entry e found.counts counts_here (found.frame ∙ same))
+        ∙ found.sharing ∙ own_page in
         cc
 
     shared_put : sp.pages e.frame ≡ bytes_after
     shared_put =
-        bytes_put
-        ∙ ap (λ (bytes : List ℕ). slice_set bytes (page_offset va) byte) (sym (h.named d p e he shared_page).bytes)
+        bytes_put ∙ ap (λ (bytes : List ℕ). slice_set bytes (page_offset va) byte) (sym (h.named n p e counts_here shared_page).bytes)
 
-    named_stored : AreNamed names sp.pages (upd a.shared name bytes_after) a.next_name (rows_of sp)
-    named_stored q r x hx shared_too =
-        let before : rows_of s.spaces q r ≡ Some x = sym (row_kept q r) ∙ hx in
-        let was = h.named q r x before shared_too in
+    named_stored : AreNamed names sp.pages (upd a.shared name bytes_after) a.next_name (logical sp s.environments.slots)
+    named_stored m q x hx shared_too =
+        let was = h.named m q x (sym (counts_kept m q) ∙ hx) shared_too in
         record { home = was.home; bytes = by_frame was (x.frame == e.frame) refl; old = was.old }
       where
         by_frame : IsNamed names s.spaces.pages a.shared a.next_name x.frame → (t : Bool) → (x.frame == e.frame) ≡ t →
@@ -146,7 +180,7 @@ module _ {names : Names} {s : KernelState} {a : AbstractState} {sp : SpacesState
         by_frame was false test =
             let other : x.frame ≢ e.frame = grind (arith, nat_tests) in
             let other_name : names.name x.frame ≢ name =
-            λ same. other (sym was.home ∙ ap (λ (m : ℕ). names.frame m) same ∙ (h.named d p e he shared_page).home) in
+            λ same. other (sym was.home ∙ ap (λ (m : ℕ). names.frame m) same ∙ (h.named n p e counts_here shared_page).home) in
             upd-other a.shared name bytes_after (names.name x.frame) other_name ∙ was.bytes ∙ sym (bytes_kept x other)
 
     shared_stored : StandsFor names (with_spaces s sp) (record a { shared = upd a.shared name bytes_after })
@@ -157,6 +191,7 @@ module _ {names : Names} {s : KernelState} {a : AbstractState} {sp : SpacesState
       apart = apart_kept;
       named = named_stored;
       users = users_kept;
+      whole = whole_kept;
       free_slots = h.free_slots;
       first = h.first;
       server = h.server;
@@ -170,9 +205,9 @@ module _ {names : Names} {s : KernelState} {a : AbstractState} {sp : SpacesState
   pub stored_stands : StandsFor names (with_spaces s sp) (stored a n b va byte)
   stored_stands =
       subst (λ (page : Option Page). StandsFor names (with_spaces s sp) (stored_in a n b va byte page))
-      (sym ((born_at h n b at).memory p ∙ seen_by names s.spaces d p e he)) (by_sharing (is_shared e.perm) refl)
+      (sym ((born_at h n b at).memory p ∙ seen_by names s.spaces d p e inside he)) (by_sharing (is_shared e.perm) refl)
     where
       by_sharing : (c : Bool) → is_shared e.perm ≡ c → StandsFor names (with_spaces s sp)
-          (stored_in a n b va byte (Some (if c then named (names.name e.frame) (has_write e.perm) else own (s.spaces.pages e.frame) (has_write e.perm))))
+          (stored_in a n b va byte (Some (if c then named (names.name e.frame) (has_write e.perm) else own (s.spaces.pages e.frame) (may_write e.perm))))
       by_sharing true is = shared_stored is
       by_sharing false is = own_stored is

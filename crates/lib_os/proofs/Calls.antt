@@ -146,7 +146,7 @@ module _ (s : KernelState) (n : ℕ) where
       rw free (λ i. record { state = same i; gives = got Ended; written = written })
 
   -- a call that changes the caller's slot
-  own_is : (q regs : Regs) (slot : Slot) (what : Called) (written : List ℕ) → is_live slot ≡ true →
+  pub own_is : (q regs : Regs) (slot : Slot) (what : Called) (written : List ℕ) → is_live slot ≡ true →
       called_by n false regs (record { state = with_slot_at (with_registers s n q) n slot; called = what; written = written })
       ≡ record { state = with_slot_at s n (record slot { registers = regs }); gives = got what; written = written }
   own_is q regs slot what written lives =

@@ -5,7 +5,7 @@ use Rattle.jos_base.specs.declared.numbers.TheConstants.{NPTENTRIES}
 use Rattle.jos_base.specs.Words.{upd}
 use Rattle.jos_base.specs.Reach.{Entry}
 use Rattle.jos_base.specs.SpacesState.{SpacesState, put, zero_page}
-use Rattle.lib_os.specs.StandsFor.{rows_of}
+use Rattle.lib_os.specs.Rows.{rows_of}
 
 -- nothing that is seen
 pub record Quiet (s t : SpacesState) : Type 0 where

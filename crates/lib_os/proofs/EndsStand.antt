@@ -4,7 +4,7 @@ use Rattle.std.proofs.Common.{◌≡◌, ◌≢◌, ◌∙◌, ◌==◌, ℕ, Bo
 use Rattle.std.proofs.lemmas.Bool.Decides.{nat_tests}
 use Rattle.std.specs.Prelude.{Some}
 use Rattle.std.proofs.lemmas.Option.{none-some}
-use Rattle.jos_base.specs.Environments.{Slot, free_slot}
+use Rattle.jos_base.specs.Environments.{Slot, free_slot, is_live as is_live_slot}
 use Rattle.jos_base.specs.KernelState.{KernelState, slot_at}
 use Rattle.jos_base.specs.Reach.{Entry}
 use Rattle.jos_base.specs.SpacesState.{SpacesState, destroyed}
@@ -12,11 +12,14 @@ use Rattle.jos_base.specs.SystemCalls.{without_environment}
 use Rattle.lib_os.specs.AbstractState.{AbstractState, Born, AbstractSlot, free, born}
 use Rattle.lib_os.specs.AbstractMemory.{slot_freed}
 use Rattle.lib_os.specs.InOrder.{IsInOrder}
-use Rattle.lib_os.specs.StandsFor.{StandsFor, StandsForSlot, Names, rows_of}
+use Rattle.lib_os.specs.Rows.{Names, rows_of, logical, IsPage}
+use Rattle.lib_os.specs.StandsFor.{StandsFor, StandsForSlot}
 use Rattle.lib_os.proofs.Effects.{Gone}
 use Rattle.lib_os.proofs.SlotsStand.{SeenAlike, born_at}
-use Rattle.lib_os.proofs.StatesStand.{born_not_first, others_stand, tabled_freed}
-use Rattle.jos_base.proofs.Maps.{upd-other, upd-both}
+use Rattle.lib_os.proofs.StatesStand.{born_not_first, others_stand, others_count, tabled_freed}
+use Rattle.lib_os.proofs.Logical.{logical_some}
+use Rattle.jos_base.specs.Words.{upd}
+use Rattle.jos_base.proofs.Maps.{upd-at, upd-other, upd-both}
 
 -- what stands after a space is gone stood there before
 pub gone_kept : {s t : SpacesState} {d : ℕ} → Gone s t d → (q r : ℕ) (x : Entry) → rows_of t q r ≡ Some x → rows_of s q r ≡ Some x
@@ -40,16 +43,16 @@ pub ended_stands : {names : Names} {s : KernelState} {a : AbstractState} → Sta
     a.slots n ≡ born b → Gone s.spaces (destroyed s.spaces (slot_at s n).directory) (slot_at s n).directory →
     IsInOrder (without_environment s n) → StandsFor names (without_environment s n) (slot_freed a n b)
 ended_stands {names = names} {s = s} {a = a} h n b at gone in_order =
-    let t : SpacesState = destroyed s.spaces (slot_at s n).directory in
     record {
       slots = upd-both (λ m (x : Slot) (y : AbstractSlot). StandsForSlot names t x y) s.environments.slots a.slots n
           (free_slot (slot_at s n).id) (free b.id) (ap (λ (id : ℕ). free_slot id) (born_at h n b at).id)
           (others_stand h n b at (gone_alike names gone));
       apart = λ q r m o x y ne hx hy same.
-          h.apart q r m o x y ne (gone_kept gone q r x hx) (gone_kept gone m o y hy) same;
-      named = λ q r x hx shared_page. let was = h.named q r x (gone_kept gone q r x hx) shared_page in
-          record { home = was.home; bytes = was.bytes ∙ sym (gone.bytes q r x hx); old = was.old };
-      users = λ q r x hx. h.users q r x (gone_kept gone q r x hx);
+          h.apart q r m o x y ne (still q r x hx).0 (still m o y hy).0 same;
+      named = λ q r x hx shared_page. let before = still q r x hx in let was = h.named q r x before.0 shared_page in
+          record { home = was.home; bytes = was.bytes ∙ sym before.1; old = was.old };
+      users = λ q r x hx. h.users q r x (still q r x hx).0;
+      whole = λ q r x hx. let before = still q r x hx in subst (λ (l : List ℕ). IsPage l) (sym before.1) (h.whole q r x before.0);
       free_slots = ap (λ (slots : List ℕ). n ∷ slots) h.free_slots;
       first = upd-other a.slots n (free b.id) 0 (born_not_first h n b at) ∙ h.first;
       server = h.server;
@@ -59,3 +62,29 @@ ended_stands {names = names} {s = s} {a = a} h n b at gone in_order =
       tabled = tabled_freed h.tabled n (slot_at s n).id;
       in_order = in_order;
     }
+  where
+    t : SpacesState
+    t = destroyed s.spaces (slot_at s n).directory
+
+    after : ℕ → Slot
+    after = upd s.environments.slots n (free_slot (slot_at s n).id)
+
+    -- what counts still counted before, with the same bytes
+    still : (q r : ℕ) (x : Entry) → logical t after q r ≡ Some x →
+        (logical s.spaces s.environments.slots q r ≡ Some x) × (t.pages x.frame ≡ s.spaces.pages x.frame)
+    still q r x hx = by_slot (q == n) refl
+      where
+        by_slot : (c : Bool) → (q == n) ≡ c → (logical s.spaces s.environments.slots q r ≡ Some x) × (t.pages x.frame ≡ s.spaces.pages x.frame)
+        by_slot true test =
+            let same : q ≡ n = grind (arith, nat_tests) in
+            let dead : after n ≡ free_slot (slot_at s n).id = upd-at s.environments.slots n (free_slot (slot_at s n).id) in
+            let live : is_live_slot (after n) ≡ true =
+            (logical_some t after n r x (subst (λ (m : ℕ). logical t after m r ≡ Some x) same hx)).0 in
+            absurd (let contradiction : false ≡ true = sym (ap (λ (k : Slot). is_live_slot k) dead) ∙ live in cc)
+        by_slot false test =
+            let other : q ≢ n = grind (arith, nat_tests) in
+            let found = logical_some t after q r x hx in
+            let slot : after q ≡ slot_at s q = upd-other s.environments.slots n (free_slot (slot_at s n).id) q other in (
+              sym (others_count h n b at (free_slot (slot_at s n).id) (gone_alike names gone) q other r) ∙ hx,
+              gone.bytes (slot_at s q).directory r x (subst (λ (k : Slot). rows_of t k.directory r ≡ Some x) slot found.1),
+            )

@@ -1,17 +1,20 @@
 -- What holds of all entries, pair by pair and one by one, where a byte is stored, where one entry is put in the place of
 -- another, and where one is removed.
-use Rattle.std.proofs.Common.{◌≡◌, ◌≢◌, ◌∙◌, ◌⊎◌, inl, inr, ℕ, Bool, true, false, sym, ap, if◌then◌else◌}
-use Rattle.std.specs.Prelude.{Option, Some}
+use Rattle.std.proofs.Common.{◌≡◌, ◌≢◌, ◌∙◌, ◌⊎◌, inl, inr, ℕ, Bool, true, false, List, refl, sym, ap, subst, if◌then◌else◌}
+use Rattle.std.specs.Prelude.{Option, Some, None}
 use Rattle.std.specs.Option.{option_map}
 use Rattle.std.proofs.lemmas.Option.{same_Some}
 use Rattle.jos_base.specs.Reach.{Entry}
+use Rattle.jos_base.specs.KernelState.{KernelState}
 use Rattle.jos_base.specs.SpacesState.{SpacesState, put}
 use Rattle.jos_base.specs.SystemCalls.{has_write}
-use Rattle.lib_os.specs.AbstractState.{own, named}
-use Rattle.lib_os.specs.StandsFor.{Names, Rows, rows_of, page_by, page_seen, is_shared, Agree, AgreeWhereShared}
+use Rattle.lib_os.specs.AbstractState.{AbstractState, own, named}
+use Rattle.lib_os.specs.Rows.{Names, Rows, rows_of, logical, page_by, page_seen, seen_where, is_programs, is_shared, may_write}
+use Rattle.lib_os.specs.Rows.{Agree, AgreeWhereShared, IsNamed, AreNamed, AreUsers, IsUsers, AreWhole, IsPage}
+use Rattle.lib_os.specs.StandsFor.{StandsFor}
 use Rattle.lib_os.proofs.SlotsStand.{page_alike, option_map_alike}
 use Rattle.lib_os.proofs.Puts.{put-found}
-use Rattle.jos_base.proofs.Puts.{Elsewhere, place_cases}
+use Rattle.jos_base.proofs.Puts.{Elsewhere, place_cases, put-at, put-other}
 
 -- ---- pairs
 
@@ -60,6 +63,72 @@ all_put rows d p v Q old new q r x hx = by_case (put-found rows d p v q r x hx)
     by_case (inl here) = new x here.2
     by_case (inr there) = old q r x there.0 there.1
 
+-- ---- all of it
+
+-- what holds of entries as they count, with the bytes of their frames
+pub record RowsStand (names : Names) (pages shared : ℕ → List ℕ) (next : ℕ) (rows : Rows) : Type 0 where
+  pub apart : AgreeWhereShared rows
+  pub named : AreNamed names pages shared next rows
+  pub users : AreUsers rows
+  pub whole : AreWhole pages rows
+
+pub rows_stand : {names : Names} {s : KernelState} {a : AbstractState} → StandsFor names s a →
+    RowsStand names s.spaces.pages a.shared a.next_name (logical s.spaces s.environments.slots)
+rows_stand h = record { apart = h.apart; named = h.named; users = h.users; whole = h.whole }
+
+-- of the same entries
+pub rows_same : {names : Names} {pages shared : ℕ → List ℕ} {next : ℕ} (rows after : Rows) → ((n p : ℕ) → after n p ≡ rows n p) →
+    RowsStand names pages shared next rows → RowsStand names pages shared next after
+rows_same {names = names} {pages = pages} {shared = shared} {next = next} rows after same h =
+    subst (λ (r : Rows). RowsStand names pages shared next r) (λ i n p. sym (same n p) i) h
+
+-- where their frames keep their bytes
+pub rows_bytes : {names : Names} {pages shared : ℕ → List ℕ} {next : ℕ} {rows : Rows} (after : ℕ → List ℕ) →
+    ((n p : ℕ) (x : Entry) → rows n p ≡ Some x → after x.frame ≡ pages x.frame) → RowsStand names pages shared next rows →
+    RowsStand names after shared next rows
+rows_bytes after same h = record {
+  apart = h.apart;
+  named = λ n p x is shared_page. let was = h.named n p x is shared_page in
+      record { home = was.home; bytes = was.bytes ∙ sym (same n p x is); old = was.old };
+  users = h.users;
+  whole = λ n p x is. subst (λ (l : List ℕ). IsPage l) (sym (same n p x is)) (h.whole n p x is);
+}
+
+-- An entry, or none, in the place of what stood there: all others keep their bytes, and names.
+pub record PutsRow (names after : Names) (pages shared pages_after shared_after : ℕ → List ℕ) (next next_after : ℕ) (rows : Rows) (n p : ℕ)
+    (v : Option Entry) : Type 0 where
+  pub bytes : (m q : ℕ) (x : Entry) → Elsewhere m q n p → rows m q ≡ Some x → pages_after x.frame ≡ pages x.frame
+  pub agree : (m q : ℕ) (x e : Entry) → Elsewhere m q n p → rows m q ≡ Some x → v ≡ Some e → x.frame ≡ e.frame → Agree x.perm e.perm
+  pub user : (e : Entry) → v ≡ Some e → IsUsers e.perm
+  pub whole : (e : Entry) → v ≡ Some e → IsPage (pages_after e.frame)
+  pub named_new : (e : Entry) → v ≡ Some e → is_shared e.perm ≡ true → IsNamed after pages_after shared_after next_after e.frame
+  pub named_old : (m q : ℕ) (x : Entry) → Elsewhere m q n p → rows m q ≡ Some x → is_shared x.perm ≡ true →
+      IsNamed names pages shared next x.frame → IsNamed after pages_after shared_after next_after x.frame
+
+pub rows_put : {names after : Names} {pages shared pages_after shared_after : ℕ → List ℕ} {next next_after : ℕ} {rows : Rows} {n p : ℕ}
+    {v : Option Entry} → RowsStand names pages shared next rows →
+    PutsRow names after pages shared pages_after shared_after next next_after rows n p v →
+    RowsStand after pages_after shared_after next_after (put rows n p v)
+rows_put {after = after} {pages_after = pages_after} {shared_after = shared_after} {next_after = next_after} {rows = rows} {n = n} {p = p}
+    {v = v} h puts = record {
+      apart = apart_put rows n p v h.apart puts.agree;
+      named = all_put rows n p v (λ x. is_shared x.perm ≡ true → IsNamed after pages_after shared_after next_after x.frame)
+          (λ m q x ne hx shared_page. puts.named_old m q x ne hx shared_page (h.named m q x hx shared_page)) puts.named_new;
+      users = all_put rows n p v (λ x. IsUsers x.perm) (λ m q x ne hx. h.users m q x hx) puts.user;
+      whole = all_put rows n p v (λ x. IsPage (pages_after x.frame))
+          (λ m q x ne hx. subst (λ (l : List ℕ). IsPage l) (sym (puts.bytes m q x ne hx)) (h.whole m q x hx)) puts.whole;
+    }
+
+-- a map of two indices that is another at one place alone
+pub put_is : {V : Type 0} (f g : ℕ → ℕ → V) (n p : ℕ) (v : V) → g n p ≡ v → ((m q : ℕ) → Elsewhere m q n p → g m q ≡ f m q) →
+    (m q : ℕ) → g m q ≡ put f n p v m q
+put_is {V = V} f g n p v here there m q = by_case (place_cases m q n p)
+  where
+    by_case : ((m ≡ n) × (q ≡ p)) ⊎ Elsewhere m q n p → g m q ≡ put f n p v m q
+    by_case (inl is) =
+        (λ i. g (is.0 i) (is.1 i)) ∙ here ∙ sym (put-at f n p v) ∙ sym (λ i. put f n p v (is.0 i) (is.1 i))
+    by_case (inr ne) = there m q ne ∙ sym (put-other f n p v m q ne)
+
 -- ---- pages
 
 -- the page at one place, where its entry is the same, and its frame's bytes or its name
@@ -68,21 +137,33 @@ pub seen_at : (names after : Names) (s t : SpacesState) (d p : ℕ) → rows_of 
     ((x : Entry) → rows_of s d p ≡ Some x → is_shared x.perm ≡ true → after.name x.frame ≡ names.name x.frame) →
     page_seen after t d p ≡ page_seen names s d p
 seen_at names after s t d p row bytes named_so =
-    option_map_alike (page_by names s.pages) (page_by after t.pages) (rows_of s d p) (rows_of t d p) row
-    (λ x at. page_alike names after s.pages t.pages x (bytes x at) (named_so x at))
+    ap (seen_where (is_programs p))
+    (option_map_alike (page_by names s.pages) (page_by after t.pages) (rows_of s d p) (rows_of t d p) row
+    (λ x at. page_alike names after s.pages t.pages x (bytes x at) (named_so x at)))
 
-pub seen_own : (names : Names) (s : SpacesState) (d p : ℕ) (e : Entry) → rows_of s d p ≡ Some e → is_shared e.perm ≡ false →
-    page_seen names s d p ≡ Some (own (s.pages e.frame) (has_write e.perm))
-seen_own names s d p e at own_page =
-    ap (λ (o : Option Entry). option_map (page_by names s.pages) o) at
-    ∙ ap (λ (c : Bool). Some (if c then named (names.name e.frame) (has_write e.perm) else own (s.pages e.frame) (has_write e.perm))) own_page
-
-pub seen_named : (names : Names) (s : SpacesState) (d p : ℕ) (e : Entry) → rows_of s d p ≡ Some e → is_shared e.perm ≡ true →
-    page_seen names s d p ≡ Some (named (names.name e.frame) (has_write e.perm))
-seen_named names s d p e at shared_page =
-    ap (λ (o : Option Entry). option_map (page_by names s.pages) o) at
-    ∙ ap (λ (c : Bool). Some (if c then named (names.name e.frame) (has_write e.perm) else own (s.pages e.frame) (has_write e.perm))) shared_page
-
-pub seen_by : (names : Names) (s : SpacesState) (d p : ℕ) (e : Entry) → rows_of s d p ≡ Some e →
+pub seen_by : (names : Names) (s : SpacesState) (d p : ℕ) (e : Entry) → is_programs p ≡ true → rows_of s d p ≡ Some e →
     page_seen names s d p ≡ Some (page_by names s.pages e)
-seen_by names s d p e at = ap (λ (o : Option Entry). option_map (page_by names s.pages) o) at
+seen_by names s d p e inside at =
+    ap (λ (o : Option Entry). seen_where (is_programs p) (option_map (page_by names s.pages) o)) at
+    ∙ ap (λ (c : Bool). seen_where c (Some (page_by names s.pages e))) inside
+
+pub seen_own : (names : Names) (s : SpacesState) (d p : ℕ) (e : Entry) → is_programs p ≡ true → rows_of s d p ≡ Some e →
+    is_shared e.perm ≡ false → page_seen names s d p ≡ Some (own (s.pages e.frame) (may_write e.perm))
+seen_own names s d p e inside at own_page =
+    seen_by names s d p e inside at
+    ∙ ap (λ (c : Bool). Some (if c then named (names.name e.frame) (has_write e.perm) else own (s.pages e.frame) (may_write e.perm))) own_page
+
+pub seen_named : (names : Names) (s : SpacesState) (d p : ℕ) (e : Entry) → is_programs p ≡ true → rows_of s d p ≡ Some e →
+    is_shared e.perm ≡ true → page_seen names s d p ≡ Some (named (names.name e.frame) (has_write e.perm))
+seen_named names s d p e inside at shared_page =
+    seen_by names s d p e inside at
+    ∙ ap (λ (c : Bool). Some (if c then named (names.name e.frame) (has_write e.perm) else own (s.pages e.frame) (may_write e.perm))) shared_page
+
+-- no page
+pub seen_none : (names : Names) (s : SpacesState) (d p : ℕ) → rows_of s d p ≡ None → page_seen names s d p ≡ None
+seen_none names s d p at =
+    ap (λ (o : Option Entry). seen_where (is_programs p) (option_map (page_by names s.pages) o)) at ∙ by_test (is_programs p)
+  where
+    by_test : (c : Bool) → seen_where c None ≡ None
+    by_test true = refl
+    by_test false = refl

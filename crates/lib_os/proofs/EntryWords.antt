@@ -7,9 +7,10 @@ use Rattle.std.specs.Option.{option_map}
 use Rattle.jos_base.specs.declared.numbers.TheConstants.{PTE_P, PTE_SYSCALL}
 use Rattle.jos_base.specs.Reach.{Entry}
 use Rattle.jos_base.specs.SpacesState.{SpacesState, Region}
+use Rattle.jos_base.specs.SystemCalls.{is_page_perm}
 use Rattle.jos_base.specs.Windows.{entry_word, region_entry}
 use Rattle.lib_os.specs.InOrder.{HasOneUse}
-use Rattle.lib_os.specs.StandsFor.{lasting, rows_of, AreUsers}
+use Rattle.lib_os.specs.Rows.{lasting, rows_of, IsUsers}
 use Rattle.lib_os.proofs.BytesRead.{reading_bits, lasting_reads}
 
 -- ---- the words
@@ -63,13 +64,11 @@ module _ (s : SpacesState) (d p : ℕ) where
   pub row_word_none : rows_of s d p ≡ None → entry_word (s.entries d p) ≡ 0
   row_word_none is = ap entry_word (row_missing is)
 
-  pub row_word_present : AreUsers (rows_of s) → (row : Entry) → rows_of s d p ≡ Some row →
-      bit_and (entry_word (s.entries d p)) PTE_P ≡ PTE_P
-  unfolding rows_of
-  row_word_present users row is =
+  pub row_word_present : (row : Entry) → IsUsers row.perm → rows_of s d p ≡ Some row → bit_and (entry_word (s.entries d p)) PTE_P ≡ PTE_P
+  row_word_present row user is =
       let found = row_entry row is in
-      let reads = lasting_reads found.0.perm (users d p (lasting found.0) (ap (option_map lasting) found.1)) in
-      ap (λ (o : Option Entry). bit_and (entry_word o) PTE_P) found.1 ∙ entry_present found.0 reads
+      let page : is_page_perm (lasting found.0).perm ≡ true = ap (λ (e : Entry). is_page_perm e.perm) found.2 ∙ user.page in
+      ap (λ (o : Option Entry). bit_and (entry_word o) PTE_P) found.1 ∙ entry_present found.0 (lasting_reads found.0.perm page)
 
   pub row_word_bits : HasOneUse s → (row : Entry) → rows_of s d p ≡ Some row →
       bit_and (entry_word (s.entries d p)) PTE_SYSCALL ≡ row.perm
@@ -80,9 +79,10 @@ module _ (s : SpacesState) (d p : ℕ) where
       ∙ ap (λ (e : Entry). e.perm) found.2
 
   -- whether a page is there
-  pub row_told : AreUsers (rows_of s) → (bit_and (entry_word (s.entries d p)) PTE_P == PTE_P) ≡ is_some (rows_of s d p)
+  pub row_told : ((row : Entry) → rows_of s d p ≡ Some row → IsUsers row.perm) →
+      (bit_and (entry_word (s.entries d p)) PTE_P == PTE_P) ≡ is_some (rows_of s d p)
   row_told users = by_row (rows_of s d p) refl
     where
       by_row : (o : Option Entry) → rows_of s d p ≡ o → (bit_and (entry_word (s.entries d p)) PTE_P == PTE_P) ≡ is_some o
-      by_row (Some row) is = let present = row_word_present users row is in grind (arith, nat_tests)
+      by_row (Some row) is = let present = row_word_present row (users row is) is in grind (arith, nat_tests)
       by_row None is = let none = row_word_none is in rw none refl

@@ -15,25 +15,27 @@ use Rattle.lib_os.specs.declared.progress.Progress.{Progress}
 use Rattle.lib_os.specs.declared.progress.Progress.TheVariants as progress
 use Rattle.lib_os.specs.declared.service.Service.{Service}
 use Rattle.lib_os.specs.AbstractState.{AbstractState, Born, born, Stage}
-use Rattle.lib_os.specs.LibrarySteps.{IsLibraryStep, Lowers, GivesUp, NothingRefused, steps_left, is_pausing}
-use Rattle.lib_os.specs.Places.{place_of, words_at}
+use Rattle.lib_os.specs.LibrarySteps.{IsLibraryStep, Lowers, LowersAt, GivesUp, NothingRefused, steps_left, left_at, copies_left, hidden_left, is_pausing}
+use Rattle.lib_os.specs.Places.{place_of, words_at, is_handlers}
 use Rattle.lib_os.specs.Services.{service_of}
-use Rattle.lib_os.specs.StandsFor.{StandsFor, Names, rows_of, StandsForBorn, StandsAt, StandsAtStep, IsIn}
+use Rattle.lib_os.specs.Rows.{Names, rows_of}
+use Rattle.lib_os.specs.StandsFor.{StandsFor, StandsForBorn, StandsAt, StandsAtStep, IsIn, view_of}
 use Rattle.lib_os.specs.UserCalls.{CallStep, IsCallStep, Output, Prints}
 use Rattle.lib_os.proofs.Numbered.{number_of, named_at}
-use Rattle.lib_os.proofs.StatesStand.{slot_replaced}
-use Rattle.lib_os.proofs.WordsTell.{place_at}
+use Rattle.lib_os.proofs.Serving.{plain_upcall, plain_copy, plain_counts, library_moved}
+use Rattle.lib_os.proofs.StatesStand.{plain_alike, slot_replaced}
+use Rattle.lib_os.proofs.WordsTell.{place_at, is_in_handler, handler_runs, outside_stack}
 use Rattle.jos_base.proofs.Maps.{upd-at}
 
 -- ---- places
 
 -- the place of one whose words are set, where the registers with the number name the service
 pub place_set : (s : KernelState) (n number : ℕ) (service : Service) (at : Step) →
-    service_of (record (slot_at s n).registers { eax = number }) ≡ service →
+    is_handlers (slot_at s n).registers.esp ≡ false → service_of (record (slot_at s n).registers { eax = number }) ≡ service →
     place_of (slot_at (with_extra s n (words_at number at)) n) ≡ place.InService service at
-place_set s n number service at is =
+place_set s n number service at outside is =
     ap (λ (k : Slot). place_of k) (upd-at s.environments.slots n (record (slot_at s n) { extra = words_at number at }))
-    ∙ place_at (slot_at s n).registers number at
+    ∙ place_at (slot_at s n).registers number at outside
     ∙ ap (λ (x : Service). place.InService x at) is
 
 -- a service has gone on at a step, behind a call that left the registers as they were
@@ -43,9 +45,11 @@ pub went_to : (s mid after : KernelState) (n m p : ℕ) (service : Service) (fro
 went_to s mid after n m p service from to was kept same too state =
     let named : service_of (record (slot_at mid n).registers { eax = number_of service }) ≡ service =
     ap (λ (r : Regs). service_of (record r { eax = number_of service })) kept ∙ named_at (slot_at s n) service from was in
+    let outside : is_handlers (slot_at mid n).registers.esp ≡ false =
+    ap (λ (r : Regs). is_handlers r.esp) kept ∙ outside_stack (slot_at s n).registers (slot_at s n).extra (place.InService service from) was refl in
     (λ i. place_of (slot_at (state i) (too i)))
     ∙ (λ i. place_of (slot_at (with_extra mid (same i) (words_at (number_of service) to)) (same i)))
-    ∙ place_set mid n (number_of service) service to named
+    ∙ place_set mid n (number_of service) service to outside named
 
 -- ---- words
 
@@ -55,26 +59,33 @@ pub in_with_words : {k : Slot} {b : Born} {service : Service} {stage : Stage} (w
 in_with_words words h = record { program = h.program; phase = h.phase; silent = h.silent; awake = h.awake }
 
 pub words_stand : {names : Names} {s : KernelState} {a : AbstractState} → StandsFor names s a → (n number : ℕ) (b : Born) →
-    a.slots n ≡ born b → StandsForBorn names s.spaces (slot_at s n) b → (service : Service) (at : Step) →
-    service_of (record (slot_at s n).registers { eax = number }) ≡ service →
-    StandsAtStep (rows_of s.spaces (slot_at s n).directory) (record (slot_at s n) { extra = words_at number at }) b service at →
+    a.slots n ≡ born b → StandsForBorn names s.spaces (slot_at s n) b → is_handlers (slot_at s n).registers.esp ≡ false →
+    (service : Service) (at : Step) → service_of (record (slot_at s n).registers { eax = number }) ≡ service →
+    StandsAtStep (view_of s.spaces (slot_at s n).directory) (record (slot_at s n) { extra = words_at number at }) b service at →
     StandsFor names (with_extra s n (words_at number at)) a
-words_stand {s = s} h n number b is own service at names_it so =
+words_stand {s = s} h n number b is own outside service at names_it so =
     let k : Slot = record (slot_at s n) { extra = words_at number at } in
     let there : place_of k ≡ place.InService service at =
-    place_at (slot_at s n).registers number at ∙ ap (λ (x : Service). place.InService x at) names_it in
-    slot_replaced h n b is k refl (record { id = refl; env_type = refl; calm = λ runs. runs }) (record {
+    place_at (slot_at s n).registers number at outside ∙ ap (λ (x : Service). place.InService x at) names_it in
+    let plain : is_in_handler (place_of (slot_at s n)) ≡ false = handler_runs (slot_at s n).registers (slot_at s n).extra ∙ outside in
+    let plain_after : is_in_handler (place_of k) ≡ false = ap is_in_handler there in
+    slot_replaced h n b is k refl (record { id = refl; env_type = refl; calm = λ runs. runs })
+    (plain_alike (place_of (slot_at s n)) (place_of k) (plain_counts (place_of (slot_at s n)) plain) (plain_counts (place_of k) plain_after)) (record {
       id = own.id;
       id_small = own.id_small;
       parent = own.parent;
       env_type = own.env_type;
       runs = own.runs;
-      upcall = own.upcall;
+      upcall = own.upcall ∙ plain_upcall (place_of (slot_at s n)) plain ∙ sym (plain_upcall (place_of k) plain_after);
       descriptors = own.descriptors;
       memory = own.memory;
-      regions = own.regions;
+      library = library_moved (place_of (slot_at s n)) (place_of k) (rows_of s.spaces k.directory)
+          (plain_copy (place_of (slot_at s n)) plain ∙ sym (plain_copy (place_of k) plain_after)) own.library;
+      regions_have = own.regions_have;
+      regions_only = own.regions_only;
       stack = own.stack;
-      at = subst (λ (p : Place). StandsAt p (rows_of s.spaces k.directory) k b) (sym there) so;
+      flags = own.flags;
+      at = subst (λ (p : Place). StandsAt p (view_of s.spaces k.directory) k b) (sym there) so;
     })
 
 -- ---- the clauses of a step
@@ -90,16 +101,17 @@ pub never : (s mid after : KernelState) (n : ℕ) (call : CallStep Called) (call
     IsLibraryStep (Ok p) n s after output
 never s mid after n call called output p is none = (call.written, is.2, λ a h quiet. absurd (none h.0 a h.1))
 
-pub lowered : (before after : Place) (service : Service) (from to : Step) → before ≡ place.InService service from →
-    after ≡ place.InService service to →
-    steps_left (place.InService service to) < steps_left (place.InService service from) → Lowers (Ok progress.Hidden) before after
-lowered before after service from to was is less =
-    subst (λ (p : Place). steps_left after < steps_left p) (sym was)
-    (subst (λ (p : Place). steps_left p < steps_left (place.InService service from)) (sym is) less)
+pub lowered : (before after : KernelState) (n : ℕ) (service : Service) (from to : Step) →
+    place_of (slot_at before n) ≡ place.InService service from → place_of (slot_at after n) ≡ place.InService service to →
+    steps_left to < steps_left from → Lowers (Ok progress.Hidden) n before after
+lowered before after n service from to was is less =
+    subst (λ (p : Place). LowersAt p n before after) (sym was)
+    (subst (λ (p : Place). left_at p (copies_left (rows_of after.spaces (slot_at after n).directory)) < hidden_left before n) (sym is)
+    (subst (λ (p : Place). steps_left to < left_at p (copies_left (rows_of before.spaces (slot_at before n).directory))) (sym was) less))
 
-pub pauses : (before after : Place) (service : Service) (perm : ℕ) → is_pausing (place.InService service (step.Pausing perm)) ≡ true → after ≡ place.InService service (step.Pausing perm) →
-    Lowers (Ok progress.Waited) before after
-pauses before after service perm tries is = ap is_pausing is ∙ tries
+pub pauses : (before after : KernelState) (n : ℕ) (service : Service) (perm : ℕ) → is_pausing (place.InService service (step.Pausing perm)) ≡ true →
+    place_of (slot_at after n) ≡ place.InService service (step.Pausing perm) → Lowers (Ok progress.Waited) n before after
+pauses before after n service perm tries is = ap is_pausing is ∙ tries
 
 -- a service that was about to give up its turn has given it up
 pub gave_up : (s mid after : KernelState) (n m p : ℕ) (words : List ℕ) → mid ≡ with_status s n Runnable → m ≡ n → p ≡ m →

@@ -3,13 +3,15 @@
 use Rattle.std.proofs.Common.{◌≡◌, ◌≢◌, ◌∙◌, ◌==◌, ◌%◌, ◌&&◌, ◌||◌, ◌≤◌, ℕ, Bool, true, false, not, List, [], ◌∷◌, Option, Some}
 use Rattle.std.proofs.Common.{None}
 use Rattle.std.proofs.Common.{Result, Ok, Err, IfSome, arith, refl, sym, ap, subst, if◌then◌else◌}
-use Rattle.std.specs.Prelude.{length, nat_lt}
+use Rattle.std.specs.Prelude.{length, nat_lt, ◌+◌}
+use Rattle.std.specs.Int.{w32, to_le_bytes}
 use Rattle.jos_base.specs.declared.environment.Status.{Status}
 use Rattle.jos_base.specs.declared.environment.Status.TheVariants.{NotRunnable, Runnable, Running}
 use Rattle.jos_base.specs.declared.errno.Errno.{Errno}
 use Rattle.jos_base.specs.declared.errno.Errno.TheVariants.{BadEnv, Invalid, IpcNotRecv}
 use Rattle.jos_base.specs.declared.line.Line.{Line}
 use Rattle.jos_base.specs.declared.line.Line.TheVariants.{UserFault, UserMemCheck}
+use Rattle.jos_base.specs.declared.memory.Access.{Access}
 use Rattle.jos_base.specs.declared.memory.Access.TheVariants.{Read, Write}
 use Rattle.jos_base.specs.declared.memory.PageFault.{PageFault}
 use Rattle.jos_base.specs.declared.numbers.TheConstants.{CPUTS_MAX, PGSIZE, UTOP, SYS_CPUTS, SYS_CGETC, SYS_GETENVID}
@@ -35,11 +37,12 @@ use Rattle.jos_base.specs.SystemCalls.{env_set_pgfault_upcall_of}
 use Rattle.jos_base.specs.SystemCalls.{message_taken, Passing, nothing, a_page, invalid, passing_of, sent_with, sent}
 use Rattle.jos_base.specs.SystemCalls.{ipc_try_send_of, ipc_recv, call_of}
 use Rattle.jos_base.specs.SystemCalls.{handler_entered, handled_at, handled}
-use Rattle.jos_base.specs.TrapFrames.{words_of_bytes, from_record, frame_bytes, upcall_place}
-use Rattle.jos_base.specs.UserMemory.{reach_in, touched}
+use Rattle.jos_base.specs.TrapFrames.{words_of_bytes, from_record, from_frame, frame_bytes, frame_size, upcall_place}
+use Rattle.jos_base.specs.UserMemory.{reach_in, touched, stored_byte, with_byte_at}
 use Rattle.jos_base.specs.Words.{page_number, upd}
 use Rattle.lib_os.specs.LibrarySteps.{LeavesRest}
-use Rattle.lib_os.specs.UserCalls.{giving, accessing, faulting, user_word, load, asking, sets_own, system}
+use Rattle.lib_os.specs.UserCalls.{CallStep, giving, accessing, by_access, faulting, user_byte, user_word, with_user_byte, with_user_word}
+use Rattle.lib_os.specs.UserCalls.{got, with_bytes_put, load, load_byte, store, store_byte, exchange, restored, restore_frame, asking, sets_own, system}
 use Rattle.lib_os.proofs.FramesKept.{Gets, unmapped_frames, destroyed_frames, inserted_gets, allocated_gets, touched_frames}
 use Rattle.lib_os.proofs.FramesKept.{all_touched_frames}
 use Rattle.lib_os.proofs.Slots.{slot_put, slot_kept, slots_alike}
@@ -52,6 +55,14 @@ use Rattle.jos_base.proofs.Maps.{upd-all}
 pub record Left (P : Type 0) (s : KernelState) (n : ℕ) (after : KernelState) : Type 0 where
   pub rest : LeavesRest s after
   pub calm : P → is_runnable (slot_at s n).status ≡ false → is_runnable (slot_at after n).status ≡ false
+
+stored_frames : (s : SpacesState) (d va byte : ℕ) → (stored_byte s d va byte).frames ≡ s.frames
+unfolding stored_byte
+stored_frames s d va byte = by_reach (reach_in s d va Write)
+  where
+    by_reach : (reached : Result FrameOffset PageFault) → (with_byte_at s byte reached).frames ≡ s.frames
+    by_reach (Ok location) = refl
+    by_reach (Err fault) = refl
 
 calm_upd : (slots : ℕ → Slot) (n m : ℕ) (slot : Slot) → is_runnable slot.status ≡ false → is_runnable (slots n).status ≡ false →
     is_runnable (upd slots m slot n).status ≡ false
@@ -304,7 +315,7 @@ module _ (P : Type 0) (s : KernelState) (n : ℕ) where
       different : {test : Bool} → test ≡ true → test ≡ false → ⊥
       different yes_so not_so = let contradiction : true ≡ false = sym yes_so ∙ not_so in cc
 
-  -- ---- a load
+  -- ---- accesses
 
   entered_left : (fault : PageFault) (place : ℕ) (reached : Result FrameOffset PageFault) →
       IfSome (handler_entered s n fault place reached) (Left P s n)
@@ -330,19 +341,69 @@ module _ (P : Type 0) (s : KernelState) (n : ℕ) where
       by_upcall false None = tt
       by_upcall false (Some place) = entered_left fault place (reach_in s.spaces (slot_at s n).directory place Write)
 
+  fault_left : (X : Type 0) (fault : PageFault) (after : Option KernelState) → IfSome after (Left P s n) →
+      Left P s n (faulting {X = X} s n fault after).state
+  fault_left X fault (Some after) h = h
+  fault_left X fault None h = killed_left (UserFault fault.va (slot_at s n).registers.eip)
+
+  -- an access, by what is done in the state in which it has set its bits
+  access_left : {X : Type 0} (va : ℕ) (a : Access) (done : KernelState → CallStep X) →
+      ((k : KernelState) → Left P s n k → Left P s n (done k).state) → Left P s n (by_access s n va a done).state
+  access_left {X = X} va a done left = by_reach (reach_in s.spaces (slot_at s n).directory va a)
+    where
+      by_reach : (reached : Result FrameOffset PageFault) → Left P s n (accessing s n va a done reached).state
+      by_reach (Ok location) = left _ (spaces_left _ (touched_frames s.spaces (slot_at s n).directory va a))
+      by_reach (Err fault) = fault_left _ fault (handled s n fault) (handled_left fault)
+
+  put_left_bytes : (k : KernelState) (va : ℕ) (bytes : List ℕ) → Left P s n k → Left P s n (with_bytes_put k n va bytes)
+  put_left_bytes k va [] h = h
+  put_left_bytes k va (byte ∷ rest) h =
+      let t : KernelState = with_user_byte k n va byte in
+      put_left_bytes t (va + 1) rest (record {
+        rest = record {
+          last = h.rest.last;
+          turns = h.rest.turns;
+          frames = stored_frames k.spaces (slot_at k n).directory va byte ∙ h.rest.frames;
+          refused = h.rest.refused;
+          told = h.rest.told;
+        };
+        calm = h.calm;
+      })
+
   pub load_left : (va : ℕ) → Left P s n (load s n va).state
   unfolding load
-  load_left va = by_reach (reach_in s.spaces (slot_at s n).directory va Read)
-    where
-      by_fault : (fault : PageFault) (after : Option KernelState) → IfSome after (Left P s n) →
-          Left P s n (faulting {X = ℕ} s n fault after).state
-      by_fault fault (Some after) h = h
-      by_fault fault None h = killed_left (UserFault fault.va (slot_at s n).registers.eip)
+  load_left va = access_left va Read (λ after. giving after (user_word after n va)) (λ k h. h)
 
-      by_reach : (reached : Result FrameOffset PageFault) →
-          Left P s n (accessing s n va Read (λ after. giving after (user_word after n va)) reached).state
-      by_reach (Ok location) = spaces_left _ (touched_frames s.spaces (slot_at s n).directory va Read)
-      by_reach (Err fault) = by_fault fault (handled s n fault) (handled_left fault)
+  pub load_byte_left : (va : ℕ) → Left P s n (load_byte s n va).state
+  unfolding load_byte
+  load_byte_left va = access_left va Read (λ after. giving after (user_byte after n va)) (λ k h. h)
+
+  pub store_left : (va word : ℕ) → Left P s n (store s n va word).state
+  unfolding store
+  store_left va word =
+      access_left va Write (λ after. giving (with_user_word after n va word) tt) (λ k h. put_left_bytes k va (to_le_bytes w32 word) h)
+
+  pub store_byte_left : (va byte : ℕ) → Left P s n (store_byte s n va byte).state
+  unfolding store_byte
+  store_byte_left va byte =
+      access_left va Write (λ after. giving (with_user_byte after n va byte) tt) (λ k h. put_left_bytes k va (byte ∷ []) h)
+
+  pub exchange_left : (va word : ℕ) → Left P s n (exchange s n va word).state
+  unfolding exchange
+  exchange_left va word =
+      access_left va Write (λ after. record { state = with_user_word after n va word; gives = got (user_word after n va); written = [] })
+      (λ k h. put_left_bytes k va (to_le_bytes w32 word) h)
+
+  pub restore_left : Left P s n (restore_frame s n).state
+  unfolding restore_frame
+  restore_left = by_bytes (user_bytes s n (slot_at s n).registers.esp frame_size)
+    where
+      by_bytes : (r : Result (List ℕ) PageFault) → Left P s n (restored s n r).state
+      by_bytes (Ok bytes) =
+          let t : KernelState = with_bytes_reached s n (slot_at s n).registers.esp frame_size in
+          put_left t (spaces_left _ (all_touched_frames s.spaces (slot_at s n).directory (slot_at s n).registers.esp frame_size)) n
+          (record (slot_at t n) { registers = from_frame (words_of_bytes bytes) }) refl
+      by_bytes (Err fault) = fault_left _ fault (handled s n fault) (handled_left fault)
 
 -- ---- by the call
 

@@ -10,14 +10,14 @@ use Rattle.jos_base.specs.UserMemory.{reach_in, touched}
 use Rattle.jos_host.specs.declared.host.Failed.{Failed}
 use Rattle.jos_host.specs.Frames.{Around}
 use Rattle.jos_host.specs.Told.{HasCause}
-use Rattle.lib_os.specs.declared.place.Place.{Place}
 use Rattle.lib_os.specs.declared.progress.Progress.{Progress}
 use Rattle.lib_os.specs.declared.user_os.Stop.{Stop}
 use Rattle.lib_os.specs.declared.user_os.Stop.TheVariants as stop
 use Rattle.lib_os.specs.AbstractState.{AbstractState}
 use Rattle.lib_os.specs.InOrder.{IsInOrder}
 use Rattle.lib_os.specs.LibrarySteps.{IsLibraryStep, IsStopped, Lowers}
-use Rattle.lib_os.specs.StandsFor.{StandsFor, Names}
+use Rattle.lib_os.specs.Rows.{Names}
+use Rattle.lib_os.specs.StandsFor.{StandsFor}
 use Rattle.lib_os.specs.UserCalls.{CallStep, Got, got, to_handler, gone, giving, accessing, faulting, user_word, load, IsStep, HasStopCause, Output, Prints}
 use Rattle.lib_os.proofs.StatesStand.{quiet_stands}
 use Rattle.lib_os.proofs.Touching.{touched_quiet}
@@ -103,11 +103,12 @@ stopped_step s mid n va stop.Ended (Ok p) output gives call is = (
 )
 stopped_step s mid n va stop.Ended (Err failed) output gives call is = absurd is
 
-pub stopped_lowers : (e : Stop) (result : Result Progress Failed) (before after : Place) → IsStopped e result → Lowers result before after
-stopped_lowers e (Err failed) before after is = tt
-stopped_lowers stop.Failed (Ok p) before after is = absurd is
-stopped_lowers stop.Upcall (Ok p) before after is = subst (λ (q : Progress). Lowers (Ok q) before after) (sym is) tt
-stopped_lowers stop.Ended (Ok p) before after is = subst (λ (q : Progress). Lowers (Ok q) before after) (sym is) tt
+pub stopped_lowers : (e : Stop) (result : Result Progress Failed) (n : ℕ) (before after : KernelState) → IsStopped e result →
+    Lowers result n before after
+stopped_lowers e (Err failed) n before after is = tt
+stopped_lowers stop.Failed (Ok p) n before after is = absurd is
+stopped_lowers stop.Upcall (Ok p) n before after is = subst (λ (q : Progress). Lowers (Ok q) n before after) (sym is) tt
+stopped_lowers stop.Ended (Ok p) n before after is = subst (λ (q : Progress). Lowers (Ok q) n before after) (sym is) tt
 
 pub stopped_cause : (e : Stop) (result : Result Progress Failed) (faults : Around ℕ) → IsStopped e result →
     HasStopCause {X = ℕ} faults (Err e) → HasCause faults.before faults.after result

@@ -7,7 +7,6 @@ use Rattle.std.specs.Option.{option_map}
 use Rattle.jos_base.specs.declared.numbers.TheConstants.{E_BAD_ENV, E_INVAL, FIRST_ENV_ID, NENV, NPTENTRIES, PTE_P, PTE_SYSCALL}
 use Rattle.jos_base.specs.KernelState.{KernelState, slot_at}
 use Rattle.jos_base.specs.Reach.{Entry}
-use Rattle.jos_base.specs.SystemCalls.{has_write}
 use Rattle.jos_base.specs.Windows.{entry_word, region_entry}
 use Rattle.jos_base.specs.Words.{page_number}
 use Rattle.lib_os.specs.declared.service.Service.TheVariants as service
@@ -20,9 +19,12 @@ use Rattle.lib_os.specs.Fence.{is_page_inside}
 use Rattle.lib_os.specs.GuestStep.{born_in}
 use Rattle.lib_os.specs.LibraryCall.{library_step}
 use Rattle.lib_os.specs.MemoryServices.{lives}
-use Rattle.lib_os.specs.StandsFor.{StandsFor, Names, rows_of, page_by, is_shared, MaySend, MaySendBy, IsIn}
-use Rattle.lib_os.proofs.EntriesStand.{seen_by}
+use Rattle.lib_os.specs.Rows.{Names, rows_of, page_by, is_shared, may_write}
+use Rattle.lib_os.specs.StandsFor.{StandsFor, MaySend, MaySendBy, IsIn}
+use Rattle.lib_os.proofs.BytesRead.{users_inside}
+use Rattle.lib_os.proofs.EntriesStand.{seen_by, seen_none}
 use Rattle.lib_os.proofs.EntryWords.{region_told, row_told, row_word_bits, row_entry}
+use Rattle.lib_os.proofs.Logical.{page_inside_programs}
 use Rattle.lib_os.proofs.Sending.{passes_alike}
 use Rattle.lib_os.proofs.Serving.{step_in}
 use Rattle.lib_os.proofs.SlotsStand.{born_at}
@@ -84,14 +86,14 @@ module _ {names : Names} {s : KernelState} {a : AbstractState} (h : StandsFor na
     -- none stands there
     refused_none : rows_of s.spaces d p ≡ None → abs_step a n ≡ Some (refused a n b (slot_at s n).registers E_INVAL)
     refused_none none =
-        let nothing : page_at b va ≡ None =
-        (born_at h n b at).memory p ∙ ap (λ (o : Option Entry). option_map (page_by names s.spaces.pages) o) none in
+        let nothing : page_at b va ≡ None = (born_at h n b at).memory p ∙ seen_none names s.spaces d p none in
         refused_page (not_to_send (is_page_inside va) false refl (ap (λ (o : Option Page). may_pass o) nothing) (false_behind (is_page_inside va)))
 
-    refused_entry : (x : Entry) → rows_of s.spaces d p ≡ Some x → (is_shared x.perm || not (has_write x.perm)) ≡ false →
+    refused_entry : is_page_inside va ≡ true → (x : Entry) → rows_of s.spaces d p ≡ Some x → (is_shared x.perm || not (may_write x.perm)) ≡ false →
         abs_step a n ≡ Some (refused a n b (slot_at s n).registers E_INVAL)
-    refused_entry x stands off =
-        let seen : page_at b va ≡ Some (page_by names s.spaces.pages x) = (born_at h n b at).memory p ∙ seen_by names s.spaces d p x stands in
+    refused_entry inside x stands off =
+        let seen : page_at b va ≡ Some (page_by names s.spaces.pages x) =
+        (born_at h n b at).memory p ∙ seen_by names s.spaces d p x (page_inside_programs va inside) stands in
         let may : may_pass (page_at b va) ≡ false =
         ap (λ (o : Option Page). may_pass o) seen ∙ passes_alike names s.spaces.pages x ∙ off in
         refused_page (not_to_send (is_page_inside va) false refl may (false_behind (is_page_inside va)))
@@ -116,10 +118,6 @@ module _ {names : Names} {s : KernelState} {a : AbstractState} (h : StandsFor na
     pub region_stands : (bit_and region_word PTE_P == PTE_P) ≡ true → is_some (s.spaces.regions d (p / NPTENTRIES)) ≡ true
     region_stands on = sym (region_told (s.spaces.regions d (p / NPTENTRIES))) ∙ on
 
-    -- the region is one of those in which it ever had a page
-    pub region_known : (bit_and region_word PTE_P == PTE_P) ≡ true → b.regions (p / NPTENTRIES) ≡ true
-    region_known on = (born_at h n b at).regions (p / NPTENTRIES) ∙ region_stands on
-
     -- ---- the word of the entry
 
     abbrev page_word : ℕ
@@ -128,34 +126,39 @@ module _ {names : Names} {s : KernelState} {a : AbstractState} (h : StandsFor na
     abbrev bits : ℕ
     bits = bit_and page_word PTE_SYSCALL
 
+    -- whether a page is there, which a program may have
+    page_told : is_page_inside va ≡ true → (bit_and page_word PTE_P == PTE_P) ≡ is_some (rows_of s.spaces d p)
+    page_told inside = row_told s.spaces d p (λ x stands. users_inside names s a n b h at p x (page_inside_programs va inside) stands)
+
     -- no page stands there
-    pub refused_missing : (bit_and page_word PTE_P == PTE_P) ≡ false → abs_step a n ≡ Some (refused a n b (slot_at s n).registers E_INVAL)
-    refused_missing off = by_row (rows_of s.spaces d p) refl
+    pub refused_missing : is_page_inside va ≡ true → (bit_and page_word PTE_P == PTE_P) ≡ false →
+        abs_step a n ≡ Some (refused a n b (slot_at s n).registers E_INVAL)
+    refused_missing inside off = by_row (rows_of s.spaces d p) refl
       where
         by_row : (o : Option Entry) → rows_of s.spaces d p ≡ o → abs_step a n ≡ Some (refused a n b (slot_at s n).registers E_INVAL)
         by_row None none = refused_none none
         by_row (Some x) stands =
-            let there : true ≡ false = sym (ap is_some stands) ∙ sym (row_told s.spaces d p h.users) ∙ off in absurd cc
+            let there : true ≡ false = sym (ap is_some stands) ∙ sym (page_told inside) ∙ off in absurd cc
 
-    module _ (on : (bit_and page_word PTE_P == PTE_P) ≡ true) where
+    module _ (inside : is_page_inside va ≡ true) (on : (bit_and page_word PTE_P == PTE_P) ≡ true) where
       row_there : (x : Entry) × (rows_of s.spaces d p ≡ Some x)
       row_there = by_row (rows_of s.spaces d p) refl
         where
           by_row : (o : Option Entry) → rows_of s.spaces d p ≡ o → (x : Entry) × (rows_of s.spaces d p ≡ Some x)
           by_row None none =
-              let there : false ≡ true = sym (ap is_some none) ∙ sym (row_told s.spaces d p h.users) ∙ on in absurd cc
+              let there : false ≡ true = sym (ap is_some none) ∙ sym (page_told inside) ∙ on in absurd cc
           by_row (Some x) stands = (x, stands)
 
       bits_are : bits ≡ row_there.0.perm
       bits_are = row_word_bits s.spaces d p h.in_order.frames row_there.0 row_there.1
 
-      -- it may be written and is not shared
-      pub refused_kept : (is_shared bits || not (has_write bits)) ≡ false → abs_step a n ≡ Some (refused a n b (slot_at s n).registers E_INVAL)
+      -- it may be written, where it stands or as a copy of it, and is not shared
+      pub refused_kept : (is_shared bits || not (may_write bits)) ≡ false → abs_step a n ≡ Some (refused a n b (slot_at s n).registers E_INVAL)
       refused_kept off =
-          refused_entry row_there.0 row_there.1 (sym (ap (λ (m : ℕ). is_shared m || not (has_write m)) bits_are) ∙ off)
+          refused_entry inside row_there.0 row_there.1 (sym (ap (λ (m : ℕ). is_shared m || not (may_write m)) bits_are) ∙ off)
 
       -- it may pass
-      pub may_send_it : is_page_inside va ≡ true → (is_shared bits || not (has_write bits)) ≡ true → MaySend (rows_of s.spaces d) va bits
-      may_send_it inside passes =
+      pub may_send_it : (is_shared bits || not (may_write bits)) ≡ true → MaySend (rows_of s.spaces d) va bits
+      may_send_it passes =
           subst (λ (none : Bool). MaySendBy none (rows_of s.spaces d) va bits) (sym some)
           (record { inside = inside; entry = row_there.0; stands = row_there.1; bits = bits_are; passes = passes })

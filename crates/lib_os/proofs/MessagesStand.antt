@@ -25,23 +25,28 @@ use Rattle.lib_os.specs.AbstractMemory.{page_at, with_page}
 use Rattle.lib_os.specs.AbstractMessages.{receive, received_answer, is_page_or_none, server_id, with_sent, woken, page_kind}
 use Rattle.lib_os.specs.AbstractRun.{abs_step}
 use Rattle.lib_os.specs.Answers.{refused, back_with}
+use Rattle.lib_os.specs.Fence.{is_page_inside}
 use Rattle.lib_os.specs.InOrder.{IsInOrder}
 use Rattle.lib_os.specs.LibraryCall.{library_step}
+use Rattle.lib_os.specs.LibraryPages.{has_copy}
 use Rattle.lib_os.specs.LibrarySteps.{gone_back}
-use Rattle.lib_os.specs.Places.{place_in_words, place_of, words_at}
+use Rattle.lib_os.specs.Places.{place_in_words, handler_step_in, place_of, words_at, is_handlers}
 use Rattle.lib_os.specs.Services.{service_of}
-use Rattle.lib_os.specs.StandsFor.{StandsFor, Names, rows_of, page_by, is_shared, StandsForBorn, StandsAt}
+use Rattle.lib_os.specs.Rows.{Names, rows_of, page_by, is_programs, is_shared, is_cow, may_write}
+use Rattle.lib_os.specs.StandsFor.{StandsFor, StandsForBorn, StandsAt, view_of, upcall_at}
 use Rattle.lib_os.specs.StandsFor.{IsAboutToWait, destination_of, IsReceiving, kind_by, HasReceived, waits, has}
 use Rattle.lib_os.proofs.Answering.{back_stands}
+use Rattle.lib_os.proofs.BytesRead.{users_inside}
 use Rattle.lib_os.proofs.Effects.{Given}
 use Rattle.lib_os.proofs.EntriesStand.{seen_by}
+use Rattle.lib_os.proofs.Logical.{is_plain, page_inside_programs}
 use Rattle.lib_os.proofs.PagesStand.{given_stands}
 use Rattle.lib_os.proofs.Sends.{received_in, with_message}
-use Rattle.lib_os.proofs.Serving.{service_step, step_in}
+use Rattle.lib_os.proofs.Serving.{service_step, step_in, plain_upcall, plain_copy, plain_counts, library_moved}
 use Rattle.lib_os.proofs.SlotsStand.{minds_page, born_at, born_live}
 use Rattle.lib_os.proofs.StatesStand.{slot_changed, slot_was_in_order, stopped_settles}
 use Rattle.lib_os.proofs.Waiters.{IsTaken}
-use Rattle.lib_os.proofs.WordsTell.{place_at}
+use Rattle.lib_os.proofs.WordsTell.{place_at, is_in_handler, handler_runs}
 use Rattle.jos_base.proofs.Maps.{upd-at, upd-twice}
 
 -- ---- it begins to wait
@@ -70,15 +75,22 @@ waiting_in_slot k va from id = record k {
   extra = words_at 9 (step.ReadingValue id);
 }
 
+waiting_place : (k : Slot) (va from id : ℕ) → is_handlers k.registers.esp ≡ false →
+    service_of (record k.registers { eax = 9 }) ≡ service.Receive va from →
+    place_of (waiting_in_slot k va from id) ≡ place.InService (service.Receive va from) (step.ReadingValue id)
+waiting_place k va from id outside names_it =
+    place_at k.registers 9 (step.ReadingValue id) outside ∙ ap (λ (x : Service). place.InService x (step.ReadingValue id)) names_it
+
 waiting_own : {names : Names} {s : SpacesState} {k : Slot} {b : Born} (va from id : ℕ) → StandsForBorn names s k b →
-    IsAboutToWait k b va from id → service_of (record k.registers { eax = 9 }) ≡ service.Receive va from →
+    is_handlers k.registers.esp ≡ false → IsAboutToWait k b va from id → service_of (record k.registers { eax = 9 }) ≡ service.Receive va from →
     StandsForBorn names s (waiting_in_slot k va from id)
     (record b { phase = in_service (service.Receive va from) receiving; blocked = true })
-waiting_own {s = s} {k = k} {b = b} va from id own_part about names_it =
+waiting_own {s = s} {k = k} {b = b} va from id own_part outside about names_it =
     let j : Slot = waiting_in_slot k va from id in
     let c : Born = record b { phase = in_service (service.Receive va from) receiving; blocked = true } in
     let at : place_of j ≡ place.InService (service.Receive va from) (step.ReadingValue id) =
-    place_at k.registers 9 (step.ReadingValue id) ∙ ap (λ (x : Service). place.InService x (step.ReadingValue id)) names_it in
+    waiting_place k va from id outside names_it in
+    let plain : is_in_handler (place_of k) ≡ false = handler_runs k.registers k.extra ∙ outside in
     let so : IsReceiving j c va from = record {
       program = about.is_in.program;
       phase = refl;
@@ -94,16 +106,19 @@ waiting_own {s = s} {k = k} {b = b} va from id own_part about names_it =
       parent = own_part.parent;
       env_type = own_part.env_type;
       runs = tt;
-      upcall = own_part.upcall;
+      upcall = own_part.upcall ∙ plain_upcall (place_of k) plain ∙ sym (ap upcall_at at);
       descriptors = own_part.descriptors;
       memory = own_part.memory;
-      regions = own_part.regions;
+      library = library_moved (place_of k) (place_of j) (rows_of s k.directory) (plain_copy (place_of k) plain ∙ sym (ap has_copy at)) own_part.library;
+      regions_have = own_part.regions_have;
+      regions_only = own_part.regions_only;
       stack = own_part.stack;
-      at = subst (λ (p : Place). StandsAt p (rows_of s k.directory) j c) (sym at) (about.self, waits so);
+      flags = own_part.flags;
+      at = subst (λ (p : Place). StandsAt p (view_of s k.directory) j c) (sym at) (about.self, waits so);
     }
 
 pub waits_stand : {names : Names} {s : KernelState} {a : AbstractState} → StandsFor names s a → (n : ℕ) (b : Born) →
-    a.slots n ≡ born b → (va from id : ℕ) → IsAboutToWait (slot_at s n) b va from id →
+    a.slots n ≡ born b → is_handlers (slot_at s n).registers.esp ≡ false → (va from id : ℕ) → IsAboutToWait (slot_at s n) b va from id →
     service_of (record (slot_at s n).registers { eax = 9 }) ≡ service.Receive va from →
     StandsFor names
     (with_slot_at s n (record (slot_at s n) {
@@ -112,13 +127,16 @@ pub waits_stand : {names : Names} {s : KernelState} {a : AbstractState} → Stan
       extra = words_at 9 (step.ReadingValue id);
     }))
     (receive a n b (slot_at s n).registers va from)
-waits_stand {names = names} {s = s} {a = a} h n b is va from id about names_it =
+waits_stand {names = names} {s = s} {a = a} h n b is outside va from id about names_it =
     let c : Born = record b { phase = in_service (service.Receive va from) receiving; blocked = true } in
     let first : server_id a ≡ 0x1000 = ap slot_id h.first in
     subst (λ (x : AbstractState). StandsFor names (with_slot_at s n (waiting_in_slot (slot_at s n) va from id)) x)
     (sym (receive_is a n b (slot_at s n).registers va from about.page about.other.0 (λ same. about.other.1 (same ∙ first))))
     (slot_changed h n b is (waiting_in_slot (slot_at s n) va from id) c refl
-    (stopped_settles (slot_at s n) (waiting_in_slot (slot_at s n) va from id) refl refl refl) (waiting_own va from id (born_at h n b is) about names_it))
+    (stopped_settles (slot_at s n) (waiting_in_slot (slot_at s n) va from id) refl refl refl)
+    (plain_counts (place_of (slot_at s n)) (handler_runs (slot_at s n).registers (slot_at s n).extra ∙ outside))
+    (ap is_plain (waiting_place (slot_at s n) va from id outside names_it))
+    (waiting_own va from id (born_at h n b is) outside about names_it))
 
 -- its step
 pub receive_step : (a : AbstractState) (n : ℕ) (b : Born) (k : Slot) (va from id : ℕ) → a.slots n ≡ born b →
@@ -130,7 +148,7 @@ receive_step a n b k va from id is about = step_in a n b k (service.Receive va f
 
 -- where the receiver's slot stands after
 told_at : (k : Slot) (id value perm : ℕ) → place_of (received_in k id value perm) ≡ place_of k
-unfolding place_in_words
+unfolding place_in_words handler_step_in
 told_at k id value perm = refl
 
 told_own : {names : Names} {s : SpacesState} {k : Slot} {c d : Born} (sender : ℕ) (taken : IsTaken k c sender) →
@@ -164,12 +182,15 @@ told_own {s = s} {k = k} {c = c} {d = d} sender taken id value perm kind own_par
       parent = own_part.parent;
       env_type = own_part.env_type;
       runs = tt;
-      upcall = own_part.upcall;
+      upcall = own_part.upcall ∙ sym (ap upcall_at (told_at k id value perm));
       descriptors = own_part.descriptors;
       memory = own_part.memory;
-      regions = own_part.regions;
+      library = library_moved (place_of k) (place_of j) (rows_of s k.directory) (sym (ap has_copy (told_at k id value perm))) own_part.library;
+      regions_have = own_part.regions_have;
+      regions_only = own_part.regions_only;
       stack = own_part.stack;
-      at = subst (λ (p : Place). StandsAt p (rows_of s k.directory) j after) (sym (told_at k id value perm ∙ taken.at)) (taken.self, has came);
+      flags = own_part.flags;
+      at = subst (λ (p : Place). StandsAt p (view_of s k.directory) j after) (sym (told_at k id value perm ∙ taken.at)) (taken.self, has came);
     }
 
 module _ {names : Names} {s : KernelState} {a : AbstractState} (h : StandsFor names s a) (n : ℕ) (b : Born) (at : a.slots n ≡ born b)
@@ -182,6 +203,7 @@ module _ {names : Names} {s : KernelState} {a : AbstractState} (h : StandsFor na
   word_stands =
       slot_changed h t c there (received_in (slot_at s t) (slot_at s n).id value 0) (woken c taken.w b.id value (c, 0)) refl
       (stopped_settles (slot_at s t) (received_in (slot_at s t) (slot_at s n).id value 0) refl refl refl)
+      (ap is_plain taken.at) (ap is_plain (told_at (slot_at s t) (slot_at s n).id value 0 ∙ taken.at))
       (told_own b.id taken (slot_at s n).id value 0 0 (born_at h t c there) refl refl refl mine.id mine.id_small small (omega arith) refl)
 
   pub word_alone : (va : ℕ) → ((va == 0) || (taken.w.va == 0)) ≡ true →
@@ -199,10 +221,11 @@ module _ {names : Names} {s : KernelState} {a : AbstractState} (h : StandsFor na
 
 -- what is told of a page is what its entry's bits are told as
 kind_alike : (names : Names) (bytes : ℕ → List ℕ) (x : Entry) → is_page_perm x.perm ≡ true →
-    kind_by x.perm ≡ page_kind (page_by names bytes x)
-kind_alike names bytes x user =
+    (is_shared x.perm || not (may_write x.perm)) ≡ true → kind_by x.perm ≡ page_kind (page_by names bytes x)
+kind_alike names bytes x user passes =
     let some : (x.perm == 0) ≡ false = by_perm (x.perm == 0) refl in
-    ap (λ (c : Bool). if c then 0 else if has_write x.perm then 2 else 1) some ∙ by_sharing (is_shared x.perm)
+    ap (λ (c : Bool). if c then 0 else if has_write x.perm then 2 else 1) some
+    ∙ by_bits (is_shared x.perm) (has_write x.perm) (is_cow x.perm) passes
   where
     never : is_page_perm 0 ≡ true → ⊥
     never is = cc
@@ -213,10 +236,12 @@ kind_alike names bytes x user =
         let zero_is : x.perm ≡ 0 = grind (arith, nat_tests) in
         absurd (never (subst (λ (p : ℕ). is_page_perm p ≡ true) zero_is user))
 
-    by_sharing : (c : Bool) → (if has_write x.perm then 2 else 1)
-        ≡ page_kind (if c then named (names.name x.frame) (has_write x.perm) else own (bytes x.frame) (has_write x.perm))
-    by_sharing true = refl
-    by_sharing false = refl
+    by_bits : (shared_page writes copied : Bool) → (shared_page || not (writes || copied)) ≡ true → (if writes then 2 else 1)
+        ≡ page_kind (if shared_page then named (names.name x.frame) writes else own (bytes x.frame) (writes || copied))
+    by_bits true writes copied may = refl
+    by_bits false false false may = refl
+    by_bits false true copied may = absurd (let contradiction : false ≡ true = may in cc)
+    by_bits false false true may = absurd (let contradiction : false ≡ true = may in cc)
 
 perm_small : (perm : ℕ) → is_page_perm perm ≡ true → perm < 4096
 perm_small perm user =
@@ -226,9 +251,9 @@ perm_small perm user =
 
 module _ {names : Names} {s : KernelState} {a : AbstractState} {sp : SpacesState} (h : StandsFor names s a) (n : ℕ) (b : Born)
     (at : a.slots n ≡ born b) (t : ℕ) (c : Born) (there : a.slots t ≡ born c) (taken : IsTaken (slot_at s t) c b.id)
-    (value : ℕ) (small : value < 2 ^ 32) (va : ℕ) (x : Entry)
+    (value : ℕ) (small : value < 2 ^ 32) (va : ℕ) (inside : is_page_inside va ≡ true) (x : Entry)
     (hx : rows_of s.spaces (slot_at s n).directory (page_number va) ≡ Some x)
-    (passes : (is_shared x.perm || not (has_write x.perm)) ≡ true)
+    (passes : (is_shared x.perm || not (may_write x.perm)) ≡ true)
     (given : Given s.spaces sp (slot_at s t).directory (page_number taken.w.va) x)
     (some : va ≢ 0) (wanted : taken.w.va ≢ 0)
     (in_order : IsInOrder (with_message (with_spaces s sp) n t value x.perm)) where
@@ -246,11 +271,21 @@ module _ {names : Names} {s : KernelState} {a : AbstractState} {sp : SpacesState
   unminded : minds_page (place_of (slot_at s t)) ≡ false
   unminded = ap (λ (p : Place). minds_page p) taken.at
 
+  from_programs : is_programs (page_number va) ≡ true
+  from_programs = page_inside_programs va inside
+
+  to_programs : is_programs (page_number taken.w.va) ≡ true
+  to_programs =
+      let somewhere : (taken.w.va == 0) ≡ false = grind (arith, nat_tests) in
+      page_inside_programs taken.w.va (sym (ap (λ (c : Bool). c || is_page_inside taken.w.va) somewhere) ∙ taken.so.page)
+
   page_is : page_at b va ≡ Some page
-  page_is = (born_at h n b at).memory (page_number va) ∙ seen_by names s.spaces (slot_at s n).directory (page_number va) x hx
+  page_is =
+      (born_at h n b at).memory (page_number va)
+      ∙ seen_by names s.spaces (slot_at s n).directory (page_number va) x from_programs hx
 
   placed : StandsFor names (with_spaces s sp) (with_born a t with_it)
-  placed = given_stands h n b at va x page hx passes page_is t c there taken.w.va given unminded spaces_in_order
+  placed = given_stands h n b at va from_programs x page hx passes page_is t c there taken.w.va to_programs given unminded spaces_in_order
 
   put_there : (with_born a t with_it).slots t ≡ born with_it
   put_there = upd-at a.slots t (born with_it)
@@ -261,11 +296,12 @@ module _ {names : Names} {s : KernelState} {a : AbstractState} {sp : SpacesState
       slot_changed placed t with_it put_there (received_in (slot_at s t) (slot_at s n).id value x.perm)
       (woken c taken.w b.id value (with_it, page_kind page)) refl
       (stopped_settles (slot_at s t) (received_in (slot_at s t) (slot_at s n).id value x.perm) refl refl refl)
+      (ap is_plain taken.at) (ap is_plain (told_at (slot_at s t) (slot_at s n).id value x.perm ∙ taken.at))
       (told_own b.id taken (slot_at s n).id value x.perm (page_kind page) (born_at placed t with_it put_there) refl refl refl
-      (born_at h n b at).id (born_at h n b at).id_small small (perm_small x.perm user) (kind_alike names s.spaces.pages x user))
+      (born_at h n b at).id (born_at h n b at).id_small small (perm_small x.perm user) (kind_alike names s.spaces.pages x user passes))
     where
       user : is_page_perm x.perm ≡ true
-      user = h.users (slot_at s n).directory (page_number va) x hx
+      user = (users_inside names s a n b h at (page_number va) x from_programs hx).page
 
   sent_page : with_sent c taken.w va b.id (page_at b va) ≡ (with_it, page_kind page)
   sent_page =
@@ -287,7 +323,7 @@ module _ {names : Names} {s : KernelState} {a : AbstractState} {sp : SpacesState
 -- ---- what came is answered
 
 module _ {names : Names} {s : KernelState} {a : AbstractState} (h : StandsFor names s a) (n : ℕ) (b : Born) (at : a.slots n ≡ born b)
-    (va from : ℕ) (r : HasReceived (slot_at s n) b va from) where
+    (outside : is_handlers (slot_at s n).registers.esp ≡ false) (va from : ℕ) (r : HasReceived (slot_at s n) b va from) where
   -- its step
   pub answer_step : abs_step a n ≡ Some (received_answer a n b r.regs r.message)
   unfolding library_step
@@ -312,4 +348,4 @@ module _ {names : Names} {s : KernelState} {a : AbstractState} (h : StandsFor na
       (received_answer a n b r.regs r.message)
   answers_with =
       subst (λ (regs : Regs). StandsFor names (gone_back s n told_regs) (back_with a n b regs)) told_is
-      (back_stands h n b at told_regs r.silent r.awake refl)
+      (back_stands h n b at told_regs r.silent r.awake outside refl refl)

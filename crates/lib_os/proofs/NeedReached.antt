@@ -1,6 +1,6 @@
 -- Where each frame that is handed out has a use, and no more than one is free, the abstract system wants as many frames: each
 -- stands in a place of a live slot or of a shared page's name, and for each of these places the abstract system wants one.
-use Rattle.std.proofs.Common.{◌≡◌, ◌∙◌, ◌+◌, ◌<◌, ◌≤◌, ◌||◌, ℕ, zero, suc, Bool, true, false, List, [], ◌∷◌, length, refl, sym}
+use Rattle.std.proofs.Common.{◌≡◌, ◌∙◌, ◌+◌, ◌<◌, ◌≤◌, ◌==◌, ◌||◌, ℕ, zero, suc, Bool, true, false, List, [], ◌∷◌, length, refl, sym}
 use Rattle.std.proofs.Common.{ap, subst, arith}
 use Rattle.std.specs.Prelude.{Option, Some, None, is_some, if◌then◌else◌}
 use Rattle.std.specs.List.{Contains}
@@ -12,17 +12,24 @@ use Rattle.jos_base.specs.KernelState.{KernelState, slot_at}
 use Rattle.jos_base.specs.Reach.{Entry}
 use Rattle.jos_base.specs.SpacesState.{SpacesState, Region, directory, is_directory, region_limit, reserved_frames}
 use Rattle.jos_base.specs.SystemCalls.{has_write}
+use Rattle.jos_base.specs.Words.{page_number}
+use Rattle.lib_os.specs.declared.numbers.TheConstants.{PFTEMP, UXSTACK}
 use Rattle.lib_os.specs.AbstractState.{AbstractState, Born, Page, own, named, AbstractSlot, free, unborn, born, serving}
 use Rattle.lib_os.specs.Need.{NeedIsReached, HasUse, in_list, in_entry, as_directory, as_table, EachHasUse, pool_of, need}
 use Rattle.lib_os.specs.Need.{slot_need, born_need}
-use Rattle.lib_os.specs.Need.{server_need, count_below, is_own, is_library_region, someone, born_passes, has_page_of, is_page_of}
-use Rattle.lib_os.specs.StandsFor.{StandsFor, StandsForSlot, StandsForBorn, StandsForServer, Names, rows_of, lasting, is_shared}
-use Rattle.lib_os.specs.StandsFor.{page_by}
+use Rattle.lib_os.specs.LibraryPages.{is_library_region, IsOwnWritable, has_copy}
+use Rattle.lib_os.specs.Need.{server_need, count_below, is_own, someone, born_passes, has_page_of, is_page_of}
+use Rattle.lib_os.specs.Places.{place_of}
+use Rattle.lib_os.specs.Rows.{Names, EntryRow, rows_of, lasting, is_shared, may_write, page_by, page_seen, seen_where, is_programs}
+use Rattle.lib_os.specs.StandsFor.{StandsFor, StandsForSlot, StandsForBorn, StandsForServer}
+use Rattle.std.proofs.lemmas.Bool.{false≢true}
 use Rattle.std.proofs.lemmas.Bool.Decides.{nat_tests}
+use Rattle.std.proofs.lemmas.Option.{none-some, same_Some}
 use Rattle.lib_os.proofs.Covering.{no_more_frames, filled, times_in}
+use Rattle.lib_os.proofs.Logical.{programs_beside, logical_beside}
 use Rattle.lib_os.proofs.SlotsStand.{born_at}
-use Rattle.lib_os.proofs.Sums.{is_at, is_at-here}
-use Rattle.jos_base.proofs.Sums.{total-mono, total-less, total-none, total-one}
+use Rattle.lib_os.proofs.Sums.{is_at, is_at-here, at_most_once}
+use Rattle.jos_base.proofs.Sums.{total-mono, total-less, total-none, total-one, total-sum}
 use Rattle.fs_layout.proofs.Below.{some_below-at}
 
 -- ---- the places
@@ -61,11 +68,11 @@ bit_small : (t : Bool) → bit_of t ≤ 1
 bit_small true = omega arith
 bit_small false = omega arith
 
-so_of_region : (t library : Bool) (o : Option Region) →
-    bit_of (is_some (where_so t (option_map (λ (x : Region). x.table) o))) ≤ bit_of (is_some o || library)
-so_of_region false library o = omega arith
-so_of_region true library None = omega arith
-so_of_region true library (Some x) = omega arith
+so_of_region : (t : Bool) (o : Option Region) (wants : Bool) → (is_some o ≡ true → wants ≡ true) →
+    bit_of (is_some (where_so t (option_map (λ (x : Region). x.table) o))) ≤ bit_of wants
+so_of_region false o wants so = omega arith
+so_of_region true None wants so = omega arith
+so_of_region true (Some x) wants so = let one = ap bit_of (so refl) in omega (arith, one)
 
 so_of_page : (names : Names) (bytes : ℕ → List ℕ) (t : Bool) (o : Option Entry) →
     bit_of (is_some (where_so t (own_frame o))) ≤ bit_of (is_own (option_map (page_by names bytes) o))
@@ -75,9 +82,48 @@ so_of_page names bytes true (Some e) = by_test (is_shared e.perm)
   where
     by_test : (shared : Bool) → bit_of (is_some (if shared then None else Some e.frame))
         ≤ bit_of (is_own (Some (if shared then named (names.name e.frame) (has_write e.perm) else own (bytes e.frame)
-        (has_write e.perm))))
+        (may_write e.perm))))
     by_test true = omega arith
     by_test false = omega arith
+
+-- ---- the library's pages: the stack of its handler of page faults, and the copy that this makes
+
+abbrev is_stack : ℕ → ℕ
+is_stack p = is_at (Some (page_number UXSTACK)) (0 + p)
+
+abbrev is_copy : ℕ → ℕ
+is_copy p = is_at (Some (page_number PFTEMP)) (0 + p)
+
+two_beside : total page_limit (λ p. is_stack p + is_copy p) ≤ 2
+two_beside =
+    let sum = total-sum page_limit is_stack is_copy in
+    let stack = at_most_once page_limit 0 (Some (page_number UXSTACK)) in
+    let copy = at_most_once page_limit 0 (Some (page_number PFTEMP)) in
+    omega (arith, sum, stack, copy)
+
+page_wanted : (names : Names) (s : SpacesState) (k : Slot) (b : Born) → StandsForBorn names s k b → (p : ℕ) →
+    bit_of (is_some (page_of s k p)) ≤ bit_of (is_own (page_seen names s k.directory p)) + (is_stack p + is_copy p)
+page_wanted names s k b h p = by_inside (is_programs p) refl
+  where
+    nothing : (t : Bool) → rows_of s k.directory p ≡ None → bit_of (is_some (where_so t (own_frame (rows_of s k.directory p)))) ≡ 0
+    nothing false none = refl
+    nothing true none = ap (λ (o : Option Entry). bit_of (is_some (own_frame o))) none
+
+    by_page : (c d : Bool) → (page_number UXSTACK == 0 + p) ≡ c → (page_number PFTEMP == 0 + p) ≡ d → is_programs p ≡ false →
+        bit_of (is_some (page_of s k p)) ≤ bit_of c + bit_of d
+    by_page true d stack copy outside = let one = bit_small (is_some (page_of s k p)) in omega (arith, one)
+    by_page false true stack copy outside = let one = bit_small (is_some (page_of s k p)) in omega (arith, one)
+    by_page false false stack copy outside =
+        let none = h.library.none p outside (grind (arith, nat_tests)) (grind (arith, nat_tests)) in
+        let zeros = nothing (is_live k) none in
+        omega (arith, zeros)
+
+    by_inside : (inside : Bool) → is_programs p ≡ inside → bit_of (is_some (page_of s k p))
+        ≤ bit_of (is_own (seen_where inside (option_map (page_by names s.pages) (rows_of s k.directory p)))) + (is_stack p + is_copy p)
+    by_inside true is = let mine = so_of_page names s.pages (is_live k) (rows_of s k.directory p) in omega (arith, mine)
+    by_inside false is =
+        let beside = by_page (page_number UXSTACK == 0 + p) (page_number PFTEMP == 0 + p) refl refl is in
+        omega (arith, beside)
 
 abbrev slot_frames : SpacesState → Slot → ℕ
 slot_frames s k = bit_of (is_some (directory_of k)) + (filled region_limit (table_of s k) + filled page_limit (page_of s k))
@@ -94,12 +140,14 @@ born_frames : (names : Names) (s : SpacesState) (k : Slot) (b : Born) → Stands
 born_frames names s k b h =
     let one = bit_small (is_some (directory_of k)) in
     let tables = total-mono region_limit (λ r. bit_of (is_some (table_of s k r))) (λ r. bit_of (b.regions r || is_library_region r))
-    (λ r lt. subst (λ (t : Bool). bit_of (is_some (table_of s k r)) ≤ bit_of (t || is_library_region r)) (sym (h.regions r))
-    (so_of_region (is_live k) (is_library_region r) (s.regions k.directory r))) in
-    let pages = total-mono page_limit (λ p. bit_of (is_some (page_of s k p))) (λ p. bit_of (is_own (b.memory p)))
-    (λ p lt. subst (λ (x : Option Page). bit_of (is_some (page_of s k p)) ≤ bit_of (is_own x)) (sym (h.memory p))
-    (so_of_page names s.pages (is_live k) (rows_of s k.directory p))) in
-    omega (arith, one, tables, pages)
+    (λ r lt. so_of_region (is_live k) (s.regions k.directory r) (b.regions r || is_library_region r) (h.regions_only r)) in
+    let pages = total-mono page_limit (λ p. bit_of (is_some (page_of s k p)))
+    (λ p. bit_of (is_own (b.memory p)) + (is_stack p + is_copy p))
+    (λ p lt. subst (λ (x : Option Page). bit_of (is_some (page_of s k p)) ≤ bit_of (is_own x) + (is_stack p + is_copy p))
+    (sym (h.memory p)) (page_wanted names s k b h p)) in
+    let sum = total-sum page_limit (λ p. bit_of (is_own (b.memory p))) (λ p. is_stack p + is_copy p) in
+    let beside = two_beside in
+    omega (arith, one, tables, pages, sum, beside)
 
 -- the server wants more than it has
 server_frames : (a : AbstractState) (s : SpacesState) (k : Slot) (id : ℕ) → StandsForServer s k id →
@@ -202,6 +250,31 @@ module _ (names : Names) (s : KernelState) (a : AbstractState) (h : StandsFor na
       by_slot (born b) at k_is = (b, at)
       by_slot (serving id) at k_is = absurd (let e : ◌≡◌ {A = Option Entry} None (Some e) = sym (k_is.empty p) ∙ stands in cc)
 
+  -- the library's pages are not shared
+  own_alone : (row : EntryRow) (p q : ℕ) (e : Entry) → IsOwnWritable row q → p ≡ q → row p ≡ Some e → is_shared e.perm ≡ true → ⊥
+  own_alone row p q e mine same stands shared =
+      let entry_is : mine.entry ≡ e = same_Some mine.entry e (sym mine.stands ∙ sym (ap row same) ∙ stands) in
+      false≢true (sym mine.own_page ∙ ap (λ (x : Entry). is_shared x.perm) entry_is ∙ shared)
+
+  -- so a shared page is one that the program may have
+  shared_inside : (n p : ℕ) (e : Entry) (b : Born) → a.slots n ≡ born b → rows_of s.spaces (slot n).directory p ≡ Some e →
+      is_shared e.perm ≡ true → is_programs p ≡ true
+  shared_inside n p e b at stands shared = by_inside (is_programs p) refl
+    where
+      row : EntryRow
+      row = rows_of s.spaces (slot n).directory
+
+      no_copy : (c : Bool) → has_copy (place_of (slot n)) ≡ c → p ≡ page_number PFTEMP → ⊥
+      no_copy true has same = own_alone row p (page_number PFTEMP) e ((born_at h n b at).library.copy has) same stands shared
+      no_copy false has same = none-some e (sym ((born_at h n b at).library.no_copy has) ∙ sym (ap row same) ∙ stands)
+
+      by_inside : (inside : Bool) → is_programs p ≡ inside → is_programs p ≡ true
+      by_inside true inside = inside
+      by_inside false inside = absurd (none-some e (sym
+          ((born_at h n b at).library.none p inside
+          (λ same. own_alone row p (page_number UXSTACK) e (born_at h n b at).library.stack same stands shared)
+          (λ same. no_copy (has_copy (place_of (slot n))) refl same)) ∙ stands))
+
   -- a page of an environment's own, or one that is shared
   page_stands : (n p : ℕ) (e : Entry) → n < NENV → is_live (slot n) ≡ true → p < page_limit →
       rows_of s.spaces (slot n).directory p ≡ Some e →
@@ -218,13 +291,17 @@ module _ (names : Names) (s : KernelState) (a : AbstractState) (h : StandsFor na
           in_slot n e.frame below (omega (arith, here, one))
       by_test true shared =
           let m = names.name e.frame in
-          let name = h.named (slot n).directory p e stands shared in
           let found = born_here n p e live stands in
           let b = found.0 in
+          let inside = shared_inside n p e b found.1 stands shared in
+          let counts = logical_beside s.spaces s.environments.slots n live p (programs_beside p inside).0 in
+          let name = h.named n p e (counts ∙ stands) shared in
           let memory : b.memory p ≡ Some (named m (has_write e.perm)) =
-          (born_at h n b found.1).memory p ∙ ap (option_map (page_by names s.spaces.pages)) stands
+          (born_at h n b found.1).memory p
+          ∙ ap (λ (c : Bool). seen_where c (option_map (page_by names s.spaces.pages) (rows_of s.spaces (slot n).directory p))) inside
+          ∙ ap (option_map (page_by names s.spaces.pages)) stands
           ∙ ap (λ (t : Bool). Some (if t then named m (has_write e.perm) else own (s.spaces.pages e.frame)
-          (has_write e.perm))) shared in
+          (may_write e.perm))) shared in
           let self : is_page_of m (Some (named m (has_write e.perm))) ≡ true = grind (arith, nat_tests) in
           let has : has_page_of m b ≡ true = some_below-at (λ q. is_page_of m (b.memory q)) page_limit p lt
           (ap (is_page_of m) memory ∙ self) in

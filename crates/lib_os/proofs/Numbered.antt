@@ -9,8 +9,9 @@ use Rattle.lib_os.specs.declared.place.Place.TheVariants as place
 use Rattle.lib_os.specs.declared.place.Step.{Step}
 use Rattle.lib_os.specs.declared.service.Service.{Service}
 use Rattle.lib_os.specs.declared.service.Service.TheVariants as service
-use Rattle.lib_os.specs.Places.{place_in_words, place_of}
+use Rattle.lib_os.specs.Places.{place_in_words, place_of, is_handlers}
 use Rattle.lib_os.specs.Services.{is_built, service_of, named_service}
+use Rattle.lib_os.proofs.WordsTell.{outside_stack}
 
 -- the number of a service that is built; any other has the one that names none
 abbrev pub number_of : Service → ℕ
@@ -58,17 +59,20 @@ named_again r s is = by_test (is_built r.eax) refl
 abbrev service_in : Place → Service
 service_in place.Guest = service.Unknown
 service_in (place.InService s at) = s
+service_in (place.InHandler at) = service.Unknown
 
 pub named_at : (k : Slot) (s : Service) (at : Step) → place_of k ≡ place.InService s at →
     service_of (record k.registers { eax = number_of s }) ≡ s
 unfolding place_in_words
-named_at k s at is = by_test (get_or k.extra 0 0 == 0) refl
+named_at k s at is =
+    by_test (get_or k.extra 0 0 == 0) refl (outside_stack k.registers k.extra (place.InService s at) is refl)
   where
-    by_test : (t : Bool) → (get_or k.extra 0 0 == 0) ≡ t → service_of (record k.registers { eax = number_of s }) ≡ s
-    by_test true none =
-        let guest : place_of k ≡ place.Guest = rw none refl in
+    by_test : (t : Bool) → (get_or k.extra 0 0 == 0) ≡ t → is_handlers k.registers.esp ≡ false →
+        service_of (record k.registers { eax = number_of s }) ≡ s
+    by_test true none outside =
+        let guest : place_of k ≡ place.Guest = rw (outside, none) refl in
         let contradiction : place.Guest ≡ place.InService s at = sym guest ∙ is in absurd cc
-    by_test false some =
+    by_test false some outside =
         let r : Regs = record k.registers { eax = get_or k.extra 0 0 - 1 } in
-        let named : service_in (place_of k) ≡ service_of r = rw some refl in
+        let named : service_in (place_of k) ≡ service_of r = rw (outside, some) refl in
         named_again r s (sym named ∙ ap service_in is)

@@ -351,7 +351,7 @@ module _ (a : AbstractState) (n m : ℕ) (ne : m ≢ n) where
       Left (after_event x n b ip regs event)
   event_left x b ip regs Next h = search (if_left, set_left_in, h)
   event_left x b ip regs (Soft vector) h = search (if_left, set_left_in, h)
-  event_left x b ip regs (Raised trap error va) h = set_left_in x _ h
+  event_left x b ip regs (Raised trap error va) h = search (if_left, set_left_in, h)
 
   writes_left : (x : AbstractState) (ip : ℕ) (regs : Regs) (event : Event) (o : Option Born) → Left x →
       Left (after_writes x n ip regs event o)

@@ -1,27 +1,32 @@
 -- The kernel's state goes on standing for the abstract one where a page is put in the place of another, be it a new one or one
 -- that stands somewhere, and where a page is removed.
-use Rattle.std.proofs.Common.{◌≡◌, ◌≢◌, ◌∙◌, ◌+◌, ◌<◌, ◌==◌, ◌&&◌, ◌||◌, ◌⊎◌, inl, inr, ℕ, ◌/◌, not, Bool, true, false, List, refl, sym, ap, subst, arith}
+use Rattle.std.proofs.Common.{◌≡◌, ◌≢◌, ◌∙◌, ◌+◌, ◌<◌, ◌==◌, ◌&&◌, ◌||◌, ◌⊎◌, inl, inr, ℕ, ◌/◌, not, Bool, true, false, List}
+use Rattle.std.proofs.Common.{refl, sym, ap, subst, arith}
 use Rattle.std.proofs.lemmas.Bool.Decides.{nat_tests}
 use Rattle.std.specs.Prelude.{Option, Some, None, is_some}
-use Rattle.std.specs.Option.{option_map}
 use Rattle.std.proofs.lemmas.Option.{same_Some, none-some}
 use Rattle.jos_base.specs.declared.numbers.TheConstants.{NPTENTRIES}
+use Rattle.jos_base.specs.Environments.{Slot, is_live as is_live_slot}
 use Rattle.jos_base.specs.KernelState.{KernelState, slot_at, with_spaces}
 use Rattle.jos_base.specs.Reach.{Entry}
 use Rattle.jos_base.specs.SpacesState.{SpacesState, put, zero_page}
-use Rattle.jos_base.specs.SystemCalls.{has_write, is_page_perm}
+use Rattle.jos_base.specs.SystemCalls.{has_write}
 use Rattle.jos_base.specs.Words.{page_number, upd}
-use Rattle.lib_os.specs.AbstractState.{AbstractState, Born, Page, own, named, AbstractSlot, born, with_born}
+use Rattle.lib_os.specs.AbstractState.{AbstractState, Born, Page, own, named, born, with_born}
 use Rattle.lib_os.specs.AbstractMemory.{page_at, with_page, without_page}
 use Rattle.lib_os.specs.InOrder.{IsInOrder}
+use Rattle.lib_os.specs.LibraryPages.{is_library_region}
 use Rattle.lib_os.specs.Places.{place_of}
-use Rattle.lib_os.specs.StandsFor.{StandsFor, StandsForSlot, StandsForBorn, Names, Rows, rows_of, page_by, page_seen, is_shared}
-use Rattle.lib_os.specs.StandsFor.{Agree, AgreeWhereShared, AreNamed, AreUsers, IsNamed}
+use Rattle.lib_os.specs.Rows.{Names, Rows, rows_of, logical, page_by, page_seen, is_programs, is_shared, is_cow, may_write, Agree, IsUsers, IsNamed, IsPage}
+use Rattle.lib_os.specs.StandsFor.{StandsFor, StandsForBorn, view_of}
 use Rattle.lib_os.proofs.Effects.{Placed, Made, Given, Removed}
-use Rattle.lib_os.proofs.EntriesStand.{apart_put, all_put, same_entry, seen_at, seen_own, seen_named, seen_by}
-use Rattle.lib_os.proofs.SlotsStand.{SeenAlike, minds_page, sends_unminded, tables_unminded, page_alike, page_put, born_at}
-use Rattle.lib_os.proofs.StatesStand.{born_not_first, others_stand}
-use Rattle.jos_base.proofs.Maps.{upd-at, upd-other, upd-all, upd-true}
+use Rattle.lib_os.proofs.EntriesStand.{PutsRow, rows_put, rows_same, rows_stand, put_is, same_entry, seen_at, seen_own, seen_named, seen_by, seen_none}
+use Rattle.lib_os.proofs.Logical.{is_plain, logical_some, logical_plain, logical_beside, logical_alike, programs_beside}
+use Rattle.lib_os.proofs.PageBytes.{zero_page_whole}
+use Rattle.lib_os.proofs.SlotsStand.{SeenAlike, HasTables, minds_page, unminded_plain, kept_unminded, library_put, page_alike, page_put}
+use Rattle.lib_os.proofs.SlotsStand.{born_at, born_live, live_stands}
+use Rattle.lib_os.proofs.StatesStand.{directories_apart, space_moves}
+use Rattle.jos_base.proofs.Maps.{upd-at, upd-other, upd-true}
 use Rattle.jos_base.proofs.Puts.{Elsewhere, place_cases, put-at, put-other}
 
 -- ---- in general
@@ -31,70 +36,111 @@ pub record Puts (names after : Names) (s t : SpacesState) (d p : ℕ) (v : Optio
   pub rows : rows_of t ≡ put (rows_of s) d p v
   pub bytes : (q r : ℕ) (x : Entry) → Elsewhere q r d p → rows_of s q r ≡ Some x → t.pages x.frame ≡ s.pages x.frame
   pub named_so : (q r : ℕ) (x : Entry) → rows_of s q r ≡ Some x → is_shared x.perm ≡ true → after.name x.frame ≡ names.name x.frame
-  pub agree : (q r : ℕ) (x e : Entry) → Elsewhere q r d p → rows_of s q r ≡ Some x → v ≡ Some e → x.frame ≡ e.frame →
-      Agree x.perm e.perm
-  pub user : (e : Entry) → v ≡ Some e → is_page_perm e.perm ≡ true
   pub regions : (q r : ℕ) → q ≢ d → is_some (t.regions q r) ≡ is_some (s.regions q r)
 
-pub puts_stand : {names after : Names} {s : KernelState} {a : AbstractState} {sp : SpacesState} {p : ℕ} {v : Option Entry} →
-    StandsFor names s a → (n : ℕ) (b : Born) → a.slots n ≡ born b → Puts names after s.spaces sp (slot_at s n).directory p v →
-    (page : Option Page) → page ≡ page_seen after sp (slot_at s n).directory p →
-    (regions : ℕ → Bool) → ((r : ℕ) → regions r ≡ is_some (sp.regions (slot_at s n).directory r)) →
-    (shared : ℕ → List ℕ) (next : ℕ) → AreNamed after sp.pages shared next (rows_of sp) →
-    minds_page (place_of (slot_at s n)) ≡ false → IsInOrder (with_spaces s sp) →
-    StandsFor after (with_spaces s sp)
-    (with_born (record a { shared = shared; next_name = next }) n (record b { memory = upd b.memory p page; regions = regions }))
-puts_stand {names = names} {after = after} {s = s} {a = a} {sp = sp} {p = p} {v = v} h n b at puts page here regions tables shared next
-    are_named unminded in_order = record {
-      slots = upd-all (λ m (y : AbstractSlot). StandsForSlot after sp (slot_at s m) y) a.slots n changed mine (others_stand h n b at others);
-      apart = subst (λ (rows : Rows). AgreeWhereShared rows) (sym puts.rows) (apart_put (rows_of s.spaces) d p v h.apart puts.agree);
-      named = are_named;
-      users = subst (λ (rows : Rows). AreUsers rows) (sym puts.rows)
-          (all_put (rows_of s.spaces) d p v (λ x. is_page_perm x.perm ≡ true) (λ q r x ne hx. h.users q r x hx) puts.user);
-      free_slots = h.free_slots;
-      first = upd-other a.slots n changed 0 (born_not_first h n b at) ∙ h.first;
-      server = h.server;
-      input = h.input;
-      last = h.last;
-      turns = h.turns;
-      tabled = h.tabled;
-      in_order = in_order;
-    }
-  where
-    d : ℕ
-    d = (slot_at s n).directory
+module _ {names after : Names} {s : KernelState} {a : AbstractState} {sp : SpacesState} {p : ℕ} {v : Option Entry}
+    (h : StandsFor names s a) (n : ℕ) (b : Born) (at : a.slots n ≡ born b)
+    (puts : Puts names after s.spaces sp (slot_at s n).directory p v) where
+  abbrev dir : ℕ
+  dir = (slot_at s n).directory
 
-    changed : AbstractSlot
-    changed = born (record b { memory = upd b.memory p page; regions = regions })
+  row_kept : (q r : ℕ) → Elsewhere q r dir p → rows_of sp q r ≡ rows_of s.spaces q r
+  row_kept q r ne = ap (λ (rows : Rows). rows q r) puts.rows ∙ put-other (rows_of s.spaces) dir p v q r ne
 
-    row_kept : (q r : ℕ) → Elsewhere q r d p → rows_of sp q r ≡ rows_of s.spaces q r
-    row_kept q r ne = ap (λ (rows : Rows). rows q r) puts.rows ∙ put-other (rows_of s.spaces) d p v q r ne
+  -- nothing that is seen of other spaces differs
+  pub others_seen : (q : ℕ) → q ≢ dir → SeenAlike names after s.spaces sp q
+  others_seen q ne = record {
+    rows = λ i. λ r. row_kept q r (λ same too. ne same) i;
+    bytes = λ r x hx own_page. puts.bytes q r x (λ same too. ne same) hx;
+    named_so = λ r x hx shared_page. puts.named_so q r x hx shared_page;
+    regions = λ r. puts.regions q r ne;
+  }
 
-    others : (q : ℕ) → q ≢ d → SeenAlike names after s.spaces sp q
-    others q ne = record {
-      rows = λ i. λ r. row_kept q r (λ same too. ne same) i;
-      bytes = λ r x hx own_page. puts.bytes q r x (λ same too. ne same) hx;
-      named_so = λ r x hx shared_page. puts.named_so q r x hx shared_page;
-      regions = λ r. puts.regions q r ne;
-    }
+  -- an entry that counts elsewhere stands elsewhere
+  pub elsewhere : (m q : ℕ) (x : Entry) → Elsewhere m q n p → logical s.spaces s.environments.slots m q ≡ Some x →
+      Elsewhere (slot_at s m).directory q dir p × (rows_of s.spaces (slot_at s m).directory q ≡ Some x)
+  elsewhere m q x ne hx =
+      let found = logical_some s.spaces s.environments.slots m q x hx in
+      (by_slot (m == n) refl found.0, found.1)
+    where
+      by_slot : (c : Bool) → (m == n) ≡ c → is_live_slot (slot_at s m) ≡ true → Elsewhere (slot_at s m).directory q dir p
+      by_slot true test live same = ne (grind (arith, nat_tests))
+      by_slot false test live same =
+          absurd (directories_apart h n b at m (grind (arith, nat_tests)) (sym (live_stands h m) ∙ live) same)
 
-    mine : StandsForBorn after sp (slot_at s n) (record b { memory = upd b.memory p page; regions = regions })
-    mine = page_put names after s.spaces sp (slot_at s n) b p page regions (born_at h n b at) here
-        (λ q ne. seen_at names after s.spaces sp d q (row_kept d q (λ same too. ne too))
-        (λ x hx own_page. puts.bytes d q x (λ same too. ne too) hx) (λ x hx shared_page. puts.named_so d q x hx shared_page))
-        tables (sends_unminded (minds_page (place_of (slot_at s n))) (rows_of s.spaces d) (rows_of sp d) unminded)
-        (tables_unminded (minds_page (place_of (slot_at s n))) b.regions regions unminded)
+  -- Entries count as they did, but for this one, where the environment's count as they stand.
+  pub counts_put : is_plain (place_of (slot_at s n)) ≡ true → (m q : ℕ) →
+      logical sp s.environments.slots m q ≡ put (logical s.spaces s.environments.slots) n p v m q
+  counts_put plain = put_is (logical s.spaces s.environments.slots) (logical sp s.environments.slots) n p v here there
+    where
+      live : is_live_slot (slot_at s n) ≡ true
+      live = born_live (born_at h n b at)
+
+      here : logical sp s.environments.slots n p ≡ v
+      here = logical_plain sp s.environments.slots n live plain p ∙ ap (λ (rows : Rows). rows dir p) puts.rows ∙ put-at (rows_of s.spaces) dir p v
+
+      there : (m q : ℕ) → Elsewhere m q n p → logical sp s.environments.slots m q ≡ logical s.spaces s.environments.slots m q
+      there m q ne = by_slot (m == n) refl
+        where
+          by_slot : (c : Bool) → (m == n) ≡ c → logical sp s.environments.slots m q ≡ logical s.spaces s.environments.slots m q
+          by_slot true test =
+              let same : m ≡ n = grind (arith, nat_tests) in
+              let other : q ≢ p = ne same in
+              subst (λ (o : ℕ). logical sp s.environments.slots o q ≡ logical s.spaces s.environments.slots o q) (sym same)
+              (logical_plain sp s.environments.slots n live plain q ∙ row_kept dir q (λ is too. other too)
+              ∙ sym (logical_plain s.spaces s.environments.slots n live plain q))
+          by_slot false test =
+              let other : m ≢ n = grind (arith, nat_tests) in
+              logical_alike s.spaces sp s.environments.slots s.environments.slots m refl refl
+              (λ is. (others_seen (slot_at s m).directory (directories_apart h n b at m other (sym (live_stands h m) ∙ is))).rows) q
+
+  pub puts_stand : is_programs p ≡ true → (page : Option Page) → page ≡ page_seen after sp dir p →
+      (regions : ℕ → Bool) → HasTables sp dir regions → (shared : ℕ → List ℕ) (next : ℕ) →
+      PutsRow names after s.spaces.pages a.shared sp.pages shared a.next_name next (logical s.spaces s.environments.slots) n p v →
+      minds_page (place_of (slot_at s n)) ≡ false → IsInOrder (with_spaces s sp) →
+      StandsFor after (with_spaces s sp)
+      (with_born (record a { shared = shared; next_name = next }) n (record b { memory = upd b.memory p page; regions = regions }))
+  puts_stand inside page here regions tables shared next row unminded in_order =
+      space_moves h n b at sp (record b { memory = upd b.memory p page; regions = regions }) shared next others_seen mine
+      (rows_same (put (logical s.spaces s.environments.slots) n p v) (logical sp s.environments.slots)
+      (counts_put (unminded_plain (place_of (slot_at s n)) unminded)) (rows_put (rows_stand h) row)) in_order
+    where
+      mine : StandsForBorn after sp (slot_at s n) (record b { memory = upd b.memory p page; regions = regions })
+      mine = page_put names after s.spaces sp (slot_at s n) b p page regions (born_at h n b at) here
+          (λ q ne. seen_at names after s.spaces sp dir q (row_kept dir q (λ same too. ne too))
+          (λ x hx own_page. puts.bytes dir q x (λ same too. ne too) hx) (λ x hx shared_page. puts.named_so dir q x hx shared_page))
+          (library_put (place_of (slot_at s n)) (rows_of s.spaces dir) (rows_of sp dir) p inside
+          (λ q ne. row_kept dir q (λ same too. ne too)) (born_at h n b at).library)
+          tables (kept_unminded (place_of (slot_at s n)) (view_of s.spaces dir) (view_of sp dir) unminded)
 
 -- ---- a page is put
 
--- the regions that have tables, with that of one more page
-pub regions_placed : {s t : SpacesState} {d p : ℕ} {e : Entry} → Placed s t d p e → (tables : ℕ → Bool) →
-    ((r : ℕ) → tables r ≡ is_some (s.regions d r)) → (r : ℕ) → upd tables (p / NPTENTRIES) true r ≡ is_some (t.regions d r)
-regions_placed {s = s} {t = t} {d = d} {p = p} placed tables are r =
-    let here : (d == d) ≡ true = grind (arith, nat_tests) in
-    upd-true tables (p / NPTENTRIES) r ∙ ap (λ (c : Bool). (r == p / NPTENTRIES) || c) (are r)
-    ∙ sym (ap (λ (c : Bool). (c && (r == p / NPTENTRIES)) || is_some (s.regions d r)) here)
-    ∙ sym (placed.regions d r)
+-- Tables that there were, with that of one more page.
+pub tables_placed : {s t : SpacesState} {d p : ℕ} {e : Entry} → Placed s t d p e → (regions : ℕ → Bool) → HasTables s d regions →
+    HasTables t d (upd regions (p / NPTENTRIES) true)
+tables_placed {s = s} {t = t} {d = d} {p = p} placed regions had = record {
+  have = λ r is. table_is r ∙ by_region r (r == p / NPTENTRIES) refl (sym (upd-true regions (p / NPTENTRIES) r) ∙ is);
+  only = λ r is. ap (λ (c : Bool). c || is_library_region r) (upd-true regions (p / NPTENTRIES) r)
+      ∙ from_table r (r == p / NPTENTRIES) (sym (table_is r) ∙ is);
+}
+  where
+    here : (d == d) ≡ true
+    here = grind (arith, nat_tests)
+
+    table_is : (r : ℕ) → is_some (t.regions d r) ≡ ((r == p / NPTENTRIES) || is_some (s.regions d r))
+    table_is r = placed.regions d r ∙ ap (λ (c : Bool). (c && (r == p / NPTENTRIES)) || is_some (s.regions d r)) here
+
+    by_region : (r : ℕ) (c : Bool) → (r == p / NPTENTRIES) ≡ c → (c || regions r) ≡ true → ((r == p / NPTENTRIES) || is_some (s.regions d r)) ≡ true
+    by_region r true test is = ap (λ (c : Bool). c || is_some (s.regions d r)) test
+    by_region r false test is = ap (λ (c : Bool). c || is_some (s.regions d r)) test ∙ had.have r is
+
+    from_table : (r : ℕ) (c : Bool) → (c || is_some (s.regions d r)) ≡ true → ((c || regions r) || is_library_region r) ≡ true
+    from_table r true is = refl
+    from_table r false is = had.only r is
+
+-- tables as the environment has them
+pub tables_of : {names : Names} {s : SpacesState} {k : Slot} {b : Born} → StandsForBorn names s k b → HasTables s k.directory b.regions
+tables_of h = record { have = h.regions_have; only = h.regions_only }
 
 pub other_regions : {s t : SpacesState} {d p : ℕ} {e : Entry} → Placed s t d p e → (q r : ℕ) → q ≢ d →
     is_some (t.regions q r) ≡ is_some (s.regions q r)
@@ -115,8 +161,9 @@ row_elsewhere {s = s} {d = d} {p = p} {e = e} placed q r ne =
 -- ---- a new page
 
 module _ {names : Names} {s : KernelState} {a : AbstractState} {sp : SpacesState} (h : StandsFor names s a) (n : ℕ) (b : Born)
-    (at : a.slots n ≡ born b) (va perm : ℕ) (made : Made s.spaces sp (slot_at s n).directory (page_number va) perm)
-    (is_user : is_page_perm perm ≡ true) (unminded : minds_page (place_of (slot_at s n)) ≡ false)
+    (at : a.slots n ≡ born b) (va perm : ℕ) (inside : is_programs (page_number va) ≡ true)
+    (made : Made s.spaces sp (slot_at s n).directory (page_number va) perm)
+    (is_user : IsUsers perm) (unminded : minds_page (place_of (slot_at s n)) ≡ false)
     (in_order : IsInOrder (with_spaces s sp)) where
   abbrev d : ℕ
   d = (slot_at s n).directory
@@ -133,34 +180,50 @@ module _ {names : Names} {s : KernelState} {a : AbstractState} {sp : SpacesState
 
   made_puts : (after : Names) → ((q r : ℕ) (x : Entry) → rows_of s.spaces q r ≡ Some x → is_shared x.perm ≡ true →
       after.name x.frame ≡ names.name x.frame) → Puts names after s.spaces sp d p (Some new_entry)
-  made_puts after named_so = record {
-    rows = made.placed.rows;
-    bytes = old_bytes;
-    named_so = named_so;
-    agree = λ q r x e ne hx is same. absurd (made.new q r x hx (same ∙ ap (λ (y : Entry). y.frame) (sym (same_Some new_entry e is))));
-    user = λ e is. subst (λ (y : Entry). is_page_perm y.perm ≡ true) (same_Some new_entry e is) is_user;
-    regions = other_regions made.placed;
+  made_puts after named_so =
+      record { rows = made.placed.rows; bytes = old_bytes; named_so = named_so; regions = other_regions made.placed }
+
+  made_row : (after : Names) (named_so : (q r : ℕ) (x : Entry) → rows_of s.spaces q r ≡ Some x → is_shared x.perm ≡ true →
+      after.name x.frame ≡ names.name x.frame) (shared : ℕ → List ℕ) (next : ℕ) →
+      (is_shared perm ≡ true → IsNamed after sp.pages shared next made.frame) →
+      ((q r : ℕ) (x : Entry) → rows_of s.spaces q r ≡ Some x → sp.pages x.frame ≡ s.spaces.pages x.frame →
+      IsNamed names s.spaces.pages a.shared a.next_name x.frame → IsNamed after sp.pages shared next x.frame) →
+      PutsRow names after s.spaces.pages a.shared sp.pages shared a.next_name next (logical s.spaces s.environments.slots) n p (Some new_entry)
+  made_row after named_so shared next new_named old_named = record {
+    bytes = λ m q x ne hx. let found = elsewhere h n b at (made_puts after named_so) m q x ne hx in old_bytes _ q x found.0 found.1;
+    agree = λ m q x e ne hx is same.
+        let found = elsewhere h n b at (made_puts after named_so) m q x ne hx in
+        absurd (made.new _ q x found.1 (same ∙ ap (λ (y : Entry). y.frame) (sym (same_Some new_entry e is))));
+    user = λ e is. subst (λ (y : Entry). IsUsers y.perm) (same_Some new_entry e is) is_user;
+    whole = λ e is. subst (λ (y : Entry). IsPage (sp.pages y.frame)) (same_Some new_entry e is)
+        (subst (λ (l : List ℕ). IsPage l) (sym made.zero) zero_page_whole);
+    named_new = λ e is. subst (λ (y : Entry). is_shared y.perm ≡ true → IsNamed after sp.pages shared next y.frame) (same_Some new_entry e is) new_named;
+    named_old = λ m q x ne hx shared_page was.
+        let found = elsewhere h n b at (made_puts after named_so) m q x ne hx in
+        old_named _ q x found.1 (old_bytes _ q x found.0 found.1) was;
   }
 
-  tables_made : (r : ℕ) → upd b.regions (p / NPTENTRIES) true r ≡ is_some (sp.regions d r)
-  tables_made = regions_placed made.placed b.regions (born_at h n b at).regions
+  tables_made : HasTables sp d (upd b.regions (p / NPTENTRIES) true)
+  tables_made = tables_placed made.placed b.regions (tables_of (born_at h n b at))
 
-  pub made_own_stands : is_shared perm ≡ false →
+  pub made_own_stands : is_shared perm ≡ false → is_cow perm ≡ false →
       StandsFor names (with_spaces s sp) (with_born a n (with_page b va (own zero_page (has_write perm))))
-  made_own_stands own_page =
-      puts_stand h n b at (made_puts names (λ q r x hx shared_page. refl)) (Some (own zero_page (has_write perm)))
-      (sym (seen_own names sp d p new_entry (row_placed made.placed) own_page
-      ∙ ap (λ (bytes : List ℕ). Some (own bytes (has_write perm))) made.zero))
-      (upd b.regions (p / NPTENTRIES) true) tables_made a.shared a.next_name are_named unminded in_order
+  made_own_stands own_page no_copy =
+      puts_stand h n b at (made_puts names (λ q r x hx shared_page. refl)) inside (Some (own zero_page (has_write perm)))
+      (sym (seen_own names sp d p new_entry inside (row_placed made.placed) own_page
+      ∙ ap (λ (bytes : List ℕ). Some (own bytes (may_write perm))) made.zero
+      ∙ ap (λ (w : Bool). Some (own zero_page w)) writes))
+      (upd b.regions (p / NPTENTRIES) true) tables_made a.shared a.next_name
+      (made_row names (λ q r x hx shared_page. refl) a.shared a.next_name
+      (λ shared_page. absurd (let contradiction : true ≡ false = sym shared_page ∙ own_page in cc))
+      (λ q r x hx bytes was. record { home = was.home; bytes = was.bytes ∙ sym bytes; old = was.old })) unminded in_order
     where
-      are_named : AreNamed names sp.pages a.shared a.next_name (rows_of sp)
-      are_named = subst (λ (rows : Rows). AreNamed names sp.pages a.shared a.next_name rows) (sym made.placed.rows)
-          (all_put (rows_of s.spaces) d p (Some new_entry)
-          (λ x. is_shared x.perm ≡ true → IsNamed names sp.pages a.shared a.next_name x.frame)
-          (λ q r x ne hx shared_page. let was = h.named q r x hx shared_page in
-          record { home = was.home; bytes = was.bytes ∙ sym (old_bytes q r x ne hx); old = was.old })
-          (λ e is shared_page. absurd (let contradiction : true ≡ false =
-          sym shared_page ∙ ap (λ (y : Entry). is_shared y.perm) (sym (same_Some new_entry e is)) ∙ own_page in cc)))
+      or_false : (w : Bool) → (w || false) ≡ w
+      or_false true = refl
+      or_false false = refl
+
+      writes : may_write perm ≡ has_write perm
+      writes = ap (λ (c : Bool). has_write perm || c) no_copy ∙ or_false (has_write perm)
 
   -- the new page's frame has the next name
   abbrev pub names_after : Names
@@ -171,13 +234,18 @@ module _ {names : Names} {s : KernelState} {a : AbstractState} {sp : SpacesState
       (with_born (record a { shared = upd a.shared a.next_name zero_page; next_name = a.next_name + 1 }) n
       (with_page b va (named a.next_name (has_write perm))))
   made_shared shared_page =
-      puts_stand h n b at
-      (made_puts names_after (λ q r x hx shared_too. upd-other names.name made.frame a.next_name x.frame (made.new q r x hx)))
+      puts_stand h n b at (made_puts names_after names_kept) inside
       (Some (named a.next_name (has_write perm)))
-      (sym (seen_named names_after sp d p new_entry (row_placed made.placed) shared_page
+      (sym (seen_named names_after sp d p new_entry inside (row_placed made.placed) shared_page
       ∙ ap (λ (m : ℕ). Some (named m (has_write perm))) (upd-at names.name made.frame a.next_name)))
-      (upd b.regions (p / NPTENTRIES) true) tables_made (upd a.shared a.next_name zero_page) (a.next_name + 1) are_named unminded in_order
+      (upd b.regions (p / NPTENTRIES) true) tables_made (upd a.shared a.next_name zero_page) (a.next_name + 1)
+      (made_row names_after names_kept (upd a.shared a.next_name zero_page) (a.next_name + 1) (λ is. new_named)
+      (λ q r x hx bytes was. old_named x.frame (made.new q r x hx) bytes was)) unminded in_order
     where
+      names_kept : (q r : ℕ) (x : Entry) → rows_of s.spaces q r ≡ Some x → is_shared x.perm ≡ true →
+          names_after.name x.frame ≡ names.name x.frame
+      names_kept q r x hx shared_too = upd-other names.name made.frame a.next_name x.frame (made.new q r x hx)
+
       old_named : (f : ℕ) → f ≢ made.frame → sp.pages f ≡ s.spaces.pages f →
           IsNamed names s.spaces.pages a.shared a.next_name f →
           IsNamed names_after sp.pages (upd a.shared a.next_name zero_page) (a.next_name + 1) f
@@ -201,18 +269,6 @@ module _ {names : Names} {s : KernelState} {a : AbstractState} {sp : SpacesState
             old = subst (λ (m : ℕ). m < a.next_name + 1) (sym name_is) (omega arith);
           }
 
-      are_named : AreNamed names_after sp.pages (upd a.shared a.next_name zero_page) (a.next_name + 1) (rows_of sp)
-      are_named = subst
-          (λ (rows : Rows). AreNamed names_after sp.pages (upd a.shared a.next_name zero_page) (a.next_name + 1) rows)
-          (sym made.placed.rows)
-          (all_put (rows_of s.spaces) d p (Some new_entry)
-          (λ x. is_shared x.perm ≡ true →
-          IsNamed names_after sp.pages (upd a.shared a.next_name zero_page) (a.next_name + 1) x.frame)
-          (λ q r x ne hx shared_too. old_named x.frame (made.new q r x hx) (old_bytes q r x ne hx) (h.named q r x hx shared_too))
-          (λ e is shared_too. subst
-          (λ (y : Entry). IsNamed names_after sp.pages (upd a.shared a.next_name zero_page) (a.next_name + 1) y.frame)
-          (same_Some new_entry e is) new_named))
-
   pub made_shared_stands : is_shared perm ≡ true → (after : Names) ×
       StandsFor after (with_spaces s sp)
       (with_born (record a { shared = upd a.shared a.next_name zero_page; next_name = a.next_name + 1 }) n
@@ -221,17 +277,17 @@ module _ {names : Names} {s : KernelState} {a : AbstractState} {sp : SpacesState
 
 -- ---- a page that stands somewhere
 
--- what may pass and is no shared page may not be written
-passing : (is_shared_page writes : Bool) → (is_shared_page || not writes) ≡ true → is_shared_page ≡ false → writes ≡ false
-passing true writes passes own_page = absurd (let contradiction : true ≡ false = own_page in cc)
-passing false true passes own_page = absurd (let contradiction : false ≡ true = passes in cc)
-passing false false passes own_page = refl
+-- what may pass and is no shared page may not be written, and is not copied
+passing : (is_shared_page writes copied : Bool) → (is_shared_page || not (writes || copied)) ≡ true → is_shared_page ≡ false → writes ≡ false
+passing true writes copied passes own_page = absurd (let contradiction : true ≡ false = own_page in cc)
+passing false true copied passes own_page = absurd (let contradiction : false ≡ true = passes in cc)
+passing false false copied passes own_page = refl
 
 module _ {names : Names} {s : KernelState} {a : AbstractState} {sp : SpacesState} (h : StandsFor names s a) (n : ℕ) (b : Born)
-    (at : a.slots n ≡ born b) (from : ℕ) (x : Entry) (page : Page)
+    (at : a.slots n ≡ born b) (from : ℕ) (from_inside : is_programs (page_number from) ≡ true) (x : Entry) (page : Page)
     (hx : rows_of s.spaces (slot_at s n).directory (page_number from) ≡ Some x)
-    (passes : (is_shared x.perm || not (has_write x.perm)) ≡ true) (stands : page_at b from ≡ Some page)
-    (m : ℕ) (c : Born) (target_at : a.slots m ≡ born c) (va : ℕ)
+    (passes : (is_shared x.perm || not (may_write x.perm)) ≡ true) (stands : page_at b from ≡ Some page)
+    (m : ℕ) (c : Born) (target_at : a.slots m ≡ born c) (va : ℕ) (inside : is_programs (page_number va) ≡ true)
     (given : Given s.spaces sp (slot_at s m).directory (page_number va) x)
     (unminded : minds_page (place_of (slot_at s m)) ≡ false) (in_order : IsInOrder (with_spaces s sp)) where
   abbrev from_space : ℕ
@@ -239,6 +295,12 @@ module _ {names : Names} {s : KernelState} {a : AbstractState} {sp : SpacesState
 
   abbrev to_space : ℕ
   to_space = (slot_at s m).directory
+
+  -- the sender's entry counts
+  counts_here : logical s.spaces s.environments.slots n (page_number from) ≡ Some x
+  counts_here =
+      logical_beside s.spaces s.environments.slots n (born_live (born_at h n b at)) (page_number from) (programs_beside (page_number from) from_inside).0
+      ∙ hx
 
   given_bytes : (q r : ℕ) (y : Entry) → Elsewhere q r to_space (page_number va) → rows_of s.spaces q r ≡ Some y →
       sp.pages y.frame ≡ s.spaces.pages y.frame
@@ -253,63 +315,67 @@ module _ {names : Names} {s : KernelState} {a : AbstractState} {sp : SpacesState
           given.placed.bytes q r y (row_elsewhere given.placed q r ne ∙ hy) other
 
   -- it agrees with every entry of its frame, itself among them
-  given_agrees : (q r : ℕ) (y : Entry) → rows_of s.spaces q r ≡ Some y → y.frame ≡ x.frame → Agree y.perm x.perm
-  given_agrees q r y hy same = by_place (place_cases q r from_space (page_number from))
+  given_agrees : (q r : ℕ) (y : Entry) → logical s.spaces s.environments.slots q r ≡ Some y → y.frame ≡ x.frame → Agree y.perm x.perm
+  given_agrees q r y hy same = by_place (place_cases q r n (page_number from))
     where
-      by_place : ((q ≡ from_space) × (r ≡ page_number from)) ⊎ Elsewhere q r from_space (page_number from) → Agree y.perm x.perm
+      by_place : ((q ≡ n) × (r ≡ page_number from)) ⊎ Elsewhere q r n (page_number from) → Agree y.perm x.perm
       by_place (inl here) =
           subst (λ (z : Entry). Agree z.perm x.perm)
-          (sym (same_entry (rows_of s.spaces) q r from_space (page_number from) y x here.0 here.1 hy hx))
+          (sym (same_entry (logical s.spaces s.environments.slots) q r n (page_number from) y x here.0 here.1 hy counts_here))
           (record {
             shared = refl;
-            read_only = λ own_page. let kept = passing (is_shared x.perm) (has_write x.perm) passes own_page in (kept, kept);
+            read_only = λ own_page. let kept = passing (is_shared x.perm) (has_write x.perm) (is_cow x.perm) passes own_page in (kept, kept);
           })
-      by_place (inr there) = h.apart q r from_space (page_number from) y x there hy hx same
+      by_place (inr there) = h.apart q r n (page_number from) y x there hy counts_here same
 
   given_puts : Puts names names s.spaces sp to_space (page_number va) (Some x)
   given_puts = record {
     rows = given.placed.rows;
     bytes = given_bytes;
     named_so = λ q r y hy shared_page. refl;
+    regions = other_regions given.placed;
+  }
+
+  given_row : PutsRow names names s.spaces.pages a.shared sp.pages a.shared a.next_name a.next_name (logical s.spaces s.environments.slots) m
+      (page_number va) (Some x)
+  given_row = record {
+    bytes = λ q r y ne hy. let found = elsewhere h m c target_at given_puts q r y ne hy in given_bytes _ r y found.0 found.1;
     agree = λ q r y e ne hy is same.
         let same_one : x ≡ e = same_Some x e is in
         subst (λ (z : Entry). Agree y.perm z.perm) same_one
         (given_agrees q r y hy (same ∙ ap (λ (z : Entry). z.frame) (sym same_one)));
-    user = λ e is. subst (λ (z : Entry). is_page_perm z.perm ≡ true) (same_Some x e is)
-        (h.users from_space (page_number from) x hx);
-    regions = other_regions given.placed;
+    user = λ e is. subst (λ (z : Entry). IsUsers z.perm) (same_Some x e is) (h.users n (page_number from) x counts_here);
+    whole = λ e is. subst (λ (z : Entry). IsPage (sp.pages z.frame)) (same_Some x e is)
+        (subst (λ (l : List ℕ). IsPage l) (sym given.same) (h.whole n (page_number from) x counts_here));
+    named_new = λ e is. subst (λ (y : Entry). is_shared y.perm ≡ true → IsNamed names sp.pages a.shared a.next_name y.frame)
+        (same_Some x e is)
+        (λ shared_page. let was = h.named n (page_number from) x counts_here shared_page in
+        record { home = was.home; bytes = was.bytes ∙ sym given.same; old = was.old });
+    named_old = λ q r y ne hy shared_page was.
+        let found = elsewhere h m c target_at given_puts q r y ne hy in
+        record { home = was.home; bytes = was.bytes ∙ sym (given_bytes _ r y found.0 found.1); old = was.old };
   }
-
-  given_named : AreNamed names sp.pages a.shared a.next_name (rows_of sp)
-  given_named = subst (λ (rows : Rows). AreNamed names sp.pages a.shared a.next_name rows) (sym given.placed.rows)
-      (all_put (rows_of s.spaces) to_space (page_number va) (Some x)
-      (λ y. is_shared y.perm ≡ true → IsNamed names sp.pages a.shared a.next_name y.frame)
-      (λ q r y ne hy shared_page. let was = h.named q r y hy shared_page in
-      record { home = was.home; bytes = was.bytes ∙ sym (given_bytes q r y ne hy); old = was.old })
-      (λ e is. subst (λ (y : Entry). is_shared y.perm ≡ true → IsNamed names sp.pages a.shared a.next_name y.frame)
-      (same_Some x e is)
-      (λ shared_page. let was = h.named from_space (page_number from) x hx shared_page in
-      record { home = was.home; bytes = was.bytes ∙ sym given.same; old = was.old })))
 
   given_seen : Some page ≡ page_seen names sp to_space (page_number va)
   given_seen =
       let after : page_seen names sp to_space (page_number va) ≡ Some (page_by names sp.pages x) =
-      seen_by names sp to_space (page_number va) x (row_placed given.placed) in
+      seen_by names sp to_space (page_number va) x inside (row_placed given.placed) in
       let before : b.memory (page_number from) ≡ Some (page_by names s.spaces.pages x) =
-      (born_at h n b at).memory (page_number from) ∙ seen_by names s.spaces from_space (page_number from) x hx in
+      (born_at h n b at).memory (page_number from) ∙ seen_by names s.spaces from_space (page_number from) x from_inside hx in
       let alike : page_by names sp.pages x ≡ page_by names s.spaces.pages x =
       page_alike names names s.spaces.pages sp.pages x (λ own_page. given.same) (λ shared_page. refl) in
       sym stands ∙ before ∙ ap (λ (z : Page). Some z) (sym alike) ∙ sym after
 
   pub given_stands : StandsFor names (with_spaces s sp) (with_born a m (with_page c va page))
   given_stands =
-      puts_stand h m c target_at given_puts (Some page) given_seen (upd c.regions (page_number va / NPTENTRIES) true)
-      (regions_placed given.placed c.regions (born_at h m c target_at).regions) a.shared a.next_name given_named unminded in_order
+      puts_stand h m c target_at given_puts inside (Some page) given_seen (upd c.regions (page_number va / NPTENTRIES) true)
+      (tables_placed given.placed c.regions (tables_of (born_at h m c target_at))) a.shared a.next_name given_row unminded in_order
 
 -- ---- a page is removed
 
 module _ {names : Names} {s : KernelState} {a : AbstractState} {sp : SpacesState} (h : StandsFor names s a) (n : ℕ) (b : Born)
-    (at : a.slots n ≡ born b) (va : ℕ) (removed : Removed s.spaces sp (slot_at s n).directory (page_number va))
+    (at : a.slots n ≡ born b) (va : ℕ) (inside : is_programs (page_number va) ≡ true)
+    (removed : Removed s.spaces sp (slot_at s n).directory (page_number va))
     (unminded : minds_page (place_of (slot_at s n)) ≡ false) (in_order : IsInOrder (with_spaces s sp)) where
   abbrev space : ℕ
   space = (slot_at s n).directory
@@ -326,22 +392,27 @@ module _ {names : Names} {s : KernelState} {a : AbstractState} {sp : SpacesState
     rows = removed.rows;
     bytes = kept_bytes;
     named_so = λ q r x hx shared_page. refl;
-    agree = λ q r x e ne hx is same. absurd (none-some e is);
-    user = λ e is. absurd (none-some e is);
     regions = λ q r ne. removed.regions q r;
   }
 
-  removed_named : AreNamed names sp.pages a.shared a.next_name (rows_of sp)
-  removed_named = subst (λ (rows : Rows). AreNamed names sp.pages a.shared a.next_name rows) (sym removed.rows)
-      (all_put (rows_of s.spaces) space number None
-      (λ x. is_shared x.perm ≡ true → IsNamed names sp.pages a.shared a.next_name x.frame)
-      (λ q r x ne hx shared_page. let was = h.named q r x hx shared_page in
-      record { home = was.home; bytes = was.bytes ∙ sym (kept_bytes q r x ne hx); old = was.old })
-      (λ e is. absurd (none-some e is)))
+  removed_row : PutsRow names names s.spaces.pages a.shared sp.pages a.shared a.next_name a.next_name (logical s.spaces s.environments.slots) n
+      number None
+  removed_row = record {
+    bytes = λ m q x ne hx. let found = elsewhere h n b at removed_puts m q x ne hx in kept_bytes _ q x found.0 found.1;
+    agree = λ m q x e ne hx is same. absurd (none-some e is);
+    user = λ e is. absurd (none-some e is);
+    whole = λ e is. absurd (none-some e is);
+    named_new = λ e is. absurd (none-some e is);
+    named_old = λ m q x ne hx shared_page was.
+        let found = elsewhere h n b at removed_puts m q x ne hx in
+        record { home = was.home; bytes = was.bytes ∙ sym (kept_bytes _ q x found.0 found.1); old = was.old };
+  }
 
   pub removed_stands : StandsFor names (with_spaces s sp) (with_born a n (without_page b va))
   removed_stands =
-      puts_stand h n b at removed_puts None
-      (sym (ap (λ (o : Option Entry). option_map (page_by names sp.pages) o)
-      (ap (λ (rows : Rows). rows space number) removed.rows ∙ put-at (rows_of s.spaces) space number None)))
-      b.regions (λ r. (born_at h n b at).regions r ∙ sym (removed.regions space r)) a.shared a.next_name removed_named unminded in_order
+      puts_stand h n b at removed_puts inside None
+      (sym (seen_none names sp space number (ap (λ (rows : Rows). rows space number) removed.rows ∙ put-at (rows_of s.spaces) space number None)))
+      b.regions (record {
+        have = λ r is. removed.regions space r ∙ (born_at h n b at).regions_have r is;
+        only = λ r is. (born_at h n b at).regions_only r (sym (removed.regions space r) ∙ is);
+      }) a.shared a.next_name removed_row unminded in_order

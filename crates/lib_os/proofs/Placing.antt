@@ -12,7 +12,7 @@ use Rattle.jos_base.specs.SpacesState.{SpacesState, Region, Use, free, fresh, pa
 use Rattle.jos_base.specs.SpacesState.{tabled_new, tabled_by, tabled, inserted, allocated_in, allocated, fresh_from, fresh_of, taken, zero_page}
 use Rattle.jos_base.specs.SystemCalls.{is_page_perm}
 use Rattle.lib_os.specs.InOrder.{HasOneUse, AreFree}
-use Rattle.lib_os.specs.StandsFor.{rows_of, lasting}
+use Rattle.lib_os.specs.Rows.{rows_of, lasting}
 use Rattle.lib_os.proofs.Effects.{Placed, Made, Given, is_in_region}
 use Rattle.lib_os.proofs.Puts.{put-some, put-stands, put-stood}
 use Rattle.lib_os.proofs.Releasing.{AreWithin, released_named, row_entry}

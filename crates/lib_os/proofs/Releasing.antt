@@ -8,7 +8,7 @@ use Rattle.std.proofs.lemmas.Bool.Decides.{nat_tests}
 use Rattle.jos_base.specs.Reach.{Entry}
 use Rattle.jos_base.specs.Counting.{Entries, page_count, frame_limit, page_limit}
 use Rattle.jos_base.specs.SpacesState.{SpacesState, released, freed}
-use Rattle.lib_os.specs.StandsFor.{rows_of, lasting}
+use Rattle.lib_os.specs.Rows.{rows_of, lasting}
 use Rattle.jos_base.proofs.Maps.{upd-other}
 use Rattle.jos_base.proofs.Counts.{page_count-some}
 

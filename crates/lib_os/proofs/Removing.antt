@@ -5,10 +5,10 @@ use Rattle.std.specs.Prelude.{Option, Some, None, [], is_some}
 use Rattle.std.specs.Option.{option_map}
 use Rattle.jos_base.specs.Reach.{Entry}
 use Rattle.jos_base.specs.Counting.{page_limit}
-use Rattle.jos_base.specs.SpacesState.{SpacesState, Region, directory, table, put, frame_of}
+use Rattle.jos_base.specs.SpacesState.{SpacesState, Region, directory, put, frame_of}
 use Rattle.jos_base.specs.SpacesState.{without_entry, unmapped, pages_removed, without_region, tables_freed, region_limit, destroyed}
 use Rattle.lib_os.specs.InOrder.{HasOneUse}
-use Rattle.lib_os.specs.StandsFor.{rows_of, lasting}
+use Rattle.lib_os.specs.Rows.{rows_of, lasting}
 use Rattle.lib_os.proofs.Effects.{Removed, Gone}
 use Rattle.lib_os.proofs.Puts.{put-none}
 use Rattle.lib_os.proofs.Releasing.{AreWithin, released_named, row_entry}

@@ -25,10 +25,13 @@ use Rattle.lib_os.specs.InOrder.{IsInOrder}
 use Rattle.lib_os.specs.LibraryCall.{library_step}
 use Rattle.lib_os.specs.LibrarySteps.{service_answered}
 use Rattle.lib_os.specs.MemoryServices.{lives}
-use Rattle.lib_os.specs.StandsFor.{StandsFor, StandsForSlot, Names, rows_of, page_by, is_shared, MaySendBy, IsTrying}
+use Rattle.lib_os.specs.Places.{is_handlers}
+use Rattle.lib_os.specs.Rows.{Names, rows_of, page_by, is_shared, may_write}
+use Rattle.lib_os.specs.StandsFor.{StandsFor, StandsForSlot, MaySendBy, IsTrying}
 use Rattle.lib_os.proofs.Answering.{back_stands}
 use Rattle.lib_os.proofs.Effects.{Given}
 use Rattle.lib_os.proofs.EntriesStand.{seen_by}
+use Rattle.lib_os.proofs.Logical.{page_inside_programs}
 use Rattle.lib_os.proofs.MessagesStand.{word_alone, page_stands}
 use Rattle.lib_os.proofs.Sends.{received_in, with_message}
 use Rattle.lib_os.proofs.Serving.{step_in}
@@ -41,11 +44,11 @@ use Rattle.jos_base.proofs.Maps.{upd-other}
 -- ---- what passes
 
 pub passes_alike : (names : Names) (bytes : ℕ → List ℕ) (x : Entry) →
-    may_pass (Some (page_by names bytes x)) ≡ (is_shared x.perm || not (has_write x.perm))
+    may_pass (Some (page_by names bytes x)) ≡ (is_shared x.perm || not (may_write x.perm))
 passes_alike names bytes x = by_sharing (is_shared x.perm)
   where
-    by_sharing : (c : Bool) → may_pass (Some (if c then named (names.name x.frame) (has_write x.perm) else own (bytes x.frame) (has_write x.perm)))
-        ≡ (c || not (has_write x.perm))
+    by_sharing : (c : Bool) → may_pass (Some (if c then named (names.name x.frame) (has_write x.perm) else own (bytes x.frame) (may_write x.perm)))
+        ≡ (c || not (may_write x.perm))
     by_sharing true = refl
     by_sharing false = refl
 
@@ -71,9 +74,9 @@ module _ {names : Names} {s : KernelState} {a : AbstractState} (h : StandsFor na
   page_passes va perm false may =
       let seen : page_at b va ≡ Some (page_by names s.spaces.pages may.entry) =
       (born_at h n b at).memory (page_number va)
-      ∙ seen_by names s.spaces (slot_at s n).directory (page_number va) may.entry may.stands in
-      let passes : (is_shared may.entry.perm || not (has_write may.entry.perm)) ≡ true =
-      subst (λ (p : ℕ). (is_shared p || not (has_write p)) ≡ true) may.bits may.passes in
+      ∙ seen_by names s.spaces (slot_at s n).directory (page_number va) may.entry (page_inside_programs va may.inside) may.stands in
+      let passes : (is_shared may.entry.perm || not (may_write may.entry.perm)) ≡ true =
+      subst (λ (p : ℕ). (is_shared p || not (may_write p)) ≡ true) may.bits may.passes in
       (λ i. may.inside i && may_pass (seen i)) ∙ passes_alike names s.spaces.pages may.entry ∙ passes
 
   module _ (id value va perm : ℕ) (trying : IsTrying (rows_of s.spaces (slot_at s n).directory) (slot_at s n) b id value va perm) where
@@ -150,13 +153,14 @@ module _ {names : Names} {s : KernelState} {a : AbstractState} (h : StandsFor na
 -- where its slot is as it was, whatever else is another
 pub answered_stands : {names : Names} {s : KernelState} {a : AbstractState} → StandsFor names s a → (n : ℕ) (b : Born) →
     a.slots n ≡ born b → (k : Slot) (word : ℕ) → slot_at s n ≡ k → k.rendezvous.receiving ≡ false → b.blocked ≡ false →
-    StandsFor names (service_answered s n word) (answered a n b k.registers word)
-answered_stands {names = names} {s = s} {a = a} h n b at k word same silent awake =
+    is_handlers k.registers.esp ≡ false → StandsFor names (service_answered s n word) (answered a n b k.registers word)
+answered_stands {names = names} {s = s} {a = a} h n b at k word same silent awake outside =
     subst (λ (x : Slot). StandsFor names (service_answered s n word) (answered a n b x.registers word)) same
-    (back_stands h n b at (record (slot_at s n).registers { eax = word }) (ap (λ (x : Slot). x.rendezvous.receiving) same ∙ silent) awake refl)
+    (back_stands h n b at (record (slot_at s n).registers { eax = word }) (ap (λ (x : Slot). x.rendezvous.receiving) same ∙ silent) awake
+    (ap (λ (x : Slot). is_handlers x.registers.esp) same ∙ outside) refl refl)
 
 module _ {names : Names} {s : KernelState} {a : AbstractState} (h : StandsFor names s a) (n : ℕ) (b : Born) (at : a.slots n ≡ born b)
-    (silent : (slot_at s n).rendezvous.receiving ≡ false) (awake : b.blocked ≡ false)
+    (silent : (slot_at s n).rendezvous.receiving ≡ false) (awake : b.blocked ≡ false) (outside : is_handlers (slot_at s n).registers.esp ≡ false)
     (t : ℕ) (ne : t ≢ n) (c : Born) (there : a.slots t ≡ born c) (taken : IsTaken (slot_at s t) c b.id) (value : ℕ) (small : value < 2 ^ 32)
     (va : ℕ) where
   abbrev come : AbstractState
@@ -170,15 +174,15 @@ module _ {names : Names} {s : KernelState} {a : AbstractState} (h : StandsFor na
       StandsFor names (service_answered (with_message s n t value 0) n 0) (sent a n b (slot_at s n).registers t value va c taken.w)
   word_sent none =
       answered_stands (word_alone h n b at t c there taken value small va none) n b still (slot_at s n) 0
-      (slot_kept s t (received_in (slot_at s t) (slot_at s n).id value 0) n (λ e. ne (sym e))) silent awake
+      (slot_kept s t (received_in (slot_at s t) (slot_at s n).id value 0) n (λ e. ne (sym e))) silent awake outside
 
   -- a page came with it
-  pub page_sent : {sp : SpacesState} (x : Entry) → rows_of s.spaces (slot_at s n).directory (page_number va) ≡ Some x →
-      (is_shared x.perm || not (has_write x.perm)) ≡ true →
+  pub page_sent : {sp : SpacesState} → is_page_inside va ≡ true → (x : Entry) → rows_of s.spaces (slot_at s n).directory (page_number va) ≡ Some x →
+      (is_shared x.perm || not (may_write x.perm)) ≡ true →
       Given s.spaces sp (slot_at s t).directory (page_number taken.w.va) x → va ≢ 0 → taken.w.va ≢ 0 →
       IsInOrder (with_message (with_spaces s sp) n t value x.perm) →
       StandsFor names (service_answered (with_message (with_spaces s sp) n t value x.perm) n 0)
       (sent a n b (slot_at s n).registers t value va c taken.w)
-  page_sent {sp = sp} x hx passes given some wanted in_order =
-      answered_stands (page_stands h n b at t c there taken value small va x hx passes given some wanted in_order) n b still (slot_at s n) 0
-      (slot_kept (with_spaces s sp) t (received_in (slot_at s t) (slot_at s n).id value x.perm) n (λ e. ne (sym e))) silent awake
+  page_sent {sp = sp} inside x hx passes given some wanted in_order =
+      answered_stands (page_stands h n b at t c there taken value small va inside x hx passes given some wanted in_order) n b still (slot_at s n) 0
+      (slot_kept (with_spaces s sp) t (received_in (slot_at s t) (slot_at s n).id value x.perm) n (λ e. ne (sym e))) silent awake outside

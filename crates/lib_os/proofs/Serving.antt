@@ -1,11 +1,11 @@
 -- A service's step: what stands at its beginning, what its step is in the abstract system, and that its answer leads back
 -- to the program.
-use Rattle.std.proofs.Common.{◌≡◌, ◌∙◌, ℕ, Bool, true, false, List, [], Ok, refl, sym, ap, subst}
+use Rattle.std.proofs.Common.{◌≡◌, ◌∙◌, ◌||◌, not, ℕ, Bool, true, false, List, [], Ok, refl, sym, ap, subst}
 use Rattle.std.specs.Prelude.{◌++◌}
 use Rattle.std.proofs.lemmas.Bool.{false≢true}
 use Rattle.std.proofs.lemmas.List.{append-nil}
 use Rattle.jos_base.specs.declared.registers.Regs.{Regs}
-use Rattle.jos_base.specs.Environments.{Slot, free_slot, no_extra}
+use Rattle.jos_base.specs.Environments.{Slot, no_extra}
 use Rattle.jos_base.specs.KernelState.{KernelState, slot_at}
 use Rattle.jos_base.specs.SpacesState.{SpacesState}
 use Rattle.lib_os.specs.declared.place.Place.{Place}
@@ -16,23 +16,36 @@ use Rattle.lib_os.specs.declared.progress.Progress.TheVariants as progress
 use Rattle.lib_os.specs.AbstractState.{AbstractState, Born, AbstractSlot, free, unborn, born, serving, Stage, guest, at_guest, in_service}
 use Rattle.lib_os.specs.AbstractRun.{abs_step}
 use Rattle.lib_os.specs.Fence.{is_resident}
+use Rattle.lib_os.specs.LibraryPages.{LibraryPages, has_copy}
+use Rattle.lib_os.specs.declared.numbers.TheConstants.{PGFAULT_UPCALL}
+use Rattle.jos_base.specs.TrapFrames.{user_flags}
 use Rattle.lib_os.specs.LibraryCall.{library_step}
 use Rattle.lib_os.specs.LibrarySteps.{GoesOn, NothingRefused, IsLibraryStep}
-use Rattle.lib_os.specs.Places.{place_in_words, place_of}
-use Rattle.lib_os.specs.StandsFor.{StandsFor, Names, rows_of, StandsForSlot, StandsForBorn, StandsAt, StandsAtStep, IsStatusFor, IsIn}
+use Rattle.lib_os.specs.Places.{place_in_words, place_of, is_handlers}
+use Rattle.lib_os.specs.Rows.{Names, EntryRow, rows_of}
+use Rattle.lib_os.specs.StandsFor.{StandsFor, StandsForSlot, StandsForBorn, StandsAt, StandsAtStep, IsStatusFor, IsIn, view_of, upcall_at}
+use Rattle.lib_os.proofs.Logical.{is_plain}
+use Rattle.lib_os.proofs.WordsTell.{is_in_handler, handler_runs, outside_stack}
 use Rattle.lib_os.specs.UserCalls.{Output, Prints}
 
--- who keeps no words is at its program
-pub words_of_none : (regs : Regs) (words : List ℕ) → words ≡ no_extra → place_in_words regs words ≡ place.Guest
+-- who keeps no words is at its program, where its handler does not run
+pub words_of_none : (regs : Regs) (words : List ℕ) → is_handlers regs.esp ≡ false → words ≡ no_extra → place_in_words regs words ≡ place.Guest
 unfolding place_in_words
-words_of_none regs words none = rw none refl
+words_of_none regs words outside none = rw (outside, none) refl
 
-abbrev is_at_guest : Place → Bool
-is_at_guest place.Guest = true
-is_at_guest _ = false
-
-in_no_service : (p : Place) (s : Service) (t : Step) → p ≡ place.Guest → p ≡ place.InService s t → ⊥
-in_no_service p s t at is = false≢true (sym (ap is_at_guest is) ∙ ap is_at_guest at)
+-- nor is it in a service, wherever its stack pointer lies
+never_served : (regs : Regs) (words : List ℕ) (s : Service) (t : Step) → words ≡ no_extra → place_in_words regs words ≡ place.InService s t → ⊥
+never_served regs words s t none at = by_esp (is_handlers regs.esp) refl
+  where
+    by_esp : (c : Bool) → is_handlers regs.esp ≡ c → ⊥
+    by_esp true inside =
+        false≢true (sym (ap is_in_handler at) ∙ handler_runs regs words ∙ inside)
+    by_esp false outside =
+        false≢true (sym (ap is_at_guest at) ∙ ap is_at_guest (words_of_none regs words outside none))
+      where
+        is_at_guest : Place → Bool
+        is_at_guest place.Guest = true
+        is_at_guest _ = false
 
 -- ---- at the beginning
 
@@ -41,24 +54,24 @@ pub record IsServed (names : Names) (s : KernelState) (a : AbstractState) (n : �
   pub b : Born
   pub is : a.slots n ≡ born b
   pub own : StandsForBorn names s.spaces (slot_at s n) b
-  pub at : StandsAtStep (rows_of s.spaces (slot_at s n).directory) (slot_at s n) b service step
+  pub outside : is_handlers (slot_at s n).registers.esp ≡ false
+  pub at : StandsAtStep (view_of s.spaces (slot_at s n).directory) (slot_at s n) b service step
 
 pub served : {names : Names} {s : KernelState} {a : AbstractState} → StandsFor names s a → (n : ℕ) (service : Service) (step : Step) →
     place_of (slot_at s n) ≡ place.InService service step → IsServed names s a n service step
 served {names = names} {s = s} {a = a} h n service step at = by_slot (a.slots n) refl (h.slots n)
   where
     by_slot : (slot : AbstractSlot) → a.slots n ≡ slot → StandsForSlot names s.spaces (slot_at s n) slot → IsServed names s a n service step
-    by_slot (free id) is k =
-        absurd (in_no_service _ service step
-        (ap (λ (x : Slot). place_of x) k ∙ words_of_none (free_slot id).registers no_extra refl) at)
+    by_slot (free id) is k = absurd (never_served (slot_at s n).registers (slot_at s n).extra service step (ap (λ (x : Slot). x.extra) k) at)
     by_slot (unborn id parent) is k = absurd k
     by_slot (born b) is k = record {
       b = b;
       is = is;
       own = k;
-      at = subst (λ (p : Place). StandsAt p (rows_of s.spaces (slot_at s n).directory) (slot_at s n) b) at k.at;
+      outside = outside_stack (slot_at s n).registers (slot_at s n).extra (place.InService service step) at refl;
+      at = subst (λ (p : Place). StandsAt p (view_of s.spaces (slot_at s n).directory) (slot_at s n) b) at k.at;
     }
-    by_slot (serving id) is k = absurd (in_no_service _ service step (words_of_none (slot_at s n).registers _ k.words) at)
+    by_slot (serving id) is k = absurd (never_served (slot_at s n).registers (slot_at s n).extra service step k.words at)
 
 -- ---- its step
 
@@ -76,26 +89,59 @@ step_in a n b k service stage is at = service_step a n b k.registers service sta
 
 -- ---- its answer
 
+-- where the handler does not run it is set, and has no copy of a page
+pub plain_upcall : (at : Place) → is_in_handler at ≡ false → upcall_at at ≡ PGFAULT_UPCALL
+plain_upcall place.Guest plain = refl
+plain_upcall (place.InService s step) plain = refl
+plain_upcall (place.InHandler step) plain = absurd (false≢true (sym plain))
+
+pub plain_copy : (at : Place) → is_in_handler at ≡ false → has_copy at ≡ false
+plain_copy place.Guest plain = refl
+plain_copy (place.InService s step) plain = refl
+plain_copy (place.InHandler step) plain = absurd (false≢true (sym plain))
+
+-- and nothing of it counts otherwise than it stands
+pub plain_counts : (at : Place) → is_in_handler at ≡ false → is_plain at ≡ true
+plain_counts place.Guest plain = refl
+plain_counts (place.InService s step) plain = refl
+plain_counts (place.InHandler step) plain = absurd (false≢true (sym plain))
+
+-- the library's pages are the same at each place at which there is a copy, and at each at which there is none
+pub library_moved : (at after : Place) (row : EntryRow) → has_copy at ≡ has_copy after → LibraryPages at row → LibraryPages after row
+library_moved at after row same h = record {
+  stack = h.stack;
+  copy = λ is. h.copy (same ∙ is);
+  no_copy = λ is. h.no_copy (same ∙ is);
+  none = h.none;
+}
+
 -- the environment's own part, when it is back at its program
 pub back_at_guest : {names : Names} {s : SpacesState} {k : Slot} {b : Born} (regs : Regs) → StandsForBorn names s k b →
-    k.rendezvous.receiving ≡ false → b.blocked ≡ false → regs.esp ≡ k.registers.esp →
+    k.rendezvous.receiving ≡ false → b.blocked ≡ false → is_handlers k.registers.esp ≡ false → regs.esp ≡ k.registers.esp →
+    regs.eflags ≡ k.registers.eflags →
     StandsForBorn names s (record k { registers = regs; extra = no_extra })
     (record b { program = guest regs; phase = at_guest; blocked = false })
-back_at_guest {s = s} {k = k} {b = b} regs own silent awake stack =
-    let back = record k { registers = regs; extra = no_extra } in
-    let after = record b { program = guest regs; phase = at_guest; blocked = false } in
+back_at_guest {s = s} {k = k} {b = b} regs own silent awake outside stack flags =
+    let back : Slot = record k { registers = regs; extra = no_extra } in
+    let after : Born = record b { program = guest regs; phase = at_guest; blocked = false } in
+    let there : place_of back ≡ place.Guest = words_of_none regs no_extra (ap is_handlers stack ∙ outside) refl in
+    let plain : is_in_handler (place_of k) ≡ false = handler_runs k.registers k.extra ∙ outside in
     record {
       id = own.id;
       id_small = own.id_small;
       parent = own.parent;
       env_type = own.env_type;
       runs = subst (λ (blocked : Bool). IsStatusFor k.status blocked) awake own.runs;
-      upcall = own.upcall;
+      upcall = own.upcall ∙ plain_upcall (place_of k) plain ∙ sym (ap upcall_at there);
       descriptors = own.descriptors;
       memory = own.memory;
-      regions = own.regions;
-      stack = ap (λ (esp : ℕ). is_resident esp) stack ∙ own.stack;
-      at = subst (λ (p : Place). StandsAt p (rows_of s k.directory) back after) (sym (words_of_none regs no_extra refl))
+      library = library_moved (place_of k) (place_of back) (rows_of s k.directory)
+          (plain_copy (place_of k) plain ∙ sym (ap has_copy there)) own.library;
+      regions_have = own.regions_have;
+      regions_only = own.regions_only;
+      stack = ap (λ (esp : ℕ). is_handlers esp || not (is_resident esp)) stack ∙ own.stack;
+      flags = subst (λ (f : ℕ). f ≡ user_flags f) (sym flags) own.flags;
+      at = subst (λ (p : Place). StandsAt p (view_of s k.directory) back after) (sym there)
           (record {
             program = refl;
             phase = refl;

@@ -1,15 +1,19 @@
 -- A slot of the kernel's goes on standing for one of the abstract system while nothing that is seen of it changes: where it
--- stands in a service, its pages, and whether it is live.
-use Rattle.std.proofs.Common.{◌≡◌, ◌≢◌, ◌∙◌, ℕ, ◌/◌, Bool, true, false, not, List, refl, sym, ap, subst, if◌then◌else◌}
+-- stands in a service or in its handler, its pages, and whether it is live.
+use Rattle.std.proofs.Common.{◌≡◌, ◌≢◌, ◌∙◌, ◌||◌, ℕ, ◌/◌, Bool, true, false, not, List, refl, sym, ap, subst, if◌then◌else◌}
 use Rattle.std.specs.Prelude.{Option, Some, None, is_some}
 use Rattle.std.specs.Option.{option_map}
 use Rattle.jos_base.specs.declared.environment.Status.{Status}
 use Rattle.jos_base.specs.declared.environment.Status.TheVariants.{Runnable, Running, NotRunnable}
+use Rattle.jos_base.specs.declared.memory.PageFault.{PageFault}
+use Rattle.jos_base.specs.declared.registers.Regs.{Regs}
 use Rattle.jos_base.specs.Environments.{Slot, is_free, is_live as is_live_slot}
 use Rattle.jos_base.specs.KernelState.{KernelState, slot_at}
 use Rattle.jos_base.specs.Reach.{Entry}
 use Rattle.jos_base.specs.SpacesState.{SpacesState, Region}
 use Rattle.jos_base.specs.SystemCalls.{has_write}
+use Rattle.lib_os.specs.declared.place.HandlerStep.{HandlerStep}
+use Rattle.lib_os.specs.declared.place.HandlerStep.TheVariants as handler
 use Rattle.lib_os.specs.declared.place.Place.{Place}
 use Rattle.lib_os.specs.declared.place.Place.TheVariants as place
 use Rattle.lib_os.specs.declared.place.Step.{Step}
@@ -18,15 +22,21 @@ use Rattle.lib_os.specs.declared.service.Service.{Service}
 use Rattle.lib_os.specs.declared.service.Service.TheVariants as service
 use Rattle.jos_base.specs.declared.numbers.TheConstants.{NPTENTRIES}
 use Rattle.jos_base.specs.Words.{page_number, upd}
+use Rattle.lib_os.specs.declared.numbers.TheConstants.{PFTEMP}
 use Rattle.lib_os.specs.AbstractState.{AbstractState, Born, Page, own, named, AbstractSlot, free, unborn, born, serving}
 use Rattle.lib_os.specs.AbstractState.{Stage, slot_id, is_live}
+use Rattle.lib_os.specs.LibraryPages.{View, HasFrame, IsOwnWritable, LibraryPages, is_library_region}
 use Rattle.lib_os.specs.Places.{place_of}
-use Rattle.lib_os.specs.StandsFor.{StandsFor, StandsForSlot, StandsForBorn, StandsAt, StandsAtStep, Names}
-use Rattle.lib_os.specs.StandsFor.{EntryRow, rows_of, page_by, page_seen, is_shared, IsStatusFor, MaySend, IsIn, IsTrying, IsWaiting}
-use Rattle.lib_os.specs.StandsFor.{IsLooking, IsAboutToWait, IsReceiving, HasReceived, WaitsOrHas, waits, has, IsAtGuest}
+use Rattle.lib_os.specs.Rows.{Names, EntryRow, rows_of, page_by, page_seen, seen_where, is_programs, is_shared, may_write}
+use Rattle.lib_os.specs.StandsInHandler.{IsAtGuest, IsToCopy, IsCopiedTo, HasWord, IsMappedTwice, CopiesAt}
+use Rattle.lib_os.specs.StandsInHandler.{CopiesOrEnds, copies, ends, IsInHandler, is_refused_by, is_write}
+use Rattle.lib_os.specs.StandsFor.{StandsFor, StandsForSlot, StandsForBorn, StandsAt, StandsAtStep, view_of, IsStatusFor, MaySend}
+use Rattle.lib_os.specs.StandsFor.{IsIn, IsTrying, IsWaiting, IsLooking, IsAboutToWait, IsReceiving, HasReceived, WaitsOrHas, waits, has}
+use Rattle.lib_os.proofs.Logical.{is_plain, programs_beside}
+use Rattle.lib_os.proofs.WordsTell.{is_in_handler}
 use Rattle.jos_base.proofs.Maps.{upd-all}
 
--- ---- where it stands
+-- ---- what is kept in mind
 
 -- a step at which the library keeps in mind what page stands at an address, or that its region has a table
 abbrev pub minds_page_at : Service → Step → Bool
@@ -35,9 +45,11 @@ minds_page_at (service.Send id value va) (step.Pausing perm) = true
 minds_page_at (service.Send id value va) step.ReadingEntry = true
 minds_page_at _ _ = false
 
+-- or a step of the handler, which keeps its stack and its copy in mind
 abbrev pub minds_page : Place → Bool
 minds_page place.Guest = false
 minds_page (place.InService s stands) = minds_page_at s stands
+minds_page (place.InHandler stands) = true
 
 -- the pages that may be sent may be sent by the row after, too, where that is kept in mind
 abbrev pub SendsBy : Bool → EntryRow → EntryRow → Type 0
@@ -45,9 +57,117 @@ SendsBy minds row after = minds ≡ true → (va perm : ℕ) → MaySend row va 
 
 -- the regions that have tables have them after, too, where that is kept in mind
 abbrev pub KeepsTables : Bool → (ℕ → Bool) → (ℕ → Bool) → Type 0
-KeepsTables minds regions after = minds ≡ true → (r : ℕ) → regions r ≡ true → after r ≡ true
+KeepsTables minds tables after = minds ≡ true → (r : ℕ) → tables r ≡ true → after r ≡ true
 
-module _ (row after : EntryRow) (k : Slot) (b : Born) (status : Status) (runs : ℕ) (memory : ℕ → Option Page) (regions : ℕ → Bool) where
+-- the same entries, and the same bytes of pages of one's own
+pub record ViewAlike (v w : View) : Type 0 where
+  pub row : w.row ≡ v.row
+  pub bytes : (p : ℕ) (x : Entry) → v.row p ≡ Some x → is_shared x.perm ≡ false → w.bytes x.frame ≡ v.bytes x.frame
+
+-- what is kept in mind at a place is so after, too
+abbrev pub KeptAt : Place → View → View → Type 0
+KeptAt place.Guest v w = Unit {0}
+KeptAt (place.InService s stands) v w =
+    SendsBy (minds_page_at s stands) v.row w.row × KeepsTables (minds_page_at s stands) v.tables w.tables
+KeptAt (place.InHandler stands) v w = ViewAlike v w
+
+-- there its entries count as they stand
+pub unminded_plain : (stands : Place) → minds_page stands ≡ false → is_plain stands ≡ true
+unminded_plain place.Guest none = refl
+unminded_plain (place.InService s stands) none = refl
+unminded_plain (place.InHandler stands) none = absurd (let contradiction : true ≡ false = none in cc)
+
+-- where nothing is kept in mind
+pub kept_unminded : (stands : Place) (v w : View) → minds_page stands ≡ false → KeptAt stands v w
+kept_unminded place.Guest v w none = tt
+kept_unminded (place.InService s stands) v w none = (
+  (λ is va perm h. absurd (let contradiction : true ≡ false = sym is ∙ none in cc)),
+  (λ is r table. absurd (let contradiction : true ≡ false = sym is ∙ none in cc)),
+)
+kept_unminded (place.InHandler stands) v w none = absurd (let contradiction : true ≡ false = none in cc)
+
+-- where the entries and the tables are the same, and the handler does not run
+pub kept_rows : (stands : Place) (v w : View) → is_in_handler stands ≡ false → w.row ≡ v.row → ((r : ℕ) → w.tables r ≡ v.tables r) → KeptAt stands v w
+kept_rows place.Guest v w outside row tables = tt
+kept_rows (place.InService s stands) v w outside row tables = (
+  (λ is va perm h. subst (λ (r : EntryRow). MaySend r va perm) (sym row) h),
+  (λ is r table. tables r ∙ table),
+)
+kept_rows (place.InHandler stands) v w outside row tables = absurd (let contradiction : true ≡ false = outside in cc)
+
+-- where all is alike
+pub kept_alike : (stands : Place) (v w : View) → ViewAlike v w → ((r : ℕ) → w.tables r ≡ v.tables r) → KeptAt stands v w
+kept_alike place.Guest v w same tables = tt
+kept_alike (place.InService s stands) v w same tables = (
+  (λ is va perm h. subst (λ (r : EntryRow). MaySend r va perm) (sym same.row) h),
+  (λ is r table. tables r ∙ table),
+)
+kept_alike (place.InHandler stands) v w same tables = same
+
+-- ---- where it stands in its handler
+
+module _ (v w : View) (same : ViewAlike v w) where
+  row_at : (p : ℕ) (o : Option Entry) → v.row p ≡ o → w.row p ≡ o
+  row_at p o is = ap (λ (r : EntryRow). r p) same.row ∙ is
+
+  to_copy_kept : (va : ℕ) → IsToCopy v.row va → IsToCopy w.row va
+  to_copy_kept va h = record { entry = h.entry; stands = row_at _ _ h.stands; own_page = h.own_page; copied = h.copied }
+
+  copied_kept : (n va : ℕ) → IsCopiedTo n v va → IsCopiedTo n w va
+  copied_kept n va h = record {
+    source = h.source;
+    copy = h.copy;
+    source_is = row_at _ _ h.source_is;
+    copy_is = row_at _ _ h.copy_is;
+    source_own = h.source_own;
+    copy_own = h.copy_own;
+    same = λ i lt. rw (same.bytes _ h.copy h.copy_is h.copy_own, same.bytes _ h.source h.source_is h.source_own) (h.same i lt);
+  }
+
+  word_kept : (va index word : ℕ) → HasWord v va index word → HasWord w va index word
+  word_kept va index word h = record {
+    entry = h.entry;
+    stands = row_at _ _ h.stands;
+    own_page = h.own_page;
+    word_is = rw (same.bytes _ h.entry h.stands h.own_page) h.word_is;
+  }
+
+  twice_kept : (va : ℕ) → IsMappedTwice v va → IsMappedTwice w va
+  twice_kept va h = record {
+    here = h.here;
+    there = h.there;
+    here_is = row_at _ _ h.here_is;
+    there_is = row_at _ _ h.there_is;
+    own_page = h.own_page;
+    own_copy = h.own_copy;
+    writes = h.writes;
+    frames = h.frames;
+  }
+
+  copies_kept : (h : HandlerStep) (va : ℕ) → CopiesAt h v va → CopiesAt h w va
+  copies_kept handler.Entered va at = to_copy_kept va at
+  copies_kept (handler.ReadingError found) va at = (at.0, to_copy_kept va at.1)
+  copies_kept (handler.Looking found) va at = (at.0, to_copy_kept va at.1)
+  copies_kept (handler.Taking found) va at = (at.0, to_copy_kept va at.1)
+  copies_kept (handler.Loading found index) va at = (at.0, to_copy_kept va at.1, copied_kept _ va at.2)
+  copies_kept (handler.Storing found index word) va at = (at.0, to_copy_kept va at.1, copied_kept _ va at.2, word_kept va index word at.3)
+  copies_kept (handler.MappingOver found) va at = (at.0, to_copy_kept va at.1, copied_kept _ va at.2)
+  copies_kept (handler.Unmapping found) va at = (at.0, twice_kept va at.1)
+  copies_kept handler.Restoring va at = tt
+  copies_kept _ va at = absurd at
+
+  frame_kept : (esp : ℕ) (fault : PageFault) (regs : Regs) → HasFrame v esp fault regs → HasFrame w esp fault regs
+  frame_kept esp fault regs h = record {
+    at = h.at;
+    entry = h.entry;
+    stands = row_at _ _ h.stands;
+    own_page = h.own_page;
+    bytes = λ i lt. rw (same.bytes _ h.entry h.stands h.own_page) (h.bytes i lt);
+  }
+
+-- ---- where it stands
+
+module _ (v w : View) (k : Slot) (b : Born) (status : Status) (runs : ℕ) (memory : ℕ → Option Page) (regions : ℕ → Bool) where
   abbrev kernel_slot : Slot
   kernel_slot = record k { status = status; runs = runs }
 
@@ -60,8 +180,8 @@ module _ (row after : EntryRow) (k : Slot) (b : Born) (status : Status) (runs : 
   guest_kept : IsAtGuest k b → IsAtGuest kernel_slot environment
   guest_kept h = record { program = h.program; phase = h.phase; words = h.words; silent = h.silent; awake = h.awake }
 
-  trying_kept : (id value va perm : ℕ) → SendsBy true row after → IsTrying row k b id value va perm →
-      IsTrying after kernel_slot environment id value va perm
+  trying_kept : (id value va perm : ℕ) → SendsBy true v.row w.row → IsTrying v.row k b id value va perm →
+      IsTrying w.row kernel_slot environment id value va perm
   trying_kept id value va perm sends h =
       record { is_in = in_kept _ _ h.is_in; some = h.some; other = h.other; page = sends refl va perm h.page }
 
@@ -102,9 +222,9 @@ module _ (row after : EntryRow) (k : Slot) (b : Born) (status : Status) (runs : 
   waits_kept va from (waits h) = waits (receiving_kept va from h)
   waits_kept va from (has h) = has (received_kept va from h)
 
-  step_kept : (s : Service) (stands : Step) → SendsBy (minds_page_at s stands) row after →
-      KeepsTables (minds_page_at s stands) b.regions regions → StandsAtStep row k b s stands →
-      StandsAtStep after kernel_slot environment s stands
+  step_kept : (s : Service) (stands : Step) → SendsBy (minds_page_at s stands) v.row w.row →
+      KeepsTables (minds_page_at s stands) v.tables w.tables → StandsAtStep v k b s stands →
+      StandsAtStep w kernel_slot environment s stands
   step_kept s step.Entered sends tables h = in_kept _ _ h
   step_kept (service.Wait id) (step.Trying perm) sends tables h = waiting_kept id h
   step_kept (service.Wait id) (step.Pausing perm) sends tables h = waiting_kept id h
@@ -118,22 +238,65 @@ module _ (row after : EntryRow) (k : Slot) (b : Born) (status : Status) (runs : 
   step_kept (service.Receive va from) (step.ReadingPerm id value sender) sends tables h = (h.0, h.1, h.2, received_kept va from h.3)
   step_kept _ _ sends tables h = absurd h
 
-  pub at_kept : (stands : Place) → SendsBy (minds_page stands) row after → KeepsTables (minds_page stands) b.regions regions →
-      StandsAt stands row k b →
-      StandsAt stands after kernel_slot environment
-  at_kept place.Guest sends tables h = guest_kept h
-  at_kept (place.InService s stands) sends tables h = step_kept s stands sends tables h
+  way_kept : ViewAlike v w → (h : HandlerStep) (fault : PageFault) (regs : Regs) → CopiesOrEnds h v k b fault regs →
+      CopiesOrEnds h w kernel_slot environment fault regs
+  way_kept same h fault regs (copies way) = copies (record {
+    guest = record { program = way.guest.program; phase = way.guest.phase; words = way.guest.words; silent = way.guest.silent; awake = way.guest.awake };
+    error = way.error;
+    inside = way.inside;
+    at = copies_kept v w same h fault.va way.at;
+  })
+  way_kept same h fault regs (ends way) = ends (record {
+    program = way.program;
+    phase = way.phase;
+    words = way.words;
+    silent = way.silent;
+    awake = way.awake;
+    inside = way.inside;
+    refused = ap (λ (r : EntryRow). is_refused_by (is_write fault.error) (r (page_number fault.va))) same.row ∙ way.refused;
+    present = λ error. ap (λ (r : EntryRow). is_some (r (page_number fault.va))) same.row ∙ way.present error;
+    at = way.at;
+  })
+
+  handler_kept : ViewAlike v w → (h : HandlerStep) → IsInHandler h v k b → IsInHandler h w kernel_slot environment
+  handler_kept same h at = record {
+    fault = at.fault;
+    regs = at.regs;
+    frame = frame_kept v w same k.registers.esp at.fault at.regs at.frame;
+    small = at.small;
+    flags = at.flags;
+    stack = at.stack;
+    way = way_kept same h at.fault at.regs at.way;
+  }
+
+  pub at_kept : (stands : Place) → KeptAt stands v w → StandsAt stands v k b → StandsAt stands w kernel_slot environment
+  at_kept place.Guest kept h = guest_kept h
+  at_kept (place.InService s stands) kept h = step_kept s stands kept.0 kept.1 h
+  at_kept (place.InHandler stands) kept h = handler_kept kept stands h
+
+-- ---- the library's pages
 
 -- by the same row
-pub sends_by_same : (minds : Bool) (row after : EntryRow) → after ≡ row → SendsBy minds row after
-sends_by_same minds row after same true-is va perm h = subst (λ (r : EntryRow). MaySend r va perm) (sym same) h
+pub library_alike : (at : Place) (row after : EntryRow) → after ≡ row → LibraryPages at row → LibraryPages at after
+library_alike at row after same h = subst (λ (r : EntryRow). LibraryPages at r) (sym same) h
 
--- where no page is kept in mind
-pub sends_unminded : (minds : Bool) (row after : EntryRow) → minds ≡ false → SendsBy minds row after
-sends_unminded minds row after no_page is va perm h = absurd (let contradiction : true ≡ false = sym is ∙ no_page in cc)
+own_alike : (row after : EntryRow) (p : ℕ) → after p ≡ row p → IsOwnWritable row p → IsOwnWritable after p
+own_alike row after p same h = record { entry = h.entry; stands = same ∙ h.stands; own_page = h.own_page; writes = h.writes }
 
-pub tables_unminded : (minds : Bool) (regions after : ℕ → Bool) → minds ≡ false → KeepsTables minds regions after
-tables_unminded minds regions after no_page is r table = absurd (let contradiction : true ≡ false = sym is ∙ no_page in cc)
+-- A page that a program may have can be another.
+pub library_put : (at : Place) (row after : EntryRow) (p : ℕ) → is_programs p ≡ true → ((q : ℕ) → q ≢ p → after q ≡ row q) →
+    LibraryPages at row → LibraryPages at after
+library_put at row after p inside same h =
+    let beside = programs_beside p inside in
+    let copy_same : after (page_number PFTEMP) ≡ row (page_number PFTEMP) = same _ (λ e. beside.0 (sym e)) in
+    record {
+      stack = own_alike row after _ (same _ (λ e. beside.1 (sym e))) h.stack;
+      copy = λ is. own_alike row after _ copy_same (h.copy is);
+      no_copy = λ is. copy_same ∙ h.no_copy is;
+      none = λ q outside no_stack no_copy.
+          same q (λ e. absurd (let contradiction : false ≡ true = sym outside ∙ ap is_programs e ∙ inside in cc))
+          ∙ h.none q outside no_stack no_copy;
+    }
 
 -- ---- what is seen of a space
 
@@ -144,6 +307,9 @@ pub record SeenAlike (names after : Names) (s t : SpacesState) (d : ℕ) : Type 
   pub named_so : (p : ℕ) (x : Entry) → rows_of s d p ≡ Some x → is_shared x.perm ≡ true → after.name x.frame ≡ names.name x.frame
   pub regions : (r : ℕ) → is_some (t.regions d r) ≡ is_some (s.regions d r)
 
+pub view_alike : {names after : Names} {s t : SpacesState} {d : ℕ} → SeenAlike names after s t d → ViewAlike (view_of s d) (view_of t d)
+view_alike h = record { row = h.rows; bytes = h.bytes }
+
 -- the page by an entry whose frame has the same bytes, or the same name
 pub page_alike : (names after : Names) (bytes bytes_after : ℕ → List ℕ) (x : Entry) →
     (is_shared x.perm ≡ false → bytes_after x.frame ≡ bytes x.frame) →
@@ -151,10 +317,10 @@ pub page_alike : (names after : Names) (bytes bytes_after : ℕ → List ℕ) (x
 page_alike names after bytes bytes_after x bytes_same name_same = by_sharing (is_shared x.perm) bytes_same name_same
   where
     by_sharing : (c : Bool) → (c ≡ false → bytes_after x.frame ≡ bytes x.frame) → (c ≡ true → after.name x.frame ≡ names.name x.frame) →
-        (if c then named (after.name x.frame) (has_write x.perm) else own (bytes_after x.frame) (has_write x.perm))
-        ≡ (if c then named (names.name x.frame) (has_write x.perm) else own (bytes x.frame) (has_write x.perm))
+        (if c then named (after.name x.frame) (has_write x.perm) else own (bytes_after x.frame) (may_write x.perm))
+        ≡ (if c then named (names.name x.frame) (has_write x.perm) else own (bytes x.frame) (may_write x.perm))
     by_sharing true bytes_is name_is = ap (λ n. named n (has_write x.perm)) (name_is refl)
-    by_sharing false bytes_is name_is = ap (λ (l : List ℕ). own l (has_write x.perm)) (bytes_is refl)
+    by_sharing false bytes_is name_is = ap (λ (l : List ℕ). own l (may_write x.perm)) (bytes_is refl)
 
 -- what two functions make of one value
 pub option_map_alike : {X Y : Type 0} (f g : X → Y) (o after : Option X) → after ≡ o → ((x : X) → o ≡ Some x → g x ≡ f x) →
@@ -168,8 +334,9 @@ option_map_alike {X = X} f g o after same alike = ap (λ (r : Option X). option_
 pub seen_alike : {names after : Names} {s t : SpacesState} {d : ℕ} → SeenAlike names after s t d → (p : ℕ) →
     page_seen after t d p ≡ page_seen names s d p
 seen_alike {names = names} {after = after} {s = s} {t = t} {d = d} h p =
-    option_map_alike (page_by names s.pages) (page_by after t.pages) (rows_of s d p) (rows_of t d p) (ap (λ (r : EntryRow). r p) h.rows)
-    (λ x at. page_alike names after s.pages t.pages x (h.bytes p x at) (h.named_so p x at))
+    ap (seen_where (is_programs p))
+    (option_map_alike (page_by names s.pages) (page_by after t.pages) (rows_of s d p) (rows_of t d p) (ap (λ (r : EntryRow). r p) h.rows)
+    (λ x at. page_alike names after s.pages t.pages x (h.bytes p x at) (h.named_so p x at)))
 
 pub born_stands : {names after : Names} {s t : SpacesState} (k : Slot) (b : Born) → SeenAlike names after s t k.directory →
     StandsForBorn names s k b → StandsForBorn after t k b
@@ -182,9 +349,13 @@ born_stands {names = names} {after = after} {s = s} {t = t} k b same h = record 
   upcall = h.upcall;
   descriptors = h.descriptors;
   memory = λ p. h.memory p ∙ sym (seen_alike same p);
-  regions = λ r. h.regions r ∙ sym (same.regions r);
+  library = library_alike (place_of k) (rows_of s k.directory) (rows_of t k.directory) same.rows h.library;
+  regions_have = λ r has_it. same.regions r ∙ h.regions_have r has_it;
+  regions_only = λ r table. h.regions_only r (sym (same.regions r) ∙ table);
   stack = h.stack;
-  at = subst (λ (row : EntryRow). StandsAt (place_of k) row k b) (sym same.rows) h.at;
+  flags = h.flags;
+  at = at_kept (view_of s k.directory) (view_of t k.directory) k b k.status k.runs b.memory b.regions (place_of k)
+      (kept_alike (place_of k) (view_of s k.directory) (view_of t k.directory) (view_alike same) same.regions) h.at;
 }
 
 -- ---- who is live
@@ -242,6 +413,7 @@ slot_stands names after s t k (serving id) h same = record {
   status = h.status;
   silent = h.silent;
   words = h.words;
+  stack = h.stack;
   empty = λ p. ap (λ (r : EntryRow). r p) (same refl).rows ∙ h.empty p;
   tables = λ r. is_none (t.regions k.directory r) ((same refl).regions r ∙ ap is_some (h.tables r));
 }
@@ -269,21 +441,27 @@ status_born {s = s} k b status runs so h = record {
   upcall = h.upcall;
   descriptors = h.descriptors;
   memory = h.memory;
-  regions = h.regions;
+  library = h.library;
+  regions_have = h.regions_have;
+  regions_only = h.regions_only;
   stack = h.stack;
-  at = at_kept (rows_of s k.directory) (rows_of s k.directory) k b status runs b.memory b.regions (place_of k)
-      (sends_by_same (minds_page (place_of k)) (rows_of s k.directory) (rows_of s k.directory) refl) (λ minds r table. table) h.at;
+  flags = h.flags;
+  at = at_kept (view_of s k.directory) (view_of s k.directory) k b status runs b.memory b.regions (place_of k)
+      (kept_alike (place_of k) (view_of s k.directory) (view_of s k.directory) (record { row = refl; bytes = λ p x is own_page. refl }) (λ r. refl)) h.at;
 }
 
--- one of its pages may be another
+-- One of its pages may be another, in a space that has tables for its regions.
+pub record HasTables (s : SpacesState) (d : ℕ) (regions : ℕ → Bool) : Type 0 where
+  pub have : (r : ℕ) → regions r ≡ true → is_some (s.regions d r) ≡ true
+  pub only : (r : ℕ) → is_some (s.regions d r) ≡ true → (regions r || is_library_region r) ≡ true
+
 pub page_put : (names after : Names) (s t : SpacesState) (k : Slot) (b : Born) (p : ℕ) (page : Option Page) (regions : ℕ → Bool) →
     StandsForBorn names s k b → page ≡ page_seen after t k.directory p →
     ((q : ℕ) → q ≢ p → page_seen after t k.directory q ≡ page_seen names s k.directory q) →
-    ((r : ℕ) → regions r ≡ is_some (t.regions k.directory r)) →
-    SendsBy (minds_page (place_of k)) (rows_of s k.directory) (rows_of t k.directory) →
-    KeepsTables (minds_page (place_of k)) b.regions regions →
+    LibraryPages (place_of k) (rows_of t k.directory) → HasTables t k.directory regions →
+    KeptAt (place_of k) (view_of s k.directory) (view_of t k.directory) →
     StandsForBorn after t k (record b { memory = upd b.memory p page; regions = regions })
-page_put names after s t k b p page regions h here there tables sends kept = record {
+page_put names after s t k b p page regions h here there library tables kept = record {
   id = h.id;
   id_small = h.id_small;
   parent = h.parent;
@@ -293,7 +471,10 @@ page_put names after s t k b p page regions h here there tables sends kept = rec
   descriptors = h.descriptors;
   memory = upd-all (λ q (v : Option Page). v ≡ page_seen after t k.directory q) b.memory p page here
       (λ q ne. h.memory q ∙ sym (there q ne));
-  regions = tables;
+  library = library;
+  regions_have = tables.have;
+  regions_only = tables.only;
   stack = h.stack;
-  at = at_kept (rows_of s k.directory) (rows_of t k.directory) k b k.status k.runs (upd b.memory p page) regions (place_of k) sends kept h.at;
+  flags = h.flags;
+  at = at_kept (view_of s k.directory) (view_of t k.directory) k b k.status k.runs (upd b.memory p page) regions (place_of k) kept h.at;
 }

@@ -1,7 +1,8 @@
 -- The kernel's state goes on standing for the abstract one where one slot's environment changes, where nothing that is seen
 -- of address spaces does, and where turns begin and end.
 use Rattle.std.proofs.Common.{◌≡◌, ◌≢◌, ◌∙◌, ℕ, ◌+◌, ◌%◌, ◌^◌, Bool, true, false, List, Option, refl, sym, ap, subst, if◌then◌else◌}
-use Rattle.std.specs.Prelude.{Some}
+use Rattle.std.specs.Prelude.{Some, None}
+use Rattle.jos_base.specs.Reach.{Entry}
 use Rattle.jos_base.specs.Words.{upd}
 use Rattle.jos_base.specs.declared.environment.EnvType.TheVariants.{User}
 use Rattle.jos_base.specs.declared.environment.Status.{Status}
@@ -12,8 +13,13 @@ use Rattle.jos_base.specs.KernelState.{KernelState, HasSpaces, slot_at, with_slo
 use Rattle.jos_base.specs.SpacesState.{SpacesState, directories}
 use Rattle.lib_os.specs.AbstractState.{AbstractState, Born, AbstractSlot, free, unborn, born, serving, is_live, with_born, with_printed}
 use Rattle.lib_os.specs.InOrder.{HasOneUse, IsInOrder}
-use Rattle.lib_os.specs.StandsFor.{StandsFor, StandsForSlot, StandsForBorn, Names, Rows, rows_of, IsStatusFor, IsTabled, AgreeWhereShared, AreNamed, AreUsers}
+use Rattle.lib_os.specs.Rows.{Names, Rows, EntryRow, rows_of, counted, logical, logical_by}
+use Rattle.lib_os.specs.StandsFor.{StandsFor, StandsForSlot, StandsForBorn, IsStatusFor, IsTabled}
+use Rattle.lib_os.specs.declared.place.Place.{Place}
+use Rattle.lib_os.specs.Places.{place_of}
 use Rattle.lib_os.proofs.Effects.{Quiet}
+use Rattle.lib_os.proofs.EntriesStand.{RowsStand, rows_stand, rows_same, rows_bytes}
+use Rattle.lib_os.proofs.Logical.{is_plain, counted_plain, logical_alike}
 use Rattle.lib_os.proofs.SlotsStand.{SeenAlike, slot_stands, born_at, born_live, live_stands, status_born}
 use Rattle.jos_base.proofs.Maps.{upd-other, upd-alike, upd-all, upd-both}
 
@@ -110,45 +116,84 @@ tabled_freed {slots = slots} {last = last} h n id = record {
         ((λ is. absurd (let contradiction : false ≡ true = is in cc)), (λ other. refl), (λ is. absurd (let contradiction : false ≡ true = is in cc)))
         (λ m ne. (h.ids m, h.servers m, h.running m))
 
+-- ---- entries as they count
+
+-- at two places they count alike
+abbrev pub CountsAlike : Place → Place → Type 0
+CountsAlike at after = (row : EntryRow) (p : ℕ) → counted after row p ≡ counted at row p
+
+pub plain_alike : (at after : Place) → is_plain at ≡ true → is_plain after ≡ true → CountsAlike at after
+plain_alike at after plain plain_after row p = counted_plain after row plain_after p ∙ sym (counted_plain at row plain p)
+
+pub same_place : (at after : Place) → after ≡ at → CountsAlike at after
+same_place at after same row p = ap (λ (x : Place). counted x row p) same
+
+-- Where only one slot is another, in the same space, and stands where its entries count alike, all entries count as they did.
+pub set_counts : (s : KernelState) (n : ℕ) (k : Slot) → is_live_slot k ≡ is_live_slot (slot_at s n) → k.directory ≡ (slot_at s n).directory →
+    CountsAlike (place_of (slot_at s n)) (place_of k) → (m p : ℕ) →
+    logical s.spaces (upd s.environments.slots n k) m p ≡ logical s.spaces s.environments.slots m p
+set_counts s n k live directory counts =
+    upd-all (λ m (x : Slot). (p : ℕ) → logical_by (is_live_slot x) (counted (place_of x) (rows_of s.spaces x.directory)) p ≡ logical s.spaces s.environments.slots m p)
+    s.environments.slots n k here (λ m ne p. refl)
+  where
+    here : (p : ℕ) → logical_by (is_live_slot k) (counted (place_of k) (rows_of s.spaces k.directory)) p ≡ logical s.spaces s.environments.slots n p
+    here p =
+        (λ i. logical_by (live i) (counted (place_of k) (rows_of s.spaces (directory i))) p)
+        ∙ ap (λ (o : Option Entry). if is_live_slot (slot_at s n) then o else None) (counts (rows_of s.spaces (slot_at s n).directory) p)
+
+rows_set : {names : Names} {s : KernelState} {a : AbstractState} → StandsFor names s a → (n : ℕ) (b : Born) → a.slots n ≡ born b → (k : Slot) →
+    is_live_slot k ≡ is_live_slot (slot_at s n) → k.directory ≡ (slot_at s n).directory → CountsAlike (place_of (slot_at s n)) (place_of k) →
+    RowsStand names s.spaces.pages a.shared a.next_name (logical s.spaces (upd s.environments.slots n k))
+rows_set {s = s} h n b at k live directory counts =
+    rows_same (logical s.spaces s.environments.slots) (logical s.spaces (upd s.environments.slots n k)) (set_counts s n k live directory counts) (rows_stand h)
+
 -- the environment in a slot is another, in the same space
 pub slot_changed : {names : Names} {s : KernelState} {a : AbstractState} → StandsFor names s a → (n : ℕ) (b : Born) →
     a.slots n ≡ born b → (k : Slot) (after : Born) → k.directory ≡ (slot_at s n).directory → Settles (slot_at s n) k →
+    is_plain (place_of (slot_at s n)) ≡ true → is_plain (place_of k) ≡ true →
     StandsForBorn names s.spaces k after → StandsFor names (with_slot_at s n k) (with_born a n after)
-slot_changed {names = names} {s = s} {a = a} h n b at k after directory settles so = record {
-  slots = upd-both (λ m (x : Slot) (y : AbstractSlot). StandsForSlot names s.spaces x y) s.environments.slots a.slots n k (born after) so
-      (λ m ne. h.slots m);
-  apart = h.apart;
-  named = h.named;
-  users = h.users;
-  free_slots = h.free_slots;
-  first = upd-other a.slots n (born after) 0 (born_not_first h n b at) ∙ h.first;
-  server = h.server;
-  input = h.input;
-  last = h.last;
-  turns = h.turns;
-  tabled = tabled_set h.tabled n k (born_live (born_at h n b at)) settles;
-  in_order = slot_in_order s n k (born_live so ∙ sym (born_live (born_at h n b at))) directory h.in_order;
-}
+slot_changed {names = names} {s = s} {a = a} h n b at k after directory settles plain plain_after so =
+    let rows = rows_set h n b at k (born_live so ∙ sym (born_live (born_at h n b at))) directory
+    (plain_alike (place_of (slot_at s n)) (place_of k) plain plain_after) in
+    record {
+      slots = upd-both (λ m (x : Slot) (y : AbstractSlot). StandsForSlot names s.spaces x y) s.environments.slots a.slots n k (born after) so
+          (λ m ne. h.slots m);
+      apart = rows.apart;
+      named = rows.named;
+      users = rows.users;
+      whole = rows.whole;
+      free_slots = h.free_slots;
+      first = upd-other a.slots n (born after) 0 (born_not_first h n b at) ∙ h.first;
+      server = h.server;
+      input = h.input;
+      last = h.last;
+      turns = h.turns;
+      tabled = tabled_set h.tabled n k (born_live (born_at h n b at)) settles;
+      in_order = slot_in_order s n k (born_live so ∙ sym (born_live (born_at h n b at))) directory h.in_order;
+    }
 
 -- only the kernel's slot is another
 pub slot_replaced : {names : Names} {s : KernelState} {a : AbstractState} → StandsFor names s a → (n : ℕ) (b : Born) →
-    a.slots n ≡ born b → (k : Slot) → k.directory ≡ (slot_at s n).directory → Settles (slot_at s n) k → StandsForBorn names s.spaces k b →
-    StandsFor names (with_slot_at s n k) a
-slot_replaced {names = names} {s = s} {a = a} h n b at k directory settles so = record {
-  slots = upd-all (λ m (x : Slot). StandsForSlot names s.spaces x (a.slots m)) s.environments.slots n k
-      (subst (λ (y : AbstractSlot). StandsForSlot names s.spaces k y) (sym at) so) (λ m ne. h.slots m);
-  apart = h.apart;
-  named = h.named;
-  users = h.users;
-  free_slots = h.free_slots;
-  first = h.first;
-  server = h.server;
-  input = h.input;
-  last = h.last;
-  turns = h.turns;
-  tabled = tabled_set h.tabled n k (born_live (born_at h n b at)) settles;
-  in_order = slot_in_order s n k (born_live so ∙ sym (born_live (born_at h n b at))) directory h.in_order;
-}
+    a.slots n ≡ born b → (k : Slot) → k.directory ≡ (slot_at s n).directory → Settles (slot_at s n) k →
+    CountsAlike (place_of (slot_at s n)) (place_of k) → StandsForBorn names s.spaces k b → StandsFor names (with_slot_at s n k) a
+slot_replaced {names = names} {s = s} {a = a} h n b at k directory settles counts so =
+    let rows = rows_set h n b at k (born_live so ∙ sym (born_live (born_at h n b at))) directory counts in
+    record {
+      slots = upd-all (λ m (x : Slot). StandsForSlot names s.spaces x (a.slots m)) s.environments.slots n k
+          (subst (λ (y : AbstractSlot). StandsForSlot names s.spaces k y) (sym at) so) (λ m ne. h.slots m);
+      apart = rows.apart;
+      named = rows.named;
+      users = rows.users;
+      whole = rows.whole;
+      free_slots = h.free_slots;
+      first = h.first;
+      server = h.server;
+      input = h.input;
+      last = h.last;
+      turns = h.turns;
+      tabled = tabled_set h.tabled n k (born_live (born_at h n b at)) settles;
+      in_order = slot_in_order s n k (born_live so ∙ sym (born_live (born_at h n b at))) directory h.in_order;
+    }
 
 -- ---- the other slots
 
@@ -175,6 +220,7 @@ printed_stands h bytes = record {
   apart = h.apart;
   named = h.named;
   users = h.users;
+  whole = h.whole;
   free_slots = h.free_slots;
   first = h.first;
   server = h.server;
@@ -195,7 +241,7 @@ runnable_settles k = stopped_settles k (record k { status = Runnable }) refl ref
 pub status_stands : {names : Names} {s : KernelState} {a : AbstractState} → StandsFor names s a → (n : ℕ) (b : Born) →
     a.slots n ≡ born b → b.blocked ≡ false → StandsFor names (with_status s n Runnable) a
 status_stands {s = s} h n b at awake =
-    slot_replaced h n b at (record (slot_at s n) { status = Runnable }) refl (runnable_settles (slot_at s n))
+    slot_replaced h n b at (record (slot_at s n) { status = Runnable }) refl (runnable_settles (slot_at s n)) (λ row p. refl)
     (status_born (slot_at s n) b Runnable (slot_at s n).runs (awake_runs b.blocked awake).0 (born_at h n b at))
 
 pub turn_begun_stands : {names : Names} {s : KernelState} {a : AbstractState} → StandsFor names s a → (n : ℕ) (b : Born) →
@@ -205,12 +251,14 @@ turn_begun_stands {names = names} {s = s} {a = a} h n b at awake none =
     let runs = ((slot_at s n).runs + 1) % 2 ^ 32 in
     let k : Slot = record (slot_at s n) { status = Running; runs = runs } in
     let own = status_born (slot_at s n) b Running runs (awake_runs b.blocked awake).1 (born_at h n b at) in
+    let rows = rows_set h n b at k (born_live own ∙ sym (born_live (born_at h n b at))) refl (λ row p. refl) in
     record {
       slots = upd-all (λ m (x : Slot). StandsForSlot names s.spaces x (a.slots m)) s.environments.slots n k
           (subst (λ (y : AbstractSlot). StandsForSlot names s.spaces k y) (sym at) own) (λ m ne. h.slots m);
-      apart = h.apart;
-      named = h.named;
-      users = h.users;
+      apart = rows.apart;
+      named = rows.named;
+      users = rows.users;
+      whole = rows.whole;
       free_slots = h.free_slots;
       first = h.first;
       server = h.server;
@@ -253,7 +301,7 @@ turn_ended_stands {names = names} {s = s} {a = a} h n = by_running (is_running (
         absurd (let contradiction : true ≡ false = sym running ∙ ap (λ (x : Slot). is_running x.status) so in cc)
     by_slot running (unborn id parent) at so = absurd so
     by_slot running (born b) at so =
-        slot_replaced h n b at (record (slot_at s n) { status = Runnable }) refl (runnable_settles (slot_at s n))
+        slot_replaced h n b at (record (slot_at s n) { status = Runnable }) refl (runnable_settles (slot_at s n)) (λ row p. refl)
         (status_born (slot_at s n) b Runnable (slot_at s n).runs (running_awake (slot_at s n).status b.blocked so.runs running) so)
     by_slot running (serving id) at so =
         absurd (let contradiction : true ≡ false = sym running ∙ ap (λ (x : Status). is_running x) so.status in cc)
@@ -274,15 +322,69 @@ quiet_alike names quiet d = record {
 
 pub quiet_stands : {names : Names} {s : KernelState} {a : AbstractState} {sp : SpacesState} → StandsFor names s a →
     Quiet s.spaces sp → IsInOrder (with_spaces s sp) → StandsFor names (with_spaces s sp) a
-quiet_stands {names = names} {s = s} {a = a} {sp = sp} h quiet in_order = record {
-  slots = λ m. slot_stands names names s.spaces sp (slot_at s m) (a.slots m) (h.slots m)
-      (λ live. quiet_alike names quiet (slot_at s m).directory);
-  apart = subst (λ (r : Rows). AgreeWhereShared r) (sym quiet.rows) h.apart;
-  named = subst (λ (r : Rows). AreNamed names sp.pages a.shared a.next_name r) (sym quiet.rows)
-      (subst (λ (pages : ℕ → List ℕ). AreNamed names pages a.shared a.next_name (rows_of s.spaces)) (sym quiet.pages) h.named);
-  users = subst (λ (r : Rows). AreUsers r) (sym quiet.rows) h.users;
+quiet_stands {names = names} {s = s} {a = a} {sp = sp} h quiet in_order =
+    let rows = rows_bytes sp.pages (λ n p x is. ap (λ (pages : ℕ → List ℕ). pages x.frame) quiet.pages)
+    (rows_same (logical s.spaces s.environments.slots) (logical sp s.environments.slots)
+    (λ n p. logical_alike s.spaces sp s.environments.slots s.environments.slots n refl refl
+    (λ live. ap (λ (r : Rows). r (slot_at s n).directory) quiet.rows) p) (rows_stand h)) in
+    record {
+      slots = λ m. slot_stands names names s.spaces sp (slot_at s m) (a.slots m) (h.slots m)
+          (λ live. quiet_alike names quiet (slot_at s m).directory);
+      apart = rows.apart;
+      named = rows.named;
+      users = rows.users;
+      whole = rows.whole;
+      free_slots = h.free_slots;
+      first = h.first;
+      server = h.server;
+      input = h.input;
+      last = h.last;
+      turns = h.turns;
+      tabled = h.tabled;
+      in_order = in_order;
+    }
+
+-- ---- one environment's space, and its slot
+
+-- The spaces are others, of which only one environment's is seen to change, and its slot with it.
+pub own_moves : {names after : Names} {s : KernelState} {a : AbstractState} → StandsFor names s a → (n : ℕ) (b : Born) →
+    a.slots n ≡ born b → (sp : SpacesState) (k : Slot) (c : Born) (shared : ℕ → List ℕ) (next : ℕ) →
+    k.directory ≡ (slot_at s n).directory → Settles (slot_at s n) k →
+    ((d : ℕ) → d ≢ (slot_at s n).directory → SeenAlike names after s.spaces sp d) → StandsForBorn after sp k c →
+    RowsStand after sp.pages shared next (logical sp (upd s.environments.slots n k)) →
+    IsInOrder (with_slot_at (with_spaces s sp) n k) →
+    StandsFor after (with_slot_at (with_spaces s sp) n k) (with_born (record a { shared = shared; next_name = next }) n c)
+own_moves {names = names} {after = after} {s = s} {a = a} h n b at sp k c shared next directory settles others mine rows in_order = record {
+  slots = upd-both (λ m (x : Slot) (y : AbstractSlot). StandsForSlot after sp x y) s.environments.slots a.slots n k (born c) mine
+      (others_stand h n b at others);
+  apart = rows.apart;
+  named = rows.named;
+  users = rows.users;
+  whole = rows.whole;
   free_slots = h.free_slots;
-  first = h.first;
+  first = upd-other a.slots n (born c) 0 (born_not_first h n b at) ∙ h.first;
+  server = h.server;
+  input = h.input;
+  last = h.last;
+  turns = h.turns;
+  tabled = tabled_set h.tabled n k (born_live (born_at h n b at)) settles;
+  in_order = in_order;
+}
+
+-- the same where its slot is what it was
+pub space_moves : {names after : Names} {s : KernelState} {a : AbstractState} → StandsFor names s a → (n : ℕ) (b : Born) →
+    a.slots n ≡ born b → (sp : SpacesState) (c : Born) (shared : ℕ → List ℕ) (next : ℕ) →
+    ((d : ℕ) → d ≢ (slot_at s n).directory → SeenAlike names after s.spaces sp d) → StandsForBorn after sp (slot_at s n) c →
+    RowsStand after sp.pages shared next (logical sp s.environments.slots) → IsInOrder (with_spaces s sp) →
+    StandsFor after (with_spaces s sp) (with_born (record a { shared = shared; next_name = next }) n c)
+space_moves {names = names} {after = after} {s = s} {a = a} h n b at sp c shared next others mine rows in_order = record {
+  slots = upd-all (λ m (y : AbstractSlot). StandsForSlot after sp (slot_at s m) y) a.slots n (born c) mine (others_stand h n b at others);
+  apart = rows.apart;
+  named = rows.named;
+  users = rows.users;
+  whole = rows.whole;
+  free_slots = h.free_slots;
+  first = upd-other a.slots n (born c) 0 (born_not_first h n b at) ∙ h.first;
   server = h.server;
   input = h.input;
   last = h.last;
@@ -290,3 +392,15 @@ quiet_stands {names = names} {s = s} {a = a} {sp = sp} h quiet in_order = record
   tabled = h.tabled;
   in_order = in_order;
 }
+
+-- Entries of other slots count as they did, where only one environment's space is seen to change.
+pub others_count : {names after : Names} {s : KernelState} {a : AbstractState} {sp : SpacesState} → StandsFor names s a →
+    (n : ℕ) (b : Born) → a.slots n ≡ born b → (k : Slot) → ((d : ℕ) → d ≢ (slot_at s n).directory → SeenAlike names after s.spaces sp d) →
+    (m : ℕ) → m ≢ n → (p : ℕ) →
+    logical sp (upd s.environments.slots n k) m p ≡ logical s.spaces s.environments.slots m p
+others_count {s = s} {a = a} {sp = sp} h n b at k same m ne p =
+    let slot : upd s.environments.slots n k m ≡ slot_at s m = upd-other s.environments.slots n k m ne in
+    logical_alike s.spaces sp s.environments.slots (upd s.environments.slots n k) m (ap (λ (x : Slot). is_live_slot x) slot)
+    (ap (λ (x : Slot). place_of x) slot)
+    (λ live. (ap (λ (x : Slot). rows_of sp x.directory) slot)
+    ∙ (same (slot_at s m).directory (directories_apart h n b at m ne (sym (live_stands h m) ∙ live))).rows) p

@@ -15,7 +15,7 @@ use Rattle.jos_base.specs.SpacesState.{SpacesState, Region, with_page_bytes}
 use Rattle.jos_base.specs.Windows.{walked, table_index}
 use Rattle.jos_base.specs.UserMemory.{reach_in, access_bits, region_accessed, entry_marked, with_page_bits, with_region_bit}
 use Rattle.jos_base.specs.UserMemory.{with_entry_bits, with_bits, touched, touched_by, all_touched, stored_byte, with_byte_at}
-use Rattle.lib_os.specs.StandsFor.{rows_of, lasting}
+use Rattle.lib_os.specs.Rows.{rows_of, lasting}
 use Rattle.lib_os.proofs.Effects.{Quiet, Stored}
 use Rattle.jos_base.proofs.Puts.{put-alike}
 

@@ -23,11 +23,15 @@ use Rattle.lib_os.specs.Fence.{is_page_inside}
 use Rattle.lib_os.specs.InOrder.{IsInOrder}
 use Rattle.lib_os.specs.LibrarySteps.{service_answered}
 use Rattle.lib_os.specs.MemoryServices.{lives}
-use Rattle.lib_os.specs.StandsFor.{StandsFor, Names, rows_of, lasting, is_shared, MaySendBy, IsSendable, IsTrying, destination_of}
+use Rattle.lib_os.specs.Places.{is_handlers}
+use Rattle.lib_os.specs.Rows.{Names, rows_of, lasting, is_shared, may_write}
+use Rattle.lib_os.specs.StandsFor.{StandsFor, MaySendBy, IsSendable, IsTrying, destination_of}
 use Rattle.lib_os.specs.UserCalls.{Got, got, CallStep, giving, system}
+use Rattle.lib_os.proofs.BytesRead.{users_inside}
 use Rattle.lib_os.proofs.Effects.{Given}
 use Rattle.lib_os.proofs.EntryWords.{row_entry}
 use Rattle.lib_os.proofs.Fences.{page_inside_aligned, page_inside_below}
+use Rattle.lib_os.proofs.Logical.{page_inside_programs}
 use Rattle.lib_os.proofs.Placing.{inserted_given}
 use Rattle.lib_os.proofs.Sending.{nobody_is_there, named_is, named_other, may_wait_yet, step_to_taken, answered_stands, word_sent, page_sent}
 use Rattle.lib_os.proofs.Sends as sends
@@ -75,7 +79,7 @@ shared_whole o e x perm stands row bits user =
 module _ {names : Names} {s : KernelState} {a : AbstractState} (h : StandsFor names s a) (n : ℕ) (b : Born) (at : a.slots n ≡ born b)
     (id value va perm : ℕ) (rest : List ℕ)
     (trying : IsTrying (rows_of s.spaces (slot_at s n).directory) (slot_at s n) b id value va perm) (small : value < 2 ^ 32)
-    (mid : KernelState) (word : ℕ) where
+    (outside : is_handlers (slot_at s n).registers.esp ≡ false) (mid : KernelState) (word : ℕ) where
   abbrev t : ℕ
   t = id % NENV
 
@@ -140,7 +144,7 @@ module _ {names : Names} {s : KernelState} {a : AbstractState} (h : StandsFor na
             call (destination_of va) ≡ giving (with_message s n t value 0) (Answered 0) → HasTried names s mid a n word
         word_over none call_is =
             over (with_message s n t value 0) 0 call_is (λ e. omega (arith, e)) the_end stepped refl
-            (word_sent h n b at idle awake t ne c is taken value small va none)
+            (word_sent h n b at idle awake outside t ne c is taken value small va none)
 
         without_page : va ≡ 0 → HasTried names s mid a n word
         without_page none =
@@ -153,7 +157,7 @@ module _ {names : Names} {s : KernelState} {a : AbstractState} (h : StandsFor na
           call_is = ap (λ (x : Bool). call (if x then UTOP else va)) some
 
           user : is_page_perm page.entry.perm ≡ true
-          user = h.users d (page_number va) page.entry page.stands
+          user = (users_inside names s a n b h at (page_number va) page.entry (page_inside_programs va page.inside) page.stands).page
 
           stood : (e : Entry) × (s.spaces.entries d (page_number va) ≡ Some e) × (lasting e ≡ page.entry)
           stood = row_entry s.spaces d (page_number va) page.entry page.stands
@@ -203,10 +207,10 @@ module _ {names : Names} {s : KernelState} {a : AbstractState} (h : StandsFor na
                 subst (λ (x : ℕ). Given s.spaces sp (slot_at s t).directory (page_number x) page.entry) destination
                 (inserted_given s.spaces sp (slot_at s t).directory (page_number (slot_at s t).rendezvous.destination) page.entry
                 d (page_number va) stood.0 h.in_order.frames ordered.frames user stood.1 (ap (λ (x : Entry). x.frame) stood.2) put_is) in
-                let passes : (is_shared page.entry.perm || not (has_write page.entry.perm)) ≡ true =
-                subst (λ (x : ℕ). (is_shared x || not (has_write x)) ≡ true) page.bits page.passes in
+                let passes : (is_shared page.entry.perm || not (may_write page.entry.perm)) ≡ true =
+                subst (λ (x : ℕ). (is_shared x || not (may_write x)) ≡ true) page.bits page.passes in
                 over (with_message (with_spaces s sp) n t value page.entry.perm) 0 came_is (λ e. omega (arith, e)) the_end stepped refl
-                (page_sent h n b at idle awake t ne c is taken value small va page.entry page.stands passes entered_there
+                (page_sent h n b at idle awake outside t ne c is taken value small va page.inside page.entry page.stands passes entered_there
                 (grind (arith, nat_tests, some)) somewhere ordered)
 
           by_wanted : (x : Bool) → (taken.w.va == 0) ≡ x → HasTried names s mid a n word
@@ -232,7 +236,7 @@ module _ {names : Names} {s : KernelState} {a : AbstractState} (h : StandsFor na
         let nobody : found s.environments id n false ≡ None = found_is ∙ ap (λ (x : Bool). if x then Some t else None) off in
         over s (negated E_BAD_ENV) (sends.nobody_named s n id value (destination_of va) perm rest live idle nobody) (λ e. omega (arith, e))
         (refused a n b (slot_at s n).registers E_BAD_ENV) (nobody_is_there h n b at id value va perm trying off) refl
-        (answered_stands h n b at (slot_at s n) (negated E_BAD_ENV) refl idle awake)
+        (answered_stands h n b at (slot_at s n) (negated E_BAD_ENV) refl idle awake outside)
 
     pub tried : HasTried names s mid a n word
     tried = by_living (lives a id) refl

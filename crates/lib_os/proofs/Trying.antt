@@ -15,7 +15,8 @@ use Rattle.jos_base.specs.Words.{negated}
 use Rattle.lib_os.specs.UserCalls.{CallStep, got, asking, called_by, system}
 use Rattle.lib_os.specs.AbstractState.{AbstractState}
 use Rattle.lib_os.specs.MemoryServices.{lives}
-use Rattle.lib_os.specs.StandsFor.{StandsFor, Names}
+use Rattle.lib_os.specs.Rows.{Names}
+use Rattle.lib_os.specs.StandsFor.{StandsFor}
 use Rattle.lib_os.proofs.Slots.{slot_put}
 use Rattle.lib_os.proofs.Calls.{system_is, live_still, waits_is, ipc_recv_is}
 use Rattle.lib_os.proofs.Sends.{message_taken_is, received_in}

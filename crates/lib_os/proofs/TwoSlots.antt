@@ -11,9 +11,12 @@ use Rattle.jos_base.specs.Environments.{Slot, free_slot, no_extra, is_live, is_r
 use Rattle.jos_base.specs.KernelState.{HasSpaces}
 use Rattle.jos_base.specs.SpacesState.{SpacesState, directories}
 use Rattle.lib_os.specs.AbstractState.{Born, AbstractSlot, free, born, serving, guest, at_guest}
+use Rattle.lib_os.specs.declared.numbers.TheConstants.{PGFAULT_UPCALL}
 use Rattle.lib_os.specs.declared.place.Place.{Place}
-use Rattle.lib_os.specs.Places.{place_of}
-use Rattle.lib_os.specs.StandsFor.{Names, EntryRow, rows_of, StandsForSlot, StandsForServer, StandsForBorn, StandsAt, IsTabled}
+use Rattle.lib_os.specs.LibraryPages.{View}
+use Rattle.lib_os.specs.Places.{place_of, is_handlers}
+use Rattle.lib_os.specs.Rows.{Names, rows_of}
+use Rattle.lib_os.specs.StandsFor.{StandsForSlot, StandsForServer, StandsForBorn, StandsAt, IsTabled}
 use Rattle.lib_os.proofs.Serving.{words_of_none}
 
 -- every slot is one of three
@@ -39,7 +42,7 @@ module _ (first second : ℕ) (registers : Regs) where
   the_server = record (free_slot 0x1000) { env_type = FileServer; status = NotRunnable; directory = first }
 
   abbrev pub the_program : Slot
-  the_program = record (free_slot 0x1001) { status = Runnable; registers = registers; directory = second }
+  the_program = record (free_slot 0x1001) { status = Runnable; registers = registers; directory = second; upcall = PGFAULT_UPCALL }
 
   abbrev pub slots : ℕ → Slot
   slots n = if n == 0 then the_server else if n == 1 then the_program else free_slot 0
@@ -105,10 +108,10 @@ module _ (first second : ℕ) (registers : Regs) where
   -- ---- what each slot stands for
 
   -- the program is at its first instruction
-  pub at_start : (row : EntryRow) (b : Born) → b.program ≡ guest registers → b.phase ≡ at_guest → b.blocked ≡ false →
-      StandsAt (place_of the_program) row the_program b
-  at_start row b program_is phase awake =
-      subst (λ (p : Place). StandsAt p row the_program b) (sym (words_of_none registers no_extra refl))
+  pub at_start : is_handlers registers.esp ≡ false → (v : View) (b : Born) → b.program ≡ guest registers → b.phase ≡ at_guest →
+      b.blocked ≡ false → StandsAt (place_of the_program) v the_program b
+  at_start outside v b program_is phase awake =
+      subst (λ (p : Place). StandsAt p v the_program b) (sym (words_of_none registers no_extra outside refl))
       (record { program = program_is; phase = phase; words = refl; silent = refl; awake = awake })
 
   pub server_stands : (spaces : SpacesState) → ((p : ℕ) → rows_of spaces first p ≡ None) → ((r : ℕ) → spaces.regions first r ≡ None) →
@@ -120,6 +123,7 @@ module _ (first second : ℕ) (registers : Regs) where
     status = refl;
     silent = refl;
     words = refl;
+    stack = refl;
     empty = empty;
     tables = tables;
   }

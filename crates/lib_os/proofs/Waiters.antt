@@ -3,11 +3,13 @@
 use Rattle.std.proofs.Common.{◌≡◌, ◌≢◌, ◌∙◌, ◌⊎◌, inl, inr, ◌≤◌, ◌==◌, ◌&&◌, ◌||◌, ℕ, Bool, true, false, Option, Some, None}
 use Rattle.std.proofs.Common.{refl, sym, ap, arith, if◌then◌else◌}
 use Rattle.std.proofs.lemmas.Bool.Decides.{nat_tests}
+use Rattle.jos_base.specs.declared.memory.PageFault.{PageFault}
 use Rattle.jos_base.specs.declared.numbers.TheConstants.{UTOP}
 use Rattle.jos_base.specs.declared.registers.Regs.{Regs}
 use Rattle.jos_base.specs.Environments.{Slot}
 use Rattle.jos_base.specs.KernelState.{KernelState, slot_at}
 use Rattle.jos_base.specs.Messages.{accepts}
+use Rattle.lib_os.specs.declared.place.HandlerStep.{HandlerStep}
 use Rattle.lib_os.specs.declared.place.Place.{Place}
 use Rattle.lib_os.specs.declared.place.Place.TheVariants as place
 use Rattle.lib_os.specs.declared.place.Step.{Step}
@@ -16,9 +18,12 @@ use Rattle.lib_os.specs.declared.service.Service.{Service}
 use Rattle.lib_os.specs.declared.service.Service.TheVariants as service
 use Rattle.lib_os.specs.AbstractState.{AbstractState, Born, born, Phase, entered}
 use Rattle.lib_os.specs.AbstractMessages.{Receiver, waiting_at, waiting_in, takes, sent, sent_to_waiting}
+use Rattle.lib_os.specs.LibraryPages.{View}
 use Rattle.lib_os.specs.Places.{place_of}
-use Rattle.lib_os.specs.StandsFor.{StandsFor, Names, EntryRow, rows_of, StandsAt, StandsAtStep, IsIn, IsReceiving, HasReceived}
+use Rattle.lib_os.specs.Rows.{Names}
+use Rattle.lib_os.specs.StandsFor.{StandsFor, StandsAt, StandsAtStep, view_of, IsIn, IsReceiving, HasReceived}
 use Rattle.lib_os.specs.StandsFor.{WaitsOrHas, waits, has, destination_of}
+use Rattle.lib_os.specs.StandsInHandler.{CopiesOrEnds, copies, ends}
 use Rattle.lib_os.proofs.SlotsStand.{born_at}
 
 -- ---- at each place
@@ -46,28 +51,35 @@ in_silence s h = record { silent = h.silent; nowhere = ap (λ (p : Phase). waiti
 has_come : {k : Slot} {c : Born} {va from : ℕ} → HasReceived k c va from → WaitsNot k c
 has_come h = record { silent = h.silent; nowhere = ap (λ (p : Phase). waiting_in p) h.phase }
 
-at_step : (row : EntryRow) (k : Slot) (c : Born) (s : Service) (stands : Step) → StandsAtStep row k c s stands →
+at_step : (v : View) (k : Slot) (c : Born) (s : Service) (stands : Step) → StandsAtStep v k c s stands →
     WaitsNot k c ⊎ Waits (place.InService s stands) k c
-at_step row k c s step.Entered h = inl (in_silence s h)
-at_step row k c (service.Wait id) (step.Trying perm) h = inl (in_silence _ h.is_in)
-at_step row k c (service.Wait id) (step.Pausing perm) h = inl (in_silence _ h.is_in)
-at_step row k c (service.Send id value va) (step.Trying perm) h = inl (in_silence _ h.is_in)
-at_step row k c (service.Send id value va) (step.Pausing perm) h = inl (in_silence _ h.is_in)
-at_step row k c (service.Send id value va) step.ReadingRegion h = inl (in_silence _ h.is_in)
-at_step row k c (service.Send id value va) step.ReadingEntry h = inl (in_silence _ h.0.is_in)
-at_step row k c (service.Receive va from) (step.Receiving id) h = inl (in_silence _ h.is_in)
-at_step row k c (service.Receive va from) (step.ReadingValue id) h = by_message h.1
+at_step v k c s step.Entered h = inl (in_silence s h)
+at_step v k c (service.Wait id) (step.Trying perm) h = inl (in_silence _ h.is_in)
+at_step v k c (service.Wait id) (step.Pausing perm) h = inl (in_silence _ h.is_in)
+at_step v k c (service.Send id value va) (step.Trying perm) h = inl (in_silence _ h.is_in)
+at_step v k c (service.Send id value va) (step.Pausing perm) h = inl (in_silence _ h.is_in)
+at_step v k c (service.Send id value va) step.ReadingRegion h = inl (in_silence _ h.is_in)
+at_step v k c (service.Send id value va) step.ReadingEntry h = inl (in_silence _ h.0.is_in)
+at_step v k c (service.Receive va from) (step.Receiving id) h = inl (in_silence _ h.is_in)
+at_step v k c (service.Receive va from) (step.ReadingValue id) h = by_message h.1
   where
     by_message : WaitsOrHas k c va from → WaitsNot k c ⊎ Waits (place.InService (service.Receive va from) (step.ReadingValue id)) k c
     by_message (waits so) = inr (record { w = record { va = va; from = from }; id = id; at = refl; self = h.0; so = so })
     by_message (has come) = inl (has_come come)
-at_step row k c (service.Receive va from) (step.ReadingSender id value) h = inl (has_come h.2)
-at_step row k c (service.Receive va from) (step.ReadingPerm id value sender) h = inl (has_come h.3)
-at_step row k c _ _ h = absurd h
+at_step v k c (service.Receive va from) (step.ReadingSender id value) h = inl (has_come h.2)
+at_step v k c (service.Receive va from) (step.ReadingPerm id value sender) h = inl (has_come h.3)
+at_step v k c _ _ h = absurd h
 
-pub waits_or_not : (p : Place) (row : EntryRow) (k : Slot) (c : Born) → StandsAt p row k c → WaitsNot k c ⊎ Waits p k c
-waits_or_not place.Guest row k c h = inl (record { silent = h.silent; nowhere = ap (λ (p : Phase). waiting_in p) h.phase })
-waits_or_not (place.InService s stands) row k c h = at_step row k c s stands h
+-- its page is copied, or it is on the way to its end
+in_handler : (stands : HandlerStep) (v : View) {k : Slot} {c : Born} (fault : PageFault) (regs : Regs) →
+    CopiesOrEnds stands v k c fault regs → WaitsNot k c
+in_handler stands v fault regs (copies way) = record { silent = way.guest.silent; nowhere = ap (λ (p : Phase). waiting_in p) way.guest.phase }
+in_handler stands v fault regs (ends way) = record { silent = way.silent; nowhere = ap (λ (p : Phase). waiting_in p) way.phase }
+
+pub waits_or_not : (p : Place) (v : View) (k : Slot) (c : Born) → StandsAt p v k c → WaitsNot k c ⊎ Waits p k c
+waits_or_not place.Guest v k c h = inl (record { silent = h.silent; nowhere = ap (λ (p : Phase). waiting_in p) h.phase })
+waits_or_not (place.InService s stands) v k c h = at_step v k c s stands h
+waits_or_not (place.InHandler stands) v k c h = inl (in_handler stands v h.fault h.regs h.way)
 
 -- ---- who is waited for
 
@@ -91,7 +103,7 @@ module _ (a : AbstractState) (n : ℕ) (b : Born) (regs : Regs) (t value va : �
 module _ {names : Names} {s : KernelState} {a : AbstractState} (h : StandsFor names s a) (n : ℕ) (b : Born) (at : a.slots n ≡ born b)
     (t : ℕ) (c : Born) (there : a.slots t ≡ born c) where
   by_place : WaitsNot (slot_at s t) c ⊎ Waits (place_of (slot_at s t)) (slot_at s t) c
-  by_place = waits_or_not (place_of (slot_at s t)) (rows_of s.spaces (slot_at s t).directory) (slot_at s t) c (born_at h t c there).at
+  by_place = waits_or_not (place_of (slot_at s t)) (view_of s.spaces (slot_at s t).directory) (slot_at s t) c (born_at h t c there).at
 
   none_waited : WaitsNot (slot_at s t) c → accepts (slot_at s t).rendezvous (slot_at s n).id ≡ false
   none_waited off = λ i. off.silent i && (((slot_at s t).rendezvous.wanted == 0) || ((slot_at s t).rendezvous.wanted == (slot_at s n).id))

@@ -1,29 +1,83 @@
--- The words of a service at a step tell that service and that step again.
-use Rattle.std.proofs.Common.{◌≡◌, ◌+◌, ◌-◌, ◌==◌, ℕ, false, refl, arith}
+-- The words of a service at a step tell that service and that step again, and the registers of the handler of page faults its step.
+use Rattle.std.proofs.Common.{◌≡◌, ◌<◌, ◌+◌, ◌-◌, ◌%◌, ◌==◌, ◌∙◌, ℕ, Bool, true, false, refl, sym, ap, arith, if◌then◌else◌, List}
 use Rattle.std.proofs.lemmas.Bool.Decides.{nat_tests}
 use Rattle.jos_base.specs.declared.registers.Regs.{Regs}
+use Rattle.lib_os.specs.declared.numbers.TheConstants.{PAGE_WORDS}
+use Rattle.lib_os.specs.declared.place.HandlerStep.{HandlerStep}
+use Rattle.lib_os.specs.declared.place.HandlerStep.TheVariants as handler
+use Rattle.lib_os.specs.declared.place.Place.{Place}
 use Rattle.lib_os.specs.declared.place.Place.TheVariants as place
 use Rattle.lib_os.specs.declared.place.Step.{Step}
 use Rattle.lib_os.specs.declared.place.Step.TheVariants as step
-use Rattle.lib_os.specs.Places.{place_in_words, step_in, words_at}
+use Rattle.lib_os.specs.declared.service.Service.{Service}
+use Rattle.lib_os.specs.Places.{place_in_words, step_in, words_at, is_handlers, handler_step_in, handler_registers, service_word}
 use Rattle.lib_os.specs.Services.{service_of}
+use Rattle.lib_os.specs.StandingLaws.{IsHandlerStep}
 
-pub place_at : (regs : Regs) (number : ℕ) (at : Step) →
+pub place_at : (regs : Regs) (number : ℕ) (at : Step) → is_handlers regs.esp ≡ false →
     place_in_words regs (words_at number at) ≡ place.InService (service_of (record regs { eax = number })) at
 unfolding place_in_words step_in words_at
-place_at regs number at =
+place_at regs number at outside =
     let some : (number + 1 == 0) ≡ false = grind (arith, nat_tests) in
     let back : number + 1 - 1 ≡ number = omega arith in
     by_step at some back
   where
     by_step : (at : Step) → (number + 1 == 0) ≡ false → number + 1 - 1 ≡ number →
         place_in_words regs (words_at number at) ≡ place.InService (service_of (record regs { eax = number })) at
-    by_step step.Entered some back = rw (some, back) refl
-    by_step (step.Trying perm) some back = rw (some, back) refl
-    by_step (step.Pausing perm) some back = rw (some, back) refl
-    by_step step.ReadingRegion some back = rw (some, back) refl
-    by_step step.ReadingEntry some back = rw (some, back) refl
-    by_step (step.Receiving id) some back = rw (some, back) refl
-    by_step (step.ReadingValue id) some back = rw (some, back) refl
-    by_step (step.ReadingSender id value) some back = rw (some, back) refl
-    by_step (step.ReadingPerm id value sender) some back = rw (some, back) refl
+    by_step step.Entered some back = rw (outside, some, back) refl
+    by_step (step.Trying perm) some back = rw (outside, some, back) refl
+    by_step (step.Pausing perm) some back = rw (outside, some, back) refl
+    by_step step.ReadingRegion some back = rw (outside, some, back) refl
+    by_step step.ReadingEntry some back = rw (outside, some, back) refl
+    by_step (step.Receiving id) some back = rw (outside, some, back) refl
+    by_step (step.ReadingValue id) some back = rw (outside, some, back) refl
+    by_step (step.ReadingSender id value) some back = rw (outside, some, back) refl
+    by_step (step.ReadingPerm id value sender) some back = rw (outside, some, back) refl
+
+-- ---- the handler's registers
+
+pub handler_at : (regs : Regs) (words : List ℕ) (at : HandlerStep) → is_handlers regs.esp ≡ true → IsHandlerStep at →
+    place_in_words (handler_registers regs at) words ≡ place.InHandler at
+unfolding place_in_words handler_step_in handler_registers
+handler_at regs words handler.Entered there small = rw there refl
+handler_at regs words (handler.ReadingError va) there small = rw there refl
+handler_at regs words (handler.Looking va) there small = rw there refl
+handler_at regs words (handler.Taking va) there small = rw there refl
+handler_at regs words (handler.Loading va index) there small = rw (there, small_index index small) refl
+  where
+    small_index : (index : ℕ) → index < PAGE_WORDS → index % PAGE_WORDS ≡ index
+    small_index index lt = omega (arith, lt)
+handler_at regs words (handler.Storing va index word) there small = rw (there, small_index index small) refl
+  where
+    small_index : (index : ℕ) → index < PAGE_WORDS → index % PAGE_WORDS ≡ index
+    small_index index lt = omega (arith, lt)
+handler_at regs words (handler.MappingOver va) there small = rw there refl
+handler_at regs words (handler.Unmapping va) there small = rw there refl
+handler_at regs words handler.Restoring there small = rw there refl
+handler_at regs words (handler.ReadingIp va error) there small = rw there refl
+handler_at regs words (handler.Unsetting va error ip) there small = rw there refl
+handler_at regs words (handler.Touching va error ip) there small = rw there refl
+
+-- ---- who runs, by the place
+
+by_esp : (esp : Bool) (words : Bool) (inside : HandlerStep) (call : Service) (at : Step) (P : Place → Type 0) →
+    (esp ≡ false → words ≡ true → P place.Guest) → (esp ≡ false → words ≡ false → P (place.InService call at)) → (esp ≡ true → P (place.InHandler inside)) →
+    P (if esp then place.InHandler inside else if words then place.Guest else place.InService call at)
+by_esp true words inside call at P guest_is service_is handler_is = handler_is refl
+by_esp false true inside call at P guest_is service_is handler_is = guest_is refl refl
+by_esp false false inside call at P guest_is service_is handler_is = service_is refl refl
+
+-- where the handler runs
+abbrev pub is_in_handler : Place → Bool
+is_in_handler (place.InHandler at) = true
+is_in_handler _ = false
+
+pub handler_runs : (regs : Regs) (words : List ℕ) → is_in_handler (place_in_words regs words) ≡ is_handlers regs.esp
+unfolding place_in_words
+handler_runs regs words =
+    by_esp (is_handlers regs.esp) (service_word words == 0) _ _ _ (λ p. is_in_handler p ≡ is_handlers regs.esp)
+    (λ esp no_words. sym esp) (λ esp some. sym esp) (λ esp. sym esp)
+
+-- ESP lies elsewhere, where a program or a service runs
+pub outside_stack : (regs : Regs) (words : List ℕ) (at : Place) → place_in_words regs words ≡ at → is_in_handler at ≡ false → is_handlers regs.esp ≡ false
+outside_stack regs words at is outside = sym (handler_runs regs words) ∙ ap is_in_handler is ∙ outside

@@ -14,7 +14,7 @@ use Rattle.jos_cpu.specs.declared.memory.MemFault.{MemFault}
 use Rattle.jos_cpu.specs.declared.memory.MemFault.TheVariants.{Page, Fence}
 use Rattle.jos_cpu.specs.Memory.{Memory}
 use Rattle.jos_cpu.specs.Steps as cpu
-use Rattle.lib_os.specs.AbstractState.{AbstractState, Born, AbstractSlot, free, unborn, born, serving, guest, in_service, entered, with_born}
+use Rattle.lib_os.specs.AbstractState.{AbstractState, Born, AbstractSlot, free, unborn, born, serving, guest, faulted, in_service, entered, with_born}
 use Rattle.lib_os.specs.AbstractMemory.{byte_at, page_at, page_allows, page_fault, stored, ended_with}
 use Rattle.lib_os.specs.Fence.{is_inside, is_resident}
 use Rattle.lib_os.specs.Services.{service_of}
@@ -79,14 +79,16 @@ goes_on a n b ip regs =
 abbrev pub service_entered : AbstractState → ℕ → Born → Regs → AbstractState
 service_entered a n b regs = with_born a n (record b { program = guest regs; phase = in_service (service_of regs) entered })
 
-abbrev pub why_ended : ℕ → ℕ → ℕ → ℕ → Line
-why_ended trap error va ip = if trap == T_PGFLT then line.UserFault va ip else line.Trap trap error ip
+-- A page fault marks the environment, and its next step ends it; any other trap ends it at once.
+abbrev pub trapped : AbstractState → ℕ → Born → ℕ → ℕ → ℕ → ℕ → AbstractState
+trapped a n b ip trap error va =
+    if trap == T_PGFLT then with_born a n (record b { phase = faulted va ip }) else ends_with a n b (line.Trap trap error ip)
 
 abbrev pub after_event : AbstractState → ℕ → Born → ℕ → Regs → Event → AbstractState
 after_event a n b ip regs Next = goes_on a n b ip regs
 after_event a n b ip regs (Soft vector) =
     if vector == T_SERVICE then service_entered a n b regs else ends_with a n b (line.Trap T_BRKPT 0 regs.eip)
-after_event a n b ip regs (Raised trap error va) = ends_with a n b (why_ended trap error va ip)
+after_event a n b ip regs (Raised trap error va) = trapped a n b ip trap error va
 
 -- what the writes of the instruction left of the environment itself
 abbrev pub after_writes : AbstractState → ℕ → ℕ → Regs → Event → Option Born → AbstractState

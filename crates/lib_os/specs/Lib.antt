@@ -16,6 +16,9 @@ pub mod AbstractRun
 pub mod AbstractLaws
 pub mod InOrder
 pub mod Places
+pub mod Rows
+pub mod LibraryPages
+pub mod StandsInHandler
 pub mod StandsFor
 pub mod LibrarySteps
 pub mod Need

@@ -1,27 +1,34 @@
 -- What a step of the library promises. Wherever the kernel's state stands for one of the abstract system, the state after
 -- the step stands for the same one, where the step is hidden, or for the one after the slot's step there. Nothing is said
 -- of a step that was refused a frame or a slot.
-use Rattle.std.specs.Prelude.{◌≡◌, ◌<◌, ◌≤◌, ℕ, ◌+◌, ◌-◌, ◌^◌, ◌++◌, Bool, true, false, List, [], length, Some, Result, Ok, Err}
+use Rattle.std.specs.Prelude.{◌≡◌, ◌<◌, ◌≤◌, ℕ, ◌+◌, ◌-◌, ◌*◌, ◌^◌, ◌++◌, Bool, true, false, List, [], length}
+use Rattle.std.specs.Prelude.{Option, Some, None, Result, Ok, Err}
 use Rattle.jos_host.specs.declared.host.Failed.{Failed}
 use Rattle.jos_host.specs.Frames.{Around}
+use Rattle.jos_base.specs.Counting.{page_limit}
 use Rattle.jos_base.specs.declared.registers.Regs.{Regs}
+use Rattle.jos_base.specs.Reach.{Entry}
 use Rattle.jos_base.specs.Environments.{Slot, is_live, is_runnable, is_running, no_extra}
 use Rattle.jos_base.specs.KernelState.{KernelState, slot_at, with_slot_at}
 use Rattle.lib_os.specs.declared.user_os.Stop.{Stop}
 use Rattle.lib_os.specs.declared.user_os.Stop.TheVariants as stop
 use Rattle.lib_os.specs.declared.progress.Progress.{Progress}
 use Rattle.lib_os.specs.declared.progress.Progress.TheVariants as progress
-use Rattle.lib_os.specs.declared.numbers.TheConstants.{SHORT_QUANTUM}
+use Rattle.lib_os.specs.declared.numbers.TheConstants.{PAGE_WORDS, SHORT_QUANTUM}
+use Rattle.lib_os.specs.declared.place.HandlerStep.{HandlerStep}
+use Rattle.lib_os.specs.declared.place.HandlerStep.TheVariants as handler
 use Rattle.lib_os.specs.declared.place.Place.{Place}
 use Rattle.lib_os.specs.declared.place.Place.TheVariants as place
+use Rattle.lib_os.specs.declared.place.Step.{Step}
 use Rattle.lib_os.specs.declared.place.Step.TheVariants as step
 use Rattle.lib_os.specs.declared.service.Service.TheVariants as service
 use Rattle.lib_os.specs.AbstractState.{AbstractState}
 use Rattle.lib_os.specs.AbstractRun.{abs_step, may_wait}
 use Rattle.lib_os.specs.InOrder.{IsInOrder}
-use Rattle.lib_os.specs.Need.{EachHasUse}
+use Rattle.lib_os.specs.Need.{EachHasUse, count_below}
 use Rattle.lib_os.specs.Places.{place_of}
-use Rattle.lib_os.specs.StandsFor.{StandsFor, Names}
+use Rattle.lib_os.specs.Rows.{Names, EntryRow, rows_of, is_cow}
+use Rattle.lib_os.specs.StandsFor.{StandsFor}
 use Rattle.lib_os.specs.UserCalls.{Output, Prints, PrintsPart}
 
 -- the state stands for an abstract one, by some names of the shared pages
@@ -109,24 +116,72 @@ Leaves (Err _) n before after = Unit {0}
 
 -- ---- the number that falls
 
--- How many hidden steps a service may still make, at most, from a place on.
-abbrev pub steps_left : Place → ℕ
-steps_left place.Guest = 0
-steps_left (place.InService s step.Entered) = 10
-steps_left (place.InService s step.ReadingRegion) = 9
-steps_left (place.InService s step.ReadingEntry) = 8
-steps_left (place.InService s (step.Pausing perm)) = 7
-steps_left (place.InService s (step.Trying perm)) = 6
-steps_left (place.InService s (step.Receiving id)) = 5
-steps_left (place.InService s (step.ReadingValue id)) = 4
-steps_left (place.InService s (step.ReadingSender id value)) = 3
-steps_left (place.InService s (step.ReadingPerm id value sender)) = 2
+-- How many hidden steps a service may still make, at most, from a step on.
+abbrev pub steps_left : Step → ℕ
+steps_left step.Entered = 10
+steps_left step.ReadingRegion = 9
+steps_left step.ReadingEntry = 8
+steps_left (step.Pausing perm) = 7
+steps_left (step.Trying perm) = 6
+steps_left (step.Receiving id) = 5
+steps_left (step.ReadingValue id) = 4
+steps_left (step.ReadingSender id value) = 3
+steps_left (step.ReadingPerm id value sender) = 2
 
--- A hidden step lowers the number. One that waits is followed by one that gives up the turn.
-abbrev pub Lowers : Result Progress Failed → Place → Place → Type 0
-Lowers (Ok progress.Hidden) before after = steps_left after < steps_left before
-Lowers (Ok progress.Waited) before after = is_pausing after ≡ true
-Lowers _ before after = Unit {0}
+-- The same of the handler of page faults, for one fault: a page is loaded and stored word by word.
+abbrev pub handler_steps_left : HandlerStep → ℕ
+handler_steps_left handler.Entered = 2055
+handler_steps_left (handler.ReadingError va) = 2054
+handler_steps_left (handler.Looking va) = 2053
+handler_steps_left (handler.Taking va) = 2052
+handler_steps_left (handler.Loading va index) = 2 * (PAGE_WORDS - index) + 3
+handler_steps_left (handler.Storing va index word) = 2 * (PAGE_WORDS - index) + 2
+handler_steps_left (handler.MappingOver va) = 3
+handler_steps_left (handler.Unmapping va) = 2
+handler_steps_left handler.Restoring = 1
+handler_steps_left (handler.ReadingIp va error) = 3
+handler_steps_left (handler.Unsetting va error ip) = 2
+handler_steps_left (handler.Touching va error ip) = 1
+
+-- more than the steps in which a page is copied, with that of the fault
+abbrev pub copy_steps : ℕ
+copy_steps = 2060
+
+abbrev pub is_to_copy : Option Entry → Bool
+is_to_copy None = false
+is_to_copy (Some entry) = is_cow entry.perm
+
+-- how many pages wait to be copied
+unfoldable pub copies_left : EntryRow → ℕ
+copies_left row = count_below page_limit (λ p. is_to_copy (row p))
+
+-- and how many but the one that the handler copies
+abbrev pub other_copies : HandlerStep → ℕ → ℕ
+other_copies (handler.Unmapping va) copies = copies
+other_copies handler.Restoring copies = copies
+other_copies _ copies = copies - 1
+
+abbrev pub left_at : Place → ℕ → ℕ
+left_at place.Guest copies = copy_steps * copies
+left_at (place.InService s step) copies = steps_left step
+left_at (place.InHandler step) copies = handler_steps_left step + copy_steps * other_copies step copies
+
+-- How many hidden steps the environment in slot n may still make, at most, before one that is seen.
+abbrev pub hidden_left : KernelState → ℕ → ℕ
+hidden_left s n = left_at (place_of (slot_at s n)) (copies_left (rows_of s.spaces (slot_at s n).directory))
+
+-- A hidden step lowers the number: that of a service whatever the state stands for, that of a program and of the handler where
+-- it stands for an abstract one and nothing was refused.
+abbrev pub LowersAt : Place → ℕ → KernelState → KernelState → Type 0
+LowersAt (place.InService s step) n before after = hidden_left after n < hidden_left before n
+LowersAt _ n before after =
+    (a : AbstractState) → Stands before a → NothingRefused before after → hidden_left after n < hidden_left before n
+
+-- One that waits is followed by one that gives up the turn.
+abbrev pub Lowers : Result Progress Failed → ℕ → KernelState → KernelState → Type 0
+Lowers (Ok progress.Hidden) n before after = LowersAt (place_of (slot_at before n)) n before after
+Lowers (Ok progress.Waited) n before after = is_pausing (place_of (slot_at after n)) ≡ true
+Lowers _ n before after = Unit {0}
 
 -- The step of one that gives up its turn does that, and is hidden. Where the host failed nothing is said.
 abbrev pub GivesUp : Result Progress Failed → Slot → Slot → Type 0

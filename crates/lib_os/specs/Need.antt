@@ -1,20 +1,22 @@
 -- How many frames the environments of the abstract system can want: one for each page of a program's own, one for each shared
 -- page, and beside these for every environment a directory, tables, and a few pages that its library works with. The kernel
 -- refuses a page for want of a frame only where one frame is free at the most, and then so many are wanted as it hands out.
-use Rattle.std.specs.Prelude.{◌≡◌, ◌<◌, ◌≤◌, ℕ, ◌+◌, ◌-◌, ◌/◌, ◌%◌, ◌==◌, ◌||◌, Bool, true, false, length, Option, Some, None}
+use Rattle.std.specs.Prelude.{◌≡◌, ◌<◌, ◌≤◌, ℕ, ◌+◌, ◌-◌, ◌%◌, ◌==◌, ◌||◌, Bool, true, false, length, Option, Some, None}
 use Rattle.std.specs.List.{Contains}
-use Rattle.jos_base.specs.declared.numbers.TheConstants.{FDTABLE, NENV, NPTENTRIES, USTACKTOP, UTEMP}
+use Rattle.jos_base.specs.declared.numbers.TheConstants.{NENV}
 use Rattle.jos_base.specs.Counting.{total, page_limit}
 use Rattle.jos_base.specs.Environments.{bit_of}
 use Rattle.jos_base.specs.KernelState.{KernelState}
 use Rattle.jos_base.specs.Reach.{Entry}
 use Rattle.jos_base.specs.SpacesState.{SpacesState, Region, directory, region_limit, reserved_frames}
-use Rattle.jos_base.specs.Words.{page_number, is_exactly}
+use Rattle.jos_base.specs.Words.{is_exactly}
 use Rattle.fs_layout.specs.DiskImage.{some_below}
 use Rattle.lib_os.specs.declared.numbers.TheConstants.{DESCRIPTORS, MAXOPEN}
 use Rattle.lib_os.specs.AbstractState.{AbstractState, Born, Page, own, named, AbstractSlot, free, unborn, born, serving}
 use Rattle.lib_os.specs.AbstractState.{Object, read_end, write_end}
-use Rattle.lib_os.specs.StandsFor.{StandsFor, Names}
+use Rattle.lib_os.specs.LibraryPages.{is_library_region}
+use Rattle.lib_os.specs.Rows.{Names}
+use Rattle.lib_os.specs.StandsFor.{StandsFor}
 
 -- ---- the frames that are handed out at all
 
@@ -37,13 +39,6 @@ EachHasUse s = (f : ℕ) → reserved_frames s.frames ≤ f → f < s.frames →
 -- how many of the numbers below n pass
 abbrev pub count_below : ℕ → (ℕ → Bool) → ℕ
 count_below n passes = total n (λ k. bit_of (passes k))
-
-abbrev pub region_index : ℕ → ℕ
-region_index va = page_number va / NPTENTRIES
-
--- The library has pages in these regions: those that it works with, its descriptors, and its stacks.
-abbrev pub is_library_region : ℕ → Bool
-is_library_region r = (r == region_index UTEMP) || (r == region_index FDTABLE) || (r == region_index USTACKTOP)
 
 -- an environment's directory, the stack of its handler of page faults, and the pages that the library works with
 abbrev pub directory_frames : ℕ

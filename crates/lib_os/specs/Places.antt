@@ -1,15 +1,24 @@
 -- Where an environment stands between two steps, as it is spelled in its registers and in the twelve words that it keeps
 -- for the library. Of these the first is 0 where no service runs, and else the service's number and 1; the second tells how
 -- far the service is, and the next three what it has found out. What the program gave stands in its registers, which
--- nobody changes until the service answers, but for EAX. (The form is this system's own.)
-use Rattle.std.specs.Prelude.{ℕ, ◌+◌, ◌-◌, ◌==◌, min, List, [], ◌∷◌, get_or, if◌then◌else◌}
+-- nobody changes until the service answers, but for EAX. Where ESP lies on the stack of the handler of page faults, that runs:
+-- EIP tells how far it is, and the other registers what it has found out, since the frame of the fault keeps those of the
+-- program; the words are left as they are. (The form is this system's own.)
+use Rattle.std.specs.Prelude.{ℕ, ◌+◌, ◌-◌, ◌%◌, ◌==◌, ◌&&◌, nat_le, nat_lt, Bool, min, List, [], ◌∷◌, get_or, if◌then◌else◌}
+use Rattle.jos_base.specs.declared.numbers.TheConstants.{UXSTACKTOP}
 use Rattle.jos_base.specs.declared.registers.Regs.{Regs}
 use Rattle.jos_base.specs.Environments.{Slot}
+use Rattle.lib_os.specs.declared.place.HandlerStep.{HandlerStep}
+use Rattle.lib_os.specs.declared.place.HandlerStep.TheVariants as handler
 use Rattle.lib_os.specs.declared.place.Step.{Step}
 use Rattle.lib_os.specs.declared.place.Step.TheVariants as step
 use Rattle.lib_os.specs.declared.place.Place.{Place}
 use Rattle.lib_os.specs.declared.place.Place.TheVariants as place
-use Rattle.lib_os.specs.declared.numbers.TheConstants.{SERVICES}
+use Rattle.lib_os.specs.declared.numbers.TheConstants.{HANDLER_READING_ERROR, HANDLER_LOOKING, HANDLER_TAKING}
+use Rattle.lib_os.specs.declared.numbers.TheConstants.{HANDLER_LOADING, HANDLER_STORING, HANDLER_MAPPING_OVER}
+use Rattle.lib_os.specs.declared.numbers.TheConstants.{HANDLER_UNMAPPING, HANDLER_RESTORING, HANDLER_READING_IP}
+use Rattle.lib_os.specs.declared.numbers.TheConstants.{HANDLER_UNSETTING, HANDLER_TOUCHING, PGFAULT_UPCALL}
+use Rattle.lib_os.specs.declared.numbers.TheConstants.{PAGE_WORDS, SERVICES, UXSTACK}
 use Rattle.lib_os.specs.declared.numbers.TheConstants.{STEP_ENTERED, STEP_TRYING, STEP_PAUSING, STEP_READING_REGION}
 use Rattle.lib_os.specs.declared.numbers.TheConstants.{STEP_READING_ENTRY, STEP_RECEIVING, STEP_READING_VALUE}
 use Rattle.lib_os.specs.declared.numbers.TheConstants.{STEP_READING_SENDER, STEP_READING_PERM}
@@ -46,9 +55,29 @@ step_in words =
     else if n == STEP_READING_SENDER then step.ReadingSender (first_word words) (second_word words)
     else step.ReadingPerm (first_word words) (second_word words) (third_word words)
 
+-- ESP lies on the stack of the handler of page faults
+abbrev pub is_handlers : ℕ → Bool
+is_handlers esp = nat_le UXSTACK esp && nat_lt esp UXSTACKTOP
+
+unfoldable pub handler_step_in : Regs → HandlerStep
+handler_step_in regs =
+    if regs.eip == PGFAULT_UPCALL then handler.Entered
+    else if regs.eip == HANDLER_READING_ERROR then handler.ReadingError regs.ebx
+    else if regs.eip == HANDLER_LOOKING then handler.Looking regs.ebx
+    else if regs.eip == HANDLER_TAKING then handler.Taking regs.ebx
+    else if regs.eip == HANDLER_LOADING then handler.Loading regs.ebx (regs.ecx % PAGE_WORDS)
+    else if regs.eip == HANDLER_STORING then handler.Storing regs.ebx (regs.ecx % PAGE_WORDS) regs.edx
+    else if regs.eip == HANDLER_MAPPING_OVER then handler.MappingOver regs.ebx
+    else if regs.eip == HANDLER_UNMAPPING then handler.Unmapping regs.ebx
+    else if regs.eip == HANDLER_RESTORING then handler.Restoring
+    else if regs.eip == HANDLER_READING_IP then handler.ReadingIp regs.ebx regs.ecx
+    else if regs.eip == HANDLER_UNSETTING then handler.Unsetting regs.ebx regs.ecx regs.edx
+    else handler.Touching regs.ebx regs.ecx regs.edx
+
 unfoldable pub place_in_words : Regs → List ℕ → Place
 place_in_words regs words =
-    if service_word words == 0 then place.Guest
+    if is_handlers regs.esp then place.InHandler (handler_step_in regs)
+    else if service_word words == 0 then place.Guest
     else place.InService (service_of (record regs { eax = service_word words - 1 })) (step_in words)
 
 -- where the environment of a slot stands
@@ -75,3 +104,23 @@ words_at number (step.ReadingPerm id value sender) = place_words number STEP_REA
 -- the words with which a program's INT 0x40 leaves it; all numbers that name no service are kept as one
 abbrev pub words_entered : Regs → List ℕ
 words_entered regs = words_at (min regs.eax SERVICES) step.Entered
+
+-- ---- the registers of the handler
+
+abbrev pub registers_at : Regs → ℕ → ℕ → ℕ → ℕ → Regs
+registers_at regs at first second third = record regs { eip = at; ebx = first; ecx = second; edx = third }
+
+-- where it goes on from one step to another
+unfoldable pub handler_registers : Regs → HandlerStep → Regs
+handler_registers regs handler.Entered = registers_at regs PGFAULT_UPCALL 0 0 0
+handler_registers regs (handler.ReadingError va) = registers_at regs HANDLER_READING_ERROR va 0 0
+handler_registers regs (handler.Looking va) = registers_at regs HANDLER_LOOKING va 0 0
+handler_registers regs (handler.Taking va) = registers_at regs HANDLER_TAKING va 0 0
+handler_registers regs (handler.Loading va index) = registers_at regs HANDLER_LOADING va index 0
+handler_registers regs (handler.Storing va index word) = registers_at regs HANDLER_STORING va index word
+handler_registers regs (handler.MappingOver va) = registers_at regs HANDLER_MAPPING_OVER va 0 0
+handler_registers regs (handler.Unmapping va) = registers_at regs HANDLER_UNMAPPING va 0 0
+handler_registers regs handler.Restoring = registers_at regs HANDLER_RESTORING 0 0 0
+handler_registers regs (handler.ReadingIp va error) = registers_at regs HANDLER_READING_IP va error 0
+handler_registers regs (handler.Unsetting va error ip) = registers_at regs HANDLER_UNSETTING va error ip
+handler_registers regs (handler.Touching va error ip) = registers_at regs HANDLER_TOUCHING va error ip

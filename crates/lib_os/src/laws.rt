@@ -3,7 +3,7 @@
 ghost use Rattle.lib_os.specs.AbstractLaws.{ForkCopies, OwnStoresAreUnseen, SharedStoresAreSeen, PipesAreBounded};
 ghost use Rattle.lib_os.specs.AbstractLaws.{GuestMemoryIsLawful, StepsLeaveOthers};
 ghost use Rattle.lib_os.specs.Need.{NeedIsReached};
-ghost use Rattle.lib_os.specs.StandingLaws.{SomeStateStands, WordsTellThePlace};
+ghost use Rattle.lib_os.specs.StandingLaws.{SomeStateStands, SomeCopyStands, WordsTellThePlace, RegistersTellThePlace};
 
 /// A child of fork is born with the memory, the descriptors and the registers of its parent, but for EAX.
 pub fn fork_copies()
@@ -32,14 +32,17 @@ pub fn steps_leave_others()
     ensures { StepsLeaveOthers }
 {}
 
-/// There are states of the kernel that stand for abstract ones.
+/// There are states of the kernel that stand for abstract ones, also such in which an environment's page is half copied.
 pub fn some_state_stands()
-    ensures { SomeStateStands }
+    ensures state { SomeStateStands }
+    ensures copy { SomeCopyStands }
 {}
 
-/// The words that a service keeps at a step tell which service it is and how far.
+/// The words that a service keeps at a step tell which service it is and how far, and the registers of the handler of page
+/// faults how far that is.
 pub fn words_tell_the_place()
-    ensures { WordsTellThePlace }
+    ensures words { WordsTellThePlace }
+    ensures registers { RegistersTellThePlace }
 {}
 
 /// Where each frame that the kernel hands out has a use and no more than one is free, the abstract system wants as many

@@ -33,11 +33,11 @@ pub use laws::{
     pipes_are_bounded, some_state_stands, steps_leave_others, words_tell_the_place,
 };
 pub use numbers::{
-    DESCRIPTORS, FDTABLE_END, PTE_SHARE, RESIDENT, SERVICE_CPUTS, SERVICE_EXIT, SERVICE_GETID,
-    SERVICE_PAGE_DROP, SERVICE_PAGE_NEW, SERVICE_RECEIVE, SERVICE_SEND, SERVICE_WAIT,
-    SERVICE_YIELD, SERVICES, UVPD,
+    DESCRIPTORS, FDTABLE_END, PAGE_WORDS, PFTEMP, PGFAULT_UPCALL, PTE_COW, PTE_SHARE, RESIDENT,
+    SERVICE_CPUTS, SERVICE_EXIT, SERVICE_GETID, SERVICE_PAGE_DROP, SERVICE_PAGE_NEW,
+    SERVICE_RECEIVE, SERVICE_SEND, SERVICE_WAIT, SERVICE_YIELD, SERVICES, UVPD, UXSTACK,
 };
-pub use place::{Place, Step, find_place, words_at};
+pub use place::{HandlerStep, Place, Step, find_place, handler_registers, words_at};
 pub use progress::Progress;
 pub use service::{Service, service_of};
 pub use user_os::{Stop, UserOs};

@@ -36,6 +36,18 @@ pub const SHORT_QUANTUM: u32 = 16;
 /// The bit of a page's entry that says that the page is shared. (MIT 6.828, inc/lib.h)
 pub const PTE_SHARE: u32 = 0x400;
 
+/// The bit of a page's entry that says that the page is copied when it is written. (MIT 6.828, lib/fork.c)
+pub const PTE_COW: u32 = 0x800;
+
+/// Where the handler of page faults makes its copy of a page. (MIT 6.828, inc/memlayout.h)
+pub const PFTEMP: u32 = 0x007f_f000;
+
+/// The page of the stack on which the handler of page faults finds its frame. (MIT 6.828, inc/memlayout.h: below `UXSTACKTOP`)
+pub const UXSTACK: u32 = 0xeebf_f000;
+
+/// The words of a page.
+pub const PAGE_WORDS: u32 = 1024;
+
 /// The numbers of services are below this one. Any number from here on names none.
 pub const SERVICES: u32 = 22;
 
@@ -139,3 +151,42 @@ pub const STEP_READING_SENDER: u32 = 7;
 
 /// It is about to read the bits of the page that came.
 pub const STEP_READING_PERM: u32 = 8;
+
+// ---- how far the handler of page faults is, as the EIP of its environment. Nothing is fetched there: no page stands below the
+// exception stack, and that the handler runs is told by ESP.
+
+/// It is entered here, and nothing is done yet. (MIT 6.828, lib/pfentry.S: `_pgfault_upcall`)
+pub const PGFAULT_UPCALL: u32 = 0xeebf_e000;
+
+/// It is about to read the error code.
+pub const HANDLER_READING_ERROR: u32 = 0xeebf_e001;
+
+/// It is about to look at the entry of the page.
+pub const HANDLER_LOOKING: u32 = 0xeebf_e002;
+
+/// It is about to take a page for the copy.
+pub const HANDLER_TAKING: u32 = 0xeebf_e003;
+
+/// It is about to load a word of the page.
+pub const HANDLER_LOADING: u32 = 0xeebf_e004;
+
+/// It is about to store it in the copy.
+pub const HANDLER_STORING: u32 = 0xeebf_e005;
+
+/// It is about to map the copy over the page.
+pub const HANDLER_MAPPING_OVER: u32 = 0xeebf_e006;
+
+/// It is about to unmap the copy where it was made.
+pub const HANDLER_UNMAPPING: u32 = 0xeebf_e007;
+
+/// It is about to take the registers back from the frame.
+pub const HANDLER_RESTORING: u32 = 0xeebf_e008;
+
+/// It is about to read where the fault was raised.
+pub const HANDLER_READING_IP: u32 = 0xeebf_e009;
+
+/// It is about to set that the environment has no handler.
+pub const HANDLER_UNSETTING: u32 = 0xeebf_e00a;
+
+/// It is about to raise the fault again, which ends the environment.
+pub const HANDLER_TOUCHING: u32 = 0xeebf_e00b;

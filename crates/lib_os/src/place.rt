@@ -1,15 +1,19 @@
-//! Where an environment stands between two steps: at its program, or in a service and how far in it.
+//! Where an environment stands between two steps: at its program, in a service or in the handler of page faults, and how far
+//! in it.
 
 ghost use Rattle.std.specs.Prelude.{◌≡◌, ◌≤◌};
 ghost use Rattle.lib_os.specs.declared.numbers.TheConstants.{SERVICES};
 ghost use Rattle.lib_os.specs.Places as places;
 
 use crate::numbers::{
-    STEP_ENTERED, STEP_PAUSING, STEP_READING_ENTRY, STEP_READING_PERM, STEP_READING_REGION,
-    STEP_READING_SENDER, STEP_READING_VALUE, STEP_RECEIVING, STEP_TRYING,
+    HANDLER_LOADING, HANDLER_LOOKING, HANDLER_MAPPING_OVER, HANDLER_READING_ERROR,
+    HANDLER_READING_IP, HANDLER_RESTORING, HANDLER_STORING, HANDLER_TAKING, HANDLER_TOUCHING,
+    HANDLER_UNMAPPING, HANDLER_UNSETTING, PAGE_WORDS, PGFAULT_UPCALL, STEP_ENTERED, STEP_PAUSING,
+    STEP_READING_ENTRY, STEP_READING_PERM, STEP_READING_REGION, STEP_READING_SENDER,
+    STEP_READING_VALUE, STEP_RECEIVING, STEP_TRYING, UXSTACK,
 };
 use crate::service::{Service, service_of};
-use jos_base::{Extra, Regs};
+use jos_base::{Extra, Regs, UXSTACKTOP};
 
 /// How far a service is. What it has found out so far stands beside, as words.
 #[derive(Clone, Copy, Debug, PartialEq, Eq)]
@@ -34,6 +38,36 @@ pub enum Step {
     ReadingPerm { id: u32, value: u32, sender: u32 },
 }
 
+/// How far the handler of page faults is, with what it has found out: the address of the fault, its error code, the address of
+/// the instruction that raised it, and which word of the page it copies, with the word.
+#[derive(Clone, Copy, Debug, PartialEq, Eq)]
+pub enum HandlerStep {
+    /// It is about to read the address.
+    Entered,
+    /// It is about to read the error code.
+    ReadingError { va: u32 },
+    /// It is about to look at the entry of the page.
+    Looking { va: u32 },
+    /// It is about to take a page for the copy.
+    Taking { va: u32 },
+    /// It is about to load a word of the page.
+    Loading { va: u32, index: u32 },
+    /// It is about to store it in the copy.
+    Storing { va: u32, index: u32, word: u32 },
+    /// The copy is whole: it is about to be mapped over the page.
+    MappingOver { va: u32 },
+    /// The copy is mapped over the page: it is about to be unmapped where it was made.
+    Unmapping { va: u32 },
+    /// It is about to take the program's registers back.
+    Restoring,
+    /// It can't mend the fault, and is about to read where it was raised.
+    ReadingIp { va: u32, error: u32 },
+    /// It is about to set that the environment has no handler.
+    Unsetting { va: u32, error: u32, ip: u32 },
+    /// It is about to raise the fault again, which ends the environment.
+    Touching { va: u32, error: u32, ip: u32 },
+}
+
 /// Where an environment stands.
 #[derive(Clone, Copy, Debug, PartialEq, Eq)]
 pub enum Place {
@@ -41,6 +75,80 @@ pub enum Place {
     Guest,
     /// In a service, at a step.
     InService { service: Service, step: Step },
+    /// In the handler of page faults, at a step.
+    InHandler { step: HandlerStep },
+}
+
+/// Whether ESP lies on the stack of the handler of page faults.
+fn is_handlers(esp: u32) -> bool
+    ensures { result ≡ places.is_handlers esp }
+{
+    UXSTACK <= esp && esp < UXSTACKTOP
+}
+
+/// How far the handler of page faults is, by the registers.
+#[tactic(auto, unfolding(crate::specs::Places::handler_step_in))]
+fn find_handler_step(registers: &Regs) -> HandlerStep
+    ensures { result ≡ places.handler_step_in registers.now }
+{
+    let va = registers.ebx;
+    let second = registers.ecx;
+    let third = registers.edx;
+    let index = second % PAGE_WORDS;
+    match registers.eip {
+        PGFAULT_UPCALL => HandlerStep::Entered,
+        HANDLER_READING_ERROR => HandlerStep::ReadingError { va },
+        HANDLER_LOOKING => HandlerStep::Looking { va },
+        HANDLER_TAKING => HandlerStep::Taking { va },
+        HANDLER_LOADING => HandlerStep::Loading { va, index },
+        HANDLER_STORING => HandlerStep::Storing {
+            va,
+            index,
+            word: third,
+        },
+        HANDLER_MAPPING_OVER => HandlerStep::MappingOver { va },
+        HANDLER_UNMAPPING => HandlerStep::Unmapping { va },
+        HANDLER_RESTORING => HandlerStep::Restoring,
+        HANDLER_READING_IP => HandlerStep::ReadingIp { va, error: second },
+        HANDLER_UNSETTING => HandlerStep::Unsetting {
+            va,
+            error: second,
+            ip: third,
+        },
+        _ => HandlerStep::Touching {
+            va,
+            error: second,
+            ip: third,
+        },
+    }
+}
+
+/// The registers with which the handler of page faults stands at a step, where before it stood at another.
+#[tactic(auto, unfolding(crate::specs::Places::handler_registers))]
+pub fn handler_registers(registers: Regs, step: HandlerStep) -> Regs
+    ensures { result ≡ places.handler_registers registers step }
+{
+    let (eip, ebx, ecx, edx) = match step {
+        HandlerStep::Entered => (PGFAULT_UPCALL, 0, 0, 0),
+        HandlerStep::ReadingError { va } => (HANDLER_READING_ERROR, va, 0, 0),
+        HandlerStep::Looking { va } => (HANDLER_LOOKING, va, 0, 0),
+        HandlerStep::Taking { va } => (HANDLER_TAKING, va, 0, 0),
+        HandlerStep::Loading { va, index } => (HANDLER_LOADING, va, index, 0),
+        HandlerStep::Storing { va, index, word } => (HANDLER_STORING, va, index, word),
+        HandlerStep::MappingOver { va } => (HANDLER_MAPPING_OVER, va, 0, 0),
+        HandlerStep::Unmapping { va } => (HANDLER_UNMAPPING, va, 0, 0),
+        HandlerStep::Restoring => (HANDLER_RESTORING, 0, 0, 0),
+        HandlerStep::ReadingIp { va, error } => (HANDLER_READING_IP, va, error, 0),
+        HandlerStep::Unsetting { va, error, ip } => (HANDLER_UNSETTING, va, error, ip),
+        HandlerStep::Touching { va, error, ip } => (HANDLER_TOUCHING, va, error, ip),
+    };
+    Regs {
+        eip,
+        ebx,
+        ecx,
+        edx,
+        ..registers
+    }
 }
 
 /// How far a service is, by the words that the environment keeps for the library.
@@ -75,7 +183,11 @@ pub fn find_place(registers: &Regs, words: &Extra) -> Place
     ensures { result ≡ places.place_in_words registers.now words.now.0 }
 {
     let [number, _, _, _, _, _, _, _, _, _, _, _] = words.0;
-    if number == 0 {
+    if is_handlers(registers.esp) {
+        Place::InHandler {
+            step: find_handler_step(registers),
+        }
+    } else if number == 0 {
         Place::Guest
     } else {
         Place::InService {

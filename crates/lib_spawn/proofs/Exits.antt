@@ -5,7 +5,6 @@ use Rattle.jos_base.specs.declared.called.Called.{Called}
 use Rattle.jos_base.specs.declared.numbers.TheConstants.{SYS_ENV_DESTROY}
 use Rattle.jos_base.specs.Environments.{Slot, is_live}
 use Rattle.jos_base.specs.KernelState.{KernelState, slot_at}
-use Rattle.jos_base.specs.SpacesState.{directory}
 use Rattle.jos_base.specs.SystemCalls.{without_environment}
 use Rattle.jos_base.proofs.Uses.{directory_is}
 use Rattle.lib_os.specs.declared.numbers.TheConstants.{DESCRIPTORS, SERVICE_EXIT}
@@ -21,7 +20,8 @@ use Rattle.lib_os.specs.InOrder.{IsInOrder}
 use Rattle.lib_os.specs.LibraryCall.{library_step}
 use Rattle.lib_os.specs.LibrarySteps.{KeepsStanding}
 use Rattle.lib_os.specs.Places.{place_of}
-use Rattle.lib_os.specs.StandsFor.{EntryRow, rows_of, StandsAtStep, IsIn}
+use Rattle.lib_os.specs.LibraryPages.{View}
+use Rattle.lib_os.specs.StandsFor.{StandsAtStep, IsIn, view_of}
 use Rattle.lib_os.specs.UserCalls.{CallStep}
 use Rattle.lib_os.proofs.Calls.{env_destroy_is}
 use Rattle.lib_os.proofs.EndsStand.{ended_stands}
@@ -37,9 +37,9 @@ none_from descriptors none fd zero = refl
 none_from descriptors none fd (suc n) = rw (none fd) (none_from descriptors none (fd + 1) n)
 
 -- exit has no other step
-at_once : (row : EntryRow) (k : Slot) (b : Born) (at : Step) → StandsAtStep row k b service.Exit at → IsIn k b service.Exit entered
-at_once row k b step.Entered h = h
-at_once row k b _ h = absurd h
+at_once : (v : View) (k : Slot) (b : Born) (at : Step) → StandsAtStep v k b service.Exit at → IsIn k b service.Exit entered
+at_once v k b step.Entered h = h
+at_once v k b _ h = absurd h
 
 abstract_exit : (a : AbstractState) (n : ℕ) (b : Born) (k : Slot) → ((fd : ℕ) → b.descriptors fd ≡ None) →
     library_step a n b k.registers service.Exit entered ≡ Some (slot_freed a n b)
@@ -51,7 +51,7 @@ module _ (s : KernelState) (n : ℕ) (at : Step) (stands : place_of (slot_at s n
   exit_keeps : IsInOrder (without_environment s n) → KeepsStanding progress.Ended n s (without_environment s n) []
   exit_keeps in_order a h quiet =
       let v = served h.1 n service.Exit at stands in
-      let here : IsIn (slot_at s n) v.b service.Exit entered = at_once (rows_of s.spaces (slot_at s n).directory) (slot_at s n) v.b at v.at in
+      let here : IsIn (slot_at s n) v.b service.Exit entered = at_once (view_of s.spaces (slot_at s n).directory) (slot_at s n) v.b at v.at in
       let used = directory_is (s.spaces.uses (slot_at s n).directory) (h.1.in_order.spaces.in_use n live) in
       let gone = destroyed_gone s.spaces (slot_at s n).directory h.1.in_order.frames used in (
         slot_freed a n v.b,

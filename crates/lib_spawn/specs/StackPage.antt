@@ -2,8 +2,7 @@
 -- the order of the words and without gaps; below them, at a multiple of four, the strings' addresses and a 0; below these
 -- the address of the first of them; and where ESP points, how many words there are.
 -- (MIT 6.828, init_stack of lib/spawn.c, and lib/entry.S.)
-use Rattle.std.specs.Prelude.{ℕ, ◌+◌, ◌-◌, ◌*◌, ◌/◌, ◌&&◌, nat_le, Bool, List, [], ◌∷◌, ◌++◌, length, map, replicate}
-use Rattle.std.specs.Borrow.{Bor}
+use Rattle.std.specs.Prelude.{ℕ, ◌+◌, ◌-◌, ◌*◌, ◌/◌, ◌&&◌, nat_le, Bool, List, [], ◌∷◌, ◌++◌, length, replicate}
 use Rattle.jos_base.specs.declared.numbers.TheConstants.{PGSIZE, USTACKTOP}
 use Rattle.jos_base.specs.TrapFrames.{bytes_of_words}
 use Rattle.lib_spawn.specs.declared.stack.TheConstants.{ARGS_MAX}

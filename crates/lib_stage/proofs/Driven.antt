@@ -11,7 +11,6 @@ use Rattle.lib_os.specs.declared.user_os.Stop.{Stop}
 use Rattle.lib_os.specs.declared.user_os.Stop.TheVariants as stop
 use Rattle.lib_os.specs.InOrder.{IsInOrder}
 use Rattle.lib_os.specs.LibrarySteps.{IsLibraryStep, IsStopped, KeepsStanding, Leaves, Lowers, GivesUp}
-use Rattle.lib_os.specs.Places.{place_of}
 use Rattle.lib_os.specs.UserCalls.{Got, got, to_handler, gone, Output, Prints, HasStopCause}
 use Rattle.lib_stage.specs.declared.ask.Ask.{Ask}
 use Rattle.lib_stage.specs.Asks.{performed, IsPerformed}
@@ -90,13 +89,12 @@ module _ (s : KernelState) (n : ℕ) (plan : Plan) where
         (subst (λ (t : KernelState). Leaves (Ok (service_step s n plan).progress) n s t) (sym h.1) law.leaves)
     law_leaves (Err failed) after output h = tt
 
-    pub law_lowers : (result : Result Progress Failed) (after : KernelState) (output : Output) (m : ℕ) → m ≡ n →
-        IsServiceStep result s n plan after output → Lowers result (place_of (slot_at s n)) (place_of (slot_at after m))
-    law_lowers (Ok done) after output m same h =
-        subst (λ (q : ℕ). Lowers (Ok done) (place_of (slot_at s n)) (place_of (slot_at after q))) (sym same)
-        (subst (λ (p : Progress). Lowers (Ok p) (place_of (slot_at s n)) (place_of (slot_at after n))) (sym h.0)
-        (subst (λ (t : KernelState). Lowers (Ok (service_step s n plan).progress) (place_of (slot_at s n)) (place_of (slot_at t n))) (sym h.1) law.lowers))
-    law_lowers (Err failed) after output m same h = tt
+    pub law_lowers : (result : Result Progress Failed) (after : KernelState) (output : Output) → IsServiceStep result s n plan after output →
+        Lowers result n s after
+    law_lowers (Ok done) after output h =
+        subst (λ (p : Progress). Lowers (Ok p) n s after) (sym h.0)
+        (subst (λ (t : KernelState). Lowers (Ok (service_step s n plan).progress) n s t) (sym h.1) law.lowers)
+    law_lowers (Err failed) after output h = tt
 
     pub law_gives_up : (result : Result Progress Failed) (after : KernelState) (output : Output) (m : ℕ) → m ≡ n →
         IsServiceStep result s n plan after output → GivesUp result (slot_at s n) (slot_at after m)

@@ -6,11 +6,12 @@ use Rattle.jos_base.specs.declared.called.Called.{Called}
 use Rattle.jos_base.specs.declared.called.Called.TheVariants.{Answered}
 use Rattle.jos_base.specs.declared.environment.Status.TheVariants.{Runnable}
 use Rattle.jos_base.specs.declared.numbers.TheConstants.{SYS_EXOFORK, SYS_YIELD}
-use Rattle.jos_base.specs.Environments.{Slot, is_live}
+use Rattle.jos_base.specs.Environments.{Slot, is_live, is_runnable}
 use Rattle.jos_base.specs.KernelState.{KernelState, slot_at, with_extra, with_registers, with_status}
 use Rattle.jos_base.specs.SystemCalls.{system_call, may_print}
 use Rattle.jos_base.proofs.Maps.{upd-at}
 use Rattle.lib_os.specs.declared.numbers.TheConstants.{SERVICES}
+use Rattle.lib_os.specs.declared.place.Place.{Place}
 use Rattle.lib_os.specs.declared.place.Place.TheVariants as place
 use Rattle.lib_os.specs.declared.place.Step.{Step}
 use Rattle.lib_os.specs.declared.progress.Progress.TheVariants as progress
@@ -18,25 +19,32 @@ use Rattle.lib_os.specs.declared.service.Service.{Service}
 use Rattle.lib_os.specs.AbstractRun.{abs_step}
 use Rattle.lib_os.specs.AbstractState.{AbstractState, Born}
 use Rattle.lib_os.specs.InOrder.{IsInOrder}
-use Rattle.lib_os.specs.LibrarySteps.{Stands, AbstractFollows, KeepsStanding, KeepsUses, Leaves, LeavesRest, Lowers, is_pausing, steps_left}
-use Rattle.lib_os.specs.Places.{place_of, words_at}
-use Rattle.lib_os.specs.StandsFor.{StandsFor, Names, EntryRow, rows_of, StandsAtStep}
+use Rattle.lib_os.specs.Need.{EachHasUse}
+use Rattle.lib_os.specs.LibrarySteps.{Stands, AbstractFollows, KeepsStanding, KeepsUses, Leaves, LeavesRest, Lowers, LowersAt, is_pausing}
+use Rattle.lib_os.specs.LibrarySteps.{steps_left, copies_left, left_at, hidden_left}
+use Rattle.lib_os.specs.LibraryPages.{View}
+use Rattle.lib_os.specs.Places.{place_of, words_at, handler_registers}
+use Rattle.lib_os.specs.Rows.{Names, rows_of}
+use Rattle.lib_os.specs.StandsFor.{StandsFor, StandsAtStep, view_of}
 use Rattle.lib_os.specs.UserCalls.{CallStep, Got, got, to_handler, gone, giving, load, asking, system, Output}
 use Rattle.lib_os.proofs.Calls.{yield_is}
-use Rattle.lib_os.proofs.GoingOn.{went_to, lowered, gave_up, gives_nothing_up}
-use Rattle.lib_os.proofs.Leaving.{load_left, system_left, wakes}
+use Rattle.lib_os.proofs.GoingOn.{went_to, gave_up, gives_nothing_up}
+use Rattle.lib_os.proofs.Leaving.{Left, load_left, load_byte_left, store_left, store_byte_left, exchange_left, restore_left}
+use Rattle.lib_os.proofs.Leaving.{put_left, system_left, wakes}
+use Rattle.lib_os.proofs.Slots.{slots_alike}
 use Rattle.lib_os.proofs.Loading.{loaded, loaded_state, GivesWord}
 use Rattle.lib_os.proofs.Numbered.{number_of}
 use Rattle.lib_os.proofs.Serving.{served}
 use Rattle.lib_os.proofs.StepsLeave.{Behind, behind, answers, goes_back, goes_on, stays}
 use Rattle.lib_os.proofs.Trying.{IsAnswered, LivesOn}
-use Rattle.lib_os.proofs.UsesCalled.{load_found, system_found}
+use Rattle.lib_os.proofs.UsesCalled.{load_found, load_byte_found, store_found, store_byte_found, exchange_found}
+use Rattle.lib_os.proofs.UsesCalled.{restore_frame_found, system_found}
 use Rattle.lib_os.proofs.WindowWords.{read_at}
 use Rattle.lib_stage.specs.declared.ask.Ask.{Ask}
 use Rattle.lib_stage.specs.declared.ask.Ask.TheVariants as ask
 use Rattle.lib_stage.specs.declared.ask.Next.{Next}
 use Rattle.lib_stage.specs.declared.ask.Next.TheVariants as next
-use Rattle.lib_stage.specs.Asks.{performed, got_as, told_as, MayFail}
+use Rattle.lib_stage.specs.Asks.{performed, at_instruction, got_as, told_as, MayFail}
 use Rattle.lib_stage.specs.Nexts.{settled, seen_as, is_gone}
 use Rattle.lib_stage.specs.ServiceSteps.{Plan, upshot_by, nowhere, PlanHolds, ServiceHolds}
 
@@ -45,33 +53,63 @@ use Rattle.lib_stage.specs.ServiceSteps.{Plan, upshot_by, nowhere, PlanHolds, Se
 -- a call in which an environment neither forks nor wakes itself
 abbrev pub is_plain : Ask → Bool
 is_plain (ask.System number args) = not (number == SYS_EXOFORK) && not (wakes number)
-is_plain (ask.Load va) = true
-is_plain _ = false
+is_plain _ = true
 
 both_off : (t u : Bool) → (not t && not u) ≡ true → (t ≡ false) × (u ≡ false)
 both_off false false is = (refl, refl)
 both_off false true is = absurd (let contradiction : false ≡ true = is in cc)
 both_off true u is = absurd (let contradiction : false ≡ true = is in cc)
 
-plain_behind : (s : KernelState) (n : ℕ) (a : Ask) → is_plain a ≡ true → Behind s n (performed s n a).state
+-- the environment stands at an instruction before
+moved_behind : (s : KernelState) (n ip : ℕ) (after : KernelState) → Left (Unit {0}) (at_instruction s n ip) n after →
+    (IsInOrder s → EachHasUse s.spaces → EachHasUse after.spaces) → Behind s n after
+moved_behind s n ip after h used = record {
+  left = record {
+    rest = record { last = h.rest.last; turns = h.rest.turns; frames = h.rest.frames; refused = h.rest.refused; told = h.rest.told };
+    calm = λ p calm. h.calm tt (
+        slots_alike s n (λ (k : Slot). is_runnable k.status) (record (slot_at s n) { registers = record (slot_at s n).registers { eip = ip } }) refl n
+        ∙ calm
+        );
+  };
+  used = λ in_order live each. used in_order each;
+}
+
+pub plain_behind : (s : KernelState) (n : ℕ) (a : Ask) → is_plain a ≡ true → Behind s n (performed s n a).state
 unfolding performed
 plain_behind s n (ask.System number args) plain =
     let both = both_off (number == SYS_EXOFORK) (wakes number) plain in behind s n number args both.0 both.1
 plain_behind s n (ask.Load va) plain =
     record { left = load_left _ s n va; used = λ in_order live each. load_found s n in_order.frames each va }
-plain_behind s n (ask.LoadByte va) plain = absurd (let contradiction : false ≡ true = plain in cc)
-plain_behind s n (ask.Store va word) plain = absurd (let contradiction : false ≡ true = plain in cc)
-plain_behind s n (ask.StoreByte va byte) plain = absurd (let contradiction : false ≡ true = plain in cc)
-plain_behind s n (ask.Exchange va word) plain = absurd (let contradiction : false ≡ true = plain in cc)
-plain_behind s n ask.RestoreFrame plain = absurd (let contradiction : false ≡ true = plain in cc)
+plain_behind s n (ask.LoadByte va) plain =
+    record { left = load_byte_left _ s n va; used = λ in_order live each. load_byte_found s n in_order.frames each va }
+plain_behind s n (ask.Store va word) plain =
+    record { left = store_left _ s n va word; used = λ in_order live each. store_found s n in_order.frames each va word }
+plain_behind s n (ask.StoreByte va byte) plain =
+    record { left = store_byte_left _ s n va byte; used = λ in_order live each. store_byte_found s n in_order.frames each va byte }
+plain_behind s n (ask.Exchange va word) plain =
+    record { left = exchange_left _ s n va word; used = λ in_order live each. exchange_found s n in_order.frames each va word }
+plain_behind s n ask.RestoreFrame plain =
+    record { left = restore_left _ s n; used = λ in_order live each. restore_frame_found s n in_order.frames each }
+plain_behind s n (ask.Touch ip va true) plain =
+    let t = at_instruction s n ip in
+    moved_behind s n ip _ (store_byte_left _ t n va 0) (λ in_order each. store_byte_found t n in_order.frames each va 0)
+plain_behind s n (ask.Touch ip va false) plain =
+    let t = at_instruction s n ip in
+    moved_behind s n ip _ (load_byte_left _ t n va) (λ in_order each. load_byte_found t n in_order.frames each va)
 
-settled_leaves : (s mid : KernelState) (n number : ℕ) (x : Next) → Behind s n mid → Leaves (Ok (seen_as x)) n s (settled number x mid n)
+pub settled_leaves : (s mid : KernelState) (n number : ℕ) (x : Next) → Behind s n mid → Leaves (Ok (seen_as x)) n s (settled number x mid n)
 settled_leaves s mid n number (next.Answer word) h = answers s mid _ n n word progress.Finished h refl
 settled_leaves s mid n number (next.Answers eax edx ecx ebx) h =
     goes_back s mid _ n n (record (slot_at mid n).registers { eax = eax; edx = edx; ecx = ecx; ebx = ebx }) progress.Finished h refl
 settled_leaves s mid n number (next.GoOn at) h = goes_on s mid _ n n (words_at number at) progress.Hidden h refl
 settled_leaves s mid n number (next.Show at) h = goes_on s mid _ n n (words_at number at) progress.Visible h refl
 settled_leaves s mid n number (next.Wait at) h = goes_on s mid _ n n (words_at number at) progress.Waited h refl
+settled_leaves s mid n number (next.Handle at) h =
+    stays s (settled number (next.Handle at) mid n) n progress.Hidden (record {
+      left = put_left _ s n mid h.left n (record (slot_at mid n) { registers = handler_registers (slot_at mid n).registers at }) refl;
+      used = h.used;
+    })
+settled_leaves s mid n number next.Leave h = stays s mid n progress.Hidden h
 settled_leaves s mid n number next.Gone h = stays s mid n progress.Ended h
 
 pub plain_leaves : (s : KernelState) (n : ℕ) (plan : Plan) → is_plain plan.asks ≡ true →
@@ -91,16 +129,26 @@ pub record GoesOn (s : KernelState) (n : ℕ) (plan : Plan) (step : CallStep Cal
   pub registers : (called : Called) → step.gives ≡ got called → is_gone (plan.next called) ≡ false →
       (slot_at step.state n).registers ≡ (slot_at s n).registers
 
--- the number falls, or the service gives up its turn by its next step
+-- the number falls, or the service gives up its turn by its next step; no service goes on as the handler of page faults does
 abbrev pub Falls : Service → Step → Next → Type 0
-Falls service from (next.GoOn to) = steps_left (place.InService service to) < steps_left (place.InService service from)
+Falls service from (next.GoOn to) = steps_left to < steps_left from
 Falls service from (next.Wait to) = is_pausing (place.InService service to) ≡ true
+Falls service from (next.Handle to) = ⊥
+Falls service from next.Leave = ⊥
 Falls service from _ = Unit {0}
+
+-- the number of a service is that of its step, whatever pages wait to be copied
+service_lowers : (s after : KernelState) (n : ℕ) (service : Service) (from to : Step) → place_of (slot_at s n) ≡ place.InService service from →
+    place_of (slot_at after n) ≡ place.InService service to → steps_left to < steps_left from → Lowers (Ok progress.Hidden) n s after
+service_lowers s after n service from to was is less =
+    subst (λ (p : Place). LowersAt p n s after) (sym was)
+    (subst (λ (p : Place). left_at p (copies_left (rows_of after.spaces (slot_at after n).directory)) < hidden_left s n) (sym is)
+    (subst (λ (p : Place). steps_left to < left_at p (copies_left (rows_of s.spaces (slot_at s n).directory))) (sym was) less))
 
 pub falling_lowers : (s : KernelState) (n : ℕ) (plan : Plan) (step : CallStep Called) (service : Service) (from : Step) →
     place_of (slot_at s n) ≡ place.InService service from → plan.number ≡ number_of service → GoesOn s n plan step →
     ((called : Called) → Falls service from (plan.next called)) →
-    let did = upshot_by plan n step step.gives in Lowers (Ok did.progress) (place_of (slot_at s n)) (place_of (slot_at did.state n))
+    let did = upshot_by plan n step step.gives in Lowers (Ok did.progress) n s did.state
 falling_lowers s n plan step service from stands numbered goes falls = by_got step.gives refl
   where
     there : (to : Step) → (slot_at step.state n).registers ≡ (slot_at s n).registers →
@@ -110,16 +158,19 @@ falling_lowers s n plan step service from stands numbered goes falls = by_got st
         (ap (λ (number : ℕ). settled number (next.GoOn to) step.state n) numbered)
 
     by_next : (x : Next) → (is_gone x ≡ false → (slot_at step.state n).registers ≡ (slot_at s n).registers) → Falls service from x →
-        Lowers (Ok (seen_as x)) (place_of (slot_at s n)) (place_of (slot_at (settled plan.number x step.state n) n))
+        Lowers (Ok (seen_as x)) n s (settled plan.number x step.state n)
     by_next (next.Answer word) kept falls = tt
     by_next (next.Answers eax edx ecx ebx) kept falls = tt
-    by_next (next.GoOn to) kept falls = lowered _ _ service from to stands (there to (kept refl)) falls
+    by_next (next.GoOn to) kept falls =
+        service_lowers s (settled plan.number (next.GoOn to) step.state n) n service from to stands (there to (kept refl)) falls
     by_next (next.Show to) kept falls = tt
     by_next (next.Wait to) kept falls = ap is_pausing (there to (kept refl)) ∙ falls
+    by_next (next.Handle to) kept falls = absurd falls
+    by_next next.Leave kept falls = absurd falls
     by_next next.Gone kept falls = tt
 
     by_got : (g : Got Called) → step.gives ≡ g →
-        let did = upshot_by plan n step g in Lowers (Ok did.progress) (place_of (slot_at s n)) (place_of (slot_at did.state n))
+        let did = upshot_by plan n step g in Lowers (Ok did.progress) n s did.state
     by_got (got called) is = by_next (plan.next called) (goes.registers called is) (falls called)
     by_got to_handler is = tt
     by_got gone is = tt
@@ -206,7 +257,7 @@ shown_keeps s n number args plan to on shows keeps =
 
 gone_lowers : (s : KernelState) (n number : ℕ) (asks : Ask) (step : CallStep Called) (g : Got Called) →
     let did = upshot_by (record { number = number; asks = asks; next = λ called. next.Gone }) n step g in
-    Lowers (Ok did.progress) (place_of (slot_at s n)) (place_of (slot_at did.state n))
+    Lowers (Ok did.progress) n s did.state
 gone_lowers s n number asks step (got called) = tt
 gone_lowers s n number asks step to_handler = tt
 gone_lowers s n number asks step gone = tt
@@ -234,9 +285,9 @@ module _ (s : KernelState) (n : ℕ) (service : Service) (from : Step) (stands :
 
 -- Nothing stands there, so that no state stands for an abstract one.
 module _ (s : KernelState) (n : ℕ) (service : Service) (at : Step) (stands : place_of (slot_at s n) ≡ place.InService service at)
-    (goes_on : is_pausing (place.InService service at) ≡ false) (none : (row : EntryRow) (k : Slot) (b : Born) → StandsAtStep row k b service at → ⊥) where
+    (goes_on : is_pausing (place.InService service at) ≡ false) (none : (v : View) (k : Slot) (b : Born) → StandsAtStep v k b service at → ⊥) where
   nobody : (names : Names) (a : AbstractState) → StandsFor names s a → ⊥
-  nobody names a h = let v = served h n service at stands in none (rows_of s.spaces (slot_at s n).directory) (slot_at s n) v.b v.at
+  nobody names a h = let v = served h n service at stands in none (view_of s.spaces (slot_at s n).directory) (slot_at s n) v.b v.at
 
   pub law_of_nowhere : ServiceHolds s n nowhere
   unfolding performed
@@ -325,7 +376,7 @@ module _ (s : KernelState) (n : ℕ) (service : Service) (from to : Step) (numbe
   used : KeepsUses n s ran
   used = subst (λ (z : CallStep Called). KeepsUses n s z.state) (yield_is s n live args) (λ in_order live each. system_found s n SYS_YIELD args in_order live each)
 
-  pub law_of_pause : steps_left (place.InService service to) < steps_left (place.InService service from) → KeepsStanding progress.Hidden n s after [] →
+  pub law_of_pause : steps_left to < steps_left from → KeepsStanding progress.Hidden n s after [] →
       ServiceHolds s n pause
   unfolding performed
   law_of_pause falls keeps =

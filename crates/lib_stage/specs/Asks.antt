@@ -1,8 +1,8 @@
 -- What an ask is: a call of the kernel, whose word is told as an answer.
-use Rattle.std.specs.Prelude.{◌≡◌, ℕ, ◌%◌, true, List, [], ◌∷◌, Result, Ok, Err}
+use Rattle.std.specs.Prelude.{◌≡◌, ℕ, ◌%◌, Bool, true, false, List, [], ◌∷◌, Result, Ok, Err}
 use Rattle.jos_base.specs.declared.called.Called.{Called}
 use Rattle.jos_base.specs.declared.called.Called.TheVariants.{Answered}
-use Rattle.jos_base.specs.KernelState.{KernelState}
+use Rattle.jos_base.specs.KernelState.{KernelState, slot_at, with_registers}
 use Rattle.jos_base.specs.SystemCalls.{may_print}
 use Rattle.lib_os.specs.declared.user_os.Stop.{Stop}
 use Rattle.lib_os.specs.declared.user_os.Stop.TheVariants as stop
@@ -25,6 +25,15 @@ got_as word gone = gone
 abbrev pub told_as : {X : Type 0} → (X → ℕ) → CallStep X → CallStep Called
 told_as word step = record { state = step.state; gives = got_as word step.gives; written = step.written }
 
+-- the environment stands at an instruction
+abbrev pub at_instruction : KernelState → ℕ → ℕ → KernelState
+at_instruction s n ip = with_registers s n (record (slot_at s n).registers { eip = ip })
+
+-- a byte is loaded, or, for a write, 0 is put there
+abbrev pub touching : KernelState → ℕ → ℕ → Bool → CallStep Called
+touching s n va true = told_as (λ done. 0) (call.store_byte s n va 0)
+touching s n va false = told_as (λ byte. byte) (call.load_byte s n va)
+
 -- the state after the call, what it gives and what is written
 unfoldable pub performed : KernelState → ℕ → Ask → CallStep Called
 performed s n (ask.System number args) = call.system s n number args
@@ -34,6 +43,7 @@ performed s n (ask.Store va word) = told_as (λ done. 0) (call.store s n va word
 performed s n (ask.StoreByte va byte) = told_as (λ done. 0) (call.store_byte s n va byte)
 performed s n (ask.Exchange va word) = told_as (λ stood. stood) (call.exchange s n va word)
 performed s n ask.RestoreFrame = told_as (λ done. 0) (call.restore_frame s n)
+performed s n (ask.Touch ip va write) = touching (at_instruction s n ip) n va write
 
 -- words lie at multiples of four
 abbrev pub IsAligned : Ask → Type 0

@@ -12,7 +12,6 @@ use Rattle.lib_os.specs.AbstractRun.{abs_step}
 use Rattle.lib_os.specs.AbstractState.{AbstractState}
 use Rattle.lib_os.specs.InOrder.{IsInOrder}
 use Rattle.lib_os.specs.LibrarySteps.{Stands, KeepsStanding, Leaves, Lowers, GivesUp}
-use Rattle.lib_os.specs.Places.{place_of}
 use Rattle.lib_os.specs.UserCalls.{CallStep, Got, got, to_handler, gone, Output, Prints, PrintsPart}
 use Rattle.lib_stage.specs.declared.ask.Ask.{Ask}
 use Rattle.lib_stage.specs.declared.ask.Ask.TheVariants as ask
@@ -62,7 +61,7 @@ pub record PlanHolds (s : KernelState) (n : ℕ) (plan : Plan) (step : CallStep 
   pub fails : MayFail plan.asks step.gives → (a : AbstractState) → Stands s a →
       (b : AbstractState) × (abs_step a n ≡ Some b) × (b.console ≡ a.console ++ step.written)
   pub leaves : let did = upshot_by plan n step step.gives in Leaves (Ok did.progress) n s did.state
-  pub lowers : let did = upshot_by plan n step step.gives in Lowers (Ok did.progress) (place_of (slot_at s n)) (place_of (slot_at did.state n))
+  pub lowers : let did = upshot_by plan n step step.gives in Lowers (Ok did.progress) n s did.state
   pub gives_up : let did = upshot_by plan n step step.gives in GivesUp (Ok did.progress) (slot_at s n) (slot_at did.state n)
 
 abbrev pub ServiceHolds : KernelState → ℕ → Plan → Type 0

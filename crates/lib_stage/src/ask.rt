@@ -1,6 +1,6 @@
-//! What a service asks, and what it does next.
+//! What a service asks, or the handler of page faults, and what it does next.
 
-use lib_os::Step;
+use lib_os::{HandlerStep, Step};
 
 /// What a service asks of the kernel at a stage. Each is one call.
 #[derive(Clone, Copy, Debug, PartialEq, Eq)]
@@ -19,6 +19,9 @@ pub enum Ask {
     Exchange { va: u32, word: u32 },
     /// Takes the registers back from the frame of a page fault that stands at ESP.
     RestoreFrame,
+    /// An access to a byte as at the program's instruction at `ip`, where the environment stands then: the byte is loaded, or,
+    /// for a write, 0 is put there.
+    Touch { ip: u32, va: u32, write: bool },
 }
 
 /// What a service does by the reply.
@@ -39,6 +42,11 @@ pub enum Next {
     Show(Step),
     /// Nothing that anybody sees: it waits for another environment, and gives up its turn by its next step.
     Wait(Step),
+    /// Nothing that anybody sees: the handler of page faults goes on at a step.
+    Handle(HandlerStep),
+    /// Nothing that anybody sees: the handler of page faults is over, and the call has set the registers with which the program
+    /// goes on.
+    Leave,
     /// It has made a step of the abstract system, and the environment is gone.
     Gone,
 }

@@ -7,7 +7,6 @@ ghost use Rattle.jos_base.specs.Environments.{is_live};
 ghost use Rattle.jos_base.specs.KernelState.{slot_at};
 ghost use Rattle.lib_os.specs.declared.numbers.TheConstants.{SERVICES};
 ghost use Rattle.lib_os.specs.LibrarySteps.{IsLibraryStep, Leaves, Lowers, GivesUp, MakesOneCall};
-ghost use Rattle.lib_os.specs.Places.{place_of};
 ghost use Rattle.lib_os.specs.UserCalls.{output};
 ghost use Rattle.lib_stage.specs.Asks.{IsAligned};
 ghost use Rattle.lib_stage.specs.ServiceSteps.{Plan, IsServiceStep, ServiceHolds};
@@ -19,12 +18,13 @@ use jos_base::Called;
 use jos_host::{Failed, Host};
 use lib_os::{Progress, UserOs, stopped};
 
-/// A service at a stage, with what it was given: a plan of what it asks, and of what it does next.
+/// A service at a stage, or the handler of page faults at a step, with what it was given: a plan of what it asks, and of what it
+/// does next.
 pub trait Planned {
     /// What it asks, and what it does next by the reply.
     ghost plan: { Self → Plan };
 
-    /// The service's number.
+    /// The service's number; the handler of page faults has that of none.
     fn number(&self) -> u32
         ensures number { result ≡ (plan self.now).number }
         ensures below { result ≤ SERVICES };
@@ -39,7 +39,7 @@ pub trait Planned {
         ensures { result ≡ (plan self.now).next called };
 }
 
-/// Makes one step of a service, with one call of the kernel.
+/// Makes one step of a service, or of the handler of page faults, with one call of the kernel.
 ///
 /// # Errors
 /// The host failed.
@@ -54,7 +54,7 @@ pub fn drive<S: Planned, O: UserOs, H: Host>(
     ensures made { IsServiceStep result (O.state os.old) (O.slot os.old) (S.plan stage.now) (O.state os.new) (output H.console O.written (from_to host.old host.new) (from_to os.old os.new)) }
     ensures step { IsLibraryStep result (O.slot os.old) (O.state os.old) (O.state os.new) (output H.console O.written (from_to host.old host.new) (from_to os.old os.new)) }
     ensures leaves { Leaves result (O.slot os.old) (O.state os.old) (O.state os.new) }
-    ensures lowers { Lowers result (place_of (slot_at (O.state os.old) (O.slot os.old))) (place_of (slot_at (O.state os.new) (O.slot os.new))) }
+    ensures lowers { Lowers result (O.slot os.old) (O.state os.old) (O.state os.new) }
     ensures gives_up { GivesUp result (slot_at (O.state os.old) (O.slot os.old)) (slot_at (O.state os.new) (O.slot os.new)) }
     ensures one { MakesOneCall (around O.slot os.old os.new) (around O.calls os.old os.new) }
     ensures rest { Unchanged H.files H.input H.asked H.notes host.old host.new }

@@ -8,9 +8,10 @@ ghost use Rattle.lib_stage.specs.Nexts.{settled, seen_as, is_gone};
 
 use crate::ask::Next;
 use jos_base::Regs;
-use lib_os::{Progress, UserOs, answer, go_back, go_on};
+use lib_os::{Progress, UserOs, answer, go_back, go_on, handler_registers};
 
-/// Ends the service, which is named by its number, or lets it go on at a step. This is no call of the kernel.
+/// Ends the service, which is named by its number, or lets it, or the handler of page faults, go on at a step. This is no call
+/// of the kernel.
 pub fn settle<O: UserOs>(os: &mut O, number: u32, next: Next) -> Progress
     requires live { is_gone next ≡ false → is_live (slot_at (O.state os.old) (O.slot os.old)) ≡ true }
     requires number { number ≤ SERVICES }
@@ -51,6 +52,12 @@ pub fn settle<O: UserOs>(os: &mut O, number: u32, next: Next) -> Progress
             go_on(os, number, step);
             Progress::Waited
         }
+        Next::Handle(step) => {
+            let registers = os.registers();
+            os.set_registers(handler_registers(registers, step));
+            Progress::Hidden
+        }
+        Next::Leave => Progress::Hidden,
         Next::Gone => Progress::Ended,
     }
 }

@@ -42,9 +42,11 @@ returns-clause-booted c = λ input.
 pub returns-clause-stands : goal.returns-clause-stands
 returns-clause-stands c = λ input. (let begins = begun_within c.args.image.now c.args.file.now (map (λ w. w.now) c.args.words.now)
     c.args.frames input (state_of c.start_program.new.system input)
+    (λ i. (c.type_inv.file i).fits) (c.start_program.ensures.bytes c.if-not-start_program.false)
     c.requires.read c.requires.fits c.requires.least c.requires.most (returns-clause-booted c input) in begins.0)
 
 pub returns-clause-new : goal.returns-clause-new
 returns-clause-new c = λ input. (let begins = begun_within c.args.image.now c.args.file.now (map (λ w. w.now) c.args.words.now) c.args.frames
     input (state_of c.start_program.new.system input)
+    (λ i. (c.type_inv.file i).fits) (c.start_program.ensures.bytes c.if-not-start_program.false)
     c.requires.read c.requires.fits c.requires.least c.requires.most (returns-clause-booted c input) in begins.1)

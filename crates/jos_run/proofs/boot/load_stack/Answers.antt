@@ -1,4 +1,4 @@
-use Rattle.std.proofs.Common.{◌∙◌, ◌-◌, [], ◌∷◌, refl, sym, ap, arith, map}
+use Rattle.std.proofs.Common.{◌∙◌, ◌-◌, ℕ, List, [], ◌∷◌, refl, sym, ap, subst, arith, map}
 use Rattle.jos_base.specs.KernelState.{slot_at}
 use Rattle.jos_base.specs.SpacesState.{overlaid}
 use Rattle.jos_kernel.specs.Boot.{perm_of, stack_page}
@@ -7,7 +7,9 @@ use Rattle.jos_kernel.proofs.PagesLoaded.{loads-none, loads-filled}
 use Rattle.jos_sys.specs.System.{state_of}
 use Rattle.lib_spawn.specs.StackPage.{stack_contents}
 use Rattle.lib_spawn.proofs.StackPages.{fits}
+use Rattle.lib_os.specs.Rows.{AreBytes}
 use Rattle.jos_run.specs.Boot.{stack_segment}
+use Rattle.jos_run.proofs.PagesWhole.{strings-bytes}
 use Rattle.jos_run.proofs.StackLoaded.{fits-some, stack-touched, stack-writes, stack-laid}
 use Rattle.jos_run.proofs.boot.load_stack.Goals as goal
 
@@ -32,7 +34,12 @@ returns-in-Some-clause-loads c =
     (c.fill.ensures.state input
     ∙ ap (with_bytes_in (state_of c.allocate.new.self input) c.in-Some.frame.0)
     (ap (overlaid ((state_of c.allocate.new.self input).spaces.pages c.in-Some.frame.0) (4096 - c.len.result))
-    (c.as_slice.ensures.value ∙ c.stack_contents-bytes.ensures.bytes)
+    (c.as_slice-in-Some.ensures.value ∙ c.stack_contents-bytes.ensures.bytes)
     ∙ sym (stack-laid words (fits-some words h) h.size ((state_of c.allocate.new.self input).spaces.pages c.in-Some.frame.0)
     (4096 - c.len.result)
     (let size = c.stack_contents-bytes.ensures.size in let long = c.len.ensures.value in omega (arith, size, long)))))
+
+pub returns-in-Some-clause-bytes : goal.returns-in-Some-clause-bytes
+returns-in-Some-clause-bytes c = λ done.
+    strings-bytes (map (λ w. w.now) c.args.words.now)
+    (subst (λ (list : List ℕ). AreBytes list) (c.as_slice.ensures.value ∙ c.stack_contents-bytes.ensures.bytes) c.keep_bytes.ensures)

@@ -1,5 +1,8 @@
-use Rattle.lib_os.proofs.WordsTell.{place_at}
+use Rattle.lib_os.proofs.WordsTell.{place_at, handler_at}
 use Rattle.lib_os.proofs.laws.words_tell_the_place.Goals as goal
 
-pub returns : goal.returns
-returns c = place_at
+pub returns-clause-words : goal.returns-clause-words
+returns-clause-words c = place_at
+
+pub returns-clause-registers : goal.returns-clause-registers
+returns-clause-registers c = handler_at

@@ -2,6 +2,7 @@ use Rattle.std.proofs.Common.{refl}
 use Rattle.lib_os.specs.UserCalls as call
 use Rattle.lib_stage.specs.declared.ask.Ask.TheVariants as ask
 use Rattle.lib_stage.specs.Asks.{performed}
+use Rattle.lib_os.proofs.SlotsSet.{set_live}
 use Rattle.lib_stage.proofs.Telling.{told, asked_not}
 use Rattle.lib_stage.proofs.performing.perform.Goals as goal
 
@@ -64,3 +65,7 @@ pub returns-in-Err-restore_frame-clause-step : goal.returns-in-Err-restore_frame
 unfolding performed
 returns-in-Err-restore_frame-clause-step g c =
     asked_not (g.O.UserOs.state c.args.os.now) (g.O.UserOs.slot c.args.os.now) c.args.ask (ask.RestoreFrame) (λ done. 0) (call.restore_frame (g.O.UserOs.state c.args.os.now) (g.O.UserOs.slot c.args.os.now)) c.in-Err-restore_frame.stop _ _ c.in-RestoreFrame.is refl (λ gives e. e) c.in-Err-restore_frame.ensures.step
+
+pub touch-requires-clause-live : goal.touch-requires-clause-live
+touch-requires-clause-live g c =
+    rw (c.set_registers.ensures.state, c.set_registers.ensures.slot) (set_live (g.O.UserOs.state c.args.os.now) (g.O.UserOs.slot c.args.os.now) _ c.requires.live)

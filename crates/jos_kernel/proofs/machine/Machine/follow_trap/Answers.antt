@@ -9,7 +9,7 @@ use Rattle.jos_host.specs.Frames.{around}
 use Rattle.jos_kernel.specs.declared.trace.TrapLine.{TrapLine}
 use Rattle.jos_kernel.specs.Machine.{Parts, kernel_state}
 use Rattle.jos_kernel.specs.Steps.{trapped, after_trap}
-use Rattle.jos_kernel.proofs.Following.{done_follows, failed_follows, upcall_made, fault_line, trap_line, gains_nothing}
+use Rattle.jos_kernel.proofs.Following.{done_follows, failed_follows, upcall_made, fault_line, trap_line, gains_nothing, fault_unhanded, trap_unhanded}
 use Rattle.jos_kernel.proofs.machine.Machine.follow_trap.Given as given
 use Rattle.jos_kernel.proofs.machine.Machine.follow_trap.Goals as goal
 use Rattle.jos_kernel.proofs.machine.Machine.follow_trap.Goals.{then-trap-eq-T_PGFLT+in-Some, else-trap-eq-T_PGFLT}
@@ -81,3 +81,12 @@ returns-in-Err-clause-told g c =
     (around g.H.Host.console c.args.host.now c.kill.new.host)
     (line_of (slot_of c.environment-environment.result) c.args.trap c.args.error c.args.va c.args.ip)
     (λ i. (is i).state) (λ i. (is i).written) trap c.in-Err.failed c.in-Err.ensures.told
+
+pub returns-in-Err-clause-ended : goal.returns-in-Err-clause-ended
+returns-in-Err-clause-ended g c =
+    let s = kernel_state c.args.self.now in
+    let n = c.args.slot in
+    elim c.if-trap-eq-T_PGFLT.branch [
+      | then-trap-eq-T_PGFLT+in-Some w ↦ fault_unhanded s n c.args.trap c.args.error c.args.va w.in-Some.ensures.told.0
+      | else-trap-eq-T_PGFLT w ↦ trap_unhanded s n c.args.trap c.args.error c.args.va w.if-trap-eq-T_PGFLT.false
+    ]

@@ -1,13 +1,16 @@
-use Rattle.std.proofs.Common.{◌≡◌, ◌∙◌, ℕ, sym, subst, arith}
+use Rattle.std.proofs.Common.{◌≡◌, ◌∙◌, ℕ, None, refl, sym, subst, arith}
 use Rattle.jos_host.specs.Frames.{around}
 use Rattle.jos_base.specs.KernelState.{slot_at}
+use Rattle.lib_os.specs.declared.place.Place.{Place}
 use Rattle.lib_os.specs.declared.place.Place.TheVariants as place
-use Rattle.lib_os.specs.LibrarySteps.{Lowers, GivesUp}
+use Rattle.lib_os.specs.LibrarySteps.{GivesUp}
 use Rattle.lib_os.specs.Places.{place_of}
+use Rattle.lib_fault.proofs.HandlerLaw.{handler_holds}
 use Rattle.jos_run.specs.Served.{kernel_state}
+use Rattle.jos_run.specs.Steps.{Raises}
+use Rattle.jos_run.proofs.LibraryMade.{library_made}
 use Rattle.jos_run.proofs.Printed.{printed}
 use Rattle.jos_run.proofs.ServicesHold.{services_hold}
-use Rattle.jos_run.proofs.StepsAtOnce.{service_made}
 use Rattle.jos_run.proofs.served.Served.make_steps.Goals as goal
 
 pub run_program-requires-clause-at : goal.run_program-requires-clause-at
@@ -22,6 +25,13 @@ drive-requires-clause-holds g c =
     rw c.stage_of.ensures (services_hold (kernel_state c.args.self.now) c.args.self.now.slot c.requires.live c.requires.awake
     (rw (← c.registers-registers.ensures) (omega arith)) c.in-InService.step c.in-InService.service is)
 
+pub drive-answer-requires-clause-holds : goal.drive-answer-requires-clause-holds
+drive-answer-requires-clause-holds g c =
+    let slot = slot_at (kernel_state c.args.self.now) c.args.self.now.slot in
+    let is : place_of slot ≡ place.InHandler c.in-InHandler.step =
+    rw (← c.registers-registers.ensures, ← c.extra-words.ensures) (sym c.find_place.ensures ∙ c.in-InHandler.is) in
+    handler_holds (kernel_state c.args.self.now) c.args.self.now.slot c.requires.live c.in-InHandler.step is
+
 pub returns-in-InService-clause-made : goal.returns-in-InService-clause-made
 returns-in-InService-clause-made g c =
     let n = c.args.self.now.slot in
@@ -31,7 +41,23 @@ returns-in-InService-clause-made g c =
     let is : place_of (slot_at s n) ≡ place.InService c.in-InService.service c.in-InService.step =
     rw (← c.registers-registers.ensures, ← c.extra-words.ensures) (sym c.find_place.ensures ∙ c.in-InService.is) in
     let same : c.drive.new.os.slot ≡ n = c.drive.ensures.one.same in
-    service_made s after n output c.in-InService.service c.in-InService.step is c.drive.result c.served_quietly.result
-    c.served_quietly.ensures.answer c.served_quietly.ensures.quiet c.drive.ensures.step c.drive.ensures.leaves
-    (subst (λ (m : ℕ). Lowers c.drive.result (place_of (slot_at s n)) (place_of (slot_at after m))) same c.drive.ensures.lowers)
+    library_made s after n output c.drive.result None (subst (λ (p : Place). Raises p n s None after) (sym is) refl)
+    c.came_with.result c.came_with.ensures.answer c.came_with.ensures.trap
+    c.drive.ensures.step c.drive.ensures.leaves c.drive.ensures.lowers
     (subst (λ (m : ℕ). GivesUp c.drive.result (slot_at s n) (slot_at after m)) same c.drive.ensures.gives_up)
+
+pub returns-in-InHandler-clause-made : goal.returns-in-InHandler-clause-made
+returns-in-InHandler-clause-made g c =
+    let n = c.args.self.now.slot in
+    let s = kernel_state c.args.self.now in
+    let after = kernel_state c.drive-answer.new.os in
+    let output = printed (around g.H.Host.console c.args.host.now c.drive-answer.new.host) c.args.self.now.written c.drive-answer.new.os.written in
+    let is : place_of (slot_at s n) ≡ place.InHandler c.in-InHandler.step =
+    rw (← c.registers-registers.ensures, ← c.extra-words.ensures) (sym c.find_place.ensures ∙ c.in-InHandler.is) in
+    let same : c.drive-answer.new.os.slot ≡ n = c.drive-answer.ensures.one.same in
+    library_made s after n output c.drive-answer.result c.raised_again-trap.result
+    (subst (λ (p : Place). Raises p n s c.raised_again-trap.result after) (sym is) c.raised_again-trap.ensures)
+    c.came_with-in-InHandler.result c.came_with-in-InHandler.ensures.answer c.came_with-in-InHandler.ensures.trap
+    c.drive-answer.ensures.step c.drive-answer.ensures.leaves
+    c.drive-answer.ensures.lowers
+    (subst (λ (m : ℕ). GivesUp c.drive-answer.result (slot_at s n) (slot_at after m)) same c.drive-answer.ensures.gives_up)

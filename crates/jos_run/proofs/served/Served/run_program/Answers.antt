@@ -1,15 +1,17 @@
-use Rattle.std.proofs.Common.{◌≡◌, true, ◌∙◌, ◌+◌, ◌-◌, ℕ, Result, ap, sym, subst, arith}
+use Rattle.std.proofs.Common.{◌≡◌, true, false, ◌∙◌, ◌+◌, ◌-◌, ℕ, Result, ap, sym, subst, arith}
+use Rattle.std.specs.Prelude.{OnErr}
 use Rattle.jos_host.specs.declared.host.Failed.{Failed}
 use Rattle.jos_host.specs.Frames.{around}
 use Rattle.jos_base.specs.Environments.{Slot, is_live}
 use Rattle.jos_base.specs.KernelState.{KernelState, slot_at, with_registers}
 use Rattle.jos_kernel.specs.Machine as kernel
+use Rattle.lib_os.specs.StandsInHandler.{AreSmall}
 use Rattle.lib_os.proofs.Slots.{slot_put}
 use Rattle.lib_os.specs.declared.place.Place.TheVariants as place
 use Rattle.lib_os.specs.Places.{place_of}
 use Rattle.jos_run.specs.declared.steps.StepOutcome.{StepOutcome}
 use Rattle.jos_run.specs.Guest.{Follows}
-use Rattle.jos_run.specs.GuestSteps.{after_event}
+use Rattle.jos_run.specs.GuestSteps.{after_event, is_copying, is_handed_over}
 use Rattle.jos_run.specs.Served.{Parts, kernel_state}
 use Rattle.jos_run.specs.Steps.{is_awake}
 use Rattle.jos_run.specs.StepsAtOnce.{came_to, MakesSteps}
@@ -37,6 +39,22 @@ done g c =
 pub set_registers-requires : goal.set_registers-requires
 set_registers-requires g c = (done g (goal.at.set_registers-requires g c).After-make_burst-burst).live
 
+pub keep_small-requires : goal.keep_small-requires
+keep_small-requires g c =
+    let t = kernel.kernel_state c.make_burst-burst.new.mem in
+    let n = c.self.inside.slot in
+    let set : Slot = record (slot_at t n) { registers = c.make_burst-burst.new.regs } in
+    (λ i. is_live (slot_at (c.set_registers.ensures i) n)) ∙ ap is_live (slot_put t n set)
+    ∙ (done g (goal.at.keep_small-requires g c).After-make_burst-burst).live
+
+pub is_copying-copying-requires : goal.is_copying-copying-requires
+is_copying-copying-requires g c =
+    let t = kernel.kernel_state c.make_burst-burst.new.mem in
+    let n = c.self.inside.slot in
+    let set : Slot = record (slot_at t n) { registers = c.make_burst-burst.new.regs } in
+    (λ i. is_live (slot_at (c.set_registers.ensures i) n)) ∙ ap is_live (slot_put t n set)
+    ∙ (done g (goal.at.is_copying-copying-requires g c).After-make_burst-burst).live
+
 pub follow_guest-followed-requires : goal.follow_guest-followed-requires
 follow_guest-followed-requires g c =
     let t = kernel.kernel_state c.make_burst-burst.new.mem in
@@ -59,13 +77,22 @@ returns-clause-made g c =
     c.set_registers.ensures c.follow_guest-followed.ensures.told in
     let awake = subst (λ (m : Parts). is_awake (slot_at (kernel_state m) m.slot).status ≡ true) (sym c.self.view_is) c.requires.awake in
     let guest = subst (λ (m : Parts). place_of (slot_at (kernel_state m) m.slot) ≡ place.Guest) (sym c.self.view_is) c.requires.at in
-    let made = program_made s mid (kernel_state after) output d.burst awake guest c.keep_in_order.ensures c.is_live.result
-    c.follow_guest-followed.result told in
+    let copying = c.is_copying-copying.result in
+    let followed = c.follow_guest-followed.result in
+    let copying_is : copying ≡ is_copying mid n burst.result.event =
+    subst (λ (k : KernelState). copying ≡ is_copying k n burst.result.event) c.set_registers.ensures c.is_copying-copying.ensures in
+    let ended : OnErr followed (is_handed_over mid n burst.result.event ≡ false) =
+    subst (λ (k : KernelState). OnErr followed (is_handed_over k n burst.result.event ≡ false)) c.set_registers.ensures
+    c.follow_guest-followed.ensures.ended in
+    let small : AreSmall (slot_at mid n).registers =
+    subst (λ (k : KernelState). AreSmall (slot_at k n).registers) c.set_registers.ensures c.keep_small.ensures in
+    let made = program_made s mid (kernel_state after) output d.burst awake guest small c.keep_in_order.ensures copying c.is_live.result
+    copying_is followed told ended in
     let count : burst.result.steps ≡ burst.ensures.going + 1 = burst.ensures.count in
     let going_is : burst.ensures.going ≡ burst.result.steps - 1 = omega (arith, count) in
     rw (← c.self.view_is)
     (subst (λ (last : Result StepOutcome Failed). MakesSteps n (burst.result.steps - 1) last s (kernel_state after) output) (sym c.came_to.ensures)
-    (subst (λ (k : ℕ). MakesSteps n k (came_to c.is_live.result c.follow_guest-followed.result) s (kernel_state after) output) going_is made))
+    (subst (λ (k : ℕ). MakesSteps n k (came_to copying c.is_live.result followed) s (kernel_state after) output) going_is made))
 
 pub returns-clause-within : goal.returns-clause-within
 returns-clause-within g c =

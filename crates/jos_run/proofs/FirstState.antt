@@ -1,0 +1,217 @@
+-- The state in which a run begins: how it comes about, and the spaces that it has.
+use Rattle.std.proofs.Common.{◌≡◌, ◌∙◌, ◌+◌, ◌*◌, ◌<◌, ◌≤◌, ℕ, false, List}
+use Rattle.std.proofs.Common.{Option, Some, None, Ok}
+use Rattle.std.proofs.Common.{refl, sym, ap, subst, arith}
+use Rattle.std.specs.Prelude.{is_some, option_and_then}
+use Rattle.std.specs.Option.{option_map}
+use Rattle.std.proofs.lemmas.Bool.Decides.{nat_tests}
+use Rattle.std.proofs.lemmas.Option.{same_Some}
+use Rattle.jos_base.specs.declared.environment.EnvType.TheVariants.{FileServer}
+use Rattle.jos_base.specs.declared.registers.Regs.{Regs}
+use Rattle.jos_base.specs.Counting.{frame_limit}
+use Rattle.jos_base.specs.Environments.{Slot, allotted, allotted_from, first_environments, free_slot, new_slot, next_id}
+use Rattle.jos_base.specs.KernelState.{KernelState, first_state, slot_at, with_directory, with_env_type, with_spaces}
+use Rattle.jos_base.specs.SpacesState.{SpacesState, first_spaces, rising}
+use Rattle.jos_base.specs.SystemCalls.{environment_made, made_of}
+use Rattle.jos_base.specs.Words.{upd}
+use Rattle.jos_elf.specs.Parsed.{Layout, parsed}
+use Rattle.jos_kernel.proofs.ImagesRead.{read_lie}
+use Rattle.lib_os.specs.AbstractState.{Page}
+use Rattle.lib_os.specs.InOrder.{IsInOrder}
+use Rattle.lib_os.specs.Need.{EachHasUse}
+use Rattle.lib_os.specs.Rows.{rows_of}
+use Rattle.lib_os.proofs.TwoSlots as two
+use Rattle.lib_os.proofs.UsesFound.{first_found}
+use Rattle.lib_os.proofs.UsesPlaced.{created_found}
+use Rattle.lib_spawn.specs.StackPage.{stack_size}
+use Rattle.jos_run.specs.Begun.{IsNew}
+use Rattle.jos_run.specs.Boot.{server_in, program_in, program_booted, program_registers, program_started, space_loaded}
+use Rattle.jos_run.specs.LibraryRuns.{NoneRuns}
+use Rattle.jos_run.proofs.BootedPages.{HasPages}
+use Rattle.jos_run.proofs.FirstSpaces.{HasFrames, rising-some, spaces_one, spaces_two, created_one, created_two}
+use Rattle.jos_run.proofs.FirstSpaces.{two_one_use, two_below}
+use Rattle.jos_run.proofs.FirstSpaces.{directory_one, directory_two, no_other}
+use Rattle.jos_run.proofs.PagesBegin.{Stage, space_memory, space_stage}
+use Rattle.fs_layout.proofs.Below.{some_below-none}
+
+module _ (image : Layout) (words : List (List ℕ)) (input : List ℕ) (frames first n : ℕ) (has : HasFrames frames first n) where
+  abbrev pub spaces : SpacesState
+  spaces = spaces_two frames first n has
+
+  abbrev pub registers : Regs
+  registers = program_registers image.entry words
+
+  abbrev slots : ℕ → Slot
+  slots = two.slots first (first + 1) registers
+
+  -- the state before a page is loaded, with the registers and the status that the program has
+  abbrev pub base : KernelState
+  base = record {
+    spaces = spaces;
+    environments = record { slots = slots; free_slots = rising 2 1022 };
+    input = input;
+    last = None;
+    turns = 0;
+    refusals = 0;
+    upcalls = 0;
+  }
+
+  abbrev no_memory : ℕ → Option Page
+  no_memory = λ p. None
+
+  -- ---- it has no pages
+
+  no_row : (d p : ℕ) → rows_of spaces d p ≡ None
+  unfolding rows_of first_spaces
+  no_row d p = refl
+
+  no_region : (d r : ℕ) → is_some (spaces.regions d r) ≡ false
+  unfolding first_spaces
+  no_region d r = refl
+
+  no_table : (d r : ℕ) → spaces.regions d r ≡ None
+  unfolding first_spaces
+  no_table d r = refl
+
+  not_some : {X : Type 0} (o : Option X) (x : X) → o ≡ None → o ≡ Some x → ⊥
+  not_some o x none some = absurd cc
+
+  no_pages : HasPages (first + 1) no_memory spaces
+  no_pages = record {
+    pages = λ p. sym (ap (option_map _) (no_row (first + 1) p));
+    plain = λ p x is. absurd (not_some (rows_of spaces (first + 1) p) x (no_row (first + 1) p) is);
+    alone = λ p q x y ne is js. absurd (not_some (rows_of spaces (first + 1) p) x (no_row (first + 1) p) is);
+    elsewhere = λ d p ne. no_row d p;
+    tables = λ r. some_below-none (λ p. is_some (no_memory (r * 1024 + p))) 1024 (λ i lt. refl) ∙ sym (no_region (first + 1) r);
+    tables_elsewhere = λ d r ne. no_table d r;
+  }
+
+  in_order : IsInOrder base
+  in_order = record {
+    frames = two_one_use frames first n has;
+    spaces = two.have_spaces first (first + 1) registers spaces (directory_one frames first n has) (directory_two frames first n has)
+        (λ same. omega (arith, same))
+        (λ d a b. no_other frames first n has d (grind (arith, nat_tests)) (grind (arith, nat_tests)))
+        (rising 2 1022);
+  }
+
+  none_runs : NoneRuns base
+  none_runs = two.none_runs first (first + 1) registers
+
+  pub space_small : first + 1 < frame_limit
+  unfolding frame_limit
+  space_small = let most = has.most in omega arith
+
+  frames_first : spaces.frames ≡ frames
+  unfolding first_spaces
+  frames_first = refl
+
+  both_used : EachHasUse spaces
+  both_used =
+      created_found (spaces_one frames first n has) (first + 1, spaces)
+      (created_found (first_spaces frames) (first, spaces_one frames first n has) (first_found frames) (created_one frames first n has))
+      (created_two frames first n has)
+
+  pub base_stage : Stage frames base refl space_small no_memory spaces
+  base_stage = record {
+    has = no_pages;
+    in_order = in_order;
+    below = two_below frames first n has;
+    frames_are = frames_first;
+    used = both_used;
+  }
+
+  -- ---- how it comes about
+
+  abbrev made_one : KernelState
+  made_one = with_directory (record (first_state frames input) {
+    environments = record { slots = upd (λ m. free_slot 0) 0 (new_slot 0x1000 0); free_slots = rising 1 1023 };
+    spaces = spaces_one frames first n has;
+  }) 0 first
+
+  abbrev with_server : KernelState
+  with_server = with_env_type made_one 0 FileServer
+
+  abbrev made_two : KernelState
+  made_two = with_directory (record with_server {
+    environments = record { slots = upd with_server.environments.slots 1 (new_slot 0x1001 0); free_slots = rising 2 1022 };
+    spaces = spaces;
+  }) 1 (first + 1)
+
+  allotted_one : allotted first_environments 0 ≡ Some
+      (0, record { slots = upd (λ m. free_slot 0) 0 (new_slot 0x1000 0); free_slots = rising 1 1023 })
+  unfolding allotted first_environments next_id
+  allotted_one = ap (allotted_from first_environments 0) (rising-some 0 1023)
+
+  allotted_two : allotted with_server.environments 0 ≡ Some
+      (1, record { slots = upd with_server.environments.slots 1 (new_slot 0x1001 0); free_slots = rising 2 1022 })
+  unfolding allotted next_id upd
+  allotted_two = ap (allotted_from with_server.environments 0) (rising-some 1 1022)
+
+  environment_one : environment_made (first_state frames input) 0 ≡ Ok (0, made_one)
+  unfolding environment_made
+  environment_one = λ i. made_of (first_state frames input) (allotted_one i) (created_one frames first n has i)
+
+  environment_two : environment_made with_server 0 ≡ Ok (1, made_two)
+  unfolding environment_made
+  environment_two = λ i. made_of with_server (allotted_two i) (created_two frames first n has i)
+
+  space_is : (slot_at made_two 1).directory ≡ first + 1
+  unfolding upd
+  space_is = refl
+
+  started_slots : (u : SpacesState) (m : ℕ) → slot_at (program_started made_two 1 image.entry words u) m ≡ slots m
+  unfolding upd
+  started_slots u =
+      two.each_slot first (first + 1) registers (λ m k. slot_at (program_started made_two 1 image.entry words u) m ≡ k) refl refl
+      (λ m a b. rw (a, b) refl)
+
+  started_is : (u : SpacesState) → program_started made_two 1 image.entry words u ≡ with_spaces base u
+  started_is u = λ i. record (with_spaces base u)
+      { environments = record { slots = λ m. started_slots u m i; free_slots = rising 2 1022 } }
+
+  booted_is : (file : List ℕ) → program_booted image file words frames input
+      ≡ option_map (with_spaces base) (space_loaded image.segments file words (first + 1) spaces)
+  unfolding program_booted
+  booted_is file =
+      ap (λ (o : Option KernelState). option_and_then (λ s. program_in image file words (environment_made s 0)) o) (ap server_in environment_one)
+      ∙ ap (program_in image file words) environment_two
+      ∙ (λ i. option_map (λ u. started_is u i) (space_loaded image.segments file words (space_is i) spaces))
+
+  pub booted_with : (file : List ℕ) (u : SpacesState) → space_loaded image.segments file words (first + 1) spaces ≡ Some u →
+      program_booted image file words frames input ≡ Some (with_spaces base u)
+  booted_with file u is = booted_is file ∙ ap (option_map (with_spaces base)) is
+
+  -- ---- the run begins
+
+  -- the state with the spaces in which the program is loaded
+  pub record HasBegun (file : List ℕ) (s : KernelState) : Type 0 where
+    pub loaded : SpacesState
+    pub state : s ≡ with_spaces base loaded
+    pub stage : Stage frames base refl space_small (space_memory image file words) loaded
+
+  pub has_begun : (file : List ℕ) (s : KernelState) → parsed file ≡ Ok image → 0 < stack_size words → stack_size words ≤ 4096 →
+      program_booted image file words frames input ≡ Some s → HasBegun file s
+  has_begun file s read some small is =
+      by_loaded (space_loaded image.segments file words (first + 1) spaces) refl (sym (booted_is file) ∙ is)
+    where
+      by_loaded : (o : Option SpacesState) → space_loaded image.segments file words (first + 1) spaces ≡ o →
+          option_map (with_spaces base) o ≡ Some s → HasBegun file s
+      by_loaded None at none = absurd cc
+      by_loaded (Some u) at found = record {
+        loaded = u;
+        state = sym (same_Some (with_spaces base u) s found);
+        stage = space_stage frames base refl space_small image words file (read_lie file image read) some small spaces u
+            base_stage at;
+      }
+
+  pub begun_new : (file : List ℕ) (s : KernelState) → HasBegun file s → IsNew s frames
+  begun_new file s h =
+      subst (λ (z : KernelState). IsNew z frames) (sym h.state) (record {
+        none_runs = none_runs;
+        refusals = refl;
+        turns = refl;
+        last = refl;
+        frames_are = h.stage.frames_are;
+        used = h.stage.used;
+      })

@@ -1,0 +1,156 @@
+-- The parts of the law of the handler that are the same at all its steps: who goes on is there, what each step leaves, that less is left
+-- behind each hidden one, and that none gives up its turn.
+use Rattle.std.proofs.Common.{◌≡◌, ◌∙◌, ◌<◌, ℕ, Bool, true, false, List, Option, Some, None, Result, Ok, Err, refl, sym, ap, subst}
+use Rattle.jos_base.specs.declared.called.Called.{Called}
+use Rattle.jos_base.specs.declared.memory.PageFault.{PageFault}
+use Rattle.jos_base.specs.declared.registers.Regs.{Regs}
+use Rattle.jos_base.specs.Environments.{Slot, is_live}
+use Rattle.jos_base.specs.KernelState.{KernelState, slot_at, with_registers}
+use Rattle.jos_base.specs.Reach.{Entry}
+use Rattle.jos_base.specs.SystemCalls.{handled, user_bytes, with_bytes_reached}
+use Rattle.jos_base.specs.TrapFrames.{frame_size, from_frame, words_of_bytes}
+use Rattle.jos_base.specs.Words.{page_number}
+use Rattle.lib_os.specs.declared.place.HandlerStep.{HandlerStep}
+use Rattle.lib_os.specs.declared.place.HandlerStep.TheVariants as handler
+use Rattle.lib_os.specs.declared.place.Place.TheVariants as place
+use Rattle.lib_os.specs.AbstractState.{AbstractState}
+use Rattle.lib_os.specs.LibrarySteps.{Stands, Leaves, Lowers, GivesUp, copies_left, is_pausing}
+use Rattle.lib_os.specs.Places.{place_of}
+use Rattle.lib_os.specs.Rows.{rows_of}
+use Rattle.lib_os.specs.UserCalls.{CallStep, Got, got, to_handler, gone, faulting, restored, restore_frame, answer_of}
+use Rattle.lib_os.proofs.GoingOn.{gives_nothing_up}
+use Rattle.lib_os.proofs.Slots.{slot_put}
+use Rattle.lib_os.proofs.Remapping.{puts_over}
+use Rattle.lib_stage.specs.Asks.{performed}
+use Rattle.lib_stage.specs.Nexts.{is_gone}
+use Rattle.lib_stage.specs.ServiceSteps.{upshot_by}
+use Rattle.lib_stage.proofs.Laws.{is_plain, plain_leaves}
+use Rattle.lib_fault.specs.HandlerStages.{ask_of, next_of, handling, copy_perm}
+use Rattle.lib_fault.proofs.CallsLeave.{keeps_registers, call_left, told_gives}
+use Rattle.lib_fault.proofs.CopiesLeft.{inserted_entries, put_copies_less}
+use Rattle.lib_os.proofs.StepsThere.{step_is_there}
+use Rattle.lib_fault.proofs.Falling.{handler_falls}
+use Rattle.lib_fault.proofs.Lowering.{copies_fall, next_lowers, is_mapping}
+use Rattle.lib_fault.proofs.Restored.{restoring_lowers}
+
+-- the two steps whose calls set registers
+only_two : (P : HandlerStep → Type 0) (at : HandlerStep) → keeps_registers at ≡ false → P handler.Restoring →
+    ((va error ip : ℕ) → P (handler.Touching va error ip)) → P at
+only_two P handler.Restoring sets one other = one
+only_two P (handler.Touching va error ip) sets one other = other va error ip
+only_two P _ sets one other = absurd (let contradiction : true ≡ false = sets in cc)
+
+-- ---- who goes on is there
+
+module _ (s : KernelState) (n : ℕ) (live : is_live (slot_at s n) ≡ true) where
+  registers_live : (k : KernelState) (regs : Regs) → is_live (slot_at k n) ≡ true → is_live (slot_at (with_registers k n regs) n) ≡ true
+  registers_live k regs lives = ap (λ (x : Slot). is_live x) (slot_put k n (record (slot_at k n) { registers = regs })) ∙ lives
+
+  restored_live : (done : Unit {0}) → (restore_frame s n).gives ≡ got done → is_live (slot_at (restore_frame s n).state n) ≡ true
+  unfolding restore_frame
+  restored_live done is = by_bytes (user_bytes s n (slot_at s n).registers.esp frame_size) is
+    where
+      by_handler : (fault : PageFault) (o : Option KernelState) → (faulting {X = Unit {0}} s n fault o).gives ≡ got done →
+          is_live (slot_at (faulting {X = Unit {0}} s n fault o).state n) ≡ true
+      by_handler fault (Some after) e = absurd (let contradiction : ◌≡◌ {A = Got (Unit {0})} to_handler (got done) = e in cc)
+      by_handler fault None e = absurd (let contradiction : ◌≡◌ {A = Got (Unit {0})} gone (got done) = e in cc)
+
+      by_bytes : (r : Result (List ℕ) PageFault) → (restored s n r).gives ≡ got done → is_live (slot_at (restored s n r).state n) ≡ true
+      by_bytes (Ok bytes) e =
+          registers_live (with_bytes_reached s n (slot_at s n).registers.esp frame_size) (from_frame (words_of_bytes bytes)) live
+      by_bytes (Err fault) e = by_handler fault (handled s n fault) e
+
+  abbrev LivesOn : HandlerStep → Type 0
+  LivesOn at = (called : Called) → (performed s n (ask_of at)).gives ≡ got called → is_gone (next_of at (answer_of called)) ≡ false →
+      is_live (slot_at (performed s n (ask_of at)).state n) ≡ true
+
+  restoring_lives : LivesOn handler.Restoring
+  unfolding performed
+  restoring_lives called is stays = let w = told_gives (λ done. 0) called (restore_frame s n).gives is in restored_live w.0 w.1
+
+  pub handler_lives : (at : HandlerStep) → LivesOn at
+  handler_lives at = by_kind (keeps_registers at) refl
+    where
+      by_kind : (t : Bool) → keeps_registers at ≡ t → LivesOn at
+      by_kind true keeps = λ called is stays. let left = call_left s n live at keeps called is in left.live
+      by_kind false sets =
+          only_two LivesOn at sets restoring_lives (λ va error ip called is stays. absurd (let contradiction : true ≡ false = stays in cc))
+
+-- ---- what is left
+
+asks_plainly : (at : HandlerStep) → is_plain (ask_of at) ≡ true
+asks_plainly handler.Entered = refl
+asks_plainly (handler.ReadingError va) = refl
+asks_plainly (handler.Looking va) = refl
+asks_plainly (handler.Taking va) = refl
+asks_plainly (handler.Loading va index) = refl
+asks_plainly (handler.Storing va index word) = refl
+asks_plainly (handler.MappingOver va) = refl
+asks_plainly (handler.Unmapping va) = refl
+asks_plainly handler.Restoring = refl
+asks_plainly (handler.ReadingIp va error) = refl
+asks_plainly (handler.Unsetting va error ip) = refl
+asks_plainly (handler.Touching va error ip) = refl
+
+pub handler_leaves : (s : KernelState) (n : ℕ) (at : HandlerStep) →
+    let did = upshot_by (handling at) n (performed s n (ask_of at)) (performed s n (ask_of at)).gives in Leaves (Ok did.progress) n s did.state
+handler_leaves s n at = plain_leaves s n (handling at) (asks_plainly at)
+
+module _ (s : KernelState) (n : ℕ) (at : HandlerStep) (stands : place_of (slot_at s n) ≡ place.InHandler at) where
+  pub handler_gives_up :
+      let did = upshot_by (handling at) n (performed s n (ask_of at)) (performed s n (ask_of at)).gives in
+      GivesUp (Ok did.progress) (slot_at s n) (slot_at did.state n)
+  handler_gives_up =
+      let did = upshot_by (handling at) n (performed s n (ask_of at)) (performed s n (ask_of at)).gives in
+      gives_nothing_up (Ok did.progress) (slot_at s n) (slot_at did.state n) (ap is_pausing stands)
+
+-- ---- less is left
+
+module _ (s : KernelState) (n : ℕ) (live : is_live (slot_at s n) ≡ true) where
+  abbrev waiting : KernelState → ℕ
+  waiting k = copies_left (rows_of k.spaces (slot_at s n).directory)
+
+  -- where the copy is mapped over it, the page waits no more
+  mapping_less : (va : ℕ) → place_of (slot_at s n) ≡ place.InHandler (handler.MappingOver va) → (a : AbstractState) → Stands s a →
+      waiting (performed s n (ask_of (handler.MappingOver va))).state < waiting s
+  unfolding performed
+  mapping_less va stands a h =
+      let it = puts_over h.1 n va live stands in
+      let over : Entry = record { frame = it.copy.frame; perm = copy_perm } in
+      let less = put_copies_less s.spaces it.spaces (slot_at s n).directory (page_number va) (Some over)
+      (inserted_entries s.spaces it.spaces (slot_at s n).directory (page_number va) over it.is) refl it.below it.waited in
+      subst (λ (z : CallStep Called). waiting z.state < waiting s) (sym it.step) less
+
+  strictly : (at : HandlerStep) → place_of (slot_at s n) ≡ place.InHandler at → (a : AbstractState) → Stands s a → is_mapping at ≡ true →
+      waiting (performed s n (ask_of at)).state < waiting s
+  strictly (handler.MappingOver va) stands a h maps = mapping_less va stands a h
+  strictly _ stands a h maps = absurd (let contradiction : false ≡ true = maps in cc)
+
+  abbrev LowersBy : HandlerStep → Got Called → Type 0
+  LowersBy at g = let did = upshot_by (handling at) n (performed s n (ask_of at)) g in Lowers (Ok did.progress) n s did.state
+
+  touching_lowers : (va error ip : ℕ) (g : Got Called) → LowersBy (handler.Touching va error ip) g
+  touching_lowers va error ip (got called) = tt
+  touching_lowers va error ip to_handler = tt
+  touching_lowers va error ip gone = tt
+
+  pub handler_lowers : (at : HandlerStep) → place_of (slot_at s n) ≡ place.InHandler at → LowersBy at (performed s n (ask_of at)).gives
+  handler_lowers at stands = by_kind (keeps_registers at) refl
+    where
+      going_on : keeps_registers at ≡ true → (called : Called) → (performed s n (ask_of at)).gives ≡ got called → LowersBy at (got called)
+      going_on keeps called is =
+          let left = call_left s n live at keeps called is in
+          next_lowers s (performed s n (ask_of at)).state n at stands left (next_of at (answer_of called))
+          (handler_falls at (step_is_there (slot_at s n) at stands) (answer_of called))
+          (λ a h quiet. copies_fall at keeps (answer_of called) (waiting s) (waiting (performed s n (ask_of at)).state) left.copies (strictly at stands a h))
+
+      by_got : keeps_registers at ≡ true → (g : Got Called) → (performed s n (ask_of at)).gives ≡ g → LowersBy at g
+      by_got keeps (got called) is = going_on keeps called is
+      by_got keeps to_handler is = tt
+      by_got keeps gone is = tt
+
+      by_kind : (t : Bool) → keeps_registers at ≡ t → LowersBy at (performed s n (ask_of at)).gives
+      by_kind true keeps = by_got keeps (performed s n (ask_of at)).gives refl
+      by_kind false sets =
+          only_two (λ (x : HandlerStep). place_of (slot_at s n) ≡ place.InHandler x → LowersBy x (performed s n (ask_of x)).gives) at sets
+          (restoring_lowers s n) (λ va error ip there. touching_lowers va error ip (performed s n (ask_of (handler.Touching va error ip))).gives) stands

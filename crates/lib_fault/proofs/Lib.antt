@@ -1,0 +1,13 @@
+pub mod CallsMade
+pub mod CopiesLeft
+pub mod CallsLeave
+pub mod Restored
+pub mod Loads
+pub mod FrameReads
+pub mod PageReads
+pub mod Ending
+pub mod Falling
+pub mod Lowering
+pub mod HandlerParts
+pub mod Copying
+pub mod HandlerLaw

@@ -1,0 +1,112 @@
+-- Whatever stands in a space counts for a slot: where it stands, or, where a copy is mapped over its page, at that page.
+use Rattle.std.proofs.Common.{◌≡◌, ◌≢◌, ◌∙◌, ◌==◌, ℕ, Bool, true, false, Option, Some, None, refl, sym, ap, subst, arith}
+use Rattle.std.proofs.lemmas.Bool.Decides.{nat_tests}
+use Rattle.std.proofs.lemmas.Option.{none-some, same_Some}
+use Rattle.std.specs.Option.{option_map}
+use Rattle.jos_base.specs.Environments.{Slot, is_live as is_live_slot}
+use Rattle.jos_base.specs.KernelState.{KernelState, slot_at}
+use Rattle.jos_base.specs.Reach.{Entry}
+use Rattle.jos_base.specs.SpacesState.{is_directory}
+use Rattle.jos_base.specs.Words.{page_number}
+use Rattle.lib_os.specs.declared.numbers.TheConstants.{PFTEMP}
+use Rattle.lib_os.specs.declared.place.HandlerStep.{HandlerStep}
+use Rattle.lib_os.specs.declared.place.HandlerStep.TheVariants as handler
+use Rattle.lib_os.specs.declared.place.Place.{Place}
+use Rattle.lib_os.specs.declared.place.Place.TheVariants as place
+use Rattle.lib_os.specs.AbstractState.{AbstractState, Born, AbstractSlot, free, unborn, born, serving}
+use Rattle.lib_os.specs.LibraryPages.{View}
+use Rattle.lib_os.specs.Places.{place_of}
+use Rattle.lib_os.specs.Rows.{Names, rows_of, lasting, logical, is_shared}
+use Rattle.lib_os.specs.StandsFor.{StandsFor, StandsForSlot, StandsForBorn, StandsAt, view_of}
+use Rattle.lib_os.specs.StandsInHandler.{IsInHandler, CopiesOrEnds, copies, ends, IsMappedTwice}
+use Rattle.lib_os.proofs.Logical.{is_plain, inside_programs, programs_beside, logical_plain, logical_beside}
+use Rattle.lib_os.proofs.SlotsStand.{born_live}
+
+-- a slot, a page of it that counts, and where that is not the page itself, a copy is mapped over its page
+pub record Counts (s : KernelState) (d p : ℕ) (x : Entry) : Type 0 where
+  pub slot : ℕ
+  pub live : is_live_slot (slot_at s slot) ≡ true
+  pub home : (slot_at s slot).directory ≡ d
+  pub page : ℕ
+  pub entry : Entry
+  pub counts : logical s.spaces s.environments.slots slot page ≡ Some entry
+  pub frame : entry.frame ≡ x.frame
+  pub sharing : is_shared entry.perm ≡ is_shared x.perm
+  pub here : is_plain (place_of (slot_at s slot)) ≡ true → (page ≡ p) × (entry ≡ x)
+
+-- the two entries of a page that a copy is mapped over
+twice_at : (h : HandlerStep) (v : View) (k : Slot) (b : Born) → is_plain (place.InHandler h) ≡ false → IsInHandler h v k b →
+    (va : ℕ) × (inside : (page_number va ≢ page_number PFTEMP)) × IsMappedTwice v va
+twice_at (handler.Unmapping found) v k b plain at = by_way at.way
+  where
+    by_way : CopiesOrEnds (handler.Unmapping found) v k b at.fault at.regs → (va : ℕ) × (inside : (page_number va ≢ page_number PFTEMP)) × IsMappedTwice v va
+    by_way (copies way) = (at.fault.va, (programs_beside _ (inside_programs at.fault.va way.inside)).0, way.at.1)
+    by_way (ends way) = absurd way.at
+twice_at _ v k b plain at = absurd (let contradiction : true ≡ false = plain in cc)
+
+pub born_counts : {names : Names} {s : KernelState} {b : Born} (m : ℕ) → StandsForBorn names s.spaces (slot_at s m) b →
+    (p : ℕ) (x : Entry) → rows_of s.spaces (slot_at s m).directory p ≡ Some x → Counts s (slot_at s m).directory p x
+born_counts {names = names} {s = s} {b = b} m own p x is = by_page (p == page_number PFTEMP) refl (is_plain (place_of (slot_at s m))) refl
+  where
+    live : is_live_slot (slot_at s m) ≡ true
+    live = born_live own
+
+    itself : logical s.spaces s.environments.slots m p ≡ Some x → Counts s (slot_at s m).directory p x
+    itself counts = record {
+      slot = m;
+      live = live;
+      home = refl;
+      page = p;
+      entry = x;
+      counts = counts;
+      frame = refl;
+      sharing = refl;
+      here = λ plain. (refl, refl);
+    }
+
+    at_page : (at : Place) → place_of (slot_at s m) ≡ at → is_plain at ≡ false → p ≡ page_number PFTEMP →
+        StandsAt at (view_of s.spaces (slot_at s m).directory) (slot_at s m) b → Counts s (slot_at s m).directory p x
+    at_page place.Guest there plain same at = absurd (let contradiction : true ≡ false = plain in cc)
+    at_page (place.InService service step) there plain same at = absurd (let contradiction : true ≡ false = plain in cc)
+    at_page (place.InHandler step) there plain same at =
+        let found = twice_at step (view_of s.spaces (slot_at s m).directory) (slot_at s m) b plain at in
+        let twice = found.2 in
+        let copy : x ≡ twice.there =
+        same_Some x twice.there (sym is ∙ ap (rows_of s.spaces (slot_at s m).directory) same ∙ twice.there_is) in
+        record {
+          slot = m;
+          live = live;
+          home = refl;
+          page = page_number found.0;
+          entry = twice.here;
+          counts = logical_beside s.spaces s.environments.slots m live (page_number found.0) found.1 ∙ twice.here_is;
+          frame = sym twice.frames ∙ ap (λ (e : Entry). e.frame) (sym copy);
+          sharing = twice.own_page ∙ sym (ap (λ (e : Entry). is_shared e.perm) copy ∙ twice.own_copy);
+          here = λ is_so. absurd (let contradiction : true ≡ false = sym is_so ∙ ap is_plain there ∙ plain in cc);
+        }
+
+    by_page : (c : Bool) → (p == page_number PFTEMP) ≡ c → (t : Bool) → is_plain (place_of (slot_at s m)) ≡ t → Counts s (slot_at s m).directory p x
+    by_page false test t plain = itself (logical_beside s.spaces s.environments.slots m live p (grind (arith, nat_tests)) ∙ is)
+    by_page true test true plain = itself (logical_plain s.spaces s.environments.slots m live plain p ∙ is)
+    by_page true test false plain = at_page (place_of (slot_at s m)) refl plain (grind (arith, nat_tests)) own.at
+
+-- what stands in a space
+pub entry_counts : {names : Names} {s : KernelState} {a : AbstractState} → StandsFor names s a → (d p : ℕ) (x : Entry) →
+    rows_of s.spaces d p ≡ Some x → Counts s d p x
+unfolding rows_of
+entry_counts {names = names} {s = s} {a = a} h d p x is = by_entry (s.spaces.entries d p) refl is
+  where
+    of_slot : (m : ℕ) → (slot_at s m).directory ≡ d → is_live_slot (slot_at s m) ≡ true → (slot : AbstractSlot) → StandsForSlot names s.spaces (slot_at s m) slot → Counts s d p x
+    of_slot m home live (free id) k =
+        absurd (let contradiction : false ≡ true = sym (ap (λ (j : Slot). is_live_slot j) k) ∙ live in cc)
+    of_slot m home live (unborn id parent) k = absurd k
+    of_slot m home live (serving id) k =
+        absurd (none-some x (sym (k.empty p) ∙ ap (λ (f : ℕ). rows_of s.spaces f p) home ∙ is))
+    of_slot m home live (born b) k =
+        subst (λ (f : ℕ). Counts s f p x) home (born_counts m k p x (ap (λ (f : ℕ). rows_of s.spaces f p) home ∙ is))
+
+    by_entry : (o : Option Entry) → s.spaces.entries d p ≡ o → rows_of s.spaces d p ≡ Some x → Counts s d p x
+    by_entry None none is = absurd (none-some x (sym (ap (λ (o : Option Entry). option_map lasting o) none) ∙ is))
+    by_entry (Some e) there is =
+        let owner = h.in_order.spaces.owned d (ap is_directory (h.in_order.frames.owners d p e there)) in
+        of_slot owner.0 owner.2 owner.1 (a.slots owner.0) (h.slots owner.0)

@@ -1,0 +1,74 @@
+-- What a slot's environment has in memory, as the library sees it: the pages that it keeps beside those of the program, and the
+-- frame of a page fault on the stack of its handler.
+-- (MIT 6.828, inc/memlayout.h, and lib/pfentry.S.)
+use Rattle.std.specs.Prelude.{◌≡◌, ◌≢◌, ◌<◌, ℕ, ◌+◌, ◌-◌, ◌/◌, ◌==◌, ◌||◌, Bool, true, false, List, None, Some}
+use Rattle.std.specs.Prelude.{slice_index}
+use Rattle.jos_base.specs.declared.memory.PageFault.{PageFault}
+use Rattle.jos_base.specs.declared.numbers.TheConstants.{FDTABLE, NPTENTRIES, PGSIZE, USTACKTOP, UTEMP, UXSTACKTOP}
+use Rattle.jos_base.specs.declared.registers.Regs.{Regs}
+use Rattle.jos_base.specs.Reach.{Entry}
+use Rattle.jos_base.specs.SystemCalls.{has_write}
+use Rattle.jos_base.specs.TrapFrames.{frame_bytes, frame_size}
+use Rattle.jos_base.specs.Words.{page_number}
+use Rattle.lib_os.specs.declared.numbers.TheConstants.{PFTEMP, UXSTACK}
+use Rattle.lib_os.specs.declared.place.HandlerStep.TheVariants as handler
+use Rattle.lib_os.specs.declared.place.Place.{Place}
+use Rattle.lib_os.specs.declared.place.Place.TheVariants as place
+use Rattle.lib_os.specs.Rows.{EntryRow, is_shared, is_programs}
+
+-- ---- regions
+
+-- the region of 4 MB in which an address lies
+abbrev pub region_index : ℕ → ℕ
+region_index va = page_number va / NPTENTRIES
+
+-- The library has pages in these regions: those that it works with, its descriptors, and its stacks.
+abbrev pub is_library_region : ℕ → Bool
+is_library_region r = (r == region_index UTEMP) || (r == region_index FDTABLE) || (r == region_index USTACKTOP)
+
+-- ---- what is seen of a space
+
+-- its entries, which regions have tables, and the bytes of frames
+pub record View : Type 0 where
+  pub row : EntryRow
+  pub tables : ℕ → Bool
+  pub bytes : ℕ → List ℕ
+
+-- a page of one's own, which may be written
+pub record IsOwnWritable (row : EntryRow) (p : ℕ) : Type 0 where
+  pub entry : Entry
+  pub stands : row p ≡ Some entry
+  pub own_page : is_shared entry.perm ≡ false
+  pub writes : has_write entry.perm ≡ true
+
+-- ---- the library's pages
+
+-- the handler of page faults has a page at PFTEMP
+abbrev pub has_copy : Place → Bool
+has_copy (place.InHandler (handler.Loading va index)) = true
+has_copy (place.InHandler (handler.Storing va index word)) = true
+has_copy (place.InHandler (handler.MappingOver va)) = true
+has_copy (place.InHandler (handler.Unmapping va)) = true
+has_copy _ = false
+
+-- Beside the pages that a program may have there is the stack of the handler of page faults, and, while it copies, the copy.
+pub record LibraryPages (at : Place) (row : EntryRow) : Type 0 where
+  pub stack : IsOwnWritable row (page_number UXSTACK)
+  pub copy : has_copy at ≡ true → IsOwnWritable row (page_number PFTEMP)
+  pub no_copy : has_copy at ≡ false → row (page_number PFTEMP) ≡ None
+  pub none : (p : ℕ) → is_programs p ≡ false → p ≢ page_number UXSTACK → p ≢ page_number PFTEMP → row p ≡ None
+
+-- ---- the frame of a page fault
+
+-- where it stands: at the top of the stack of the handler
+abbrev pub frame_place : ℕ
+frame_place = UXSTACKTOP - frame_size
+
+-- The frame of a fault, with the registers of the program that raised it, stands there, and ESP is its address.
+pub record HasFrame (v : View) (esp : ℕ) (fault : PageFault) (regs : Regs) : Type 0 where
+  pub at : esp ≡ frame_place
+  pub entry : Entry
+  pub stands : v.row (page_number UXSTACK) ≡ Some entry
+  pub own_page : is_shared entry.perm ≡ false
+  pub bytes : (i : ℕ) → i < frame_size →
+      slice_index (v.bytes entry.frame) (PGSIZE - frame_size + i) ≡ slice_index (frame_bytes fault regs) i

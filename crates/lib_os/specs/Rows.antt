@@ -1,0 +1,129 @@
+-- The pages of address spaces as the library sees them: what an entry is to its environment, and how entries count where they
+-- are counted together, be a page on its way from one place to another.
+-- (MIT 6.828, lib/fork.c: PTE_COW; inc/lib.h: PTE_SHARE.)
+use Rattle.std.specs.Prelude.{◌≡◌, ◌<◌, ℕ, ◌*◌, ◌==◌, ◌||◌, Bool, true, false, List, Option, None, Some}
+use Rattle.std.specs.Prelude.{bit_and, length, slice_index, if◌then◌else◌}
+use Rattle.std.specs.Option.{option_map}
+use Rattle.jos_base.specs.declared.numbers.TheConstants.{PGSIZE, PTE_SYSCALL}
+use Rattle.jos_base.specs.Environments.{Slot, is_live}
+use Rattle.jos_base.specs.Reach.{Entry}
+use Rattle.jos_base.specs.SpacesState.{SpacesState}
+use Rattle.jos_base.specs.SystemCalls.{is_page_perm, has_write}
+use Rattle.jos_base.specs.Words.{page_number}
+use Rattle.lib_os.specs.declared.numbers.TheConstants.{PFTEMP, PTE_COW, PTE_SHARE}
+use Rattle.lib_os.specs.declared.place.HandlerStep.TheVariants as handler
+use Rattle.lib_os.specs.declared.place.Place.{Place}
+use Rattle.lib_os.specs.declared.place.Place.TheVariants as place
+use Rattle.lib_os.specs.AbstractState.{Page, own, named}
+use Rattle.lib_os.specs.Fence.{in_fence}
+use Rattle.lib_os.specs.Places.{place_of}
+
+-- ---- entries
+
+-- The entry without the bits that accesses set, which nobody sees.
+abbrev pub lasting : Entry → Entry
+lasting e = record e { perm = bit_and e.perm PTE_SYSCALL }
+
+-- what the pages of a space are, by their numbers
+abbrev pub EntryRow : Type 0
+EntryRow = ℕ → Option Entry
+
+-- the same of many, by the frames of their directories or by their slots
+abbrev pub Rows : Type 0
+Rows = ℕ → EntryRow
+
+-- by the frames of directories
+unfoldable pub rows_of : SpacesState → Rows
+rows_of s d p = option_map lasting (s.entries d p)
+
+abbrev pub is_shared : ℕ → Bool
+is_shared perm = bit_and perm PTE_SHARE == PTE_SHARE
+
+-- it is copied when it is written
+abbrev pub is_cow : ℕ → Bool
+is_cow perm = bit_and perm PTE_COW == PTE_COW
+
+-- a page of its own may be written by an environment, where it stands or as a copy of it
+abbrev pub may_write : ℕ → Bool
+may_write perm = has_write perm || is_cow perm
+
+-- ---- pages
+
+-- Which page stands in each shared frame: the name of the frame's page, and the frame of a name's page.
+pub record Names : Type 0 where
+  pub name : ℕ → ℕ
+  pub frame : ℕ → ℕ
+
+-- the page that an entry is to its environment
+abbrev pub page_by : Names → (ℕ → List ℕ) → Entry → Page
+page_by names bytes e =
+    if is_shared e.perm then named (names.name e.frame) (has_write e.perm) else own (bytes e.frame) (may_write e.perm)
+
+-- a program may have a page with this number
+abbrev pub is_programs : ℕ → Bool
+is_programs p = in_fence (p * PGSIZE) PGSIZE
+
+-- The pages that a program may have are seen; those that the library keeps beside them are not.
+abbrev pub seen_where : Bool → Option Page → Option Page
+seen_where inside page = if inside then page else None
+
+abbrev pub page_seen : Names → SpacesState → ℕ → ℕ → Option Page
+page_seen names s d p = seen_where (is_programs p) (option_map (page_by names s.pages) (rows_of s d p))
+
+-- ---- entries as they count
+
+-- Where the handler of page faults has mapped its copy over the page, what stands where it was made counts no more.
+unfoldable pub counted : Place → EntryRow → EntryRow
+counted (place.InHandler (handler.Unmapping va)) row p = if p == page_number PFTEMP then None else row p
+counted _ row p = row p
+
+-- of each slot that is live, as they count at its place
+abbrev pub logical_by : Bool → EntryRow → EntryRow
+logical_by live row p = if live then row p else None
+
+abbrev pub logical : SpacesState → (ℕ → Slot) → Rows
+logical s slots n = logical_by (is_live (slots n)) (counted (place_of (slots n)) (rows_of s (slots n).directory))
+
+-- ---- frames
+
+-- Two entries of one frame: both say that it is shared, or neither does and by neither may it be written.
+pub record Agree (x y : ℕ) : Type 0 where
+  pub shared : is_shared x ≡ is_shared y
+  pub read_only : is_shared x ≡ false → (has_write x ≡ false) × (has_write y ≡ false)
+
+-- Whatever stands at two places agrees.
+abbrev pub AgreeWhereShared : Rows → Type 0
+AgreeWhereShared rows = (d p e q : ℕ) (x y : Entry) → (d ≡ e → p ≡ q → ⊥) → rows d p ≡ Some x → rows e q ≡ Some y →
+    x.frame ≡ y.frame → Agree x.perm y.perm
+
+-- A shared frame is that of its page's name, and has the page's bytes.
+pub record IsNamed (names : Names) (pages shared : ℕ → List ℕ) (next f : ℕ) : Type 0 where
+  pub home : names.frame (names.name f) ≡ f
+  pub bytes : shared (names.name f) ≡ pages f
+  pub old : names.name f < next
+
+abbrev pub AreNamed : Names → (ℕ → List ℕ) → (ℕ → List ℕ) → ℕ → Rows → Type 0
+AreNamed names pages shared next rows = (d p : ℕ) (x : Entry) → rows d p ≡ Some x → is_shared x.perm ≡ true →
+    IsNamed names pages shared next x.frame
+
+-- Whoever has an entry may read by it, and it has no bits of others; what is copied when it is written is nobody else's, and
+-- can't be written before.
+pub record IsUsers (perm : ℕ) : Type 0 where
+  pub page : is_page_perm perm ≡ true
+  pub copied : is_cow perm ≡ true → (is_shared perm ≡ false) × (has_write perm ≡ false)
+
+abbrev pub AreUsers : Rows → Type 0
+AreUsers rows = (d p : ℕ) (x : Entry) → rows d p ≡ Some x → IsUsers x.perm
+
+-- each number of a list is a byte
+abbrev pub AreBytes : List ℕ → Type 0
+AreBytes bytes = (i : ℕ) → slice_index bytes i < 256
+
+-- the bytes of a page
+pub record IsPage (bytes : List ℕ) : Type 0 where
+  pub long : length bytes ≡ PGSIZE
+  pub small : AreBytes bytes
+
+-- each has the bytes of a page
+abbrev pub AreWhole : (ℕ → List ℕ) → Rows → Type 0
+AreWhole pages rows = (d p : ℕ) (x : Entry) → rows d p ≡ Some x → IsPage (pages x.frame)

@@ -1,0 +1,159 @@
+-- An environment at its program, and one whose page fault is in the hands of the library's handler: either its page is copied, and
+-- then the instruction is made again, or the program has raised a fault that ends it.
+-- (MIT 6.828, lib/fork.c: pgfault.)
+use Rattle.std.specs.Prelude.{◌≡◌, ◌<◌, ◌^◌, ℕ, ◌+◌, ◌*◌, ◌&&◌, not, Bool, true, false, is_some, get_or, Option, None, Some}
+use Rattle.std.specs.Prelude.{slice_index}
+use Rattle.std.specs.Int.{w32, from_le_bytes}
+use Rattle.std.specs.Prelude.{List, [], ◌∷◌}
+use Rattle.jos_base.specs.declared.memory.PageFault.{PageFault}
+use Rattle.jos_base.specs.declared.numbers.TheConstants.{FEC_PR, FEC_U, FEC_WR, PGSIZE, UTRAPFRAME_WORDS}
+use Rattle.jos_base.specs.declared.registers.Regs.{Regs}
+use Rattle.jos_base.specs.Environments.{Slot, no_extra}
+use Rattle.jos_base.specs.Reach.{Entry}
+use Rattle.jos_base.specs.SystemCalls.{has_write}
+use Rattle.jos_base.specs.TrapFrames.{frame_words, user_flags}
+use Rattle.jos_base.specs.Words.{page_number, has_bit}
+use Rattle.lib_os.specs.declared.numbers.TheConstants.{PFTEMP}
+use Rattle.lib_os.specs.declared.place.HandlerStep.{HandlerStep}
+use Rattle.lib_os.specs.declared.place.HandlerStep.TheVariants as handler
+use Rattle.lib_os.specs.AbstractState.{Born, guest, at_guest, faulted}
+use Rattle.lib_os.specs.Fence.{is_inside, is_resident}
+use Rattle.lib_os.specs.LibraryPages.{View, HasFrame}
+use Rattle.lib_os.specs.Rows.{EntryRow, is_shared, is_cow}
+
+-- ---- registers
+
+-- they have 32 bits each
+pub record AreSmall (regs : Regs) : Type 0 where
+  pub eax : regs.eax < 2 ^ 32
+  pub ecx : regs.ecx < 2 ^ 32
+  pub edx : regs.edx < 2 ^ 32
+  pub ebx : regs.ebx < 2 ^ 32
+  pub esp : regs.esp < 2 ^ 32
+  pub ebp : regs.ebp < 2 ^ 32
+  pub esi : regs.esi < 2 ^ 32
+  pub edi : regs.edi < 2 ^ 32
+  pub eip : regs.eip < 2 ^ 32
+  pub eflags : regs.eflags < 2 ^ 32
+
+-- ---- at the program
+
+-- at its program it keeps no words
+pub record IsAtGuest (k : Slot) (b : Born) : Type 0 where
+  pub program : b.program ≡ guest k.registers
+  pub phase : b.phase ≡ at_guest
+  pub words : k.extra ≡ no_extra
+  pub silent : k.rendezvous.receiving ≡ false
+  pub awake : b.blocked ≡ false
+
+-- ---- a page is copied
+
+-- the page of an address waits to be copied
+pub record IsToCopy (row : EntryRow) (va : ℕ) : Type 0 where
+  pub entry : Entry
+  pub stands : row (page_number va) ≡ Some entry
+  pub own_page : is_shared entry.perm ≡ false
+  pub copied : is_cow entry.perm ≡ true
+
+-- The first bytes of the page stand in its copy.
+pub record IsCopiedTo (n : ℕ) (v : View) (va : ℕ) : Type 0 where
+  pub source : Entry
+  pub copy : Entry
+  pub source_is : v.row (page_number va) ≡ Some source
+  pub copy_is : v.row (page_number PFTEMP) ≡ Some copy
+  pub source_own : is_shared source.perm ≡ false
+  pub copy_own : is_shared copy.perm ≡ false
+  pub same : (i : ℕ) → i < n → slice_index (v.bytes copy.frame) i ≡ slice_index (v.bytes source.frame) i
+
+-- the word of a page at an offset
+abbrev pub page_word : List ℕ → ℕ → ℕ
+page_word bytes at = from_le_bytes w32 (slice_index bytes at ∷ slice_index bytes (at + 1) ∷ slice_index bytes (at + 2) ∷ slice_index bytes (at + 3) ∷ [])
+
+-- the page of an address has this word
+pub record HasWord (v : View) (va index word : ℕ) : Type 0 where
+  pub entry : Entry
+  pub stands : v.row (page_number va) ≡ Some entry
+  pub own_page : is_shared entry.perm ≡ false
+  pub word_is : word ≡ page_word (v.bytes entry.frame) (4 * index)
+
+-- The copy is the page of the address, and stands where it was made too.
+pub record IsMappedTwice (v : View) (va : ℕ) : Type 0 where
+  pub here : Entry
+  pub there : Entry
+  pub here_is : v.row (page_number va) ≡ Some here
+  pub there_is : v.row (page_number PFTEMP) ≡ Some there
+  pub own_page : is_shared here.perm ≡ false
+  pub own_copy : is_shared there.perm ≡ false
+  pub writes : has_write here.perm ≡ true
+  pub frames : there.frame ≡ here.frame
+
+-- what is so at each step of the copying, of the fault at an address; ⊥ for the steps of the other way
+abbrev pub CopiesAt : HandlerStep → View → ℕ → Type 0
+CopiesAt handler.Entered v va = IsToCopy v.row va
+CopiesAt (handler.ReadingError found) v va = (found ≡ va) × IsToCopy v.row va
+CopiesAt (handler.Looking found) v va = (found ≡ va) × IsToCopy v.row va
+CopiesAt (handler.Taking found) v va = (found ≡ va) × IsToCopy v.row va
+CopiesAt (handler.Loading found index) v va = (found ≡ va) × IsToCopy v.row va × IsCopiedTo (4 * index) v va
+CopiesAt (handler.Storing found index word) v va =
+    (found ≡ va) × IsToCopy v.row va × IsCopiedTo (4 * index) v va × HasWord v va index word
+CopiesAt (handler.MappingOver found) v va = (found ≡ va) × IsToCopy v.row va × IsCopiedTo PGSIZE v va
+CopiesAt (handler.Unmapping found) v va = (found ≡ va) × IsMappedTwice v va
+CopiesAt handler.Restoring v va = Unit {0}
+CopiesAt _ v va = ⊥
+
+-- The handler copies the page for the program, which makes its instruction again then.
+pub record Copies (h : HandlerStep) (v : View) (k : Slot) (b : Born) (fault : PageFault) (regs : Regs) : Type 0 where
+  pub guest : IsAtGuest (record k { registers = regs }) b
+  pub error : fault.error ≡ FEC_U + FEC_PR + FEC_WR
+  pub inside : is_inside fault.va ≡ true
+  pub at : CopiesAt h v fault.va
+
+-- ---- the program has raised a fault that ends it
+
+-- the fault was raised by a write
+abbrev pub is_write : ℕ → Bool
+is_write error = has_bit error FEC_WR
+
+-- An entry refuses a read, or a write, and its page is not one that waits to be copied.
+abbrev pub is_refused_by : Bool → Option Entry → Bool
+is_refused_by write None = true
+is_refused_by write (Some entry) = write && not (has_write entry.perm) && not (is_cow entry.perm)
+
+-- what is so at each step on the way to the end; ⊥ for the steps of the other way
+abbrev pub EndsAt : HandlerStep → PageFault → Regs → Type 0
+EndsAt handler.Entered fault regs = Unit {0}
+EndsAt (handler.ReadingError va) fault regs = va ≡ fault.va
+EndsAt (handler.Looking va) fault regs = (va ≡ fault.va) × (fault.error ≡ FEC_U + FEC_PR + FEC_WR)
+EndsAt (handler.ReadingIp va error) fault regs = (va ≡ fault.va) × (error ≡ fault.error)
+EndsAt (handler.Unsetting va error ip) fault regs = (va ≡ fault.va) × (error ≡ fault.error) × (ip ≡ regs.eip)
+EndsAt (handler.Touching va error ip) fault regs = (va ≡ fault.va) × (error ≡ fault.error) × (ip ≡ regs.eip)
+EndsAt _ fault regs = ⊥
+
+-- The program is marked with the fault.
+pub record Ends (h : HandlerStep) (v : View) (k : Slot) (b : Born) (fault : PageFault) (regs : Regs) : Type 0 where
+  pub program : b.program ≡ guest regs
+  pub phase : b.phase ≡ faulted fault.va regs.eip
+  pub words : k.extra ≡ no_extra
+  pub silent : k.rendezvous.receiving ≡ false
+  pub awake : b.blocked ≡ false
+  pub inside : is_inside fault.va ≡ true
+  pub refused : is_refused_by (is_write fault.error) (v.row (page_number fault.va)) ≡ true
+  -- what the error code tells of a page that is there is so
+  pub present : fault.error ≡ FEC_U + FEC_PR + FEC_WR → is_some (v.row (page_number fault.va)) ≡ true
+  pub at : EndsAt h fault regs
+
+-- ---- both
+
+pub data CopiesOrEnds (h : HandlerStep) (v : View) (k : Slot) (b : Born) (fault : PageFault) (regs : Regs) : Type 0 where
+  copies : Copies h v k b fault regs → CopiesOrEnds h v k b fault regs
+  ends : Ends h v k b fault regs → CopiesOrEnds h v k b fault regs
+
+-- The handler has the fault in its frame, with the registers of the program.
+pub record IsInHandler (h : HandlerStep) (v : View) (k : Slot) (b : Born) : Type 0 where
+  pub fault : PageFault
+  pub regs : Regs
+  pub frame : HasFrame v k.registers.esp fault regs
+  pub small : (i : ℕ) → i < UTRAPFRAME_WORDS → get_or (frame_words fault regs) i 0 < 2 ^ 32
+  pub flags : regs.eflags ≡ user_flags regs.eflags
+  pub stack : is_resident regs.esp ≡ false
+  pub way : CopiesOrEnds h v k b fault regs
