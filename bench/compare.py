@@ -5,9 +5,9 @@
 
 Each of COUNT runs (1,000 without a word) has 1 to 4 images of random calls, reads and writes, which tell at their end
 what their answers were and what the windows show, under a random schedule; with `run` it has one program under the
-library, of random services, reads and writes. Console and notes have to be the same. What differs is told with its seed,
-and left in a folder; the status is then 1. A run that comes to code which the model does not have, since it jumped to what
-it had written itself, is left out. It wants out/jos, which ./jos builds.
+library, of random services, reads and writes, and more often than not with children. Console and notes have to be the
+same. What differs is told with its seed, and left in a folder; the status is then 1. A run that comes to code which the
+model does not have, since it jumped to what it had written itself, is left out. It wants out/jos, which ./jos builds.
 """
 import collections
 import pathlib
@@ -18,7 +18,7 @@ import tempfile
 
 from images import BASE, CODE, image, word
 from library_model import Run
-from library_programs import LibraryProgram, random_words
+from library_programs import ForkProgram, LibraryProgram, random_words
 from model import EXCEPTION_STACK, Kernel, UENVS, UPAGES, Unmodelled, UTOP, UVPT
 
 PROGRAM = pathlib.Path(__file__).resolve().parent.parent / "out" / "jos"
@@ -182,10 +182,14 @@ def compare(seed, folder):
 def compare_library(seed, folder):
     """The same of a program under the library."""
     chance = random.Random(seed)
-    content = LibraryProgram(chance).build()
+    forks = chance.random() < 0.6
+    program = (ForkProgram if forks else LibraryProgram)(chance)
+    content = program.build()
     frames = Run.wanted_frames(content) + chance.choice([0, 1, 20, 60, 500])
-    steps, traps = chance.choice([777, 3000, 20000]), chance.choice([0, 1, 1024])
+    steps, traps = chance.choice([3000, 60000, 200000] if forks else [777, 3000, 20000]), chance.choice([0, 1, 1024])
     schedule, given = random_schedule(chance), random_words(chance)
+    if forks and program.fills_table:
+        frames, steps, schedule = frames + 5000, 5000000, schedule + [1000]
     words = [folder / "image", *given]
     words[0].write_bytes(content)
     (folder / "schedule").write_text(" ".join(map(str, schedule)))

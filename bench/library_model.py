@@ -1,23 +1,26 @@
 #!/usr/bin/env python3
-"""A model of `jos run`: one program under the library.
+"""A model of `jos run`: a program under the library, and the children that it makes.
 
     python3 bench/library_model.py [--frames N] [--steps N] [--schedule FILE] [--trace N] [--] IMAGE [WORD..]
 
-It is written after docs/library.md, and shares nothing with the code: the fence, the services 0 to 3 and 5 to 9, each with
-its refusals and its steps, the handler of page faults, and turns. The processor is that of processor.py, and the frames are
-those of model.py. It takes the words of the command and answers with its console, notes and status; what it does not have
-is `Unmodelled`.
+It is written after docs/library.md, and shares nothing with the code: the fence, the services 0 to 9, each with its
+refusals and its steps, the handler of page faults, which copies a page that waits for that or ends the program, and turns.
+The processor is that of processor.py, and the frames are those of model.py. It takes the words of the command and answers
+with its console, notes and status; what it does not have is `Unmodelled`.
 """
 import argparse
 import pathlib
 import struct
 import sys
 
-from model import ACCESSED, BAD_ENVIRONMENT, DIRTY, EAX, EBX, ECX, EDX, ESP, INVALID, MASK, NO_MEMORY, P, PAGE_SIZE, U, W
-from model import EXCEPTION_STACK, Frames, PageFault, STACK_TOP, Trap, Unmodelled
+from model import ACCESSED, AVAILABLE, BAD_ENVIRONMENT, DIRTY, EAX, EBX, ECX, EDX, ESP, EXCEPTION_STACK, INVALID, MASK
+from model import NO_ENVIRONMENT, NO_MEMORY, NOT_RECEIVING, P, PAGE_SIZE, SLOTS, STACK_TOP, U, W
+from model import Frames, PageFault, Trap, Unmodelled
 from processor import Processor
 
-SHARED = 0x400
+SHARED, COPIED = 0x400, 0x800  # bits of an entry: its page is shared, or is copied when it is written
+KEPT = P | U | W | AVAILABLE  # the bits of an entry that a call gives
+COPY_PAGE = 0x007FF  # where a copy is made
 SERVER, PROGRAM = 0x1000, 0x1001
 FENCE = [(0x00200000, 0x00400000), (0x00800000, 0xD0000000), (0xD0400000, 0xEEBFE000)]
 RESIDENT = range(0xEEBFE800, 0xEEC00000)
@@ -47,7 +50,7 @@ def segments_of(image):
 
 
 class Memory:
-    """The pages of the program, as it reaches them: byte after byte, the fence first."""
+    """The pages of an environment, as its program reaches them: byte after byte, the fence first."""
 
     def __init__(self, frames, directory):
         self.frames, self.directory = frames, directory
@@ -82,22 +85,47 @@ class Memory:
             self.frames.bytes[frame][place % PAGE_SIZE] = byte
 
 
+class Environment:
+    """One that is live, with where its service or its handler of page faults stands."""
+
+    def __init__(self, identity, parent, frames, directory):
+        self.id, self.parent, self.status = identity, parent, "not runnable"
+        self.directory, self.memory = directory, Memory(frames, directory)
+        self.processor = Processor(0, 0)
+        self.service = None  # its number, with the stage and what it has found out
+        self.stage, self.found = "entered", ()
+        self.fault = None  # that the handler has: the error code, the address, and that of the instruction
+        self.receives = None  # where it waits for a message: the page, or 0, and from whom
+        self.message = (0, 0, 0)  # who sent, the word, and the bits of the page
+
+    def go_on(self, stage, *found):
+        self.stage, self.found = stage, found
+
+    def answer(self, number):
+        self.processor.registers[EAX] = number & MASK
+        self.service = None
+
+
+def is_own_and_written(bits):
+    """Whether the page of an entry is one's own, and may be written, where it stands or as a copy."""
+    return not bits & SHARED and bits & (W | COPIED) != 0
+
+
 class Run:
-    """A run of one program."""
+    """A run of a program and of those that it makes."""
 
     def __init__(self, image, words, frames, schedule, steps, traps):
         self.frames = Frames(frames)
         self.schedule, self.steps_left, self.traps_kept = schedule, steps, traps
         self.steps = self.turns = self.refused = self.upcalls = 0
         self.output, self.traps = bytearray(), []
-        self.frames.create()  # the server's, which has no pages
-        self.directory = self.frames.create()
-        self.memory = Memory(self.frames, self.directory)
-        self.is_live, self.status = True, "runnable"
-        self.service, self.stage = None, 0
-        self.fault = None  # that the handler of page faults has, with how many steps it still makes
+        self.slots, self.last_ids, self.free_slots = [None] * SLOTS, [0] * SLOTS, list(range(SLOTS))
+        self.last, self.now = -1, None
+        self.make(0)  # the server, which has no pages and never runs
+        self.now = self.make(0)
         self.load(image)
         self.begin(words)
+        self.now.status = "runnable"
 
     # ---- the beginning
 
@@ -113,13 +141,13 @@ class Run:
             for page in range(va >> 12, (va + size - 1 >> 12) + 1):
                 rights[page] = rights.get(page, False) or writable
         for page in sorted(rights):
-            assert self.frames.allocate(self.directory, page, P | U | (W if rights[page] else 0))
+            assert self.frames.allocate(self.now.directory, page, P | U | (W if rights[page] else 0))
         for offset, in_file, va, _, _ in segments:
             for k in range(in_file):
                 self.page_bytes(va + k)[(va + k) % PAGE_SIZE] = image[offset + k]
 
     def page_bytes(self, va):
-        return self.frames.bytes[self.frames.entries[self.directory][va >> 12][0]]
+        return self.frames.bytes[self.frames.entries[self.now.directory][va >> 12][0]]
 
     def begin(self, words):
         """The strings end at the top of the stack; below them are their addresses and a 0, and below these argv and argc.
@@ -130,181 +158,376 @@ class Run:
         first = STACK_TOP - length
         places = [first + sum(map(len, strings[:k])) for k in range(len(strings))]
         esp = STACK_TOP - ((length + 3) // 4 * 4) - 4 * (len(words) + 1) - 8
-        assert self.frames.allocate(self.directory, (STACK_TOP >> 12) - 1, P | U | W)
+        assert self.frames.allocate(self.now.directory, (STACK_TOP >> 12) - 1, P | U | W)
         stack = self.page_bytes(STACK_TOP - 1)
         table = struct.pack("<%dI" % (len(words) + 3), len(words), esp + 8, *places, 0)
         stack[esp % PAGE_SIZE:esp % PAGE_SIZE + len(table)] = table
         stack[PAGE_SIZE - length:] = b"".join(strings)
-        assert self.frames.allocate(self.directory, EXCEPTION_STACK >> 12, P | U | W)
-        self.processor = Processor(self.entry, esp)
+        assert self.frames.allocate(self.now.directory, EXCEPTION_STACK >> 12, P | U | W)
+        self.now.processor = Processor(self.entry, esp)
+
+    # ---- environments
+
+    def make(self, parent):
+        """A new environment without pages, or the error that there is none. The slot that was free last is the next."""
+        if not self.free_slots:
+            return NO_ENVIRONMENT
+        directory = self.frames.create()
+        if directory is None:
+            return NO_MEMORY
+        slot = self.free_slots.pop(0)
+        self.last_ids[slot] = ((self.last_ids[slot] + PAGE_SIZE) & ~(SLOTS - 1)) + slot
+        made = self.slots[slot] = Environment(self.last_ids[slot], parent, self.frames, directory)
+        return made
+
+    def destroy(self, gone):
+        self.frames.destroy(gone.directory)
+        self.slots[gone.id % SLOTS] = None
+        self.free_slots.insert(0, gone.id % SLOTS)
+
+    def named(self, identity):
+        found = self.slots[identity % SLOTS]
+        return found if found is not None and found.id == identity else None
+
+    def wanting(self, error):
+        """The answer where a slot or a frame is wanted, and none is free."""
+        self.refused += 1
+        return -error
 
     # ---- services
 
-    def answer(self, number):
-        self.processor.registers[EAX] = number & MASK
-        self.service = None
-
     def serve(self):
         """A step of the service that the program stands in."""
-        registers = self.processor.registers
+        registers = self.now.processor.registers
         edx, ecx, ebx = registers[EDX], registers[ECX], registers[EBX]
-        stage, self.stage = self.stage, self.stage + 1
-        if self.service == 0:
+        service = self.now.service
+        if service == 0:
             self.end()
-        elif self.service == 1:
+        elif service == 1:
             self.cputs(edx, ecx)
-        elif self.service == 2:
-            self.answer(PROGRAM)
-        elif self.service == 3:
-            self.status = "runnable"
-            self.answer(0)
-        elif self.service == 5:
-            self.wait(edx, stage)
-        elif self.service == 6:
-            self.page_new(edx, ecx)
-        elif self.service == 7:
-            self.page_drop(edx)
-        elif self.service == 8:
-            self.send(edx, ebx, stage)
-        elif self.service == 9:
-            self.receive(edx, ecx, stage)
+        elif service == 2:
+            self.now.answer(self.now.id)
+        elif service == 3:
+            self.now.status = "runnable"
+            self.now.answer(0)
+        elif service == 4:
+            self.fork()
+        elif service == 5:
+            self.wait(edx)
+        elif service == 6:
+            self.now.answer(self.page_new(edx, ecx))
+        elif service == 7:
+            self.now.answer(self.page_drop(edx))
+        elif service == 8:
+            self.send(edx, ecx, ebx)
+        elif service == 9:
+            self.receive(edx, ecx)
         else:
-            self.answer(-INVALID)
+            self.now.answer(-INVALID)
 
     def cputs(self, va, length):
         if length > CPUTS_MAX or (length > 0 and not in_fence(va, length)):
-            return self.answer(-INVALID)
+            self.now.answer(-INVALID)
+            return
         for k in range(length):
-            if self.memory.entry(va + k) is None:
-                return self.end("user_mem_check assertion failure for va %08x" % (va + k))
-        self.output += self.memory.read(va, length)
-        return self.answer(0)
+            if self.now.memory.entry(va + k) is None:
+                self.end("user_mem_check assertion failure for va %08x" % (va + k))
+                return
+        self.output += self.now.memory.read(va, length)
+        self.now.answer(0)
 
-    def wait(self, identity, stage):
+    def wait(self, identity):
         """The own id is asked for; and then a try and a yield, in turns."""
-        if stage == 0:
-            if identity in (0, PROGRAM):
-                self.answer(-INVALID)
-        elif identity != SERVER:
-            self.answer(0)
-        elif stage % 2 == 0:
-            self.status = "runnable"
+        if self.now.stage == "entered":
+            if identity in (0, self.now.id):
+                self.now.answer(-INVALID)
+            else:
+                self.now.go_on("trying")
+        elif self.now.stage == "trying":
+            if self.named(identity) is None:
+                self.now.answer(0)
+            else:
+                self.now.go_on("pausing")
+        else:
+            self.now.status = "runnable"
+            self.now.go_on("trying")
 
     def page_new(self, va, flags):
         if flags > 3 or not is_page(va):
-            return self.answer(-INVALID)
+            return -INVALID
         bits = P | U | (W if flags & 1 else 0) | (SHARED if flags & 2 else 0)
-        if self.frames.allocate(self.directory, va >> 12, bits):
-            return self.answer(0)
-        self.refused += 1
-        return self.answer(-NO_MEMORY)
+        return 0 if self.frames.allocate(self.now.directory, va >> 12, bits) else self.wanting(NO_MEMORY)
 
     def page_drop(self, va):
         if not is_page(va):
-            return self.answer(-INVALID)
-        self.frames.remove(self.directory, va >> 12)
-        return self.answer(0)
+            return -INVALID
+        self.frames.remove(self.now.directory, va >> 12)
+        return 0
 
-    def send(self, identity, va, stage):
-        """The own id; of a page the entry of its region and its own; and a try, by which nobody is found."""
-        if stage == 0:
-            if identity in (0, PROGRAM, SERVER) or (va and not is_page(va)):
-                self.answer(-INVALID)
-            elif va == 0:
-                self.stage = 3
-        elif stage == 1:
-            if va >> 22 not in self.frames.regions[self.directory]:
-                self.answer(-INVALID)
-        elif stage == 2:
-            entry = self.memory.entry(va)
-            if entry is None or (entry[1] & W and not entry[1] & SHARED):
-                self.answer(-INVALID)
+    def send(self, identity, value, va):
+        """The own id; of a page the entry of its region and its own; then a try, after one in vain a yield, and again."""
+        stage = self.now.stage
+        if stage == "entered":
+            if identity in (0, self.now.id, SERVER) or (va and not is_page(va)):
+                self.now.answer(-INVALID)
+            else:
+                self.now.go_on("region" if va else "trying")
+        elif stage == "region":
+            if va >> 22 in self.frames.regions[self.now.directory]:
+                self.now.go_on("entry")
+            else:
+                self.now.answer(-INVALID)
+        elif stage == "entry":
+            entry = self.now.memory.entry(va)
+            if entry is None or is_own_and_written(entry[1]):
+                self.now.answer(-INVALID)
+            else:
+                self.now.go_on("trying")
+        elif stage == "trying":
+            answer = self.try_to_send(identity, value, va)
+            if answer == -NOT_RECEIVING:
+                self.now.go_on("pausing")
+            else:
+                self.now.answer(answer)
         else:
-            self.answer(-BAD_ENVIRONMENT)
+            self.now.status = "runnable"
+            self.now.go_on("trying")
 
-    def receive(self, va, sender, stage):
-        """The own id; and from the second step on it waits for ever."""
-        if stage == 1:
-            self.status = "blocked"
-        elif (va and not is_page(va)) or sender in (PROGRAM, SERVER):
-            self.answer(-INVALID)
+    def try_to_send(self, identity, value, va):
+        other = self.named(identity)
+        if other is None:
+            return -BAD_ENVIRONMENT
+        if other.receives is None or other.receives[1] not in (0, self.now.id):
+            return -NOT_RECEIVING
+        place, bits = other.receives[0], 0
+        if va and place:
+            frame, bits = self.now.memory.entry(va)
+            bits &= KEPT
+            if not self.frames.insert(other.directory, place >> 12, frame, bits):
+                return self.wanting(NO_MEMORY)
+        other.receives, other.message, other.status = None, (self.now.id, value, bits), "runnable"
+        other.processor.registers[EAX] = 0
+        return 0
+
+    def receive(self, va, sender):
+        """The own id; from the next step on it waits; then the word that came, who sent it, and the bits of its page."""
+        stage = self.now.stage
+        if stage == "entered":
+            if (va and not is_page(va)) or sender in (self.now.id, SERVER):
+                self.now.answer(-INVALID)
+            else:
+                self.now.go_on("receiving")
+        elif stage == "receiving":
+            self.now.receives, self.now.status = (va, sender), "not runnable"
+            self.now.go_on("value")
+        elif stage == "value":
+            self.now.go_on("sender")
+        elif stage == "sender":
+            self.now.go_on("bits")
+        else:
+            registers = self.now.processor.registers
+            registers[EDX], registers[ECX], bits = self.now.message
+            registers[EBX] = 0 if bits == 0 else 2 if bits & W else 1
+            self.now.answer(0)
+
+    # ---- fork
+
+    def fork(self):
+        """The child; then downwards each region and each page that may be there; and then what lets the child run."""
+        child = self.named(self.now.found[0]) if self.now.found else None
+        if self.now.stage == "entered":
+            self.exofork()
+        elif self.now.stage == "region":
+            region = self.now.found[1]
+            if region in self.frames.regions[self.now.directory]:
+                self.now.go_on("page", child.id, min(region << 10 | 1023, (STACK_TOP >> 12) - 1))
+            else:
+                self.below(child, region << 10)
+        elif self.now.stage == "page":
+            page = self.now.found[1]
+            entry = self.frames.entries[self.now.directory].get(page)
+            if entry is None:
+                self.below(child, page)
+            else:
+                bits = entry[1] & KEPT
+                self.now.go_on("child's page", child.id, page, P | U | COPIED if is_own_and_written(bits) else bits)
+        elif self.now.stage == "child's page":
+            _, page, bits = self.now.found
+            frame = self.frames.entries[self.now.directory][page][0]
+            if not self.frames.insert(child.directory, page, frame, bits):
+                self.now.go_on("undoing", child.id, self.wanting(NO_MEMORY))
+            elif bits & COPIED:
+                self.now.go_on("own page", child.id, page)
+            else:
+                self.below(child, page)
+        elif self.now.stage == "own page":
+            page = self.now.found[1]
+            frame = self.frames.entries[self.now.directory][page][0]
+            assert self.frames.insert(self.now.directory, page, frame, P | U | COPIED)
+            self.below(child, page)
+        elif self.now.stage == "stack":
+            if self.frames.allocate(child.directory, EXCEPTION_STACK >> 12, P | U | W):
+                self.now.go_on("handler", child.id)
+            else:
+                self.now.go_on("undoing", child.id, self.wanting(NO_MEMORY))
+        elif self.now.stage == "handler":
+            self.now.go_on("runs", child.id)
+        elif self.now.stage == "runs":
+            child.status = "runnable"
+            self.now.answer(child.id)
+        else:
+            self.destroy(child)
+            self.now.answer(self.now.found[1])
+
+    def exofork(self):
+        child = self.make(self.now.id)
+        if not isinstance(child, Environment):
+            self.now.answer(self.wanting(child))
+            return
+        child.processor.registers = [0] + self.now.processor.registers[1:]
+        child.processor.eip, child.processor.flags = self.now.processor.eip, self.now.processor.flags
+        self.now.go_on("region", child.id, STACK_TOP >> 22)
+
+    def below(self, child, page):
+        """Goes on behind a page, or behind a region, of which the first page is given."""
+        if page % 1024:
+            self.now.go_on("page", child.id, page - 1)
+        elif page:
+            self.now.go_on("region", child.id, (page >> 10) - 1)
+        else:
+            self.now.go_on("stack", child.id)
+
+    # ---- page faults
+
+    def page_fault(self, error, va, ip):
+        """It goes to the handler."""
+        self.traps.append((self.now.id, 14, error, va, ip))
+        self.upcalls += 1
+        self.now.fault = (error, va, ip)
+        self.now.go_on("address")
+
+    def handle(self):
+        """A step of the handler of page faults.
+
+        It reads the address and the error code. Where a page is that may not be written, it looks at its entry, and, if that
+        page waits to be copied, takes a page elsewhere, copies word by word, maps the copy over the page, unmaps it where it
+        was made, and takes the registers back. Else it reads the address of the instruction, sets that there is no handler any
+        more, and raises the fault again, which ends the program."""
+        error, va, ip = self.now.fault
+        stage, directory, page = self.now.stage, self.now.directory, va >> 12
+        entries = self.frames.entries[directory]
+        if stage == "address":
+            self.now.go_on("error")
+        elif stage == "error":
+            self.now.go_on("looking" if error == U | W | P else "instruction")
+        elif stage == "looking":
+            self.now.go_on("taking" if entries[page][1] & (COPIED | SHARED) == COPIED else "instruction")
+        elif stage == "taking":
+            if self.frames.allocate(directory, COPY_PAGE, P | U | W):
+                self.now.go_on("loading", 0)
+            else:
+                self.wanting(NO_MEMORY)
+                self.now.go_on("instruction")
+        elif stage == "loading":
+            at = self.now.found[0]
+            self.now.go_on("storing", at, self.frames.bytes[entries[page][0]][at:at + 4])
+        elif stage == "storing":
+            at, word = self.now.found
+            self.frames.bytes[entries[COPY_PAGE][0]][at:at + 4] = word
+            if at + 4 < PAGE_SIZE:
+                self.now.go_on("loading", at + 4)
+            else:
+                self.now.go_on("mapping")
+        elif stage == "mapping":
+            assert self.frames.insert(directory, page, entries[COPY_PAGE][0], P | U | W)
+            self.now.go_on("unmapping")
+        elif stage == "unmapping":
+            self.frames.remove(directory, COPY_PAGE)
+            self.now.go_on("registers")
+        elif stage == "registers":
+            self.now.fault = None
+        elif stage == "instruction":
+            self.now.go_on("no handler")
+        elif stage == "no handler":
+            self.now.go_on("again")
+        else:
+            self.traps.append((self.now.id, 14, error, va, ip))
+            self.end("user fault va %08x ip %08x" % (va, ip))
 
     # ---- steps
 
     def end(self, line=None):
         if line is not None:
-            self.output += b"[%08x] %s\n" % (PROGRAM, line.encode())
-        self.is_live = False
+            self.output += b"[%08x] %s\n" % (self.now.id, line.encode())
+        self.destroy(self.now)
 
     def trap(self, number, error, ip):
         """Any trap but a page fault."""
-        self.traps.append((PROGRAM, number, error, 0, ip))
+        self.traps.append((self.now.id, number, error, 0, ip))
         self.end("trap %d err %x ip %08x" % (number, error, ip))
 
-    def page_fault(self, error, va, ip):
-        """It goes to the handler. No page waits to be copied, so it can't be mended, and ends the program with the last step.
-
-        The handler reads the address and the error code; where a page is that may not be written, it looks at its entry; it
-        reads the address of the instruction, sets that there is no handler any more, and raises the fault again."""
-        self.traps.append((PROGRAM, 14, error, va, ip))
-        self.upcalls += 1
-        self.fault = (6 if error == U | W | P else 5, error, va, ip)
-
-    def handle(self):
-        """A step of the handler of page faults."""
-        left, error, va, ip = self.fault
-        self.fault = (left - 1, error, va, ip)
-        if left == 1:
-            self.traps.append((PROGRAM, 14, error, va, ip))
-            self.end("user fault va %08x ip %08x" % (va, ip))
-
     def step(self):
-        if self.fault is not None:
+        now = self.now
+        if now.fault is not None:
             self.handle()
             return
-        if self.service is not None:
+        if now.service is not None:
             self.serve()
             return
-        ip = self.memory.ip = self.processor.eip
+        ip = now.memory.ip = now.processor.eip
         try:
-            vector = self.processor.step(self.memory)
+            vector = now.processor.step(now.memory)
         except PageFault as fault:
             self.page_fault(fault.error, fault.address, ip)
         except Trap as trap:
             self.trap(trap.number, trap.error, trap.address)
         else:
             if vector is not None:
-                self.service, self.stage = self.processor.registers[EAX], 0
-            elif self.processor.registers[ESP] in RESIDENT:
+                now.service = now.processor.registers[EAX]
+                now.go_on("entered")
+            elif now.processor.registers[ESP] in RESIDENT:
                 self.trap(13, 0, ip)
 
-    def turn(self):
-        """A turn; True where the budget ended it."""
+    def runs_on(self):
+        return self.slots[self.last] is self.now and self.now.status == "running"
+
+    def turn(self, slot):
+        """A turn of a slot; True where the budget ended it."""
+        self.last, self.now = slot, self.slots[slot]
         left = self.schedule[min(self.turns, len(self.schedule) - 1)]
-        self.status = "running"
+        self.now.status = "running"
         self.turns += 1
-        while left and self.steps_left and self.is_live and self.status == "running":
+        while left and self.steps_left and self.runs_on():
             self.step()
             self.steps += 1
             self.steps_left -= 1
             left -= 1
-        cut = self.is_live and self.status == "running" and left > 0
-        if self.status == "running":
-            self.status = "runnable"
-        return cut
+        if not self.runs_on():
+            return False
+        self.now.status = "runnable"
+        return left > 0
+
+    def next_slot(self):
+        """The first behind the last turn's that may run, or None."""
+        for k in range(1, SLOTS + 1):
+            found = self.slots[(self.last + k) % SLOTS]
+            if found is not None and found.status == "runnable":
+                return (self.last + k) % SLOTS
+        return None
 
     def run(self):
         """The end."""
         while True:
-            if not self.is_live:
+            if len(self.free_slots) == SLOTS - 1:
                 return "done"
-            if self.status != "runnable":
+            slot = self.next_slot()
+            if slot is None:
                 return "stuck"
             if self.steps_left == 0:
                 return "budget"
             if self.turns >= TURN_MAX:
                 return "turns full"
-            if self.turn():
+            if self.turn(slot):
                 return "budget"
 
     def notes(self, end):

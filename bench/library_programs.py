@@ -1,8 +1,7 @@
 """Random programs for `jos run`, which compare.py runs beside the model of library_model.py."""
-from images import image, word
+from images import CODE, image, word
 
-EAX, ECX, EDX, EBX, ESP = range(5)
-LOG = 0x801000  # where a program keeps its answers
+EAX, ECX, EDX, EBX, ESP, EBP, ESI, EDI = range(8)
 STACK = 0xEEBFD000
 
 PAGES = [0x900000, 0x901000, 0x902000, 0x200000, 0x3FF000, 0xCFFFF000, 0xD0400000, 0xEEBFC000]
@@ -11,7 +10,8 @@ ODD_PAGES = [0, 1, 0x1FF000, 0x400000, 0x7FF000, 0x900004, 0xD0000000, 0xD03FF00
 ENDS = [0x1FFFFF, 0x200000, 0x3FFFFF, 0x400000, 0x7FFFFF, 0x800000, 0xCFFFFFFF, 0xD0000000, 0xD03FFFFF, 0xD0400000,
         0xEEBFDFFF, 0xEEBFE000, 0xEEC00000, 0xFFFFFFFF]
 IDS = [0, 0x1001, 0x1002, 0x2001, 0x2000, 0x13FF, 0xFFFFFFFF]
-NUMBERS = [4, 10, 11, 13, 21, 22, 0x41, 0x80000000, 0xFFFFFFFF]
+LIKELY_IDS = [0x1001, 0x1002, 0x1002, 0x1003, 0x1004, 0x2002, 0x2003]
+NUMBERS = [10, 11, 13, 21, 22, 0x41, 0x80000000, 0xFFFFFFFF]
 
 # how often a program asks for which service; 99 is any other number
 ANY = {1: 4, 2: 1, 3: 2, 5: 2, 6: 6, 7: 3, 8: 4, 9: 1, 99: 1}
@@ -22,6 +22,8 @@ RESIDENT = [0xEEBFE800, 0xEEBFF000, 0xEEBFFFFF]
 
 class LibraryProgram:
     """Random services, reads and writes. What ends a program at once is rare before its end."""
+
+    log_at = 0x801000  # where a program keeps its answers
 
     def __init__(self, chance):
         self.chance, self.code, self.answers = chance, b"", 0
@@ -34,7 +36,7 @@ class LibraryProgram:
 
     def log(self, register=EAX):
         """A register goes to the next place in the log."""
-        self.code += bytes([0x89, 0x05 | register << 3]) + word(LOG + 4 * self.answers)
+        self.code += bytes([0x89, 0x05 | register << 3]) + word(self.log_at + 4 * self.answers)
         self.answers += 1
 
     def ask(self, number, edx=None, ecx=None, ebx=None):
@@ -50,7 +52,7 @@ class LibraryProgram:
         chance = self.chance
         number = chance.choices(list(ANY), list(ANY.values()))[0]
         given = {
-            1: lambda: self.usually(0.6, [(LOG, 16), (STACK + 0xF80, 0x80)],
+            1: lambda: self.usually(0.6, [(self.log_at, 16), (STACK + 0xF80, 0x80)],
                                     [(self.page(), chance.choice([0, 4097, 0xFFFFFFFF])),
                                      (chance.choice(ODD_PAGES), chance.choice([0, 1, 16])),
                                      (chance.choice(ENDS[:4] + ENDS[10:]), 0)]),
@@ -69,13 +71,13 @@ class LibraryProgram:
 
     def access(self):
         """A word of a page is read or written, which may end the program."""
-        where = self.usually(0.97, [STACK + 4 * self.chance.randrange(1024), LOG + 0xE00], PAGES + ENDS)
+        where = self.usually(0.97, [STACK + 4 * self.chance.randrange(1024), self.log_at + 0xE00], PAGES + ENDS)
         if self.chance.random() < 0.5:
             self.code += b"\xa1" + word(where)
             self.log()
         else:
             self.set(EAX, self.chance.getrandbits(32))
-            self.code += b"\xa3" + word(LOG + 0xF00 if where >= STACK else where)
+            self.code += b"\xa3" + word(self.log_at + 0xF00 if where >= STACK else where)
 
     def new_page_used(self):
         """A page is made and written, now and then across its end, and read."""
@@ -109,7 +111,7 @@ class LibraryProgram:
     def end(self):
         """Tells what it has got, and ends in one way or another."""
         chance = self.chance
-        self.ask(1, LOG, 4 * self.answers)
+        self.ask(1, self.log_at, 4 * self.answers)
         if chance.random() < 0.5:
             self.ask(1, STACK, 4096)
         kind = chance.randrange(14)
@@ -143,6 +145,194 @@ class LibraryProgram:
                 self.service()
         self.end()
         return image(self.code, chance.choice([0x1F00, 0x2000, 0x3000]))
+
+
+class ForkProgram(LibraryProgram):
+    """The same of a parent and its children: forks, writes to what is copied then and to what is shared, messages, and
+    waiting. It has code in up to three pages, its answers in the next one, and two pages behind that."""
+
+    log_at = 0x803000
+    depth_max = 3
+
+    def __init__(self, chance):
+        super().__init__(chance)
+        self.depth, self.ids = 0, []  # where in the log ids stand
+        self.fills_table = False  # whether it wants as many frames as there are slots for children
+
+    def set_id(self, register):
+        """A register gets an id: one that was logged, or any."""
+        if self.ids and self.chance.random() < 0.7:
+            self.code += bytes([0x8B, 0x05 | register << 3]) + word(self.chance.choice(self.ids))
+        else:
+            self.set(register, self.usually(0.9, LIKELY_IDS, IDS))
+
+    def log_id(self):
+        self.ids.append(self.log_at + 4 * self.answers)
+        self.log()
+
+    def fork(self):
+        """Both go on alike, or the child does something else and ends."""
+        chance = self.chance
+        self.ask(4)
+        if chance.random() < 0.8:
+            self.log_id()
+        if self.depth == self.depth_max or chance.random() < 0.3:
+            return
+        self.code += b"\x85\xc0\x0f\x85" + word(0)  # test eax, jne
+        begin = len(self.code)
+        self.depth += 1
+        self.acts(chance.randint(0, 8))
+        self.end()
+        self.depth -= 1
+        self.code = self.code[:begin - 4] + word(len(self.code) - begin) + self.code[begin:]
+
+    def service(self):
+        chance = self.chance
+        kind = chance.choices(["any", "id", "wait", "send", "receive"], [5, 2, 2, 2, 1])[0]
+        if kind == "any":
+            super().service()
+        elif kind == "id":
+            self.ask(2)
+            self.log_id()
+        elif kind == "wait":
+            self.set_id(EDX)
+            self.ask(5)
+            self.log()
+        elif kind == "send":
+            self.set_id(EDX)
+            self.ask(8, None, chance.getrandbits(32), self.message_page([0x800000, self.log_at]))
+            self.log()
+        else:
+            self.set(ECX, 0)
+            if chance.random() < 0.3:
+                self.set_id(ECX)
+            self.ask(9, self.message_page([]))
+            for register in [EAX, EDX, ECX, EBX]:
+                self.log(register)
+
+    def message_page(self, more):
+        return self.usually(0.5, [0], PAGES[:3] + more)
+
+    def exchange(self):
+        """A child is made that sends, or that receives; the parent does the other."""
+        chance = self.chance
+        flags, page, place = chance.choice([0, 0, 1, 2, 3, 3]), chance.choice(PAGES[:3]), chance.choice([0] + PAGES[:3])
+        self.ask(6, page, flags)
+        if flags & 1:
+            self.code += b"\xc7\x05" + word(page + 8) + word(chance.getrandbits(32))
+        self.ask(2)
+        self.log_id()
+        self.ask(4)
+        self.log_id()
+        parent, child = self.ids[-2:]
+        child_sends = chance.random() < 0.5
+        self.code += b"\x85\xc0\x0f\x85" + word(0)
+        begin = len(self.code)
+        for sends, other in [(child_sends, parent), (not child_sends, child)]:
+            if sends:
+                self.code += b"\x8b\x15" + word(other)
+                self.ask(8, None, chance.getrandbits(32), chance.choice([page, page, page, 0]))
+            else:
+                self.ask(9, place, 0)
+            for register in [EAX, EDX, ECX, EBX]:
+                self.log(register)
+            self.write()
+            if other == parent:
+                self.end()
+                self.code = self.code[:begin - 4] + word(len(self.code) - begin) + self.code[begin:]
+
+    def write(self):
+        """A word or a byte is written, or many, to a page that is there, mostly."""
+        chance = self.chance
+        page = self.usually(0.8, [self.log_at + 0x1000, self.log_at + 0x2000, STACK], PAGES)
+        where = page + chance.choice([0, 4, 0x7F0, 0xFFC, 0xFFE])
+        kind = chance.randrange(9)
+        if kind == 0:
+            self.code += b"\xc7\x05" + word(where) + word(chance.getrandbits(32))
+        elif kind == 1:
+            self.code += chance.choice([b"\xff\x05", b"\xff\x0d", b"\x01\x05", b"\x87\x05", b"\xfe\x05"]) + word(where)
+        elif kind == 2:
+            # many words, from here to there
+            self.set(ESI, chance.choice([self.log_at, self.log_at + 0x1FF0, STACK]))
+            self.set(EDI, chance.choice([self.log_at + 0x1FF8, self.log_at + 0x1000, STACK + 8]))
+            self.set(ECX, chance.randint(0, 8))
+            self.code += b"\xf3" + chance.choice([b"\xa5", b"\xa4", b"\xab", b"\xaa"])
+        elif kind in (3, 4):
+            # all registers, over the end of a page
+            over = self.usually(0.9, [self.log_at + 0x1000, self.log_at + 0x2000], [0x901000, 0x902000, STACK])
+            self.set(ESP, over + chance.choice([4, 16, 28, 30]))
+            self.code += b"\x60"
+            self.set(ESP, STACK + 0xF00)
+        elif kind == 5:
+            self.code += chance.choice([b"\xe8" + word(0) + b"\x58", b"\x50\x58", b"\x9c\x58"])  # call, push, pushf
+        elif kind == 6:
+            # its own next instruction
+            self.code += b"\xc7\x05" + word(CODE + len(self.code) + 11) + word(chance.getrandbits(32))
+            self.set(EAX, chance.getrandbits(32))
+            self.log()
+        elif kind == 7:
+            self.code += b"\xa3" + word(0x800000 + chance.choice([0, 4, 80]))
+        else:
+            self.code += b"\xa3" + word(self.log_at + 0xF00)
+        if kind < 3:
+            self.code += b"\xa1" + word(where)
+            self.log()
+
+    def fill_and_fork(self):
+        """Pages are taken until it is refused, some are given back, and then it forks, once or more."""
+        chance = self.chance
+        if chance.random() < 0.5:
+            # so that a page was copied before, and there is the table for that
+            self.ask(4)
+            self.write()
+        self.fill()
+        for _ in range(chance.randint(0, 14)):
+            self.code += b"\x81\xee" + word(0x1000) + b"\x89\xf2"  # sub 0x1000 from esi, mov esi to edx
+            self.ask(7)
+        for _ in range(chance.choice([1, 1, 2, 3])):
+            self.fork()
+            self.write()
+
+    def many(self):
+        """Children are made until it is refused; each waits for a message, or ends."""
+        self.fills_table = self.chance.random() < 0.1
+        begin = len(self.code)
+        self.ask(4)
+        self.code += b"\x85\xc0\x7f" + bytes([begin - len(self.code) - 4 & 255])  # test eax, jg
+        self.code += b"\x75" + bytes([len(self.receiving()) + 7])
+        self.code += self.receiving()
+        self.ask(0)
+        self.log()
+        for _ in range(self.chance.randint(0, 3)):
+            self.set(EDX, self.chance.choice([0x1002, 0x1003, 0x1010]))
+            self.ask(8, None, 7, 0)
+            self.log()
+
+    @staticmethod
+    def receiving():
+        return b"\xba" + word(0) + b"\xb9" + word(0) + b"\xb8" + word(9) + b"\xcd\x40"
+
+    def acts(self, count):
+        kinds = [self.service, self.access, self.new_page_used, self.stack, self.write, self.fork, self.exchange]
+        for _ in range(count):
+            if len(self.code) < 0x2000:
+                self.chance.choices(kinds, [6, 1, 3, 1, 6, 0 if self.depth == self.depth_max else 2, 1])[0]()
+
+    def build(self):
+        chance = self.chance
+        for _ in range(chance.randint(0, 3)):
+            self.new_page_used()
+        kind = chance.random()
+        if kind < 0.3:
+            self.fill_and_fork()
+        elif kind < 0.35:
+            self.many()
+        else:
+            self.fork()
+        self.acts(chance.randint(0, 12))
+        self.end()
+        assert len(self.code) < 0x2F00
+        return image(self.code, 0x6000)
 
 
 def random_words(chance):

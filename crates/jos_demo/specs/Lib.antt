@@ -1,2 +1,3 @@
 pub mod Code
 pub mod Programs
+pub mod Pairs

@@ -1,4 +1,4 @@
--- The programs, as an assembler reads them, and the files of their names.
+-- The programs that print a line, as an assembler reads them, and the files of the names of all programs.
 use Rattle.std.specs.Prelude.{List, [], ◌∷◌, ℕ, Option, Some, None, codes, Result, Ok, Err, if◌then◌else◌}
 use Rattle.std.specs.Str.{bytes_eq}
 use Rattle.jos_base.specs.declared.numbers.TheConstants.{T_SYSCALL, SYS_CPUTS, SYS_ENV_DESTROY, T_SERVICE}
@@ -8,6 +8,7 @@ use Rattle.jos_asm.specs.declared.fault.AsmFault.{AsmFault}
 use Rattle.jos_asm.specs.Program.{Program, finished}
 use Rattle.jos_demo.specs.declared.code.TheConstants.{TEXT, EAX, ECX, EDX, SERVICE_CPUTS, SERVICE_EXIT}
 use Rattle.jos_demo.specs.Code.{int, image}
+use Rattle.jos_demo.specs.Pairs.{forkpair, sharepair}
 
 -- on the bare kernel: cputs("hello\n", 6), and env_destroy(0)
 unfoldable pub xhello : Program
@@ -52,6 +53,8 @@ unfoldable pub program_named : List ℕ → Option Program
 program_named name =
     if bytes_eq name (codes "xhello") then Some xhello
     else if bytes_eq name (codes "hello") then Some hello
+    else if bytes_eq name (codes "forkpair") then Some forkpair
+    else if bytes_eq name (codes "sharepair") then Some sharepair
     else None
 
 abbrev pub file_of_program : Option Program → Option (List ℕ)

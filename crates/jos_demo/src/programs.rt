@@ -1,4 +1,4 @@
-//! The programs.
+//! The programs that print a line, and the programs by their names.
 
 ghost use Rattle.std.specs.Prelude.{◌≡◌, ◌≤◌, ◌||◌, [], ◌∷◌, IfOk, IsOk, Ok, None, false, is_some, length, codes};
 ghost use Rattle.std.specs.Str.{bytes_eq};
@@ -12,6 +12,7 @@ ghost use Rattle.jos_demo.specs.Code.{int};
 ghost use Rattle.jos_demo.specs.Programs.{xhello, hello, program_named, file_of};
 
 use crate::code::{EAX, ECX, EDX, SERVICE_CPUTS, SERVICE_EXIT, TEXT, image, int};
+use crate::pairs::{forkpair, sharepair};
 use jos_asm::{AsmFault, Builder, CODE_MAX};
 use jos_base::{NoMemory, SYS_CPUTS, SYS_ENV_DESTROY, T_SERVICE, T_SYSCALL};
 use jos_isa::mov;
@@ -72,18 +73,31 @@ fn program_named(alloc: Global, name: &str) -> Result<Option<Builder>, NoMemory>
         Ok(Some(xhello(alloc)?))
     } else if name == "hello" {
         Ok(Some(hello(alloc)?))
+    } else if name == "forkpair" {
+        Ok(Some(forkpair(alloc)?))
+    } else if name == "sharepair" {
+        Ok(Some(sharepair(alloc)?))
     } else {
         Ok(None)
     }
 }
 
+/// Whether this is one of the four names.
+fn is_listed(name: &str) -> bool
+    ensures { result ≡ (bytes_eq name.now (codes "xhello") || bytes_eq name.now (codes "hello")
+        || bytes_eq name.now (codes "forkpair") || bytes_eq name.now (codes "sharepair")) }
+{
+    name == "xhello" || name == "hello" || name == "forkpair" || name == "sharepair"
+}
+
 /// Whether a program has this name.
 pub fn is_program(name: &str) -> bool
     ensures file { result ≡ is_some (file_of name.now) }
-    // There are two programs.
-    ensures named { result ≡ (bytes_eq name.now (codes "xhello") || bytes_eq name.now (codes "hello")) }
+    // There are four programs.
+    ensures named { result ≡ (bytes_eq name.now (codes "xhello") || bytes_eq name.now (codes "hello")
+        || bytes_eq name.now (codes "forkpair") || bytes_eq name.now (codes "sharepair")) }
 {
-    name == "xhello" || name == "hello"
+    is_listed(name)
 }
 
 /// What is left of the faults of a program that has none.
@@ -110,7 +124,9 @@ fn assemble(program: Builder) -> Result<Vec<u8>, NoMemory>
 
 /// The file of the program of a name, or `None` where no program has it. That no program has it takes no memory.
 ///
-/// `xhello` and `hello` print `hello` and a newline: `xhello` runs on the bare kernel, `hello` under the library.
+/// `xhello` and `hello` print `hello` and a newline: `xhello` runs on the bare kernel, `hello` under the library, as the
+/// other two. In these a parent and its child write on one page, and each prints what it reads there then: in
+/// `forkpair` the page is each one's own, and in `sharepair` they share it, and the parent writes last.
 #[tactic(auto, unfolding(crate::specs::Programs::file_of))]
 pub fn program(alloc: Global, name: &str) -> Result<Option<Vec<u8>>, NoMemory>
     ensures exact { IfOk result (λ file. option_map (λ bytes. bytes.items) file ≡ file_of name.now) }

@@ -20,7 +20,7 @@ use Rattle.lib_os.specs.declared.progress.Progress.TheVariants as progress
 use Rattle.lib_os.specs.declared.service.Service.{Service}
 use Rattle.lib_os.specs.declared.service.Service.TheVariants as service
 use Rattle.lib_os.specs.AbstractState.{AbstractState, Born}
-use Rattle.lib_os.specs.LibrarySteps.{KeepsStanding, NothingRefused, KeepsTurn, MayGiveUp}
+use Rattle.lib_os.specs.LibrarySteps.{Stands, KeepsStanding, NothingRefused, KeepsTurn, MayGiveUp}
 use Rattle.lib_os.specs.Places.{place_of}
 use Rattle.lib_os.specs.LibraryPages.{View}
 use Rattle.lib_os.specs.StandsInHandler.{CopiesOrEnds, copies, ends}
@@ -62,6 +62,13 @@ silent_step v k b (service.Receive va from) (step.ReadingValue id) h awake = by_
     by_come (has so) = so.silent
 silent_step v k b (service.Receive va from) (step.ReadingSender id value) h awake = h.2.silent
 silent_step v k b (service.Receive va from) (step.ReadingPerm id value sender) h awake = h.3.silent
+silent_step v k b service.Fork (step.ForkRegion id region) h awake = h.0.silent
+silent_step v k b service.Fork (step.ForkEntry id page) h awake = h.0.silent
+silent_step v k b service.Fork (step.MapChild id page perm) h awake = h.0.silent
+silent_step v k b service.Fork (step.Remap id page) h awake = h.0.silent
+silent_step v k b service.Fork (step.ChildStack id) h awake = h.silent
+silent_step v k b service.Fork (step.ChildUpcall id) h awake = h.silent
+silent_step v k b service.Fork (step.ChildRuns id) h awake = h.silent
 silent_step v k b _ _ h awake = absurd h
 
 silent_at : (v : View) (k : Slot) (b : Born) (p : Place) → StandsAt p v k b → b.blocked ≡ false → k.rendezvous.receiving ≡ false
@@ -144,10 +151,11 @@ comes {n = n} bytes h progress.Ended keeps none_refused last runs gives hidden =
 pub stepped : {schedule : List ℕ} {first : AbstractState} {turns : List Turn} {n visible : ℕ} {s after : KernelState}
     {written : List ℕ} (bytes : List ℕ) →
     IsInTurn schedule first turns n visible s written → (done : Progress) → KeepsStanding done n s after bytes → NothingRefused s after →
-    after.last ≡ Some n → is_running (slot_at s n).status ≡ true → KeepsTurn done (slot_at s n) (slot_at after n) → (hidden : ℕ) →
+    after.last ≡ Some n → is_running (slot_at s n).status ≡ true →
+    ((a : AbstractState) → Stands s a → KeepsTurn done (slot_at s n) (slot_at after n)) → (hidden : ℕ) →
     Comes schedule first turns n (visible + visible_steps done) hidden after (written ++ bytes)
 stepped {n = n} bytes h done keeps none_refused last runs turn hidden =
-    comes bytes h done keeps none_refused last runs (turn runs (running_silent h.stands.1 n runs)) hidden
+    comes bytes h done keeps none_refused last runs (turn h.now h.stands runs (running_silent h.stands.1 n runs)) hidden
 
 -- ---- the turn behind the step
 

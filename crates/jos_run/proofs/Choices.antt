@@ -37,7 +37,7 @@ runs_alike _ _ h idle_now = absurd h
 slot_runs : (names : Names) (sp : SpacesState) (k : Slot) (slot : AbstractSlot) → StandsForSlot names sp k slot →
     is_running k.status ≡ false → is_runnable k.status ≡ can_run_as idle slot
 slot_runs names sp k (free id) h idle_now = ap (λ (x : Slot). is_runnable x.status) h
-slot_runs names sp k (unborn id parent) h idle_now = absurd h
+slot_runs names sp k (unborn id parent) h idle_now = ap (λ (x : Status). is_runnable x) h.status
 slot_runs names sp k (born b) h idle_now = runs_alike k.status b.blocked h.runs idle_now
 slot_runs names sp k (serving id) h idle_now = ap (λ (x : Status). is_runnable x) h.status
 
@@ -74,7 +74,8 @@ next_stands {s = s} {a = a} h none =
 client_counts : (names : Names) (sp : SpacesState) (k : Slot) (slot : AbstractSlot) → StandsForSlot names sp k slot →
     is_client slot ≡ (is_live_slot k && is_user k.env_type)
 client_counts names sp k (free id) h = sym (ap (λ (x : Slot). is_live_slot x && is_user x.env_type) h)
-client_counts names sp k (unborn id parent) h = absurd h
+client_counts names sp k (unborn id parent) h =
+    sym (ap (λ (x : Status). not (is_free x) && is_user k.env_type) h.status ∙ ap (λ (x : EnvType). is_user x) h.env_type)
 client_counts names sp k (born b) h =
     sym (ap (λ (c : Bool). c && is_user k.env_type) (born_live h) ∙ ap (λ (x : EnvType). is_user x) h.env_type)
 client_counts names sp k (serving id) h =

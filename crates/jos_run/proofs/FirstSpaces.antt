@@ -4,11 +4,13 @@ use Rattle.std.proofs.Common.{refl, sym, ap, subst, arith, if◌then◌else◌}
 use Rattle.std.specs.Prelude.{nat_lt}
 use Rattle.std.specs.List.{All}
 use Rattle.std.proofs.lemmas.Bool.Decides.{nat_tests}
+use Rattle.jos_base.specs.declared.numbers.TheConstants.{NENV}
 use Rattle.jos_base.specs.Counting.{frame_limit}
 use Rattle.jos_base.specs.SpacesState.{SpacesState, Use, reserved, free, directory, is_directory, created, created_from}
 use Rattle.jos_base.specs.SpacesState.{first_spaces, reserved_frames, rising}
 use Rattle.jos_base.specs.Words.{upd}
 use Rattle.lib_os.specs.InOrder.{HasOneUse, AreFree}
+use Rattle.lib_os.specs.StandsFor.{AreSlots}
 use Rattle.jos_run.proofs.FramesTaken.{AreBelow, head_taken, head_below}
 use Rattle.jos_base.proofs.Maps.{upd-at, upd-other}
 
@@ -39,6 +41,12 @@ rising-below : (first n : ℕ) → first + n ≤ frame_limit → AreBelow (risin
 unfolding rising
 rising-below first zero le = tt
 rising-below first (suc n) le = (omega arith, rising-below (first + 1) n (omega arith))
+
+-- these are slots of the table
+pub rising-slots : (first n : ℕ) → first + n ≤ NENV → AreSlots (rising first n)
+unfolding rising
+rising-slots first zero le = tt
+rising-slots first (suc n) le = (omega (arith, le), rising-slots (first + 1) n (omega (arith, le)))
 
 -- ---- the first spaces
 
@@ -72,6 +80,7 @@ module _ (frames first n : ℕ) (has : HasFrames frames first n) where
     regions = λ d p e is. absurd cc;
     tables = λ d r region is. absurd cc;
     tables_apart = λ d r e q x y is js same. absurd cc;
+    region_owners = λ d r region is. absurd cc;
     free_list = subst (AreFree (first_spaces frames).uses) (sym first_free)
         (rising-free (first_spaces frames).uses first (suc (suc n)) first_uses);
   }

@@ -62,6 +62,7 @@ module _ (s : SpacesState) (h : HasOneUse s) (f : ℕ) (was : is_unnamed (s.uses
     regions = h.regions;
     tables = λ d r region is. let t = h.tables d r region is in (kept region.table table refl t.0, t.1);
     tables_apart = h.tables_apart;
+    region_owners = λ d r region is. kept d directory refl (h.region_owners d r region is);
     free_list = listed;
   }
 
@@ -85,10 +86,10 @@ module _ (s : SpacesState) (h : HasOneUse s) (f : ℕ) (was : is_unnamed (s.uses
 -- ---- what is put
 
 -- a region gets its table, which no other has
-region_put : (s : SpacesState) → HasOneUse s → (d r : ℕ) (region : Region) → s.uses region.table ≡ table → region.table < frame_limit →
+region_put : (s : SpacesState) → HasOneUse s → (d r : ℕ) → s.uses d ≡ directory → (region : Region) → s.uses region.table ≡ table → region.table < frame_limit →
     ((q i : ℕ) (x : Region) → s.regions q i ≡ Some x → x.table ≢ region.table) →
     HasOneUse (record s { regions = put s.regions d r (Some region) })
-region_put s h d r region is_table small new = record {
+region_put s h d r space region is_table small new = record {
   pages = h.pages;
   owners = h.owners;
   within = h.within;
@@ -107,6 +108,10 @@ region_put s h d r region is_table small new = record {
       | inl too ↦ absurd (new q i x there (same ∙ ap (λ (z : Region). z.table) too.2))
       | inr other ↦ h.tables_apart q i m j x y there other same
     ]
+  ];
+  region_owners = λ q i x is. elim (put-some s.regions d r region x q i is) [
+    | inl here ↦ ap s.uses here.0 ∙ space
+    | inr there ↦ h.region_owners q i x there
   ];
   free_list = h.free_list;
 }
@@ -142,6 +147,7 @@ entry_put s h d p e is_page space d_small p_small frame_small perm_small region 
   ];
   tables = h.tables;
   tables_apart = h.tables_apart;
+  region_owners = h.region_owners;
   free_list = h.free_list;
 }
 
@@ -188,9 +194,9 @@ record Tabled (s t : SpacesState) (d i : ℕ) : Type 0 where
   entries : t.entries ≡ s.entries
   uses : (f : ℕ) → s.uses f ≢ free → t.uses f ≡ s.uses f
 
-tabled_takes : (s t : SpacesState) (d i : ℕ) → HasOneUse s → AreBelow s.free → tabled s d i ≡ Some t → Tabled s t d i
+tabled_takes : (s t : SpacesState) (d i : ℕ) → HasOneUse s → AreBelow s.free → s.uses d ≡ directory → tabled s d i ≡ Some t → Tabled s t d i
 unfolding tabled
-tabled_takes s t d i h below is = by_region (s.regions d i) refl is
+tabled_takes s t d i h below space is = by_region (s.regions d i) refl is
   where
     by_list : (list : List ℕ) → s.free ≡ list → tabled_new s list d i ≡ Some t → Tabled s t d i
     by_list [] at none = absurd cc
@@ -205,7 +211,8 @@ tabled_takes s t d i h below is = by_region (s.regions d i) refl is
         (record {
           takes = record {
             one_use = region_put (record s { uses = upd s.uses g table; free = rest; pages = upd s.pages g [] })
-                (head_taken s h below g rest at table (upd s.pages g [])) d i region (upd-at s.uses g table) low.0 new;
+                (head_taken s h below g rest at table (upd s.pages g [])) d i
+                (kept s h g (head_unnamed s h below g rest at) table d directory refl space) region (upd-at s.uses g table) low.0 new;
             below = low.1;
             directories = same_directories s h g (head_unnamed s h below g rest at) table refl;
             frames = refl;
@@ -255,7 +262,7 @@ module _ (s : SpacesState) (h : HasOneUse s) (below : AreBelow s.free) (d p perm
         by_table None tab found = absurd cc
         by_table (Some u) tab found =
             let low = head_below s h below g rest at in
-            let put_in = tabled_takes first u d (p / NPTENTRIES) first_one low.1 tab in
+            let put_in = tabled_takes first u d (p / NPTENTRIES) first_one low.1 space_kept tab in
             let is_fresh : u.uses g ≡ fresh =
             put_in.uses g (λ same. let clash : fresh ≡ free = sym (upd-at s.uses g fresh) ∙ same in absurd cc) ∙ upd-at s.uses g fresh in
             let unnamed : is_unnamed (u.uses g) ≡ true = ap is_unnamed is_fresh in

@@ -175,8 +175,8 @@ module _ (s : KernelState) (n : ℕ) where
 pub guest_leaves : (s after : KernelState) (n : ℕ) (done : Progress) → after ≡ (guest_instruction s n).state → Leaves (Ok done) n s after
 guest_leaves s after n done is =
     let h = subst (λ (t : KernelState). GuestLeaves s n t) (sym is) (instruction_left s n) in (
-      record { last = h.last; turns = h.turns; frames = h.frames; refused = λ two. h.refusals; told = λ some. subst (λ (k : ℕ). 0 < k) (sym h.refusals) some },
-      (λ running silent runs. absurd (
+      record { last = h.last; turns = h.turns; frames = h.frames; refused = λ two some. h.refusals; told = λ some. subst (λ (k : ℕ). 0 < k) (sym h.refusals) some },
+      (λ a stands running silent runs. absurd (
           let contradiction : true ≡ false = sym runs ∙ h.calm (running_calm (slot_at s n).status running) in cc
           )),
       subst (λ (t : KernelState). KeepsUses n s t) (sym is) (λ in_order live each. guest_uses s n in_order live each),

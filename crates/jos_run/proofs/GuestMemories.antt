@@ -32,7 +32,7 @@ use Rattle.lib_os.specs.InOrder.{IsInOrder}
 use Rattle.lib_os.specs.LibrarySteps.{is_to_copy}
 use Rattle.lib_os.specs.Places.{place_of}
 use Rattle.lib_os.specs.Rows.{EntryRow, Names, Rows, is_cow, lasting, rows_of}
-use Rattle.lib_os.specs.StandsFor.{StandsFor}
+use Rattle.lib_os.specs.StandsFor.{StandsFor, borne_in}
 use Rattle.lib_os.specs.StandsInHandler.{is_refused_by, is_write}
 use Rattle.lib_os.proofs.BytesRead.{IsLostWrite, IsRefusal, user_right, user_allows, user_fault, user_entry_write, user_lost, user_refusal, user_byte_is}
 use Rattle.lib_os.proofs.BytesStand.{stored_stands}
@@ -237,7 +237,7 @@ module _ (names : Names) (n : ℕ) (k : Slot) (is_guest : place_of k ≡ place.G
           kept = r.kept;
           rows_kept = put.rows ∙ r.rows_kept;
           after = later (stored g.state n it va byte) (stored_after g.state n it va byte (it.memory (page_number va)) r.after.there);
-          stands = stored_stands r.stands n it r.after.there outside va byte small (inside_programs va h.0) (lasting found.0)
+          stands = stored_stands r.stands n it r.after.there outside (ap borne_in stands_at) va byte small (inside_programs va h.0) (lasting found.0)
               (row_is m.state.spaces d (page_number va) found.0 found.1) found.3 put (stored_order va byte);
         }
 

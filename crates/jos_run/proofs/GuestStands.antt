@@ -47,7 +47,7 @@ use Rattle.lib_os.specs.LibrarySteps.{GoesOn, copies_left, hidden_left, is_to_co
 use Rattle.lib_os.specs.Places.{is_handlers, place_of, words_entered}
 use Rattle.lib_os.specs.Services.{service_of}
 use Rattle.lib_os.specs.Rows.{Names, Rows, rows_of}
-use Rattle.lib_os.specs.StandsFor.{StandsAt, StandsFor, StandsForBorn, upcall_at, view_of}
+use Rattle.lib_os.specs.StandsFor.{StandsAt, StandsFor, StandsForBorn, upcall_at, view_of, borne_in}
 use Rattle.lib_os.specs.StandsInHandler.{AreSmall, IsAtGuest, is_write}
 use Rattle.lib_os.proofs.EndsStand.{ended_stands}
 use Rattle.lib_os.proofs.FaultsStand.{esp_free, fault_copies, fault_ends, fault_handled, fault_lowers, guest_at, handed, stack_frame}
@@ -62,7 +62,7 @@ use Rattle.jos_run.specs.FencedMemory.{fenced_memory}
 use Rattle.jos_run.specs.GuestSteps.{quietly, goes_on, service_entered, after_event, after_instruction, guest_instruction, is_copying, is_handed_over}
 use Rattle.jos_run.proofs.GuestMemories.{Alike, IsGuestCopy, IsGuestRefusal, alike_lost, alike_refused, refusal_rests, stands_at}
 use Rattle.jos_run.proofs.GuestMemories.{quiet, reading, refusing, writing}
-use Rattle.jos_run.proofs.ServicesEntered.{place_entered}
+use Rattle.jos_run.proofs.ServicesEntered.{entered_plain, place_entered}
 
 -- ---- a program's step
 
@@ -152,7 +152,7 @@ module _ (names : Names) (n : ℕ) (k : Slot) (is_guest : place_of k ≡ place.G
         let h = r.stands.in_order in
         let used = directory_is (m.state.spaces.uses d) (h.spaces.in_use n (born_live born_stands)) in record {
           printed = λ i. r.after.console_is i ++ line_text (sym born_stands.id i) why;
-          stands = λ order. printed_stands (ended_stands r.stands n it r.after.there (destroyed_gone m.state.spaces d h.frames used) order)
+          stands = λ order. printed_stands (ended_stands r.stands n it r.after.there (ap borne_in at_program) (destroyed_gone m.state.spaces d h.frames used) order)
               (line_text it.id why);
         }
 
@@ -271,7 +271,7 @@ module _ (names : Names) (n : ℕ) (k : Slot) (is_guest : place_of k ≡ place.G
         by_vector true =
             subst (λ (state : KernelState). Goes state [] (with_born g.state n (asked_born regs))) (sym entered_is)
             (moves (asked_slot regs) (asked_born regs) refl (record { id = refl; env_type = refl; calm = λ runs. runs })
-            (ap is_plain (place_entered regs (not_handlers regs.esp outside))) (asked regs outside flags))
+            (ap is_plain (place_entered regs (not_handlers regs.esp outside)) ∙ entered_plain (service_of regs)) (asked regs outside flags))
         by_vector false =
             let e : (slot_at (with_registers m.state n regs) n).registers.eip ≡ regs.eip =
             ap (λ (slot : Slot). slot.registers.eip) (slot_set m.state n regs) in

@@ -82,6 +82,7 @@ module _ (n : ℕ) (c : Held) (sound : IsSound n c) where
     tables_apart = λ d r e q x y x_is y_is same. (
         let roles = sym (sound.tables d r x x_is) ∙ ap c.role same ∙ sound.tables e q y y_is in
         (ap directory_of roles, ap region_number roles));
+    region_owners = λ d r region is. ap use_of (region_facts c d r region is).0;
     free_list = free_listed _ c.place c.free_len (λ k lt. ap use_of (sound.listed k lt))
         (λ j k j_lt k_lt same. ap place_of (sym (sound.listed j j_lt) ∙ ap c.role same ∙ sound.listed k k_lt));
   }

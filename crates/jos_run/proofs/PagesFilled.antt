@@ -22,6 +22,7 @@ filled_one_use s f bytes h = record {
   regions = h.regions;
   tables = h.tables;
   tables_apart = h.tables_apart;
+  region_owners = h.region_owners;
   free_list = h.free_list;
 }
 

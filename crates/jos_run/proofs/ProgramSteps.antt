@@ -39,7 +39,7 @@ awake_born names s a h n awake = by_slot (a.slots n) refl (h.slots n)
   where
     by_slot : (slot : AbstractSlot) → a.slots n ≡ slot → StandsForSlot names s.spaces (slot_at s n) slot → (b : Born) × (a.slots n ≡ born b)
     by_slot (free id) is k = absurd (false≢true (sym (ap (λ (x : Slot). is_awake x.status) k) ∙ awake))
-    by_slot (unborn id parent) is k = absurd k
+    by_slot (unborn id parent) is k = absurd (false≢true (sym (ap is_awake k.status) ∙ awake))
     by_slot (born b) is k = (b, is)
     by_slot (serving id) is k = absurd (false≢true (sym (ap is_awake k.status) ∙ awake))
 

@@ -62,7 +62,8 @@ runnable_born : (names : Names) (sp : SpacesState) (k : Slot) (slot : AbstractSl
     is_runnable k.status ≡ true → (b : Born) × (slot ≡ born b) × (b.blocked ≡ false)
 runnable_born names sp k (free id) h runs =
     absurd (let contradiction : true ≡ false = sym runs ∙ ap (λ (x : Slot). is_runnable x.status) h in cc)
-runnable_born names sp k (unborn id parent) h runs = absurd h
+runnable_born names sp k (unborn id parent) h runs =
+    absurd (let contradiction : true ≡ false = sym runs ∙ ap (λ (x : Status). is_runnable x) h.status in cc)
 runnable_born names sp k (born b) h runs = (b, refl, awake k.status b.blocked h.runs runs)
   where
     awake : (status : Status) (blocked : Bool) → IsStatusFor status blocked → is_runnable status ≡ true → blocked ≡ false
@@ -219,7 +220,8 @@ running_slot : (names : Names) (sp : SpacesState) (k : Slot) (slot : AbstractSlo
     is_running k.status ≡ true → (b : Born) × (slot ≡ born b)
 running_slot names sp k (free id) h runs =
     absurd (let contradiction : true ≡ false = sym runs ∙ ap (λ (x : Slot). is_running x.status) h in cc)
-running_slot names sp k (unborn id parent) h runs = absurd h
+running_slot names sp k (unborn id parent) h runs =
+    absurd (let contradiction : true ≡ false = sym runs ∙ ap (λ (x : Status). is_running x) h.status in cc)
 running_slot names sp k (born b) h runs = (b, refl)
 running_slot names sp k (serving id) h runs =
     absurd (let contradiction : true ≡ false = sym runs ∙ ap (λ (x : Status). is_running x) h.status in cc)
@@ -246,6 +248,13 @@ step_phase v k b (service.Receive va from) (step.ReadingValue id) h = by_come h.
     by_come (has so) = (_, so.phase)
 step_phase v k b (service.Receive va from) (step.ReadingSender id value) h = (_, h.2.phase)
 step_phase v k b (service.Receive va from) (step.ReadingPerm id value sender) h = (_, h.3.phase)
+step_phase v k b service.Fork (step.ForkRegion id region) h = (_, h.0.phase)
+step_phase v k b service.Fork (step.ForkEntry id page) h = (_, h.0.phase)
+step_phase v k b service.Fork (step.MapChild id page perm) h = (_, h.0.phase)
+step_phase v k b service.Fork (step.Remap id page) h = (_, h.0.phase)
+step_phase v k b service.Fork (step.ChildStack id) h = (_, h.phase)
+step_phase v k b service.Fork (step.ChildUpcall id) h = (_, h.phase)
+step_phase v k b service.Fork (step.ChildRuns id) h = (_, h.phase)
 step_phase v k b _ _ h = absurd h
 
 pausing_phase : (v : View) (k : Slot) (b : Born) (p : Place) → StandsAt p v k b → is_pausing p ≡ true → waits_in b.phase ≡ true

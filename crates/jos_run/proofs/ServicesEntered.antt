@@ -8,8 +8,10 @@ use Rattle.lib_os.specs.declared.numbers.TheConstants.{SERVICES}
 use Rattle.lib_os.specs.declared.place.Place.TheVariants as place
 use Rattle.lib_os.specs.declared.place.Step.TheVariants as step
 use Rattle.lib_os.specs.declared.service.Service.{Service}
+use Rattle.lib_os.specs.declared.service.Service.TheVariants as service
 use Rattle.lib_os.specs.Places.{place_in_words, is_handlers, words_entered}
 use Rattle.lib_os.specs.Services.{is_built, service_of}
+use Rattle.lib_os.proofs.Logical.{is_plain}
 use Rattle.lib_os.proofs.WordsTell.{place_at}
 
 -- numbers that name no service are kept as one
@@ -32,3 +34,8 @@ pub place_entered : (regs : Regs) → is_handlers regs.esp ≡ false →
     place_in_words regs (words_entered regs) ≡ place.InService (service_of regs) step.Entered
 place_entered regs outside =
     place_at regs (min regs.eax SERVICES) step.Entered outside ∙ ap (λ (s : Service). place.InService s step.Entered) (number_kept regs)
+
+-- nobody is borne where a service is entered
+pub entered_plain : (s : Service) → is_plain (place.InService s step.Entered) ≡ true
+entered_plain service.Fork = refl
+entered_plain _ = refl

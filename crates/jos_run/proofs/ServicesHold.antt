@@ -11,6 +11,7 @@ use Rattle.lib_os.specs.Places.{place_of}
 use Rattle.lib_os.specs.Services.{is_built_service}
 use Rattle.lib_os.proofs.BuiltServices.{built_at}
 use Rattle.lib_stage.specs.ServiceSteps.{ServiceHolds}
+use Rattle.lib_fork.proofs.ForkLaw.{fork_holds}
 use Rattle.lib_mem.specs.declared.services.MemoryService.TheVariants as memory
 use Rattle.lib_mem.proofs.MemoryLaw.{memory_holds}
 use Rattle.lib_msg.proofs.ReceiveLaw.{receive_holds}
@@ -27,6 +28,7 @@ module _ (s : KernelState) (n : ℕ) (live : is_live (slot_at s n) ≡ true)
   by_service (service.Cputs va len) built stands = memory_holds s n at live (memory.Cputs va len) stands
   by_service service.GetId built stands = memory_holds s n at live memory.GetId stands
   by_service service.Yield built stands = memory_holds s n at live memory.Yield stands
+  by_service service.Fork built stands = fork_holds s n live at stands
   by_service (service.Wait id) built stands = wait_holds s n id live at stands
   by_service (service.PageNew va flags) built stands = memory_holds s n at live (memory.PageNew va flags) stands
   by_service (service.PageDrop va) built stands = memory_holds s n at live (memory.PageDrop va) stands

@@ -6,8 +6,9 @@ use Rattle.std.specs.Prelude.{nat_le, nat_lt}
 use Rattle.std.specs.Option.{option_map}
 use Rattle.std.proofs.lemmas.Bool.{false≢true}
 use Rattle.std.proofs.lemmas.Bool.Decides.{nat_tests}
+use Rattle.std.proofs.lemmas.Option.{none-some}
 use Rattle.jos_base.specs.declared.registers.Regs.{Regs}
-use Rattle.jos_base.specs.Environments.{Slot, is_live, no_extra, zero_registers}
+use Rattle.jos_base.specs.Environments.{Slot, free_slot, is_live, no_extra, zero_registers}
 use Rattle.jos_base.specs.KernelState.{KernelState, with_spaces}
 use Rattle.jos_base.specs.Reach.{Entry}
 use Rattle.jos_base.specs.SpacesState.{SpacesState, reserved_frames}
@@ -17,14 +18,14 @@ use Rattle.jos_kernel.specs.Boot.{perm_of}
 use Rattle.jos_kernel.proofs.ImagesRead.{read_lie}
 use Rattle.lib_os.specs.declared.place.Place.{Place}
 use Rattle.lib_os.specs.declared.place.Place.TheVariants as place
-use Rattle.lib_os.specs.AbstractState.{Born, Page, own, named}
+use Rattle.lib_os.specs.AbstractState.{AbstractSlot, Born, Page, free, own, named, serving, unborn}
 use Rattle.lib_os.specs.Fence.{in_fence, is_resident}
 use Rattle.lib_os.specs.LibraryPages.{LibraryPages, is_library_region}
 use Rattle.lib_os.specs.LibrarySteps.{Stands}
 use Rattle.lib_os.specs.Places.{is_handlers, place_of}
 use Rattle.lib_os.specs.Rows.{EntryRow, IsUsers, Names, counted, is_programs, is_shared, logical, logical_by, may_write, page_by, page_seen}
 use Rattle.lib_os.specs.Rows.{rows_of, seen_where}
-use Rattle.lib_os.specs.StandsFor.{StandsFor, StandsForBorn, upcall_at, view_of}
+use Rattle.lib_os.specs.StandsFor.{HasChildren, StandsFor, StandsForBorn, borne_in, upcall_at, view_of}
 use Rattle.lib_os.proofs.Serving.{words_of_none}
 use Rattle.lib_os.proofs.TwoSlots as two
 use Rattle.lib_spawn.specs.StackPage.{fits_stack, stack_pointer, stack_size, strings_of}
@@ -36,7 +37,7 @@ use Rattle.jos_run.specs.Start.{first_memory, program_with, start_state}
 use Rattle.jos_run.proofs.Booted.{within-booted}
 use Rattle.jos_run.proofs.BootedPages.{IsPlain, own_by}
 use Rattle.jos_run.proofs.BootedSpace.{flags_are, handler_row, inside_pages, outside_no_page, outside_no_row, pages_whole, tables_are}
-use Rattle.jos_run.proofs.FirstSpaces.{HasFrames, has_frames}
+use Rattle.jos_run.proofs.FirstSpaces.{HasFrames, has_frames, rising-slots}
 use Rattle.jos_run.proofs.FirstState.{base, begun_new, has_begun, registers, space_small}
 use Rattle.jos_run.proofs.PagesBegin.{Stage, space_memory}
 use Rattle.jos_run.proofs.StackLoaded.{fits-some}
@@ -196,6 +197,23 @@ module _ (image : Layout) (words : List (List ℕ)) (input : List ℕ) (frames f
             (λ p x is. (refl, sym (ap (λ (at : Place). counted at row p) program_place ∙ guests_count row p) ∙ is))
             (λ m a b p x is. absurd cc)
 
+    -- ---- there are no children
+
+    bears_none : (m : ℕ) → borne_in (place_of (two.slots first (first + 1) regs m)) ≡ None
+    bears_none = two.each_slot first (first + 1) regs (λ m k. borne_in (place_of k) ≡ None) (ap borne_in server_place)
+        (ap borne_in program_place) (λ m a b. ap borne_in (words_of_none zero_registers no_extra refl refl))
+
+    no_child : (m id parent : ℕ) → two.slot_of born m ≡ unborn id parent → ⊥
+    no_child = two.each_slot first (first + 1) regs (λ m k. (id parent : ℕ) → two.slot_of born m ≡ unborn id parent → ⊥)
+        (λ id parent is. absurd cc) (λ id parent is. absurd cc)
+        (λ m a b id parent is. let none : free 0 ≡ unborn id parent = rw (a, b) at is in absurd cc)
+
+    no_children : HasChildren the_names u (two.slots first (first + 1) regs) (two.slot_of born)
+    no_children = record {
+      borne = λ m id parent is. absurd (no_child m id parent is);
+      have = λ m id b is bears. absurd (none-some id (sym (bears_none m) ∙ bears));
+    }
+
     -- ---- the whole
 
     pub state_stands : StandsFor the_names (with_spaces (base image words input frames first n has) u) (start_state image file words input)
@@ -203,13 +221,14 @@ module _ (image : Layout) (words : List (List ℕ)) (input : List ℕ) (frames f
       slots = two.slot_stands first (first + 1) regs the_names u born
           (two.server_stands first (first + 1) regs u no_server_row
           (λ r. h.has.tables_elsewhere first r (λ same. omega (arith, same)))) program_stands;
+      children = no_children;
       apart = λ d p e q x y ne is js same. let a = found d p x is in let b = found e q y js in
           absurd (h.has.alone p q x y (ne (a.0 ∙ sym b.0)) a.1 b.1 same);
       named = λ d p x is shared_page. let a = found d p x is in
           absurd (false≢true (sym (plain_own x.perm (h.has.plain p x a.1)) ∙ shared_page));
       users = λ d p x is. let a = found d p x is in plain_users x.perm (h.has.plain p x a.1);
       whole = λ d p x is. let a = found d p x is in pages_whole image file words file_bytes word_bytes h.has p x a.1;
-      free_slots = refl;
+      free_slots = record { same = refl; within = rising-slots 2 1022 (omega arith) };
       first = refl;
       server = refl;
       input = refl;

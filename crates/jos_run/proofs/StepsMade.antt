@@ -1,6 +1,6 @@
 -- A run after more steps: what the calls of steps that are made at once have done to it tells where it has come to.
-use Rattle.std.proofs.Common.{◌≡◌, ◌∙◌, ℕ, ◌+◌, ◌-◌, ◌^◌, ◌<◌, ◌≤◌, ◌==◌, ◌&&◌, Bool, true, false, List, [], ◌∷◌, ◌++◌, length, min}
-use Rattle.std.proofs.Common.{Option, Some, None, Result, refl, sym, ap, subst, arith, if◌then◌else◌, take, drop, vec_len}
+use Rattle.std.proofs.Common.{◌≡◌, ◌≢◌, ◌∙◌, ℕ, ◌+◌, ◌-◌, ◌^◌, ◌<◌, ◌≤◌, ◌==◌, ◌&&◌, Bool, true, false, List, [], ◌∷◌, ◌++◌, length, min}
+use Rattle.std.proofs.Common.{Option, Some, None, Result, inl, inr, refl, sym, ap, subst, arith, if◌then◌else◌, take, drop, vec_len}
 use Rattle.std.specs.Prelude.{nat_lt, nat_le, not}
 use Rattle.std.proofs.lemmas.Bool.Decides.{nat_tests}
 use Rattle.std.proofs.lemmas.List.{take-append-drop}
@@ -34,7 +34,7 @@ use Rattle.jos_run.specs.declared.steps.StepOutcome.{StepOutcome}
 use Rattle.jos_run.specs.AbstractTurns.{steps_taken}
 use Rattle.jos_run.specs.AbstractTurns.{turn_begun as begun_at}
 use Rattle.jos_run.specs.LibraryRuns.{IsBetween, IsInTurn, visible_steps, hidden_steps}
-use Rattle.jos_run.specs.RunReports.{IsRefused, IsCutOff, CutOffBy}
+use Rattle.jos_run.specs.RunReports.{IsRefused, LacksSpace, IsCutOff, CutOffBy}
 use Rattle.jos_run.specs.RunSteps.{StepMade, LeadTo, traps_of, written_in, turns_with}
 use Rattle.jos_run.specs.Steps.{Raises}
 use Rattle.jos_run.specs.StepsAtOnce.{GuestGoesOn, MakesSteps}
@@ -140,7 +140,7 @@ pub record Makes (r m : LibraryRun) (n going : ℕ) (done : Progress) (bytes : L
   pub before : Reaches r n going
   pub keeps : KeepsStanding done n before.reached (state_of m) bytes
   pub rest : LeavesRest before.reached (state_of m)
-  pub turn : KeepsTurn done (slot_at before.reached n) (slot_at (state_of m) n)
+  pub turn : (a : AbstractState) → Stands before.reached a → KeepsTurn done (slot_at before.reached n) (slot_at (state_of m) n)
   pub trap : Option TrapLine
   pub raises : Raises (place_of (slot_at before.reached n)) n before.reached trap (state_of m)
   pub uses : KeepsUses n before.reached (state_of m)
@@ -362,7 +362,20 @@ module _ {r m : LibraryRun} {n going : ℕ} {done : Progress} {bytes : List ℕ}
         counted_so = counts.written ∙ k.written ∙ (λ i. min (h.counted_so i + length bytes) (2 ^ 64 - 1)) ∙ counted-more printed bytes;
       }
 
-  -- the last was refused something, which was the first refusal
+  -- The last was refused something: no more than one frame was free, or no slot.
+  lacks_space : ((state_of m).refusals == (entered r n).refusals) ≡ false → (frames : ℕ) (now : AbstractState) →
+      reached.environments.free_slots ≡ now.free_slots → (length reached.spaces.free ≤ 1 → frames - reserved_frames frames ≤ need now) →
+      (c : Bool) → nat_le 2 (length reached.spaces.free) ≡ c → (slots : List ℕ) → reached.environments.free_slots ≡ slots → LacksSpace frames now
+  lacks_space rose frames now same needed false is slots are = inl (needed (grind (arith, nat_tests)))
+  lacks_space rose frames now same needed true is [] are = inr (sym same ∙ are)
+  lacks_space rose frames now same needed true is (slot ∷ rest) are =
+      let two : 2 ≤ length reached.spaces.free = grind (arith, nat_tests) in
+      let some : reached.environments.free_slots ≢ [] = λ none. let contradiction : ◌≡◌ {A = List ℕ} [] (slot ∷ rest) = sym none ∙ are in absurd cc in
+      let still : (state_of m).refusals ≡ (entered r n).refusals = k.rest.refused two some ∙ (gone k.before).refusals in
+      let test : ((state_of m).refusals == (entered r n).refusals) ≡ true = grind (arith, nat_tests) in
+      absurd (let contradiction : true ≡ false = sym test ∙ rose in cc)
+
+  -- that was the first refusal
   refused_first : NeedIsReached → ((state_of m).refusals == (entered r n).refusals) ≡ false → (first : AbstractState) (frames : ℕ)
       (printed : List ℕ) → StandsSo first frames r printed →
       IsRefused r.book.schedule first frames (m.book.turns.items ++ turn_with m going done ∷ [])
@@ -370,7 +383,6 @@ module _ {r m : LibraryRun} {n going : ℕ} {done : Progress} {bytes : List ℕ}
       (printed ++ bytes)
   refused_first needs rose first frames printed h =
       let t = before_stands k.before first printed h.stands h.quiet in
-      let few : length reached.spaces.free ≤ 1 = by_free (nat_le 2 (length reached.spaces.free)) refl in
       let used : EachHasUse reached.spaces = before_used k.before first printed h.stands h.used in
       let all : reached.spaces.frames ≡ frames = (gone k.before).frames ∙ (λ i. ((entered_rest r n).0 i).frames) ∙ h.frames_are in
       record {
@@ -392,16 +404,10 @@ module _ {r m : LibraryRun} {n going : ℕ} {done : Progress} {bytes : List ℕ}
         printed_is = refl;
         console = t.console;
         console_len = h.counted_so;
-        needed = subst (λ (x : ℕ). x - reserved_frames x ≤ need t.now) all (needs t.stands.0 reached t.now t.stands.1 used few);
+        needed = lacks_space rose frames t.now t.stands.1.free_slots.same
+            (λ few. subst (λ (x : ℕ). x - reserved_frames x ≤ need t.now) all (needs t.stands.0 reached t.now t.stands.1 used few))
+            (nat_le 2 (length reached.spaces.free)) refl reached.environments.free_slots refl;
       }
-    where
-      by_free : (c : Bool) → nat_le 2 (length reached.spaces.free) ≡ c → length reached.spaces.free ≤ 1
-      by_free true is =
-          let some : 2 ≤ length reached.spaces.free = grind (arith, nat_tests) in
-          let same : (state_of m).refusals ≡ (entered r n).refusals = k.rest.refused some ∙ (gone k.before).refusals in
-          let test : ((state_of m).refusals == (entered r n).refusals) ≡ true = grind (arith, nat_tests) in
-          absurd (let contradiction : true ≡ false = sym test ∙ rose in cc)
-      by_free false is = grind (arith, nat_tests)
 
   turn_grown : r.book.visible ≤ m.book.visible + seen_with going done
   turn_grown =

@@ -1,6 +1,6 @@
 -- What is told of a run of the library's programs: the turns that it took, and how it ended. The abstract system takes
--- these turns and prints these bytes, up to the first time that a page was refused for want of a frame.
-use Rattle.std.specs.Prelude.{◌≡◌, ◌≢◌, ◌<◌, ◌≤◌, ℕ, ◌+◌, ◌-◌, ◌==◌, Bool, true, List, [], ◌∷◌, ◌++◌, length, Option, Some, None}
+-- these turns and prints these bytes, up to the first time that something was refused for want of a frame or a slot.
+use Rattle.std.specs.Prelude.{◌≡◌, ◌≢◌, ◌<◌, ◌≤◌, ◌⊎◌, ℕ, ◌+◌, ◌-◌, ◌==◌, Bool, true, List, [], ◌∷◌, ◌++◌, length, Option, Some, None}
 use Rattle.jos_host.specs.Frames.{Around}
 use Rattle.jos_host.specs.Gains.{Gains}
 use Rattle.jos_base.specs.declared.numbers.TheConstants.{TURN_MAX}
@@ -27,9 +27,14 @@ pub record HasTakenTurns (schedule : List ℕ) (first : AbstractState) (turns : 
 
 -- ---- up to a refusal
 
--- In the turn that is told a page was refused, when these of the bytes had been printed. The abstract system has taken
--- the turns before and some visible steps of that turn, with these bytes; and where it has come to then, it needs as many
--- frames as there are.
+-- Where the abstract system has come to, it needs as many frames as are handed out, all but those that the kernel keeps for
+-- itself, or no slot is free.
+abbrev pub LacksSpace : ℕ → AbstractState → Type 0
+LacksSpace frames now = (frames - reserved_frames frames ≤ need now) ⊎ (now.free_slots ≡ [])
+
+-- In the turn that is told something was refused, when these of the bytes had been printed. The abstract system has taken
+-- the turns before and some visible steps of that turn, with these bytes; and where it has come to then, there is no room for
+-- more.
 pub record IsRefused (schedule : List ℕ) (first : AbstractState) (frames : ℕ) (turns : List Turn) (refusal : Refusal)
     (printed : List ℕ) : Type 0 where
   -- the turn, with those before it and behind it
@@ -43,7 +48,7 @@ pub record IsRefused (schedule : List ℕ) (first : AbstractState) (frames : ℕ
   pub ran : abs_run first before ≡ Some begun
   pub fit : all_fit schedule 0 first before ≡ true
   pub chosen : next_slot begun ≡ Some turn.slot
-  -- where the step began that was refused a page
+  -- where the step began that was refused a frame or a slot
   pub visible : ℕ
   pub within : visible ≤ turn.visible
   pub now : AbstractState
@@ -54,8 +59,7 @@ pub record IsRefused (schedule : List ℕ) (first : AbstractState) (frames : ℕ
   pub printed_is : printed ≡ told ++ rest
   pub console : now.console ≡ first.console ++ told
   pub console_len : refusal.console_len ≡ bytes_counted told
-  -- the frames that are handed out, all but those that the kernel keeps for itself
-  pub needed : frames - reserved_frames frames ≤ need now
+  pub needed : LacksSpace frames now
 
 -- ---- a run that has ended by itself
 

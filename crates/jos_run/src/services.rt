@@ -4,6 +4,7 @@ ghost use Rattle.std.specs.Prelude.{◌≡◌};
 ghost use Rattle.jos_run.specs.Plans.{plan_at, plan_of};
 
 use jos_base::Called;
+use lib_fork::Fork;
 use lib_mem::MemoryService;
 use lib_msg::{Receive, Send};
 use lib_os::{Service, Step};
@@ -14,6 +15,7 @@ use lib_stage::{Ask, Next, Nowhere, Planned};
 #[derive(Clone, Copy)]
 pub(crate) enum ServiceStage {
     Exit(Exit),
+    Fork(Fork),
     Wait(Wait),
     Send(Send),
     Receive(Receive),
@@ -28,6 +30,10 @@ pub(crate) fn stage_of(service: Service, step: Step) -> ServiceStage
 {
     match service {
         Service::Exit => ServiceStage::Exit(Exit),
+        Service::Fork => match Fork::at_step(step) {
+            Some(fork) => ServiceStage::Fork(fork),
+            None => ServiceStage::Nowhere(Nowhere),
+        },
         Service::Wait { id } => match Wait::at_step(id, step) {
             Some(wait) => ServiceStage::Wait(wait),
             None => ServiceStage::Nowhere(Nowhere),
@@ -55,6 +61,7 @@ impl Planned for ServiceStage {
     fn number(&self) -> u32 {
         match self {
             ServiceStage::Exit(exit) => exit.number(),
+            ServiceStage::Fork(fork) => fork.number(),
             ServiceStage::Wait(wait) => wait.number(),
             ServiceStage::Send(send) => send.number(),
             ServiceStage::Receive(receive) => receive.number(),
@@ -66,6 +73,7 @@ impl Planned for ServiceStage {
     fn ask(&self) -> Ask {
         match self {
             ServiceStage::Exit(exit) => exit.ask(),
+            ServiceStage::Fork(fork) => fork.ask(),
             ServiceStage::Wait(wait) => wait.ask(),
             ServiceStage::Send(send) => send.ask(),
             ServiceStage::Receive(receive) => receive.ask(),
@@ -77,6 +85,7 @@ impl Planned for ServiceStage {
     fn next(&self, called: Called) -> Next {
         match self {
             ServiceStage::Exit(exit) => exit.next(called),
+            ServiceStage::Fork(fork) => fork.next(called),
             ServiceStage::Wait(wait) => wait.next(called),
             ServiceStage::Send(send) => send.next(called),
             ServiceStage::Receive(receive) => receive.next(called),

@@ -22,7 +22,7 @@ use Rattle.lib_os.specs.InOrder.{IsInOrder}
 use Rattle.lib_os.specs.LibrarySteps.{GoesOn}
 use Rattle.lib_os.specs.Places.{place_of}
 use Rattle.lib_os.specs.Rows.{Names, rows_of}
-use Rattle.lib_os.specs.StandsFor.{StandsFor, view_of, upcall_at}
+use Rattle.lib_os.specs.StandsFor.{StandsFor, view_of, upcall_at, borne_in}
 use Rattle.lib_os.specs.StandsInHandler.{CopiesOrEnds, copies, ends, Ends, is_write}
 use Rattle.lib_os.specs.UserCalls.{CallStep, giving, load_byte, store_byte, user_byte, with_user_byte}
 use Rattle.lib_os.proofs.BytesRead.{users_inside}
@@ -151,7 +151,7 @@ module _ (s : KernelState) (n va error ip : ℕ) (live : is_live (slot_at s n) �
           ∙ (λ i. a.console ++ line_text (slot_at s n).id (UserFault (sym way.at.0 i) (sym way.at.2 i)))
 
       gone_there : IsInOrder (without_environment s n) → GoesOn n (without_environment s n) a line
-      gone_there order = (ended, ends_by, written, (names, fault_ended h n v.b v.is v.at.fault.va v.at.regs.eip order))
+      gone_there order = (ended, ends_by, written, (names, fault_ended h n v.b v.is (ap borne_in stands) v.at.fault.va v.at.regs.eip order))
 
     pub touching_keeps : IsInOrder (performed s n (ask_of touching_again)).state →
         KeepsBy s n (handling touching_again) (performed s n (ask_of touching_again))

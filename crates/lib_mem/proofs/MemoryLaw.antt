@@ -144,7 +144,7 @@ module _ (s : KernelState) (n : ℕ) (step : Step) (live : is_live (slot_at s n)
       let ran = with_status s n Runnable in
       let put : slot_at ran n ≡ record (slot_at s n) { status = Runnable } = slot_put s n (record (slot_at s n) { status = Runnable }) in
       let is : system s n SYS_YIELD none ≡ telling ran 0 [] = yield_is s n live none in
-      let rest : LeavesRest s ran = subst (λ (z : CallStep Called). LeavesRest s z.state) is (system_left s n SYS_YIELD none refl).rest in
+      let rest : LeavesRest s ran = subst (λ (z : CallStep Called). LeavesRest s z.state) is (system_left s n SYS_YIELD none).rest in
       let used : KeepsUses n s ran = subst (λ (z : CallStep Called). KeepsUses n s z.state) is (λ order is_there each. system_found s n SYS_YIELD none order is_there each) in
       subst (λ (z : CallStep Called). PlanHolds s n (passing memory.Yield (ask.System SYS_YIELD none)) z) (sym is) (record {
         lives = λ called given stays. ap (λ (k : Slot). is_live k) put;
@@ -152,7 +152,7 @@ module _ (s : KernelState) (n : ℕ) (step : Step) (live : is_live (slot_at s n)
         fails = λ may a h. absurd (let contradiction : false ≡ true = may in cc);
         leaves = (
           record { last = rest.last; turns = rest.turns; frames = rest.frames; refused = rest.refused; told = rest.told },
-          (λ running silent runs. ap is_yield there),
+          (λ a stands_for running silent runs. ap is_yield there),
           used,
         );
         lowers = tt;

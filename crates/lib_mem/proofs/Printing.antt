@@ -73,7 +73,7 @@ module _ (s : KernelState) (n va len : ℕ) (step : Step) (rest : List ℕ) (liv
           λ in_order quiet. (
             names,
             answer_stands (printed_stands (quiet_stands h (all_touched_quiet s.spaces (slot_at s n).directory va len) in_order) bytes)
-                n i.b i.is i.at.silent i.at.awake i.outside 0,
+                n i.b i.is i.unborne i.at.silent i.at.awake i.outside 0,
           ),
         )
 
@@ -93,7 +93,7 @@ module _ (s : KernelState) (n va len : ℕ) (step : Step) (rest : List ℕ) (liv
           ap (λ (l : List ℕ). a.console ++ l) same,
           λ in_order quiet. (
             names,
-            printed_stands (ended_stands h n i.b i.is
+            printed_stands (ended_stands h n i.b i.is i.unborne
                 (destroyed_gone s.spaces (slot_at s n).directory h.in_order.frames
                 (directory_is (s.spaces.uses (slot_at s n).directory) (h.in_order.spaces.in_use n live))) in_order)
                 (line_text i.b.id (UserMemCheck fault.va)),

@@ -18,7 +18,7 @@ use Rattle.lib_os.specs.LibraryCall.{library_step}
 use Rattle.lib_os.specs.LibrarySteps.{KeepsStanding}
 use Rattle.lib_os.specs.Places.{place_of, words_at}
 use Rattle.lib_os.specs.Rows.{Names}
-use Rattle.lib_os.specs.StandsFor.{StandsFor, IsIn, IsAboutToWait, destination_of}
+use Rattle.lib_os.specs.StandsFor.{StandsFor, IsIn, IsAboutToWait, destination_of, borne_in}
 use Rattle.lib_os.specs.UserCalls.{system}
 use Rattle.lib_os.proofs.Answering.{back_stands}
 use Rattle.lib_os.proofs.GoingOn.{in_with_words, words_stand}
@@ -99,7 +99,7 @@ module _ (s : KernelState) (n va from : ℕ)
             step_in a n v.b (slot_at s n) (service.Receive va from) entered v.is here
                 ∙ refused_step a n v.b regs va from own v.own.id (server_is h.1) off,
             printed_nothing a,
-            (h.0, back_stands h.1 n v.b v.is (record regs { eax = negated E_INVAL }) here.silent here.awake v.outside refl refl),
+            (h.0, back_stands h.1 n v.b v.is (record regs { eax = negated E_INVAL }) (ap borne_in v.place) here.silent here.awake v.outside refl refl),
           )
       by_test true on a h quiet =
           let v = served h.1 n (service.Receive va from) step.Entered stands in
@@ -110,7 +110,7 @@ module _ (s : KernelState) (n va from : ℕ)
             refl,
             (
               h.0,
-              words_stand h.1 n SERVICE_RECEIVE v.b v.is v.own v.outside (service.Receive va from) (step.Receiving own)
+              words_stand h.1 n SERVICE_RECEIVE v.b v.is v.own v.outside (ap borne_in v.place) (service.Receive va from) (step.Receiving own) refl
                   (named_at (slot_at s n) (service.Receive va from) step.Entered stands)
                   (record {
                     is_in = in_with_words (words_at SERVICE_RECEIVE (step.Receiving own)) here;
@@ -140,7 +140,7 @@ module _ (s : KernelState) (n va from id : ℕ)
           h.0,
           subst (λ (b : AbstractState). StandsFor h.0 (with_extra mid n (words_at SERVICE_RECEIVE (step.ReadingValue id))) b)
               (receive_waits a n v.b (slot_at s n).registers va from at.page (at.other.0) (λ e. at.other.1 (e ∙ server_is h.1)))
-              (recv_stands h.1 n v.b v.is v.outside va from id (0 ∷ 0 ∷ 0 ∷ []) at
+              (recv_stands h.1 n v.b v.is v.outside (ap borne_in v.place) va from id (0 ∷ 0 ∷ 0 ∷ []) at
               (named_at (slot_at s n) (service.Receive va from) (step.Receiving id) stands) mid refl),
         ),
       )

@@ -1,5 +1,5 @@
 -- send reads the entry of its page: whether it is there and may pass.
-use Rattle.std.proofs.Common.{◌≡◌, ◌==◌, ◌+◌, ◌*◌, ◌/◌, ◌&&◌, ◌||◌, ℕ, Bool, true, false, not, [], Some, refl, sym, subst, arith, if◌then◌else◌}
+use Rattle.std.proofs.Common.{◌≡◌, ◌==◌, ◌+◌, ◌*◌, ◌/◌, ◌&&◌, ◌||◌, ℕ, Bool, true, false, not, [], Some, refl, sym, subst, arith, if◌then◌else◌, ap}
 use Rattle.std.specs.Prelude.{bit_and, is_some}
 use Rattle.std.proofs.lemmas.Bool.Decides.{nat_tests}
 use Rattle.jos_base.specs.declared.memory.Access.TheVariants.{Read}
@@ -18,7 +18,7 @@ use Rattle.lib_os.specs.InOrder.{IsInOrder}
 use Rattle.lib_os.specs.LibrarySteps.{AbstractFollows}
 use Rattle.lib_os.specs.Places.{place_of, words_at}
 use Rattle.lib_os.specs.Rows.{Names, Rows, is_shared, may_write}
-use Rattle.lib_os.specs.StandsFor.{StandsFor, MaySend, IsLooking}
+use Rattle.lib_os.specs.StandsFor.{StandsFor, MaySend, IsLooking, borne_in}
 use Rattle.lib_os.specs.UserCalls.{load}
 use Rattle.lib_os.proofs.Answering.{back_stands}
 use Rattle.lib_os.proofs.Fences.{page_inside_number}
@@ -82,7 +82,7 @@ module _ (s : KernelState) (n id value va : ℕ)
         abstract_system.refused a n v.b (slot_at s n).registers E_INVAL,
         is,
         printed_nothing a,
-        (names, back_stands there n v.b v.is (record (slot_at s n).registers { eax = negated E_INVAL }) at.is_in.silent at.is_in.awake v.outside refl refl),
+        (names, back_stands there n v.b v.is (record (slot_at s n).registers { eax = negated E_INVAL }) (ap borne_in v.place) at.is_in.silent at.is_in.awake v.outside refl refl),
       )
 
       by_tests : (t u : Bool) → (bit_and word PTE_P == PTE_P) ≡ t → (is_shared bits || not (may_write bits)) ≡ u →
@@ -94,7 +94,7 @@ module _ (s : KernelState) (n id value va : ℕ)
         refl,
         (
           names,
-          words_stand there n SERVICE_SEND v.b v.is (born_at there n v.b v.is) v.outside (service.Send id value va) (step.Trying bits)
+          words_stand there n SERVICE_SEND v.b v.is (born_at there n v.b v.is) v.outside (ap borne_in v.place) (service.Send id value va) (step.Trying bits) refl
               (named_at (slot_at s n) (service.Send id value va) step.ReadingEntry stands)
               (record {
                 is_in = in_with_words (words_at SERVICE_SEND (step.Trying bits)) at.is_in;

@@ -1,5 +1,5 @@
 -- send, up to where it has found its region: what it refuses, and what it has found out of its page.
-use Rattle.std.proofs.Common.{◌≡◌, ◌≢◌, ◌∙◌, ◌==◌, ◌+◌, ◌*◌, ◌/◌, ◌&&◌, ◌||◌, ◌<◌, ℕ, Bool, true, false, not, [], Option, Some, None}
+use Rattle.std.proofs.Common.{◌≡◌, ◌≢◌, ◌∙◌, ◌==◌, ◌+◌, ◌*◌, ◌/◌, ◌&&◌, ◌||◌, ◌<◌, ℕ, Bool, true, false, not, [], Option, Some, None, ap}
 use Rattle.std.proofs.Common.{refl, sym, subst, arith, if◌then◌else◌}
 use Rattle.std.specs.Prelude.{is_some, bit_and}
 use Rattle.std.specs.Option.{option_map}
@@ -28,7 +28,7 @@ use Rattle.lib_os.specs.LibraryCall.{library_step}
 use Rattle.lib_os.specs.LibrarySteps.{AbstractFollows, KeepsStanding, service_answered}
 use Rattle.lib_os.specs.Places.{place_of, words_at}
 use Rattle.lib_os.specs.Rows.{Names, EntryRow, rows_of, lasting, page_seen}
-use Rattle.lib_os.specs.StandsFor.{StandsFor, IsIn, IsLooking, MaySend, MaySendBy, StandsAtStep, view_of}
+use Rattle.lib_os.specs.StandsFor.{StandsFor, IsIn, IsLooking, MaySend, MaySendBy, StandsAtStep, view_of, borne_in}
 use Rattle.lib_os.specs.UserCalls.{load}
 use Rattle.lib_os.proofs.Answering.{back_stands}
 use Rattle.lib_os.proofs.EntriesStand.{seen_none}
@@ -108,7 +108,7 @@ module _ (s : KernelState) (n id value va : ℕ)
         abstract_system.refused a n v.b regs E_INVAL,
         step_in a n v.b (slot_at s n) (service.Send id value va) entered v.is here ∙ why h.0 a h.1 v.b v.own.id,
         printed_nothing a,
-        (h.0, back_stands h.1 n v.b v.is (record regs { eax = negated E_INVAL }) here.silent here.awake v.outside refl refl),
+        (h.0, back_stands h.1 n v.b v.is (record regs { eax = negated E_INVAL }) (ap borne_in v.place) here.silent here.awake v.outside refl refl),
       )
 
   -- it goes on, where what is to stand there does
@@ -121,7 +121,7 @@ module _ (s : KernelState) (n id value va : ℕ)
         refl,
         (
           h.0,
-          words_stand h.1 n SERVICE_SEND v.b v.is v.own v.outside (service.Send id value va) to
+          words_stand h.1 n SERVICE_SEND v.b v.is v.own v.outside (ap borne_in v.place) (service.Send id value va) to refl
               (named_at (slot_at s n) (service.Send id value va) step.Entered stands) (there h.0 a h.1 v.b v.own.id v.at),
         ),
       )
@@ -220,7 +220,7 @@ module _ (s : KernelState) (n id value va : ℕ)
                 ∙ no_page_step a n v.b regs id value va at.some (at.other.0) (λ x. at.other.1 (x ∙ server_is h))
                 (missing v.b va at.somewhere at.inside no_page),
             printed_nothing a,
-            (names, back_stands there n v.b v.is (record regs { eax = negated E_INVAL }) at.is_in.silent at.is_in.awake v.outside refl refl),
+            (names, back_stands there n v.b v.is (record regs { eax = negated E_INVAL }) (ap borne_in v.place) at.is_in.silent at.is_in.awake v.outside refl refl),
           )
       by_test true present =
           let known : is_some ((loaded s n address).spaces.regions (slot_at s n).directory (va / PGSIZE / NPTENTRIES)) ≡ true =
@@ -229,7 +229,7 @@ module _ (s : KernelState) (n id value va : ℕ)
             refl,
             (
               names,
-              words_stand there n SERVICE_SEND v.b v.is (born_at there n v.b v.is) v.outside (service.Send id value va) step.ReadingEntry
+              words_stand there n SERVICE_SEND v.b v.is (born_at there n v.b v.is) v.outside (ap borne_in v.place) (service.Send id value va) step.ReadingEntry refl
                   (named_at (slot_at s n) (service.Send id value va) step.ReadingRegion stands) (
                     record {
                       is_in = in_with_words (words_at SERVICE_SEND step.ReadingEntry) at.is_in;

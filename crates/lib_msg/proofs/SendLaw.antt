@@ -127,3 +127,11 @@ module _ (s : KernelState) (n id value va : ℕ) (live : is_live (slot_at s n) �
         law_of_nowhere s n (service.Send id value va) (step.ReadingSender own word) stands refl (λ view k b h. h)
     send_holds (step.ReadingPerm own word sender) stands =
         law_of_nowhere s n (service.Send id value va) (step.ReadingPerm own word sender) stands refl (λ view k b h. h)
+    send_holds (step.ForkRegion child region) stands = law_of_nowhere s n (service.Send id value va) (step.ForkRegion child region) stands refl (λ view k b h. h)
+    send_holds (step.ForkEntry child page) stands = law_of_nowhere s n (service.Send id value va) (step.ForkEntry child page) stands refl (λ view k b h. h)
+    send_holds (step.MapChild child page perm) stands = law_of_nowhere s n (service.Send id value va) (step.MapChild child page perm) stands refl (λ view k b h. h)
+    send_holds (step.Remap child page) stands = law_of_nowhere s n (service.Send id value va) (step.Remap child page) stands refl (λ view k b h. h)
+    send_holds (step.ChildStack child) stands = law_of_nowhere s n (service.Send id value va) (step.ChildStack child) stands refl (λ view k b h. h)
+    send_holds (step.ChildUpcall child) stands = law_of_nowhere s n (service.Send id value va) (step.ChildUpcall child) stands refl (λ view k b h. h)
+    send_holds (step.ChildRuns child) stands = law_of_nowhere s n (service.Send id value va) (step.ChildRuns child) stands refl (λ view k b h. h)
+    send_holds (step.Undoing child error) stands = law_of_nowhere s n (service.Send id value va) (step.Undoing child error) stands refl (λ view k b h. h)

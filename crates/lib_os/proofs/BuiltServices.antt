@@ -24,8 +24,7 @@ built_of r built = by_tests (r.eax == 0) (r.eax == 1) (r.eax == 2) (r.eax == 3) 
     by_tests false false true d e f g h i j p0 p1 p2 p3 p4 p5 p6 p7 p8 p9 = rw (p0, p1, p2) refl
     by_tests false false false true e f g h i j p0 p1 p2 p3 p4 p5 p6 p7 p8 p9 = rw (p0, p1, p2, p3) refl
     by_tests false false false false true f g h i j p0 p1 p2 p3 p4 p5 p6 p7 p8 p9 =
-        let four : r.eax ≡ 4 = grind (arith, nat_tests) in
-        absurd (false≢true (ap is_built (sym four) ∙ built))
+        rw (p0, p1, p2, p3, p4) refl
     by_tests false false false false false true g h i j p0 p1 p2 p3 p4 p5 p6 p7 p8 p9 = rw (p0, p1, p2, p3, p4, p5) refl
     by_tests false false false false false false true h i j p0 p1 p2 p3 p4 p5 p6 p7 p8 p9 = rw (p0, p1, p2, p3, p4, p5, p6) refl
     by_tests false false false false false false false true i j p0 p1 p2 p3 p4 p5 p6 p7 p8 p9 = rw (p0, p1, p2, p3, p4, p5, p6, p7) refl

@@ -4,6 +4,7 @@
 use Rattle.std.proofs.Common.{◌≡◌, ◌∙◌, ◌+◌, ◌*◌, ◌/◌, ◌%◌, ◌^◌, ◌<◌, ◌≤◌, ◌||◌, ℕ, zero, suc, Bool, true, false, List}
 use Rattle.std.proofs.Common.{refl, sym, ap, subst, arith, if◌then◌else◌}
 use Rattle.std.proofs.lemmas.Bool.Decides.{nat_tests}
+use Rattle.std.proofs.lemmas.Option.{same_Some}
 use Rattle.std.proofs.lemmas.Nat.{and_mod, and_mask, and_assoc, and_shr}
 use Rattle.std.specs.Prelude.{bit_and, is_ok, is_some, nat_lt, Option, Some, None, Result, Ok, Err, slice_index}
 use Rattle.std.specs.Option.{option_map}
@@ -12,7 +13,7 @@ use Rattle.jos_base.specs.declared.memory.Access.TheVariants.{Read, Write}
 use Rattle.jos_base.specs.declared.memory.PageFault.{PageFault}
 use Rattle.jos_base.specs.declared.numbers.TheConstants.{FEC_PR, FEC_U, FEC_WR, PTE_SYSCALL}
 use Rattle.jos_base.specs.Counting.{page_limit}
-use Rattle.jos_base.specs.Environments.{records_of}
+use Rattle.jos_base.specs.Environments.{Slot, records_of}
 use Rattle.jos_base.specs.KernelState.{KernelState, slot_at}
 use Rattle.jos_base.specs.Reach.{Entry, allows, reach_entry, bytes_read}
 use Rattle.jos_base.specs.SpacesState.{SpacesState}
@@ -28,10 +29,16 @@ use Rattle.lib_os.specs.Fence.{is_inside, is_buffer}
 use Rattle.lib_os.specs.MemoryServices.{byte_or_fault}
 use Rattle.lib_os.specs.Rows.{EntryRow, Names, lasting, rows_of, is_shared, is_cow, may_write, page_by, page_seen, seen_where, is_programs}
 use Rattle.lib_os.specs.Rows.{logical, IsNamed, IsUsers}
-use Rattle.lib_os.specs.StandsFor.{StandsFor, StandsForBorn, StandsForSlot}
+use Rattle.lib_os.specs.StandsFor.{StandsFor, StandsForBorn, StandsForSlot, StandsAt, IsRemapping, view_of}
+use Rattle.lib_os.specs.LibraryPages.{View}
+use Rattle.lib_os.specs.Places.{place_of}
+use Rattle.lib_os.specs.declared.place.Place.{Place}
+use Rattle.lib_os.specs.declared.place.Place.TheVariants as place
+use Rattle.lib_os.specs.declared.place.Step.TheVariants as step
+use Rattle.lib_os.specs.declared.service.Service.TheVariants as service
 use Rattle.lib_os.specs.StandsInHandler.{IsToCopy, is_refused_by, is_write}
 use Rattle.lib_os.proofs.Fences.{buffer_each, buffer_below, inside_number}
-use Rattle.lib_os.proofs.Logical.{inside_programs, programs_beside, logical_beside}
+use Rattle.lib_os.proofs.Logical.{inside_programs, programs_beside, logical_beside, is_remapped}
 use Rattle.lib_os.proofs.SlotsStand.{born_live}
 use Rattle.jos_base.proofs.Walks.{walked_below}
 
@@ -408,22 +415,48 @@ pub born_part : (names : Names) (s : KernelState) (a : AbstractState) (n : ℕ) 
     StandsForBorn names s.spaces (slot_at s n) b
 born_part names s a n b stands is = subst (λ (slot : AbstractSlot). StandsForSlot names s.spaces (slot_at s n) slot) is (stands.slots n)
 
--- the pages that its program may have count as they stand
+-- the pages that its program may have count as they stand, but for the one that fork maps onto itself
 pub logical_inside : {names : Names} {s : KernelState} {a : AbstractState} → StandsFor names s a → (n : ℕ) (b : Born) → a.slots n ≡ born b →
-    (p : ℕ) → is_programs p ≡ true → logical s.spaces s.environments.slots n p ≡ rows_of s.spaces (slot_at s n).directory p
-logical_inside {names} {s} {a} stands n b is p inside =
-    logical_beside s.spaces s.environments.slots n (born_live (born_part names s a n b stands is)) p (programs_beside p inside).0
+    (p : ℕ) → is_programs p ≡ true → is_remapped (place_of (slot_at s n)) p ≡ false →
+    logical s.spaces s.environments.slots n p ≡ rows_of s.spaces (slot_at s n).directory p
+logical_inside {names} {s} {a} stands n b is p inside other =
+    logical_beside s.spaces s.environments.slots n (born_live (born_part names s a n b stands is)) p (programs_beside p inside).0 other
+
+-- of that it is known what stands there
+pub remapped_at : (at : Place) (v : View) (k : Slot) (b : Born) (p : ℕ) → is_remapped at p ≡ true → StandsAt at v k b → IsRemapping v.row p
+remapped_at (place.InService service.Fork (step.Remap id page)) v k b p is at =
+    let same : page ≡ p = grind (arith, nat_tests) in subst (λ (q : ℕ). IsRemapping v.row q) same at.1
+remapped_at _ v k b p is at = absurd (let contradiction : false ≡ true = is in cc)
 
 module _ (names : Names) (s : KernelState) (a : AbstractState) (n : ℕ) (b : Born) (stands : StandsFor names s a) (is : a.slots n ≡ born b) where
   memory_is : (p : ℕ) → b.memory p ≡ page_seen names s.spaces (slot_at s n).directory p
   memory_is = (born_part names s a n b stands is).memory
 
+  abbrev is_twice : ℕ → Bool
+  is_twice p = is_remapped (place_of (slot_at s n)) p
+
+  pub remapped : (p : ℕ) → is_twice p ≡ true → IsRemapping (rows_of s.spaces (slot_at s n).directory) p
+  remapped p twice =
+      remapped_at (place_of (slot_at s n)) (view_of s.spaces (slot_at s n).directory) (slot_at s n) b p twice (born_part names s a n b stands is).at
+
   pub users_inside : (p : ℕ) (x : Entry) → is_programs p ≡ true → rows_of s.spaces (slot_at s n).directory p ≡ Some x → IsUsers x.perm
-  users_inside p x inside at = stands.users n p x (logical_inside stands n b is p inside ∙ at)
+  users_inside p x inside at = by_step (is_twice p) refl
+    where
+      by_step : (c : Bool) → is_twice p ≡ c → IsUsers x.perm
+      by_step true twice = let it = remapped p twice in subst (λ (e : Entry). IsUsers e.perm) (same_Some it.entry x (sym it.stands ∙ at)) it.user
+      by_step false other = stands.users n p x (logical_inside stands n b is p inside other ∙ at)
 
   pub named_inside : (p : ℕ) (x : Entry) → is_programs p ≡ true → rows_of s.spaces (slot_at s n).directory p ≡ Some x → is_shared x.perm ≡ true →
       IsNamed names s.spaces.pages a.shared a.next_name x.frame
-  named_inside p x inside at = stands.named n p x (logical_inside stands n b is p inside ∙ at)
+  named_inside p x inside at shared_page = by_step (is_twice p) refl
+    where
+      by_step : (c : Bool) → is_twice p ≡ c → IsNamed names s.spaces.pages a.shared a.next_name x.frame
+      by_step true twice =
+          let it = remapped p twice in
+          let own_page : is_shared x.perm ≡ false =
+          ap (λ (e : Entry). is_shared e.perm) (sym (same_Some it.entry x (sym it.stands ∙ at))) ∙ it.own_page in
+          absurd (let contradiction : false ≡ true = sym own_page ∙ shared_page in cc)
+      by_step false other = stands.named n p x (logical_inside stands n b is p inside other ∙ at) shared_page
 
   module _ (va : ℕ) (inside : is_inside va ≡ true) where
     -- it may be read as its page may

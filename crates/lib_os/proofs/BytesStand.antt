@@ -1,6 +1,6 @@
 -- The kernel's state goes on standing for the abstract one where a byte is stored: in a page of the environment's own, which
 -- nobody else sees, or in a shared one, which all see who have it.
-use Rattle.std.proofs.Common.{◌≡◌, ◌≢◌, ◌∙◌, ◌<◌, ◌==◌, ℕ, Bool, true, false, List, refl, sym, ap, subst, arith, if◌then◌else◌}
+use Rattle.std.proofs.Common.{◌≡◌, ◌≢◌, ◌∙◌, ◌<◌, ◌==◌, ℕ, Bool, true, false, None, List, refl, sym, ap, subst, arith, if◌then◌else◌}
 use Rattle.std.proofs.lemmas.Bool.Decides.{nat_tests}
 use Rattle.std.specs.Prelude.{Option, Some, slice_set}
 use Rattle.jos_base.specs.KernelState.{KernelState, slot_at, with_spaces}
@@ -13,20 +13,21 @@ use Rattle.lib_os.specs.AbstractMemory.{stored, stored_in}
 use Rattle.lib_os.specs.InOrder.{IsInOrder}
 use Rattle.lib_os.specs.Places.{place_of}
 use Rattle.lib_os.specs.Rows.{Names, Rows, rows_of, logical, is_programs, is_shared, may_write, AgreeWhereShared, AreNamed, AreUsers, AreWhole, IsNamed, IsPage}
-use Rattle.lib_os.specs.StandsFor.{StandsFor, StandsForBorn, view_of}
+use Rattle.lib_os.specs.StandsFor.{StandsFor, StandsForBorn, view_of, borne_in}
 use Rattle.lib_os.proofs.Effects.{Stored}
 use Rattle.lib_os.proofs.EntriesCount.{entry_counts}
 use Rattle.lib_os.proofs.EntriesStand.{same_sharing, other_frame, seen_at, seen_own, seen_by}
-use Rattle.lib_os.proofs.Logical.{logical_alike, logical_beside, logical_plain, programs_beside}
+use Rattle.lib_os.proofs.Logical.{logical_alike, logical_beside, logical_plain, programs_beside, unborne_plain, unborne_unremapped}
 use Rattle.lib_os.proofs.PageBytes.{page_set}
 use Rattle.lib_os.proofs.SlotsStand.{SeenAlike, kept_rows, library_alike, page_put, slot_stands, born_at, born_live}
-use Rattle.lib_os.proofs.Serving.{plain_counts}
+use Rattle.lib_os.proofs.Children.{same_child, children_still}
 use Rattle.lib_os.proofs.StatesStand.{space_moves}
 use Rattle.lib_os.proofs.WordsTell.{is_in_handler}
 use Rattle.jos_base.proofs.Maps.{upd-at, upd-other}
 
 module _ {names : Names} {s : KernelState} {a : AbstractState} {sp : SpacesState} (h : StandsFor names s a) (n : ℕ) (b : Born)
     (at : a.slots n ≡ born b) (outside : is_in_handler (place_of (slot_at s n)) ≡ false)
+    (unborne : borne_in (place_of (slot_at s n)) ≡ None)
     (va byte : ℕ) (small : byte < 256) (inside : is_programs (page_number va) ≡ true) (e : Entry)
     (he : rows_of s.spaces (slot_at s n).directory (page_number va) ≡ Some e)
     (writes : has_write e.perm ≡ true) (st : Stored s.spaces sp e.frame (page_offset va) byte) (in_order : IsInOrder (with_spaces s sp)) where
@@ -51,7 +52,8 @@ module _ {names : Names} {s : KernelState} {a : AbstractState} {sp : SpacesState
 
   -- this one among them
   counts_here : before n p ≡ Some e
-  counts_here = logical_beside s.spaces s.environments.slots n (born_live (born_at h n b at)) p (programs_beside p inside).0 ∙ he
+  counts_here = logical_beside s.spaces s.environments.slots n (born_live (born_at h n b at)) p (programs_beside p inside).0
+      (unborne_unremapped (place_of (slot_at s n)) p unborne) ∙ he
 
   -- another frame's bytes
   bytes_kept : (x : Entry) → x.frame ≢ e.frame → sp.pages x.frame ≡ s.spaces.pages x.frame
@@ -79,7 +81,7 @@ module _ {names : Names} {s : KernelState} {a : AbstractState} {sp : SpacesState
   -- what stands in its own space counts
   own_counts : (q : ℕ) (x : Entry) → rows_of s.spaces d q ≡ Some x → before n q ≡ Some x
   own_counts q x hx =
-      logical_plain s.spaces s.environments.slots n (born_live (born_at h n b at)) (plain_counts (place_of (slot_at s n)) outside) q ∙ hx
+      logical_plain s.spaces s.environments.slots n (born_live (born_at h n b at)) (unborne_plain (place_of (slot_at s n)) outside unborne) q ∙ hx
 
   -- another page of one's own keeps its bytes, in this space
   own_beside : (q : ℕ) (x : Entry) → q ≢ p → rows_of s.spaces d q ≡ Some x → is_shared x.perm ≡ false → sp.pages x.frame ≡ s.spaces.pages x.frame
@@ -140,7 +142,7 @@ module _ {names : Names} {s : KernelState} {a : AbstractState} {sp : SpacesState
 
     own_stored : StandsFor names (with_spaces s sp) (with_born a n (record b { memory = upd b.memory p after }))
     own_stored =
-        space_moves h n b at sp (record b { memory = upd b.memory p after }) a.shared a.next_name
+        space_moves h n b at sp (record b { memory = upd b.memory p after }) a.shared a.next_name unborne
         (λ q ne. space_alike q (λ r x hx own_too. own_elsewhere q r x ne hx own_too)) mine
         (record { apart = apart_kept; named = named_kept; users = users_kept; whole = whole_kept }) in_order
 
@@ -187,6 +189,9 @@ module _ {names : Names} {s : KernelState} {a : AbstractState} {sp : SpacesState
     shared_stored = record {
       slots = λ m. slot_stands names names s.spaces sp (slot_at s m) (a.slots m) (h.slots m)
           (λ live. space_alike (slot_at s m).directory
+          (λ r x hx own_too. bytes_kept x (own_other (slot_at s m).directory r x hx own_too)));
+      children = children_still h.children (λ m. refl) (λ m. same_child (slot_at s m) (slot_at s m) refl) (λ m. refl)
+          (λ m live. space_alike (slot_at s m).directory
           (λ r x hx own_too. bytes_kept x (own_other (slot_at s m).directory r x hx own_too)));
       apart = apart_kept;
       named = named_stored;

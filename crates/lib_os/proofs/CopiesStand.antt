@@ -29,15 +29,15 @@ use Rattle.lib_os.specs.Rows.{IsPage, Names, EntryRow, Rows, rows_of, logical, l
 use Rattle.lib_os.specs.Rows.{is_shared, is_cow}
 use Rattle.lib_os.specs.Rows.{may_write, IsUsers}
 use Rattle.lib_os.specs.StandingLaws.{IsHandlerStep}
-use Rattle.lib_os.specs.StandsFor.{StandsFor, StandsForBorn, StandsAt, view_of, upcall_at}
+use Rattle.lib_os.specs.StandsFor.{StandsFor, StandsForBorn, StandsAt, view_of, upcall_at, borne_in}
 use Rattle.lib_os.specs.StandsInHandler.{IsInHandler, Copies, CopiesAt, CopiesOrEnds, copies, ends, IsToCopy, IsCopiedTo, IsMappedTwice}
 use Rattle.lib_os.proofs.Effects.{Made, Given, Removed}
 use Rattle.lib_os.proofs.EntriesStand.{RowsStand, PutsRow, rows_put, rows_same, rows_bytes, rows_stand, put_is, seen_at, seen_own}
 use Rattle.lib_os.proofs.Handled.{IsHandled, handled_part, handler_slot, handler_place, esp_kept, eflags_kept}
-use Rattle.lib_os.proofs.Logical.{is_plain, counted_plain, counted_elsewhere, logical_live, logical_plain, logical_beside, inside_programs}
+use Rattle.lib_os.proofs.Logical.{is_plain, is_remapped, counted_plain, counted_elsewhere, logical_live, logical_plain, logical_beside, inside_programs}
 use Rattle.lib_os.proofs.Logical.{programs_beside}
 use Rattle.lib_os.proofs.PageBytes.{zero_page_whole}
-use Rattle.lib_os.proofs.PagesStand.{Puts, others_seen, elsewhere, other_regions, row_placed, row_elsewhere}
+use Rattle.lib_os.proofs.PagesStand.{Puts, others_seen, elsewhere, bytes_elsewhere, other_regions, row_placed, row_elsewhere}
 use Rattle.lib_os.proofs.Puts.{put-found}
 use Rattle.lib_os.proofs.Releasing.{row_entry}
 use Rattle.lib_os.proofs.Serving.{library_moved}
@@ -117,16 +117,16 @@ copying_goes from to v w k b at way row bytes goes = record {
 
 -- The spaces are others, in which nothing else is seen, and the environment in its handler goes on at another step.
 pub copying_stands : {names : Names} {s : KernelState} {a : AbstractState} {sp : SpacesState} → StandsFor names s a → (n : ℕ) (b : Born) →
-    a.slots n ≡ born b → (to : HandlerStep) →
+    a.slots n ≡ born b → (to : HandlerStep) → borne_in (place_of (slot_at s n)) ≡ None → borne_in (place_of (handler_slot (slot_at s n) to)) ≡ None →
     ((d : ℕ) → d ≢ (slot_at s n).directory → SeenAlike names names s.spaces sp d) →
     StandsForBorn names sp (handler_slot (slot_at s n) to) b →
     RowsStand names sp.pages a.shared a.next_name (logical sp (upd s.environments.slots n (handler_slot (slot_at s n) to))) →
     IsInOrder (with_spaces s sp) →
     StandsFor names (with_registers (with_spaces s sp) n (handler_registers (slot_at s n).registers to)) a
-copying_stands {names = names} {s = s} {a = a} {sp = sp} h n b at to others mine rows in_order =
+copying_stands {names = names} {s = s} {a = a} {sp = sp} h n b at to unborne unborne_after others mine rows in_order =
     subst (λ (x : AbstractState). StandsFor names (with_slot_at (with_spaces s sp) n (handler_slot (slot_at s n) to)) x) (born_back a n b at)
     (own_moves h n b at sp (handler_slot (slot_at s n) to) b a.shared a.next_name refl
-    (record { id = refl; env_type = refl; calm = λ runs. runs }) others mine rows
+    (record { id = refl; env_type = refl; calm = λ runs. runs }) unborne unborne_after others mine rows
     (slot_in_order (with_spaces s sp) n (handler_slot (slot_at s n) to) refl refl in_order))
 
 -- how the entries of the slot count at another step
@@ -251,18 +251,17 @@ module _ {names : Names} {s : KernelState} {a : AbstractState} {sp : SpacesState
   taken_row : PutsRow names names s.spaces.pages a.shared sp.pages a.shared a.next_name a.next_name (logical s.spaces s.environments.slots) n
       copy_page (Some new_entry)
   taken_row = record {
-    bytes = λ m q x ne hx. let found = elsewhere h n v.b v.is taken_puts m q x ne hx in taken_puts.bytes _ q x found.0 found.1;
+    bytes = bytes_elsewhere h n v.b v.is taken_puts;
     agree = λ m q x e ne hx is same.
         let found = elsewhere h n v.b v.is taken_puts m q x ne hx in
-        absurd (made.new _ q x found.1 (same ∙ ap (λ (y : Entry). y.frame) (sym (same_Some new_entry e is))));
+        absurd (made.new _ q found.1.entry found.1.stands (found.1.frame ∙ same ∙ ap (λ (y : Entry). y.frame) (sym (same_Some new_entry e is))));
     user = λ e is. subst (λ (y : Entry). IsUsers y.perm) (same_Some new_entry e is) copy_user;
     whole = λ e is. subst (λ (y : Entry). IsPage (sp.pages y.frame)) (same_Some new_entry e is)
         (subst (λ (page : List ℕ). IsPage page) (sym made.zero) zero_page_whole);
     named_new = λ e is shared_page.
         let contradiction : false ≡ true = ap (λ (y : Entry). is_shared y.perm) (same_Some new_entry e is) ∙ shared_page in cc;
     named_old = λ m q x ne hx shared_page was.
-        let found = elsewhere h n v.b v.is taken_puts m q x ne hx in
-        record { home = was.home; bytes = was.bytes ∙ sym (taken_puts.bytes _ q x found.0 found.1); old = was.old };
+        record { home = was.home; bytes = was.bytes ∙ sym (bytes_elsewhere h n v.b v.is taken_puts m q x ne hx); old = was.old };
   }
 
   -- the library's pages, with the copy
@@ -309,7 +308,7 @@ module _ {names : Names} {s : KernelState} {a : AbstractState} {sp : SpacesState
           StandsFor names (with_registers (with_spaces s sp) n (handler_registers (slot_at s n).registers to)) a
       by_way (ends way) = absurd way.at
       by_way (copies way) =
-          copying_stands h n v.b v.is to others
+          copying_stands h n v.b v.is to (ap borne_in stands) (ap borne_in (handler_place (slot_at s n) to v.inside (omega arith))) others
           (handler_moved to v.own v.inside (omega arith) (v.own.upcall ∙ ap upcall_at stands) (memory_kept taken_puts) taken_library taken_tables
           (copying_goes (handler.Taking va) to (view_of s.spaces d) (view_of sp d) (slot_at s n) v.b v.at way
           (kept_beside taken_puts (page_number UXSTACK) stack_beside)
@@ -393,7 +392,7 @@ module _ {names : Names} {s : KernelState} {a : AbstractState} {sp : SpacesState
           (sym same) (here copy_page ∙ row_here unmapped_puts ∙ sym counted_none)
       by_page false test =
           let other : p ≢ copy_page = grind (arith, nat_tests) in
-          here p ∙ kept_beside unmapped_puts p other ∙ sym (logical_beside s.spaces s.environments.slots n alive p other)
+          here p ∙ kept_beside unmapped_puts p other ∙ sym (logical_beside s.spaces s.environments.slots n alive p other (ap (λ (q : Place). is_remapped q p) stands))
 
       by_slot : (c : Bool) → (m == n) ≡ c → logical sp (upd s.environments.slots n (handler_slot (slot_at s n) back)) m p
           ≡ logical s.spaces s.environments.slots m p
@@ -406,7 +405,7 @@ module _ {names : Names} {s : KernelState} {a : AbstractState} {sp : SpacesState
   -- what counts keeps its bytes
   unmapped_bytes : (m p : ℕ) (x : Entry) → logical s.spaces s.environments.slots m p ≡ Some x → sp.pages x.frame ≡ s.spaces.pages x.frame
   unmapped_bytes m p x hx =
-      let found = elsewhere h n w.b w.is unmapped_puts m p x not_here hx in unmapped_puts.bytes _ p x found.0 found.1
+      bytes_elsewhere h n w.b w.is unmapped_puts m p x not_here hx
     where
       not_here : Elsewhere m p n copy_page
       not_here same too =
@@ -436,7 +435,7 @@ module _ {names : Names} {s : KernelState} {a : AbstractState} {sp : SpacesState
           StandsFor names (with_registers (with_spaces s sp) n (handler_registers (slot_at s n).registers back)) a
       by_way (ends way) = absurd way.at
       by_way (copies way) =
-          copying_stands h n w.b w.is back unmapped_others
+          copying_stands h n w.b w.is back (ap borne_in stands) (ap borne_in (handler_place (slot_at s n) back w.inside tt)) unmapped_others
           (handler_moved back w.own w.inside tt (w.own.upcall ∙ ap upcall_at stands) (memory_kept unmapped_puts) unmapped_library unmapped_tables
           (copying_goes (handler.Unmapping va) back (view_of s.spaces space) (view_of sp space) (slot_at s n) w.b w.at way
           (kept_beside unmapped_puts (page_number UXSTACK) stack_beside)
@@ -469,7 +468,7 @@ same_numbers (x ∷ xs) (y ∷ ys) long same =
 
 -- all but the page where it was made count as they stand, where the copy is mapped over its page
 over_beside : (va : ℕ) (row : EntryRow) (p : ℕ) → p ≢ copy_page → counted (place.InHandler (handler.Unmapping va)) row p ≡ row p
-over_beside va row p ne = counted_elsewhere (place.InHandler (handler.Unmapping va)) row p ne
+over_beside va row p ne = counted_elsewhere (place.InHandler (handler.Unmapping va)) row p ne refl
 
 -- it copies, where it puts the copy in the place of the page
 pub over_way : {names : Names} {s : KernelState} {a : AbstractState} {n va : ℕ} (v : IsHandled names s a n (handler.MappingOver va)) →
@@ -532,7 +531,7 @@ module _ {names : Names} {s : KernelState} {a : AbstractState} {sp : SpacesState
   beside = programs_beside p page_inside
 
   old_counts : before n p ≡ Some old.entry
-  old_counts = logical_beside s.spaces s.environments.slots n running p beside.0 ∙ old.stands
+  old_counts = logical_beside s.spaces s.environments.slots n running p beside.0 (ap (λ (q : Place). is_remapped q p) stands) ∙ old.stands
 
   copy_counts : before n copy_page ≡ Some copy
   copy_counts = logical_plain s.spaces s.environments.slots n running (ap is_plain stands) copy_page ∙ copy_is
@@ -653,7 +652,7 @@ module _ {names : Names} {s : KernelState} {a : AbstractState} {sp : SpacesState
       of_slot q ne false test =
           let other : q ≢ copy_page = grind (arith, nat_tests) in
           at_home q ∙ over_beside va (rows_of sp home) q other ∙ over_kept q ne
-          ∙ sym (logical_beside s.spaces s.environments.slots n running q other)
+          ∙ sym (logical_beside s.spaces s.environments.slots n running q other (ap (λ (at : Place). is_remapped at q) stands))
           ∙ sym (put-other before n copy_page None n q (λ same. other))
 
       there : (m q : ℕ) → Elsewhere m q n p → after m q ≡ left m q
@@ -687,7 +686,7 @@ module _ {names : Names} {s : KernelState} {a : AbstractState} {sp : SpacesState
 
   left_bytes : (m q : ℕ) (x : Entry) → Elsewhere m q n p → left m q ≡ Some x → sp.pages x.frame ≡ s.spaces.pages x.frame
   left_bytes m q x ne hx =
-      let found = elsewhere h n u.b u.is over_puts m q x ne (left_found m q x hx).0 in over_puts.bytes _ q x found.0 found.1
+      bytes_elsewhere h n u.b u.is over_puts m q x ne (left_found m q x hx).0
 
   over_row : PutsRow names names s.spaces.pages a.shared sp.pages a.shared a.next_name a.next_name left n p (Some over)
   over_row = record {
@@ -718,7 +717,7 @@ module _ {names : Names} {s : KernelState} {a : AbstractState} {sp : SpacesState
 
   pub over_stands : StandsFor names (with_registers (with_spaces s sp) n (handler_registers (slot_at s n).registers next)) a
   over_stands =
-      copying_stands h n u.b u.is next over_others
+      copying_stands h n u.b u.is next (ap borne_in stands) (ap borne_in (handler_place (slot_at s n) next u.inside tt)) over_others
       (handler_moved next u.own u.inside tt (u.own.upcall ∙ ap upcall_at stands) over_memory over_library over_tables
       (copying_goes (handler.MappingOver va) next (view_of s.spaces home) (view_of sp home) (slot_at s n) u.b u.at way
       (over_kept (page_number UXSTACK) (λ e. beside.1 (sym e)))

@@ -29,7 +29,7 @@ use Rattle.lib_os.specs.LibraryPages.{LibraryPages, IsOwnWritable, has_copy}
 use Rattle.lib_os.specs.Places.{place_of, handler_registers}
 use Rattle.lib_os.specs.Rows.{Names, Rows, AreBytes, IsPage, rows_of, logical, page_seen, is_shared}
 use Rattle.lib_os.specs.StandingLaws.{IsHandlerStep}
-use Rattle.lib_os.specs.StandsFor.{StandsFor, view_of, upcall_at}
+use Rattle.lib_os.specs.StandsFor.{StandsFor, view_of, upcall_at, borne_in}
 use Rattle.lib_os.specs.StandsInHandler.{Copies, CopiesAt, CopiesOrEnds, copies, ends, IsToCopy, IsCopiedTo, page_word}
 use Rattle.lib_os.specs.UserCalls.{giving, accessing, with_user_word, store}
 use Rattle.lib_os.proofs.BytesPut.{bytes_put, put_whole, put_before, put_there, spaces_put, put_is, page_put, reached_to_write}
@@ -39,8 +39,8 @@ use Rattle.lib_os.proofs.Effects.{Quiet}
 use Rattle.lib_os.proofs.EntriesCount.{entry_counts}
 use Rattle.lib_os.proofs.EntriesStand.{RowsStand, seen_at}
 use Rattle.lib_os.proofs.EntryWords.{row_entry}
-use Rattle.lib_os.proofs.Handled.{IsHandled, handled_part, handler_slot}
-use Rattle.lib_os.proofs.Logical.{is_plain, counted_plain, logical_plain, logical_beside, inside_programs, programs_beside}
+use Rattle.lib_os.proofs.Handled.{IsHandled, handled_part, handler_slot, handler_place}
+use Rattle.lib_os.proofs.Logical.{is_plain, is_remapped, counted_plain, logical_plain, logical_beside, inside_programs, programs_beside}
 use Rattle.lib_os.proofs.PageBytes.{word_bytes}
 use Rattle.lib_os.proofs.Serving.{library_moved}
 use Rattle.lib_os.proofs.SlotsStand.{SeenAlike, HasTables, library_alike, born_live}
@@ -214,7 +214,7 @@ module _ {names : Names} {s : KernelState} {a : AbstractState} {sp : SpacesState
     pub rewritten_stands : CopiesAt to (view_of sp (slot_at s n).directory) v.at.fault.va →
         StandsFor names (with_registers (with_spaces s sp) n (handler_registers (slot_at s n).registers to)) a
     rewritten_stands goes =
-        copying_stands h n v.b v.is to others
+        copying_stands h n v.b v.is to (ap borne_in stands) (ap borne_in (handler_place (slot_at s n) to v.inside there)) others
         (handler_moved to v.own v.inside there (v.own.upcall ∙ ap upcall_at stands ∙ sym upcall) memory_kept library_kept tables_kept
         (copying_goes from to (view_of s.spaces d) (view_of sp d) (slot_at s n) v.b v.at way (row_kept d (page_number UXSTACK))
         (λ x hx own_page. other_bytes (page_number UXSTACK) x stack_beside hx) goes)) rows_kept in_order
@@ -314,7 +314,8 @@ module _ {names : Names} {s : KernelState} {a : AbstractState} {sp : SpacesState
       let told_same : told.entry ≡ it.entry = same_Some told.entry it.entry (sym told.stands ∙ it.stands) in
       let source_whole : IsPage (s.spaces.pages it.entry.frame) =
       h.whole n (page_number w.at.fault.va) it.entry
-      (logical_beside s.spaces s.environments.slots n (born_live w.own) (page_number w.at.fault.va) beside ∙ it.stands) in
+      (logical_beside s.spaces s.environments.slots n (born_live w.own) (page_number w.at.fault.va) beside
+      (ap (λ (q : Place). is_remapped q (page_number w.at.fault.va)) stands) ∙ it.stands) in
       let now : sp.pages copy.frame ≡ page =
       ap (λ (pages : ℕ → List ℕ). pages copy.frame) rewritten.pages ∙ upd-at s.spaces.pages copy.frame page in
       record {

@@ -1,22 +1,25 @@
 -- The kernel's state goes on standing for the abstract one where an environment ends: its space is gone, nobody else's is
 -- seen to change, and its slot is the next to be given.
-use Rattle.std.proofs.Common.{◌≡◌, ◌≢◌, ◌∙◌, ◌==◌, ℕ, Bool, true, false, List, ◌∷◌, refl, sym, ap, subst, arith}
+use Rattle.std.proofs.Common.{◌≡◌, ◌≢◌, ◌∙◌, ◌==◌, ◌%◌, ℕ, Bool, true, false, None, List, ◌∷◌, refl, sym, ap, subst, arith}
 use Rattle.std.proofs.lemmas.Bool.Decides.{nat_tests}
 use Rattle.std.specs.Prelude.{Some}
 use Rattle.std.proofs.lemmas.Option.{none-some}
+use Rattle.jos_base.specs.declared.numbers.TheConstants.{NENV}
 use Rattle.jos_base.specs.Environments.{Slot, free_slot, is_live as is_live_slot}
 use Rattle.jos_base.specs.KernelState.{KernelState, slot_at}
 use Rattle.jos_base.specs.Reach.{Entry}
 use Rattle.jos_base.specs.SpacesState.{SpacesState, destroyed}
 use Rattle.jos_base.specs.SystemCalls.{without_environment}
-use Rattle.lib_os.specs.AbstractState.{AbstractState, Born, AbstractSlot, free, born}
+use Rattle.lib_os.specs.AbstractState.{AbstractState, Born, AbstractSlot, free, unborn, born}
 use Rattle.lib_os.specs.AbstractMemory.{slot_freed}
 use Rattle.lib_os.specs.InOrder.{IsInOrder}
+use Rattle.lib_os.specs.Places.{place_of}
 use Rattle.lib_os.specs.Rows.{Names, rows_of, logical, IsPage}
-use Rattle.lib_os.specs.StandsFor.{StandsFor, StandsForSlot}
+use Rattle.lib_os.specs.StandsFor.{StandsFor, StandsForSlot, borne_in}
 use Rattle.lib_os.proofs.Effects.{Gone}
-use Rattle.lib_os.proofs.SlotsStand.{SeenAlike, born_at}
-use Rattle.lib_os.proofs.StatesStand.{born_not_first, others_stand, others_count, tabled_freed}
+use Rattle.lib_os.proofs.SlotsStand.{SeenAlike, born_at, born_live}
+use Rattle.lib_os.proofs.Children.{born_bears_none, children_kept}
+use Rattle.lib_os.proofs.StatesStand.{born_not_first, directories_apart, others_stand, others_count, tabled_freed}
 use Rattle.lib_os.proofs.Logical.{logical_some}
 use Rattle.jos_base.specs.Words.{upd}
 use Rattle.jos_base.proofs.Maps.{upd-at, upd-other, upd-both}
@@ -40,20 +43,31 @@ gone_alike names gone q ne = record {
 }
 
 pub ended_stands : {names : Names} {s : KernelState} {a : AbstractState} → StandsFor names s a → (n : ℕ) (b : Born) →
-    a.slots n ≡ born b → Gone s.spaces (destroyed s.spaces (slot_at s n).directory) (slot_at s n).directory →
+    a.slots n ≡ born b → borne_in (place_of (slot_at s n)) ≡ None → Gone s.spaces (destroyed s.spaces (slot_at s n).directory) (slot_at s n).directory →
     IsInOrder (without_environment s n) → StandsFor names (without_environment s n) (slot_freed a n b)
-ended_stands {names = names} {s = s} {a = a} h n b at gone in_order =
+ended_stands {names = names} {s = s} {a = a} h n b at unborne gone in_order =
     record {
       slots = upd-both (λ m (x : Slot) (y : AbstractSlot). StandsForSlot names t x y) s.environments.slots a.slots n
           (free_slot (slot_at s n).id) (free b.id) (ap (λ (id : ℕ). free_slot id) (born_at h n b at).id)
           (others_stand h n b at (gone_alike names gone));
+      children = children_kept h.children n (λ m ne. upd-other s.environments.slots n (free_slot (slot_at s n).id) m ne)
+          (λ m ne. upd-other a.slots n (free b.id) m ne)
+          (λ m ne live. gone_alike names gone (slot_at s m).directory (directories_apart h n b at m ne live))
+          (born_bears_none (slot_at s n) (a.slots n) b at unborne)
+          (record {
+            bears = λ c is. let contradiction : free b.id ≡ born c = sym (upd-at a.slots n (free b.id)) ∙ is in absurd cc;
+            no_child = λ id parent is. let contradiction : free b.id ≡ unborn id parent = sym (upd-at a.slots n (free b.id)) ∙ is in absurd cc;
+          });
       apart = λ q r m o x y ne hx hy same.
           h.apart q r m o x y ne (still q r x hx).0 (still m o y hy).0 same;
       named = λ q r x hx shared_page. let before = still q r x hx in let was = h.named q r x before.0 shared_page in
           record { home = was.home; bytes = was.bytes ∙ sym before.1; old = was.old };
       users = λ q r x hx. h.users q r x (still q r x hx).0;
       whole = λ q r x hx. let before = still q r x hx in subst (λ (l : List ℕ). IsPage l) (sym before.1) (h.whole q r x before.0);
-      free_slots = ap (λ (slots : List ℕ). n ∷ slots) h.free_slots;
+      free_slots = record {
+        same = ap (λ (slots : List ℕ). n ∷ slots) h.free_slots.same;
+        within = (let here : (slot_at s n).id % NENV ≡ n = h.tabled.ids n (born_live (born_at h n b at)) in omega (arith, here), h.free_slots.within);
+      };
       first = upd-other a.slots n (free b.id) 0 (born_not_first h n b at) ∙ h.first;
       server = h.server;
       input = h.input;
@@ -86,5 +100,7 @@ ended_stands {names = names} {s = s} {a = a} h n b at gone in_order =
             let found = logical_some t after q r x hx in
             let slot : after q ≡ slot_at s q = upd-other s.environments.slots n (free_slot (slot_at s n).id) q other in (
               sym (others_count h n b at (free_slot (slot_at s n).id) (gone_alike names gone) q other r) ∙ hx,
-              gone.bytes (slot_at s q).directory r x (subst (λ (k : Slot). rows_of t k.directory r ≡ Some x) slot found.1),
+              subst (λ (f : ℕ). t.pages f ≡ s.spaces.pages f) found.1.frame
+                  (gone.bytes (slot_at s q).directory r found.1.entry
+                  (subst (λ (k : Slot). rows_of t k.directory r ≡ Some found.1.entry) slot found.1.stands)),
             )

@@ -14,12 +14,14 @@ use Rattle.lib_os.specs.declared.place.HandlerStep.TheVariants as handler
 use Rattle.lib_os.specs.declared.place.Place.{Place}
 use Rattle.lib_os.specs.declared.place.Place.TheVariants as place
 use Rattle.lib_os.specs.AbstractState.{AbstractState, Born, AbstractSlot, free, unborn, born, serving}
-use Rattle.lib_os.specs.LibraryPages.{View}
+use Rattle.lib_os.specs.LibraryPages.{View, has_copy}
 use Rattle.lib_os.specs.Places.{place_of}
-use Rattle.lib_os.specs.Rows.{Names, rows_of, lasting, logical, is_shared}
+use Rattle.lib_os.specs.Rows.{Names, rows_of, lasting, logical, is_shared, as_cow}
 use Rattle.lib_os.specs.StandsFor.{StandsFor, StandsForSlot, StandsForBorn, StandsAt, view_of}
 use Rattle.lib_os.specs.StandsInHandler.{IsInHandler, CopiesOrEnds, copies, ends, IsMappedTwice}
-use Rattle.lib_os.proofs.Logical.{is_plain, inside_programs, programs_beside, logical_plain, logical_beside}
+use Rattle.lib_os.proofs.Logical.{is_plain, is_remapped, as_cow_alike, counted_remapped, plain_unremapped, inside_programs, programs_beside}
+use Rattle.lib_os.proofs.Logical.{logical_live, logical_plain, logical_beside}
+use Rattle.lib_os.proofs.Serving.{words_of_none}
 use Rattle.lib_os.proofs.SlotsStand.{born_live}
 
 -- a slot, a page of it that counts, and where that is not the page itself, a copy is mapped over its page
@@ -67,7 +69,8 @@ born_counts {names = names} {s = s} {b = b} m own p x is = by_page (p == page_nu
     at_page : (at : Place) → place_of (slot_at s m) ≡ at → is_plain at ≡ false → p ≡ page_number PFTEMP →
         StandsAt at (view_of s.spaces (slot_at s m).directory) (slot_at s m) b → Counts s (slot_at s m).directory p x
     at_page place.Guest there plain same at = absurd (let contradiction : true ≡ false = plain in cc)
-    at_page (place.InService service step) there plain same at = absurd (let contradiction : true ≡ false = plain in cc)
+    at_page (place.InService service step) there plain same at =
+        absurd (none-some x (sym (own.library.no_copy (ap has_copy there)) ∙ ap (rows_of s.spaces (slot_at s m).directory) (sym same) ∙ is))
     at_page (place.InHandler step) there plain same at =
         let found = twice_at step (view_of s.spaces (slot_at s m).directory) (slot_at s m) b plain at in
         let twice = found.2 in
@@ -79,14 +82,37 @@ born_counts {names = names} {s = s} {b = b} m own p x is = by_page (p == page_nu
           home = refl;
           page = page_number found.0;
           entry = twice.here;
-          counts = logical_beside s.spaces s.environments.slots m live (page_number found.0) found.1 ∙ twice.here_is;
+          counts = logical_beside s.spaces s.environments.slots m live (page_number found.0) found.1
+              (ap (λ (q : Place). is_remapped q (page_number found.0)) there) ∙ twice.here_is;
           frame = sym twice.frames ∙ ap (λ (e : Entry). e.frame) (sym copy);
           sharing = twice.own_page ∙ sym (ap (λ (e : Entry). is_shared e.perm) copy ∙ twice.own_copy);
           here = λ is_so. absurd (let contradiction : true ≡ false = sym is_so ∙ ap is_plain there ∙ plain in cc);
         }
 
+    -- the page that fork maps onto itself
+    twice_mapped : is_remapped (place_of (slot_at s m)) p ≡ true → Counts s (slot_at s m).directory p x
+    twice_mapped twice =
+        let alike = as_cow_alike x in
+        record {
+          slot = m;
+          live = live;
+          home = refl;
+          page = p;
+          entry = as_cow x;
+          counts = logical_live s.spaces s.environments.slots m live p
+              ∙ counted_remapped (place_of (slot_at s m)) (rows_of s.spaces (slot_at s m).directory) p twice
+              ∙ ap (λ (o : Option Entry). option_map as_cow o) is;
+          frame = alike.0;
+          sharing = alike.1;
+          here = λ is_so. absurd (let contradiction : true ≡ false = sym twice ∙ plain_unremapped (place_of (slot_at s m)) p is_so in cc);
+        }
+
+    by_step : p ≢ page_number PFTEMP → (c : Bool) → is_remapped (place_of (slot_at s m)) p ≡ c → Counts s (slot_at s m).directory p x
+    by_step ne true twice = twice_mapped twice
+    by_step ne false other = itself (logical_beside s.spaces s.environments.slots m live p ne other ∙ is)
+
     by_page : (c : Bool) → (p == page_number PFTEMP) ≡ c → (t : Bool) → is_plain (place_of (slot_at s m)) ≡ t → Counts s (slot_at s m).directory p x
-    by_page false test t plain = itself (logical_beside s.spaces s.environments.slots m live p (grind (arith, nat_tests)) ∙ is)
+    by_page false test t plain = by_step (grind (arith, nat_tests)) (is_remapped (place_of (slot_at s m)) p) refl
     by_page true test true plain = itself (logical_plain s.spaces s.environments.slots m live plain p ∙ is)
     by_page true test false plain = at_page (place_of (slot_at s m)) refl plain (grind (arith, nat_tests)) own.at
 
@@ -99,7 +125,20 @@ entry_counts {names = names} {s = s} {a = a} h d p x is = by_entry (s.spaces.ent
     of_slot : (m : ℕ) → (slot_at s m).directory ≡ d → is_live_slot (slot_at s m) ≡ true → (slot : AbstractSlot) → StandsForSlot names s.spaces (slot_at s m) slot → Counts s d p x
     of_slot m home live (free id) k =
         absurd (let contradiction : false ≡ true = sym (ap (λ (j : Slot). is_live_slot j) k) ∙ live in cc)
-    of_slot m home live (unborn id parent) k = absurd k
+    of_slot m home live (unborn id parent) k =
+        let its_row = ap (λ (f : ℕ). rows_of s.spaces f p) home ∙ is in
+        let guest : place_of (slot_at s m) ≡ place.Guest = words_of_none (slot_at s m).registers (slot_at s m).extra k.stack k.words in
+        record {
+          slot = m;
+          live = live;
+          home = home;
+          page = p;
+          entry = x;
+          counts = logical_plain s.spaces s.environments.slots m live (ap is_plain guest) p ∙ its_row;
+          frame = refl;
+          sharing = refl;
+          here = λ plain. (refl, refl);
+        }
     of_slot m home live (serving id) k =
         absurd (none-some x (sym (k.empty p) ∙ ap (λ (f : ℕ). rows_of s.spaces f p) home ∙ is))
     of_slot m home live (born b) k =

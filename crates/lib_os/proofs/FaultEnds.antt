@@ -26,7 +26,8 @@ use Rattle.lib_os.specs.AbstractState.{AbstractState, Born, born, guest, faulted
 use Rattle.lib_os.specs.GuestStep.{ends_with}
 use Rattle.lib_os.specs.InOrder.{IsInOrder}
 use Rattle.lib_os.specs.Rows.{Names, lasting, rows_of, is_cow, IsUsers}
-use Rattle.lib_os.specs.StandsFor.{StandsFor}
+use Rattle.lib_os.specs.Places.{place_of}
+use Rattle.lib_os.specs.StandsFor.{StandsFor, borne_in}
 use Rattle.lib_os.specs.StandsInHandler.{is_refused_by}
 use Rattle.lib_os.specs.UserCalls.{CallStep, gone, by_access, accessing}
 use Rattle.lib_os.proofs.BytesRead.{lasting_reads, lasting_writes}
@@ -143,9 +144,9 @@ module _ {names : Names} {s : KernelState} {a : AbstractState} (h : StandsFor na
   same_line va ip = ap (λ (id : ℕ). line_text id (UserFault va ip)) (born_at h n b is).id
 
   -- and it is gone in both systems
-  pub fault_ended : (va ip : ℕ) → IsInOrder (without_environment s n) →
+  pub fault_ended : borne_in (place_of (slot_at s n)) ≡ None → (va ip : ℕ) → IsInOrder (without_environment s n) →
       StandsFor names (without_environment s n) (ends_with a n b (line.UserFault va ip))
-  fault_ended va ip order =
+  fault_ended unborne va ip order =
       let used = directory_is (s.spaces.uses (slot_at s n).directory) (h.in_order.spaces.in_use n (born_live (born_at h n b is))) in
-      printed_stands (ended_stands h n b is (destroyed_gone s.spaces (slot_at s n).directory h.in_order.frames used) order)
+      printed_stands (ended_stands h n b is unborne (destroyed_gone s.spaces (slot_at s n).directory h.in_order.frames used) order)
       (line_text b.id (line.UserFault va ip))

@@ -32,14 +32,14 @@ use Rattle.lib_os.specs.LibraryPages.{IsOwnWritable, HasFrame, frame_place, has_
 use Rattle.lib_os.specs.LibrarySteps.{copies_left, copy_steps, hidden_left, is_to_copy, left_at}
 use Rattle.lib_os.specs.Places.{handler_step_in, is_handlers, place_in_words, place_of}
 use Rattle.lib_os.specs.Rows.{EntryRow, IsPage, IsUsers, Names, Rows, lasting, logical, page_seen, rows_of}
-use Rattle.lib_os.specs.StandsFor.{StandsFor, StandsForBorn, StandsAt, upcall_at, view_of}
+use Rattle.lib_os.specs.StandsFor.{StandsFor, StandsForBorn, StandsAt, upcall_at, view_of, borne_in}
 use Rattle.lib_os.specs.StandsInHandler.{AreSmall, CopiesOrEnds, IsAtGuest, IsToCopy, copies, ends}
-use Rattle.lib_os.proofs.BytesRead.{IsRefusal, lasting_reads, lasting_writes}
+use Rattle.lib_os.proofs.BytesRead.{IsRefusal, lasting_reads, lasting_writes, remapped}
 use Rattle.lib_os.proofs.EntriesStand.{seen_at}
 use Rattle.lib_os.proofs.EntryWords.{row_entry}
 use Rattle.lib_os.proofs.Fences.{inside_below, inside_number}
 use Rattle.lib_os.proofs.LaidStand.{Laid, bytes_laid, laid_beside, laid_others, laid_rows, overlaid_at}
-use Rattle.lib_os.proofs.Logical.{is_plain, logical_beside}
+use Rattle.lib_os.proofs.Logical.{is_plain, is_remapped, plain_unborne, logical_beside}
 use Rattle.lib_os.proofs.PageBytes.{page_overlaid, words_bytes}
 use Rattle.lib_os.proofs.Serving.{library_moved}
 use Rattle.lib_os.proofs.SlotsStand.{born_at, born_live, library_alike}
@@ -98,7 +98,13 @@ module _ {names : Names} {s : KernelState} {a : AbstractState} (h : StandsFor na
   stack_counts : logical s.spaces s.environments.slots n (page_number UXSTACK) ≡ Some stack_page.entry
   stack_counts =
       logical_beside s.spaces s.environments.slots n (born_live (born_at h n b at)) (page_number UXSTACK) (λ same. absurd (omega (arith, same)))
+      (by_step (is_remapped (place_of (slot_at s n)) (page_number UXSTACK)) refl)
       ∙ stack_page.stands
+    where
+      by_step : (c : Bool) → is_remapped (place_of (slot_at s n)) (page_number UXSTACK) ≡ c →
+          is_remapped (place_of (slot_at s n)) (page_number UXSTACK) ≡ false
+      by_step true twice = let below = (remapped names s a n b h at (page_number UXSTACK) twice).below in absurd (omega (arith, below))
+      by_step false other = other
 
   stack_user : IsUsers stack_page.entry.perm
   stack_user = h.users n (page_number UXSTACK) stack_page.entry stack_counts
@@ -161,6 +167,7 @@ pub counted_stands : {names : Names} {s : KernelState} {a : AbstractState} → S
     StandsFor names (with_upcall_counted s) a
 counted_stands h in_order = record {
   slots = h.slots;
+  children = h.children;
   apart = h.apart;
   named = h.named;
   users = h.users;
@@ -331,7 +338,7 @@ module _ {names : Names} {s : KernelState} {a : AbstractState} (h : StandsFor na
       handed_stands in_order =
           counted_stands
           (own_moves h n b at sp (entered_slot k) (record b { phase = phase }) a.shared a.next_name refl
-          (record { id = refl; env_type = refl; calm = λ runs. runs })
+          (record { id = refl; env_type = refl; calm = λ runs. runs }) (plain_unborne (place_of k) plain) (ap borne_in (entered_place k))
           (laid_others h n b at plain (page_number UXSTACK) (stack_page h n b at).entry (stack_page h n b at).stands (stack_page h n b at).own_page
           (stack_page h n b at).writes bytes laid) mine
           (laid_rows h n b at plain (page_number UXSTACK) (stack_page h n b at).entry (stack_page h n b at).stands (stack_page h n b at).own_page

@@ -30,11 +30,12 @@ use Rattle.lib_os.specs.LibraryPages.{HasFrame, frame_place, has_copy}
 use Rattle.lib_os.specs.LibrarySteps.{copies_left, copy_steps, hidden_left, left_at}
 use Rattle.lib_os.specs.Places.{is_handlers, place_of}
 use Rattle.lib_os.specs.Rows.{Names, Rows, rows_of}
-use Rattle.lib_os.specs.StandsFor.{StandsFor, StandsForBorn, StandsAt, upcall_at, view_of}
+use Rattle.lib_os.specs.StandsFor.{StandsFor, StandsForBorn, StandsAt, upcall_at, view_of, borne_in}
 use Rattle.lib_os.specs.StandsInHandler.{Copies, CopiesOrEnds, IsAtGuest, copies, ends}
 use Rattle.lib_os.specs.UserCalls.{giving, restored, restore_frame}
 use Rattle.lib_os.proofs.FaultsStand.{frame_long, stack_page, stack_reached}
 use Rattle.lib_os.proofs.Handled.{IsHandled, handled_part}
+use Rattle.lib_os.proofs.Children.{bears_none}
 use Rattle.lib_os.proofs.Logical.{is_plain}
 use Rattle.lib_os.proofs.Serving.{library_moved, words_of_none}
 use Rattle.lib_os.proofs.SlotsStand.{born_at}
@@ -163,7 +164,8 @@ module _ {names : Names} {s : KernelState} {a : AbstractState} (h : StandsFor na
   pub restored_stands : IsInOrder (taken_from_frame s n regs_before) → StandsFor names (taken_from_frame s n regs_before) a
   restored_stands in_order =
       slot_replaced reached n v.b v.is back refl (record { id = refl; env_type = refl; calm = λ runs. runs })
-      (plain_alike (place_of k) (place_of back) (ap is_plain stands) (ap is_plain back_place)) mine
+      (plain_alike (place_of k) (place_of back) (ap is_plain stands) (ap is_plain back_place))
+      (bears_none (ap borne_in stands) (ap borne_in back_place)) mine
     where
       reached : StandsFor names (with_spaces s sp) a
       reached = quiet_stands h quiet (slot_was_in_order (with_spaces s sp) n back refl refl in_order)

@@ -1,6 +1,6 @@
 -- A service's step that does not answer: the words that tell how far it is are set, and its environment stands at another
 -- step of the same service. And what comes of a step that is none of the service's.
-use Rattle.std.proofs.Common.{◌≡◌, ◌∙◌, ◌<◌, ℕ, true, false, List, [], Result, Ok, Err, refl, sym, ap, subst}
+use Rattle.std.proofs.Common.{◌≡◌, ◌∙◌, ◌<◌, ℕ, true, false, List, [], None, Result, Ok, Err, refl, sym, ap, subst}
 use Rattle.jos_base.specs.declared.called.Called.{Called}
 use Rattle.jos_base.specs.declared.environment.Status.TheVariants.{Runnable}
 use Rattle.jos_base.specs.declared.registers.Regs.{Regs}
@@ -19,10 +19,12 @@ use Rattle.lib_os.specs.LibrarySteps.{IsLibraryStep, Lowers, LowersAt, GivesUp, 
 use Rattle.lib_os.specs.Places.{place_of, words_at, is_handlers}
 use Rattle.lib_os.specs.Services.{service_of}
 use Rattle.lib_os.specs.Rows.{Names, rows_of}
-use Rattle.lib_os.specs.StandsFor.{StandsFor, StandsForBorn, StandsAt, StandsAtStep, IsIn, view_of}
+use Rattle.lib_os.specs.StandsFor.{StandsFor, StandsForBorn, StandsAt, StandsAtStep, IsIn, view_of, borne_in}
 use Rattle.lib_os.specs.UserCalls.{CallStep, IsCallStep, Output, Prints}
 use Rattle.lib_os.proofs.Numbered.{number_of, named_at}
-use Rattle.lib_os.proofs.Serving.{plain_upcall, plain_copy, plain_counts, library_moved}
+use Rattle.lib_os.proofs.Serving.{plain_upcall, plain_copy, library_moved}
+use Rattle.lib_os.proofs.Children.{bears_none}
+use Rattle.lib_os.proofs.Logical.{unborne_plain}
 use Rattle.lib_os.proofs.StatesStand.{plain_alike, slot_replaced}
 use Rattle.lib_os.proofs.WordsTell.{place_at, is_in_handler, handler_runs, outside_stack}
 use Rattle.jos_base.proofs.Maps.{upd-at}
@@ -60,17 +62,18 @@ in_with_words words h = record { program = h.program; phase = h.phase; silent = 
 
 pub words_stand : {names : Names} {s : KernelState} {a : AbstractState} → StandsFor names s a → (n number : ℕ) (b : Born) →
     a.slots n ≡ born b → StandsForBorn names s.spaces (slot_at s n) b → is_handlers (slot_at s n).registers.esp ≡ false →
-    (service : Service) (at : Step) → service_of (record (slot_at s n).registers { eax = number }) ≡ service →
+    borne_in (place_of (slot_at s n)) ≡ None → (service : Service) (at : Step) → borne_in (place.InService service at) ≡ None → service_of (record (slot_at s n).registers { eax = number }) ≡ service →
     StandsAtStep (view_of s.spaces (slot_at s n).directory) (record (slot_at s n) { extra = words_at number at }) b service at →
     StandsFor names (with_extra s n (words_at number at)) a
-words_stand {s = s} h n number b is own outside service at names_it so =
+words_stand {s = s} h n number b is own outside unborne service at unborne_after names_it so =
     let k : Slot = record (slot_at s n) { extra = words_at number at } in
     let there : place_of k ≡ place.InService service at =
     place_at (slot_at s n).registers number at outside ∙ ap (λ (x : Service). place.InService x at) names_it in
     let plain : is_in_handler (place_of (slot_at s n)) ≡ false = handler_runs (slot_at s n).registers (slot_at s n).extra ∙ outside in
     let plain_after : is_in_handler (place_of k) ≡ false = ap is_in_handler there in
     slot_replaced h n b is k refl (record { id = refl; env_type = refl; calm = λ runs. runs })
-    (plain_alike (place_of (slot_at s n)) (place_of k) (plain_counts (place_of (slot_at s n)) plain) (plain_counts (place_of k) plain_after)) (record {
+    (plain_alike (place_of (slot_at s n)) (place_of k) (unborne_plain (place_of (slot_at s n)) plain unborne)
+    (unborne_plain (place_of k) plain_after (ap borne_in there ∙ unborne_after))) (bears_none unborne (ap borne_in there ∙ unborne_after)) (record {
       id = own.id;
       id_small = own.id_small;
       parent = own.parent;

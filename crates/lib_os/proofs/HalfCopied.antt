@@ -1,35 +1,48 @@
--- A state of the kernel with a server and two environments that have one frame between them, which is copied when it is written:
--- the second has written there, and its handler of page faults has copied the first word of the page.
-use Rattle.std.proofs.Common.{◌≡◌, ◌≢◌, ◌<◌, ◌==◌, ◌∙◌, ◌+◌, ◌^◌, ◌++◌, ℕ, zero, suc, Bool, true, false, List, [], ◌∷◌, length}
-use Rattle.std.proofs.Common.{refl, sym, ap, arith, if◌then◌else◌}
+-- A state of the kernel with a server, two environments and a child that is not born, which have one frame between them, that is copied
+-- when it is written: the first is in the middle of fork, which has passed the page on to the child; the second has written there,
+-- and its handler of page faults has copied the first word of the page.
+use Rattle.std.proofs.Common.{◌≡◌, ◌≢◌, ◌<◌, ◌==◌, ◌∙◌, ◌+◌, ◌*◌, ◌%◌, ◌^◌, ◌||◌, ◌++◌, ℕ, zero, suc, Bool, true, false, List, [], ◌∷◌, length}
+use Rattle.std.proofs.Common.{Option, Some, None, is_some, refl, sym, ap, subst, arith, if◌then◌else◌}
 use Rattle.std.specs.Prelude.{replicate, get_or, nat_lt, ◌&&◌, slice_index}
+use Rattle.std.specs.Option.{option_map}
 use Rattle.std.proofs.lemmas.Bool.Decides.{nat_tests}
+use Rattle.std.proofs.lemmas.Option.{none-some, same_Some}
 use Rattle.std.proofs.lemmas.List.{length-append, length-replicate, get_or-append-add, get_or-replicate}
 use Rattle.jos_base.specs.declared.memory.PageFault.{PageFault}
-use Rattle.jos_base.specs.declared.numbers.TheConstants.{FIRST_ENV_ID}
+use Rattle.jos_base.specs.declared.numbers.TheConstants.{FIRST_ENV_ID, NENV, NPTENTRIES}
 use Rattle.jos_base.specs.declared.registers.Regs.{Regs}
 use Rattle.jos_base.specs.Counting.{frame_limit, page_limit}
-use Rattle.jos_base.specs.Environments.{zero_registers}
+use Rattle.jos_base.specs.declared.environment.Status.TheVariants.{NotRunnable}
+use Rattle.jos_base.specs.Environments.{Slot, free_slot, no_extra, zero_registers}
 use Rattle.jos_base.specs.Reach.{Entry}
 use Rattle.jos_base.specs.SpacesState.{directory, table, page, is_directory, zero_page}
+use Rattle.jos_base.specs.Words.{page_number}
 use Rattle.jos_base.specs.TrapFrames.{bytes_of_words, frame_bytes, frame_size, frame_words}
-use Rattle.lib_os.specs.declared.numbers.TheConstants.{HANDLER_LOADING}
+use Rattle.lib_os.specs.declared.numbers.TheConstants.{HANDLER_LOADING, SERVICE_FORK, UXSTACK}
 use Rattle.lib_os.specs.declared.place.HandlerStep.TheVariants as handler
 use Rattle.lib_os.specs.declared.place.Place.{Place}
 use Rattle.lib_os.specs.declared.place.Place.TheVariants as place
-use Rattle.lib_os.specs.AbstractState.{born, serving}
+use Rattle.lib_os.specs.declared.place.Step.{Step}
+use Rattle.lib_os.specs.declared.place.Step.TheVariants as step
+use Rattle.lib_os.specs.declared.service.Service.TheVariants as service
+use Rattle.lib_os.specs.AbstractState.{Born, Phase, free, unborn, born, serving, at_guest, in_service, bearing}
+use Rattle.lib_os.specs.AbstractMemory.{has_page_in}
 use Rattle.lib_os.specs.Fence.{in_fence}
-use Rattle.lib_os.specs.LibraryPages.{View, HasFrame, frame_place}
-use Rattle.lib_os.specs.Places.{handler_step_in, place_in_words}
-use Rattle.lib_os.specs.Rows.{AreBytes, IsPage, rows_of}
+use Rattle.lib_os.specs.LibraryPages.{View, HasFrame, frame_place, is_library_region}
+use Rattle.lib_os.specs.Places.{handler_step_in, place_in_words, place_of, step_in, words_at}
+use Rattle.lib_os.specs.Rows.{AreBytes, IsPage, counted, is_programs, lasting, page_by, rows_of, seen_where}
+use Rattle.lib_os.specs.Services.{named_service, service_of}
 use Rattle.lib_os.specs.StandingLaws.{IsHalfCopied, SomeCopyStands}
-use Rattle.lib_os.specs.StandsFor.{view_of}
+use Rattle.lib_os.specs.StandsFor.{view_of, borne_in, HasChildren, IsBorne, StandsForUnborn}
 use Rattle.lib_os.specs.StandsInHandler.{copies, IsCopiedTo, IsToCopy}
 use Rattle.lib_os.proofs.Listed.{Spaces, EntryFits, SpacesFit, StateFits, EnvironmentFits, Pair, spaces_of, listed, own_fits, copied_fits}
 use Rattle.lib_os.proofs.Listed.{server_slot, server_fits, running_slot, born_in, environment_fits, the_names, state_of, abstract_of}
-use Rattle.lib_os.proofs.Listed.{listed_stands}
+use Rattle.lib_os.proofs.Listed.{listed_stands, found, no_pair, each_listed, SlotFits}
+use Rattle.lib_os.proofs.Bearing.{same_born, same_unborn}
+use Rattle.lib_os.proofs.Logical.{programs_beside}
 use Rattle.lib_os.proofs.PageBytes.{bytes_append, bytes_more, bytes_same, words_bytes}
 use Rattle.lib_os.proofs.SomeState.{whole}
+use Rattle.fs_layout.proofs.Below.{some_below-at}
 
 -- ---- pages
 
@@ -119,14 +132,14 @@ own_entry frame = record { frame = frame; perm = 7 }
 
 abbrev spaces : Spaces
 spaces = record {
-  uses = (20, directory) ∷ (21, directory) ∷ (22, directory) ∷ (23, table) ∷ (24, table) ∷ (25, table) ∷ (26, table) ∷ (27, table)
+  uses = (20, directory) ∷ (21, directory) ∷ (22, directory) ∷ (28, directory) ∷ (29, table) ∷ (23, table) ∷ (24, table) ∷ (25, table) ∷ (26, table) ∷ (27, table)
       ∷ (30, page) ∷ (31, page) ∷ (32, page) ∷ (33, page) ∷ [];
   pages = listed ((30, page_with 5) ∷ (31, zero_page) ∷ (32, stack_bytes) ∷ (33, page_with 0) ∷ []) [];
   rows = (21, (0x800, between) ∷ (0xeebff, own_entry 31) ∷ [])
-      ∷ (22, (0x7ff, own_entry 33) ∷ (0x800, between) ∷ (0xeebff, own_entry 32) ∷ []) ∷ [];
-  tables = (21, (2, 23) ∷ (954, 24) ∷ []) ∷ (22, (1, 25) ∷ (2, 26) ∷ (954, 27) ∷ []) ∷ [];
+      ∷ (22, (0x7ff, own_entry 33) ∷ (0x800, between) ∷ (0xeebff, own_entry 32) ∷ []) ∷ (28, (0x800, between) ∷ []) ∷ [];
+  tables = (21, (2, 23) ∷ (954, 24) ∷ []) ∷ (22, (1, 25) ∷ (2, 26) ∷ (954, 27) ∷ []) ∷ (28, (2, 29) ∷ []) ∷ [];
   common = λ f. f == 30;
-  home = listed ((23, (21, 2)) ∷ (24, (21, 954)) ∷ (25, (22, 1)) ∷ (26, (22, 2)) ∷ (27, (22, 954))
+  home = listed ((23, (21, 2)) ∷ (24, (21, 954)) ∷ (25, (22, 1)) ∷ (26, (22, 2)) ∷ (27, (22, 954)) ∷ (29, (28, 2))
       ∷ (31, (21, 0xeebff)) ∷ (32, (22, 0xeebff)) ∷ (33, (22, 0x7ff)) ∷ []) (0, 0);
 }
 
@@ -150,36 +163,54 @@ second_stack : EntryFits spaces 22 0xeebff (own_entry 32)
 unfolding frame_limit page_limit
 second_stack = own_fits spaces 22 0xeebff 32 refl refl (omega arith, omega arith) (omega arith) refl stack_whole refl refl
 
+child_page : EntryFits spaces 28 0x800 between
+unfolding frame_limit page_limit
+child_page = copied_fits spaces 28 0x800 30 refl refl (omega arith, omega arith) (omega arith) refl (page_whole 5 (omega arith)) refl
+
 spaces_fit : SpacesFit spaces
 unfolding frame_limit
 spaces_fit = record {
-  entries = ((first_page, (first_stack, tt)), ((second_copy, (second_page, (second_stack, tt))), tt));
+  entries = ((first_page, (first_stack, tt)), ((second_copy, (second_page, (second_stack, tt))), ((child_page, tt), tt)));
   tables = (
     (
-      record { frame_is = refl; small = omega arith; alone = refl },
-      (record { frame_is = refl; small = omega arith; alone = refl }, tt),
+      record { frame_is = refl; directory_is = refl; small = omega arith; alone = refl },
+      (record { frame_is = refl; directory_is = refl; small = omega arith; alone = refl }, tt),
     ),
     (
       (
-        record { frame_is = refl; small = omega arith; alone = refl },
+        record { frame_is = refl; directory_is = refl; small = omega arith; alone = refl },
         (
-          record { frame_is = refl; small = omega arith; alone = refl },
-          (record { frame_is = refl; small = omega arith; alone = refl }, tt),
+          record { frame_is = refl; directory_is = refl; small = omega arith; alone = refl },
+          (record { frame_is = refl; directory_is = refl; small = omega arith; alone = refl }, tt),
         ),
       ),
-      tt,
+      ((record { frame_is = refl; directory_is = refl; small = omega arith; alone = refl }, tt), tt),
     ),
   );
 }
 
 -- ---- the environments
 
-first_fits : EnvironmentFits spaces 0x1001 21 program program place.Guest
-unfolding rows_of in_fence place_in_words
+-- fork has passed on all pages from this region's end upwards, and is about to look at the region
+abbrev at_region : Step
+at_region = step.ForkRegion 0x1003 1
+
+abbrev forking : List ℕ
+forking = words_at SERVICE_FORK at_region
+
+abbrev is_bearing : Phase
+is_bearing = in_service service.Fork (bearing 3)
+
+abbrev in_fork : Place
+in_fork = place.InService service.Fork at_region
+
+first_fits : EnvironmentFits spaces 0x1001 21 program program forking is_bearing in_fork
+unfolding rows_of in_fence place_in_words words_at service_of named_service step_in counted
 first_fits = record {
   id_small = omega arith;
   place_is = refl;
   upcall = refl;
+  counts = λ row p. refl;
   known = (refl, (refl, tt));
   regions = (refl, (refl, tt));
   table = refl;
@@ -188,7 +219,7 @@ first_fits = record {
   no_copy = λ none. refl;
   stack = refl;
   flags = refl;
-  stands = record { program = refl; phase = refl; words = refl; silent = refl; awake = refl };
+  stands = (record { program = refl; phase = refl; silent = refl; awake = refl }, omega arith);
 }
 
 abbrev second_view : View
@@ -224,12 +255,13 @@ is_copied = record {
 abbrev is_loading : Place
 is_loading = place.InHandler (handler.Loading 0x00800123 1)
 
-second_fits : EnvironmentFits spaces 0x1002 22 loading program is_loading
-unfolding rows_of in_fence place_in_words handler_step_in
+second_fits : EnvironmentFits spaces 0x1002 22 loading program no_extra at_guest is_loading
+unfolding rows_of in_fence place_in_words handler_step_in counted
 second_fits = record {
   id_small = omega arith;
   place_is = refl;
   upcall = refl;
+  counts = λ row p. refl;
   known = (refl, (refl, (refl, tt)));
   regions = (refl, (refl, (refl, tt)));
   table = refl;
@@ -254,17 +286,122 @@ second_fits = record {
   };
 }
 
+-- ---- the child
+
+abbrev child_slot : Slot
+child_slot = record (free_slot 0x1003) { parent = 0x1001; status = NotRunnable; registers = program; directory = 28 }
+
+child_own : StandsForUnborn child_slot 0x1003 0x1001
+child_own = record {
+  id_is = refl;
+  id_small = omega arith;
+  parent_is = refl;
+  env_type = refl;
+  status = refl;
+  silent = refl;
+  words = refl;
+  stack = refl;
+}
+
+abbrev parent_slot : Slot
+parent_slot = running_slot 0x1001 21 program forking
+
+abbrev parent_is : Born
+parent_is = born_in spaces 0x1001 21 program is_bearing
+
+-- all that a program may have there is the page between them
+child_row : (p : ℕ) → is_programs p ≡ true → rows_of (spaces_of spaces) 28 p ≡ rows_of (spaces_of spaces) 21 p
+unfolding rows_of
+child_row p inside = by_page (0x800 == p) refl
+  where
+    by_page : (c : Bool) → (0x800 == p) ≡ c → option_map lasting (found ((0x800, between) ∷ []) p)
+        ≡ option_map lasting (found ((0x800, between) ∷ (0xeebff, own_entry 31) ∷ []) p)
+    by_page true test = rw test refl
+    by_page false test = by_stack (0xeebff == p) refl
+      where
+        by_stack : (c : Bool) → (0xeebff == p) ≡ c → option_map lasting (found ((0x800, between) ∷ []) p)
+            ≡ option_map lasting (found ((0x800, between) ∷ (0xeebff, own_entry 31) ∷ []) p)
+        by_stack true stack =
+            let same : p ≡ 0xeebff = grind (arith, nat_tests) in
+            absurd ((programs_beside p inside).1 same)
+        by_stack false stack = rw (test, stack) refl
+
+child_none : (p : ℕ) → (0x800 == p) ≡ false → rows_of (spaces_of spaces) 28 p ≡ None
+unfolding rows_of
+child_none p test = rw test refl
+
+-- the page lies in the child's only region
+has_it : is_some (parent_is.memory (2 * NPTENTRIES + 0)) ≡ true
+unfolding rows_of in_fence
+has_it = refl
+
+in_region : has_page_in parent_is.memory 2 || is_library_region 2 ≡ true
+in_region =
+    ap (λ (c : Bool). c || is_library_region 2)
+    (some_below-at (λ p. is_some (parent_is.memory (2 * NPTENTRIES + p))) NPTENTRIES 0 (omega arith) has_it)
+
+is_child : IsBorne the_names (spaces_of spaces) parent_slot (born parent_is) child_slot 0x1003 0x1001
+unfolding place_in_words words_at service_of named_service step_in in_fence
+is_child = record {
+  b = parent_is;
+  born_by = refl;
+  named = refl;
+  step = at_region;
+  at = refl;
+  borne = refl;
+  registers = refl;
+  upcall = refl;
+  passed = λ p inside passed.
+      ap (λ (o : Option Entry). seen_where (is_programs p) (option_map (page_by the_names (spaces_of spaces).pages) o)) (child_row p inside);
+  rest = λ p inside below. child_none p (grind (arith, nat_tests, below));
+  library = record {
+    stack = λ has. absurd (let contradiction : false ≡ true = has in cc);
+    no_stack = λ none. child_none (page_number UXSTACK) refl;
+    none = λ p outside beside. child_none p (by_page p outside (0x800 == p) refl);
+  };
+  tables = λ r has. by_region r has (2 == r) refl;
+}
+  where
+    by_page : (p : ℕ) → is_programs p ≡ false → (c : Bool) → (0x800 == p) ≡ c → (0x800 == p) ≡ false
+    by_page p outside false test = test
+    by_page p outside true test =
+        let same : p ≡ 0x800 = grind (arith, nat_tests) in
+        let contradiction : true ≡ false = sym (ap (λ (q : ℕ). is_programs q) same) ∙ outside in absurd cc
+
+    by_region : (r : ℕ) → is_some ((spaces_of spaces).regions 28 r) ≡ true → (c : Bool) → (2 == r) ≡ c →
+        has_page_in parent_is.memory r || is_library_region r ≡ true
+    by_region r has true test =
+        let same : r ≡ 2 = grind (arith, nat_tests) in
+        subst (λ (q : ℕ). has_page_in parent_is.memory q || is_library_region q ≡ true) (sym same) in_region
+    by_region r has false test = absurd (let contradiction : false ≡ true = sym (no_region test) ∙ has in cc)
+      where
+        no_region : (2 == r) ≡ false → is_some ((spaces_of spaces).regions 28 r) ≡ false
+        no_region other = rw other refl
+
 -- ---- the state
 
 abbrev pairs : List (ℕ × Pair)
 pairs =
     (0, (server_slot 20, serving FIRST_ENV_ID))
-    ∷ (1, (running_slot 0x1001 21 program, born (born_in spaces 0x1001 21 program)))
-    ∷ (2, (running_slot 0x1002 22 loading, born (born_in spaces 0x1002 22 program)))
+    ∷ (1, (parent_slot, born parent_is))
+    ∷ (2, (running_slot 0x1002 22 loading no_extra, born (born_in spaces 0x1002 22 program at_guest)))
+    ∷ (3, (child_slot, unborn 0x1003 0x1001))
     ∷ []
 
 abbrev owner : ℕ → ℕ
-owner d = if d == 21 then 1 else if d == 22 then 2 else 0
+owner d = if d == 21 then 1 else if d == 22 then 2 else if d == 28 then 3 else 0
+
+child_fits : SlotFits spaces owner 3 (child_slot, unborn 0x1003 0x1001)
+unfolding place_in_words counted
+child_fits = record {
+  stands = child_own;
+  id = λ live. refl;
+  user = λ other. refl;
+  still = refl;
+  directory_is = λ live. refl;
+  owner_is = λ live. refl;
+  counts = λ row p. refl;
+}
 
 no_page : is_directory page ≡ true → ⊥
 no_page is = let contradiction : false ≡ true = is in cc
@@ -272,14 +409,67 @@ no_page is = let contradiction : false ≡ true = is in cc
 no_table : is_directory table ≡ true → ⊥
 no_table is = let contradiction : false ≡ true = is in cc
 
+-- the child is borne by its parent
+abbrev IsBorneHere : ℕ → Pair → Type 0
+IsBorneHere n pair = (id parent : ℕ) → pair.1 ≡ unborn id parent →
+    IsBorne the_names (spaces_of spaces) (listed pairs no_pair (parent % NENV)).0 (listed pairs no_pair (parent % NENV)).1 pair.0 id parent
+
+abbrev HasItsChild : ℕ → Pair → Type 0
+HasItsChild n pair = (id : ℕ) (b : Born) → pair.1 ≡ born b → borne_in (place_of pair.0) ≡ Some id →
+    (listed pairs no_pair (id % NENV)).1 ≡ unborn id b.id
+
+not_unborn_born : (b : Born) (id parent : ℕ) → born b ≡ unborn id parent → ⊥
+not_unborn_born b id parent is = cc
+
+third_borne : IsBorneHere 3 (child_slot, unborn 0x1003 0x1001)
+third_borne id parent is =
+    let same = same_unborn 0x1003 0x1001 id parent is in
+    subst (λ (q : ℕ). IsBorne the_names (spaces_of spaces) (listed pairs no_pair (q % NENV)).0 (listed pairs no_pair (q % NENV)).1 child_slot id q) same.1
+    (subst (λ (q : ℕ). IsBorne the_names (spaces_of spaces) parent_slot (born parent_is) child_slot q 0x1001) same.0 is_child)
+
+first_has_it : HasItsChild 1 (parent_slot, born parent_is)
+unfolding place_in_words words_at service_of named_service step_in
+first_has_it id b is bears =
+    let one : 0x1003 ≡ id = same_Some 0x1003 id bears in
+    let it : parent_is ≡ b = same_born parent_is b is in
+    subst (λ (q : ℕ). (listed pairs no_pair (q % NENV)).1 ≡ unborn q b.id) one
+    (ap (λ (x : Born). unborn 0x1003 x.id) it)
+
+second_has_none : HasItsChild 2 (running_slot 0x1002 22 loading no_extra, born (born_in spaces 0x1002 22 program at_guest))
+unfolding place_in_words handler_step_in
+second_has_none id b is bears = absurd (none-some id bears)
+
+children : HasChildren the_names (spaces_of spaces) (λ n. (listed pairs no_pair n).0) (λ n. (listed pairs no_pair n).1)
+children = record {
+  borne = each_listed IsBorneHere pairs no_pair (
+    (λ id parent is. let contradiction : serving FIRST_ENV_ID ≡ unborn id parent = is in absurd cc),
+    (
+      (λ id parent is. absurd (not_unborn_born parent_is id parent is)),
+      ((λ id parent is. absurd (not_unborn_born (born_in spaces 0x1002 22 program at_guest) id parent is)), (third_borne, tt)),
+    ),
+  )
+      (λ n id parent is. let contradiction : free 0 ≡ unborn id parent = is in absurd cc);
+  have = each_listed HasItsChild pairs no_pair (
+    (λ id b is bears. let contradiction : serving FIRST_ENV_ID ≡ born b = is in absurd cc),
+    (
+      first_has_it,
+      (second_has_none, ((λ id b is bears. let contradiction : unborn 0x1003 0x1001 ≡ born b = is in absurd cc), tt)),
+    ),
+  )
+      (λ n id b is bears. let contradiction : free 0 ≡ born b = is in absurd cc);
+}
+
 state_fits : StateFits spaces pairs owner
 state_fits = record {
   spaces = spaces_fit;
   slots = (
     server_fits spaces owner 20 refl refl refl refl,
     (
-      environment_fits spaces owner 1 0x1001 21 program program place.Guest first_fits refl refl refl,
-      (environment_fits spaces owner 2 0x1002 22 loading program is_loading second_fits refl refl refl, tt),
+      environment_fits spaces owner 1 0x1001 21 program program forking is_bearing in_fork first_fits refl refl refl,
+      (
+        environment_fits spaces owner 2 0x1002 22 loading program no_extra at_guest is_loading second_fits refl refl refl,
+        (child_fits, tt),
+      ),
     ),
   );
   owned = (
@@ -289,7 +479,7 @@ state_fits = record {
       (
         λ is. (2, refl, refl),
         (
-          λ is. absurd (no_table is),
+          λ is. (3, refl, refl),
           (
             λ is. absurd (no_table is),
             (
@@ -298,7 +488,13 @@ state_fits = record {
                 λ is. absurd (no_table is),
                 (
                   λ is. absurd (no_table is),
-                  (λ is. absurd (no_page is), (λ is. absurd (no_page is), (λ is. absurd (no_page is), (λ is. absurd (no_page is), tt)))),
+                  (
+                    λ is. absurd (no_table is),
+                    (
+                      λ is. absurd (no_table is),
+                      (λ is. absurd (no_page is), (λ is. absurd (no_page is), (λ is. absurd (no_page is), (λ is. absurd (no_page is), tt)))),
+                    ),
+                  ),
                 ),
               ),
             ),
@@ -308,6 +504,7 @@ state_fits = record {
     ),
   );
   first = refl;
+  children = children;
 }
 
 other_bytes : slice_index (page_with 0) 4 ≢ slice_index (page_with 5) 4
@@ -317,7 +514,7 @@ other_bytes same =
     absurd (omega (arith, copied, old, same))
 
 half_copied : IsHalfCopied (state_of spaces pairs) (abstract_of pairs)
-unfolding rows_of in_fence place_in_words handler_step_in
+unfolding rows_of in_fence place_in_words handler_step_in words_at service_of named_service step_in
 half_copied = record {
   va = 0x00800123;
   index = 1;
@@ -332,6 +529,12 @@ half_copied = record {
   begun = omega arith;
   second_copies = refl;
   unfinished = other_bytes;
+  id = 0x1003;
+  parent = 0x1001;
+  region = 1;
+  forks = refl;
+  child = refl;
+  child_has = refl;
 }
 
 pub some_copy_stands : SomeCopyStands

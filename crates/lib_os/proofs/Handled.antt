@@ -16,8 +16,9 @@ use Rattle.lib_os.specs.LibraryPages.{has_copy}
 use Rattle.lib_os.specs.Places.{place_of, is_handlers, handler_registers}
 use Rattle.lib_os.specs.Rows.{Names, rows_of}
 use Rattle.lib_os.specs.StandingLaws.{IsHandlerStep}
-use Rattle.lib_os.specs.StandsFor.{StandsFor, StandsForSlot, StandsForBorn, StandsAt, view_of, upcall_at}
+use Rattle.lib_os.specs.StandsFor.{StandsFor, StandsForSlot, StandsForBorn, StandsAt, view_of, upcall_at, borne_in}
 use Rattle.lib_os.specs.StandsInHandler.{IsInHandler}
+use Rattle.lib_os.proofs.Children.{bears_none}
 use Rattle.lib_os.proofs.Logical.{is_plain}
 use Rattle.lib_os.proofs.Serving.{library_moved}
 use Rattle.lib_os.proofs.StatesStand.{plain_alike, slot_replaced}
@@ -42,7 +43,7 @@ handled_part {names = names} {s = s} {a = a} h n step at = by_slot (a.slots n) r
 
     by_slot : (slot : AbstractSlot) → a.slots n ≡ slot → StandsForSlot names s.spaces (slot_at s n) slot → IsHandled names s a n step
     by_slot (free id) is k = absurd (false≢true (sym (ap (λ (x : Slot). is_handlers x.registers.esp) k) ∙ inside))
-    by_slot (unborn id parent) is k = absurd k
+    by_slot (unborn id parent) is k = absurd (false≢true (sym k.stack ∙ inside))
     by_slot (serving id) is k = absurd (false≢true (sym k.stack ∙ inside))
     by_slot (born b) is k = record {
       b = b;
@@ -130,4 +131,5 @@ handler_goes {s = s} h n from to v stands there plain plain_to upcall copy at =
     slot_replaced h n v.b v.is (handler_slot (slot_at s n) to) refl (record { id = refl; env_type = refl; calm = λ runs. runs })
     (plain_alike (place_of (slot_at s n)) (place_of (handler_slot (slot_at s n) to)) (ap is_plain stands ∙ plain)
     (ap is_plain (handler_place (slot_at s n) to v.inside there) ∙ plain_to))
+    (bears_none (ap borne_in stands) (ap borne_in (handler_place (slot_at s n) to v.inside there)))
     (handler_own to v.own v.inside there (v.own.upcall ∙ ap upcall_at stands ∙ upcall) (ap has_copy stands ∙ copy) at)

@@ -21,12 +21,12 @@ use Rattle.jos_base.specs.declared.numbers.TheConstants.{SYS_ENV_SET_STATUS}
 use Rattle.jos_base.specs.declared.numbers.TheConstants.{SYS_ENV_SET_TRAPFRAME, SYS_ENV_SET_PGFAULT_UPCALL, SYS_YIELD}
 use Rattle.jos_base.specs.declared.numbers.TheConstants.{SYS_IPC_TRY_SEND, SYS_IPC_RECV}
 use Rattle.jos_base.specs.declared.registers.Regs.{Regs}
-use Rattle.jos_base.specs.Environments.{Slot, is_live, is_runnable, is_running, found, free_slot, with_answer}
+use Rattle.jos_base.specs.Environments.{Slot, is_live, is_runnable, is_running, found, free_slot, with_answer, new_slot, next_id, allotted, allotted_from}
 use Rattle.jos_base.specs.KernelState.{KernelState, slot_at, with_slot_at, with_spaces, with_registers, with_status}
-use Rattle.jos_base.specs.KernelState.{with_rendezvous, with_upcall, with_refusal}
+use Rattle.jos_base.specs.KernelState.{with_rendezvous, with_upcall, with_refusal, with_directory}
 use Rattle.jos_base.specs.Messages.{Rendezvous, accepts, delivered, wanting}
 use Rattle.jos_base.specs.Reach.{Entry, FrameOffset}
-use Rattle.jos_base.specs.SpacesState.{SpacesState, allocated, overlaid, unmapped, with_page_bytes}
+use Rattle.jos_base.specs.SpacesState.{SpacesState, allocated, created, created_from, directory, overlaid, unmapped, with_page_bytes}
 use Rattle.jos_base.specs.SystemCalls.{Did, answered as told, refused, without_environment, killed, user_bytes}
 use Rattle.jos_base.specs.SystemCalls.{with_bytes_reached, cputs_of, cputs}
 use Rattle.jos_base.specs.SystemCalls.{cgetc_from, env_destroy_of, status_named, env_set_status_of, is_page_address, is_page_perm}
@@ -35,7 +35,7 @@ use Rattle.jos_base.specs.SystemCalls.{page_map_by, page_map_of}
 use Rattle.jos_base.specs.SystemCalls.{page_unmap_of, record_size, env_set_trapframe_by, env_set_trapframe_of}
 use Rattle.jos_base.specs.SystemCalls.{env_set_pgfault_upcall_of}
 use Rattle.jos_base.specs.SystemCalls.{message_taken, Passing, nothing, a_page, invalid, passing_of, sent_with, sent}
-use Rattle.jos_base.specs.SystemCalls.{ipc_try_send_of, ipc_recv, call_of}
+use Rattle.jos_base.specs.SystemCalls.{environment_made, exofork, exofork_of, made_of, ipc_try_send_of, ipc_recv, call_of}
 use Rattle.jos_base.specs.SystemCalls.{handler_entered, handled_at, handled}
 use Rattle.jos_base.specs.TrapFrames.{words_of_bytes, from_record, from_frame, frame_bytes, frame_size, upcall_place}
 use Rattle.jos_base.specs.UserMemory.{reach_in, touched, stored_byte, with_byte_at}
@@ -82,17 +82,17 @@ module _ (P : Type 0) (s : KernelState) (n : ℕ) where
   -- ---- changes of the state
 
   same_left : Left P s n s
-  same_left = record { rest = record { last = refl; turns = refl; frames = refl; refused = λ two. refl; told = λ some. some }; calm = λ p calm. calm }
+  same_left = record { rest = record { last = refl; turns = refl; frames = refl; refused = λ two some. refl; told = λ some. some }; calm = λ p calm. calm }
 
   spaces_left : (spaces : SpacesState) → spaces.frames ≡ s.spaces.frames → Left P s n (with_spaces s spaces)
   spaces_left spaces same = record {
-    rest = record { last = refl; turns = refl; frames = same; refused = λ two. refl; told = λ some. some };
+    rest = record { last = refl; turns = refl; frames = same; refused = λ two some. refl; told = λ some. some };
     calm = λ p calm. calm;
   }
 
-  refusal_left : (2 ≤ length s.spaces.free → ⊥) → Left P s n (with_refusal s)
+  refusal_left : (2 ≤ length s.spaces.free → s.environments.free_slots ≢ [] → ⊥) → Left P s n (with_refusal s)
   refusal_left few = record {
-    rest = record { last = refl; turns = refl; frames = refl; refused = λ two. absurd (few two); told = λ some. omega (arith, some) };
+    rest = record { last = refl; turns = refl; frames = refl; refused = λ two some. absurd (few two some); told = λ some. omega (arith, some) };
     calm = λ p calm. calm;
   }
 
@@ -102,7 +102,7 @@ module _ (P : Type 0) (s : KernelState) (n : ℕ) where
       last = refl;
       turns = refl;
       frames = destroyed_frames s.spaces (slot_at s target).directory;
-      refused = λ two. refl;
+      refused = λ two some. refl;
       told = λ some. some;
     };
     calm = λ p calm. calm_upd s.environments.slots n target (free_slot (slot_at s target).id) refl calm;
@@ -143,7 +143,7 @@ module _ (P : Type 0) (s : KernelState) (n : ℕ) where
   cgetc_left (byte ∷ rest) =
       let t : KernelState = record s { input = rest } in
       told_left t (record {
-        rest = record { last = refl; turns = refl; frames = refl; refused = λ two. refl; told = λ some. some };
+        rest = record { last = refl; turns = refl; frames = refl; refused = λ two some. refl; told = λ some. some };
         calm = λ p calm. calm;
       }) byte
 
@@ -152,18 +152,44 @@ module _ (P : Type 0) (s : KernelState) (n : ℕ) where
   destroy_left (Some target) =
       by_case (target == n) _ _ (λ e. gone_left n) (λ e. told_left (without_environment s target) (gone_left target) 0)
 
+  -- where a frame and a slot are free, the child is made
+  exofork_left : LeftBy (exofork s n)
+  unfolding environment_made allotted created
+  exofork_left = by_lists s.environments.free_slots refl s.spaces.free refl
+    where
+      by_lists : (slots : List ℕ) → s.environments.free_slots ≡ slots → (frames : List ℕ) → s.spaces.free ≡ frames →
+          LeftBy (exofork_of s n (made_of s (allotted_from s.environments (slot_at s n).id slots) (created_from s.spaces frames)))
+      by_lists [] slots_are frames frames_are = told_left (with_refusal s) (refusal_left (λ two some. some slots_are)) _
+      by_lists (child ∷ others) slots_are [] frames_are =
+          told_left (with_refusal s) (refusal_left (λ two some. let none : length s.spaces.free ≡ 0 = ap (λ (l : List ℕ). length l) frames_are in omega (arith, two))) _
+      by_lists (child ∷ others) slots_are (frame ∷ rest) frames_are =
+          let slot : Slot = new_slot (next_id (slot_at s child).id child) (slot_at s n).id in
+          let t : KernelState = record s {
+            environments = record { slots = upd s.environments.slots child slot; free_slots = others };
+            spaces = record s.spaces { uses = upd s.spaces.uses frame directory; free = rest; pages = upd s.spaces.pages frame [] };
+          } in
+          let made : Left P s n t = record {
+            rest = record { last = refl; turns = refl; frames = refl; refused = λ two some. refl; told = λ some. some };
+            calm = λ p calm. calm_upd s.environments.slots n child slot refl calm;
+          } in
+          let u : KernelState = with_directory t child frame in
+          let homed : Left P s n u = put_left t made child (record (slot_at t child) { directory = frame }) refl in
+          let regs : Regs = record (slot_at s n).registers { eax = 0 } in
+          told_left (with_registers u child regs) (put_left u homed child (record (slot_at u child) { registers = regs }) refl)
+          (slot_at u child).id
+
   status_left : (P → ⊥) → (target : Option ℕ) (status : Option Status) → LeftBy (env_set_status_of s n target status)
   status_left never None status = refused_left BadEnv
   status_left never (Some target) None = refused_left Invalid
   status_left never (Some target) (Some status) =
       told_left (with_status s target status)
       (record {
-        rest = record { last = refl; turns = refl; frames = refl; refused = λ two. refl; told = λ some. some };
+        rest = record { last = refl; turns = refl; frames = refl; refused = λ two some. refl; told = λ some. some };
         calm = λ p calm. absurd (never p);
       }) 0
 
   with_left : (spaces : Option SpacesState) → Gets 2 s.spaces spaces → LeftBy (answered_with s n spaces)
-  with_left None gets = told_left (with_refusal s) (refusal_left gets) _
+  with_left None gets = told_left (with_refusal s) (refusal_left (λ two some. gets two)) _
   with_left (Some spaces) gets = told_left (with_spaces s spaces) (spaces_left spaces gets) 0
 
   -- who gets spaces where one frame is free, gets them where two are
@@ -226,7 +252,7 @@ module _ (P : Type 0) (s : KernelState) (n : ℕ) where
   yield_left never =
       told_left (with_status s n Runnable)
       (record {
-        rest = record { last = refl; turns = refl; frames = refl; refused = λ two. refl; told = λ some. some };
+        rest = record { last = refl; turns = refl; frames = refl; refused = λ two some. refl; told = λ some. some };
         calm = λ p calm. absurd (never p);
       }) 0
 
@@ -235,7 +261,7 @@ module _ (P : Type 0) (s : KernelState) (n : ℕ) where
       let t : KernelState = with_rendezvous s n (wanting (slot_at s n).rendezvous va sender) in
       by_case (nat_lt va UTOP && not (va % PGSIZE == 0)) _ _ (λ e. refused_left Invalid)
       (λ e. record {
-        rest = record { last = refl; turns = refl; frames = refl; refused = λ two. refl; told = λ some. some };
+        rest = record { last = refl; turns = refl; frames = refl; refused = λ two some. refl; told = λ some. some };
         calm = λ p calm. ap (λ (x : Slot). is_runnable x.status) (slot_put t n (record (slot_at t n) { status = NotRunnable }));
       })
 
@@ -256,7 +282,7 @@ module _ (P : Type 0) (s : KernelState) (n : ℕ) where
 
   sent_left_with : (target value perm : ℕ) (spaces : Option SpacesState) → (P → n ≢ target) → Gets 2 s.spaces spaces →
       LeftBy (sent_with s n target value perm spaces)
-  sent_left_with target value perm None other gets = told_left (with_refusal s) (refusal_left gets) _
+  sent_left_with target value perm None other gets = told_left (with_refusal s) (refusal_left (λ two some. gets two)) _
   sent_left_with target value perm (Some spaces) other gets =
       told_left (message_taken (with_spaces s spaces) n target value perm)
       (message_left (with_spaces s spaces) (spaces_left spaces gets) target value perm other) 0
@@ -289,10 +315,10 @@ module _ (P : Type 0) (s : KernelState) (n : ℕ) where
       (λ e. sent_left target value (passing_of s n (slot_at s target).rendezvous.destination va perm)
       (λ p. not_itself target (silent p) e))
 
-  call_left : (regs : Regs) → (regs.eax == SYS_EXOFORK) ≡ false → (P → (slot_at s n).rendezvous.receiving ≡ false) →
+  call_left : (regs : Regs) → (P → (slot_at s n).rendezvous.receiving ≡ false) →
       (P → (regs.eax == SYS_YIELD) ≡ false) → (P → (regs.eax == SYS_ENV_SET_STATUS) ≡ false) → LeftBy (call_of s n regs)
   unfolding call_of
-  call_left regs no_fork silent no_yield no_status =
+  call_left regs silent no_yield no_status =
       let named = found s.environments regs.edx n true in
       by_case (regs.eax == SYS_CPUTS) _ _ (λ e. cputs_left regs.edx regs.ecx)
       (λ e. by_case (regs.eax == SYS_CGETC) _ _ (λ e. cgetc_left s.input)
@@ -302,7 +328,7 @@ module _ (P : Type 0) (s : KernelState) (n : ℕ) where
       (λ e. by_case (regs.eax == SYS_PAGE_MAP) _ _
       (λ e. page_map_left named regs.ecx (found s.environments regs.ebx n true) regs.edi regs.esi)
       (λ e. by_case (regs.eax == SYS_PAGE_UNMAP) _ _ (λ e. page_unmap_left named regs.ecx)
-      (λ e. by_case (regs.eax == SYS_EXOFORK) _ _ (λ e. absurd (different e no_fork))
+      (λ e. by_case (regs.eax == SYS_EXOFORK) _ _ (λ e. exofork_left)
       (λ e. by_case (regs.eax == SYS_ENV_SET_STATUS) _ _
       (λ e. status_left (λ p. different e (no_status p)) named (status_named regs.ecx))
       (λ e. by_case (regs.eax == SYS_ENV_SET_TRAPFRAME) _ _ (λ e. trapframe_left named regs.ecx)
@@ -416,12 +442,12 @@ running_calm _ is = refl
 abbrev pub wakes : ℕ → Bool
 wakes number = (number == SYS_YIELD) || (number == SYS_ENV_SET_STATUS)
 
-module _ (s : KernelState) (n number : ℕ) (args : List ℕ) (no_fork : (number == SYS_EXOFORK) ≡ false) where
+module _ (s : KernelState) (n number : ℕ) (args : List ℕ) where
   -- an environment that waits for nothing makes a call in which it does not wake itself
   abbrev pub StaysCalm : Type 0
   StaysCalm = ((slot_at s n).rendezvous.receiving ≡ false) × (wakes number ≡ false)
 
-  -- what any call but exofork leaves: of exofork nothing is said here, since it may be refused a slot
+  -- what any call leaves
   pub system_left : Left StaysCalm s n (system s n number args).state
   unfolding system
   system_left =
@@ -430,7 +456,7 @@ module _ (s : KernelState) (n number : ℕ) (args : List ℕ) (no_fork : (number
       let k : KernelState = with_registers s n q in
       let k_is : slot_at k n ≡ record (slot_at s n) { registers = q } = slot_put s n (record (slot_at s n) { registers = q }) in
       let same : (slot_at k n).registers.eax ≡ number = ap (λ (x : Slot). x.registers.eax) k_is in
-      let h = call_left StaysCalm k n (slot_at k n).registers (ap (λ (m : ℕ). m == SYS_EXOFORK) same ∙ no_fork)
+      let h = call_left StaysCalm k n (slot_at k n).registers
       (λ p. ap (λ (x : Slot). x.rendezvous.receiving) k_is ∙ p.0)
       (λ p. ap (λ (m : ℕ). m == SYS_YIELD) same ∙ (or_parts _ _ p.1).0)
       (λ p. ap (λ (m : ℕ). m == SYS_ENV_SET_STATUS) same ∙ (or_parts _ _ p.1).1) in

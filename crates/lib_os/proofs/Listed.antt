@@ -6,7 +6,7 @@ use Rattle.std.specs.Prelude.{Option, Some, None, is_some}
 use Rattle.std.specs.Option.{option_map}
 use Rattle.std.proofs.lemmas.Bool.{false≢true}
 use Rattle.std.proofs.lemmas.Bool.Decides.{nat_tests}
-use Rattle.std.proofs.lemmas.Option.{same_Some}
+use Rattle.std.proofs.lemmas.Option.{none-some, same_Some}
 use Rattle.jos_base.specs.declared.environment.EnvType.TheVariants.{User, FileServer}
 use Rattle.jos_base.specs.declared.environment.Status.TheVariants.{Runnable, NotRunnable}
 use Rattle.jos_base.specs.declared.numbers.TheConstants.{FIRST_ENV_ID, NENV, NPTENTRIES, UTEXT}
@@ -22,14 +22,14 @@ use Rattle.jos_base.specs.Words.{page_number}
 use Rattle.fs_layout.specs.FileTree.{a_directory, no_more}
 use Rattle.lib_os.specs.declared.numbers.TheConstants.{PFTEMP, PGFAULT_UPCALL, UXSTACK}
 use Rattle.lib_os.specs.declared.place.Place.{Place}
-use Rattle.lib_os.specs.AbstractState.{AbstractState, Born, AbstractSlot, free, born, serving, guest, at_guest, idle, terminal}
+use Rattle.lib_os.specs.AbstractState.{AbstractState, Born, AbstractSlot, free, unborn, born, serving, Phase, guest, idle, terminal}
 use Rattle.lib_os.specs.Fence.{is_resident}
 use Rattle.lib_os.specs.InOrder.{HasOneUse}
 use Rattle.lib_os.specs.LibraryPages.{LibraryPages, IsOwnWritable, has_copy, is_library_region, region_index}
-use Rattle.lib_os.specs.Places.{place_of, is_handlers}
-use Rattle.lib_os.specs.Rows.{Names, lasting, rows_of, logical, page_seen, is_programs, is_shared, IsUsers, Agree, AgreeWhereShared, IsPage}
-use Rattle.lib_os.specs.StandsFor.{StandsFor, StandsForSlot, StandsForBorn, StandsAt, view_of, upcall_at}
-use Rattle.lib_os.proofs.Logical.{logical_some}
+use Rattle.lib_os.specs.Places.{place_of, place_in_words, is_handlers}
+use Rattle.lib_os.specs.Rows.{Names, EntryRow, lasting, rows_of, counted, logical, page_seen, is_programs, is_shared, IsUsers, Agree, AgreeWhereShared, IsPage}
+use Rattle.lib_os.specs.StandsFor.{StandsFor, StandsForSlot, StandsForBorn, StandsAt, view_of, upcall_at, HasChildren, borne_in}
+use Rattle.lib_os.proofs.Logical.{logical_live, logical_some}
 
 -- ---- lists by numbers
 
@@ -156,6 +156,7 @@ copied_fits l d p f frame_is directory_is within small region whole common = rec
 
 pub record TableFits (l : Spaces) (d r frame : ℕ) : Type 0 where
   pub frame_is : (spaces_of l).uses frame ≡ table
+  pub directory_is : (spaces_of l).uses d ≡ directory
   pub small : frame < frame_limit
   pub alone : l.home frame ≡ (d, r)
 
@@ -191,6 +192,7 @@ module _ (l : Spaces) (fit : SpacesFit l) where
         let places : ◌≡◌ {A = ℕ × ℕ} (d, r) (e, q) =
         sym (table_fits d r x is).alone ∙ ap l.home same ∙ (table_fits e q y js).alone in
         (ap (λ (z : ℕ × ℕ). z.0) places, ap (λ (z : ℕ × ℕ). z.1) places);
+    region_owners = λ d r region is. (table_fits d r region is).directory_is;
     free_list = tt;
   }
 
@@ -261,6 +263,7 @@ pub record SlotFits (l : Spaces) (owner : ℕ → ℕ) (n : ℕ) (pair : Pair) :
   pub still : is_running pair.0.status ≡ false
   pub directory_is : is_live pair.0 ≡ true → (spaces_of l).uses pair.0.directory ≡ directory
   pub owner_is : is_live pair.0 ≡ true → owner pair.0.directory ≡ n
+  pub counts : (row : EntryRow) (p : ℕ) → counted (place_of pair.0) row p ≡ row p
 
 -- the environment of a slot has the directory
 abbrev pub HasOwner : List (ℕ × Pair) → ℕ → Use → Type 0
@@ -272,6 +275,7 @@ pub record StateFits (l : Spaces) (pairs : List (ℕ × Pair)) (owner : ℕ → 
   pub slots : AllListed (SlotFits l owner) pairs
   pub owned : AllListed (HasOwner pairs) l.uses
   pub first : (listed pairs no_pair 0).1 ≡ serving FIRST_ENV_ID
+  pub children : HasChildren the_names (spaces_of l) (λ n. (listed pairs no_pair n).0) (λ n. (listed pairs no_pair n).1)
 
 module _ (l : Spaces) (pairs : List (ℕ × Pair)) (owner : ℕ → ℕ) (fit : StateFits l pairs owner) where
   abbrev the_state : KernelState
@@ -281,6 +285,7 @@ module _ (l : Spaces) (pairs : List (ℕ × Pair)) (owner : ℕ → ℕ) (fit : 
   slot n = (listed pairs no_pair n).0
 
   slot_fits : (n : ℕ) → SlotFits l owner n (listed pairs no_pair n)
+  unfolding place_in_words counted
   slot_fits = each_listed (SlotFits l owner) pairs no_pair fit.slots (λ n. record {
     stands = refl;
     id = λ live. absurd (false≢true live);
@@ -288,6 +293,7 @@ module _ (l : Spaces) (pairs : List (ℕ × Pair)) (owner : ℕ → ℕ) (fit : 
     still = refl;
     directory_is = λ live. absurd (false≢true live);
     owner_is = λ live. absurd (false≢true live);
+    counts = λ row p. refl;
   })
 
   has_spaces : HasSpaces the_state.spaces the_state.environments
@@ -305,7 +311,12 @@ module _ (l : Spaces) (pairs : List (ℕ × Pair)) (owner : ℕ → ℕ) (fit : 
   counts_at : (n p : ℕ) (x : Entry) → logical the_state.spaces slot n p ≡ Some x → CountsAt n p x
   counts_at n p x is =
       let h = logical_some the_state.spaces slot n p x is in
-      record { live = h.0; fits = row_fits l fit.spaces (slot n).directory p x h.1 }
+      let counts : counted (place_of (slot n)) (rows_of the_state.spaces (slot n).directory) p ≡ Some x = sym (logical_live the_state.spaces slot n h.0 p) ∙ is in
+      record {
+        live = h.0;
+        fits = row_fits l fit.spaces (slot n).directory p x
+            (sym ((slot_fits n).counts (rows_of the_state.spaces (slot n).directory) p) ∙ counts);
+      }
 
   agree : AgreeWhereShared (logical the_state.spaces slot)
   agree n p m q x y ne is js same = by_common (l.common x.frame) refl
@@ -329,11 +340,12 @@ module _ (l : Spaces) (pairs : List (ℕ × Pair)) (owner : ℕ → ℕ) (fit : 
   pub listed_stands : StandsFor the_names the_state (abstract_of pairs)
   listed_stands = record {
     slots = λ n. (slot_fits n).stands;
+    children = fit.children;
     apart = agree;
     named = λ n p x is shared. absurd (false≢true (sym (counts_at n p x is).fits.own_page ∙ shared));
     users = λ n p x is. (counts_at n p x is).fits.users;
     whole = λ n p x is. (counts_at n p x is).fits.whole;
-    free_slots = refl;
+    free_slots = record { same = refl; within = tt };
     first = fit.first;
     server = refl;
     input = refl;
@@ -347,15 +359,35 @@ module _ (l : Spaces) (pairs : List (ℕ × Pair)) (owner : ℕ → ℕ) (fit : 
     in_order = record { frames = one_use l fit.spaces; spaces = has_spaces };
   }
 
+-- no child is being made
+abbrev pub IsChildless : ℕ → Pair → Type 0
+IsChildless n pair = (borne_in (place_of pair.0) ≡ None) × ((id parent : ℕ) → pair.1 ≢ unborn id parent)
+
+pub childless : (l : Spaces) (pairs : List (ℕ × Pair)) → AllListed IsChildless pairs →
+    HasChildren the_names (spaces_of l) (λ n. (listed pairs no_pair n).0) (λ n. (listed pairs no_pair n).1)
+unfolding place_in_words
+childless l pairs all = record {
+  borne = λ m id parent is. absurd ((each m).1 id parent is);
+  have = λ n id b is bears. absurd (none-some id (sym (each n).0 ∙ bears));
+}
+  where
+    each : (n : ℕ) → IsChildless n (listed pairs no_pair n)
+    each = each_listed IsChildless pairs no_pair all
+        (λ n. (refl, (λ id parent is. let contradiction : free 0 ≡ unborn id parent = is in absurd cc)))
+
 -- ---- the server and environments
 
 -- the server, with a directory
 abbrev pub server_slot : ℕ → Slot
 server_slot d = record (free_slot FIRST_ENV_ID) { env_type = FileServer; status = NotRunnable; directory = d }
 
+pub server_childless : (d : ℕ) → IsChildless 0 (server_slot d, serving FIRST_ENV_ID)
+unfolding place_in_words
+server_childless d = (refl, (λ id parent is. let contradiction : serving FIRST_ENV_ID ≡ unborn id parent = is in absurd cc))
+
 pub server_fits : (l : Spaces) (owner : ℕ → ℕ) (d : ℕ) → listed l.rows [] d ≡ [] → listed l.tables [] d ≡ [] →
     (spaces_of l).uses d ≡ directory → owner d ≡ 0 → SlotFits l owner 0 (server_slot d, serving FIRST_ENV_ID)
-unfolding rows_of
+unfolding rows_of place_in_words counted
 server_fits l owner d no_row no_table directory_is owner_is = record {
   stands = record {
     first = refl;
@@ -373,24 +405,25 @@ server_fits l owner d no_row no_table directory_is owner_is = record {
   still = refl;
   directory_is = λ live. directory_is;
   owner_is = λ live. owner_is;
+  counts = λ row p. refl;
 }
 
--- an environment that may run, with its id, its directory and its registers
-abbrev pub running_slot : ℕ → ℕ → Regs → Slot
-running_slot id d registers =
-    record (free_slot id) { status = Runnable; registers = registers; directory = d; upcall = PGFAULT_UPCALL }
+-- an environment that may run, with its id, its directory, its registers and its words
+abbrev pub running_slot : ℕ → ℕ → Regs → List ℕ → Slot
+running_slot id d registers words =
+    record (free_slot id) { status = Runnable; registers = registers; extra = words; directory = d; upcall = PGFAULT_UPCALL }
 
--- The program of an environment, with its registers; it ever had pages in one region alone, which is that of the first of
--- its program.
-abbrev pub born_in : Spaces → ℕ → ℕ → Regs → Born
-born_in l id d registers = record {
+-- The program of an environment, with its registers and its phase; it ever had pages in one region alone, which is that of the first
+-- of its program.
+abbrev pub born_in : Spaces → ℕ → ℕ → Regs → Phase → Born
+born_in l id d registers phase = record {
   id = id;
   parent = 0;
   program = guest registers;
   memory = page_seen the_names (spaces_of l) d;
   regions = λ r. r == region_index UTEXT;
   descriptors = λ fd. None;
-  phase = at_guest;
+  phase = phase;
   blocked = false;
 }
 
@@ -431,10 +464,11 @@ has_region l d r has is = let same : region_index UTEXT ≡ r = grind (arith, na
     subst (λ (q : ℕ). is_some ((spaces_of l).regions d q) ≡ true) same has
 
 -- what an environment of a listed state has
-pub record EnvironmentFits (l : Spaces) (id d : ℕ) (registers program : Regs) (at : Place) : Type 0 where
+pub record EnvironmentFits (l : Spaces) (id d : ℕ) (registers program : Regs) (words : List ℕ) (phase : Phase) (at : Place) : Type 0 where
   pub id_small : id < 2 ^ 32
-  pub place_is : place_of (running_slot id d registers) ≡ at
+  pub place_is : place_of (running_slot id d registers words) ≡ at
   pub upcall : upcall_at at ≡ PGFAULT_UPCALL
+  pub counts : (row : EntryRow) (p : ℕ) → counted at row p ≡ row p
   pub known : AllListed IsKnown (listed l.rows [] d)
   pub regions : AllListed IsKnownRegion (listed l.tables [] d)
   pub table : is_some ((spaces_of l).regions d (region_index UTEXT)) ≡ true
@@ -443,12 +477,12 @@ pub record EnvironmentFits (l : Spaces) (id d : ℕ) (registers program : Regs) 
   pub no_copy : has_copy at ≡ false → rows_of (spaces_of l) d (page_number PFTEMP) ≡ None
   pub stack : is_handlers registers.esp || not (is_resident registers.esp) ≡ true
   pub flags : registers.eflags ≡ user_flags registers.eflags
-  pub stands : StandsAt at (view_of (spaces_of l) d) (running_slot id d registers) (born_in l id d program)
+  pub stands : StandsAt at (view_of (spaces_of l) d) (running_slot id d registers words) (born_in l id d program phase)
 
-pub environment_stands : (l : Spaces) (id d : ℕ) (registers program : Regs) (at : Place) →
-    EnvironmentFits l id d registers program at →
-    StandsForBorn the_names (spaces_of l) (running_slot id d registers) (born_in l id d program)
-environment_stands l id d registers program at h = record {
+pub environment_stands : (l : Spaces) (id d : ℕ) (registers program : Regs) (words : List ℕ) (phase : Phase) (at : Place) →
+    EnvironmentFits l id d registers program words phase at →
+    StandsForBorn the_names (spaces_of l) (running_slot id d registers words) (born_in l id d program phase)
+environment_stands l id d registers program words phase at h = record {
   id = refl;
   id_small = h.id_small;
   parent = refl;
@@ -467,18 +501,27 @@ environment_stands l id d registers program at h = record {
   regions_only = known_region l d h.regions;
   stack = h.stack;
   flags = h.flags;
-  at = subst (λ (x : Place). StandsAt x (view_of (spaces_of l) d) (running_slot id d registers) (born_in l id d program))
+  at = subst (λ (x : Place). StandsAt x (view_of (spaces_of l) d) (running_slot id d registers words) (born_in l id d program phase))
       (sym h.place_is) h.stands;
 }
 
-pub environment_fits : (l : Spaces) (owner : ℕ → ℕ) (n id d : ℕ) (registers program : Regs) (at : Place) →
-    EnvironmentFits l id d registers program at → id % NENV ≡ n → (spaces_of l).uses d ≡ directory → owner d ≡ n →
-    SlotFits l owner n (running_slot id d registers, born (born_in l id d program))
-environment_fits l owner n id d registers program at h id_is directory_is owner_is = record {
-  stands = environment_stands l id d registers program at h;
+pub environment_fits : (l : Spaces) (owner : ℕ → ℕ) (n id d : ℕ) (registers program : Regs) (words : List ℕ) (phase : Phase) (at : Place) →
+    EnvironmentFits l id d registers program words phase at → id % NENV ≡ n → (spaces_of l).uses d ≡ directory → owner d ≡ n →
+    SlotFits l owner n (running_slot id d registers words, born (born_in l id d program phase))
+environment_fits l owner n id d registers program words phase at h id_is directory_is owner_is = record {
+  stands = environment_stands l id d registers program words phase at h;
   id = λ live. id_is;
   user = λ other. refl;
   still = refl;
   directory_is = λ live. directory_is;
   owner_is = λ live. owner_is;
+  counts = λ row p. ap (λ (x : Place). counted x row p) h.place_is ∙ h.counts row p;
 }
+
+pub environment_childless : (l : Spaces) (n id d : ℕ) (registers program : Regs) (words : List ℕ) (phase : Phase) (at : Place) →
+    EnvironmentFits l id d registers program words phase at → borne_in at ≡ None →
+    IsChildless n (running_slot id d registers words, born (born_in l id d program phase))
+environment_childless l n id d registers program words phase at h unborne = (
+  ap borne_in h.place_is ∙ unborne,
+  (λ other parent is. let contradiction : born (born_in l id d program phase) ≡ unborn other parent = is in absurd cc),
+)

@@ -1,8 +1,9 @@
 -- Entries as they count: where they count as they stand, and what becomes of them where one is put in the place of another.
 use Rattle.std.proofs.Common.{◌≡◌, ◌≢◌, ◌∙◌, ◌*◌, ◌==◌, ◌&&◌, ℕ, Bool, true, false, refl, sym, ap, subst, arith, if◌then◌else◌}
 use Rattle.std.proofs.lemmas.Bool.Decides.{nat_tests}
-use Rattle.std.specs.Prelude.{Some, None}
-use Rattle.std.proofs.lemmas.Option.{none-some}
+use Rattle.std.specs.Prelude.{Option, Some, None, is_none}
+use Rattle.std.specs.Option.{option_map}
+use Rattle.std.proofs.lemmas.Option.{none-some, same_Some}
 use Rattle.jos_base.specs.declared.numbers.TheConstants.{PGSIZE}
 use Rattle.jos_base.specs.Environments.{Slot, is_live}
 use Rattle.jos_base.specs.Reach.{Entry}
@@ -13,9 +14,15 @@ use Rattle.lib_os.specs.declared.place.HandlerStep.{HandlerStep}
 use Rattle.lib_os.specs.declared.place.HandlerStep.TheVariants as handler
 use Rattle.lib_os.specs.declared.place.Place.{Place}
 use Rattle.lib_os.specs.declared.place.Place.TheVariants as place
+use Rattle.lib_os.specs.declared.place.Step.{Step}
+use Rattle.lib_os.specs.declared.place.Step.TheVariants as step
+use Rattle.lib_os.specs.declared.service.Service.{Service}
+use Rattle.lib_os.specs.declared.service.Service.TheVariants as service
+use Rattle.lib_os.specs.StandsFor.{borne_in}
 use Rattle.lib_os.specs.Fence.{in_fence, is_inside, is_page_inside}
 use Rattle.lib_os.specs.Places.{place_of}
-use Rattle.lib_os.specs.Rows.{EntryRow, rows_of, counted, logical_by, logical, is_programs}
+use Rattle.lib_os.specs.Rows.{EntryRow, rows_of, counted, logical_by, logical, is_programs, is_shared, as_cow, cow_perm}
+use Rattle.lib_os.proofs.WordsTell.{is_in_handler}
 
 -- ---- pages that a program may have
 
@@ -50,10 +57,27 @@ page_inside_programs va inside = grind (arith, nat_tests)
 
 -- ---- entries as they count at a place
 
--- they count as they stand
+-- they count as they stand, and no child is being made
 abbrev pub is_plain : Place → Bool
+is_plain place.Guest = true
+is_plain (place.InService s at) = is_none (borne_in (place.InService s at))
 is_plain (place.InHandler (handler.Unmapping va)) = false
-is_plain _ = true
+is_plain (place.InHandler at) = true
+
+-- where no child is being made, and the handler does not run
+pub unborne_plain : (at : Place) → is_in_handler at ≡ false → borne_in at ≡ None → is_plain at ≡ true
+unborne_plain place.Guest outside none = refl
+unborne_plain (place.InService s at) outside none = ap (λ (o : Option ℕ). is_none o) none
+unborne_plain (place.InHandler at) outside none = absurd (let contradiction : true ≡ false = outside in cc)
+
+none_is : (o : Option ℕ) → is_none o ≡ true → o ≡ None
+none_is None is = refl
+none_is (Some id) is = absurd (let contradiction : false ≡ true = is in cc)
+
+pub plain_unborne : (at : Place) → is_plain at ≡ true → borne_in at ≡ None
+plain_unborne place.Guest plain = refl
+plain_unborne (place.InService s at) plain = none_is (borne_in (place.InService s at)) plain
+plain_unborne (place.InHandler at) plain = refl
 
 handler_plain : (at : HandlerStep) (row : EntryRow) → is_plain (place.InHandler at) ≡ true → (p : ℕ) → counted (place.InHandler at) row p ≡ row p
 unfolding counted
@@ -70,13 +94,123 @@ handler_plain (handler.ReadingIp va error) row plain p = refl
 handler_plain (handler.Unsetting va error ip) row plain p = refl
 handler_plain (handler.Touching va error ip) row plain p = refl
 
+fork_plain : (at : Step) (row : EntryRow) → is_plain (place.InService service.Fork at) ≡ true → (p : ℕ) →
+    counted (place.InService service.Fork at) row p ≡ row p
+unfolding counted
+fork_plain step.Entered row plain p = refl
+fork_plain (step.Trying perm) row plain p = refl
+fork_plain (step.Pausing perm) row plain p = refl
+fork_plain step.ReadingRegion row plain p = refl
+fork_plain step.ReadingEntry row plain p = refl
+fork_plain (step.Receiving id) row plain p = refl
+fork_plain (step.ReadingValue id) row plain p = refl
+fork_plain (step.ReadingSender id value) row plain p = refl
+fork_plain (step.ReadingPerm id value sender) row plain p = refl
+fork_plain (step.ForkRegion id region) row plain p = refl
+fork_plain (step.ForkEntry id page) row plain p = refl
+fork_plain (step.MapChild id page perm) row plain p = refl
+fork_plain (step.Remap id page) row plain p = absurd (let contradiction : false ≡ true = plain in cc)
+fork_plain (step.ChildStack id) row plain p = refl
+fork_plain (step.ChildUpcall id) row plain p = refl
+fork_plain (step.ChildRuns id) row plain p = refl
+fork_plain (step.Undoing id error) row plain p = refl
+
+service_plain : (s : Service) (at : Step) (row : EntryRow) → is_plain (place.InService s at) ≡ true → (p : ℕ) →
+    counted (place.InService s at) row p ≡ row p
+unfolding counted
+service_plain service.Fork at row plain p = fork_plain at row plain p
+service_plain service.Exit at row plain p = refl
+service_plain (service.Cputs va len) at row plain p = refl
+service_plain service.GetId at row plain p = refl
+service_plain service.Yield at row plain p = refl
+service_plain (service.Wait id) at row plain p = refl
+service_plain (service.PageNew va flags) at row plain p = refl
+service_plain (service.PageDrop va) at row plain p = refl
+service_plain (service.Send id value va) at row plain p = refl
+service_plain (service.Receive va from) at row plain p = refl
+service_plain (service.OpenFile path mode) at row plain p = refl
+service_plain (service.Close fd) at row plain p = refl
+service_plain (service.Read fd va len) at row plain p = refl
+service_plain (service.Write fd va len) at row plain p = refl
+service_plain (service.Seek fd offset) at row plain p = refl
+service_plain (service.Stat fd va) at row plain p = refl
+service_plain (service.SetSize fd size) at row plain p = refl
+service_plain (service.Remove path) at row plain p = refl
+service_plain service.Sync at row plain p = refl
+service_plain (service.Dup old new) at row plain p = refl
+service_plain service.Pipe at row plain p = refl
+service_plain (service.Spawn path argv) at row plain p = refl
+service_plain service.Unknown at row plain p = refl
+
 pub counted_plain : (at : Place) (row : EntryRow) → is_plain at ≡ true → (p : ℕ) → counted at row p ≡ row p
 unfolding counted
 counted_plain place.Guest row plain p = refl
-counted_plain (place.InService s at) row plain p = refl
+counted_plain (place.InService s at) row plain p = service_plain s at row plain p
 counted_plain (place.InHandler at) row plain p = handler_plain at row plain p
 
--- all but the page where a copy was made do
+-- fork is about to map the page of this number onto itself
+abbrev pub is_remapped : Place → ℕ → Bool
+is_remapped (place.InService service.Fork (step.Remap id page)) p = p == page
+is_remapped _ p = false
+
+fork_unremapped : (at : Step) (p : ℕ) → is_plain (place.InService service.Fork at) ≡ true → is_remapped (place.InService service.Fork at) p ≡ false
+fork_unremapped step.Entered p plain = refl
+fork_unremapped (step.Trying perm) p plain = refl
+fork_unremapped (step.Pausing perm) p plain = refl
+fork_unremapped step.ReadingRegion p plain = refl
+fork_unremapped step.ReadingEntry p plain = refl
+fork_unremapped (step.Receiving id) p plain = refl
+fork_unremapped (step.ReadingValue id) p plain = refl
+fork_unremapped (step.ReadingSender id value) p plain = refl
+fork_unremapped (step.ReadingPerm id value sender) p plain = refl
+fork_unremapped (step.ForkRegion id region) p plain = refl
+fork_unremapped (step.ForkEntry id page) p plain = refl
+fork_unremapped (step.MapChild id page perm) p plain = refl
+fork_unremapped (step.Remap id page) p plain = absurd (let contradiction : false ≡ true = plain in cc)
+fork_unremapped (step.ChildStack id) p plain = refl
+fork_unremapped (step.ChildUpcall id) p plain = refl
+fork_unremapped (step.ChildRuns id) p plain = refl
+fork_unremapped (step.Undoing id error) p plain = refl
+
+pub plain_unremapped : (at : Place) (p : ℕ) → is_plain at ≡ true → is_remapped at p ≡ false
+plain_unremapped place.Guest p plain = refl
+plain_unremapped (place.InHandler at) p plain = refl
+plain_unremapped (place.InService service.Exit at) p plain = refl
+plain_unremapped (place.InService (service.Cputs va len) at) p plain = refl
+plain_unremapped (place.InService service.GetId at) p plain = refl
+plain_unremapped (place.InService service.Yield at) p plain = refl
+plain_unremapped (place.InService (service.Wait id) at) p plain = refl
+plain_unremapped (place.InService (service.PageNew va flags) at) p plain = refl
+plain_unremapped (place.InService (service.PageDrop va) at) p plain = refl
+plain_unremapped (place.InService (service.Send id value va) at) p plain = refl
+plain_unremapped (place.InService (service.Receive va from) at) p plain = refl
+plain_unremapped (place.InService (service.OpenFile path mode) at) p plain = refl
+plain_unremapped (place.InService (service.Close fd) at) p plain = refl
+plain_unremapped (place.InService (service.Read fd va len) at) p plain = refl
+plain_unremapped (place.InService (service.Write fd va len) at) p plain = refl
+plain_unremapped (place.InService (service.Seek fd offset) at) p plain = refl
+plain_unremapped (place.InService (service.Stat fd va) at) p plain = refl
+plain_unremapped (place.InService (service.SetSize fd size) at) p plain = refl
+plain_unremapped (place.InService (service.Remove path) at) p plain = refl
+plain_unremapped (place.InService service.Sync at) p plain = refl
+plain_unremapped (place.InService (service.Dup old new) at) p plain = refl
+plain_unremapped (place.InService service.Pipe at) p plain = refl
+plain_unremapped (place.InService (service.Spawn path argv) at) p plain = refl
+plain_unremapped (place.InService service.Unknown at) p plain = refl
+plain_unremapped (place.InService service.Fork at) p plain = fork_unremapped at p plain
+
+-- there it counts as a page that is copied when it is written
+pub counted_remapped : (at : Place) (row : EntryRow) (p : ℕ) → is_remapped at p ≡ true → counted at row p ≡ option_map as_cow (row p)
+unfolding counted
+counted_remapped (place.InService service.Fork (step.Remap id page)) row p is = ap (λ (c : Bool). if c then option_map as_cow (row p) else row p) is
+counted_remapped _ row p is = absurd (let contradiction : false ≡ true = is in cc)
+
+pub unborne_unremapped : (at : Place) (p : ℕ) → borne_in at ≡ None → is_remapped at p ≡ false
+unborne_unremapped place.Guest p none = refl
+unborne_unremapped (place.InService s at) p none = plain_unremapped (place.InService s at) p (ap (λ (o : Option ℕ). is_none o) none)
+unborne_unremapped (place.InHandler at) p none = refl
+
+-- all but the page where a copy was made count as they stand, and the one that is mapped onto itself
 handler_elsewhere : (at : HandlerStep) (row : EntryRow) (p : ℕ) → (p == page_number PFTEMP) ≡ false → counted (place.InHandler at) row p ≡ row p
 unfolding counted
 handler_elsewhere (handler.Unmapping va) row p other = ap (λ (c : Bool). if c then None else row p) other
@@ -92,32 +226,180 @@ handler_elsewhere (handler.ReadingIp va error) row p other = refl
 handler_elsewhere (handler.Unsetting va error ip) row p other = refl
 handler_elsewhere (handler.Touching va error ip) row p other = refl
 
-pub counted_elsewhere : (at : Place) (row : EntryRow) (p : ℕ) → p ≢ page_number PFTEMP → counted at row p ≡ row p
+fork_elsewhere : (at : Step) (row : EntryRow) (p : ℕ) → is_remapped (place.InService service.Fork at) p ≡ false →
+    counted (place.InService service.Fork at) row p ≡ row p
 unfolding counted
-counted_elsewhere place.Guest row p ne = refl
-counted_elsewhere (place.InService s at) row p ne = refl
-counted_elsewhere (place.InHandler at) row p ne = handler_elsewhere at row p (grind (arith, nat_tests))
+fork_elsewhere step.Entered row p other = refl
+fork_elsewhere (step.Trying perm) row p other = refl
+fork_elsewhere (step.Pausing perm) row p other = refl
+fork_elsewhere step.ReadingRegion row p other = refl
+fork_elsewhere step.ReadingEntry row p other = refl
+fork_elsewhere (step.Receiving id) row p other = refl
+fork_elsewhere (step.ReadingValue id) row p other = refl
+fork_elsewhere (step.ReadingSender id value) row p other = refl
+fork_elsewhere (step.ReadingPerm id value sender) row p other = refl
+fork_elsewhere (step.ForkRegion id region) row p other = refl
+fork_elsewhere (step.ForkEntry id page) row p other = refl
+fork_elsewhere (step.MapChild id page perm) row p other = refl
+fork_elsewhere (step.Remap id page) row p other = ap (λ (c : Bool). if c then option_map as_cow (row p) else row p) other
+fork_elsewhere (step.ChildStack id) row p other = refl
+fork_elsewhere (step.ChildUpcall id) row p other = refl
+fork_elsewhere (step.ChildRuns id) row p other = refl
+fork_elsewhere (step.Undoing id error) row p other = refl
 
--- where a copy was made and is mapped over its page, none counts
-handler_none : (at : HandlerStep) (row : EntryRow) (p : ℕ) → is_plain (place.InHandler at) ≡ false → (p == page_number PFTEMP) ≡ true →
-    counted (place.InHandler at) row p ≡ None
+service_elsewhere : (s : Service) (at : Step) (row : EntryRow) (p : ℕ) → is_remapped (place.InService s at) p ≡ false →
+    counted (place.InService s at) row p ≡ row p
 unfolding counted
-handler_none (handler.Unmapping va) row p plain here = ap (λ (c : Bool). if c then None else row p) here
-handler_none _ row p plain here = absurd (let contradiction : true ≡ false = plain in cc)
+service_elsewhere service.Fork at row p other = fork_elsewhere at row p other
+service_elsewhere service.Exit at row p other = refl
+service_elsewhere (service.Cputs va len) at row p other = refl
+service_elsewhere service.GetId at row p other = refl
+service_elsewhere service.Yield at row p other = refl
+service_elsewhere (service.Wait id) at row p other = refl
+service_elsewhere (service.PageNew va flags) at row p other = refl
+service_elsewhere (service.PageDrop va) at row p other = refl
+service_elsewhere (service.Send id value va) at row p other = refl
+service_elsewhere (service.Receive va from) at row p other = refl
+service_elsewhere (service.OpenFile path mode) at row p other = refl
+service_elsewhere (service.Close fd) at row p other = refl
+service_elsewhere (service.Read fd va len) at row p other = refl
+service_elsewhere (service.Write fd va len) at row p other = refl
+service_elsewhere (service.Seek fd offset) at row p other = refl
+service_elsewhere (service.Stat fd va) at row p other = refl
+service_elsewhere (service.SetSize fd size) at row p other = refl
+service_elsewhere (service.Remove path) at row p other = refl
+service_elsewhere service.Sync at row p other = refl
+service_elsewhere (service.Dup old new) at row p other = refl
+service_elsewhere service.Pipe at row p other = refl
+service_elsewhere (service.Spawn path argv) at row p other = refl
+service_elsewhere service.Unknown at row p other = refl
 
-unplain_none : (at : Place) (row : EntryRow) (p : ℕ) → is_plain at ≡ false → (p == page_number PFTEMP) ≡ true → counted at row p ≡ None
-unplain_none place.Guest row p plain here = absurd (let contradiction : true ≡ false = plain in cc)
-unplain_none (place.InService s at) row p plain here = absurd (let contradiction : true ≡ false = plain in cc)
-unplain_none (place.InHandler at) row p plain here = handler_none at row p plain here
+pub counted_elsewhere : (at : Place) (row : EntryRow) (p : ℕ) → p ≢ page_number PFTEMP → is_remapped at p ≡ false → counted at row p ≡ row p
+unfolding counted
+counted_elsewhere place.Guest row p ne other = refl
+counted_elsewhere (place.InService s at) row p ne other = service_elsewhere s at row p other
+counted_elsewhere (place.InHandler at) row p ne other = handler_elsewhere at row p (grind (arith, nat_tests))
 
--- what counts stands there
-pub counted_some : (at : Place) (row : EntryRow) (p : ℕ) (x : Entry) → counted at row p ≡ Some x → row p ≡ Some x
-counted_some at row p x is = by_page (p == page_number PFTEMP) refl (is_plain at) refl
+-- What counts at a place stands there, with the same frame, shared or not.
+pub record StandsAs (o : Option Entry) (x : Entry) : Type 0 where
+  pub entry : Entry
+  pub stands : o ≡ Some entry
+  pub frame : entry.frame ≡ x.frame
+  pub sharing : is_shared entry.perm ≡ is_shared x.perm
+
+itself : (o : Option Entry) (x : Entry) → o ≡ Some x → StandsAs o x
+itself o x is = record { entry = x; stands = is; frame = refl; sharing = refl }
+
+pub as_cow_alike : (e : Entry) → ((as_cow e).frame ≡ e.frame) × (is_shared (as_cow e).perm ≡ is_shared e.perm)
+as_cow_alike e = by_sharing (is_shared e.perm) refl
   where
-    by_page : (c : Bool) → (p == page_number PFTEMP) ≡ c → (d : Bool) → is_plain at ≡ d → row p ≡ Some x
-    by_page false test d plain = sym (counted_elsewhere at row p (grind (arith, nat_tests))) ∙ is
-    by_page true test true plain = sym (counted_plain at row plain p) ∙ is
-    by_page true test false plain = absurd (none-some x (sym (unplain_none at row p plain test) ∙ is))
+    by_sharing : (c : Bool) → is_shared e.perm ≡ c →
+        ((if c then e else record e { perm = cow_perm }).frame ≡ e.frame) × (is_shared (if c then e else record e { perm = cow_perm }).perm ≡ is_shared e.perm)
+    by_sharing true is = (refl, refl)
+    by_sharing false is = (refl, sym is)
+
+cow_stands : (o : Option Entry) (x : Entry) → option_map as_cow o ≡ Some x → StandsAs o x
+cow_stands None x is = absurd (none-some x is)
+cow_stands (Some e) x is =
+    let same : as_cow e ≡ x = same_Some (as_cow e) x is in
+    let alike = as_cow_alike e in
+    record {
+      entry = e;
+      stands = refl;
+      frame = sym alike.0 ∙ ap (λ (y : Entry). y.frame) same;
+      sharing = sym alike.1 ∙ ap (λ (y : Entry). is_shared y.perm) same;
+    }
+
+remapped_some : (id page : ℕ) (row : EntryRow) (p : ℕ) (x : Entry) → counted (place.InService service.Fork (step.Remap id page)) row p ≡ Some x →
+    StandsAs (row p) x
+unfolding counted
+remapped_some id page row p x is = by_page (p == page) is
+  where
+    by_page : (c : Bool) → (if c then option_map as_cow (row p) else row p) ≡ Some x → StandsAs (row p) x
+    by_page true is = cow_stands (row p) x is
+    by_page false is = itself (row p) x is
+
+unmapped_some : (va : ℕ) (row : EntryRow) (p : ℕ) (x : Entry) → counted (place.InHandler (handler.Unmapping va)) row p ≡ Some x → row p ≡ Some x
+unfolding counted
+unmapped_some va row p x is = by_page (p == page_number PFTEMP) is
+  where
+    by_page : (c : Bool) → (if c then None else row p) ≡ Some x → row p ≡ Some x
+    by_page true is = absurd (none-some x is)
+    by_page false is = is
+
+handler_some : (at : HandlerStep) (row : EntryRow) (p : ℕ) (x : Entry) → counted (place.InHandler at) row p ≡ Some x → row p ≡ Some x
+handler_some (handler.Unmapping va) row p x is = unmapped_some va row p x is
+handler_some handler.Entered row p x is = sym (handler_plain handler.Entered row refl p) ∙ is
+handler_some (handler.ReadingError va) row p x is = sym (handler_plain (handler.ReadingError va) row refl p) ∙ is
+handler_some (handler.Looking va) row p x is = sym (handler_plain (handler.Looking va) row refl p) ∙ is
+handler_some (handler.Taking va) row p x is = sym (handler_plain (handler.Taking va) row refl p) ∙ is
+handler_some (handler.Loading va index) row p x is = sym (handler_plain (handler.Loading va index) row refl p) ∙ is
+handler_some (handler.Storing va index word) row p x is = sym (handler_plain (handler.Storing va index word) row refl p) ∙ is
+handler_some (handler.MappingOver va) row p x is = sym (handler_plain (handler.MappingOver va) row refl p) ∙ is
+handler_some handler.Restoring row p x is = sym (handler_plain handler.Restoring row refl p) ∙ is
+handler_some (handler.ReadingIp va error) row p x is = sym (handler_plain (handler.ReadingIp va error) row refl p) ∙ is
+handler_some (handler.Unsetting va error ip) row p x is = sym (handler_plain (handler.Unsetting va error ip) row refl p) ∙ is
+handler_some (handler.Touching va error ip) row p x is = sym (handler_plain (handler.Touching va error ip) row refl p) ∙ is
+
+fork_some : (at : Step) (row : EntryRow) (p : ℕ) (x : Entry) → counted (place.InService service.Fork at) row p ≡ Some x → StandsAs (row p) x
+unfolding counted
+fork_some step.Entered row p x is = itself (row p) x is
+fork_some (step.Trying perm) row p x is = itself (row p) x is
+fork_some (step.Pausing perm) row p x is = itself (row p) x is
+fork_some step.ReadingRegion row p x is = itself (row p) x is
+fork_some step.ReadingEntry row p x is = itself (row p) x is
+fork_some (step.Receiving id) row p x is = itself (row p) x is
+fork_some (step.ReadingValue id) row p x is = itself (row p) x is
+fork_some (step.ReadingSender id value) row p x is = itself (row p) x is
+fork_some (step.ReadingPerm id value sender) row p x is = itself (row p) x is
+fork_some (step.ForkRegion id region) row p x is = itself (row p) x is
+fork_some (step.ForkEntry id page) row p x is = itself (row p) x is
+fork_some (step.MapChild id page perm) row p x is = itself (row p) x is
+fork_some (step.Remap id page) row p x is = remapped_some id page row p x is
+fork_some (step.ChildStack id) row p x is = itself (row p) x is
+fork_some (step.ChildUpcall id) row p x is = itself (row p) x is
+fork_some (step.ChildRuns id) row p x is = itself (row p) x is
+fork_some (step.Undoing id error) row p x is = itself (row p) x is
+
+service_some : (s : Service) (at : Step) (row : EntryRow) (p : ℕ) (x : Entry) → counted (place.InService s at) row p ≡ Some x → StandsAs (row p) x
+unfolding counted
+service_some service.Fork at row p x is = fork_some at row p x is
+service_some service.Exit at row p x is = itself (row p) x is
+service_some (service.Cputs va len) at row p x is = itself (row p) x is
+service_some service.GetId at row p x is = itself (row p) x is
+service_some service.Yield at row p x is = itself (row p) x is
+service_some (service.Wait id) at row p x is = itself (row p) x is
+service_some (service.PageNew va flags) at row p x is = itself (row p) x is
+service_some (service.PageDrop va) at row p x is = itself (row p) x is
+service_some (service.Send id value va) at row p x is = itself (row p) x is
+service_some (service.Receive va from) at row p x is = itself (row p) x is
+service_some (service.OpenFile path mode) at row p x is = itself (row p) x is
+service_some (service.Close fd) at row p x is = itself (row p) x is
+service_some (service.Read fd va len) at row p x is = itself (row p) x is
+service_some (service.Write fd va len) at row p x is = itself (row p) x is
+service_some (service.Seek fd offset) at row p x is = itself (row p) x is
+service_some (service.Stat fd va) at row p x is = itself (row p) x is
+service_some (service.SetSize fd size) at row p x is = itself (row p) x is
+service_some (service.Remove path) at row p x is = itself (row p) x is
+service_some service.Sync at row p x is = itself (row p) x is
+service_some (service.Dup old new) at row p x is = itself (row p) x is
+service_some service.Pipe at row p x is = itself (row p) x is
+service_some (service.Spawn path argv) at row p x is = itself (row p) x is
+service_some service.Unknown at row p x is = itself (row p) x is
+
+pub counted_some : (at : Place) (row : EntryRow) (p : ℕ) (x : Entry) → counted at row p ≡ Some x → StandsAs (row p) x
+unfolding counted
+counted_some place.Guest row p x is = itself (row p) x is
+counted_some (place.InService s at) row p x is = service_some s at row p x is
+counted_some (place.InHandler at) row p x is = itself (row p) x (handler_some at row p x is)
+
+-- where no child is being made, what counts stands there as it is
+pub unborne_stands : (at : Place) (row : EntryRow) (p : ℕ) (x : Entry) → borne_in at ≡ None → counted at row p ≡ Some x → row p ≡ Some x
+unfolding counted
+unborne_stands place.Guest row p x none is = is
+unborne_stands (place.InService s at) row p x none is =
+    sym (service_plain s at row (ap (λ (o : Option ℕ). is_none o) none) p) ∙ is
+unborne_stands (place.InHandler at) row p x none is = handler_some at row p x is
 
 -- ---- entries as they count, by slots
 
@@ -129,18 +411,19 @@ module _ (s : SpacesState) (slots : ℕ → Slot) (n : ℕ) where
   logical_live live p = ap (λ (c : Bool). logical_by c (counted (place_of (slots n)) row) p) live
 
   -- what counts stands in the space of a slot that is live
-  pub logical_some : (p : ℕ) (x : Entry) → logical s slots n p ≡ Some x → (is_live (slots n) ≡ true) × (row p ≡ Some x)
+  pub logical_some : (p : ℕ) (x : Entry) → logical s slots n p ≡ Some x → (is_live (slots n) ≡ true) × StandsAs (row p) x
   logical_some p x is = by_live (is_live (slots n)) refl
     where
-      by_live : (c : Bool) → is_live (slots n) ≡ c → (is_live (slots n) ≡ true) × (row p ≡ Some x)
+      by_live : (c : Bool) → is_live (slots n) ≡ c → (is_live (slots n) ≡ true) × StandsAs (row p) x
       by_live true live = (live, counted_some (place_of (slots n)) row p x (sym (logical_live live p) ∙ is))
       by_live false dead = absurd (none-some x (sym (ap (λ (c : Bool). logical_by c (counted (place_of (slots n)) row) p) dead) ∙ is))
 
   pub logical_plain : is_live (slots n) ≡ true → is_plain (place_of (slots n)) ≡ true → (p : ℕ) → logical s slots n p ≡ row p
   logical_plain live plain p = logical_live live p ∙ counted_plain (place_of (slots n)) row plain p
 
-  pub logical_beside : is_live (slots n) ≡ true → (p : ℕ) → p ≢ page_number PFTEMP → logical s slots n p ≡ row p
-  logical_beside live p ne = logical_live live p ∙ counted_elsewhere (place_of (slots n)) row p ne
+  pub logical_beside : is_live (slots n) ≡ true → (p : ℕ) → p ≢ page_number PFTEMP → is_remapped (place_of (slots n)) p ≡ false →
+      logical s slots n p ≡ row p
+  logical_beside live p ne other = logical_live live p ∙ counted_elsewhere (place_of (slots n)) row p ne other
 
 -- The rows of a slot count as they did where its space has the same row, and it stands where it stood.
 pub logical_alike : (s t : SpacesState) (slots after : ℕ → Slot) (n : ℕ) → is_live (after n) ≡ is_live (slots n) →

@@ -33,16 +33,16 @@ use Rattle.lib_os.specs.LibrarySteps.{gone_back}
 use Rattle.lib_os.specs.Places.{place_in_words, handler_step_in, place_of, words_at, is_handlers}
 use Rattle.lib_os.specs.Services.{service_of}
 use Rattle.lib_os.specs.Rows.{Names, rows_of, page_by, is_programs, is_shared, is_cow, may_write}
-use Rattle.lib_os.specs.StandsFor.{StandsFor, StandsForBorn, StandsAt, view_of, upcall_at}
+use Rattle.lib_os.specs.StandsFor.{StandsFor, StandsForBorn, StandsAt, view_of, upcall_at, borne_in}
 use Rattle.lib_os.specs.StandsFor.{IsAboutToWait, destination_of, IsReceiving, kind_by, HasReceived, waits, has}
 use Rattle.lib_os.proofs.Answering.{back_stands}
 use Rattle.lib_os.proofs.BytesRead.{users_inside}
 use Rattle.lib_os.proofs.Effects.{Given}
 use Rattle.lib_os.proofs.EntriesStand.{seen_by}
-use Rattle.lib_os.proofs.Logical.{is_plain, page_inside_programs}
+use Rattle.lib_os.proofs.Logical.{is_plain, unborne_plain, page_inside_programs}
 use Rattle.lib_os.proofs.PagesStand.{given_stands}
 use Rattle.lib_os.proofs.Sends.{received_in, with_message}
-use Rattle.lib_os.proofs.Serving.{service_step, step_in, plain_upcall, plain_copy, plain_counts, library_moved}
+use Rattle.lib_os.proofs.Serving.{service_step, step_in, plain_upcall, plain_copy, library_moved}
 use Rattle.lib_os.proofs.SlotsStand.{minds_page, born_at, born_live}
 use Rattle.lib_os.proofs.StatesStand.{slot_changed, slot_was_in_order, stopped_settles}
 use Rattle.lib_os.proofs.Waiters.{IsTaken}
@@ -118,7 +118,7 @@ waiting_own {s = s} {k = k} {b = b} va from id own_part outside about names_it =
     }
 
 pub waits_stand : {names : Names} {s : KernelState} {a : AbstractState} → StandsFor names s a → (n : ℕ) (b : Born) →
-    a.slots n ≡ born b → is_handlers (slot_at s n).registers.esp ≡ false → (va from id : ℕ) → IsAboutToWait (slot_at s n) b va from id →
+    a.slots n ≡ born b → is_handlers (slot_at s n).registers.esp ≡ false → borne_in (place_of (slot_at s n)) ≡ None → (va from id : ℕ) → IsAboutToWait (slot_at s n) b va from id →
     service_of (record (slot_at s n).registers { eax = 9 }) ≡ service.Receive va from →
     StandsFor names
     (with_slot_at s n (record (slot_at s n) {
@@ -127,14 +127,14 @@ pub waits_stand : {names : Names} {s : KernelState} {a : AbstractState} → Stan
       extra = words_at 9 (step.ReadingValue id);
     }))
     (receive a n b (slot_at s n).registers va from)
-waits_stand {names = names} {s = s} {a = a} h n b is outside va from id about names_it =
+waits_stand {names = names} {s = s} {a = a} h n b is outside unborne va from id about names_it =
     let c : Born = record b { phase = in_service (service.Receive va from) receiving; blocked = true } in
     let first : server_id a ≡ 0x1000 = ap slot_id h.first in
     subst (λ (x : AbstractState). StandsFor names (with_slot_at s n (waiting_in_slot (slot_at s n) va from id)) x)
     (sym (receive_is a n b (slot_at s n).registers va from about.page about.other.0 (λ same. about.other.1 (same ∙ first))))
     (slot_changed h n b is (waiting_in_slot (slot_at s n) va from id) c refl
     (stopped_settles (slot_at s n) (waiting_in_slot (slot_at s n) va from id) refl refl refl)
-    (plain_counts (place_of (slot_at s n)) (handler_runs (slot_at s n).registers (slot_at s n).extra ∙ outside))
+    (unborne_plain (place_of (slot_at s n)) (handler_runs (slot_at s n).registers (slot_at s n).extra ∙ outside) unborne)
     (ap is_plain (waiting_place (slot_at s n) va from id outside names_it))
     (waiting_own va from id (born_at h n b is) outside about names_it))
 
@@ -253,7 +253,7 @@ module _ {names : Names} {s : KernelState} {a : AbstractState} {sp : SpacesState
     (at : a.slots n ≡ born b) (t : ℕ) (c : Born) (there : a.slots t ≡ born c) (taken : IsTaken (slot_at s t) c b.id)
     (value : ℕ) (small : value < 2 ^ 32) (va : ℕ) (inside : is_page_inside va ≡ true) (x : Entry)
     (hx : rows_of s.spaces (slot_at s n).directory (page_number va) ≡ Some x)
-    (passes : (is_shared x.perm || not (may_write x.perm)) ≡ true)
+    (passes : (is_shared x.perm || not (may_write x.perm)) ≡ true) (sends_it : borne_in (place_of (slot_at s n)) ≡ None)
     (given : Given s.spaces sp (slot_at s t).directory (page_number taken.w.va) x)
     (some : va ≢ 0) (wanted : taken.w.va ≢ 0)
     (in_order : IsInOrder (with_message (with_spaces s sp) n t value x.perm)) where
@@ -285,7 +285,7 @@ module _ {names : Names} {s : KernelState} {a : AbstractState} {sp : SpacesState
       ∙ seen_by names s.spaces (slot_at s n).directory (page_number va) x from_programs hx
 
   placed : StandsFor names (with_spaces s sp) (with_born a t with_it)
-  placed = given_stands h n b at va from_programs x page hx passes page_is t c there taken.w.va to_programs given unminded spaces_in_order
+  placed = given_stands h n b at va from_programs x page hx passes page_is sends_it t c there taken.w.va to_programs given unminded spaces_in_order
 
   put_there : (with_born a t with_it).slots t ≡ born with_it
   put_there = upd-at a.slots t (born with_it)
@@ -323,7 +323,8 @@ module _ {names : Names} {s : KernelState} {a : AbstractState} {sp : SpacesState
 -- ---- what came is answered
 
 module _ {names : Names} {s : KernelState} {a : AbstractState} (h : StandsFor names s a) (n : ℕ) (b : Born) (at : a.slots n ≡ born b)
-    (outside : is_handlers (slot_at s n).registers.esp ≡ false) (va from : ℕ) (r : HasReceived (slot_at s n) b va from) where
+    (outside : is_handlers (slot_at s n).registers.esp ≡ false) (unborne : borne_in (place_of (slot_at s n)) ≡ None)
+    (va from : ℕ) (r : HasReceived (slot_at s n) b va from) where
   -- its step
   pub answer_step : abs_step a n ≡ Some (received_answer a n b r.regs r.message)
   unfolding library_step
@@ -348,4 +349,4 @@ module _ {names : Names} {s : KernelState} {a : AbstractState} (h : StandsFor na
       (received_answer a n b r.regs r.message)
   answers_with =
       subst (λ (regs : Regs). StandsFor names (gone_back s n told_regs) (back_with a n b regs)) told_is
-      (back_stands h n b at told_regs r.silent r.awake outside refl refl)
+      (back_stands h n b at told_regs unborne r.silent r.awake outside refl refl)

@@ -1,11 +1,11 @@
 -- Where each frame that is handed out has a use, and no more than one is free, the abstract system wants as many frames: each
 -- stands in a place of a live slot or of a shared page's name, and for each of these places the abstract system wants one.
-use Rattle.std.proofs.Common.{◌≡◌, ◌∙◌, ◌+◌, ◌<◌, ◌≤◌, ◌==◌, ◌||◌, ℕ, zero, suc, Bool, true, false, List, [], ◌∷◌, length, refl, sym}
+use Rattle.std.proofs.Common.{◌≡◌, ◌∙◌, ◌+◌, ◌*◌, ◌/◌, ◌%◌, ◌<◌, ◌≤◌, ◌==◌, ◌||◌, ℕ, zero, suc, Bool, true, false, List, [], ◌∷◌, length, refl, sym}
 use Rattle.std.proofs.Common.{ap, subst, arith}
 use Rattle.std.specs.Prelude.{Option, Some, None, is_some, if◌then◌else◌}
 use Rattle.std.specs.List.{Contains}
 use Rattle.std.specs.Option.{option_map}
-use Rattle.jos_base.specs.declared.numbers.TheConstants.{FIRST_ENV_ID, NENV}
+use Rattle.jos_base.specs.declared.numbers.TheConstants.{FIRST_ENV_ID, NENV, NPTENTRIES}
 use Rattle.jos_base.specs.Counting.{total, page_limit}
 use Rattle.jos_base.specs.Environments.{Slot, bit_of, free_slot, is_live}
 use Rattle.jos_base.specs.KernelState.{KernelState, slot_at}
@@ -15,22 +15,28 @@ use Rattle.jos_base.specs.SystemCalls.{has_write}
 use Rattle.jos_base.specs.Words.{page_number}
 use Rattle.lib_os.specs.declared.numbers.TheConstants.{PFTEMP, UXSTACK}
 use Rattle.lib_os.specs.AbstractState.{AbstractState, Born, Page, own, named, AbstractSlot, free, unborn, born, serving}
+use Rattle.lib_os.specs.declared.place.Place.TheVariants as place
+use Rattle.lib_os.specs.AbstractMemory.{has_page_in}
+use Rattle.lib_os.specs.InOrder.{HasOneUse}
 use Rattle.lib_os.specs.Need.{NeedIsReached, HasUse, in_list, in_entry, as_directory, as_table, EachHasUse, pool_of, need}
-use Rattle.lib_os.specs.Need.{slot_need, born_need}
+use Rattle.lib_os.specs.Need.{slot_need, born_need, parent_need}
 use Rattle.lib_os.specs.LibraryPages.{is_library_region, IsOwnWritable, has_copy}
 use Rattle.lib_os.specs.Need.{server_need, count_below, is_own, someone, born_passes, has_page_of, is_page_of}
 use Rattle.lib_os.specs.Places.{place_of}
-use Rattle.lib_os.specs.Rows.{Names, EntryRow, rows_of, lasting, is_shared, may_write, page_by, page_seen, seen_where, is_programs}
-use Rattle.lib_os.specs.StandsFor.{StandsFor, StandsForSlot, StandsForBorn, StandsForServer}
+use Rattle.lib_os.specs.Rows.{Names, EntryRow, IsNamed, rows_of, lasting, is_shared, may_write, page_by, page_seen, seen_where, is_programs}
+use Rattle.lib_os.specs.StandsFor.{StandsFor, StandsForSlot, StandsForBorn, StandsForServer, StandsForUnborn, IsBorne, is_passed, has_stack}
 use Rattle.std.proofs.lemmas.Bool.{false≢true}
 use Rattle.std.proofs.lemmas.Bool.Decides.{nat_tests}
 use Rattle.std.proofs.lemmas.Option.{none-some, same_Some}
 use Rattle.lib_os.proofs.Covering.{no_more_frames, filled, times_in}
-use Rattle.lib_os.proofs.Logical.{programs_beside, logical_beside}
+use Rattle.lib_os.proofs.BytesRead.{named_inside}
+use Rattle.lib_os.proofs.EntryWords.{row_entry}
+use Rattle.lib_os.proofs.Logical.{is_plain, logical_plain}
+use Rattle.lib_os.proofs.Serving.{words_of_none}
 use Rattle.lib_os.proofs.SlotsStand.{born_at}
 use Rattle.lib_os.proofs.Sums.{is_at, is_at-here, at_most_once}
 use Rattle.jos_base.proofs.Sums.{total-mono, total-less, total-none, total-one, total-sum}
-use Rattle.fs_layout.proofs.Below.{some_below-at}
+use Rattle.fs_layout.proofs.Below.{some_below-at, some_below-none}
 
 -- ---- the places
 
@@ -167,13 +173,99 @@ server_frames a s k id h =
     no_page false p = refl
     no_page true p = ap (λ (o : Option Entry). bit_of (is_some (own_frame o))) (h.empty p)
 
-wanted_frames : (names : Names) (a : AbstractState) (s : SpacesState) (k : Slot) (slot : AbstractSlot) →
-    StandsForSlot names s k slot →
-    slot_frames s k ≤ slot_need a slot
-wanted_frames names a s k (free id) h = let none = ap (slot_frames s) h ∙ free_frames s id in omega (arith, none)
-wanted_frames names a s k (unborn id parent) h = absurd h
-wanted_frames names a s k (born b) h = born_frames names s k b h
-wanted_frames names a s k (serving id) h = let more = server_frames a s k id h in omega (arith, more)
+-- ---- a child that is not born has no more than its parent
+
+-- a region in which a page of the parent lies is one that it ever had a page in, or the library's
+parent_region : (names : Names) (s : SpacesState) (k : Slot) (b : Born) → HasOneUse s → StandsForBorn names s k b → (r : ℕ) →
+    has_page_in b.memory r ≡ true → b.regions r || is_library_region r ≡ true
+parent_region names s k b frames h r has = by_table (is_some (s.regions k.directory r)) refl
+  where
+    by_table : (c : Bool) → is_some (s.regions k.directory r) ≡ c → b.regions r || is_library_region r ≡ true
+    by_table true table = h.regions_only r table
+    by_table false none =
+        absurd (false≢true (sym (some_below-none (λ i. is_some (b.memory (r * NPTENTRIES + i))) NPTENTRIES nothing) ∙ has))
+      where
+        row_none : (i : ℕ) → i < NPTENTRIES → rows_of s k.directory (r * NPTENTRIES + i) ≡ None
+        row_none i lt = by_row (rows_of s k.directory (r * NPTENTRIES + i)) refl
+          where
+            by_row : (o : Option Entry) → rows_of s k.directory (r * NPTENTRIES + i) ≡ o → rows_of s k.directory (r * NPTENTRIES + i) ≡ None
+            by_row None is = is
+            by_row (Some x) is =
+                let e = row_entry s k.directory (r * NPTENTRIES + i) x is in
+                let region : (r * NPTENTRIES + i) / NPTENTRIES ≡ r = omega (arith, lt) in
+                absurd (false≢true (sym none ∙ sym (ap (λ (q : ℕ). is_some (s.regions k.directory q)) region)
+                ∙ frames.regions k.directory (r * NPTENTRIES + i) e.0 e.1))
+
+        seen_none : (inside : Bool) → is_some (seen_where inside None) ≡ false
+        seen_none true = refl
+        seen_none false = refl
+
+        nothing : (i : ℕ) → i < NPTENTRIES → is_some (b.memory (r * NPTENTRIES + i)) ≡ false
+        nothing i lt =
+            ap (λ (x : Option Page). is_some x) (h.memory (r * NPTENTRIES + i))
+            ∙ ap (λ (o : Option Entry). is_some (seen_where (is_programs (r * NPTENTRIES + i)) (option_map (page_by names s.pages) o))) (row_none i lt)
+            ∙ seen_none (is_programs (r * NPTENTRIES + i))
+
+module _ (names : Names) (s : SpacesState) (parent : Slot) (parent_is : AbstractSlot) (k : Slot) (id parent_id : ℕ)
+    (c : IsBorne names s parent parent_is k id parent_id) where
+  child_nothing : (t : Bool) (p : ℕ) → rows_of s k.directory p ≡ None → bit_of (is_some (where_so t (own_frame (rows_of s k.directory p)))) ≡ 0
+  child_nothing false p none = refl
+  child_nothing true p none = ap (λ (o : Option Entry). bit_of (is_some (own_frame o))) none
+
+  child_page : (p : ℕ) → bit_of (is_some (page_of s k p)) ≤ bit_of (is_own (c.b.memory p)) + (is_stack p + is_copy p)
+  child_page p = by_inside (is_programs p) refl
+    where
+      by_stack : (t : Bool) → (page_number UXSTACK == 0 + p) ≡ t → is_programs p ≡ false → bit_of (is_some (page_of s k p)) ≤ bit_of t
+      by_stack true stack outside = bit_small (is_some (page_of s k p))
+      by_stack false stack outside =
+          let none = child_nothing (is_live k) p (c.library.none p outside (grind (arith, nat_tests))) in omega (arith, none)
+
+      by_passed : is_programs p ≡ true → (t : Bool) → is_passed c.step p ≡ t → bit_of (is_some (page_of s k p)) ≤ bit_of (is_own (c.b.memory p))
+      by_passed inside true passed =
+          let seen : page_seen names s k.directory p ≡ option_map (page_by names s.pages) (rows_of s k.directory p) =
+          ap (λ (t : Bool). seen_where t (option_map (page_by names s.pages) (rows_of s k.directory p))) inside in
+          subst (λ (x : Option Page). bit_of (is_some (page_of s k p)) ≤ bit_of (is_own x)) (sym seen ∙ c.passed p inside passed)
+          (so_of_page names s.pages (is_live k) (rows_of s k.directory p))
+      by_passed inside false off = let none = child_nothing (is_live k) p (c.rest p inside off) in omega (arith, none)
+
+      by_inside : (inside : Bool) → is_programs p ≡ inside →
+          bit_of (is_some (page_of s k p)) ≤ bit_of (is_own (c.b.memory p)) + (is_stack p + is_copy p)
+      by_inside true is = let mine = by_passed is (is_passed c.step p) refl in omega (arith, mine)
+      by_inside false is = let beside = by_stack (page_number UXSTACK == 0 + p) refl is in omega (arith, beside)
+
+  child_region : HasOneUse s → StandsForBorn names s parent c.b → (r : ℕ) → is_some (s.regions k.directory r) ≡ true →
+      c.b.regions r || is_library_region r ≡ true
+  child_region frames h r table = by_has (has_page_in c.b.memory r) refl (c.tables r table)
+    where
+      by_has : (t : Bool) → has_page_in c.b.memory r ≡ t → t || is_library_region r ≡ true → c.b.regions r || is_library_region r ≡ true
+      by_has true has is = parent_region names s parent c.b frames h r has
+      by_has false has is = by_region (c.b.regions r)
+        where
+          by_region : (t : Bool) → t || is_library_region r ≡ true
+          by_region true = refl
+          by_region false = is
+
+  child_frames : HasOneUse s → StandsForBorn names s parent c.b → slot_frames s k ≤ born_need c.b
+  child_frames frames h =
+      let one = bit_small (is_some (directory_of k)) in
+      let tables = total-mono region_limit (λ r. bit_of (is_some (table_of s k r))) (λ r. bit_of (c.b.regions r || is_library_region r))
+      (λ r lt. so_of_region (is_live k) (s.regions k.directory r) (c.b.regions r || is_library_region r) (child_region frames h r)) in
+      let pages = total-mono page_limit (λ p. bit_of (is_some (page_of s k p)))
+      (λ p. bit_of (is_own (c.b.memory p)) + (is_stack p + is_copy p)) (λ p lt. child_page p) in
+      let sum = total-sum page_limit (λ p. bit_of (is_own (c.b.memory p))) (λ p. is_stack p + is_copy p) in
+      let beside = two_beside in
+      omega (arith, one, tables, pages, sum, beside)
+
+wanted_frames : (names : Names) (s : KernelState) (a : AbstractState) → StandsFor names s a → (n : ℕ) (slot : AbstractSlot) →
+    a.slots n ≡ slot → StandsForSlot names s.spaces (slot_at s n) slot → slot_frames s.spaces (slot_at s n) ≤ slot_need a slot
+wanted_frames names s a h n (free id) at k = let none = ap (slot_frames s.spaces) k ∙ free_frames s.spaces id in omega (arith, none)
+wanted_frames names s a h n (unborn id parent) at k =
+    let child = h.children.borne n id parent at in
+    let own = born_at h (parent % NENV) child.b child.born_by in
+    subst (λ (x : AbstractSlot). slot_frames s.spaces (slot_at s n) ≤ parent_need x) (sym child.born_by)
+    (child_frames names s.spaces (slot_at s (parent % NENV)) (a.slots (parent % NENV)) (slot_at s n) id parent child h.in_order.frames own)
+wanted_frames names s a h n (born b) at k = born_frames names s.spaces (slot_at s n) b k
+wanted_frames names s a h n (serving id) at k = let more = server_frames a s.spaces (slot_at s n) id k in omega (arith, more)
 
 -- ---- each frame stands in a place
 
@@ -238,18 +330,6 @@ module _ (names : Names) (s : KernelState) (a : AbstractState) (h : StandsFor na
       let one = total-one region_limit r (λ q. is_at (the_row n q) f) lt in
       in_slot n f o.below (omega (arith, here, one))
 
-  -- a slot with a page is an environment's
-  born_here : (n p : ℕ) (e : Entry) → is_live (slot n) ≡ true → rows_of s.spaces (slot n).directory p ≡ Some e →
-      (b : Born) × (a.slots n ≡ born b)
-  born_here n p e live stands = by_slot (a.slots n) refl (h.slots n)
-    where
-      by_slot : (y : AbstractSlot) → a.slots n ≡ y → StandsForSlot names s.spaces (slot n) y → (b : Born) × (a.slots n ≡ born b)
-      by_slot (free id) at k_is = absurd (let e : ◌≡◌ {A = Bool} false true = sym (ap (λ (k : Slot). is_live k) k_is)
-          ∙ live in cc)
-      by_slot (unborn id parent) at k_is = absurd k_is
-      by_slot (born b) at k_is = (b, at)
-      by_slot (serving id) at k_is = absurd (let e : ◌≡◌ {A = Option Entry} None (Some e) = sym (k_is.empty p) ∙ stands in cc)
-
   -- the library's pages are not shared
   own_alone : (row : EntryRow) (p q : ℕ) (e : Entry) → IsOwnWritable row q → p ≡ q → row p ≡ Some e → is_shared e.perm ≡ true → ⊥
   own_alone row p q e mine same stands shared =
@@ -275,6 +355,76 @@ module _ (names : Names) (s : KernelState) (a : AbstractState) (h : StandsFor na
           (λ same. own_alone row p (page_number UXSTACK) e (born_at h n b at).library.stack same stands shared)
           (λ same. no_copy (has_copy (place_of (slot n))) refl same)) ∙ stands))
 
+  -- A shared page that stands in a slot's space is one that an environment has: that of the slot, or the parent of its child.
+  record IsHad (p : ℕ) (e : Entry) : Type 0 where
+    home : ℕ
+    below : home < NENV
+    b : Born
+    at : a.slots home ≡ born b
+    memory : b.memory p ≡ Some (named (names.name e.frame) (has_write e.perm))
+    name : IsNamed names s.spaces.pages a.shared a.next_name e.frame
+
+  -- what is seen of it
+  seen_shared : (n p : ℕ) (e : Entry) → is_programs p ≡ true → rows_of s.spaces (slot n).directory p ≡ Some e → is_shared e.perm ≡ true →
+      page_seen names s.spaces (slot n).directory p ≡ Some (named (names.name e.frame) (has_write e.perm))
+  seen_shared n p e inside stands shared =
+      ap (λ (c : Bool). seen_where c (option_map (page_by names s.spaces.pages) (rows_of s.spaces (slot n).directory p))) inside
+      ∙ ap (option_map (page_by names s.spaces.pages)) stands
+      ∙ ap (λ (t : Bool). Some (if t then named (names.name e.frame) (has_write e.perm) else own (s.spaces.pages e.frame)
+      (may_write e.perm))) shared
+
+  of_child : (n p : ℕ) (e : Entry) → is_live (slot n) ≡ true → rows_of s.spaces (slot n).directory p ≡ Some e → is_shared e.perm ≡ true →
+      (id parent : ℕ) → a.slots n ≡ unborn id parent → StandsForUnborn (slot n) id parent → IsHad p e
+  of_child n p e live stands shared id parent is k = by_inside (is_programs p) refl
+    where
+      child : IsBorne names s.spaces (slot (parent % NENV)) (a.slots (parent % NENV)) (slot n) id parent
+      child = h.children.borne n id parent is
+
+      by_stack : (t : Bool) → has_stack child.step ≡ t → p ≡ page_number UXSTACK → ⊥
+      by_stack true has same =
+          own_alone (rows_of s.spaces (slot n).directory) p (page_number UXSTACK) e (child.library.stack has) same stands shared
+      by_stack false none same =
+          none-some e (sym (child.library.no_stack none) ∙ sym (ap (rows_of s.spaces (slot n).directory) same) ∙ stands)
+
+      guest : place_of (slot n) ≡ place.Guest
+      guest = words_of_none (slot n).registers (slot n).extra k.stack k.words
+
+      by_passed : is_programs p ≡ true → (t : Bool) → is_passed child.step p ≡ t → IsHad p e
+      by_passed inside true passed = record {
+        home = parent % NENV;
+        below = omega arith;
+        b = child.b;
+        at = child.born_by;
+        memory = sym (child.passed p inside passed) ∙ seen_shared n p e inside stands shared;
+        name = h.named n p e (logical_plain s.spaces s.environments.slots n live (ap is_plain guest) p ∙ stands) shared;
+      }
+      by_passed inside false off = absurd (none-some e (sym (child.rest p inside off) ∙ stands))
+
+      by_inside : (inside : Bool) → is_programs p ≡ inside → IsHad p e
+      by_inside true inside = by_passed inside (is_passed child.step p) refl
+      by_inside false outside =
+          absurd (none-some e (sym (child.library.none p outside (λ same. by_stack (has_stack child.step) refl same)) ∙ stands))
+
+  had : (n p : ℕ) (e : Entry) → n < NENV → is_live (slot n) ≡ true → rows_of s.spaces (slot n).directory p ≡ Some e → is_shared e.perm ≡ true →
+      IsHad p e
+  had n p e below live stands shared = by_slot (a.slots n) refl (h.slots n)
+    where
+      by_slot : (y : AbstractSlot) → a.slots n ≡ y → StandsForSlot names s.spaces (slot n) y → IsHad p e
+      by_slot (free id) at k_is = absurd (let e : ◌≡◌ {A = Bool} false true = sym (ap (λ (k : Slot). is_live k) k_is)
+          ∙ live in cc)
+      by_slot (unborn id parent) at k_is = of_child n p e live stands shared id parent at k_is
+      by_slot (born b) at k_is =
+          let inside = shared_inside n p e b at stands shared in
+          record {
+            home = n;
+            below = below;
+            b = b;
+            at = at;
+            memory = k_is.memory p ∙ seen_shared n p e inside stands shared;
+            name = named_inside names s a n b h at p e inside stands shared;
+          }
+      by_slot (serving id) at k_is = absurd (let e : ◌≡◌ {A = Option Entry} None (Some e) = sym (k_is.empty p) ∙ stands in cc)
+
   -- a page of an environment's own, or one that is shared
   page_stands : (n p : ℕ) (e : Entry) → n < NENV → is_live (slot n) ≡ true → p < page_limit →
       rows_of s.spaces (slot n).directory p ≡ Some e →
@@ -291,25 +441,16 @@ module _ (names : Names) (s : KernelState) (a : AbstractState) (h : StandsFor na
           in_slot n e.frame below (omega (arith, here, one))
       by_test true shared =
           let m = names.name e.frame in
-          let found = born_here n p e live stands in
-          let b = found.0 in
-          let inside = shared_inside n p e b found.1 stands shared in
-          let counts = logical_beside s.spaces s.environments.slots n live p (programs_beside p inside).0 in
-          let name = h.named n p e (counts ∙ stands) shared in
-          let memory : b.memory p ≡ Some (named m (has_write e.perm)) =
-          (born_at h n b found.1).memory p
-          ∙ ap (λ (c : Bool). seen_where c (option_map (page_by names s.spaces.pages) (rows_of s.spaces (slot n).directory p))) inside
-          ∙ ap (option_map (page_by names s.spaces.pages)) stands
-          ∙ ap (λ (t : Bool). Some (if t then named m (has_write e.perm) else own (s.spaces.pages e.frame)
-          (may_write e.perm))) shared in
+          let found = had n p e below live stands shared in
           let self : is_page_of m (Some (named m (has_write e.perm))) ≡ true = grind (arith, nat_tests) in
-          let has : has_page_of m b ≡ true = some_below-at (λ q. is_page_of m (b.memory q)) page_limit p lt
-          (ap (is_page_of m) memory ∙ self) in
+          let has : has_page_of m found.b ≡ true = some_below-at (λ q. is_page_of m (found.b.memory q)) page_limit p lt
+          (ap (is_page_of m) found.memory ∙ self) in
           let some : someone a (has_page_of m) ≡ true =
-          some_below-at (λ q. born_passes (has_page_of m) (a.slots q)) NENV n below (ap (born_passes (has_page_of m)) found.1 ∙ has) in
+          some_below-at (λ q. born_passes (has_page_of m) (a.slots q)) NENV found.home found.below
+          (ap (born_passes (has_page_of m)) found.at ∙ has) in
           let here = is_at-here (named_frame names a m) e.frame (names.frame m)
-          (ap (λ (t : Bool). where_so t (Some (names.frame m))) some) name.home in
-          let one = total-one a.next_name m (λ q. is_at (named_frame names a q) e.frame) name.old in
+          (ap (λ (t : Bool). where_so t (Some (names.frame m))) some) found.name.home in
+          let one = total-one a.next_name m (λ q. is_at (named_frame names a q) e.frame) found.name.old in
           omega (arith, here, one)
 
   entry_stands : (d p : ℕ) (e : Entry) → s.spaces.entries d p ≡ Some e → 1 ≤ times e.frame
@@ -332,7 +473,7 @@ module _ (names : Names) (s : KernelState) (a : AbstractState) (h : StandsFor na
   slots_want : 1 + total NENV (λ n. slot_frames s.spaces (slot n)) ≤ total NENV (λ n. slot_need a (a.slots n))
   slots_want =
       total-less NENV 0 1 (λ n. slot_frames s.spaces (slot n)) (λ n. slot_need a (a.slots n)) (omega arith)
-      (λ n lt. wanted_frames names a s.spaces (slot n) (a.slots n) (h.slots n))
+      (λ n lt. wanted_frames names s a h n (a.slots n) refl (h.slots n))
       (subst (λ (y : AbstractSlot). 1 + slot_frames s.spaces (slot 0) ≤ slot_need a y) (sym h.first)
       (server_frames a s.spaces (slot 0) FIRST_ENV_ID (subst (λ (y : AbstractSlot). StandsForSlot names s.spaces (slot 0) y) h.first
       (h.slots 0))))

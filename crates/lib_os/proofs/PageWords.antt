@@ -1,6 +1,6 @@
 -- What the library reads in the pages of its environment: a word of a page that is there is read whole, and so is one of the frame of a
 -- page fault.
-use Rattle.std.proofs.Common.{◌≡◌, ◌≢◌, ◌∙◌, ◌+◌, ◌-◌, ◌*◌, ◌%◌, ◌^◌, ◌<◌, ℕ, zero, suc, true, List, [], ◌∷◌, length}
+use Rattle.std.proofs.Common.{◌≡◌, ◌≢◌, ◌∙◌, ◌+◌, ◌-◌, ◌*◌, ◌%◌, ◌^◌, ◌<◌, ℕ, zero, suc, true, false, List, [], ◌∷◌, length}
 use Rattle.std.proofs.Common.{refl, ap, arith, get_or}
 use Rattle.std.proofs.lemmas.Bool.Decides.{nat_tests}
 use Rattle.std.proofs.lemmas.Nat.{from_le_bytes-to_le_bytes_4}
@@ -32,7 +32,11 @@ use Rattle.lib_os.specs.UserCalls.{accessing, giving, load, user_word}
 use Rattle.lib_os.proofs.BytesRead.{lasting_reads}
 use Rattle.lib_os.proofs.EntryWords.{row_entry}
 use Rattle.lib_os.proofs.Handled.{IsHandled}
-use Rattle.lib_os.proofs.Logical.{logical_beside}
+use Rattle.lib_os.specs.declared.place.Place.{Place}
+use Rattle.lib_os.specs.declared.place.Place.TheVariants as place
+use Rattle.lib_os.specs.Places.{place_of}
+use Rattle.lib_os.proofs.Logical.{is_remapped, logical_beside}
+use Rattle.lib_os.proofs.WordsTell.{handler_runs, is_in_handler}
 use Rattle.lib_os.proofs.SlotsStand.{born_live}
 use Rattle.lib_os.proofs.Touching.{touched_quiet}
 use Rattle.lib_os.proofs.WindowWords.{read_at}
@@ -158,6 +162,12 @@ frame_word_is v esp fault regs frame i lt small =
         let place : PGSIZE - frame_size + 4 * i + k ≡ PGSIZE - frame_size + (4 * i + k) = omega arith in
         ap (slice_index (v.bytes frame.entry.frame)) place ∙ frame.bytes (4 * i + k) (omega arith)
 
+-- while its handler runs nothing is mapped onto itself
+is_handlers_page : (at : Place) (p : ℕ) → is_in_handler at ≡ true → is_remapped at p ≡ false
+is_handlers_page (place.InHandler step) p inside = refl
+is_handlers_page place.Guest p inside = refl
+is_handlers_page (place.InService s step) p inside = absurd (let contradiction : false ≡ true = inside in cc)
+
 module _ {names : Names} {s : KernelState} {a : AbstractState} (h : StandsFor names s a) (n : ℕ) (step : HandlerStep)
     (v : IsHandled names s a n step) where
   -- Its handler reads a word of the frame.
@@ -167,7 +177,9 @@ module _ {names : Names} {s : KernelState} {a : AbstractState} (h : StandsFor na
       let frame = v.at.frame in
       let beside : page_number UXSTACK ≢ page_number PFTEMP = λ same. absurd (omega arith) in
       let counts =
-      logical_beside s.spaces s.environments.slots n (born_live v.own) (page_number UXSTACK) beside ∙ frame.stands in
+      logical_beside s.spaces s.environments.slots n (born_live v.own) (page_number UXSTACK) beside
+      (is_handlers_page (place_of (slot_at s n)) (page_number UXSTACK) (handler_runs (slot_at s n).registers (slot_at s n).extra ∙ v.inside))
+      ∙ frame.stands in
       let user = h.users n (page_number UXSTACK) frame.entry counts in
       let number : page_number (frame_place + 4 * i) ≡ page_number UXSTACK = omega arith in
       let offset : page_offset (frame_place + 4 * i) ≡ PGSIZE - frame_size + 4 * i = omega arith in

@@ -18,10 +18,10 @@ use Rattle.lib_os.specs.InOrder.{IsInOrder}
 use Rattle.lib_os.specs.LibraryPages.{is_library_region}
 use Rattle.lib_os.specs.Places.{place_of}
 use Rattle.lib_os.specs.Rows.{Names, Rows, rows_of, logical, page_by, page_seen, is_programs, is_shared, is_cow, may_write, Agree, IsUsers, IsNamed, IsPage}
-use Rattle.lib_os.specs.StandsFor.{StandsFor, StandsForBorn, view_of}
+use Rattle.lib_os.specs.StandsFor.{StandsFor, StandsForBorn, view_of, borne_in}
 use Rattle.lib_os.proofs.Effects.{Placed, Made, Given, Removed}
 use Rattle.lib_os.proofs.EntriesStand.{PutsRow, rows_put, rows_same, rows_stand, put_is, same_entry, seen_at, seen_own, seen_named, seen_by, seen_none}
-use Rattle.lib_os.proofs.Logical.{is_plain, logical_some, logical_plain, logical_beside, logical_alike, programs_beside}
+use Rattle.lib_os.proofs.Logical.{is_plain, logical_some, logical_plain, logical_beside, logical_alike, programs_beside, StandsAs, plain_unborne, unborne_unremapped}
 use Rattle.lib_os.proofs.PageBytes.{zero_page_whole}
 use Rattle.lib_os.proofs.SlotsStand.{SeenAlike, HasTables, minds_page, unminded_plain, kept_unminded, library_put, page_alike, page_put}
 use Rattle.lib_os.proofs.SlotsStand.{born_at, born_live, live_stands}
@@ -58,7 +58,7 @@ module _ {names after : Names} {s : KernelState} {a : AbstractState} {sp : Space
 
   -- an entry that counts elsewhere stands elsewhere
   pub elsewhere : (m q : ℕ) (x : Entry) → Elsewhere m q n p → logical s.spaces s.environments.slots m q ≡ Some x →
-      Elsewhere (slot_at s m).directory q dir p × (rows_of s.spaces (slot_at s m).directory q ≡ Some x)
+      Elsewhere (slot_at s m).directory q dir p × StandsAs (rows_of s.spaces (slot_at s m).directory q) x
   elsewhere m q x ne hx =
       let found = logical_some s.spaces s.environments.slots m q x hx in
       (by_slot (m == n) refl found.0, found.1)
@@ -67,6 +67,14 @@ module _ {names after : Names} {s : KernelState} {a : AbstractState} {sp : Space
       by_slot true test live same = ne (grind (arith, nat_tests))
       by_slot false test live same =
           absurd (directories_apart h n b at m (grind (arith, nat_tests)) (sym (live_stands h m) ∙ live) same)
+
+  -- and keeps its bytes
+  pub bytes_elsewhere : (m q : ℕ) (x : Entry) → Elsewhere m q n p → logical s.spaces s.environments.slots m q ≡ Some x →
+      sp.pages x.frame ≡ s.spaces.pages x.frame
+  bytes_elsewhere m q x ne hx =
+      let found = elsewhere m q x ne hx in
+      subst (λ (f : ℕ). sp.pages f ≡ s.spaces.pages f) found.1.frame
+      (puts.bytes (slot_at s m).directory q found.1.entry found.0 found.1.stands)
 
   -- Entries count as they did, but for this one, where the environment's count as they stand.
   pub counts_put : is_plain (place_of (slot_at s n)) ≡ true → (m q : ℕ) →
@@ -101,7 +109,8 @@ module _ {names after : Names} {s : KernelState} {a : AbstractState} {sp : Space
       StandsFor after (with_spaces s sp)
       (with_born (record a { shared = shared; next_name = next }) n (record b { memory = upd b.memory p page; regions = regions }))
   puts_stand inside page here regions tables shared next row unminded in_order =
-      space_moves h n b at sp (record b { memory = upd b.memory p page; regions = regions }) shared next others_seen mine
+      space_moves h n b at sp (record b { memory = upd b.memory p page; regions = regions }) shared next
+      (plain_unborne (place_of (slot_at s n)) (unminded_plain (place_of (slot_at s n)) unminded)) others_seen mine
       (rows_same (put (logical s.spaces s.environments.slots) n p v) (logical sp s.environments.slots)
       (counts_put (unminded_plain (place_of (slot_at s n)) unminded)) (rows_put (rows_stand h) row)) in_order
     where
@@ -190,17 +199,20 @@ module _ {names : Names} {s : KernelState} {a : AbstractState} {sp : SpacesState
       IsNamed names s.spaces.pages a.shared a.next_name x.frame → IsNamed after sp.pages shared next x.frame) →
       PutsRow names after s.spaces.pages a.shared sp.pages shared a.next_name next (logical s.spaces s.environments.slots) n p (Some new_entry)
   made_row after named_so shared next new_named old_named = record {
-    bytes = λ m q x ne hx. let found = elsewhere h n b at (made_puts after named_so) m q x ne hx in old_bytes _ q x found.0 found.1;
+    bytes = bytes_elsewhere h n b at (made_puts after named_so);
     agree = λ m q x e ne hx is same.
         let found = elsewhere h n b at (made_puts after named_so) m q x ne hx in
-        absurd (made.new _ q x found.1 (same ∙ ap (λ (y : Entry). y.frame) (sym (same_Some new_entry e is))));
+        absurd (made.new _ q found.1.entry found.1.stands (found.1.frame ∙ same ∙ ap (λ (y : Entry). y.frame) (sym (same_Some new_entry e is))));
     user = λ e is. subst (λ (y : Entry). IsUsers y.perm) (same_Some new_entry e is) is_user;
     whole = λ e is. subst (λ (y : Entry). IsPage (sp.pages y.frame)) (same_Some new_entry e is)
         (subst (λ (l : List ℕ). IsPage l) (sym made.zero) zero_page_whole);
     named_new = λ e is. subst (λ (y : Entry). is_shared y.perm ≡ true → IsNamed after sp.pages shared next y.frame) (same_Some new_entry e is) new_named;
     named_old = λ m q x ne hx shared_page was.
         let found = elsewhere h n b at (made_puts after named_so) m q x ne hx in
-        old_named _ q x found.1 (old_bytes _ q x found.0 found.1) was;
+        let y = found.1.entry in
+        subst (λ (f : ℕ). IsNamed after sp.pages shared next f) found.1.frame
+        (old_named _ q y found.1.stands (old_bytes _ q y found.0 found.1.stands)
+        (subst (λ (f : ℕ). IsNamed names s.spaces.pages a.shared a.next_name f) (sym found.1.frame) was));
   }
 
   tables_made : HasTables sp d (upd b.regions (p / NPTENTRIES) true)
@@ -287,6 +299,7 @@ module _ {names : Names} {s : KernelState} {a : AbstractState} {sp : SpacesState
     (at : a.slots n ≡ born b) (from : ℕ) (from_inside : is_programs (page_number from) ≡ true) (x : Entry) (page : Page)
     (hx : rows_of s.spaces (slot_at s n).directory (page_number from) ≡ Some x)
     (passes : (is_shared x.perm || not (may_write x.perm)) ≡ true) (stands : page_at b from ≡ Some page)
+    (unborne : borne_in (place_of (slot_at s n)) ≡ None)
     (m : ℕ) (c : Born) (target_at : a.slots m ≡ born c) (va : ℕ) (inside : is_programs (page_number va) ≡ true)
     (given : Given s.spaces sp (slot_at s m).directory (page_number va) x)
     (unminded : minds_page (place_of (slot_at s m)) ≡ false) (in_order : IsInOrder (with_spaces s sp)) where
@@ -300,6 +313,7 @@ module _ {names : Names} {s : KernelState} {a : AbstractState} {sp : SpacesState
   counts_here : logical s.spaces s.environments.slots n (page_number from) ≡ Some x
   counts_here =
       logical_beside s.spaces s.environments.slots n (born_live (born_at h n b at)) (page_number from) (programs_beside (page_number from) from_inside).0
+      (unborne_unremapped (place_of (slot_at s n)) (page_number from) unborne)
       ∙ hx
 
   given_bytes : (q r : ℕ) (y : Entry) → Elsewhere q r to_space (page_number va) → rows_of s.spaces q r ≡ Some y →
@@ -339,7 +353,7 @@ module _ {names : Names} {s : KernelState} {a : AbstractState} {sp : SpacesState
   given_row : PutsRow names names s.spaces.pages a.shared sp.pages a.shared a.next_name a.next_name (logical s.spaces s.environments.slots) m
       (page_number va) (Some x)
   given_row = record {
-    bytes = λ q r y ne hy. let found = elsewhere h m c target_at given_puts q r y ne hy in given_bytes _ r y found.0 found.1;
+    bytes = bytes_elsewhere h m c target_at given_puts;
     agree = λ q r y e ne hy is same.
         let same_one : x ≡ e = same_Some x e is in
         subst (λ (z : Entry). Agree y.perm z.perm) same_one
@@ -352,8 +366,7 @@ module _ {names : Names} {s : KernelState} {a : AbstractState} {sp : SpacesState
         (λ shared_page. let was = h.named n (page_number from) x counts_here shared_page in
         record { home = was.home; bytes = was.bytes ∙ sym given.same; old = was.old });
     named_old = λ q r y ne hy shared_page was.
-        let found = elsewhere h m c target_at given_puts q r y ne hy in
-        record { home = was.home; bytes = was.bytes ∙ sym (given_bytes _ r y found.0 found.1); old = was.old };
+        record { home = was.home; bytes = was.bytes ∙ sym (bytes_elsewhere h m c target_at given_puts q r y ne hy); old = was.old };
   }
 
   given_seen : Some page ≡ page_seen names sp to_space (page_number va)
@@ -398,14 +411,13 @@ module _ {names : Names} {s : KernelState} {a : AbstractState} {sp : SpacesState
   removed_row : PutsRow names names s.spaces.pages a.shared sp.pages a.shared a.next_name a.next_name (logical s.spaces s.environments.slots) n
       number None
   removed_row = record {
-    bytes = λ m q x ne hx. let found = elsewhere h n b at removed_puts m q x ne hx in kept_bytes _ q x found.0 found.1;
+    bytes = bytes_elsewhere h n b at removed_puts;
     agree = λ m q x e ne hx is same. absurd (none-some e is);
     user = λ e is. absurd (none-some e is);
     whole = λ e is. absurd (none-some e is);
     named_new = λ e is. absurd (none-some e is);
     named_old = λ m q x ne hx shared_page was.
-        let found = elsewhere h n b at removed_puts m q x ne hx in
-        record { home = was.home; bytes = was.bytes ∙ sym (kept_bytes _ q x found.0 found.1); old = was.old };
+        record { home = was.home; bytes = was.bytes ∙ sym (bytes_elsewhere h n b at removed_puts m q x ne hx); old = was.old };
   }
 
   pub removed_stands : StandsFor names (with_spaces s sp) (with_born a n (without_page b va))

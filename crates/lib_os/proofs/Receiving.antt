@@ -1,5 +1,5 @@
 -- Receive, when it begins to wait: the call of the kernel, with the words that are set behind it, is the abstract system's step.
-use Rattle.std.proofs.Common.{◌≡◌, ◌∙◌, ◌%◌, ◌==◌, ◌&&◌, ◌||◌, ℕ, Bool, true, false, not, List, [], ◌∷◌, refl, sym, ap, subst, arith, if◌then◌else◌}
+use Rattle.std.proofs.Common.{◌≡◌, ◌∙◌, ◌%◌, ◌==◌, ◌&&◌, ◌||◌, ℕ, Bool, true, false, not, None, List, [], ◌∷◌, refl, sym, ap, subst, arith, if◌then◌else◌}
 use Rattle.std.specs.Prelude.{nat_lt}
 use Rattle.std.proofs.lemmas.Bool.Decides.{nat_tests}
 use Rattle.jos_base.specs.declared.called.Called.{Called}
@@ -14,10 +14,10 @@ use Rattle.lib_os.specs.declared.service.Service.TheVariants as service
 use Rattle.lib_os.specs.AbstractState.{AbstractState, Born, born}
 use Rattle.lib_os.specs.AbstractMessages.{receive, is_page_or_none}
 use Rattle.lib_os.specs.Fence.{is_page_inside}
-use Rattle.lib_os.specs.Places.{words_at, is_handlers}
+use Rattle.lib_os.specs.Places.{place_of, words_at, is_handlers}
 use Rattle.lib_os.specs.Services.{service_of}
 use Rattle.lib_os.specs.Rows.{Names}
-use Rattle.lib_os.specs.StandsFor.{StandsFor, IsAboutToWait, destination_of}
+use Rattle.lib_os.specs.StandsFor.{StandsFor, IsAboutToWait, destination_of, borne_in}
 use Rattle.lib_os.specs.UserCalls.{CallStep, got, system}
 use Rattle.lib_os.proofs.Calls.{ipc_recv_is, waits_is}
 use Rattle.lib_os.proofs.Fences.{page_inside_aligned}
@@ -55,11 +55,11 @@ recv_is s n va from rest live page =
 
 -- the state behind the call, with the words of the step after it
 pub recv_stands : {names : Names} {s : KernelState} {a : AbstractState} → StandsFor names s a → (n : ℕ) (b : Born) →
-    a.slots n ≡ born b → is_handlers (slot_at s n).registers.esp ≡ false → (va from id : ℕ) (rest : List ℕ) → IsAboutToWait (slot_at s n) b va from id →
+    a.slots n ≡ born b → is_handlers (slot_at s n).registers.esp ≡ false → borne_in (place_of (slot_at s n)) ≡ None → (va from id : ℕ) (rest : List ℕ) → IsAboutToWait (slot_at s n) b va from id →
     service_of (record (slot_at s n).registers { eax = 9 }) ≡ service.Receive va from → (mid : KernelState) →
     mid ≡ (system s n SYS_IPC_RECV (destination_of va ∷ from ∷ rest)).state →
     StandsFor names (with_extra mid n (words_at 9 (step.ReadingValue id))) (receive a n b (slot_at s n).registers va from)
-recv_stands {names = names} {s = s} {a = a} h n b at outside va from id rest about names_it mid is =
+recv_stands {names = names} {s = s} {a = a} h n b at outside unborne va from id rest about names_it mid is =
     let k : Slot = record (slot_at s n) {
       rendezvous = wanting (slot_at s n).rendezvous (destination_of va) from;
       status = NotRunnable;
@@ -69,4 +69,4 @@ recv_stands {names = names} {s = s} {a = a} h n b at outside va from id rest abo
     let after : with_extra mid n (words_at 9 (step.ReadingValue id)) ≡ with_slot_at s n (record k { extra = words_at 9 (step.ReadingValue id) }) =
     ap (λ (x : KernelState). with_extra x n (words_at 9 (step.ReadingValue id))) state ∙ words_put s n k (words_at 9 (step.ReadingValue id)) in
     subst (λ (x : KernelState). StandsFor names x (receive a n b (slot_at s n).registers va from)) (sym after)
-    (waits_stand h n b at outside va from id about names_it)
+    (waits_stand h n b at outside unborne va from id about names_it)

@@ -25,9 +25,9 @@ use Rattle.lib_os.specs.InOrder.{IsInOrder}
 use Rattle.lib_os.specs.LibraryCall.{library_step}
 use Rattle.lib_os.specs.LibrarySteps.{service_answered}
 use Rattle.lib_os.specs.MemoryServices.{lives}
-use Rattle.lib_os.specs.Places.{is_handlers}
+use Rattle.lib_os.specs.Places.{place_of, is_handlers}
 use Rattle.lib_os.specs.Rows.{Names, rows_of, page_by, is_shared, may_write}
-use Rattle.lib_os.specs.StandsFor.{StandsFor, StandsForSlot, MaySendBy, IsTrying}
+use Rattle.lib_os.specs.StandsFor.{StandsFor, StandsForSlot, MaySendBy, IsTrying, borne_in}
 use Rattle.lib_os.proofs.Answering.{back_stands}
 use Rattle.lib_os.proofs.Effects.{Given}
 use Rattle.lib_os.proofs.EntriesStand.{seen_by}
@@ -52,16 +52,21 @@ passes_alike names bytes x = by_sharing (is_shared x.perm)
     by_sharing true = refl
     by_sharing false = refl
 
+-- an environment, or a child that is not born
+pub data IsSomeone (slot : AbstractSlot) : Type 0 where
+  is_born : (c : Born) → slot ≡ born c → IsSomeone slot
+  is_unborn : (id parent : ℕ) → slot ≡ unborn id parent → IsSomeone slot
+
 -- the server is not there to be named by another's id, and a slot that is not live not at all
 who_lives : {names : Names} {s : KernelState} {a : AbstractState} → StandsFor names s a → (t id : ℕ) → is_live (a.slots t) ≡ true →
-    slot_id (a.slots t) ≡ id → id ≢ FIRST_ENV_ID → (c : Born) × (a.slots t ≡ born c)
+    slot_id (a.slots t) ≡ id → id ≢ FIRST_ENV_ID → IsSomeone (a.slots t)
 who_lives {names = names} {s = s} {a = a} h t id live same other = by_slot (a.slots t) refl (h.slots t) live same
   where
     by_slot : (slot : AbstractSlot) → a.slots t ≡ slot → StandsForSlot names s.spaces (slot_at s t) slot → is_live slot ≡ true → slot_id slot ≡ id →
-        (c : Born) × (a.slots t ≡ born c)
+        IsSomeone (a.slots t)
     by_slot (free last) is k lives_in id_is = absurd (let contradiction : false ≡ true = lives_in in cc)
-    by_slot (unborn own_id parent) is k lives_in id_is = absurd k
-    by_slot (born c) is k lives_in id_is = (c, is)
+    by_slot (unborn own_id parent) is k lives_in id_is = is_unborn own_id parent is
+    by_slot (born c) is k lives_in id_is = is_born c is
     by_slot (serving own_id) is k lives_in id_is = absurd (other (sym id_is ∙ k.first))
 
 -- ---- its step
@@ -121,7 +126,7 @@ module _ {names : Names} {s : KernelState} {a : AbstractState} (h : StandsFor na
       named_id = let test = (and_parts (is_live (a.slots t)) (slot_id (a.slots t) == id) there).1 in grind (arith, nat_tests, test)
 
       -- an environment has the id, and it is another
-      pub named_is : (c : Born) × (a.slots t ≡ born c)
+      pub named_is : IsSomeone (a.slots t)
       named_is = who_lives h t id (and_parts (is_live (a.slots t)) (slot_id (a.slots t) == id) there).0 named_id trying.other.1
 
       pub named_other : t ≢ n
@@ -133,17 +138,24 @@ module _ {names : Names} {s : KernelState} {a : AbstractState} (h : StandsFor na
           ∙ ap (λ (x : Bool). if x then sent_to a n b regs t value va (born_in (a.slots t)) else Some (refused a n b regs E_BAD_ENV)) there
           ∙ ap (λ (x : AbstractSlot). sent_to a n b regs t value va (born_in x)) is
 
+      -- a child that is not born waits for nobody
+      pub no_step_unborn : (own_id parent : ℕ) → a.slots t ≡ unborn own_id parent → abs_step a n ≡ None
+      no_step_unborn own_id parent is =
+          tried_is
+          ∙ ap (λ (x : Bool). if x then sent_to a n b regs t value va (born_in (a.slots t)) else Some (refused a n b regs E_BAD_ENV)) there
+          ∙ ap (λ (x : AbstractSlot). sent_to a n b regs t value va (born_in x)) is
+
+      -- where there is no step yet it may wait
+      pub may_wait_yet : abs_step a n ≡ None → (quantum : ℕ) → may_wait a n quantum ≡ true
+      unfolding may_wait
+      may_wait_yet none quantum =
+          ap (λ (x : AbstractSlot). slot_may_wait a n x quantum) at
+          ∙ ap (λ (x : Phase). phase_may_wait a n b x quantum) trying.is_in.phase
+          ∙ (λ i. there i && is_none (none i))
+
       module _ (c : Born) (is : a.slots t ≡ born c) where
         pub no_step_yet : accepts (slot_at s t).rendezvous (slot_at s n).id ≡ false → abs_step a n ≡ None
         no_step_yet off = to_named c is ∙ not_accepted h n b at t c is off regs value va
-
-        -- so that it may wait
-        pub may_wait_yet : accepts (slot_at s t).rendezvous (slot_at s n).id ≡ false → (quantum : ℕ) → may_wait a n quantum ≡ true
-        unfolding may_wait
-        may_wait_yet off quantum =
-            ap (λ (x : AbstractSlot). slot_may_wait a n x quantum) at
-            ∙ ap (λ (x : Phase). phase_may_wait a n b x quantum) trying.is_in.phase
-            ∙ (λ i. there i && is_none (no_step_yet off i))
 
         pub step_to_taken : (taken : IsTaken (slot_at s t) c b.id) → abs_step a n ≡ Some (sent a n b regs t value va c taken.w)
         step_to_taken taken = to_named c is ∙ taken_is_sent a n b regs t value va (slot_at s t) c taken
@@ -152,15 +164,15 @@ module _ {names : Names} {s : KernelState} {a : AbstractState} (h : StandsFor na
 
 -- where its slot is as it was, whatever else is another
 pub answered_stands : {names : Names} {s : KernelState} {a : AbstractState} → StandsFor names s a → (n : ℕ) (b : Born) →
-    a.slots n ≡ born b → (k : Slot) (word : ℕ) → slot_at s n ≡ k → k.rendezvous.receiving ≡ false → b.blocked ≡ false →
-    is_handlers k.registers.esp ≡ false → StandsFor names (service_answered s n word) (answered a n b k.registers word)
-answered_stands {names = names} {s = s} {a = a} h n b at k word same silent awake outside =
+    a.slots n ≡ born b → (k : Slot) (word : ℕ) → slot_at s n ≡ k → borne_in (place_of k) ≡ None → k.rendezvous.receiving ≡ false →
+    b.blocked ≡ false → is_handlers k.registers.esp ≡ false → StandsFor names (service_answered s n word) (answered a n b k.registers word)
+answered_stands {names = names} {s = s} {a = a} h n b at k word same unborne silent awake outside =
     subst (λ (x : Slot). StandsFor names (service_answered s n word) (answered a n b x.registers word)) same
-    (back_stands h n b at (record (slot_at s n).registers { eax = word }) (ap (λ (x : Slot). x.rendezvous.receiving) same ∙ silent) awake
+    (back_stands h n b at (record (slot_at s n).registers { eax = word }) (ap (λ (x : Slot). borne_in (place_of x)) same ∙ unborne) (ap (λ (x : Slot). x.rendezvous.receiving) same ∙ silent) awake
     (ap (λ (x : Slot). is_handlers x.registers.esp) same ∙ outside) refl refl)
 
 module _ {names : Names} {s : KernelState} {a : AbstractState} (h : StandsFor names s a) (n : ℕ) (b : Born) (at : a.slots n ≡ born b)
-    (silent : (slot_at s n).rendezvous.receiving ≡ false) (awake : b.blocked ≡ false) (outside : is_handlers (slot_at s n).registers.esp ≡ false)
+    (unborne : borne_in (place_of (slot_at s n)) ≡ None) (silent : (slot_at s n).rendezvous.receiving ≡ false) (awake : b.blocked ≡ false) (outside : is_handlers (slot_at s n).registers.esp ≡ false)
     (t : ℕ) (ne : t ≢ n) (c : Born) (there : a.slots t ≡ born c) (taken : IsTaken (slot_at s t) c b.id) (value : ℕ) (small : value < 2 ^ 32)
     (va : ℕ) where
   abbrev come : AbstractState
@@ -174,7 +186,7 @@ module _ {names : Names} {s : KernelState} {a : AbstractState} (h : StandsFor na
       StandsFor names (service_answered (with_message s n t value 0) n 0) (sent a n b (slot_at s n).registers t value va c taken.w)
   word_sent none =
       answered_stands (word_alone h n b at t c there taken value small va none) n b still (slot_at s n) 0
-      (slot_kept s t (received_in (slot_at s t) (slot_at s n).id value 0) n (λ e. ne (sym e))) silent awake outside
+      (slot_kept s t (received_in (slot_at s t) (slot_at s n).id value 0) n (λ e. ne (sym e))) unborne silent awake outside
 
   -- a page came with it
   pub page_sent : {sp : SpacesState} → is_page_inside va ≡ true → (x : Entry) → rows_of s.spaces (slot_at s n).directory (page_number va) ≡ Some x →
@@ -184,5 +196,5 @@ module _ {names : Names} {s : KernelState} {a : AbstractState} (h : StandsFor na
       StandsFor names (service_answered (with_message (with_spaces s sp) n t value x.perm) n 0)
       (sent a n b (slot_at s n).registers t value va c taken.w)
   page_sent {sp = sp} inside x hx passes given some wanted in_order =
-      answered_stands (page_stands h n b at t c there taken value small va inside x hx passes given some wanted in_order) n b still (slot_at s n) 0
-      (slot_kept (with_spaces s sp) t (received_in (slot_at s t) (slot_at s n).id value x.perm) n (λ e. ne (sym e))) silent awake outside
+      answered_stands (page_stands h n b at t c there taken value small va inside x hx passes unborne given some wanted in_order) n b still (slot_at s n) 0
+      (slot_kept (with_spaces s sp) t (received_in (slot_at s t) (slot_at s n).id value x.perm) n (λ e. ne (sym e))) unborne silent awake outside

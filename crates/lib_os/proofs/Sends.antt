@@ -162,7 +162,7 @@ module _ (s : KernelState) (n : ℕ) where
 
   module _ (live : is_live (slot_at s n) ≡ true) where
     -- a call that changes another's slot
-    other_is : (q : Regs) (target : ℕ) (slot : Slot) (answer : ℕ) → n ≢ target →
+    pub other_is : (q : Regs) (target : ℕ) (slot : Slot) (answer : ℕ) → n ≢ target →
         called_by n false (slot_at s n).registers (answered (with_slot_at (with_registers s n q) target slot) n answer)
         ≡ giving (with_slot_at s target slot) (Answered answer)
     other_is q target slot answer ne =

@@ -24,7 +24,6 @@ use Rattle.lib_os.specs.LibrarySteps.{GoesOn, NothingRefused, IsLibraryStep}
 use Rattle.lib_os.specs.Places.{place_in_words, place_of, is_handlers}
 use Rattle.lib_os.specs.Rows.{Names, EntryRow, rows_of}
 use Rattle.lib_os.specs.StandsFor.{StandsFor, StandsForSlot, StandsForBorn, StandsAt, StandsAtStep, IsStatusFor, IsIn, view_of, upcall_at}
-use Rattle.lib_os.proofs.Logical.{is_plain}
 use Rattle.lib_os.proofs.WordsTell.{is_in_handler, handler_runs, outside_stack}
 use Rattle.lib_os.specs.UserCalls.{Output, Prints}
 
@@ -55,6 +54,7 @@ pub record IsServed (names : Names) (s : KernelState) (a : AbstractState) (n : �
   pub is : a.slots n ≡ born b
   pub own : StandsForBorn names s.spaces (slot_at s n) b
   pub outside : is_handlers (slot_at s n).registers.esp ≡ false
+  pub place : place_of (slot_at s n) ≡ place.InService service step
   pub at : StandsAtStep (view_of s.spaces (slot_at s n).directory) (slot_at s n) b service step
 
 pub served : {names : Names} {s : KernelState} {a : AbstractState} → StandsFor names s a → (n : ℕ) (service : Service) (step : Step) →
@@ -63,12 +63,13 @@ served {names = names} {s = s} {a = a} h n service step at = by_slot (a.slots n)
   where
     by_slot : (slot : AbstractSlot) → a.slots n ≡ slot → StandsForSlot names s.spaces (slot_at s n) slot → IsServed names s a n service step
     by_slot (free id) is k = absurd (never_served (slot_at s n).registers (slot_at s n).extra service step (ap (λ (x : Slot). x.extra) k) at)
-    by_slot (unborn id parent) is k = absurd k
+    by_slot (unborn id parent) is k = absurd (never_served (slot_at s n).registers (slot_at s n).extra service step k.words at)
     by_slot (born b) is k = record {
       b = b;
       is = is;
       own = k;
       outside = outside_stack (slot_at s n).registers (slot_at s n).extra (place.InService service step) at refl;
+      place = at;
       at = subst (λ (p : Place). StandsAt p (view_of s.spaces (slot_at s n).directory) (slot_at s n) b) at k.at;
     }
     by_slot (serving id) is k = absurd (never_served (slot_at s n).registers (slot_at s n).extra service step k.words at)
@@ -99,12 +100,6 @@ pub plain_copy : (at : Place) → is_in_handler at ≡ false → has_copy at ≡
 plain_copy place.Guest plain = refl
 plain_copy (place.InService s step) plain = refl
 plain_copy (place.InHandler step) plain = absurd (false≢true (sym plain))
-
--- and nothing of it counts otherwise than it stands
-pub plain_counts : (at : Place) → is_in_handler at ≡ false → is_plain at ≡ true
-plain_counts place.Guest plain = refl
-plain_counts (place.InService s step) plain = refl
-plain_counts (place.InHandler step) plain = absurd (false≢true (sym plain))
 
 -- the library's pages are the same at each place at which there is a copy, and at each at which there is none
 pub library_moved : (at after : Place) (row : EntryRow) → has_copy at ≡ has_copy after → LibraryPages at row → LibraryPages after row

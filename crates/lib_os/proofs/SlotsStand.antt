@@ -1,7 +1,7 @@
 -- A slot of the kernel's goes on standing for one of the abstract system while nothing that is seen of it changes: where it
 -- stands in a service or in its handler, its pages, and whether it is live.
 use Rattle.std.proofs.Common.{◌≡◌, ◌≢◌, ◌∙◌, ◌||◌, ℕ, ◌/◌, Bool, true, false, not, List, refl, sym, ap, subst, if◌then◌else◌}
-use Rattle.std.specs.Prelude.{Option, Some, None, is_some}
+use Rattle.std.specs.Prelude.{Option, Some, None, is_none, is_some}
 use Rattle.std.specs.Option.{option_map}
 use Rattle.jos_base.specs.declared.environment.Status.{Status}
 use Rattle.jos_base.specs.declared.environment.Status.TheVariants.{Runnable, Running, NotRunnable}
@@ -31,6 +31,7 @@ use Rattle.lib_os.specs.Rows.{Names, EntryRow, rows_of, page_by, page_seen, seen
 use Rattle.lib_os.specs.StandsInHandler.{IsAtGuest, IsToCopy, IsCopiedTo, HasWord, IsMappedTwice, CopiesAt}
 use Rattle.lib_os.specs.StandsInHandler.{CopiesOrEnds, copies, ends, IsInHandler, is_refused_by, is_write}
 use Rattle.lib_os.specs.StandsFor.{StandsFor, StandsForSlot, StandsForBorn, StandsAt, StandsAtStep, view_of, IsStatusFor, MaySend}
+use Rattle.lib_os.specs.StandsFor.{borne_in, IsMapping, IsRemapping}
 use Rattle.lib_os.specs.StandsFor.{IsIn, IsTrying, IsWaiting, IsLooking, IsAboutToWait, IsReceiving, HasReceived, WaitsOrHas, waits, has}
 use Rattle.lib_os.proofs.Logical.{is_plain, programs_beside}
 use Rattle.lib_os.proofs.WordsTell.{is_in_handler}
@@ -38,22 +39,22 @@ use Rattle.jos_base.proofs.Maps.{upd-all}
 
 -- ---- what is kept in mind
 
--- a step at which the library keeps in mind what page stands at an address, or that its region has a table
+-- a step at which send keeps in mind what page stands at an address, or that its region has a table
 abbrev pub minds_page_at : Service → Step → Bool
 minds_page_at (service.Send id value va) (step.Trying perm) = true
 minds_page_at (service.Send id value va) (step.Pausing perm) = true
 minds_page_at (service.Send id value va) step.ReadingEntry = true
 minds_page_at _ _ = false
 
--- or a step of the handler, which keeps its stack and its copy in mind
+-- or a step of fork that bears a child, or one of the handler, which keeps its stack and its copy in mind
 abbrev pub minds_page : Place → Bool
 minds_page place.Guest = false
-minds_page (place.InService s stands) = minds_page_at s stands
+minds_page (place.InService s stands) = minds_page_at s stands || is_some (borne_in (place.InService s stands))
 minds_page (place.InHandler stands) = true
 
--- the pages that may be sent may be sent by the row after, too, where that is kept in mind
-abbrev pub SendsBy : Bool → EntryRow → EntryRow → Type 0
-SendsBy minds row after = minds ≡ true → (va perm : ℕ) → MaySend row va perm → MaySend after va perm
+-- the row is the one after, too, where that is kept in mind
+abbrev pub KeepsRow : Bool → EntryRow → EntryRow → Type 0
+KeepsRow minds row after = minds ≡ true → after ≡ row
 
 -- the regions that have tables have them after, too, where that is kept in mind
 abbrev pub KeepsTables : Bool → (ℕ → Bool) → (ℕ → Bool) → Type 0
@@ -68,20 +69,25 @@ pub record ViewAlike (v w : View) : Type 0 where
 abbrev pub KeptAt : Place → View → View → Type 0
 KeptAt place.Guest v w = Unit {0}
 KeptAt (place.InService s stands) v w =
-    SendsBy (minds_page_at s stands) v.row w.row × KeepsTables (minds_page_at s stands) v.tables w.tables
+    KeepsRow (minds_page (place.InService s stands)) v.row w.row × KeepsTables (minds_page (place.InService s stands)) v.tables w.tables
 KeptAt (place.InHandler stands) v w = ViewAlike v w
 
 -- there its entries count as they stand
 pub unminded_plain : (stands : Place) → minds_page stands ≡ false → is_plain stands ≡ true
 unminded_plain place.Guest none = refl
-unminded_plain (place.InService s stands) none = refl
+unminded_plain (place.InService s stands) none = by_parts (minds_page_at s stands) (borne_in (place.InService s stands)) none
+  where
+    by_parts : (c : Bool) (o : Option ℕ) → c || is_some o ≡ false → is_none o ≡ true
+    by_parts false None off = refl
+    by_parts false (Some id) off = absurd (let contradiction : true ≡ false = off in cc)
+    by_parts true o off = absurd (let contradiction : true ≡ false = off in cc)
 unminded_plain (place.InHandler stands) none = absurd (let contradiction : true ≡ false = none in cc)
 
 -- where nothing is kept in mind
 pub kept_unminded : (stands : Place) (v w : View) → minds_page stands ≡ false → KeptAt stands v w
 kept_unminded place.Guest v w none = tt
 kept_unminded (place.InService s stands) v w none = (
-  (λ is va perm h. absurd (let contradiction : true ≡ false = sym is ∙ none in cc)),
+  (λ is. absurd (let contradiction : true ≡ false = sym is ∙ none in cc)),
   (λ is r table. absurd (let contradiction : true ≡ false = sym is ∙ none in cc)),
 )
 kept_unminded (place.InHandler stands) v w none = absurd (let contradiction : true ≡ false = none in cc)
@@ -89,19 +95,13 @@ kept_unminded (place.InHandler stands) v w none = absurd (let contradiction : tr
 -- where the entries and the tables are the same, and the handler does not run
 pub kept_rows : (stands : Place) (v w : View) → is_in_handler stands ≡ false → w.row ≡ v.row → ((r : ℕ) → w.tables r ≡ v.tables r) → KeptAt stands v w
 kept_rows place.Guest v w outside row tables = tt
-kept_rows (place.InService s stands) v w outside row tables = (
-  (λ is va perm h. subst (λ (r : EntryRow). MaySend r va perm) (sym row) h),
-  (λ is r table. tables r ∙ table),
-)
+kept_rows (place.InService s stands) v w outside row tables = ((λ is. row), (λ is r table. tables r ∙ table))
 kept_rows (place.InHandler stands) v w outside row tables = absurd (let contradiction : true ≡ false = outside in cc)
 
 -- where all is alike
 pub kept_alike : (stands : Place) (v w : View) → ViewAlike v w → ((r : ℕ) → w.tables r ≡ v.tables r) → KeptAt stands v w
 kept_alike place.Guest v w same tables = tt
-kept_alike (place.InService s stands) v w same tables = (
-  (λ is va perm h. subst (λ (r : EntryRow). MaySend r va perm) (sym same.row) h),
-  (λ is r table. tables r ∙ table),
-)
+kept_alike (place.InService s stands) v w same tables = ((λ is. same.row), (λ is r table. tables r ∙ table))
 kept_alike (place.InHandler stands) v w same tables = same
 
 -- ---- where it stands in its handler
@@ -180,10 +180,14 @@ module _ (v w : View) (k : Slot) (b : Born) (status : Status) (runs : ℕ) (memo
   guest_kept : IsAtGuest k b → IsAtGuest kernel_slot environment
   guest_kept h = record { program = h.program; phase = h.phase; words = h.words; silent = h.silent; awake = h.awake }
 
-  trying_kept : (id value va perm : ℕ) → SendsBy true v.row w.row → IsTrying v.row k b id value va perm →
+  trying_kept : (id value va perm : ℕ) → w.row ≡ v.row → IsTrying v.row k b id value va perm →
       IsTrying w.row kernel_slot environment id value va perm
-  trying_kept id value va perm sends h =
-      record { is_in = in_kept _ _ h.is_in; some = h.some; other = h.other; page = sends refl va perm h.page }
+  trying_kept id value va perm row h = record {
+    is_in = in_kept _ _ h.is_in;
+    some = h.some;
+    other = h.other;
+    page = subst (λ (r : EntryRow). MaySend r va perm) (sym row) h.page;
+  }
 
   waiting_kept : (id : ℕ) → IsWaiting k b id → IsWaiting kernel_slot environment id
   waiting_kept id h = record { is_in = in_kept _ _ h.is_in; some = h.some; other = h.other }
@@ -222,21 +226,34 @@ module _ (v w : View) (k : Slot) (b : Born) (status : Status) (runs : ℕ) (memo
   waits_kept va from (waits h) = waits (receiving_kept va from h)
   waits_kept va from (has h) = has (received_kept va from h)
 
-  step_kept : (s : Service) (stands : Step) → SendsBy (minds_page_at s stands) v.row w.row →
-      KeepsTables (minds_page_at s stands) v.tables w.tables → StandsAtStep v k b s stands →
+  mapping_kept : (page perm : ℕ) → w.row ≡ v.row → IsMapping v.row page perm → IsMapping w.row page perm
+  mapping_kept page perm row h = subst (λ (r : EntryRow). IsMapping r page perm) (sym row) h
+
+  remapping_kept : (page : ℕ) → w.row ≡ v.row → IsRemapping v.row page → IsRemapping w.row page
+  remapping_kept page row h = subst (λ (r : EntryRow). IsRemapping r page) (sym row) h
+
+  step_kept : (s : Service) (stands : Step) → KeepsRow (minds_page (place.InService s stands)) v.row w.row →
+      KeepsTables (minds_page (place.InService s stands)) v.tables w.tables → StandsAtStep v k b s stands →
       StandsAtStep w kernel_slot environment s stands
-  step_kept s step.Entered sends tables h = in_kept _ _ h
-  step_kept (service.Wait id) (step.Trying perm) sends tables h = waiting_kept id h
-  step_kept (service.Wait id) (step.Pausing perm) sends tables h = waiting_kept id h
-  step_kept (service.Send id value va) (step.Trying perm) sends tables h = trying_kept id value va perm sends h
-  step_kept (service.Send id value va) (step.Pausing perm) sends tables h = trying_kept id value va perm sends h
-  step_kept (service.Send id value va) step.ReadingRegion sends tables h = looking_kept id value va h
-  step_kept (service.Send id value va) step.ReadingEntry sends tables h = (looking_kept id value va h.0, tables refl (page_number va / NPTENTRIES) h.1)
-  step_kept (service.Receive va from) (step.Receiving id) sends tables h = about_kept va from id h
-  step_kept (service.Receive va from) (step.ReadingValue id) sends tables h = (h.0, waits_kept va from h.1)
-  step_kept (service.Receive va from) (step.ReadingSender id value) sends tables h = (h.0, h.1, received_kept va from h.2)
-  step_kept (service.Receive va from) (step.ReadingPerm id value sender) sends tables h = (h.0, h.1, h.2, received_kept va from h.3)
-  step_kept _ _ sends tables h = absurd h
+  step_kept s step.Entered row tables h = in_kept _ _ h
+  step_kept (service.Wait id) (step.Trying perm) row tables h = waiting_kept id h
+  step_kept (service.Wait id) (step.Pausing perm) row tables h = waiting_kept id h
+  step_kept (service.Send id value va) (step.Trying perm) row tables h = trying_kept id value va perm (row refl) h
+  step_kept (service.Send id value va) (step.Pausing perm) row tables h = trying_kept id value va perm (row refl) h
+  step_kept (service.Send id value va) step.ReadingRegion row tables h = looking_kept id value va h
+  step_kept (service.Send id value va) step.ReadingEntry row tables h = (looking_kept id value va h.0, tables refl (page_number va / NPTENTRIES) h.1)
+  step_kept (service.Receive va from) (step.Receiving id) row tables h = about_kept va from id h
+  step_kept (service.Receive va from) (step.ReadingValue id) row tables h = (h.0, waits_kept va from h.1)
+  step_kept (service.Receive va from) (step.ReadingSender id value) row tables h = (h.0, h.1, received_kept va from h.2)
+  step_kept (service.Receive va from) (step.ReadingPerm id value sender) row tables h = (h.0, h.1, h.2, received_kept va from h.3)
+  step_kept service.Fork (step.ForkRegion id region) row tables h = (in_kept _ _ h.0, h.1)
+  step_kept service.Fork (step.ForkEntry id page) row tables h = (in_kept _ _ h.0, h.1, tables refl (page / NPTENTRIES) h.2)
+  step_kept service.Fork (step.MapChild id page perm) row tables h = (in_kept _ _ h.0, mapping_kept page perm (row refl) h.1)
+  step_kept service.Fork (step.Remap id page) row tables h = (in_kept _ _ h.0, remapping_kept page (row refl) h.1)
+  step_kept service.Fork (step.ChildStack id) row tables h = in_kept _ _ h
+  step_kept service.Fork (step.ChildUpcall id) row tables h = in_kept _ _ h
+  step_kept service.Fork (step.ChildRuns id) row tables h = in_kept _ _ h
+  step_kept _ _ row tables h = absurd h
 
   way_kept : ViewAlike v w → (h : HandlerStep) (fault : PageFault) (regs : Regs) → CopiesOrEnds h v k b fault regs →
       CopiesOrEnds h w kernel_slot environment fault regs
@@ -369,14 +386,14 @@ runs_live _ _ h = absurd h
 pub slot_live : (names : Names) (s : SpacesState) (k : Slot) (slot : AbstractSlot) → StandsForSlot names s k slot →
     is_live_slot k ≡ is_live slot
 slot_live names s k (free id) h = ap (λ (x : Slot). is_live_slot x) h
-slot_live names s k (unborn id parent) h = absurd h
+slot_live names s k (unborn id parent) h = ap (λ (x : Status). not (is_free x)) h.status
 slot_live names s k (born b) h = runs_live k.status b.blocked h.runs
 slot_live names s k (serving id) h = ap (λ (x : Status). not (is_free x)) h.status
 
 pub slot_named : (names : Names) (s : SpacesState) (k : Slot) (slot : AbstractSlot) → StandsForSlot names s k slot →
     k.id ≡ slot_id slot
 slot_named names s k (free id) h = ap (λ (x : Slot). x.id) h
-slot_named names s k (unborn id parent) h = absurd h
+slot_named names s k (unborn id parent) h = h.id_is
 slot_named names s k (born b) h = h.id
 slot_named names s k (serving id) h = h.id_is
 
@@ -395,16 +412,16 @@ born_at {names = names} {s = s} h n b at = subst (λ (slot : AbstractSlot). Stan
 
 -- ---- slots
 
-is_none : (o : Option Region) → is_some o ≡ false → o ≡ None
-is_none None is = refl
-is_none (Some region) is = absurd cc
+no_region : (o : Option Region) → is_some o ≡ false → o ≡ None
+no_region None is = refl
+no_region (Some region) is = absurd cc
 
 -- A slot stands for what it stood for while nothing that is seen of its space differs. Of a slot that is not live no space is
 -- seen.
 pub slot_stands : (names after : Names) (s t : SpacesState) (k : Slot) (slot : AbstractSlot) → StandsForSlot names s k slot →
     (is_live slot ≡ true → SeenAlike names after s t k.directory) → StandsForSlot after t k slot
 slot_stands names after s t k (free id) h same = h
-slot_stands names after s t k (unborn id parent) h same = absurd h
+slot_stands names after s t k (unborn id parent) h same = h
 slot_stands names after s t k (born b) h same = born_stands k b (same refl) h
 slot_stands names after s t k (serving id) h same = record {
   first = h.first;
@@ -415,7 +432,7 @@ slot_stands names after s t k (serving id) h same = record {
   words = h.words;
   stack = h.stack;
   empty = λ p. ap (λ (r : EntryRow). r p) (same refl).rows ∙ h.empty p;
-  tables = λ r. is_none (t.regions k.directory r) ((same refl).regions r ∙ ap is_some (h.tables r));
+  tables = λ r. no_region (t.regions k.directory r) ((same refl).regions r ∙ ap is_some (h.tables r));
 }
 
 pub other_stands : (names after : Names) (s t : SpacesState) (k : Slot) (slot : AbstractSlot) → StandsForSlot names s k slot →

@@ -4,17 +4,18 @@ use Rattle.std.proofs.Common.{◌≡◌, ◌==◌, ℕ, true, false, List, [], �
 use Rattle.jos_base.specs.declared.numbers.TheConstants.{FIRST_ENV_ID}
 use Rattle.jos_base.specs.declared.registers.Regs.{Regs}
 use Rattle.jos_base.specs.Counting.{frame_limit, page_limit}
-use Rattle.jos_base.specs.Environments.{zero_registers}
+use Rattle.jos_base.specs.Environments.{no_extra, zero_registers}
 use Rattle.jos_base.specs.SpacesState.{directory, table, page, is_directory, zero_page}
 use Rattle.lib_os.specs.declared.place.Place.TheVariants as place
-use Rattle.lib_os.specs.AbstractState.{born, serving}
+use Rattle.lib_os.specs.AbstractState.{born, serving, at_guest}
 use Rattle.lib_os.specs.Fence.{in_fence}
 use Rattle.lib_os.specs.Places.{place_in_words}
-use Rattle.lib_os.specs.Rows.{IsPage, rows_of}
+use Rattle.lib_os.specs.Rows.{IsPage, counted, rows_of}
 use Rattle.lib_os.specs.StandingLaws.{SomeStateStands}
 use Rattle.lib_os.proofs.Listed.{Spaces, EntryFits, SpacesFit, StateFits, EnvironmentFits, Pair, listed, own_fits, server_slot}
 use Rattle.lib_os.proofs.PageBytes.{zero_page_whole}
 use Rattle.lib_os.proofs.Listed.{server_fits, running_slot, born_in, environment_fits, the_names, state_of, abstract_of, listed_stands}
+use Rattle.lib_os.proofs.Listed.{childless, server_childless, environment_childless}
 
 pub whole : IsPage zero_page
 whole = zero_page_whole
@@ -44,8 +45,8 @@ spaces_fit = record {
   entries = ((own_page, (stack_page, tt)), tt);
   tables = (
     (
-      record { frame_is = refl; small = omega arith; alone = refl },
-      (record { frame_is = refl; small = omega arith; alone = refl }, tt),
+      record { frame_is = refl; directory_is = refl; small = omega arith; alone = refl },
+      (record { frame_is = refl; directory_is = refl; small = omega arith; alone = refl }, tt),
     ),
     tt,
   );
@@ -54,12 +55,13 @@ spaces_fit = record {
 abbrev registers : Regs
 registers = record zero_registers { esp = 0xeebfe000; eip = 0x00800020; eflags = 0x202 }
 
-program_fits : EnvironmentFits spaces 0x1001 21 registers registers place.Guest
-unfolding rows_of in_fence place_in_words
+program_fits : EnvironmentFits spaces 0x1001 21 registers registers no_extra at_guest place.Guest
+unfolding rows_of in_fence place_in_words counted
 program_fits = record {
   id_small = omega arith;
   place_is = refl;
   upcall = refl;
+  counts = λ row p. refl;
   known = (refl, (refl, tt));
   regions = (refl, (refl, tt));
   table = refl;
@@ -73,7 +75,7 @@ program_fits = record {
 
 abbrev pairs : List (ℕ × Pair)
 pairs =
-    (0, (server_slot 20, serving FIRST_ENV_ID)) ∷ (1, (running_slot 0x1001 21 registers, born (born_in spaces 0x1001 21 registers)))
+    (0, (server_slot 20, serving FIRST_ENV_ID)) ∷ (1, (running_slot 0x1001 21 registers no_extra, born (born_in spaces 0x1001 21 registers at_guest)))
     ∷ []
 
 abbrev owner : ℕ → ℕ
@@ -90,7 +92,7 @@ state_fits = record {
   spaces = spaces_fit;
   slots = (
     server_fits spaces owner 20 refl refl refl refl,
-    (environment_fits spaces owner 1 0x1001 21 registers registers place.Guest program_fits refl refl refl, tt),
+    (environment_fits spaces owner 1 0x1001 21 registers registers no_extra at_guest place.Guest program_fits refl refl refl, tt),
   );
   owned = (
     λ is. (0, refl, refl),
@@ -100,6 +102,10 @@ state_fits = record {
     ),
   );
   first = refl;
+  children = childless spaces pairs (
+    server_childless 20,
+    (environment_childless spaces 1 0x1001 21 registers registers no_extra at_guest place.Guest program_fits refl, tt),
+  );
 }
 
 pub some_state_stands : SomeStateStands

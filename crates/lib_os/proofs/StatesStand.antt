@@ -14,14 +14,15 @@ use Rattle.jos_base.specs.SpacesState.{SpacesState, directories}
 use Rattle.lib_os.specs.AbstractState.{AbstractState, Born, AbstractSlot, free, unborn, born, serving, is_live, with_born, with_printed}
 use Rattle.lib_os.specs.InOrder.{HasOneUse, IsInOrder}
 use Rattle.lib_os.specs.Rows.{Names, Rows, EntryRow, rows_of, counted, logical, logical_by}
-use Rattle.lib_os.specs.StandsFor.{StandsFor, StandsForSlot, StandsForBorn, IsStatusFor, IsTabled}
+use Rattle.lib_os.specs.StandsFor.{StandsFor, StandsForSlot, StandsForBorn, IsStatusFor, IsTabled, HasChildren, borne_in}
 use Rattle.lib_os.specs.declared.place.Place.{Place}
 use Rattle.lib_os.specs.Places.{place_of}
 use Rattle.lib_os.proofs.Effects.{Quiet}
 use Rattle.lib_os.proofs.EntriesStand.{RowsStand, rows_stand, rows_same, rows_bytes}
-use Rattle.lib_os.proofs.Logical.{is_plain, counted_plain, logical_alike}
+use Rattle.lib_os.proofs.Children.{KeepsChild, bears_none, stands_still, SameChild, same_child, born_bears_none, children_kept, children_still}
+use Rattle.lib_os.proofs.Logical.{is_plain, plain_unborne, counted_plain, logical_alike}
 use Rattle.lib_os.proofs.SlotsStand.{SeenAlike, slot_stands, born_at, born_live, live_stands, status_born}
-use Rattle.jos_base.proofs.Maps.{upd-other, upd-alike, upd-all, upd-both}
+use Rattle.jos_base.proofs.Maps.{upd-at, upd-other, upd-alike, upd-all, upd-both}
 
 -- ---- one slot
 
@@ -147,6 +148,35 @@ rows_set : {names : Names} {s : KernelState} {a : AbstractState} → StandsFor n
 rows_set {s = s} h n b at k live directory counts =
     rows_same (logical s.spaces s.environments.slots) (logical s.spaces (upd s.environments.slots n k)) (set_counts s n k live directory counts) (rows_stand h)
 
+-- ---- children that are not born
+
+same_space : (names : Names) (sp : SpacesState) (d : ℕ) → SeenAlike names names sp sp d
+same_space names sp d = record {
+  rows = refl;
+  bytes = λ p x is own_page. refl;
+  named_so = λ p x is shared_page. refl;
+  regions = λ r. refl;
+}
+
+-- where only one environment's slot is another
+children_set : {names : Names} {s : KernelState} {a : AbstractState} → StandsFor names s a → (n : ℕ) (b : Born) → a.slots n ≡ born b →
+    (k : Slot) → KeepsChild (slot_at s n) k → HasChildren names s.spaces (upd s.environments.slots n k) a.slots
+children_set {names = names} {s = s} {a = a} h n b at k (bears_none none none_after) =
+    children_kept h.children n (λ m ne. upd-other s.environments.slots n k m ne) (λ m ne. refl)
+    (λ m ne live. same_space names s.spaces (slot_at s m).directory) (born_bears_none (slot_at s n) (a.slots n) b at none)
+    (born_bears_none (upd s.environments.slots n k n) (a.slots n) b at
+    (ap (λ (x : Slot). borne_in (place_of x)) (upd-at s.environments.slots n k) ∙ none_after))
+children_set {names = names} {s = s} h n b at k (stands_still place same) =
+    children_still h.children (upd-alike (λ (x : Slot). place_of x) s.environments.slots n k place)
+    (upd-all (λ m (x : Slot). SameChild (slot_at s m) x) s.environments.slots n k same (λ m ne. same_child (slot_at s m) (slot_at s m) refl))
+    (λ m. refl) (λ m live. same_space names s.spaces (slot_at s m).directory)
+
+-- a slot that only has another status
+status_alike : (k : Slot) (status : Status) (runs : ℕ) → KeepsChild k (record k { status = status; runs = runs })
+status_alike k status runs = stands_still refl (record { registers = refl; upcall = refl; directory = refl })
+
+-- ---- one slot is another
+
 -- the environment in a slot is another, in the same space
 pub slot_changed : {names : Names} {s : KernelState} {a : AbstractState} → StandsFor names s a → (n : ℕ) (b : Born) →
     a.slots n ≡ born b → (k : Slot) (after : Born) → k.directory ≡ (slot_at s n).directory → Settles (slot_at s n) k →
@@ -161,6 +191,11 @@ slot_changed {names = names} {s = s} {a = a} h n b at k after directory settles 
       apart = rows.apart;
       named = rows.named;
       users = rows.users;
+      children = children_kept h.children n (λ m ne. upd-other s.environments.slots n k m ne) (λ m ne. upd-other a.slots n (born after) m ne)
+          (λ m ne live. same_space names s.spaces (slot_at s m).directory)
+          (born_bears_none (slot_at s n) (a.slots n) b at (plain_unborne (place_of (slot_at s n)) plain))
+          (born_bears_none (upd s.environments.slots n k n) (upd a.slots n (born after) n) after (upd-at a.slots n (born after))
+          (ap (λ (x : Slot). borne_in (place_of x)) (upd-at s.environments.slots n k) ∙ plain_unborne (place_of k) plain_after));
       whole = rows.whole;
       free_slots = h.free_slots;
       first = upd-other a.slots n (born after) 0 (born_not_first h n b at) ∙ h.first;
@@ -175,12 +210,14 @@ slot_changed {names = names} {s = s} {a = a} h n b at k after directory settles 
 -- only the kernel's slot is another
 pub slot_replaced : {names : Names} {s : KernelState} {a : AbstractState} → StandsFor names s a → (n : ℕ) (b : Born) →
     a.slots n ≡ born b → (k : Slot) → k.directory ≡ (slot_at s n).directory → Settles (slot_at s n) k →
-    CountsAlike (place_of (slot_at s n)) (place_of k) → StandsForBorn names s.spaces k b → StandsFor names (with_slot_at s n k) a
-slot_replaced {names = names} {s = s} {a = a} h n b at k directory settles counts so =
+    CountsAlike (place_of (slot_at s n)) (place_of k) → KeepsChild (slot_at s n) k → StandsForBorn names s.spaces k b →
+    StandsFor names (with_slot_at s n k) a
+slot_replaced {names = names} {s = s} {a = a} h n b at k directory settles counts bearing so =
     let rows = rows_set h n b at k (born_live so ∙ sym (born_live (born_at h n b at))) directory counts in
     record {
       slots = upd-all (λ m (x : Slot). StandsForSlot names s.spaces x (a.slots m)) s.environments.slots n k
           (subst (λ (y : AbstractSlot). StandsForSlot names s.spaces k y) (sym at) so) (λ m ne. h.slots m);
+      children = children_set h n b at k bearing;
       apart = rows.apart;
       named = rows.named;
       users = rows.users;
@@ -211,12 +248,25 @@ others_stand {names = names} {after = after} {s = s} {a = a} {sp = sp} h n b at 
     slot_stands names after s.spaces sp (slot_at s m) (a.slots m) (h.slots m)
     (λ live. same (slot_at s m).directory (directories_apart h n b at m ne live))
 
+-- nor are children that are borne by others seen to change
+pub children_moved : {names after : Names} {s : KernelState} {a : AbstractState} {sp : SpacesState} → StandsFor names s a →
+    (n : ℕ) (b : Born) → a.slots n ≡ born b → (slots : ℕ → Slot) (c : Born) → borne_in (place_of (slot_at s n)) ≡ None →
+    borne_in (place_of (slots n)) ≡ None → ((m : ℕ) → m ≢ n → slots m ≡ slot_at s m) →
+    ((d : ℕ) → d ≢ (slot_at s n).directory → SeenAlike names after s.spaces sp d) →
+    HasChildren after sp slots (upd a.slots n (born c))
+children_moved {s = s} {a = a} h n b at slots c none none_after same others =
+    children_kept h.children n same (λ m ne. upd-other a.slots n (born c) m ne)
+    (λ m ne live. others (slot_at s m).directory (directories_apart h n b at m ne live))
+    (born_bears_none (slot_at s n) (a.slots n) b at none)
+    (born_bears_none (slots n) (upd a.slots n (born c) n) c (upd-at a.slots n (born c)) none_after)
+
 -- ---- what is printed, and turns
 
 pub printed_stands : {names : Names} {s : KernelState} {a : AbstractState} → StandsFor names s a → (bytes : List ℕ) →
     StandsFor names s (with_printed a bytes)
 printed_stands h bytes = record {
   slots = h.slots;
+  children = h.children;
   apart = h.apart;
   named = h.named;
   users = h.users;
@@ -242,6 +292,7 @@ pub status_stands : {names : Names} {s : KernelState} {a : AbstractState} → St
     a.slots n ≡ born b → b.blocked ≡ false → StandsFor names (with_status s n Runnable) a
 status_stands {s = s} h n b at awake =
     slot_replaced h n b at (record (slot_at s n) { status = Runnable }) refl (runnable_settles (slot_at s n)) (λ row p. refl)
+    (status_alike (slot_at s n) Runnable (slot_at s n).runs)
     (status_born (slot_at s n) b Runnable (slot_at s n).runs (awake_runs b.blocked awake).0 (born_at h n b at))
 
 pub turn_begun_stands : {names : Names} {s : KernelState} {a : AbstractState} → StandsFor names s a → (n : ℕ) (b : Born) →
@@ -255,6 +306,7 @@ turn_begun_stands {names = names} {s = s} {a = a} h n b at awake none =
     record {
       slots = upd-all (λ m (x : Slot). StandsForSlot names s.spaces x (a.slots m)) s.environments.slots n k
           (subst (λ (y : AbstractSlot). StandsForSlot names s.spaces k y) (sym at) own) (λ m ne. h.slots m);
+      children = children_set h n b at k (status_alike (slot_at s n) Running runs);
       apart = rows.apart;
       named = rows.named;
       users = rows.users;
@@ -299,9 +351,11 @@ turn_ended_stands {names = names} {s = s} {a = a} h n = by_running (is_running (
         StandsForSlot names s.spaces (slot_at s n) slot → StandsFor names (with_status s n Runnable) a
     by_slot running (free id) at so =
         absurd (let contradiction : true ≡ false = sym running ∙ ap (λ (x : Slot). is_running x.status) so in cc)
-    by_slot running (unborn id parent) at so = absurd so
+    by_slot running (unborn id parent) at so =
+        absurd (let contradiction : true ≡ false = sym running ∙ ap (λ (x : Status). is_running x) so.status in cc)
     by_slot running (born b) at so =
         slot_replaced h n b at (record (slot_at s n) { status = Runnable }) refl (runnable_settles (slot_at s n)) (λ row p. refl)
+        (status_alike (slot_at s n) Runnable (slot_at s n).runs)
         (status_born (slot_at s n) b Runnable (slot_at s n).runs (running_awake (slot_at s n).status b.blocked so.runs running) so)
     by_slot running (serving id) at so =
         absurd (let contradiction : true ≡ false = sym running ∙ ap (λ (x : Status). is_running x) so.status in cc)
@@ -330,6 +384,8 @@ quiet_stands {names = names} {s = s} {a = a} {sp = sp} h quiet in_order =
     record {
       slots = λ m. slot_stands names names s.spaces sp (slot_at s m) (a.slots m) (h.slots m)
           (λ live. quiet_alike names quiet (slot_at s m).directory);
+      children = children_still h.children (λ m. refl) (λ m. same_child (slot_at s m) (slot_at s m) refl) (λ m. refl)
+          (λ m live. quiet_alike names quiet (slot_at s m).directory);
       apart = rows.apart;
       named = rows.named;
       users = rows.users;
@@ -349,14 +405,17 @@ quiet_stands {names = names} {s = s} {a = a} {sp = sp} h quiet in_order =
 -- The spaces are others, of which only one environment's is seen to change, and its slot with it.
 pub own_moves : {names after : Names} {s : KernelState} {a : AbstractState} → StandsFor names s a → (n : ℕ) (b : Born) →
     a.slots n ≡ born b → (sp : SpacesState) (k : Slot) (c : Born) (shared : ℕ → List ℕ) (next : ℕ) →
-    k.directory ≡ (slot_at s n).directory → Settles (slot_at s n) k →
+    k.directory ≡ (slot_at s n).directory → Settles (slot_at s n) k → borne_in (place_of (slot_at s n)) ≡ None → borne_in (place_of k) ≡ None →
     ((d : ℕ) → d ≢ (slot_at s n).directory → SeenAlike names after s.spaces sp d) → StandsForBorn after sp k c →
     RowsStand after sp.pages shared next (logical sp (upd s.environments.slots n k)) →
     IsInOrder (with_slot_at (with_spaces s sp) n k) →
     StandsFor after (with_slot_at (with_spaces s sp) n k) (with_born (record a { shared = shared; next_name = next }) n c)
-own_moves {names = names} {after = after} {s = s} {a = a} h n b at sp k c shared next directory settles others mine rows in_order = record {
+own_moves {names = names} {after = after} {s = s} {a = a} h n b at sp k c shared next directory settles none none_after others mine rows in_order = record {
   slots = upd-both (λ m (x : Slot) (y : AbstractSlot). StandsForSlot after sp x y) s.environments.slots a.slots n k (born c) mine
       (others_stand h n b at others);
+  children = children_moved h n b at (upd s.environments.slots n k) c none
+      (ap (λ (x : Slot). borne_in (place_of x)) (upd-at s.environments.slots n k) ∙ none_after)
+      (λ m ne. upd-other s.environments.slots n k m ne) others;
   apart = rows.apart;
   named = rows.named;
   users = rows.users;
@@ -373,12 +432,13 @@ own_moves {names = names} {after = after} {s = s} {a = a} h n b at sp k c shared
 
 -- the same where its slot is what it was
 pub space_moves : {names after : Names} {s : KernelState} {a : AbstractState} → StandsFor names s a → (n : ℕ) (b : Born) →
-    a.slots n ≡ born b → (sp : SpacesState) (c : Born) (shared : ℕ → List ℕ) (next : ℕ) →
+    a.slots n ≡ born b → (sp : SpacesState) (c : Born) (shared : ℕ → List ℕ) (next : ℕ) → borne_in (place_of (slot_at s n)) ≡ None →
     ((d : ℕ) → d ≢ (slot_at s n).directory → SeenAlike names after s.spaces sp d) → StandsForBorn after sp (slot_at s n) c →
     RowsStand after sp.pages shared next (logical sp s.environments.slots) → IsInOrder (with_spaces s sp) →
     StandsFor after (with_spaces s sp) (with_born (record a { shared = shared; next_name = next }) n c)
-space_moves {names = names} {after = after} {s = s} {a = a} h n b at sp c shared next others mine rows in_order = record {
+space_moves {names = names} {after = after} {s = s} {a = a} h n b at sp c shared next none others mine rows in_order = record {
   slots = upd-all (λ m (y : AbstractSlot). StandsForSlot after sp (slot_at s m) y) a.slots n (born c) mine (others_stand h n b at others);
+  children = children_moved h n b at s.environments.slots c none none (λ m ne. refl) others;
   apart = rows.apart;
   named = rows.named;
   users = rows.users;

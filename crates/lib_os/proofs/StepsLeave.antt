@@ -1,8 +1,7 @@
 -- What a step leaves, by the call that it makes and what follows it: an answer, words that tell how far it is, or nothing.
-use Rattle.std.proofs.Common.{◌≡◌, ◌∙◌, ◌==◌, ℕ, true, false, List, Result, Ok, Err, refl, sym, subst}
+use Rattle.std.proofs.Common.{◌≡◌, ◌∙◌, ℕ, true, false, List, Result, Ok, Err, refl, sym, subst}
 use Rattle.jos_host.specs.declared.host.Failed.{Failed}
 use Rattle.jos_base.specs.declared.called.Called.{Called}
-use Rattle.jos_base.specs.declared.numbers.TheConstants.{SYS_EXOFORK}
 use Rattle.jos_base.specs.declared.registers.Regs.{Regs}
 use Rattle.jos_base.specs.Environments.{no_extra}
 use Rattle.jos_base.specs.KernelState.{KernelState, slot_at, with_extra}
@@ -21,18 +20,17 @@ pub record Behind (s : KernelState) (n : ℕ) (mid : KernelState) : Type 0 where
   pub left : Left ((slot_at s n).rendezvous.receiving ≡ false) s n mid
   pub used : KeepsUses n s mid
 
-pub behind : (s : KernelState) (n number : ℕ) (args : List ℕ) → (number == SYS_EXOFORK) ≡ false → wakes number ≡ false →
-    Behind s n (system s n number args).state
-behind s n number args no_fork asleep =
-    let h = system_left s n number args no_fork in record {
+pub behind : (s : KernelState) (n number : ℕ) (args : List ℕ) → wakes number ≡ false → Behind s n (system s n number args).state
+behind s n number args asleep =
+    let h = system_left s n number args in record {
       left = record { rest = h.rest; calm = λ silent calm. h.calm (silent, asleep) calm };
       used = λ in_order live each. system_found s n number args in_order live each;
     }
 
-pub behind_call : (s mid : KernelState) (n number : ℕ) (args : List ℕ) (called : Called) (output : Output) → (number == SYS_EXOFORK) ≡ false →
+pub behind_call : (s mid : KernelState) (n number : ℕ) (args : List ℕ) (called : Called) (output : Output) →
     wakes number ≡ false → IsCallStep (system s n number args) (Ok called) mid output → Behind s n mid
-behind_call s mid n number args called output no_fork asleep call =
-    subst (λ (t : KernelState). Behind s n t) (sym call.1) (behind s n number args no_fork asleep)
+behind_call s mid n number args called output asleep call =
+    subst (λ (t : KernelState). Behind s n t) (sym call.1) (behind s n number args asleep)
 
 loaded : (s : KernelState) (n va : ℕ) → Behind s n (load s n va).state
 loaded s n va = record { left = load_left _ s n va; used = λ in_order live each. load_found s n in_order.frames each va }
@@ -46,7 +44,7 @@ behind_load s mid n va word output call = subst (λ (t : KernelState). Behind s 
 pub stays : (s after : KernelState) (n : ℕ) (done : Progress) → Behind s n after → Leaves (Ok done) n s after
 stays s after n done h = (
   h.left.rest,
-  (λ running silent runs. absurd (
+  (λ a stands running silent runs. absurd (
       let contradiction : true ≡ false = sym runs ∙ h.left.calm silent (running_calm (slot_at s n).status running) in cc
       )),
   h.used,
@@ -76,17 +74,17 @@ goes_on s mid after n m words done h is =
 
 -- a step that pauses, and then tries again
 pub pauses_on : (s mid after : KernelState) (n m number : ℕ) (args words : List ℕ) (called : Called) (output : Output) →
-    (number == SYS_EXOFORK) ≡ false → is_pausing (place_of (slot_at s n)) ≡ true →
+    is_pausing (place_of (slot_at s n)) ≡ true →
     IsCallStep (system s n number args) (Ok called) mid output → after ≡ with_extra mid m words → Leaves (Ok progress.Hidden) n s after
-pauses_on s mid after n m number args words called output no_fork pausing call is =
+pauses_on s mid after n m number args words called output pausing call is =
     subst (λ (t : KernelState). Leaves (Ok progress.Hidden) n s t) (sym is) (
       record { last = rest.last; turns = rest.turns; frames = rest.frames; refused = rest.refused; told = rest.told },
-      (λ running silent runs. pausing),
+      (λ a stands running silent runs. pausing),
       used,
     )
   where
     rest : LeavesRest s mid
-    rest = subst (λ (t : KernelState). LeavesRest s t) (sym call.1) (system_left s n number args no_fork).rest
+    rest = subst (λ (t : KernelState). LeavesRest s t) (sym call.1) (system_left s n number args).rest
 
     used : KeepsUses n s mid
     used = subst (λ (t : KernelState). KeepsUses n s t) (sym call.1) (λ in_order live each. system_found s n number args in_order live each)

@@ -15,7 +15,7 @@ use Rattle.jos_base.specs.Reach.{Entry}
 use Rattle.jos_base.specs.SpacesState.{SpacesState}
 use Rattle.jos_base.specs.SystemCalls.{is_page_perm, has_write, shared_entry, entry_at, inserted_at}
 use Rattle.jos_base.specs.Words.{negated, page_number}
-use Rattle.lib_os.specs.AbstractState.{AbstractState, Born, born}
+use Rattle.lib_os.specs.AbstractState.{AbstractState, AbstractSlot, Born, unborn, born}
 use Rattle.lib_os.specs.AbstractMessages.{sent}
 use Rattle.lib_os.specs.AbstractRun.{abs_step, may_wait}
 use Rattle.lib_os.specs.Answers.{refused}
@@ -23,9 +23,9 @@ use Rattle.lib_os.specs.Fence.{is_page_inside}
 use Rattle.lib_os.specs.InOrder.{IsInOrder}
 use Rattle.lib_os.specs.LibrarySteps.{service_answered}
 use Rattle.lib_os.specs.MemoryServices.{lives}
-use Rattle.lib_os.specs.Places.{is_handlers}
+use Rattle.lib_os.specs.Places.{place_of, is_handlers}
 use Rattle.lib_os.specs.Rows.{Names, rows_of, lasting, is_shared, may_write}
-use Rattle.lib_os.specs.StandsFor.{StandsFor, MaySendBy, IsSendable, IsTrying, destination_of}
+use Rattle.lib_os.specs.StandsFor.{StandsFor, StandsForSlot, StandsForUnborn, MaySendBy, IsSendable, IsTrying, destination_of, borne_in}
 use Rattle.lib_os.specs.UserCalls.{Got, got, CallStep, giving, system}
 use Rattle.lib_os.proofs.BytesRead.{users_inside}
 use Rattle.lib_os.proofs.Effects.{Given}
@@ -33,6 +33,7 @@ use Rattle.lib_os.proofs.EntryWords.{row_entry}
 use Rattle.lib_os.proofs.Fences.{page_inside_aligned, page_inside_below}
 use Rattle.lib_os.proofs.Logical.{page_inside_programs}
 use Rattle.lib_os.proofs.Placing.{inserted_given}
+use Rattle.lib_os.proofs.Sending.{IsSomeone, is_born, is_unborn, no_step_unborn, no_step_yet}
 use Rattle.lib_os.proofs.Sending.{nobody_is_there, named_is, named_other, may_wait_yet, step_to_taken, answered_stands, word_sent, page_sent}
 use Rattle.lib_os.proofs.Sends as sends
 use Rattle.lib_os.proofs.Sends.{with_message}
@@ -79,7 +80,8 @@ shared_whole o e x perm stands row bits user =
 module _ {names : Names} {s : KernelState} {a : AbstractState} (h : StandsFor names s a) (n : ℕ) (b : Born) (at : a.slots n ≡ born b)
     (id value va perm : ℕ) (rest : List ℕ)
     (trying : IsTrying (rows_of s.spaces (slot_at s n).directory) (slot_at s n) b id value va perm) (small : value < 2 ^ 32)
-    (outside : is_handlers (slot_at s n).registers.esp ≡ false) (mid : KernelState) (word : ℕ) where
+    (outside : is_handlers (slot_at s n).registers.esp ≡ false) (unborne : borne_in (place_of (slot_at s n)) ≡ None)
+    (mid : KernelState) (word : ℕ) where
   abbrev t : ℕ
   t = id % NENV
 
@@ -123,12 +125,35 @@ module _ {names : Names} {s : KernelState} {a : AbstractState} (h : StandsFor na
         sends.found_is s.environments id n trying.some
         ∙ (λ i. if live_stands h t i && (ids_stand h t i == id) then Some t else None)
 
-    module _ (there : lives a id ≡ true) (c : Born) (is : a.slots t ≡ born c) where
+    module _ (there : lives a id ≡ true) where
       ne : t ≢ n
       ne = named_other h n b at id value va perm trying there
 
       named : found s.environments id n false ≡ Some t
       named = found_is ∙ ap (λ (x : Bool). if x then Some t else None) there
+
+      -- it is not waited for
+      waits_still : accepts (slot_at s t).rendezvous (slot_at s n).id ≡ false → abs_step a n ≡ None → HasTried names s mid a n word
+      waits_still off none =
+          let came = came_to s (negated E_IPC_NOT_RECV)
+          (sends.not_waited_for s n id value (destination_of va) perm rest live idle t named off) in
+          not_yet came.0 came.1 (may_wait_yet h n b at id value va perm trying there none)
+
+      -- a child that is not born waits for nobody
+      by_unborn : (own_id parent : ℕ) → a.slots t ≡ unborn own_id parent → HasTried names s mid a n word
+      by_unborn own_id parent is =
+          let child : StandsForUnborn (slot_at s t) own_id parent =
+          subst (λ (slot : AbstractSlot). StandsForSlot names s.spaces (slot_at s t) slot) is (h.slots t) in
+          waits_still
+          (λ i. child.silent i && (((slot_at s t).rendezvous.wanted == 0) || ((slot_at s t).rendezvous.wanted == (slot_at s n).id)))
+          (no_step_unborn h n b at id value va perm trying there own_id parent is)
+
+    module _ (there : lives a id ≡ true) (c : Born) (is : a.slots t ≡ born c) where
+      apart : t ≢ n
+      apart = ne there
+
+      target : found s.environments id n false ≡ Some t
+      target = named there
 
       module _ (waits : accepts (slot_at s t).rendezvous (slot_at s n).id ≡ true) where
         taken : IsTaken (slot_at s t) c b.id
@@ -144,13 +169,13 @@ module _ {names : Names} {s : KernelState} {a : AbstractState} (h : StandsFor na
             call (destination_of va) ≡ giving (with_message s n t value 0) (Answered 0) → HasTried names s mid a n word
         word_over none call_is =
             over (with_message s n t value 0) 0 call_is (λ e. omega (arith, e)) the_end stepped refl
-            (word_sent h n b at idle awake outside t ne c is taken value small va none)
+            (word_sent h n b at unborne idle awake outside t apart c is taken value small va none)
 
         without_page : va ≡ 0 → HasTried names s mid a n word
         without_page none =
             let above : destination_of va ≡ UTOP = ap destination_of none in
             word_over (ap (λ (x : ℕ). (x == 0) || (taken.w.va == 0)) none)
-            (sends.word_comes s n id value (destination_of va) perm rest live idle t named waits (omega (arith, above)))
+            (sends.word_comes s n id value (destination_of va) perm rest live idle t target waits (omega (arith, above)))
 
         module _ (some : (va == 0) ≡ false) (page : IsSendable (rows_of s.spaces d) va perm) where
           call_is : call (destination_of va) ≡ call va
@@ -176,7 +201,7 @@ module _ {names : Names} {s : KernelState} {a : AbstractState} (h : StandsFor na
               let off : (taken.w.va == 0) ≡ true = ap (λ (x : ℕ). x == 0) none in
               word_over (λ i. some i || off i)
               (call_is
-              ∙ sends.page_not_wanted s n id value va perm rest live idle t named waits below start page.entry given (no_destination taken.so none))
+              ∙ sends.page_not_wanted s n id value va perm rest live idle t target waits below start page.entry given (no_destination taken.so none))
 
           module _ (on : (taken.w.va == 0) ≡ false) where
             somewhere : taken.w.va ≢ 0
@@ -194,12 +219,12 @@ module _ {names : Names} {s : KernelState} {a : AbstractState} (h : StandsFor na
                 HasTried names s mid a n word
             by_spaces None none =
                 let came = came_to (with_refusal s) (negated E_NO_MEM)
-                (call_is ∙ sends.page_has_no_table s n id value va perm rest live idle t named waits below start page.entry given wanted none) in
+                (call_is ∙ sends.page_has_no_table s n id value va perm rest live idle t target waits below start page.entry given wanted none) in
                 no_table (λ e. let same = sym came.0 ∙ e in omega (arith, same)) came.1
             by_spaces (Some sp) put_is =
                 let came_is : call (destination_of va) ≡ giving (with_message (with_spaces s sp) n t value page.entry.perm) (Answered 0) =
                 call_is
-                ∙ sends.page_comes s n id value va perm rest live idle t named waits below start page.entry given wanted sp put_is
+                ∙ sends.page_comes s n id value va perm rest live idle t target waits below start page.entry given wanted sp put_is
                 ∙ ap (λ (x : ℕ). giving (with_message (with_spaces s sp) n t value x) (Answered 0)) page.bits in
                 let ordered : IsInOrder (with_message (with_spaces s sp) n t value page.entry.perm) =
                 subst (λ (x : KernelState). IsInOrder x) (came_to _ 0 came_is).1 in_order in
@@ -210,7 +235,7 @@ module _ {names : Names} {s : KernelState} {a : AbstractState} (h : StandsFor na
                 let passes : (is_shared page.entry.perm || not (may_write page.entry.perm)) ≡ true =
                 subst (λ (x : ℕ). (is_shared x || not (may_write x)) ≡ true) page.bits page.passes in
                 over (with_message (with_spaces s sp) n t value page.entry.perm) 0 came_is (λ e. omega (arith, e)) the_end stepped refl
-                (page_sent h n b at idle awake outside t ne c is taken value small va page.inside page.entry page.stands passes entered_there
+                (page_sent h n b at unborne idle awake outside t apart c is taken value small va page.inside page.entry page.stands passes entered_there
                 (grind (arith, nat_tests, some)) somewhere ordered)
 
           by_wanted : (x : Bool) → (taken.w.va == 0) ≡ x → HasTried names s mid a n word
@@ -224,19 +249,20 @@ module _ {names : Names} {s : KernelState} {a : AbstractState} (h : StandsFor na
       by_waiting : (x : Bool) → accepts (slot_at s t).rendezvous (slot_at s n).id ≡ x → HasTried names s mid a n word
       by_waiting true waits = by_page waits (va == 0) refl trying.page
       by_waiting false off =
-          let came = came_to s (negated E_IPC_NOT_RECV)
-          (sends.not_waited_for s n id value (destination_of va) perm rest live idle t named off) in
-          not_yet came.0 came.1 (may_wait_yet h n b at id value va perm trying there c is off)
+          waits_still there off (no_step_yet h n b at id value va perm trying there c is off)
 
     by_living : (x : Bool) → lives a id ≡ x → HasTried names s mid a n word
     by_living true there =
-        let target = named_is h n b at id value va perm trying there in
-        by_waiting there target.0 target.1 (accepts (slot_at s t).rendezvous (slot_at s n).id) refl
+        by_someone (named_is h n b at id value va perm trying there)
+      where
+        by_someone : IsSomeone (a.slots t) → HasTried names s mid a n word
+        by_someone (is_born c is) = by_waiting there c is (accepts (slot_at s t).rendezvous (slot_at s n).id) refl
+        by_someone (is_unborn own_id parent is) = by_unborn there own_id parent is
     by_living false off =
         let nobody : found s.environments id n false ≡ None = found_is ∙ ap (λ (x : Bool). if x then Some t else None) off in
         over s (negated E_BAD_ENV) (sends.nobody_named s n id value (destination_of va) perm rest live idle nobody) (λ e. omega (arith, e))
         (refused a n b (slot_at s n).registers E_BAD_ENV) (nobody_is_there h n b at id value va perm trying off) refl
-        (answered_stands h n b at (slot_at s n) (negated E_BAD_ENV) refl idle awake outside)
+        (answered_stands h n b at (slot_at s n) (negated E_BAD_ENV) refl unborne idle awake outside)
 
     pub tried : HasTried names s mid a n word
     tried = by_living (lives a id) refl

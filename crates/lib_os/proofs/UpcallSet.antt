@@ -17,11 +17,12 @@ use Rattle.lib_os.specs.Fence.{is_resident}
 use Rattle.lib_os.specs.LibraryPages.{View, HasFrame, has_copy}
 use Rattle.lib_os.specs.Places.{place_of, is_handlers, handler_registers}
 use Rattle.lib_os.specs.Rows.{Names, rows_of}
-use Rattle.lib_os.specs.StandsFor.{StandsFor, StandsForBorn, StandsAt, view_of, upcall_at}
+use Rattle.lib_os.specs.StandsFor.{StandsFor, StandsForBorn, StandsAt, view_of, upcall_at, borne_in}
 use Rattle.lib_os.specs.StandsInHandler.{IsInHandler, Ends, ends}
 use Rattle.lib_os.specs.UserCalls.{asking, called_by, giving, system}
 use Rattle.lib_os.proofs.Calls.{caller_is, given_back, system_is}
 use Rattle.lib_os.proofs.Handled.{IsHandled, eflags_kept, esp_kept, handler_place, handler_slot}
+use Rattle.lib_os.proofs.Children.{bears_none}
 use Rattle.lib_os.proofs.Logical.{is_plain}
 use Rattle.lib_os.proofs.Serving.{library_moved}
 use Rattle.lib_os.proofs.Slots.{registers_put, slot_put}
@@ -130,7 +131,8 @@ module _ {names : Names} {s : KernelState} {a : AbstractState} (h : StandsFor na
     set_stands : StandsFor names (with_slot_at s n after) a
     set_stands =
         slot_replaced h n v.b v.is after refl (record { id = refl; env_type = refl; calm = λ runs. runs })
-        (plain_alike (place_of k) (place_of after) (ap is_plain stands) (ap is_plain there)) own
+        (plain_alike (place_of k) (place_of after) (ap is_plain stands) (ap is_plain there))
+        (bears_none (ap borne_in stands) (ap borne_in there)) own
 
     pub unset_stands : StandsFor names (with_registers (with_upcall s n 0) n (handler_registers (slot_at (with_upcall s n 0) n).registers to)) a
     unset_stands =

@@ -51,6 +51,7 @@ follows_kept s t f h = record {
       let one = f.regions d r x is in
       let two = f.regions e q y is_too in
       h.tables_apart d r e q one.0 two.0 one.1 two.1 (sym one.2 ∙ same ∙ two.2);
+  region_owners = λ d r region is. let x = f.regions d r region is in (λ i. f.uses i d) ∙ h.region_owners d r x.0 x.1;
   free_list = subst (AreFree t.uses) (sym f.free) (subst (λ (u : ℕ → Use). AreFree u s.free) (sym f.uses) h.free_list);
 }
 
@@ -135,6 +136,7 @@ stored_kept s d va byte h = by_outcome (reach_in s d va Write)
       regions = h.regions;
       tables = h.tables;
       tables_apart = h.tables_apart;
+      region_owners = h.region_owners;
       free_list = h.free_list;
     }
     by_outcome (Err fault) = h

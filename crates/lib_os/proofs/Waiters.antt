@@ -21,7 +21,7 @@ use Rattle.lib_os.specs.AbstractMessages.{Receiver, waiting_at, waiting_in, take
 use Rattle.lib_os.specs.LibraryPages.{View}
 use Rattle.lib_os.specs.Places.{place_of}
 use Rattle.lib_os.specs.Rows.{Names}
-use Rattle.lib_os.specs.StandsFor.{StandsFor, StandsAt, StandsAtStep, view_of, IsIn, IsReceiving, HasReceived}
+use Rattle.lib_os.specs.StandsFor.{StandsFor, StandsAt, StandsAtStep, view_of, IsIn, IsReceiving, HasReceived, IsBearing}
 use Rattle.lib_os.specs.StandsFor.{WaitsOrHas, waits, has, destination_of}
 use Rattle.lib_os.specs.StandsInHandler.{CopiesOrEnds, copies, ends}
 use Rattle.lib_os.proofs.SlotsStand.{born_at}
@@ -48,6 +48,9 @@ entered_only _ = refl
 in_silence : {k : Slot} {c : Born} (s : Service) → IsIn k c s entered → WaitsNot k c
 in_silence s h = record { silent = h.silent; nowhere = ap (λ (p : Phase). waiting_in p) h.phase ∙ entered_only s }
 
+bearing_silent : {k : Slot} {c : Born} (id : ℕ) → IsBearing k c id → WaitsNot k c
+bearing_silent id h = record { silent = h.silent; nowhere = ap (λ (p : Phase). waiting_in p) h.phase }
+
 has_come : {k : Slot} {c : Born} {va from : ℕ} → HasReceived k c va from → WaitsNot k c
 has_come h = record { silent = h.silent; nowhere = ap (λ (p : Phase). waiting_in p) h.phase }
 
@@ -68,6 +71,13 @@ at_step v k c (service.Receive va from) (step.ReadingValue id) h = by_message h.
     by_message (has come) = inl (has_come come)
 at_step v k c (service.Receive va from) (step.ReadingSender id value) h = inl (has_come h.2)
 at_step v k c (service.Receive va from) (step.ReadingPerm id value sender) h = inl (has_come h.3)
+at_step v k c service.Fork (step.ForkRegion id region) h = inl (bearing_silent id h.0)
+at_step v k c service.Fork (step.ForkEntry id page) h = inl (bearing_silent id h.0)
+at_step v k c service.Fork (step.MapChild id page perm) h = inl (bearing_silent id h.0)
+at_step v k c service.Fork (step.Remap id page) h = inl (bearing_silent id h.0)
+at_step v k c service.Fork (step.ChildStack id) h = inl (bearing_silent id h)
+at_step v k c service.Fork (step.ChildUpcall id) h = inl (bearing_silent id h)
+at_step v k c service.Fork (step.ChildRuns id) h = inl (bearing_silent id h)
 at_step v k c _ _ h = absurd h
 
 -- its page is copied, or it is on the way to its end

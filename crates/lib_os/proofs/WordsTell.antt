@@ -33,6 +33,14 @@ place_at regs number at outside =
     by_step (step.ReadingValue id) some back = rw (outside, some, back) refl
     by_step (step.ReadingSender id value) some back = rw (outside, some, back) refl
     by_step (step.ReadingPerm id value sender) some back = rw (outside, some, back) refl
+    by_step (step.ForkRegion id region) some back = rw (outside, some, back) refl
+    by_step (step.ForkEntry id page) some back = rw (outside, some, back) refl
+    by_step (step.MapChild id page perm) some back = rw (outside, some, back) refl
+    by_step (step.Remap id page) some back = rw (outside, some, back) refl
+    by_step (step.ChildStack id) some back = rw (outside, some, back) refl
+    by_step (step.ChildUpcall id) some back = rw (outside, some, back) refl
+    by_step (step.ChildRuns id) some back = rw (outside, some, back) refl
+    by_step (step.Undoing id error) some back = rw (outside, some, back) refl
 
 -- ---- the handler's registers
 

@@ -24,6 +24,8 @@ pub record HasOneUse (s : SpacesState) : Type 0 where
   pub tables : (d r : ℕ) (region : Region) → s.regions d r ≡ Some region → (s.uses region.table ≡ table) × (region.table < frame_limit)
   pub tables_apart : (d r e q : ℕ) (x y : Region) → s.regions d r ≡ Some x → s.regions e q ≡ Some y → x.table ≡ y.table →
       (d ≡ e) × (r ≡ q)
+  -- and it is the region of a directory
+  pub region_owners : (d r : ℕ) (region : Region) → s.regions d r ≡ Some region → s.uses d ≡ directory
   pub free_list : AreFree s.uses s.free
 
 -- The kernel's state is in order.

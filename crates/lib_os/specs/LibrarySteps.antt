@@ -1,10 +1,11 @@
 -- What a step of the library promises. Wherever the kernel's state stands for one of the abstract system, the state after
 -- the step stands for the same one, where the step is hidden, or for the one after the slot's step there. Nothing is said
 -- of a step that was refused a frame or a slot.
-use Rattle.std.specs.Prelude.{◌≡◌, ◌<◌, ◌≤◌, ℕ, ◌+◌, ◌-◌, ◌*◌, ◌^◌, ◌++◌, Bool, true, false, List, [], length}
+use Rattle.std.specs.Prelude.{◌≡◌, ◌≢◌, ◌<◌, ◌≤◌, ℕ, ◌+◌, ◌-◌, ◌*◌, ◌/◌, ◌^◌, ◌++◌, Bool, true, false, List, [], length}
 use Rattle.std.specs.Prelude.{Option, Some, None, Result, Ok, Err}
 use Rattle.jos_host.specs.declared.host.Failed.{Failed}
 use Rattle.jos_host.specs.Frames.{Around}
+use Rattle.jos_base.specs.declared.numbers.TheConstants.{NPTENTRIES}
 use Rattle.jos_base.specs.Counting.{page_limit}
 use Rattle.jos_base.specs.declared.registers.Regs.{Regs}
 use Rattle.jos_base.specs.Reach.{Entry}
@@ -79,12 +80,12 @@ is_pausing (place.InService (service.Send id value va) (step.Pausing perm)) = tr
 is_pausing _ = false
 
 -- What a step leaves, whatever it stands for: the last turn and the number of turns, and how many frames there are; where
--- two frames are free, nothing is refused; and that something was refused once stays told.
+-- two frames are free, and a slot, nothing is refused; and that something was refused once stays told.
 pub record LeavesRest (before after : KernelState) : Type 0 where
   pub last : after.last ≡ before.last
   pub turns : after.turns ≡ before.turns
   pub frames : after.spaces.frames ≡ before.spaces.frames
-  pub refused : 2 ≤ length before.spaces.free → after.refusals ≡ before.refusals
+  pub refused : 2 ≤ length before.spaces.free → before.environments.free_slots ≢ [] → after.refusals ≡ before.refusals
   pub told : 0 < before.refusals → 0 < after.refusals
 
 abbrev pub is_yield : Place → Bool
@@ -108,15 +109,18 @@ abbrev pub KeepsUses : ℕ → KernelState → KernelState → Type 0
 KeepsUses n before after =
     IsInOrder before → is_live (slot_at before n) ≡ true → EachHasUse before.spaces → EachHasUse after.spaces
 
--- Where the host failed nothing is said.
+-- Its turn is kept where the state stands for an abstract one. Where the host failed nothing is said.
 abbrev pub Leaves : Result Progress Failed → ℕ → KernelState → KernelState → Type 0
 Leaves (Ok done) n before after =
-    LeavesRest before after × KeepsTurn done (slot_at before n) (slot_at after n) × KeepsUses n before after
+    LeavesRest before after
+    × ((a : AbstractState) → Stands before a → KeepsTurn done (slot_at before n) (slot_at after n))
+    × KeepsUses n before after
 Leaves (Err _) n before after = Unit {0}
 
 -- ---- the number that falls
 
--- How many hidden steps a service may still make, at most, from a step on.
+-- How many hidden steps a service may still make, at most, from a step on. (fork makes three for each page that is there, at most,
+-- and one for each region.)
 abbrev pub steps_left : Step → ℕ
 steps_left step.Entered = 10
 steps_left step.ReadingRegion = 9
@@ -127,6 +131,14 @@ steps_left (step.Receiving id) = 5
 steps_left (step.ReadingValue id) = 4
 steps_left (step.ReadingSender id value) = 3
 steps_left (step.ReadingPerm id value sender) = 2
+steps_left (step.ForkRegion id region) = 3 * ((region + 1) * NPTENTRIES) + (region + 1) + 4
+steps_left (step.ForkEntry id page) = 3 * (page + 1) + page / NPTENTRIES + 4
+steps_left (step.MapChild id page perm) = 3 * page + 2 + page / NPTENTRIES + 4
+steps_left (step.Remap id page) = 3 * page + 1 + page / NPTENTRIES + 4
+steps_left (step.ChildStack id) = 3
+steps_left (step.ChildUpcall id) = 2
+steps_left (step.ChildRuns id) = 1
+steps_left (step.Undoing id error) = 1
 
 -- The same of the handler of page faults, for one fault: a page is loaded and stored word by word.
 abbrev pub handler_steps_left : HandlerStep → ℕ

@@ -21,7 +21,9 @@ use Rattle.lib_os.specs.declared.numbers.TheConstants.{HANDLER_UNSETTING, HANDLE
 use Rattle.lib_os.specs.declared.numbers.TheConstants.{PAGE_WORDS, SERVICES, UXSTACK}
 use Rattle.lib_os.specs.declared.numbers.TheConstants.{STEP_ENTERED, STEP_TRYING, STEP_PAUSING, STEP_READING_REGION}
 use Rattle.lib_os.specs.declared.numbers.TheConstants.{STEP_READING_ENTRY, STEP_RECEIVING, STEP_READING_VALUE}
-use Rattle.lib_os.specs.declared.numbers.TheConstants.{STEP_READING_SENDER, STEP_READING_PERM}
+use Rattle.lib_os.specs.declared.numbers.TheConstants.{STEP_READING_SENDER, STEP_READING_PERM, STEP_FORK_REGION}
+use Rattle.lib_os.specs.declared.numbers.TheConstants.{STEP_FORK_ENTRY, STEP_MAP_CHILD, STEP_REMAP, STEP_CHILD_STACK}
+use Rattle.lib_os.specs.declared.numbers.TheConstants.{STEP_CHILD_UPCALL, STEP_CHILD_RUNS, STEP_UNDOING}
 use Rattle.lib_os.specs.Services.{service_of}
 
 -- ---- places
@@ -53,7 +55,15 @@ step_in words =
     else if n == STEP_RECEIVING then step.Receiving (first_word words)
     else if n == STEP_READING_VALUE then step.ReadingValue (first_word words)
     else if n == STEP_READING_SENDER then step.ReadingSender (first_word words) (second_word words)
-    else step.ReadingPerm (first_word words) (second_word words) (third_word words)
+    else if n == STEP_READING_PERM then step.ReadingPerm (first_word words) (second_word words) (third_word words)
+    else if n == STEP_FORK_REGION then step.ForkRegion (first_word words) (second_word words)
+    else if n == STEP_FORK_ENTRY then step.ForkEntry (first_word words) (second_word words)
+    else if n == STEP_MAP_CHILD then step.MapChild (first_word words) (second_word words) (third_word words)
+    else if n == STEP_REMAP then step.Remap (first_word words) (second_word words)
+    else if n == STEP_CHILD_STACK then step.ChildStack (first_word words)
+    else if n == STEP_CHILD_UPCALL then step.ChildUpcall (first_word words)
+    else if n == STEP_CHILD_RUNS then step.ChildRuns (first_word words)
+    else step.Undoing (first_word words) (second_word words)
 
 -- ESP lies on the stack of the handler of page faults
 abbrev pub is_handlers : ℕ → Bool
@@ -100,6 +110,14 @@ words_at number (step.Receiving id) = place_words number STEP_RECEIVING id 0 0
 words_at number (step.ReadingValue id) = place_words number STEP_READING_VALUE id 0 0
 words_at number (step.ReadingSender id value) = place_words number STEP_READING_SENDER id value 0
 words_at number (step.ReadingPerm id value sender) = place_words number STEP_READING_PERM id value sender
+words_at number (step.ForkRegion id region) = place_words number STEP_FORK_REGION id region 0
+words_at number (step.ForkEntry id page) = place_words number STEP_FORK_ENTRY id page 0
+words_at number (step.MapChild id page perm) = place_words number STEP_MAP_CHILD id page perm
+words_at number (step.Remap id page) = place_words number STEP_REMAP id page 0
+words_at number (step.ChildStack id) = place_words number STEP_CHILD_STACK id 0 0
+words_at number (step.ChildUpcall id) = place_words number STEP_CHILD_UPCALL id 0 0
+words_at number (step.ChildRuns id) = place_words number STEP_CHILD_RUNS id 0 0
+words_at number (step.Undoing id error) = place_words number STEP_UNDOING id error 0
 
 -- the words with which a program's INT 0x40 leaves it; all numbers that name no service are kept as one
 abbrev pub words_entered : Regs → List ℕ

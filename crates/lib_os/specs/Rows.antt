@@ -1,10 +1,10 @@
 -- The pages of address spaces as the library sees them: what an entry is to its environment, and how entries count where they
 -- are counted together, be a page on its way from one place to another.
 -- (MIT 6.828, lib/fork.c: PTE_COW; inc/lib.h: PTE_SHARE.)
-use Rattle.std.specs.Prelude.{◌≡◌, ◌<◌, ℕ, ◌*◌, ◌==◌, ◌||◌, Bool, true, false, List, Option, None, Some}
+use Rattle.std.specs.Prelude.{◌≡◌, ◌<◌, ℕ, ◌+◌, ◌*◌, ◌==◌, ◌||◌, Bool, true, false, List, Option, None, Some}
 use Rattle.std.specs.Prelude.{bit_and, length, slice_index, if◌then◌else◌}
 use Rattle.std.specs.Option.{option_map}
-use Rattle.jos_base.specs.declared.numbers.TheConstants.{PGSIZE, PTE_SYSCALL}
+use Rattle.jos_base.specs.declared.numbers.TheConstants.{PGSIZE, PTE_P, PTE_SYSCALL, PTE_U}
 use Rattle.jos_base.specs.Environments.{Slot, is_live}
 use Rattle.jos_base.specs.Reach.{Entry}
 use Rattle.jos_base.specs.SpacesState.{SpacesState}
@@ -14,6 +14,8 @@ use Rattle.lib_os.specs.declared.numbers.TheConstants.{PFTEMP, PTE_COW, PTE_SHAR
 use Rattle.lib_os.specs.declared.place.HandlerStep.TheVariants as handler
 use Rattle.lib_os.specs.declared.place.Place.{Place}
 use Rattle.lib_os.specs.declared.place.Place.TheVariants as place
+use Rattle.lib_os.specs.declared.place.Step.TheVariants as step
+use Rattle.lib_os.specs.declared.service.Service.TheVariants as service
 use Rattle.lib_os.specs.AbstractState.{Page, own, named}
 use Rattle.lib_os.specs.Fence.{in_fence}
 use Rattle.lib_os.specs.Places.{place_of}
@@ -72,9 +74,18 @@ page_seen names s d p = seen_where (is_programs p) (option_map (page_by names s.
 
 -- ---- entries as they count
 
--- Where the handler of page faults has mapped its copy over the page, what stands where it was made counts no more.
+-- the entry of a page that is copied when it is written
+abbrev pub cow_perm : ℕ
+cow_perm = PTE_P + PTE_U + PTE_COW
+
+abbrev pub as_cow : Entry → Entry
+as_cow e = if is_shared e.perm then e else record e { perm = cow_perm }
+
+-- Where the handler of page faults has mapped its copy over the page, what stands where it was made counts no more. Where fork has
+-- mapped a page into the child and not yet onto itself, it counts as one that is copied when it is written already.
 unfoldable pub counted : Place → EntryRow → EntryRow
 counted (place.InHandler (handler.Unmapping va)) row p = if p == page_number PFTEMP then None else row p
+counted (place.InService service.Fork (step.Remap id page)) row p = if p == page then option_map as_cow (row p) else row p
 counted _ row p = row p
 
 -- of each slot that is live, as they count at its place

@@ -8,10 +8,12 @@ use Rattle.lib_os.specs.declared.place.HandlerStep.{HandlerStep}
 use Rattle.lib_os.specs.declared.place.HandlerStep.TheVariants as handler
 use Rattle.lib_os.specs.declared.place.Place.TheVariants as place
 use Rattle.lib_os.specs.declared.place.Step.{Step}
+use Rattle.lib_os.specs.declared.place.Step.TheVariants as step
+use Rattle.lib_os.specs.declared.service.Service.TheVariants as service
 use Rattle.lib_os.specs.Places.{place_of, place_in_words, words_at, is_handlers, handler_registers}
 use Rattle.lib_os.specs.Services.{service_of}
 use Rattle.jos_base.specs.KernelState.{KernelState, slot_at}
-use Rattle.lib_os.specs.AbstractState.{AbstractState, Page, own, AbstractSlot, born, can_run}
+use Rattle.lib_os.specs.AbstractState.{AbstractState, Page, own, AbstractSlot, unborn, born, can_run}
 use Rattle.lib_os.specs.LibrarySteps.{Stands}
 use Rattle.lib_os.specs.Rows.{rows_of, is_cow}
 
@@ -25,7 +27,8 @@ page_at (born b) p = b.memory p
 page_at _ p = None
 
 -- The environments in slots 1 and 2 have one frame between them, which is copied when it is written. Each sees a page of its own
--- there, which it may write. The second has done so, and its handler of page faults has copied some words, and not yet all.
+-- there, which it may write. The second has done so, and its handler of page faults has copied some words, and not yet all. The first
+-- is in the middle of fork, and its child in slot 3, which is not born, has the page already.
 pub record IsHalfCopied (s : KernelState) (a : AbstractState) : Type 0 where
   pub va : ℕ
   pub index : ℕ
@@ -40,6 +43,12 @@ pub record IsHalfCopied (s : KernelState) (a : AbstractState) : Type 0 where
   pub begun : 0 < index
   pub second_copies : rows_of s.spaces (slot_at s 2).directory (page_number PFTEMP) ≡ Some copy
   pub unfinished : slice_index (s.spaces.pages copy.frame) (4 * index) ≢ slice_index (s.spaces.pages entry.frame) (4 * index)
+  pub id : ℕ
+  pub parent : ℕ
+  pub region : ℕ
+  pub forks : place_of (slot_at s 1) ≡ place.InService service.Fork (step.ForkRegion id region)
+  pub child : a.slots 3 ≡ unborn id parent
+  pub child_has : rows_of s.spaces (slot_at s 3).directory (page_number va) ≡ Some entry
 
 -- Such a state stands for an abstract one too, in which both may run.
 abbrev pub SomeCopyStands : Type 0

@@ -2,12 +2,12 @@
 -- with its registers, its place in a service and its pages; one of each frame, with the entries that name it; and one of
 -- what is there once. Nothing here speaks of steps. (That the library keeps this is what its steps promise, in
 -- `LibrarySteps.antt`. As far as services are built: there are no descriptors and no files.)
-use Rattle.std.specs.Prelude.{◌≡◌, ◌≢◌, ◌<◌, ℕ, ◌/◌, ◌%◌, ◌^◌, ◌==◌, ◌||◌, not, Bool, true, false, is_some, Option, Some, None}
+use Rattle.std.specs.Prelude.{◌≡◌, ◌≢◌, ◌<◌, ◌≤◌, ℕ, ◌+◌, ◌*◌, ◌/◌, ◌%◌, ◌^◌, ◌==◌, ◌||◌, nat_le, nat_lt, not, Bool, true, false, is_some, List, [], ◌∷◌, Option, Some, None}
 use Rattle.std.specs.Prelude.{if◌then◌else◌}
 use Rattle.jos_base.specs.declared.environment.EnvType.TheVariants.{User, FileServer}
 use Rattle.jos_base.specs.declared.environment.Status.{Status}
 use Rattle.jos_base.specs.declared.environment.Status.TheVariants.{Runnable, Running, NotRunnable}
-use Rattle.jos_base.specs.declared.numbers.TheConstants.{FIRST_ENV_ID, NENV, NPTENTRIES, UTOP}
+use Rattle.jos_base.specs.declared.numbers.TheConstants.{FIRST_ENV_ID, NENV, NPTENTRIES, USTACKTOP, UTOP}
 use Rattle.jos_base.specs.declared.registers.Regs.{Regs}
 use Rattle.jos_base.specs.Environments.{Slot, free_slot, no_extra, is_live, is_running}
 use Rattle.jos_base.specs.KernelState.{KernelState, slot_at}
@@ -17,7 +17,7 @@ use Rattle.jos_base.specs.SpacesState.{SpacesState}
 use Rattle.jos_base.specs.SystemCalls.{has_write}
 use Rattle.jos_base.specs.TrapFrames.{user_flags}
 use Rattle.jos_base.specs.Words.{page_number}
-use Rattle.lib_os.specs.declared.numbers.TheConstants.{PGFAULT_UPCALL}
+use Rattle.lib_os.specs.declared.numbers.TheConstants.{PGFAULT_UPCALL, UXSTACK}
 use Rattle.lib_os.specs.declared.place.HandlerStep.TheVariants as handler
 use Rattle.lib_os.specs.declared.place.Place.{Place}
 use Rattle.lib_os.specs.declared.place.Place.TheVariants as place
@@ -26,14 +26,15 @@ use Rattle.lib_os.specs.declared.place.Step.TheVariants as step
 use Rattle.lib_os.specs.declared.service.Service.{Service}
 use Rattle.lib_os.specs.declared.service.Service.TheVariants as service
 use Rattle.lib_os.specs.AbstractState.{AbstractState, Born, AbstractSlot, free, unborn, born, serving, idle}
-use Rattle.lib_os.specs.AbstractState.{Stage, entered, receiving, received, Message, guest, in_service}
+use Rattle.lib_os.specs.AbstractState.{Stage, bearing, entered, receiving, received, Message, guest, in_service}
+use Rattle.lib_os.specs.AbstractMemory.{has_page_in}
 use Rattle.lib_os.specs.AbstractMessages.{is_page_or_none}
 use Rattle.lib_os.specs.Fence.{is_page_inside, is_resident}
 use Rattle.lib_os.specs.InOrder.{IsInOrder}
-use Rattle.lib_os.specs.LibraryPages.{View, LibraryPages, is_library_region}
+use Rattle.lib_os.specs.LibraryPages.{View, IsOwnWritable, LibraryPages, is_library_region, region_index}
 use Rattle.lib_os.specs.Places.{place_of, is_handlers}
-use Rattle.lib_os.specs.Rows.{EntryRow, Names, rows_of, page_seen, logical, is_shared, may_write}
-use Rattle.lib_os.specs.Rows.{AgreeWhereShared, AreNamed, AreUsers, AreWhole}
+use Rattle.lib_os.specs.Rows.{EntryRow, Names, rows_of, page_seen, logical, is_programs, is_shared, may_write, cow_perm}
+use Rattle.lib_os.specs.Rows.{AgreeWhereShared, AreNamed, AreUsers, IsUsers, AreWhole}
 use Rattle.lib_os.specs.StandsInHandler.{IsAtGuest, IsInHandler}
 
 -- ---- an environment at its place
@@ -134,6 +135,36 @@ pub data WaitsOrHas (k : Slot) (b : Born) (va from : ℕ) : Type 0 where
   waits : IsReceiving k b va from → WaitsOrHas k b va from
   has : HasReceived k b va from → WaitsOrHas k b va from
 
+-- ---- fork
+
+-- it bears the child with this id
+abbrev pub IsBearing : Slot → Born → ℕ → Type 0
+IsBearing k b id = IsIn k b service.Fork (bearing (id % NENV))
+
+-- the numbers of pages and regions that fork passes on end here
+abbrev pub top_page : ℕ
+top_page = page_number USTACKTOP
+
+-- the bits with which a page is mapped into the child: a page of its own that may be written is copied when it is
+abbrev pub child_perm : ℕ → ℕ
+child_perm perm = if is_shared perm || not (may_write perm) then perm else cow_perm
+
+-- it has looked at the page, and is about to map it with these bits
+pub record IsMapping (row : EntryRow) (page perm : ℕ) : Type 0 where
+  pub below : page < top_page
+  pub entry : Entry
+  pub stands : row page ≡ Some entry
+  pub bits : perm ≡ child_perm entry.perm
+
+-- the child has the page, which is the environment's own and may be written
+pub record IsRemapping (row : EntryRow) (page : ℕ) : Type 0 where
+  pub below : page < top_page
+  pub entry : Entry
+  pub stands : row page ≡ Some entry
+  pub user : IsUsers entry.perm
+  pub own_page : is_shared entry.perm ≡ false
+  pub writes : may_write entry.perm ≡ true
+
 -- at each step of a service what is so; ⊥ for a step that the service has not
 abbrev pub StandsAtStep : View → Slot → Born → Service → Step → Type 0
 StandsAtStep v k b s step.Entered = IsIn k b s entered
@@ -150,6 +181,14 @@ StandsAtStep v k b (service.Receive va from) (step.ReadingSender id value) =
     (id ≡ k.id) × (value ≡ k.rendezvous.value) × HasReceived k b va from
 StandsAtStep v k b (service.Receive va from) (step.ReadingPerm id value sender) =
     (id ≡ k.id) × (value ≡ k.rendezvous.value) × (sender ≡ k.rendezvous.sender) × HasReceived k b va from
+StandsAtStep v k b service.Fork (step.ForkRegion id region) = IsBearing k b id × (region ≤ region_index USTACKTOP)
+StandsAtStep v k b service.Fork (step.ForkEntry id page) =
+    IsBearing k b id × (page < top_page) × (v.tables (page / NPTENTRIES) ≡ true)
+StandsAtStep v k b service.Fork (step.MapChild id page perm) = IsBearing k b id × IsMapping v.row page perm
+StandsAtStep v k b service.Fork (step.Remap id page) = IsBearing k b id × IsRemapping v.row page
+StandsAtStep v k b service.Fork (step.ChildStack id) = IsBearing k b id
+StandsAtStep v k b service.Fork (step.ChildUpcall id) = IsBearing k b id
+StandsAtStep v k b service.Fork (step.ChildRuns id) = IsBearing k b id
 StandsAtStep v k b _ _ = ⊥
 
 abbrev pub StandsAt : Place → View → Slot → Born → Type 0
@@ -192,6 +231,81 @@ pub record StandsForBorn (names : Names) (s : SpacesState) (k : Slot) (b : Born)
   pub flags : k.registers.eflags ≡ user_flags k.registers.eflags
   pub at : StandsAt (place_of k) (view_of s k.directory) k b
 
+-- ---- a child that is being made
+
+-- the id of the child that fork bears at a step
+abbrev pub borne_at : Step → Option ℕ
+borne_at (step.ForkRegion id region) = Some id
+borne_at (step.ForkEntry id page) = Some id
+borne_at (step.MapChild id page perm) = Some id
+borne_at (step.Remap id page) = Some id
+borne_at (step.ChildStack id) = Some id
+borne_at (step.ChildUpcall id) = Some id
+borne_at (step.ChildRuns id) = Some id
+borne_at _ = None
+
+abbrev pub borne_in : Place → Option ℕ
+borne_in (place.InService service.Fork step) = borne_at step
+borne_in _ = None
+
+-- Fork goes from the greatest page downwards: the page of this number is passed on.
+abbrev pub is_passed : Step → ℕ → Bool
+is_passed (step.ForkRegion id region) p = nat_le ((region + 1) * NPTENTRIES) p
+is_passed (step.ForkEntry id page) p = nat_lt page p
+is_passed (step.MapChild id page perm) p = nat_lt page p
+is_passed (step.Remap id page) p = nat_le page p
+is_passed _ p = true
+
+-- the child has the stack of its handler, and then the handler
+abbrev pub has_stack : Step → Bool
+has_stack (step.ChildUpcall id) = true
+has_stack (step.ChildRuns id) = true
+has_stack _ = false
+
+abbrev pub child_upcall : Step → ℕ
+child_upcall (step.ChildRuns id) = PGFAULT_UPCALL
+child_upcall _ = 0
+
+-- the library's pages of a child
+pub record ChildPages (step : Step) (row : EntryRow) : Type 0 where
+  pub stack : has_stack step ≡ true → IsOwnWritable row (page_number UXSTACK)
+  pub no_stack : has_stack step ≡ false → row (page_number UXSTACK) ≡ None
+  pub none : (p : ℕ) → is_programs p ≡ false → p ≢ page_number UXSTACK → row p ≡ None
+
+-- What is a child's own that is not born: it never runs.
+pub record StandsForUnborn (k : Slot) (id parent : ℕ) : Type 0 where
+  pub id_is : k.id ≡ id
+  pub id_small : k.id < 2 ^ 32
+  pub parent_is : k.parent ≡ parent
+  pub env_type : k.env_type ≡ User
+  pub status : k.status ≡ NotRunnable
+  pub silent : k.rendezvous.receiving ≡ false
+  pub words : k.extra ≡ no_extra
+  pub stack : is_handlers k.registers.esp ≡ false
+
+-- Its parent stands in fork, and bears it. It has the pages that are passed on, each as the parent sees it, and the registers that it
+-- will begin with.
+pub record IsBorne (names : Names) (s : SpacesState) (parent : Slot) (parent_is : AbstractSlot) (k : Slot) (id parent_id : ℕ) : Type 0 where
+  pub b : Born
+  pub born_by : parent_is ≡ born b
+  pub named : b.id ≡ parent_id
+  pub step : Step
+  pub at : place_of parent ≡ place.InService service.Fork step
+  pub borne : borne_at step ≡ Some id
+  -- what it has
+  pub registers : k.registers ≡ record parent.registers { eax = 0 }
+  pub upcall : k.upcall ≡ child_upcall step
+  pub passed : (p : ℕ) → is_programs p ≡ true → is_passed step p ≡ true → page_seen names s k.directory p ≡ b.memory p
+  pub rest : (p : ℕ) → is_programs p ≡ true → is_passed step p ≡ false → rows_of s k.directory p ≡ None
+  pub library : ChildPages step (rows_of s k.directory)
+  pub tables : (r : ℕ) → is_some (s.regions k.directory r) ≡ true → has_page_in b.memory r || is_library_region r ≡ true
+
+-- Who is not born is borne by its parent, and whoever bears a child has it: the child's slot is that which its id names.
+pub record HasChildren (names : Names) (s : SpacesState) (slots : ℕ → Slot) (abstract : ℕ → AbstractSlot) : Type 0 where
+  pub borne : (m id parent : ℕ) → abstract m ≡ unborn id parent →
+      IsBorne names s (slots (parent % NENV)) (abstract (parent % NENV)) (slots m) id parent
+  pub have : (n id : ℕ) (b : Born) → abstract n ≡ born b → borne_in (place_of (slots n)) ≡ Some id → abstract (id % NENV) ≡ unborn id b.id
+
 -- the file server, which nobody has asked for anything: it has a space without pages and tables, and never runs
 pub record StandsForServer (s : SpacesState) (k : Slot) (id : ℕ) : Type 0 where
   pub first : id ≡ FIRST_ENV_ID
@@ -206,7 +320,7 @@ pub record StandsForServer (s : SpacesState) (k : Slot) (id : ℕ) : Type 0 wher
 
 abbrev pub StandsForSlot : Names → SpacesState → Slot → AbstractSlot → Type 0
 StandsForSlot names s k (free id) = k ≡ free_slot id
-StandsForSlot names s k (unborn id parent) = ⊥
+StandsForSlot names s k (unborn id parent) = StandsForUnborn k id parent
 StandsForSlot names s k (born b) = StandsForBorn names s k b
 StandsForSlot names s k (serving id) = StandsForServer s k id
 
@@ -218,18 +332,29 @@ pub record IsTabled (slots : ℕ → Slot) (last : Option ℕ) : Type 0 where
   pub servers : (n : ℕ) → n ≢ 0 → (slots n).env_type ≡ User
   pub running : (n : ℕ) → is_running (slots n).status ≡ true → last ≡ Some n
 
+-- the numbers in a list are those of slots of the table
+abbrev pub AreSlots : List ℕ → Type 0
+AreSlots [] = Unit {0}
+AreSlots (n ∷ rest) = (n < NENV) × AreSlots rest
+
+-- the slots that are free, the next to be given first
+pub record AreFreeSlots (slots abstract : List ℕ) : Type 0 where
+  pub same : slots ≡ abstract
+  pub within : AreSlots slots
+
 -- ---- the whole
 
 pub record StandsFor (names : Names) (s : KernelState) (a : AbstractState) : Type 0 where
   -- each slot
   pub slots : (n : ℕ) → StandsForSlot names s.spaces (slot_at s n) (a.slots n)
+  pub children : HasChildren names s.spaces s.environments.slots a.slots
   -- each frame
   pub apart : AgreeWhereShared (logical s.spaces s.environments.slots)
   pub named : AreNamed names s.spaces.pages a.shared a.next_name (logical s.spaces s.environments.slots)
   pub users : AreUsers (logical s.spaces s.environments.slots)
   pub whole : AreWhole s.spaces.pages (logical s.spaces s.environments.slots)
   -- what is there once
-  pub free_slots : s.environments.free_slots ≡ a.free_slots
+  pub free_slots : AreFreeSlots s.environments.free_slots a.free_slots
   pub first : a.slots 0 ≡ serving FIRST_ENV_ID
   pub server : a.server ≡ idle
   pub input : s.input ≡ a.input

@@ -152,6 +152,30 @@ pub const STEP_READING_SENDER: u32 = 7;
 /// It is about to read the bits of the page that came.
 pub const STEP_READING_PERM: u32 = 8;
 
+/// It is about to read whether a region has a table.
+pub const STEP_FORK_REGION: u32 = 9;
+
+/// It is about to read the entry of a page.
+pub const STEP_FORK_ENTRY: u32 = 10;
+
+/// It is about to map a page into its child.
+pub const STEP_MAP_CHILD: u32 = 11;
+
+/// It is about to map a page onto itself, so that it is copied when it is written.
+pub const STEP_REMAP: u32 = 12;
+
+/// It is about to give its child the stack of the handler of page faults.
+pub const STEP_CHILD_STACK: u32 = 13;
+
+/// It is about to give its child the handler.
+pub const STEP_CHILD_UPCALL: u32 = 14;
+
+/// It is about to let its child run.
+pub const STEP_CHILD_RUNS: u32 = 15;
+
+/// It was refused something, and is about to destroy its child.
+pub const STEP_UNDOING: u32 = 16;
+
 // ---- how far the handler of page faults is, as the EIP of its environment. Nothing is fetched there: no page stands below the
 // exception stack, and that the handler runs is told by ESP.
 

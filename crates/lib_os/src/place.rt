@@ -8,9 +8,11 @@ ghost use Rattle.lib_os.specs.Places as places;
 use crate::numbers::{
     HANDLER_LOADING, HANDLER_LOOKING, HANDLER_MAPPING_OVER, HANDLER_READING_ERROR,
     HANDLER_READING_IP, HANDLER_RESTORING, HANDLER_STORING, HANDLER_TAKING, HANDLER_TOUCHING,
-    HANDLER_UNMAPPING, HANDLER_UNSETTING, PAGE_WORDS, PGFAULT_UPCALL, STEP_ENTERED, STEP_PAUSING,
-    STEP_READING_ENTRY, STEP_READING_PERM, STEP_READING_REGION, STEP_READING_SENDER,
-    STEP_READING_VALUE, STEP_RECEIVING, STEP_TRYING, UXSTACK,
+    HANDLER_UNMAPPING, HANDLER_UNSETTING, PAGE_WORDS, PGFAULT_UPCALL, STEP_CHILD_RUNS,
+    STEP_CHILD_STACK, STEP_CHILD_UPCALL, STEP_ENTERED, STEP_FORK_ENTRY, STEP_FORK_REGION,
+    STEP_MAP_CHILD, STEP_PAUSING, STEP_READING_ENTRY, STEP_READING_PERM, STEP_READING_REGION,
+    STEP_READING_SENDER, STEP_READING_VALUE, STEP_RECEIVING, STEP_REMAP, STEP_TRYING, STEP_UNDOING,
+    UXSTACK,
 };
 use crate::service::{Service, service_of};
 use jos_base::{Extra, Regs, UXSTACKTOP};
@@ -36,6 +38,22 @@ pub enum Step {
     ReadingSender { id: u32, value: u32 },
     /// receive: it is about to read the bits of the page that came.
     ReadingPerm { id: u32, value: u32, sender: u32 },
+    /// fork, with the child's id: it is about to read whether a region has a table.
+    ForkRegion { id: u32, region: u32 },
+    /// fork: it is about to read the entry of the page of this number.
+    ForkEntry { id: u32, page: u32 },
+    /// fork: it is about to map the page into the child, with these bits.
+    MapChild { id: u32, page: u32, perm: u32 },
+    /// fork: the child has the page, and it is about to be mapped onto itself, so that it is copied when it is written.
+    Remap { id: u32, page: u32 },
+    /// fork: it is about to give the child the stack of the handler of page faults.
+    ChildStack { id: u32 },
+    /// fork: it is about to give the child the handler.
+    ChildUpcall { id: u32 },
+    /// fork: it is about to let the child run.
+    ChildRuns { id: u32 },
+    /// fork: it was refused something with this answer, and is about to destroy the child.
+    Undoing { id: u32, error: u32 },
 }
 
 /// How far the handler of page faults is, with what it has found out: the address of the fault, its error code, the address of
@@ -169,10 +187,34 @@ fn find_step(words: &Extra) -> Step
             id: first,
             value: second,
         },
-        _ => Step::ReadingPerm {
+        STEP_READING_PERM => Step::ReadingPerm {
             id: first,
             value: second,
             sender: third,
+        },
+        STEP_FORK_REGION => Step::ForkRegion {
+            id: first,
+            region: second,
+        },
+        STEP_FORK_ENTRY => Step::ForkEntry {
+            id: first,
+            page: second,
+        },
+        STEP_MAP_CHILD => Step::MapChild {
+            id: first,
+            page: second,
+            perm: third,
+        },
+        STEP_REMAP => Step::Remap {
+            id: first,
+            page: second,
+        },
+        STEP_CHILD_STACK => Step::ChildStack { id: first },
+        STEP_CHILD_UPCALL => Step::ChildUpcall { id: first },
+        STEP_CHILD_RUNS => Step::ChildRuns { id: first },
+        _ => Step::Undoing {
+            id: first,
+            error: second,
         },
     }
 }
@@ -216,6 +258,14 @@ pub fn words_at(number: u32, step: Step) -> Extra
         Step::ReadingValue { id } => (STEP_READING_VALUE, id, 0, 0),
         Step::ReadingSender { id, value } => (STEP_READING_SENDER, id, value, 0),
         Step::ReadingPerm { id, value, sender } => (STEP_READING_PERM, id, value, sender),
+        Step::ForkRegion { id, region } => (STEP_FORK_REGION, id, region, 0),
+        Step::ForkEntry { id, page } => (STEP_FORK_ENTRY, id, page, 0),
+        Step::MapChild { id, page, perm } => (STEP_MAP_CHILD, id, page, perm),
+        Step::Remap { id, page } => (STEP_REMAP, id, page, 0),
+        Step::ChildStack { id } => (STEP_CHILD_STACK, id, 0, 0),
+        Step::ChildUpcall { id } => (STEP_CHILD_UPCALL, id, 0, 0),
+        Step::ChildRuns { id } => (STEP_CHILD_RUNS, id, 0, 0),
+        Step::Undoing { id, error } => (STEP_UNDOING, id, error, 0),
     };
     Extra([number + 1, place, first, second, third, 0, 0, 0, 0, 0, 0, 0])
 }

@@ -21,7 +21,7 @@ use Rattle.lib_os.specs.LibraryCall.{library_step}
 use Rattle.lib_os.specs.LibrarySteps.{KeepsStanding}
 use Rattle.lib_os.specs.Places.{place_of}
 use Rattle.lib_os.specs.LibraryPages.{View}
-use Rattle.lib_os.specs.StandsFor.{StandsAtStep, IsIn, view_of}
+use Rattle.lib_os.specs.StandsFor.{StandsAtStep, IsIn, view_of, borne_in}
 use Rattle.lib_os.specs.UserCalls.{CallStep}
 use Rattle.lib_os.proofs.Calls.{env_destroy_is}
 use Rattle.lib_os.proofs.EndsStand.{ended_stands}
@@ -57,7 +57,7 @@ module _ (s : KernelState) (n : ℕ) (at : Step) (stands : place_of (slot_at s n
         slot_freed a n v.b,
         step_in a n v.b (slot_at s n) service.Exit entered v.is here ∙ abstract_exit a n v.b (slot_at s n) v.own.descriptors,
         printed_nothing a,
-        (h.0, ended_stands h.1 n v.b v.is gone in_order),
+        (h.0, ended_stands h.1 n v.b v.is (ap borne_in v.place) gone in_order),
       )
 
   pub exit_holds : ServiceHolds s n exiting

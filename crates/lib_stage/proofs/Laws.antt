@@ -1,5 +1,5 @@
 -- The parts of a service's law that are the same for all services: by what it asks, and by where it goes on.
-use Rattle.std.proofs.Common.{◌≡◌, ◌∙◌, ◌+◌, ◌-◌, ◌^◌, ◌<◌, ◌==◌, ◌&&◌, ◌++◌, ℕ, Bool, true, false, not, List, [], length, Ok, Some, None, refl, sym, ap, subst}
+use Rattle.std.proofs.Common.{◌≡◌, ◌∙◌, ◌+◌, ◌-◌, ◌^◌, ◌<◌, ◌++◌, ℕ, Bool, true, false, not, List, [], length, Ok, Some, None, refl, sym, ap, subst}
 use Rattle.std.specs.Prelude.{min}
 use Rattle.jos_host.specs.Frames.{from_to}
 use Rattle.jos_base.specs.declared.called.Called.{Called}
@@ -44,21 +44,20 @@ use Rattle.lib_stage.specs.declared.ask.Ask.{Ask}
 use Rattle.lib_stage.specs.declared.ask.Ask.TheVariants as ask
 use Rattle.lib_stage.specs.declared.ask.Next.{Next}
 use Rattle.lib_stage.specs.declared.ask.Next.TheVariants as next
-use Rattle.lib_stage.specs.Asks.{performed, at_instruction, got_as, told_as, MayFail}
+use Rattle.lib_stage.specs.Asks.{as_given, performed, at_instruction, got_as, told_as, MayFail}
 use Rattle.lib_stage.specs.Nexts.{settled, seen_as, is_gone}
 use Rattle.lib_stage.specs.ServiceSteps.{Plan, upshot_by, nowhere, PlanHolds, ServiceHolds}
 
 -- ---- what is left
 
--- a call in which an environment neither forks nor wakes itself
+-- a call in which an environment does not wake itself
 abbrev pub is_plain : Ask → Bool
-is_plain (ask.System number args) = not (number == SYS_EXOFORK) && not (wakes number)
+is_plain (ask.System number args) = not (wakes number)
 is_plain _ = true
 
-both_off : (t u : Bool) → (not t && not u) ≡ true → (t ≡ false) × (u ≡ false)
-both_off false false is = (refl, refl)
-both_off false true is = absurd (let contradiction : false ≡ true = is in cc)
-both_off true u is = absurd (let contradiction : false ≡ true = is in cc)
+asleep : (t : Bool) → not t ≡ true → t ≡ false
+asleep false is = refl
+asleep true is = absurd (let contradiction : false ≡ true = is in cc)
 
 -- the environment stands at an instruction before
 moved_behind : (s : KernelState) (n ip : ℕ) (after : KernelState) → Left (Unit {0}) (at_instruction s n ip) n after →
@@ -76,8 +75,8 @@ moved_behind s n ip after h used = record {
 
 pub plain_behind : (s : KernelState) (n : ℕ) (a : Ask) → is_plain a ≡ true → Behind s n (performed s n a).state
 unfolding performed
-plain_behind s n (ask.System number args) plain =
-    let both = both_off (number == SYS_EXOFORK) (wakes number) plain in behind s n number args both.0 both.1
+plain_behind s n (ask.System number args) plain = behind s n number args (asleep (wakes number) plain)
+plain_behind s n ask.Exofork plain = behind s n SYS_EXOFORK (as_given (slot_at s n).registers) refl
 plain_behind s n (ask.Load va) plain =
     record { left = load_left _ s n va; used = λ in_order live each. load_found s n in_order.frames each va }
 plain_behind s n (ask.LoadByte va) plain =
@@ -371,7 +370,7 @@ module _ (s : KernelState) (n : ℕ) (service : Service) (from to : Step) (numbe
   slot_is = upd-at s.environments.slots n (record (slot_at s n) { status = Runnable })
 
   rest : LeavesRest s ran
-  rest = subst (λ (z : CallStep Called). LeavesRest s z.state) (yield_is s n live args) (system_left s n SYS_YIELD args refl).rest
+  rest = subst (λ (z : CallStep Called). LeavesRest s z.state) (yield_is s n live args) (system_left s n SYS_YIELD args).rest
 
   used : KeepsUses n s ran
   used = subst (λ (z : CallStep Called). KeepsUses n s z.state) (yield_is s n live args) (λ in_order live each. system_found s n SYS_YIELD args in_order live each)
@@ -387,7 +386,7 @@ module _ (s : KernelState) (n : ℕ) (service : Service) (from to : Step) (numbe
         fails = λ may a h. absurd (let contradiction : false ≡ true = may in cc);
         leaves = (
           record { last = rest.last; turns = rest.turns; frames = rest.frames; refused = rest.refused; told = rest.told },
-          (λ running silent runs. ap is_pausing stands ∙ pausing),
+          (λ a stands_for running silent runs. ap is_pausing stands ∙ pausing),
           used,
         );
         lowers = falling_lowers s n pause call service from stands numbered

@@ -2,6 +2,8 @@
 use Rattle.std.specs.Prelude.{◌≡◌, ℕ, ◌%◌, Bool, true, false, List, [], ◌∷◌, Result, Ok, Err}
 use Rattle.jos_base.specs.declared.called.Called.{Called}
 use Rattle.jos_base.specs.declared.called.Called.TheVariants.{Answered}
+use Rattle.jos_base.specs.declared.numbers.TheConstants.{SYS_EXOFORK}
+use Rattle.jos_base.specs.declared.registers.Regs.{Regs}
 use Rattle.jos_base.specs.KernelState.{KernelState, slot_at, with_registers}
 use Rattle.jos_base.specs.SystemCalls.{may_print}
 use Rattle.lib_os.specs.declared.user_os.Stop.{Stop}
@@ -14,6 +16,11 @@ use Rattle.lib_stage.specs.declared.ask.Ask.TheVariants as ask
 -- the words of a system call that is given none
 abbrev pub no_args : List ℕ
 no_args = 0 ∷ 0 ∷ 0 ∷ 0 ∷ 0 ∷ []
+
+-- A system call is given its words in these registers, and a child that it makes has them there. So these are the words for a
+-- child that has the registers of the environment.
+abbrev pub as_given : Regs → List ℕ
+as_given regs = regs.edx ∷ regs.ecx ∷ regs.ebx ∷ regs.edi ∷ regs.esi ∷ []
 
 -- ---- what an ask comes to
 
@@ -37,6 +44,7 @@ touching s n va false = told_as (λ byte. byte) (call.load_byte s n va)
 -- the state after the call, what it gives and what is written
 unfoldable pub performed : KernelState → ℕ → Ask → CallStep Called
 performed s n (ask.System number args) = call.system s n number args
+performed s n ask.Exofork = call.system s n SYS_EXOFORK (as_given (slot_at s n).registers)
 performed s n (ask.Load va) = told_as (λ word. word) (call.load s n va)
 performed s n (ask.LoadByte va) = told_as (λ byte. byte) (call.load_byte s n va)
 performed s n (ask.Store va word) = told_as (λ done. 0) (call.store s n va word)
@@ -55,6 +63,7 @@ IsAligned _ = Unit {0}
 -- The host may fail in it: in a system call that prints, and where the environment is destroyed by its fault.
 abbrev pub MayFail : Ask → Got Called → Type 0
 MayFail (ask.System number args) gives = may_print number ≡ true
+MayFail ask.Exofork gives = ⊥
 MayFail _ gives = gives ≡ gone
 
 -- what came of it

@@ -7,6 +7,8 @@ use lib_os::{HandlerStep, Step};
 pub enum Ask {
     /// The system call with a number, given these words.
     System { number: u32, args: [u32; 5] },
+    /// The system call exofork, given the words that stand in the environment's registers, so that the child has those.
+    Exofork,
     /// The word at an address that is a multiple of four.
     Load { va: u32 },
     /// The byte at an address.

@@ -9,7 +9,7 @@ ghost use Rattle.lib_os.specs.UserCalls.{HasStopCause, IsStep, output};
 ghost use Rattle.lib_stage.specs.Asks.{performed, touching, IsAligned, IsPerformed};
 
 use crate::ask::Ask;
-use jos_base::{Called, Regs};
+use jos_base::{Called, Regs, SYS_EXOFORK};
 use jos_host::{Failed, Host};
 use lib_os::{Stop, UserOs};
 
@@ -61,6 +61,20 @@ pub fn perform<O: UserOs, H: Host>(os: &mut O, host: &mut H, ask: Ask) -> Result
             Ok(called) => Ok(called),
             Err(Failed) => Err(Stop::Failed),
         },
+        Ask::Exofork => {
+            let registers = os.registers();
+            let given = [
+                registers.edx,
+                registers.ecx,
+                registers.ebx,
+                registers.edi,
+                registers.esi,
+            ];
+            match os.system(host, SYS_EXOFORK, given) {
+                Ok(called) => Ok(called),
+                Err(Failed) => Err(Stop::Failed),
+            }
+        }
         Ask::Load { va } => match os.load(host, va) {
             Ok(word) => Ok(Called::Answered(word)),
             Err(stop) => Err(stop),

@@ -22,6 +22,11 @@ void yield(void)
     service(SERVICE_yield, 0, 0, 0);
 }
 
+int fork(void)
+{
+    return service(SERVICE_fork, 0, 0, 0);
+}
+
 int wait(uint32_t id)
 {
     return service(SERVICE_wait, id, 0, 0);

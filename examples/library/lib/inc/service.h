@@ -17,6 +17,7 @@ enum {
     SERVICE_cputs = 1,
     SERVICE_getid = 2,
     SERVICE_yield = 3,
+    SERVICE_fork = 4,
     SERVICE_wait = 5,
     SERVICE_page_new = 6,
     SERVICE_page_drop = 7,
@@ -54,6 +55,8 @@ void exit(void) __attribute__((noreturn));
 int cputs(uint32_t va, uint32_t len);
 uint32_t getid(void);
 void yield(void);
+
+int fork(void); /* the child's id; in the child, 0 */
 int wait(uint32_t id);
 int page_new(uint32_t va, uint32_t flags);
 int page_drop(uint32_t va);

@@ -1,4 +1,4 @@
-use Rattle.jos_demo.proofs.Named.{lawful_int}
+use Rattle.jos_demo.proofs.Instructions.{lawful_int}
 use Rattle.jos_demo.proofs.code.int.Goals as goal
 
 pub returns-clause-lawful : goal.returns-clause-lawful

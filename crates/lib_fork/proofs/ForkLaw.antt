@@ -1,0 +1,146 @@
+-- The law of fork: its first step takes a slot for the child and its last one bears it, and all between are hidden.
+use Rattle.std.proofs.Common.{◌≡◌, ◌∙◌, ◌%◌, ℕ, true, false, List, [], ◌∷◌, Ok, refl, sym, ap, subst}
+use Rattle.jos_base.specs.declared.called.Called.{Called}
+use Rattle.jos_base.specs.declared.environment.Status.{Status}
+use Rattle.jos_base.specs.declared.environment.Status.TheVariants.{Runnable}
+use Rattle.jos_base.specs.declared.numbers.TheConstants.{ENV_RUNNABLE, NENV, SYS_ENV_SET_STATUS}
+use Rattle.jos_base.specs.Environments.{Slot, is_live, is_runnable, no_extra}
+use Rattle.jos_base.specs.KernelState.{KernelState, slot_at, with_status}
+use Rattle.lib_os.specs.declared.place.Place.TheVariants as place
+use Rattle.lib_os.specs.declared.place.Step.{Step}
+use Rattle.lib_os.specs.declared.place.Step.TheVariants as step
+use Rattle.lib_os.specs.declared.progress.Progress.TheVariants as progress
+use Rattle.lib_os.specs.declared.service.Service.TheVariants as service
+use Rattle.lib_os.specs.AbstractState.{AbstractState}
+use Rattle.lib_os.specs.InOrder.{IsInOrder}
+use Rattle.lib_os.specs.LibrarySteps.{Leaves, Stands, is_pausing, service_answered}
+use Rattle.lib_os.specs.Places.{place_of}
+use Rattle.lib_os.specs.UserCalls.{CallStep, Got, system}
+use Rattle.lib_os.proofs.Bearing.{bearer}
+use Rattle.lib_os.proofs.GoingOn.{gives_nothing_up}
+use Rattle.lib_os.proofs.Leaving.{running_calm, system_left}
+use Rattle.lib_os.proofs.Slots.{slot_kept, slot_put}
+use Rattle.lib_os.proofs.UsesCalled.{system_found}
+use Rattle.lib_stage.specs.Asks.{performed}
+use Rattle.lib_stage.specs.ServiceSteps.{Plan, upshot_by, or_nowhere, ServiceHolds}
+use Rattle.lib_stage.proofs.Laws.{FailsBy, KeepsBy, falling_lowers, is_plain, law_of_nowhere, plain_leaves, system_gives}
+use Rattle.lib_fork.specs.declared.fork.ForkStage.{ForkStage}
+use Rattle.lib_fork.specs.declared.fork.ForkStage.TheVariants as stage
+use Rattle.lib_fork.specs.ForkStages.{ask_of, fork_at, forking}
+use Rattle.lib_fork.proofs.Beginning.{entered_holds}
+use Rattle.lib_fork.proofs.Birth.{child_runs_fails, child_runs_keeps, runs_is, undoing_fails, undoing_keeps}
+use Rattle.lib_fork.proofs.Falling.{fork_falls, step_of}
+use Rattle.lib_fork.proofs.Mapping.{map_child_fails, map_child_keeps}
+use Rattle.lib_fork.proofs.Readying.{child_stack_fails, child_stack_keeps, child_upcall_fails, child_upcall_keeps}
+use Rattle.lib_fork.proofs.Remaps.{remap_fails, remap_keeps}
+use Rattle.lib_fork.proofs.Staying.{goes_on}
+use Rattle.lib_fork.proofs.Walking.{entry_fails, entry_keeps, region_fails, region_keeps}
+
+abbrev pub plan : ForkStage → Plan
+plan at = forking (record { at = at })
+
+-- the parts that are a stage's own
+abbrev pub StepKeeps : KernelState → ℕ → ForkStage → Type 0
+StepKeeps s n at =
+    (IsInOrder (performed s n (ask_of at)).state → KeepsBy s n (plan at) (performed s n (ask_of at)))
+    × FailsBy s n (plan at) (performed s n (ask_of at))
+
+abbrev StepLeaves : KernelState → ℕ → ForkStage → Type 0
+StepLeaves s n at =
+    let did = upshot_by (plan at) n (performed s n (ask_of at)) (performed s n (ask_of at)).gives in Leaves (Ok did.progress) n s did.state
+
+law_of_stage : (s : KernelState) (n : ℕ) → is_live (slot_at s n) ≡ true → (at : ForkStage) →
+    place_of (slot_at s n) ≡ place.InService service.Fork (step_of at) → StepLeaves s n at → StepKeeps s n at → ServiceHolds s n (plan at)
+law_of_stage s n live at stands leaves keeps = record {
+  lives = (goes_on s n live at).live;
+  keeps = keeps.0;
+  fails = keeps.1;
+  leaves = leaves;
+  lowers = falling_lowers s n (plan at) (performed s n (ask_of at)) service.Fork (step_of at) stands refl (goes_on s n live at)
+      (λ called. fork_falls at called);
+  gives_up =
+      let did = upshot_by (plan at) n (performed s n (ask_of at)) (performed s n (ask_of at)).gives in
+      gives_nothing_up (Ok did.progress) (slot_at s n) (slot_at did.state n) (ap is_pausing stands);
+}
+
+-- ---- the step in which the child may run: its parent is not woken by it, since it is another
+
+module _ (s : KernelState) (n id : ℕ) (live : is_live (slot_at s n) ≡ true)
+    (stands : place_of (slot_at s n) ≡ place.InService service.Fork (step.ChildRuns id)) where
+  abbrev runs_step : CallStep Called
+  runs_step = performed s n (ask_of (stage.ChildRuns id))
+
+  abbrev args : List ℕ
+  args = id ∷ ENV_RUNNABLE ∷ 0 ∷ 0 ∷ 0 ∷ []
+
+  abbrev call : CallStep Called
+  call = system s n SYS_ENV_SET_STATUS args
+
+  abbrev after : KernelState → KernelState
+  after t = service_answered t n id
+
+  parent_still : (a : AbstractState) → Stands s a → (slot_at (after call.state) n).status ≡ (slot_at s n).status
+  unfolding performed
+  parent_still a h =
+      let v = bearer h.1 n (step.ChildRuns id) id stands refl in
+      let m = id % NENV in
+      let child : Slot = record (slot_at s m) { status = Runnable } in
+      let t : KernelState = with_status s m Runnable in
+      (λ i. (slot_at (after (runs_is s n id live stands a h i).state) n).status)
+      ∙ ap (λ (x : Slot). x.status)
+      (slot_put t n (record (slot_at t n) { registers = record (slot_at t n).registers { eax = id }; extra = no_extra }))
+      ∙ ap (λ (x : Slot). x.status) (slot_kept s m child n (λ same. v.apart (sym same)))
+
+  runs_leaves_so : Leaves (Ok progress.Finished) n s (after call.state)
+  runs_leaves_so =
+      let rest = (system_left s n SYS_ENV_SET_STATUS args).rest in (
+        record { last = rest.last; turns = rest.turns; frames = rest.frames; refused = rest.refused; told = rest.told },
+        (λ a h running silent ready.
+            let was : is_runnable (slot_at s n).status ≡ true = ap (λ (x : Status). is_runnable x) (sym (parent_still a h)) ∙ ready in
+            absurd (let contradiction : false ≡ true = sym (running_calm (slot_at s n).status running) ∙ was in cc)),
+        (λ in_order lives each. system_found s n SYS_ENV_SET_STATUS args in_order lives each),
+      )
+
+  runs_leaves : StepLeaves s n (stage.ChildRuns id)
+  unfolding performed
+  runs_leaves =
+      let gives = system_gives s n SYS_ENV_SET_STATUS args in
+      subst (λ (g : Got Called). let did = upshot_by (plan (stage.ChildRuns id)) n call g in Leaves (Ok did.progress) n s did.state)
+      (sym gives.1) runs_leaves_so
+
+-- ---- each step
+
+module _ (s : KernelState) (n : ℕ) (live : is_live (slot_at s n) ≡ true) where
+  plain_law : (at : ForkStage) → place_of (slot_at s n) ≡ place.InService service.Fork (step_of at) → is_plain (ask_of at) ≡ true →
+      StepKeeps s n at → ServiceHolds s n (plan at)
+  plain_law at stands plain keeps = law_of_stage s n live at stands (plain_leaves s n (plan at) plain) keeps
+
+  pub fork_holds : (at : Step) → place_of (slot_at s n) ≡ place.InService service.Fork at → ServiceHolds s n (or_nowhere forking (fork_at at))
+  fork_holds step.Entered stands = entered_holds s n live stands
+  fork_holds (step.ForkRegion id r) stands =
+      plain_law (stage.Region id r) stands refl (region_keeps s n id r stands live, region_fails s n id r stands live)
+  fork_holds (step.ForkEntry id page) stands =
+      plain_law (stage.Entry id page) stands refl (entry_keeps s n id page stands live, entry_fails s n id page stands live)
+  fork_holds (step.MapChild id page perm) stands =
+      plain_law (stage.MapChild id page perm) stands refl
+      (map_child_keeps s n id page perm live stands, map_child_fails s n id page perm live stands)
+  fork_holds (step.Remap id page) stands =
+      plain_law (stage.Remap id page) stands refl (remap_keeps s n id page live stands, remap_fails s n id page live stands)
+  fork_holds (step.ChildStack id) stands =
+      plain_law (stage.ChildStack id) stands refl (child_stack_keeps s n id live stands, child_stack_fails s n id live stands)
+  fork_holds (step.ChildUpcall id) stands =
+      plain_law (stage.ChildUpcall id) stands refl (child_upcall_keeps s n id live stands, child_upcall_fails s n id live stands)
+  fork_holds (step.ChildRuns id) stands =
+      law_of_stage s n live (stage.ChildRuns id) stands (runs_leaves s n id live stands)
+      (child_runs_keeps s n id live stands, child_runs_fails s n id live stands)
+  fork_holds (step.Undoing id error) stands =
+      plain_law (stage.Undoing id error) stands refl (undoing_keeps s n id error stands, undoing_fails s n id error stands)
+  fork_holds (step.Trying perm) stands = law_of_nowhere s n service.Fork (step.Trying perm) stands refl (λ view k b h. h)
+  fork_holds (step.Pausing perm) stands = law_of_nowhere s n service.Fork (step.Pausing perm) stands refl (λ view k b h. h)
+  fork_holds step.ReadingRegion stands = law_of_nowhere s n service.Fork step.ReadingRegion stands refl (λ view k b h. h)
+  fork_holds step.ReadingEntry stands = law_of_nowhere s n service.Fork step.ReadingEntry stands refl (λ view k b h. h)
+  fork_holds (step.Receiving id) stands = law_of_nowhere s n service.Fork (step.Receiving id) stands refl (λ view k b h. h)
+  fork_holds (step.ReadingValue id) stands = law_of_nowhere s n service.Fork (step.ReadingValue id) stands refl (λ view k b h. h)
+  fork_holds (step.ReadingSender id value) stands = law_of_nowhere s n service.Fork (step.ReadingSender id value) stands refl (λ view k b h. h)
+  fork_holds (step.ReadingPerm id value sender) stands =
+      law_of_nowhere s n service.Fork (step.ReadingPerm id value sender) stands refl (λ view k b h. h)

@@ -1,0 +1,9 @@
+pub mod Falling
+pub mod Birth
+pub mod Staying
+pub mod Walking
+pub mod Mapping
+pub mod Readying
+pub mod Remaps
+pub mod ForkLaw
+pub mod Beginning

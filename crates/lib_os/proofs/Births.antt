@@ -1,0 +1,358 @@
+-- A child is born: its parent's last step of fork lets it run and answers. The two stand for what the abstract system has then, and
+-- nothing is seen of anybody else.
+use Rattle.std.proofs.Common.{◌≡◌, ◌≢◌, ◌∙◌, ◌+◌, ◌*◌, ◌/◌, ◌%◌, ◌<◌, ◌||◌, ℕ, zero, suc, Bool, true, false, not, Option, Some, None}
+use Rattle.std.proofs.Common.{refl, sym, ap, subst, arith}
+use Rattle.std.specs.Prelude.{is_some}
+use Rattle.std.specs.Option.{option_map}
+use Rattle.std.proofs.lemmas.Option.{none-some, same_Some}
+use Rattle.fs_layout.specs.DiskImage.{some_below}
+use Rattle.jos_base.specs.declared.environment.Status.TheVariants.{Runnable}
+use Rattle.jos_base.specs.declared.numbers.TheConstants.{FIRST_ENV_ID, NENV, NPTENTRIES}
+use Rattle.jos_base.specs.declared.registers.Regs.{Regs}
+use Rattle.jos_base.specs.Environments.{Slot, is_live as is_live_slot, is_running, no_extra}
+use Rattle.jos_base.specs.KernelState.{KernelState, slot_at, with_slot_at, with_status}
+use Rattle.jos_base.specs.Reach.{Entry}
+use Rattle.jos_base.specs.SpacesState.{SpacesState}
+use Rattle.jos_base.specs.TrapFrames.{user_flags}
+use Rattle.jos_base.specs.Words.{page_number, upd}
+use Rattle.jos_base.proofs.Maps.{upd-at, upd-other, upd-both}
+use Rattle.lib_os.specs.declared.numbers.TheConstants.{PFTEMP}
+use Rattle.lib_os.specs.declared.place.Place.{Place}
+use Rattle.lib_os.specs.declared.place.Place.TheVariants as place
+use Rattle.lib_os.specs.declared.place.Step.{Step}
+use Rattle.lib_os.specs.declared.place.Step.TheVariants as step
+use Rattle.lib_os.specs.declared.service.Service.TheVariants as service
+use Rattle.lib_os.specs.AbstractFork.{bear, child_of}
+use Rattle.lib_os.specs.AbstractMemory.{has_page_in}
+use Rattle.lib_os.specs.AbstractRun.{abs_step}
+use Rattle.lib_os.specs.AbstractState.{AbstractState, AbstractSlot, Born, Page, unborn, born, serving, is_live, slot_id, with_born}
+use Rattle.lib_os.specs.AbstractState.{guest, at_guest, bearing}
+use Rattle.lib_os.specs.Answers.{answered}
+use Rattle.lib_os.specs.Fence.{is_resident}
+use Rattle.lib_os.specs.LibraryCall.{library_step}
+use Rattle.lib_os.specs.LibraryPages.{LibraryPages}
+use Rattle.lib_os.specs.LibrarySteps.{service_answered}
+use Rattle.lib_os.specs.Places.{place_of, is_handlers}
+use Rattle.lib_os.specs.Rows.{Names, EntryRow, rows_of, page_by, page_seen, seen_where, is_programs, counted, lasting, logical}
+use Rattle.lib_os.specs.StandsFor.{StandsFor, StandsForSlot, StandsForBorn, StandsForUnborn, StandsAt, IsBorne, IsIn, view_of, upcall_at}
+use Rattle.lib_os.specs.StandsFor.{borne_at, borne_in}
+use Rattle.lib_os.proofs.Bearing.{IsBearer}
+use Rattle.lib_os.proofs.Children.{same_child, borne_moved}
+use Rattle.lib_os.proofs.EntriesStand.{RowsStand, rows_stand, rows_same}
+use Rattle.lib_os.proofs.Logical.{programs_beside}
+use Rattle.lib_os.proofs.Serving.{back_at_guest, step_in, words_of_none}
+use Rattle.lib_os.proofs.Slots.{slot_kept}
+use Rattle.lib_os.proofs.SlotsStand.{SeenAlike, born_live, ids_stand, live_stands}
+use Rattle.lib_os.proofs.StatesStand.{born_not_first, set_counts, slot_in_order, stopped_settles, tabled_set}
+
+-- ---- the pages of a region
+
+below : (n : ℕ) (passes : ℕ → Bool) → some_below n passes ≡ true → (i : ℕ) × (i < n) × (passes i ≡ true)
+unfolding some_below
+below zero passes is = absurd (let contradiction : false ≡ true = is in cc)
+below (suc n) passes is = by_test (some_below n passes) refl (λ first. below n passes first) is
+  where
+    Found : ℕ → Type 0
+    Found bound = (i : ℕ) × (i < bound) × (passes i ≡ true)
+
+    by_test : (t : Bool) → some_below n passes ≡ t → (some_below n passes ≡ true → Found n) → (t || passes n) ≡ true → Found (suc n)
+    by_test true first before e = let it = before first in (it.0, omega (arith, it.1), it.2)
+    by_test false first before e = (n, omega arith, e)
+
+-- where a region has a page
+page_in : (memory : ℕ → Option Page) (region : ℕ) → has_page_in memory region ≡ true →
+    (p : ℕ) × (p / NPTENTRIES ≡ region) × (is_some (memory p) ≡ true)
+page_in memory region is =
+    let it = below NPTENTRIES (λ p. is_some (memory (region * NPTENTRIES + p))) is in
+    (region * NPTENTRIES + it.0, omega (arith, it.1), it.2)
+
+-- a page that is seen has an entry
+entry_seen : (names : Names) (s : SpacesState) (d p : ℕ) → is_some (page_seen names s d p) ≡ true → (e : Entry) × (s.entries d p ≡ Some e)
+unfolding rows_of
+entry_seen names s d p is = by_entry (is_programs p) (s.entries d p) refl is
+  where
+    by_entry : (t : Bool) (o : Option Entry) → s.entries d p ≡ o →
+        is_some (seen_where t (option_map (page_by names s.pages) (option_map lasting o))) ≡ true → (e : Entry) × (s.entries d p ≡ Some e)
+    by_entry t (Some e) at seen = (e, at)
+    by_entry true None at seen = absurd (let contradiction : false ≡ true = seen in cc)
+    by_entry false None at seen = absurd (let contradiction : false ≡ true = seen in cc)
+
+-- a page that no program may have is not seen
+unseen : (names : Names) (s : SpacesState) (d p : ℕ) → is_programs p ≡ false → page_seen names s d p ≡ None
+unseen names s d p outside = ap (λ (t : Bool). seen_where t (option_map (page_by names s.pages) (rows_of s d p))) outside
+
+copy_outside : is_programs (page_number PFTEMP) ≡ false
+copy_outside = by_test (is_programs (page_number PFTEMP)) refl
+  where
+    by_test : (t : Bool) → is_programs (page_number PFTEMP) ≡ t → t ≡ false
+    by_test true is = absurd ((programs_beside (page_number PFTEMP) is).0 refl)
+    by_test false is = refl
+
+-- entries count where the child is about to run as they do at a program
+runs_counts : (id : ℕ) (row : EntryRow) (p : ℕ) → counted place.Guest row p ≡ counted (place.InService service.Fork (step.ChildRuns id)) row p
+unfolding counted
+runs_counts id row p = refl
+
+same_space : (names : Names) (sp : SpacesState) (d : ℕ) → SeenAlike names names sp sp d
+same_space names sp d = record {
+  rows = refl;
+  bytes = λ p x is own_page. refl;
+  named_so = λ p x is shared_page. refl;
+  regions = λ r. refl;
+}
+
+same_step : (at to : Step) → place.InService service.Fork at ≡ place.InService service.Fork to → at ≡ to
+same_step at to same = cc
+
+same_unborn : (id parent other others_parent : ℕ) → unborn id parent ≡ unborn other others_parent → (id ≡ other) × (parent ≡ others_parent)
+same_unborn id parent other others_parent same = (cc, cc)
+
+-- ---- the two
+
+module _ {names : Names} {s : KernelState} {a : AbstractState} (h : StandsFor names s a) (n id : ℕ)
+    (v : IsBearer names s a n (step.ChildRuns id) id) where
+  abbrev m : ℕ
+  m = id % NENV
+
+  abbrev k : Slot
+  k = slot_at s n
+
+  -- the child, which may run, and its parent at its program
+  abbrev child : Slot
+  child = record (slot_at s m) { status = Runnable }
+
+  abbrev parent : Slot
+  parent = record k { registers = record k.registers { eax = id }; extra = no_extra }
+
+  abbrev newborn : Born
+  newborn = child_of v.b k.registers id
+
+  abbrev back : Born
+  back = record v.b { program = guest (record k.registers { eax = id }); phase = at_guest; blocked = false }
+
+  abbrev slots_after : ℕ → Slot
+  slots_after = upd (upd s.environments.slots m child) n parent
+
+  abbrev abstract_after : ℕ → AbstractSlot
+  abstract_after = upd (upd a.slots m (born newborn)) n (born back)
+
+  in_fork : IsIn k v.b service.Fork (bearing m)
+  in_fork = v.stands
+
+  child_at : place_of child ≡ place.Guest
+  child_at = words_of_none (slot_at s m).registers (slot_at s m).extra v.child_own.stack v.child_own.words
+
+  parent_at : place_of parent ≡ place.Guest
+  parent_at = words_of_none (record k.registers { eax = id }) no_extra v.outside refl
+
+  pub child_lives : is_live_slot (slot_at s m) ≡ true
+  child_lives = live_stands h m ∙ ap (λ (x : AbstractSlot). is_live x) v.child_is
+
+  pub some_id : id ≢ 0
+  some_id none =
+      let first : id % NENV ≡ 0 = ap (λ (q : ℕ). q % NENV) none in
+      let contradiction : serving FIRST_ENV_ID ≡ unborn id v.b.id = sym h.first ∙ ap a.slots (sym first) ∙ v.child_is in absurd cc
+
+  pub child_owned : (slot_at s m).parent ≡ k.id
+  child_owned = v.child_own.parent_is ∙ sym v.own.id
+
+  -- ---- the child
+
+  memory_is : (p : ℕ) → v.b.memory p ≡ page_seen names s.spaces (slot_at s m).directory p
+  memory_is p = by_test (is_programs p) refl
+    where
+      by_test : (t : Bool) → is_programs p ≡ t → v.b.memory p ≡ page_seen names s.spaces (slot_at s m).directory p
+      by_test true inside = sym (v.child.passed p inside refl)
+      by_test false outside =
+          v.own.memory p ∙ unseen names s.spaces k.directory p outside ∙ sym (unseen names s.spaces (slot_at s m).directory p outside)
+
+  library_is : LibraryPages place.Guest (rows_of s.spaces (slot_at s m).directory)
+  library_is = record {
+    stack = v.child.library.stack refl;
+    copy = λ is. absurd (let contradiction : false ≡ true = is in cc);
+    no_copy = λ is. v.child.library.none (page_number PFTEMP) copy_outside (λ same. omega (arith, same));
+    none = λ p outside no_stack no_copy. v.child.library.none p outside no_stack;
+  }
+
+  has_table : (r : ℕ) → has_page_in v.b.memory r ≡ true → is_some (s.spaces.regions (slot_at s m).directory r) ≡ true
+  has_table r is =
+      let d = (slot_at s m).directory in
+      let page = page_in v.b.memory r is in
+      let entry = entry_seen names s.spaces d page.0 (ap (λ (o : Option Page). is_some o) (sym (memory_is page.0)) ∙ page.2) in
+      ap (λ (q : ℕ). is_some (s.spaces.regions d q)) (sym page.1) ∙ h.in_order.frames.regions d page.0 entry.0 entry.1
+
+  child_stands : StandsForBorn names s.spaces child newborn
+  child_stands = record {
+    id = v.child_own.id_is;
+    id_small = v.child_own.id_small;
+    parent = v.child_own.parent_is;
+    env_type = v.child_own.env_type;
+    runs = tt;
+    upcall = v.child.upcall ∙ sym (ap upcall_at child_at);
+    descriptors = v.own.descriptors;
+    memory = memory_is;
+    library = subst (λ (at : Place). LibraryPages at (rows_of s.spaces (slot_at s m).directory)) (sym child_at) library_is;
+    regions_have = has_table;
+    regions_only = v.child.tables;
+    stack = ap (λ (regs : Regs). is_handlers regs.esp || not (is_resident regs.esp)) v.child.registers ∙ v.own.stack;
+    flags = subst (λ (regs : Regs). regs.eflags ≡ user_flags regs.eflags) (sym v.child.registers) v.own.flags;
+    at = subst (λ (at : Place). StandsAt at (view_of s.spaces (slot_at s m).directory) child newborn) (sym child_at) (record {
+      program = ap guest (sym v.child.registers);
+      phase = refl;
+      words = v.child_own.words;
+      silent = v.child_own.silent;
+      awake = refl;
+    });
+  }
+
+  parent_stands : StandsForBorn names s.spaces parent back
+  parent_stands = back_at_guest (record k.registers { eax = id }) v.own in_fork.silent in_fork.awake v.outside refl refl
+
+  slots_stand : (j : ℕ) → StandsForSlot names s.spaces (slots_after j) (abstract_after j)
+  slots_stand =
+      upd-both (λ j (x : Slot) (y : AbstractSlot). StandsForSlot names s.spaces x y) (upd s.environments.slots m child) (upd a.slots m (born newborn))
+      n parent (born back) parent_stands
+      (λ j ne. upd-both (λ j (x : Slot) (y : AbstractSlot). StandsForSlot names s.spaces x y) s.environments.slots a.slots m child (born newborn)
+      child_stands (λ q apart. h.slots q) j)
+
+  -- ---- who bears whom
+
+  slot_parent : slots_after n ≡ parent
+  slot_parent = upd-at (upd s.environments.slots m child) n parent
+
+  slot_child : slots_after m ≡ child
+  slot_child = upd-other (upd s.environments.slots m child) n parent m v.apart ∙ upd-at s.environments.slots m child
+
+  slot_same : (j : ℕ) → j ≢ n → j ≢ m → slots_after j ≡ slot_at s j
+  slot_same j ne apart = upd-other (upd s.environments.slots m child) n parent j ne ∙ upd-other s.environments.slots m child j apart
+
+  abstract_parent : abstract_after n ≡ born back
+  abstract_parent = upd-at (upd a.slots m (born newborn)) n (born back)
+
+  abstract_child : abstract_after m ≡ born newborn
+  abstract_child = upd-other (upd a.slots m (born newborn)) n (born back) m v.apart ∙ upd-at a.slots m (born newborn)
+
+  abstract_same : (j : ℕ) → j ≢ n → j ≢ m → abstract_after j ≡ a.slots j
+  abstract_same j ne apart = upd-other (upd a.slots m (born newborn)) n (born back) j ne ∙ upd-other a.slots m (born newborn) j apart
+
+  others_borne : (j own_id parent_id : ℕ) → j ≢ n → j ≢ m → a.slots j ≡ unborn own_id parent_id →
+      IsBorne names s.spaces (slots_after (parent_id % NENV)) (abstract_after (parent_id % NENV)) (slots_after j) own_id parent_id
+  others_borne j own_id parent_id ne apart is =
+      let was = h.children.borne j own_id parent_id is in
+      let p = parent_id % NENV in
+      let own : StandsForUnborn (slot_at s j) own_id parent_id =
+      subst (λ (y : AbstractSlot). StandsForSlot names s.spaces (slot_at s j) y) is (h.slots j) in
+      let lives : is_live_slot (slot_at s j) ≡ true = live_stands h j ∙ ap (λ (x : AbstractSlot). is_live x) is in
+      let here : own_id % NENV ≡ j = ap (λ (q : ℕ). q % NENV) (sym own.id_is) ∙ h.tabled.ids j lives in
+      let other_parent : p ≢ n = λ same.
+      let its_step : was.step ≡ step.ChildRuns id =
+      same_step was.step (step.ChildRuns id) (sym was.at ∙ ap (λ (q : ℕ). place_of (slot_at s q)) same ∙ v.place) in
+      let one : own_id ≡ id = same_Some own_id id (sym was.borne ∙ ap borne_at its_step ∙ v.borne) in
+      apart (sym here ∙ ap (λ (q : ℕ). q % NENV) one) in
+      let not_child : p ≢ m = λ same.
+      let contradiction : born was.b ≡ unborn id v.b.id = sym was.born_by ∙ ap a.slots same ∙ v.child_is in absurd cc in
+      let its_parent = slot_same p other_parent not_child in
+      borne_moved (slots_after p) (abstract_after p) (slots_after j) (ap (λ (x : Slot). place_of x) its_parent)
+      (ap (λ (x : Slot). x.registers) its_parent) (abstract_same p other_parent not_child)
+      (same_child (slot_at s j) (slots_after j) (slot_same j ne apart)) (same_space names s.spaces (slot_at s j).directory) was
+
+  borne_still : (j own_id parent_id : ℕ) → abstract_after j ≡ unborn own_id parent_id →
+      IsBorne names s.spaces (slots_after (parent_id % NENV)) (abstract_after (parent_id % NENV)) (slots_after j) own_id parent_id
+  borne_still j own_id parent_id is =
+      let ne : j ≢ n = λ same.
+      let contradiction : born back ≡ unborn own_id parent_id = sym abstract_parent ∙ ap abstract_after (sym same) ∙ is in absurd cc in
+      let apart : j ≢ m = λ same.
+      let contradiction : born newborn ≡ unborn own_id parent_id = sym abstract_child ∙ ap abstract_after (sym same) ∙ is in absurd cc in
+      others_borne j own_id parent_id ne apart (sym (abstract_same j ne apart) ∙ is)
+
+  -- at their programs the two bear none
+  bears_none : (q own_id : ℕ) (x : Slot) → slots_after q ≡ x → place_of x ≡ place.Guest → borne_in (place_of (slots_after q)) ≡ Some own_id → ⊥
+  bears_none q own_id x is at bears =
+      none-some own_id (sym (ap (λ (y : Slot). borne_in (place_of y)) is ∙ ap borne_in at) ∙ bears)
+
+  have_still : (q own_id : ℕ) (c : Born) → abstract_after q ≡ born c → borne_in (place_of (slots_after q)) ≡ Some own_id →
+      abstract_after (own_id % NENV) ≡ unborn own_id c.id
+  have_still q own_id c is bears =
+      let ne : q ≢ n = λ same. bears_none q own_id parent (ap slots_after same ∙ slot_parent) parent_at bears in
+      let apart : q ≢ m = λ same. bears_none q own_id child (ap slots_after same ∙ slot_child) child_at bears in
+      let was : a.slots q ≡ born c = sym (abstract_same q ne apart) ∙ is in
+      let has = h.children.have q own_id c was (ap (λ (x : Slot). borne_in (place_of x)) (sym (slot_same q ne apart)) ∙ bears) in
+      let r = own_id % NENV in
+      let not_parent : r ≢ n = λ same.
+      let contradiction : born v.b ≡ unborn own_id c.id = sym v.is ∙ ap a.slots (sym same) ∙ has in absurd cc in
+      let not_child : r ≢ m = λ same.
+      let one = same_unborn id v.b.id own_id c.id (sym v.child_is ∙ ap a.slots (sym same) ∙ has) in
+      let lives : is_live_slot (slot_at s q) ≡ true = live_stands h q ∙ ap (λ (x : AbstractSlot). is_live x) was in
+      let named : c.id % NENV ≡ q = ap (λ (i : ℕ). i % NENV) (sym (ids_stand h q ∙ ap slot_id was)) ∙ h.tabled.ids q lives in
+      ne (sym named ∙ ap (λ (i : ℕ). i % NENV) (sym one.1) ∙ v.named) in
+      abstract_same r not_parent not_child ∙ has
+
+  -- ---- the state
+
+  abbrev running : KernelState
+  running = with_slot_at s m child
+
+  parent_was : slot_at running n ≡ k
+  parent_was = slot_kept s m child n (λ same. v.apart (sym same))
+
+  live_so : is_live_slot parent ≡ is_live_slot (slot_at running n)
+  live_so = ap (λ (x : Slot). is_live_slot x) (sym parent_was)
+
+  space_so : parent.directory ≡ (slot_at running n).directory
+  space_so = ap (λ (x : Slot). x.directory) (sym parent_was)
+
+  counts_so : (row : EntryRow) (p : ℕ) → counted (place_of parent) row p ≡ counted (place_of (slot_at running n)) row p
+  counts_so row p =
+      ap (λ (at : Place). counted at row p) parent_at
+      ∙ runs_counts id row p
+      ∙ ap (λ (at : Place). counted at row p) (sym v.place)
+      ∙ ap (λ (x : Slot). counted (place_of x) row p) (sym parent_was)
+
+  all_count : (j p : ℕ) → logical s.spaces slots_after j p ≡ logical s.spaces s.environments.slots j p
+  all_count j p =
+      set_counts running n parent live_so space_so counts_so j p
+      ∙ set_counts s m child (sym child_lives) refl (λ row q. refl) j p
+
+  rows : RowsStand names s.spaces.pages a.shared a.next_name (logical s.spaces slots_after)
+  rows = rows_same (logical s.spaces s.environments.slots) (logical s.spaces slots_after) all_count (rows_stand h)
+
+  not_first : 0 ≢ m
+  not_first first = let contradiction : serving FIRST_ENV_ID ≡ unborn id v.b.id = sym h.first ∙ ap a.slots first ∙ v.child_is in absurd cc
+
+  both_stand : StandsFor names (with_slot_at running n parent) (with_born (with_born a m newborn) n back)
+  both_stand = record {
+    slots = slots_stand;
+    children = record { borne = borne_still; have = have_still };
+    apart = rows.apart;
+    named = rows.named;
+    users = rows.users;
+    whole = rows.whole;
+    free_slots = h.free_slots;
+    first = abstract_same 0 (born_not_first h n v.b v.is) not_first ∙ h.first;
+    server = h.server;
+    input = h.input;
+    last = h.last;
+    turns = h.turns;
+    tabled = tabled_set (tabled_set h.tabled m child child_lives (stopped_settles (slot_at s m) child refl refl refl)) n parent
+        (ap (λ (x : Slot). is_live_slot x) parent_was ∙ born_live v.own) (record {
+          id = ap (λ (x : Slot). x.id) (sym parent_was);
+          env_type = ap (λ (x : Slot). x.env_type) (sym parent_was);
+          calm = λ runs. subst (λ (x : Slot). is_running x.status ≡ true) (sym parent_was) runs;
+        });
+    in_order = slot_in_order running n parent live_so space_so (slot_in_order s m child (sym child_lives) refl h.in_order);
+  }
+
+  -- the child is let run, and its parent is answered its id
+  pub birth_stands : StandsFor names (service_answered (with_status s m Runnable) n id) (bear a n v.b k.registers m)
+  birth_stands =
+      let state : service_answered running n id ≡ with_slot_at running n parent =
+      ap (λ (x : Slot). with_slot_at running n (record x { registers = record x.registers { eax = id }; extra = no_extra })) parent_was in
+      let abstract_is : bear a n v.b k.registers m ≡ with_born (with_born a m newborn) n back =
+      ap (λ (q : ℕ). answered (with_born a m (child_of v.b k.registers q)) n v.b k.registers q) (ap slot_id v.child_is) in
+      subst (λ (t : KernelState). StandsFor names t (bear a n v.b k.registers m)) (sym state)
+      (subst (λ (c : AbstractState). StandsFor names (with_slot_at running n parent) c) (sym abstract_is) both_stand)
+
+  -- which is the last step of fork
+  pub birth_step : abs_step a n ≡ Some (bear a n v.b k.registers m)
+  unfolding library_step
+  birth_step = step_in a n v.b k service.Fork (bearing m) v.is in_fork

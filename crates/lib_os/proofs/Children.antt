@@ -1,0 +1,139 @@
+-- Children that are not born: each goes on being borne by its parent, while nothing of the two is seen to change.
+use Rattle.std.proofs.Common.{◌≡◌, ◌≢◌, ◌∙◌, ◌==◌, ◌%◌, ℕ, Bool, true, false, Some, None, is_some, refl, sym, ap, subst, arith}
+use Rattle.std.proofs.lemmas.Bool.Decides.{nat_tests}
+use Rattle.std.proofs.lemmas.Option.{none-some}
+use Rattle.jos_base.specs.declared.numbers.TheConstants.{NENV}
+use Rattle.jos_base.specs.declared.registers.Regs.{Regs}
+use Rattle.jos_base.specs.Environments.{Slot}
+use Rattle.jos_base.specs.SpacesState.{SpacesState}
+use Rattle.lib_os.specs.AbstractState.{AbstractSlot, Born, unborn, born, is_live}
+use Rattle.lib_os.specs.Places.{place_of}
+use Rattle.lib_os.specs.Rows.{Names, EntryRow, rows_of, page_seen}
+use Rattle.lib_os.specs.StandsFor.{HasChildren, IsBorne, ChildPages, borne_in}
+use Rattle.lib_os.proofs.SlotsStand.{SeenAlike, seen_alike}
+
+-- ---- one child
+
+-- its slot and that of its parent are what they were, as far as is told of a child
+pub record SameChild (k after : Slot) : Type 0 where
+  pub registers : after.registers ≡ k.registers
+  pub upcall : after.upcall ≡ k.upcall
+  pub directory : after.directory ≡ k.directory
+
+pub same_child : (k after : Slot) → after ≡ k → SameChild k after
+same_child k after same = record {
+  registers = ap (λ (x : Slot). x.registers) same;
+  upcall = ap (λ (x : Slot). x.upcall) same;
+  directory = ap (λ (x : Slot). x.directory) same;
+}
+
+pub borne_moved : {names after : Names} {s t : SpacesState} {parent : Slot} {parent_is : AbstractSlot} {k : Slot} {id parent_id : ℕ}
+    (parent_after : Slot) (parent_after_is : AbstractSlot) (k_after : Slot) → place_of parent_after ≡ place_of parent →
+    parent_after.registers ≡ parent.registers → parent_after_is ≡ parent_is → SameChild k k_after → SeenAlike names after s t k.directory →
+    IsBorne names s parent parent_is k id parent_id → IsBorne after t parent_after parent_after_is k_after id parent_id
+borne_moved {names = names} {after = after} {s = s} {t = t} {k = k} parent_after parent_after_is k_after place registers same child seen h = record {
+  b = h.b;
+  born_by = same ∙ h.born_by;
+  named = h.named;
+  step = h.step;
+  at = place ∙ h.at;
+  borne = h.borne;
+  registers = child.registers ∙ h.registers ∙ ap (λ (r : Regs). record r { eax = 0 }) (sym registers);
+  upcall = child.upcall ∙ h.upcall;
+  passed = λ p inside passed.
+      ap (λ (d : ℕ). page_seen after t d p) child.directory ∙ seen_alike seen p ∙ h.passed p inside passed;
+  rest = λ p inside off.
+      ap (λ (d : ℕ). rows_of t d p) child.directory ∙ ap (λ (r : EntryRow). r p) seen.rows ∙ h.rest p inside off;
+  library = subst (λ (r : EntryRow). ChildPages h.step r) (sym (ap (λ (d : ℕ). rows_of t d) child.directory ∙ seen.rows)) h.library;
+  tables = λ r table. h.tables r (sym (seen.regions r) ∙ sym (ap (λ (d : ℕ). is_some (t.regions d r)) child.directory) ∙ table);
+}
+
+-- ---- all of them
+
+-- no child is made here, and none is borne
+pub record BearsNone (k : Slot) (slot : AbstractSlot) : Type 0 where
+  pub bears : (b : Born) → slot ≡ born b → borne_in (place_of k) ≡ None
+  pub no_child : (id parent : ℕ) → slot ≢ unborn id parent
+
+pub born_bears_none : (k : Slot) (slot : AbstractSlot) (b : Born) → slot ≡ born b → borne_in (place_of k) ≡ None → BearsNone k slot
+born_bears_none k slot b is none = record {
+  bears = λ c at. none;
+  no_child = λ id parent at. let contradiction : born b ≡ unborn id parent = sym is ∙ at in absurd cc;
+}
+
+-- who bears a child is another slot than one that bears none
+pub parent_elsewhere : {names : Names} {s : SpacesState} {slots : ℕ → Slot} {abstract : ℕ → AbstractSlot} → HasChildren names s slots abstract →
+    (n : ℕ) → BearsNone (slots n) (abstract n) → (m id parent : ℕ) → abstract m ≡ unborn id parent → parent % NENV ≢ n
+parent_elsewhere {slots = slots} {abstract = abstract} h n none m id parent is same =
+    let child = h.borne m id parent is in
+    let bears : borne_in (place_of (slots n)) ≡ Some id =
+    ap (λ (q : ℕ). borne_in (place_of (slots q))) (sym same) ∙ ap borne_in child.at ∙ child.borne in
+    none-some id (sym (none.bears child.b (ap abstract (sym same) ∙ child.born_by)) ∙ bears)
+
+module _ {names after : Names} {s t : SpacesState} {slots slots_after : ℕ → Slot} {abstract abstract_after : ℕ → AbstractSlot}
+    (h : HasChildren names s slots abstract) where
+  -- One slot is another, which bore no child and bears none.
+  pub children_kept : (n : ℕ) → ((m : ℕ) → m ≢ n → slots_after m ≡ slots m) → ((m : ℕ) → m ≢ n → abstract_after m ≡ abstract m) →
+      ((m : ℕ) → m ≢ n → is_live (abstract m) ≡ true → SeenAlike names after s t (slots m).directory) →
+      BearsNone (slots n) (abstract n) → BearsNone (slots_after n) (abstract_after n) → HasChildren after t slots_after abstract_after
+  children_kept n same same_abstract seen none none_after = record { borne = borne; have = have }
+    where
+      borne_elsewhere : (m id parent : ℕ) → m ≢ n → abstract_after m ≡ unborn id parent →
+          IsBorne after t (slots_after (parent % NENV)) (abstract_after (parent % NENV)) (slots_after m) id parent
+      borne_elsewhere m id parent ne is =
+          let was : abstract m ≡ unborn id parent = sym (same_abstract m ne) ∙ is in
+          let apart : parent % NENV ≢ n = parent_elsewhere h n none m id parent was in
+          let its_parent : slots_after (parent % NENV) ≡ slots (parent % NENV) = same (parent % NENV) apart in
+          borne_moved (slots_after (parent % NENV)) (abstract_after (parent % NENV)) (slots_after m)
+          (ap (λ (k : Slot). place_of k) its_parent) (ap (λ (k : Slot). k.registers) its_parent) (same_abstract (parent % NENV) apart)
+          (same_child (slots m) (slots_after m) (same m ne)) (seen m ne (ap (λ (x : AbstractSlot). is_live x) was)) (h.borne m id parent was)
+
+      borne : (m id parent : ℕ) → abstract_after m ≡ unborn id parent →
+          IsBorne after t (slots_after (parent % NENV)) (abstract_after (parent % NENV)) (slots_after m) id parent
+      borne m id parent is = by_slot (m == n) refl
+        where
+          by_slot : (c : Bool) → (m == n) ≡ c →
+              IsBorne after t (slots_after (parent % NENV)) (abstract_after (parent % NENV)) (slots_after m) id parent
+          by_slot true test =
+              let here : m ≡ n = grind (arith, nat_tests) in absurd (none_after.no_child id parent (ap abstract_after (sym here) ∙ is))
+          by_slot false test = borne_elsewhere m id parent (grind (arith, nat_tests)) is
+
+      have_elsewhere : (q id : ℕ) (b : Born) → q ≢ n → abstract_after q ≡ born b → borne_in (place_of (slots_after q)) ≡ Some id →
+          abstract_after (id % NENV) ≡ unborn id b.id
+      have_elsewhere q id b ne is bears =
+          let was : abstract (id % NENV) ≡ unborn id b.id =
+          h.have q id b (sym (same_abstract q ne) ∙ is) (ap (λ (k : Slot). borne_in (place_of k)) (sym (same q ne)) ∙ bears) in
+          let apart : id % NENV ≢ n = λ here. none.no_child id b.id (ap abstract (sym here) ∙ was) in
+          same_abstract (id % NENV) apart ∙ was
+
+      have : (q id : ℕ) (b : Born) → abstract_after q ≡ born b → borne_in (place_of (slots_after q)) ≡ Some id →
+          abstract_after (id % NENV) ≡ unborn id b.id
+      have q id b is bears = by_slot (q == n) refl
+        where
+          by_slot : (c : Bool) → (q == n) ≡ c → abstract_after (id % NENV) ≡ unborn id b.id
+          by_slot true test =
+              let here : q ≡ n = grind (arith, nat_tests) in
+              absurd (none-some id (sym (none_after.bears b (ap abstract_after (sym here) ∙ is))
+              ∙ ap (λ (p : ℕ). borne_in (place_of (slots_after p))) (sym here) ∙ bears))
+          by_slot false test = have_elsewhere q id b (grind (arith, nat_tests)) is bears
+
+  -- Each slot stands where it stood, with its registers.
+  pub children_still : ((m : ℕ) → place_of (slots_after m) ≡ place_of (slots m)) → ((m : ℕ) → SameChild (slots m) (slots_after m)) →
+      ((m : ℕ) → abstract_after m ≡ abstract m) →
+      ((m : ℕ) → is_live (abstract m) ≡ true → SeenAlike names after s t (slots m).directory) → HasChildren after t slots_after abstract_after
+  children_still places same same_abstract seen = record {
+    borne = λ m id parent is.
+        let was : abstract m ≡ unborn id parent = sym (same_abstract m) ∙ is in
+        let p = parent % NENV in
+        borne_moved (slots_after p) (abstract_after p) (slots_after m) (places p) (same p).registers (same_abstract p) (same m)
+        (seen m (ap (λ (x : AbstractSlot). is_live x) was)) (h.borne m id parent was);
+    have = λ q id b is bears.
+        same_abstract (id % NENV) ∙ h.have q id b (sym (same_abstract q) ∙ is) (ap borne_in (sym (places q)) ∙ bears);
+  }
+
+-- ---- one slot is another
+
+-- it bears no child before and after, or stands where it stood
+pub data KeepsChild (before after : Slot) : Type 0 where
+  bears_none : borne_in (place_of before) ≡ None → borne_in (place_of after) ≡ None → KeepsChild before after
+  stands_still : place_of after ≡ place_of before → SameChild before after → KeepsChild before after

@@ -1,0 +1,457 @@
+-- Behind the first step of fork the kernel's state stands for the abstract one behind its own: the child's slot is taken, and its
+-- parent stands where it is about to pass on its pages, of which the child has none yet.
+use Rattle.std.proofs.Common.{◌≡◌, ◌≢◌, ◌∙◌, ◌==◌, ◌+◌, ◌*◌, ◌%◌, ◌<◌, ◌≤◌, ℕ, Bool, true, false, List, [], ◌∷◌, Option, Some, None, is_some, refl, sym, ap, subst, arith}
+use Rattle.std.proofs.lemmas.Bool.{false≢true}
+use Rattle.std.proofs.lemmas.Bool.Decides.{nat_tests}
+use Rattle.std.proofs.lemmas.Option.{none-some, same_Some}
+use Rattle.jos_base.specs.declared.environment.EnvType.TheVariants.{User}
+use Rattle.jos_base.specs.declared.numbers.TheConstants.{NENV, NPTENTRIES, PGSIZE, USTACKTOP}
+use Rattle.jos_base.specs.declared.registers.Regs.{Regs}
+use Rattle.jos_base.specs.Environments.{Slot, is_live as is_live_slot, is_running, next_id}
+use Rattle.jos_base.specs.KernelState.{KernelState, slot_at, with_extra, with_slot_at}
+use Rattle.jos_base.specs.Reach.{Entry}
+use Rattle.jos_base.specs.SpacesState.{SpacesState, Region, Use, directory, free as unused, page as as_page}
+use Rattle.jos_base.specs.Words.{upd}
+use Rattle.lib_os.specs.declared.numbers.TheConstants.{SERVICE_FORK}
+use Rattle.lib_os.specs.declared.place.Place.{Place}
+use Rattle.lib_os.specs.declared.place.Place.TheVariants as place
+use Rattle.lib_os.specs.declared.place.Step.{Step}
+use Rattle.lib_os.specs.declared.place.Step.TheVariants as step
+use Rattle.lib_os.specs.declared.service.Service.{Service}
+use Rattle.lib_os.specs.declared.service.Service.TheVariants as service
+use Rattle.lib_os.specs.AbstractFork.{begun_in, fork}
+use Rattle.lib_os.specs.AbstractState.{AbstractState, AbstractSlot, Born, unborn, born, bearing, in_service, is_live, with_slot}
+use Rattle.lib_os.specs.Answers.{at_stage}
+use Rattle.lib_os.specs.InOrder.{IsInOrder, AreFree}
+use Rattle.lib_os.specs.LibraryPages.{region_index}
+use Rattle.lib_os.specs.Places.{place_of, words_at}
+use Rattle.lib_os.specs.Rows.{Names, EntryRow, rows_of, counted, logical, logical_by, is_programs}
+use Rattle.lib_os.specs.StandsFor.{StandsFor, StandsForSlot, StandsForBorn, StandsForUnborn, StandsAt, IsTabled, AreSlots, IsBorne}
+use Rattle.lib_os.specs.StandsFor.{IsBearing, view_of, borne_in, is_passed}
+use Rattle.lib_os.proofs.Bearing.{IsChild, child_borne}
+use Rattle.lib_os.proofs.Children.{borne_moved, same_child}
+use Rattle.lib_os.proofs.EntriesStand.{RowsStand, rows_stand, rows_same, rows_bytes}
+use Rattle.lib_os.proofs.Fences.{fence_below}
+use Rattle.lib_os.proofs.Forked.{child_slot, space_begun, next_id_names, next_id_small}
+use Rattle.lib_os.proofs.Logical.{logical_live, logical_some, logical_alike}
+use Rattle.lib_os.proofs.Numbered.{named_at}
+use Rattle.lib_os.proofs.Releasing.{row_entry}
+use Rattle.lib_os.proofs.Serving.{IsServed, served, library_moved, plain_copy, plain_upcall, words_of_none}
+use Rattle.lib_os.proofs.SlotsStand.{SeenAlike, slot_stands, born_stands, live_stands, ids_stand, born_live}
+use Rattle.lib_os.proofs.StatesStand.{slot_in_order, tabled_set, born_not_first}
+use Rattle.lib_os.proofs.WordsTell.{handler_runs, is_in_handler, place_at}
+use Rattle.jos_base.proofs.Maps.{upd-at, upd-other, upd-all, upd-both}
+
+-- ---- the table
+
+-- a slot is taken by an environment whose id names it, and which does not run
+pub tabled_taken : {slots : ℕ → Slot} {last : Option ℕ} → IsTabled slots last → (m : ℕ) (k : Slot) → k.id % NENV ≡ m → k.env_type ≡ User →
+    is_running k.status ≡ false → IsTabled (upd slots m k) last
+tabled_taken {slots = slots} {last = last} h m k id user still = record {
+  ids = λ j. (at_slot j).0;
+  servers = λ j. (at_slot j).1;
+  running = λ j. (at_slot j).2;
+}
+  where
+    at_slot : (j : ℕ) → (is_live_slot (upd slots m k j) ≡ true → (upd slots m k j).id % NENV ≡ j)
+        × (j ≢ 0 → (upd slots m k j).env_type ≡ User) × (is_running (upd slots m k j).status ≡ true → last ≡ Some j)
+    at_slot =
+        upd-all (λ j (x : Slot). (is_live_slot x ≡ true → x.id % NENV ≡ j) × (j ≢ 0 → x.env_type ≡ User) × (is_running x.status ≡ true → last ≡ Some j))
+        slots m k ((λ live. id), (λ other. user), (λ runs. absurd (false≢true (sym still ∙ runs))))
+        (λ j ne. (h.ids j, h.servers j, h.running j))
+
+-- ---- entries as they count
+
+-- at these two steps they count as they stand
+entered_counts : (row : EntryRow) (p : ℕ) → counted (place.InService service.Fork step.Entered) row p ≡ row p
+unfolding counted
+entered_counts row p = refl
+
+region_counts : (id region : ℕ) (row : EntryRow) (p : ℕ) → counted (place.InService service.Fork (step.ForkRegion id region)) row p ≡ row p
+unfolding counted
+region_counts id region row p = refl
+
+guest_counts : (row : EntryRow) (p : ℕ) → counted place.Guest row p ≡ row p
+unfolding counted
+guest_counts row p = refl
+
+-- ---- a child that has nothing yet
+
+-- no page of a program is passed on
+none_passed : (id p : ℕ) → is_programs p ≡ true → is_passed (step.ForkRegion id (region_index USTACKTOP)) p ≡ true → ⊥
+none_passed id p inside passed =
+    let below : p * PGSIZE + PGSIZE ≤ USTACKTOP = fence_below (p * PGSIZE) PGSIZE inside in
+    let above : (region_index USTACKTOP + 1) * NPTENTRIES ≤ p = grind (arith, nat_tests) in
+    omega (arith, below, above)
+
+module _ {names : Names} {s : KernelState} {a : AbstractState} (h : StandsFor names s a) (n : ℕ)
+    (stands : place_of (slot_at s n) ≡ place.InService service.Fork step.Entered) (m : ℕ) (slots : List ℕ)
+    (slots_are : s.environments.free_slots ≡ m ∷ slots) (f : ℕ) (frames : List ℕ) (frames_are : s.spaces.free ≡ f ∷ frames)
+    (nobody : is_live_slot (slot_at s m) ≡ false) where
+  abbrev v : IsServed names s a n service.Fork step.Entered
+  v = served h n service.Fork step.Entered stands
+
+  abbrev b : Born
+  b = v.b
+
+  abbrev regs : Regs
+  regs = (slot_at s n).registers
+
+  abbrev id : ℕ
+  id = next_id (slot_at s m).id m
+
+  abbrev to : Step
+  to = step.ForkRegion id (region_index USTACKTOP)
+
+  abbrev child : Slot
+  child = child_slot id (slot_at s n).id regs f
+
+  abbrev parent : Slot
+  parent = record (slot_at s n) { extra = words_at SERVICE_FORK to }
+
+  abbrev sp : SpacesState
+  sp = space_begun s.spaces f frames
+
+  -- behind the call, and behind the step
+  abbrev mid : KernelState
+  mid = record s { spaces = sp; environments = record { slots = upd s.environments.slots m child; free_slots = slots } }
+
+  abbrev slots_after : ℕ → Slot
+  slots_after = upd (upd s.environments.slots m child) n parent
+
+  abbrev bearer : Born
+  bearer = record b { phase = in_service service.Fork (bearing m) }
+
+  abbrev abstract_after : ℕ → AbstractSlot
+  abstract_after = upd (upd a.slots m (unborn id b.id)) n (born bearer)
+
+  abbrev forked : AbstractState
+  forked = record a { slots = abstract_after; free_slots = slots }
+
+  live : is_live_slot (slot_at s n) ≡ true
+  live = born_live v.own
+
+  pub apart : m ≢ n
+  apart same = false≢true (sym nobody ∙ ap (λ (j : ℕ). is_live_slot (slot_at s j)) same ∙ live)
+
+  listed : AreSlots (m ∷ slots)
+  listed = subst (λ (l : List ℕ). AreSlots l) slots_are h.free_slots.within
+
+  below : m < NENV
+  below = let all = listed in all.0
+
+  names_it : id % NENV ≡ m
+  names_it = next_id_names (slot_at s m).id m below
+
+  -- the abstract system's step
+  pub fork_is : fork a n b regs ≡ forked
+  fork_is =
+      ap (λ (l : List ℕ). begun_in a n b regs l) (sym h.free_slots.same ∙ slots_are)
+      ∙ ap (λ (i : ℕ). at_stage (record (with_slot a m (unborn (next_id i m) b.id)) { free_slots = slots }) n b service.Fork (bearing m))
+      (sym (ids_stand h m))
+
+  -- ---- spaces
+
+  frame_free : s.spaces.uses f ≡ unused
+  frame_free = let all = subst (AreFree s.spaces.uses) frames_are h.in_order.frames.free_list in all.0
+
+  no_directory : s.spaces.uses f ≢ directory
+  no_directory is = let contradiction : ◌≡◌ {A = Use} unused directory = sym frame_free ∙ is in absurd cc
+
+  rows_kept : (d : ℕ) → rows_of sp d ≡ rows_of s.spaces d
+  unfolding rows_of
+  rows_kept d = refl
+
+  page_kept : (d p : ℕ) (x : Entry) → rows_of s.spaces d p ≡ Some x → sp.pages x.frame ≡ s.spaces.pages x.frame
+  page_kept d p x is =
+      let e = row_entry s.spaces d p x is in
+      upd-other s.spaces.pages f [] x.frame (λ same.
+      let contradiction : ◌≡◌ {A = Use} as_page unused =
+      sym (h.in_order.frames.pages d p e.0 e.1) ∙ ap s.spaces.uses (e.2 ∙ same) ∙ frame_free in absurd cc)
+
+  seen : (d : ℕ) → SeenAlike names names s.spaces sp d
+  seen d = record {
+    rows = rows_kept d;
+    bytes = λ p x is own_page. page_kept d p x is;
+    named_so = λ p x is shared_page. refl;
+    regions = λ r. refl;
+  }
+
+  -- the child has no page and no table
+  no_row : (p : ℕ) → rows_of sp f p ≡ None
+  no_row p = ap (λ (row : EntryRow). row p) (rows_kept f) ∙ by_row (rows_of s.spaces f p) refl
+    where
+      by_row : (o : Option Entry) → rows_of s.spaces f p ≡ o → o ≡ None
+      by_row None is = refl
+      by_row (Some x) is = let e = row_entry s.spaces f p x is in absurd (no_directory (h.in_order.frames.owners f p e.0 e.1))
+
+  no_table : (r : ℕ) → is_some (sp.regions f r) ≡ false
+  no_table r = by_region (s.spaces.regions f r) refl
+    where
+      by_region : (o : Option Region) → s.spaces.regions f r ≡ o → is_some o ≡ false
+      by_region None is = refl
+      by_region (Some region) is = absurd (no_directory (h.in_order.frames.region_owners f r region is))
+
+  -- ---- slots
+
+  parent_here : slots_after n ≡ parent
+  parent_here = upd-at (upd s.environments.slots m child) n parent
+
+  child_here : slots_after m ≡ child
+  child_here = upd-other (upd s.environments.slots m child) n parent m apart ∙ upd-at s.environments.slots m child
+
+  slots_else : (j : ℕ) → j ≢ n → j ≢ m → slots_after j ≡ slot_at s j
+  slots_else j ne other = upd-other (upd s.environments.slots m child) n parent j ne ∙ upd-other s.environments.slots m child j other
+
+  bearer_here : abstract_after n ≡ born bearer
+  bearer_here = upd-at (upd a.slots m (unborn id b.id)) n (born bearer)
+
+  unborn_here : abstract_after m ≡ unborn id b.id
+  unborn_here = upd-other (upd a.slots m (unborn id b.id)) n (born bearer) m apart ∙ upd-at a.slots m (unborn id b.id)
+
+  abstract_else : (j : ℕ) → j ≢ n → j ≢ m → abstract_after j ≡ a.slots j
+  abstract_else j ne other = upd-other (upd a.slots m (unborn id b.id)) n (born bearer) j ne ∙ upd-other a.slots m (unborn id b.id) j other
+
+  nobody_there : is_live (a.slots m) ≡ false
+  nobody_there = sym (live_stands h m) ∙ nobody
+
+  there : place_of parent ≡ place.InService service.Fork to
+  there =
+      place_at regs SERVICE_FORK to v.outside
+      ∙ ap (λ (x : Service). place.InService x to) (named_at (slot_at s n) service.Fork step.Entered stands)
+
+  child_place : place_of child ≡ place.Guest
+  child_place = words_of_none child.registers child.extra v.outside refl
+
+  its_own : StandsForUnborn child id b.id
+  its_own = record {
+    id_is = refl;
+    id_small = let small = next_id_small (slot_at s m).id m below in omega (arith, small);
+    parent_is = v.own.id;
+    env_type = refl;
+    status = refl;
+    silent = refl;
+    words = refl;
+    stack = v.outside;
+  }
+
+  mine : StandsForBorn names sp parent bearer
+  mine =
+      let own : StandsForBorn names sp (slot_at s n) b = born_stands (slot_at s n) b (seen (slot_at s n).directory) v.own in
+      let plain : is_in_handler (place_of (slot_at s n)) ≡ false = handler_runs regs (slot_at s n).extra ∙ v.outside in
+      let plain_after : is_in_handler (place_of parent) ≡ false = ap is_in_handler there in
+      let bears : IsBearing parent bearer id = record {
+        program = v.at.program;
+        phase = ap (λ (j : ℕ). in_service service.Fork (bearing j)) (sym names_it);
+        silent = v.at.silent;
+        awake = v.at.awake;
+      } in
+      record {
+        id = own.id;
+        id_small = own.id_small;
+        parent = own.parent;
+        env_type = own.env_type;
+        runs = own.runs;
+        upcall = own.upcall ∙ plain_upcall (place_of (slot_at s n)) plain ∙ sym (plain_upcall (place_of parent) plain_after);
+        descriptors = own.descriptors;
+        memory = own.memory;
+        library = library_moved (place_of (slot_at s n)) (place_of parent) (rows_of sp (slot_at s n).directory)
+            (plain_copy (place_of (slot_at s n)) plain ∙ sym (plain_copy (place_of parent) plain_after)) own.library;
+        regions_have = own.regions_have;
+        regions_only = own.regions_only;
+        stack = own.stack;
+        flags = own.flags;
+        at = subst (λ (p : Place). StandsAt p (view_of sp (slot_at s n).directory) parent bearer) (sym there) (bears, omega arith);
+      }
+
+  slots_stand : (j : ℕ) → StandsForSlot names sp (slots_after j) (abstract_after j)
+  slots_stand =
+      upd-both (λ j (x : Slot) (y : AbstractSlot). StandsForSlot names sp x y) (upd s.environments.slots m child) (upd a.slots m (unborn id b.id))
+      n parent (born bearer) mine
+      (λ j ne. upd-both (λ j (x : Slot) (y : AbstractSlot). StandsForSlot names sp x y) s.environments.slots a.slots m child (unborn id b.id) its_own
+      (λ q other. slot_stands names names s.spaces sp (slot_at s q) (a.slots q) (h.slots q) (λ lives. seen (slot_at s q).directory)) j)
+
+  -- ---- entries
+
+  rows_count : (j p : ℕ) → logical sp slots_after j p ≡ logical s.spaces s.environments.slots j p
+  rows_count j p = by_parent (j == n) refl
+    where
+      here : logical sp slots_after n p ≡ logical s.spaces s.environments.slots n p
+      here =
+          let d = (slot_at s n).directory in
+          logical_live sp slots_after n (ap (λ (x : Slot). is_live_slot x) parent_here ∙ live) p
+          ∙ (λ i. counted (place_of (parent_here i)) (rows_of sp (parent_here i).directory) p)
+          ∙ ap (λ (at : Place). counted at (rows_of sp d) p) there
+          ∙ region_counts id (region_index USTACKTOP) (rows_of sp d) p
+          ∙ ap (λ (row : EntryRow). row p) (rows_kept d)
+          ∙ sym (entered_counts (rows_of s.spaces d) p)
+          ∙ sym (ap (λ (at : Place). counted at (rows_of s.spaces d) p) stands)
+          ∙ sym (logical_live s.spaces s.environments.slots n live p)
+
+      its : logical sp slots_after m p ≡ logical s.spaces s.environments.slots m p
+      its =
+          logical_live sp slots_after m (ap (λ (x : Slot). is_live_slot x) child_here) p
+          ∙ (λ i. counted (place_of (child_here i)) (rows_of sp (child_here i).directory) p)
+          ∙ ap (λ (at : Place). counted at (rows_of sp f) p) child_place
+          ∙ guest_counts (rows_of sp f) p
+          ∙ no_row p
+          ∙ sym (ap (λ (c : Bool). logical_by c (counted (place_of (slot_at s m)) (rows_of s.spaces (slot_at s m).directory)) p) nobody)
+
+      by_child : j ≢ n → (c : Bool) → (j == m) ≡ c → logical sp slots_after j p ≡ logical s.spaces s.environments.slots j p
+      by_child ne true test =
+          let same : m ≡ j = grind (arith, nat_tests) in
+          subst (λ (q : ℕ). logical sp slots_after q p ≡ logical s.spaces s.environments.slots q p) same its
+      by_child ne false test =
+          let other : j ≢ m = grind (arith, nat_tests) in
+          let slot = slots_else j ne other in
+          logical_alike s.spaces sp s.environments.slots slots_after j (ap (λ (x : Slot). is_live_slot x) slot) (ap (λ (x : Slot). place_of x) slot)
+          (λ lives. ap (λ (x : Slot). rows_of sp x.directory) slot ∙ rows_kept (slot_at s j).directory) p
+
+      by_parent : (c : Bool) → (j == n) ≡ c → logical sp slots_after j p ≡ logical s.spaces s.environments.slots j p
+      by_parent true test =
+          let same : n ≡ j = grind (arith, nat_tests) in
+          subst (λ (q : ℕ). logical sp slots_after q p ≡ logical s.spaces s.environments.slots q p) same here
+      by_parent false test = by_child (grind (arith, nat_tests)) (j == m) refl
+
+  rows : RowsStand names sp.pages a.shared a.next_name (logical sp slots_after)
+  rows =
+      rows_same (logical s.spaces s.environments.slots) (logical sp slots_after) rows_count
+      (rows_bytes sp.pages (λ j p x is.
+      let found = (logical_some s.spaces s.environments.slots j p x is).1 in
+      subst (λ (g : ℕ). sp.pages g ≡ s.spaces.pages g) found.frame (page_kept (slot_at s j).directory p found.entry found.stands)) (rows_stand h))
+
+  -- ---- children
+
+  its_child : IsChild names sp parent bearer to child
+  its_child = record {
+    registers = refl;
+    upcall = refl;
+    passed = λ p inside passed. absurd (none_passed id p inside passed);
+    rest = λ p inside off. no_row p;
+    library = record {
+      stack = λ has. absurd (false≢true has);
+      no_stack = λ none. no_row _;
+      none = λ p outside other. no_row p;
+    };
+    tables = λ r table. absurd (false≢true (sym (no_table r) ∙ table));
+  }
+
+  named : b.id % NENV ≡ n
+  named = ap (λ (q : ℕ). q % NENV) (sym v.own.id) ∙ h.tabled.ids n live
+
+  abbrev Bears : ℕ → ℕ → ℕ → Type 0
+  Bears j own_id parent_id = IsBorne names sp (slots_after (parent_id % NENV)) (abstract_after (parent_id % NENV)) (slots_after j) own_id parent_id
+
+  its_borne : Bears m id b.id
+  its_borne =
+      subst (λ (q : ℕ). IsBorne names sp (slots_after q) (abstract_after q) (slots_after m) id b.id) (sym named)
+      (subst (λ (x : Slot). IsBorne names sp (slots_after n) (abstract_after n) x id b.id) (sym child_here)
+      (subst (λ (x : Slot). IsBorne names sp x (abstract_after n) child id b.id) (sym parent_here)
+      (child_borne id bearer_here there refl its_child)))
+
+  others_borne : (j own_id parent_id : ℕ) → j ≢ n → j ≢ m → a.slots j ≡ unborn own_id parent_id → Bears j own_id parent_id
+  others_borne j own_id parent_id ne other is =
+      let was = h.children.borne j own_id parent_id is in
+      let p = parent_id % NENV in
+      let not_parent : p ≢ n = λ same. none-some own_id
+      (sym (ap borne_in stands) ∙ ap (λ (q : ℕ). borne_in (place_of (slot_at s q))) (sym same) ∙ ap borne_in was.at ∙ was.borne) in
+      let not_child : p ≢ m = λ same.
+      false≢true (sym nobody_there ∙ ap (λ (q : ℕ). is_live (a.slots q)) (sym same) ∙ ap (λ (x : AbstractSlot). is_live x) was.born_by) in
+      let its_parent = slots_else p not_parent not_child in
+      borne_moved (slots_after p) (abstract_after p) (slots_after j) (ap (λ (x : Slot). place_of x) its_parent)
+      (ap (λ (x : Slot). x.registers) its_parent) (abstract_else p not_parent not_child)
+      (same_child (slot_at s j) (slots_after j) (slots_else j ne other)) (seen (slot_at s j).directory) was
+
+  same_unborn : (x y z w : ℕ) → unborn x y ≡ unborn z w → (x ≡ z) × (y ≡ w)
+  same_unborn x y z w same = (cc, cc)
+
+  borne_still : (j own_id parent_id : ℕ) → abstract_after j ≡ unborn own_id parent_id → Bears j own_id parent_id
+  borne_still j own_id parent_id is = by_parent (j == n) refl
+    where
+      by_child : j ≢ n → (c : Bool) → (j == m) ≡ c → Bears j own_id parent_id
+      by_child ne true test =
+          let here : m ≡ j = grind (arith, nat_tests) in
+          let same = same_unborn id b.id own_id parent_id (sym unborn_here ∙ ap abstract_after here ∙ is) in
+          subst (λ (q : ℕ). Bears q own_id parent_id) here
+          (subst (λ (q : ℕ). Bears m q parent_id) same.0 (subst (λ (q : ℕ). Bears m id q) same.1 its_borne))
+      by_child ne false test =
+          let other : j ≢ m = grind (arith, nat_tests) in
+          others_borne j own_id parent_id ne other (sym (abstract_else j ne other) ∙ is)
+
+      by_parent : (c : Bool) → (j == n) ≡ c → Bears j own_id parent_id
+      by_parent true test =
+          let here : n ≡ j = grind (arith, nat_tests) in
+          let contradiction : born bearer ≡ unborn own_id parent_id = sym bearer_here ∙ ap abstract_after here ∙ is in absurd cc
+      by_parent false test = by_child (grind (arith, nat_tests)) (j == m) refl
+
+  same_born : (x y : Born) → born x ≡ born y → x ≡ y
+  same_born x y same = cc
+
+  have_still : (q own_id : ℕ) (c : Born) → abstract_after q ≡ born c → borne_in (place_of (slots_after q)) ≡ Some own_id →
+      abstract_after (own_id % NENV) ≡ unborn own_id c.id
+  have_still q own_id c is bears = by_parent (q == n) refl
+    where
+      elsewhere : q ≢ n → q ≢ m → abstract_after (own_id % NENV) ≡ unborn own_id c.id
+      elsewhere ne other =
+          let was : a.slots (own_id % NENV) ≡ unborn own_id c.id =
+          h.children.have q own_id c (sym (abstract_else q ne other) ∙ is)
+          (ap (λ (x : Slot). borne_in (place_of x)) (sym (slots_else q ne other)) ∙ bears) in
+          let not_parent : own_id % NENV ≢ n = λ same.
+          let contradiction : born b ≡ unborn own_id c.id = sym v.is ∙ ap a.slots (sym same) ∙ was in absurd cc in
+          let not_child : own_id % NENV ≢ m = λ same.
+          false≢true (sym nobody_there ∙ ap (λ (j : ℕ). is_live (a.slots j)) (sym same) ∙ ap (λ (x : AbstractSlot). is_live x) was) in
+          abstract_else (own_id % NENV) not_parent not_child ∙ was
+
+      by_child : q ≢ n → (t : Bool) → (q == m) ≡ t → abstract_after (own_id % NENV) ≡ unborn own_id c.id
+      by_child ne true test =
+          let here : m ≡ q = grind (arith, nat_tests) in
+          let contradiction : unborn id b.id ≡ born c = sym unborn_here ∙ ap abstract_after here ∙ is in absurd cc
+      by_child ne false test = elsewhere ne (grind (arith, nat_tests))
+
+      by_parent : (t : Bool) → (q == n) ≡ t → abstract_after (own_id % NENV) ≡ unborn own_id c.id
+      by_parent true test =
+          let here : n ≡ q = grind (arith, nat_tests) in
+          let same : bearer ≡ c = same_born bearer c (sym bearer_here ∙ ap abstract_after here ∙ is) in
+          let it_bears : borne_in (place_of (slots_after n)) ≡ Some id = ap (λ (x : Slot). borne_in (place_of x)) parent_here ∙ ap borne_in there in
+          let one : id ≡ own_id = same_Some id own_id (sym it_bears ∙ ap (λ (j : ℕ). borne_in (place_of (slots_after j))) here ∙ bears) in
+          subst (λ (j : ℕ). abstract_after (j % NENV) ≡ unborn j c.id) one
+          (ap abstract_after names_it ∙ unborn_here ∙ ap (λ (x : Born). unborn id x.id) same)
+      by_parent false test = by_child (grind (arith, nat_tests)) (q == m) refl
+
+  -- ---- the whole
+
+  module _ (order : IsInOrder mid) where
+    caller_is : slot_at mid n ≡ slot_at s n
+    caller_is = upd-other s.environments.slots m child n (λ same. apart (sym same))
+
+    stands_with : StandsFor names (with_slot_at mid n parent) forked
+    stands_with = record {
+      slots = slots_stand;
+      children = record { borne = borne_still; have = have_still };
+      apart = rows.apart;
+      named = rows.named;
+      users = rows.users;
+      whole = rows.whole;
+      free_slots = record { same = refl; within = listed.1 };
+      first =
+          upd-other (upd a.slots m (unborn id b.id)) n (born bearer) 0 (born_not_first h n b v.is)
+          ∙ upd-other a.slots m (unborn id b.id) 0
+          (λ same. false≢true (sym nobody_there ∙ ap (λ (j : ℕ). is_live (a.slots j)) (sym same) ∙ ap (λ (x : AbstractSlot). is_live x) h.first))
+          ∙ h.first;
+      server = h.server;
+      input = h.input;
+      last = h.last;
+      turns = h.turns;
+      tabled = tabled_set (tabled_taken h.tabled m child names_it refl refl) n parent (ap (λ (x : Slot). is_live_slot x) caller_is ∙ live)
+          (record {
+            id = ap (λ (x : Slot). x.id) (sym caller_is);
+            env_type = ap (λ (x : Slot). x.env_type) (sym caller_is);
+            calm = λ runs. ap (λ (x : Slot). is_running x.status) caller_is ∙ runs;
+          });
+      in_order = slot_in_order mid n parent (ap (λ (x : Slot). is_live_slot x) (sym caller_is)) (ap (λ (x : Slot). x.directory) (sym caller_is)) order;
+    }
+
+    pub begun_stands : StandsFor names (with_extra mid n (words_at SERVICE_FORK to)) (fork a n b regs)
+    begun_stands =
+        subst (λ (z : AbstractState). StandsFor names (with_extra mid n (words_at SERVICE_FORK to)) z) (sym fork_is)
+        (subst (λ (x : Slot). StandsFor names (with_slot_at mid n (record x { extra = words_at SERVICE_FORK to })) forked) (sym caller_is) stands_with)
