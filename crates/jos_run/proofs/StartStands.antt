@@ -8,7 +8,7 @@ use Rattle.std.proofs.lemmas.Bool.{false≢true}
 use Rattle.std.proofs.lemmas.Bool.Decides.{nat_tests}
 use Rattle.std.proofs.lemmas.Option.{none-some}
 use Rattle.jos_base.specs.declared.registers.Regs.{Regs}
-use Rattle.jos_base.specs.Environments.{Slot, free_slot, is_live, no_extra, zero_registers}
+use Rattle.jos_base.specs.Environments.{Slot, is_live, no_extra, zero_registers}
 use Rattle.jos_base.specs.KernelState.{KernelState, with_spaces}
 use Rattle.jos_base.specs.Reach.{Entry}
 use Rattle.jos_base.specs.SpacesState.{SpacesState, reserved_frames}
@@ -18,7 +18,7 @@ use Rattle.jos_kernel.specs.Boot.{perm_of}
 use Rattle.jos_kernel.proofs.ImagesRead.{read_lie}
 use Rattle.lib_os.specs.declared.place.Place.{Place}
 use Rattle.lib_os.specs.declared.place.Place.TheVariants as place
-use Rattle.lib_os.specs.AbstractState.{AbstractSlot, Born, Page, free, own, named, serving, unborn}
+use Rattle.lib_os.specs.AbstractState.{Born, Page, free, own, named, unborn}
 use Rattle.lib_os.specs.Fence.{in_fence, is_resident}
 use Rattle.lib_os.specs.LibraryPages.{LibraryPages, is_library_region}
 use Rattle.lib_os.specs.LibrarySteps.{Stands}

@@ -44,6 +44,8 @@ pub mod Numbered
 pub mod GoingOn
 pub mod Quieting
 pub mod FramesKept
+pub mod FreeFrames
+pub mod FramesAsked
 pub mod Leaving
 pub mod StepsLeave
 pub mod Trying

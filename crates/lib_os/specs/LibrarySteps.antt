@@ -1,16 +1,17 @@
 -- What a step of the library promises. Wherever the kernel's state stands for one of the abstract system, the state after
 -- the step stands for the same one, where the step is hidden, or for the one after the slot's step there. Nothing is said
 -- of a step that was refused a frame or a slot.
-use Rattle.std.specs.Prelude.{◌≡◌, ◌≢◌, ◌<◌, ◌≤◌, ℕ, ◌+◌, ◌-◌, ◌*◌, ◌/◌, ◌^◌, ◌++◌, Bool, true, false, List, [], length}
+use Rattle.std.specs.Prelude.{◌≡◌, ◌≢◌, ◌<◌, ◌≤◌, ℕ, ◌+◌, ◌-◌, ◌*◌, ◌/◌, ◌^◌, ◌++◌, ◌==◌, ◌||◌, Bool, true, false, List, [], length, if◌then◌else◌}
 use Rattle.std.specs.Prelude.{Option, Some, None, Result, Ok, Err}
 use Rattle.jos_host.specs.declared.host.Failed.{Failed}
 use Rattle.jos_host.specs.Frames.{Around}
-use Rattle.jos_base.specs.declared.numbers.TheConstants.{NPTENTRIES}
+use Rattle.jos_base.specs.declared.numbers.TheConstants.{NPTENTRIES, SYS_EXOFORK, SYS_IPC_TRY_SEND, SYS_PAGE_ALLOC, SYS_PAGE_MAP}
 use Rattle.jos_base.specs.Counting.{page_limit}
 use Rattle.jos_base.specs.declared.registers.Regs.{Regs}
 use Rattle.jos_base.specs.Reach.{Entry}
 use Rattle.jos_base.specs.Environments.{Slot, is_live, is_runnable, is_running, no_extra}
 use Rattle.jos_base.specs.KernelState.{KernelState, slot_at, with_slot_at}
+use Rattle.jos_base.specs.SpacesState.{SpacesState}
 use Rattle.lib_os.specs.declared.user_os.Stop.{Stop}
 use Rattle.lib_os.specs.declared.user_os.Stop.TheVariants as stop
 use Rattle.lib_os.specs.declared.progress.Progress.{Progress}
@@ -87,6 +88,17 @@ pub record LeavesRest (before after : KernelState) : Type 0 where
   pub frames : after.spaces.frames ≡ before.spaces.frames
   pub refused : 2 ≤ length before.spaces.free → before.environments.free_slots ≢ [] → after.refusals ≡ before.refusals
   pub told : 0 < before.refusals → 0 < after.refusals
+
+-- so many frames were taken from the list, at most
+abbrev pub TakesAtMost : ℕ → SpacesState → SpacesState → Type 0
+TakesAtMost frames before after = length before.free ≤ length after.free + frames
+
+-- how many a system call may take: a page has a frame, and perhaps a table's; a space has a directory's
+abbrev pub frames_asked : ℕ → ℕ
+frames_asked number =
+    if number == SYS_PAGE_ALLOC then 2
+    else if (number == SYS_PAGE_MAP) || (number == SYS_EXOFORK) || (number == SYS_IPC_TRY_SEND) then 1
+    else 0
 
 abbrev pub is_yield : Place → Bool
 is_yield (place.InService service.Yield s) = true

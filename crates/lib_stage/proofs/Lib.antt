@@ -1,3 +1,4 @@
 pub mod Telling
+pub mod FramesTaken
 pub mod Driven
 pub mod Laws

@@ -8,6 +8,7 @@ use Rattle.jos_base.specs.KernelState.{KernelState, slot_at, with_registers}
 use Rattle.jos_base.specs.SystemCalls.{may_print}
 use Rattle.lib_os.specs.declared.user_os.Stop.{Stop}
 use Rattle.lib_os.specs.declared.user_os.Stop.TheVariants as stop
+use Rattle.lib_os.specs.LibrarySteps.{frames_asked}
 use Rattle.lib_os.specs.UserCalls as call
 use Rattle.lib_os.specs.UserCalls.{CallStep, Got, got, to_handler, gone, Output, Prints, PrintsPart}
 use Rattle.lib_stage.specs.declared.ask.Ask.{Ask}
@@ -52,6 +53,12 @@ performed s n (ask.StoreByte va byte) = told_as (λ done. 0) (call.store_byte s 
 performed s n (ask.Exchange va word) = told_as (λ stood. stood) (call.exchange s n va word)
 performed s n ask.RestoreFrame = told_as (λ done. 0) (call.restore_frame s n)
 performed s n (ask.Touch ip va write) = touching (at_instruction s n ip) n va write
+
+-- how many frames it may take from the list: none, but where it is a system call that asks for a page, a table or a space
+abbrev pub frames_of : Ask → ℕ
+frames_of (ask.System number args) = frames_asked number
+frames_of ask.Exofork = frames_asked SYS_EXOFORK
+frames_of _ = 0
 
 -- words lie at multiples of four
 abbrev pub IsAligned : Ask → Type 0
