@@ -202,6 +202,10 @@ class Processor:
             words = self.registers[:4] + [esp] + self.registers[5:]
             memory.write((esp - 32) & MASK, struct.pack("<8I", *reversed(words)))
             self.registers[ESP] = (esp - 32) & MASK
+        elif code == 0x61:
+            esp = self.registers[ESP]
+            words = list(reversed(struct.unpack("<8I", memory.read(esp, 32))))
+            self.registers[:] = words[:ESP] + [(esp + 32) & MASK] + words[ESP + 1 :]
         elif code in (0x68, 0x6A):
             self.push(memory, self.take(memory, 4) if code == 0x68 else self.take_signed(memory, 1))
         elif 0x70 <= code < 0x80 or code in (0xE8, 0xE9, 0xEB, 0xC3):

@@ -1,6 +1,6 @@
 -- What a step of a program leaves: the last turn and the number of turns, the frames and the refusals; and an environment that
 -- is not RUNNABLE is not so afterwards.
-use Rattle.std.proofs.Common.{◌≡◌, ◌∙◌, ◌==◌, ◌<◌, ℕ, Bool, true, false, Option, Some, None, Result, Ok, Err, IfSome, refl, sym, ap, subst}
+use Rattle.std.proofs.Common.{◌≡◌, ◌≢◌, ◌∙◌, ◌==◌, ◌<◌, ℕ, Bool, true, false, Option, Some, None, Result, Ok, Err, IfSome, refl, sym, ap, subst}
 use Rattle.std.proofs.Common.{if◌then◌else◌}
 use Rattle.jos_base.specs.declared.environment.Status.{Status}
 use Rattle.jos_base.specs.declared.line.Line.{Line}
@@ -28,14 +28,17 @@ use Rattle.jos_kernel.specs.Steps.{EnvStep, trapped}
 use Rattle.lib_os.specs.declared.progress.Progress.{Progress}
 use Rattle.lib_os.specs.Fence.{is_resident}
 use Rattle.lib_os.specs.LibrarySteps.{Leaves, KeepsUses}
-use Rattle.lib_os.specs.Places.{words_entered}
+use Rattle.lib_os.specs.Places.{place_of, words_entered}
 use Rattle.lib_os.proofs.FramesKept.{destroyed_frames, touched_frames}
 use Rattle.lib_os.proofs.Leaving.{running_calm}
-use Rattle.lib_os.proofs.Slots.{slot_put}
+use Rattle.lib_os.proofs.NumbersKept.{KeepsOthers, copies_kept, numbers_kept, places_kept}
+use Rattle.lib_os.proofs.OthersCopies.{NoMoreWait, both_wait, destroyed_wait, entries_wait, same_wait, stored_wait, touched_wait}
+use Rattle.lib_os.proofs.OthersKept.{OthersStay}
+use Rattle.lib_os.proofs.Slots.{slot_kept, slot_put}
 use Rattle.jos_run.specs.FencedMemory.{fenced_memory}
 use Rattle.jos_run.specs.GuestSteps.{after_event, after_instruction, guest_instruction}
 use Rattle.jos_run.proofs.GuestUses.{guest_uses}
-use Rattle.jos_base.proofs.Maps.{upd-at}
+use Rattle.jos_base.proofs.Maps.{upd-at, upd-other}
 
 -- what a step of the program in slot n leaves of a state
 pub record GuestLeaves (s : KernelState) (n : ℕ) (after : KernelState) : Type 0 where
@@ -44,6 +47,10 @@ pub record GuestLeaves (s : KernelState) (n : ℕ) (after : KernelState) : Type 
   pub frames : after.spaces.frames ≡ s.spaces.frames
   pub refusals : after.refusals ≡ s.refusals
   pub calm : is_runnable (slot_at s n).status ≡ false → is_runnable (slot_at after n).status ≡ false
+  -- no other's slot is changed
+  pub others : (m : ℕ) → m ≢ n → slot_at after m ≡ slot_at s m
+  -- no page waits to be copied that did not wait before
+  pub waits : NoMoreWait (λ d. Unit {0}) s.spaces after.spaces
 
 stored_frames : (s : SpacesState) (d va byte : ℕ) → (stored_byte s d va byte).frames ≡ s.frames
 unfolding stored_byte
@@ -58,11 +65,19 @@ module _ (s : KernelState) (n : ℕ) where
   Left after = GuestLeaves s n after
 
   same_left : Left s
-  same_left = record { last = refl; turns = refl; frames = refl; refusals = refl; calm = λ calm. calm }
+  same_left = record { last = refl; turns = refl; frames = refl; refusals = refl; calm = λ calm. calm; others = λ m ne. refl; waits = same_wait (λ d. Unit {0}) s.spaces }
 
-  spaces_left : (t : KernelState) → Left t → (spaces : SpacesState) → spaces.frames ≡ t.spaces.frames → Left (with_spaces t spaces)
-  spaces_left t h spaces same =
-      record { last = h.last; turns = h.turns; frames = same ∙ h.frames; refusals = h.refusals; calm = h.calm }
+  spaces_left : (t : KernelState) → Left t → (spaces : SpacesState) → spaces.frames ≡ t.spaces.frames →
+      NoMoreWait (λ d. Unit {0}) t.spaces spaces → Left (with_spaces t spaces)
+  spaces_left t h spaces same wait = record {
+    last = h.last;
+    turns = h.turns;
+    frames = same ∙ h.frames;
+    refusals = h.refusals;
+    calm = h.calm;
+    others = h.others;
+    waits = both_wait (λ d. Unit {0}) s.spaces t.spaces spaces h.waits wait;
+  }
 
   -- a slot that keeps its status
   put_left : (t : KernelState) → Left t → (slot : Slot) → slot.status ≡ (slot_at t n).status → Left (with_slot_at t n slot)
@@ -73,6 +88,8 @@ module _ (s : KernelState) (n : ℕ) where
     refusals = h.refusals;
     calm = λ calm.
         ap (λ (x : Slot). is_runnable x.status) (slot_put t n slot) ∙ ap (λ (status : Status). is_runnable status) same ∙ h.calm calm;
+    others = λ m ne. slot_kept t n slot m ne ∙ h.others m ne;
+    waits = h.waits;
   }
 
   registers_left : (t : KernelState) → Left t → (regs : Regs) → Left (with_registers t n regs)
@@ -86,6 +103,8 @@ module _ (s : KernelState) (n : ℕ) where
     frames = destroyed_frames t.spaces (slot_at t n).directory ∙ h.frames;
     refusals = h.refusals;
     calm = λ calm. ap (λ (x : Slot). is_runnable x.status) (upd-at t.environments.slots n (free_slot (slot_at t n).id));
+    others = λ m ne. upd-other t.environments.slots n (free_slot (slot_at t n).id) m ne ∙ h.others m ne;
+    waits = both_wait (λ d. Unit {0}) s.spaces t.spaces _ h.waits (destroyed_wait (λ d. Unit {0}) t.spaces (slot_at t n).directory);
   }
 
   -- ---- traps
@@ -98,8 +117,10 @@ module _ (s : KernelState) (n : ℕ) where
       let reached : SpacesState = touched t.spaces k.directory place Write in
       let u : KernelState =
       with_spaces t (with_page_bytes reached at.frame (overlaid (reached.pages at.frame) at.offset (frame_bytes fault k.registers))) in
-      let left = registers_left u (spaces_left t h u.spaces (touched_frames t.spaces k.directory place Write)) (record k.registers { esp = place; eip = k.upcall }) in
-      record { last = left.last; turns = left.turns; frames = left.frames; refusals = left.refusals; calm = left.calm }
+      let wait = both_wait (λ d. Unit {0}) t.spaces reached u.spaces (touched_wait (λ d. Unit {0}) t.spaces k.directory place Write)
+      (entries_wait (λ d. Unit {0}) reached u.spaces refl) in
+      let left = registers_left u (spaces_left t h u.spaces (touched_frames t.spaces k.directory place Write) wait) (record k.registers { esp = place; eip = k.upcall }) in
+      record { last = left.last; turns = left.turns; frames = left.frames; refusals = left.refusals; calm = left.calm; others = left.others; waits = left.waits }
 
   handled_left : (t : KernelState) → Left t → (fault : PageFault) → IfSome (handled t n fault) Left
   unfolding handled
@@ -142,10 +163,12 @@ module _ (s : KernelState) (n : ℕ) where
   touched_left : (t : KernelState) → Left t → (o : Option ℕ) (va : ℕ) (access : Access) → Left (touched_in t o va access)
   touched_left t h None va access = h
   touched_left t h (Some d) va access = spaces_left t h (touched t.spaces d va access) (touched_frames t.spaces d va access)
+      (touched_wait (λ d. Unit {0}) t.spaces d va access)
 
   stored_left : (t : KernelState) → Left t → (o : Option ℕ) (va byte : ℕ) → Left (stored_in_space t o va byte)
   stored_left t h None va byte = h
   stored_left t h (Some d) va byte = spaces_left t h (stored_byte t.spaces d va byte) (stored_frames t.spaces d va byte)
+      (stored_wait (λ d. Unit {0}) t.spaces d va byte)
 
   memory_left : (regs : Regs) (m : Running) → Left m.state → Left (step_of fenced_memory regs m Run).memory.state
   unfolding fenced_memory user_memory
@@ -171,13 +194,24 @@ module _ (s : KernelState) (n : ℕ) where
       stepped_left k.registers.eip (step_of fenced_memory k.registers (loaded_in s k.directory) Run)
       (memory_left k.registers (loaded_in s k.directory) same_left)
 
+others_stay : (s after : KernelState) (n : ℕ) → GuestLeaves s n after → OthersStay s n after
+others_stay s after n h = record {
+  stay = λ m ne was lives.
+      record { place = ap (λ (k : Slot). place_of k) (h.others m ne); directory = ap (λ (k : Slot). k.directory) (h.others m ne) };
+}
+
 -- So it leaves what each step leaves, whatever it has come to.
 pub guest_leaves : (s after : KernelState) (n : ℕ) (done : Progress) → after ≡ (guest_instruction s n).state → Leaves (Ok done) n s after
 guest_leaves s after n done is =
-    let h = subst (λ (t : KernelState). GuestLeaves s n t) (sym is) (instruction_left s n) in (
-      record { last = h.last; turns = h.turns; frames = h.frames; refused = λ two some. h.refusals; told = λ some. subst (λ (k : ℕ). 0 < k) (sym h.refusals) some },
-      (λ a stands running silent runs. absurd (
+    let h = subst (λ (t : KernelState). GuestLeaves s n t) (sym is) (instruction_left s n) in
+    let others : KeepsOthers n s after = λ before then_so live. others_stay s after n h in
+    record {
+      rest = record { last = h.last; turns = h.turns; frames = h.frames; refused = λ two some. h.refusals; told = λ some. subst (λ (k : ℕ). 0 < k) (sym h.refusals) some };
+      turn = λ a stands running silent runs. absurd (
           let contradiction : true ≡ false = sym runs ∙ h.calm (running_calm (slot_at s n).status running) in cc
-          )),
-      subst (λ (t : KernelState). KeepsUses n s t) (sym is) (λ in_order live each. guest_uses s n in_order live each),
-    )
+          );
+      uses = subst (λ (t : KernelState). KeepsUses n s t) (sym is) (λ in_order live each. guest_uses s n in_order live each);
+      places = places_kept s after n others;
+      numbers = numbers_kept s after n others
+          (copies_kept s after n (record { waited = λ d p beside waits. h.waits.waited d p tt waits }));
+    }

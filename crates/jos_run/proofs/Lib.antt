@@ -14,6 +14,7 @@ pub mod GuestMemories
 pub mod GuestStands
 pub mod GuestUses
 pub mod GuestLeaves
+pub mod GuestTakes
 pub mod Guests
 pub mod ProgramSteps
 pub mod ServicesHold

@@ -5,7 +5,7 @@ use Rattle.jos_host.specs.declared.host.Failed.{Failed}
 use Rattle.jos_base.specs.KernelState.{KernelState, slot_at}
 use Rattle.jos_kernel.specs.declared.trace.TrapLine.{TrapLine}
 use Rattle.lib_os.specs.declared.progress.Progress.{Progress}
-use Rattle.lib_os.specs.LibrarySteps.{IsLibraryStep, Leaves, Lowers, GivesUp}
+use Rattle.lib_os.specs.LibrarySteps.{IsLibraryStep, Leaves, Lowers, GivesUp, TakesByPlace}
 use Rattle.lib_os.specs.Places.{place_of}
 use Rattle.lib_os.specs.UserCalls.{Output}
 use Rattle.jos_run.specs.declared.steps.StepOutcome.{StepOutcome}
@@ -19,10 +19,15 @@ module _ (s after : KernelState) (n : ℕ) (output : Output) (did : Result Progr
   raises_it (Ok stepped) told = subst (λ (t : Option TrapLine). Raises (place_of (slot_at s n)) n s t after) (sym told) raised
   raises_it (Err failed) told = tt
 
+  takes_it : (last : Result StepOutcome Failed) → step_progress last ≡ did → IfOk did (λ done. TakesByPlace n s after) →
+      IfOk last (λ stepped. TakesByPlace n s after)
+  takes_it (Ok stepped) told takes = subst (λ (r : Result Progress Failed). IfOk r (λ done. TakesByPlace n s after)) (sym told) takes
+  takes_it (Err failed) told takes = tt
+
   pub library_made : (last : Result StepOutcome Failed) → step_progress last ≡ did → IfOk last (λ stepped. stepped.trap ≡ trap) →
       IsLibraryStep did n s after output → Leaves did n s after → Lowers did n s after →
-      GivesUp did (slot_at s n) (slot_at after n) → MakesSteps n 0 last s after output
-  library_made last told with_trap library leaves lowers gives_up = record {
+      GivesUp did (slot_at s n) (slot_at after n) → IfOk did (λ done. TakesByPlace n s after) → MakesSteps n 0 last s after output
+  library_made last told with_trap library leaves lowers gives_up takes = record {
     reached = s;
     went = refl;
     is_guest = λ some. absurd (omega (arith, some));
@@ -30,5 +35,6 @@ module _ (s after : KernelState) (n : ℕ) (output : Output) (did : Result Progr
     leaves = subst (λ (r : Result Progress Failed). Leaves r n s after) (sym told) leaves;
     lowers = subst (λ (r : Result Progress Failed). Lowers r n s after) (sym told) lowers;
     gives_up = subst (λ (r : Result Progress Failed). GivesUp r (slot_at s n) (slot_at after n)) (sym told) gives_up;
+    takes = takes_it last told takes;
     raises = raises_it last with_trap;
   }

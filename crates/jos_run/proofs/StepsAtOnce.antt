@@ -21,7 +21,7 @@ use Rattle.jos_kernel.specs.Steps.{EnvStep}
 use Rattle.lib_os.specs.declared.place.Place.TheVariants as place
 use Rattle.lib_os.specs.declared.progress.Progress.{Progress}
 use Rattle.lib_os.specs.declared.progress.Progress.TheVariants as progress
-use Rattle.lib_os.specs.LibrarySteps.{KeepsStanding, IsLibraryStep, Leaves, Lowers, is_pausing}
+use Rattle.lib_os.specs.LibrarySteps.{GivesUp, KeepsStanding, IsLibraryStep, Leaves, Lowers, TakesByPlace, is_pausing}
 use Rattle.lib_os.specs.InOrder.{IsInOrder}
 use Rattle.lib_os.specs.Places.{place_of}
 use Rattle.lib_os.specs.UserCalls.{Output}
@@ -38,6 +38,7 @@ use Rattle.jos_run.specs.Steps.{is_awake, step_progress, Raises}
 use Rattle.jos_run.specs.StepsAtOnce.{GuestGoesOn, came_to, MakesSteps}
 use Rattle.jos_run.proofs.GuestLeaves.{guest_leaves}
 use Rattle.jos_run.proofs.GuestStands.{SmallAtFault, copying_at, instruction_end, instruction_step}
+use Rattle.jos_run.proofs.GuestTakes.{guest_takes}
 use Rattle.jos_run.proofs.ProgramSteps.{program_goes_on, program_ends, program_copies, program_lowers, program_fails, guest_raises}
 use Rattle.jos_run.proofs.QuietSteps.{gone_quietly, quiet_calm, quiet_keeps, running_awake}
 use Rattle.jos_run.proofs.RunSteps.{turns_further, turn_longer}
@@ -78,8 +79,9 @@ module _ {n going ip : ℕ} {event : Event} (s mid after : KernelState) (output 
 
   makes : (last : Result StepOutcome Failed) → IsLibraryStep (step_progress last) n b.reached after output →
       Leaves (step_progress last) n b.reached after → Lowers (step_progress last) n b.reached after →
+      IfOk last (λ stepped. TakesByPlace n b.reached after) →
       IfOk last (λ stepped. Raises (place_of (slot_at b.reached n)) n b.reached stepped.trap after) → MakesSteps n going last s after output
-  makes last step leaves lowers raises = record {
+  makes last step leaves lowers takes raises = record {
     reached = b.reached;
     went = b.went;
     is_guest = λ some. guest;
@@ -87,6 +89,7 @@ module _ {n going ip : ℕ} {event : Event} (s mid after : KernelState) (output 
     leaves = leaves;
     lowers = lowers;
     gives_up = gives_nothing_up (step_progress last) (slot_at b.reached n) (slot_at after n) (ap is_pausing b.is_guest);
+    takes = takes;
     raises = raises;
   }
 
@@ -99,17 +102,19 @@ module _ {n going ip : ℕ} {event : Event} (s mid after : KernelState) (output 
       (program_copies b.reached after n output still_awake b.is_guest still_small order is trap told)
       (guest_leaves b.reached after n progress.Hidden told.0)
       (program_lowers b.reached after n output still_awake b.is_guest still_small order is trap told)
-      (guest_raises b.reached after n trap b.is_guest told.0 told.1)
+      (guest_takes b.reached after n b.is_guest told.0) (guest_raises b.reached after n trap b.is_guest told.0 told.1)
   by_followed false true is (Ok trap) told ended =
       makes (Ok (record { progress = progress.Visible; trap = trap }))
       (program_goes_on b.reached after n output still_awake b.is_guest still_small order is trap told)
-      (guest_leaves b.reached after n progress.Visible told.0) tt (guest_raises b.reached after n trap b.is_guest told.0 told.1)
+      (guest_leaves b.reached after n progress.Visible told.0) tt (guest_takes b.reached after n b.is_guest told.0)
+      (guest_raises b.reached after n trap b.is_guest told.0 told.1)
   by_followed false false is (Ok trap) told ended =
       makes (Ok (record { progress = progress.Ended; trap = trap }))
       (program_ends b.reached after n output still_awake b.is_guest still_small order is trap told)
-      (guest_leaves b.reached after n progress.Ended told.0) tt (guest_raises b.reached after n trap b.is_guest told.0 told.1)
+      (guest_leaves b.reached after n progress.Ended told.0) tt (guest_takes b.reached after n b.is_guest told.0)
+      (guest_raises b.reached after n trap b.is_guest told.0 told.1)
   by_followed copying live is (Err failed) told ended =
-      makes (Err failed) (program_fails b.reached after n output still_awake b.is_guest still_small order failed told ended) tt tt tt
+      makes (Err failed) (program_fails b.reached after n output still_awake b.is_guest still_small order failed told ended) tt tt tt tt
 
   pub program_made : (copying live : Bool) → copying ≡ is_copying mid n event → (followed : Result (Option TrapLine) Failed) →
       Follows followed (after_event mid n ip event) after output → OnErr followed (is_handed_over mid n event ≡ false) →
@@ -157,6 +162,11 @@ quiet_made begins n s u after g guest runs is chosen = record {
       (quiet_keeps s after n g (running_awake (slot_at s n).status runs) guest);
   leaves = subst (λ (x : KernelState). Leaves (Ok progress.Visible) n x after) (sym is)
       (guest_leaves s after n progress.Visible (ap (λ (step : EnvStep). step.state) (sym g)));
+  lowers = tt;
+  gives_up = gives_nothing_up (Ok progress.Visible) (slot_at (if begins then turn_begun u n else u) n) (slot_at after n)
+      ((λ i. is_pausing (place_of (slot_at (is i) n))) ∙ ap is_pausing guest);
+  takes = subst (λ (x : KernelState). TakesByPlace n x after) (sym is)
+      (guest_takes s after n guest (ap (λ (step : EnvStep). step.state) (sym g)));
 }
 
 -- ---- all of them
@@ -174,7 +184,8 @@ module _ (n : ℕ) (goes_on : Bool) (done : Progress) (bytes : List ℕ) (trap :
 
   -- they lead on to where the last one leads
   module _ (t v : KernelState) (raises : Raises (place_of (slot_at t n)) n t trap left) (keeps : KeepsStanding done n t left bytes)
-      (leaves : Leaves (Ok done) n t left) (passed_is : (if goes_on then left else turn_ended left n) ≡ v) where
+      (leaves : Leaves (Ok done) n t left) (passed_is : (if goes_on then left else turn_ended left n) ≡ v) (takes : TakesByPlace n t left)
+      (lowers : Lowers (Ok done) n t left) (gives_up : GivesUp (Ok done) (slot_at t n) (slot_at left n)) where
     pub steps_lead : (begins : Bool) (k : ℕ) (s u : KernelState) (g : GuestGoesOn n k s t) → (if begins then turn_begun u n else u) ≡ s →
         (begins ≡ true → next u.environments u.last ≡ Some n) → is_running (slot_at s n).status ≡ true →
         (0 < k → place_of (slot_at s n) ≡ place.Guest) → LeadTo (steps_with begins n k s t g last) u v
@@ -187,6 +198,9 @@ module _ (n : ℕ) (goes_on : Bool) (done : Progress) (bytes : List ℕ) (trap :
             raises = subst (λ (x : KernelState). Raises (place_of (slot_at x n)) n x trap left) (sym at_last) raises;
             keeps = subst (λ (x : KernelState). KeepsStanding done n x left bytes) (sym at_last) keeps;
             leaves = subst (λ (x : KernelState). Leaves (Ok done) n x left) (sym at_last) leaves;
+            lowers = subst (λ (x : KernelState). Lowers (Ok done) n x left) (sym at_last) lowers;
+            gives_up = subst (λ (x : KernelState). GivesUp (Ok done) (slot_at x n) (slot_at left n)) (sym at_last) gives_up;
+            takes = subst (λ (x : KernelState). TakesByPlace n x left) (sym at_last) takes;
           },
           passed_is,
         )

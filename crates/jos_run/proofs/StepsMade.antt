@@ -1,5 +1,5 @@
 -- A run after more steps: what the calls of steps that are made at once have done to it tells where it has come to.
-use Rattle.std.proofs.Common.{◌≡◌, ◌≢◌, ◌∙◌, ℕ, ◌+◌, ◌-◌, ◌^◌, ◌<◌, ◌≤◌, ◌==◌, ◌&&◌, Bool, true, false, List, [], ◌∷◌, ◌++◌, length, min}
+use Rattle.std.proofs.Common.{◌≡◌, ◌≢◌, ◌∙◌, ℕ, ◌+◌, ◌-◌, ◌^◌, ◌<◌, ◌≤◌, ◌==◌, ◌&&◌, Bool, true, false, List, [], ◌∷◌, ◌++◌, length, min, Ok}
 use Rattle.std.proofs.Common.{Option, Some, None, Result, inl, inr, refl, sym, ap, subst, arith, if◌then◌else◌, take, drop, vec_len}
 use Rattle.std.specs.Prelude.{nat_lt, nat_le, not}
 use Rattle.std.proofs.lemmas.Bool.Decides.{nat_tests}
@@ -25,7 +25,7 @@ use Rattle.lib_os.specs.declared.progress.Progress.{Progress}
 use Rattle.lib_os.specs.declared.progress.Progress.TheVariants as progress
 use Rattle.lib_os.specs.AbstractState.{AbstractState}
 use Rattle.lib_os.specs.AbstractRun.{abs_step}
-use Rattle.lib_os.specs.LibrarySteps.{Stands, KeepsStanding, NothingRefused, KeepsTurn, KeepsUses, LeavesRest}
+use Rattle.lib_os.specs.LibrarySteps.{Stands, GivesUp, KeepsStanding, LeavesEach, Lowers, NothingRefused, TakesByPlace}
 use Rattle.lib_os.specs.Need.{EachHasUse, NeedIsReached, need}
 use Rattle.lib_os.specs.Places.{place_of}
 use Rattle.lib_os.specs.UserCalls.{Output}
@@ -139,13 +139,14 @@ reaches holds chosen left running b = record {
 pub record Makes (r m : LibraryRun) (n going : ℕ) (done : Progress) (bytes : List ℕ) : Type 0 where
   pub before : Reaches r n going
   pub keeps : KeepsStanding done n before.reached (state_of m) bytes
-  pub rest : LeavesRest before.reached (state_of m)
-  pub turn : (a : AbstractState) → Stands before.reached a → KeepsTurn done (slot_at before.reached n) (slot_at (state_of m) n)
+  pub leaves : LeavesEach done n before.reached (state_of m)
   pub trap : Option TrapLine
   pub raises : Raises (place_of (slot_at before.reached n)) n before.reached trap (state_of m)
-  pub uses : KeepsUses n before.reached (state_of m)
   pub slot : m.served.slot ≡ n
   pub written : m.served.written ≡ min (r.served.written + length bytes) (2 ^ 64 - 1)
+  pub takes : TakesByPlace n before.reached (state_of m)
+  pub lowers : Lowers (Ok done) n before.reached (state_of m)
+  pub gives_up : GivesUp (Ok done) (slot_at before.reached n) (slot_at (state_of m) n)
   pub book : m.book ≡ record r.book {
     trace = traced r.book.trace trap;
     first_refused = noted r.book.first_refused (not ((state_of m).refusals == (entered r n).refusals)) (vec_len r.book.turns) r.served.written;
@@ -329,8 +330,8 @@ module _ {r m : LibraryRun} {n going : ℕ} {done : Progress} {bytes : List ℕ}
       (state_of m) (printed ++ bytes)
   comes_with {first = first} {printed = printed} t none_refused =
       comes_is (λ i. (sym k.book i).turns.items) (sym k.slot) seen_is (λ i. (sym k.book i).hidden + hidden_steps done)
-      (stepped bytes t done k.keeps none_refused (k.rest.last ∙ last_is k.before)
-      (still_runs k.before) k.turn (r.book.hidden + hidden_steps done))
+      (stepped bytes t done k.keeps none_refused (k.leaves.rest.last ∙ last_is k.before)
+      (still_runs k.before) k.leaves.turn (r.book.hidden + hidden_steps done))
     where
       comes_is : {turns turns' : List Turn} {n n' visible visible' hidden hidden' : ℕ} → turns ≡ turns' → n ≡ n' → visible ≡ visible' →
           hidden ≡ hidden' → Comes r.book.schedule first turns n visible hidden (state_of m) (printed ++ bytes) →
@@ -355,9 +356,9 @@ module _ {r m : LibraryRun} {n going : ℕ} {done : Progress} {bytes : List ℕ}
         stands = stands_after (goes_on_with m going done) r.book.schedule first m after (seen_with going done) (hidden_steps done)
             (printed ++ bytes) refl counts (λ i. (k.book i).schedule) (some_steps going done) within_turn (comes_with t none_refused);
         quiet = rest.1 ∙ same ∙ kept.1 ∙ h.quiet;
-        frames_are = (λ i. (rest.0 i).frames) ∙ k.rest.frames ∙ (gone k.before).frames ∙ (λ i. (kept.0 i).frames) ∙ h.frames_are;
+        frames_are = (λ i. (rest.0 i).frames) ∙ k.leaves.rest.frames ∙ (gone k.before).frames ∙ (λ i. (kept.0 i).frames) ∙ h.frames_are;
         used = subst (λ (x : SpacesState). EachHasUse x) (sym rest.0)
-            (k.uses t.stands.1.in_order (running_live (slot_at reached n) (still_runs k.before))
+            (k.leaves.uses t.stands.1.in_order (running_live (slot_at reached n) (still_runs k.before))
             (before_used k.before first printed h.stands h.used));
         counted_so = counts.written ∙ k.written ∙ (λ i. min (h.counted_so i + length bytes) (2 ^ 64 - 1)) ∙ counted-more printed bytes;
       }
@@ -371,7 +372,7 @@ module _ {r m : LibraryRun} {n going : ℕ} {done : Progress} {bytes : List ℕ}
   lacks_space rose frames now same needed true is (slot ∷ rest) are =
       let two : 2 ≤ length reached.spaces.free = grind (arith, nat_tests) in
       let some : reached.environments.free_slots ≢ [] = λ none. let contradiction : ◌≡◌ {A = List ℕ} [] (slot ∷ rest) = sym none ∙ are in absurd cc in
-      let still : (state_of m).refusals ≡ (entered r n).refusals = k.rest.refused two some ∙ (gone k.before).refusals in
+      let still : (state_of m).refusals ≡ (entered r n).refusals = k.leaves.rest.refused two some ∙ (gone k.before).refusals in
       let test : ((state_of m).refusals == (entered r n).refusals) ≡ true = grind (arith, nat_tests) in
       absurd (let contradiction : true ≡ false = sym test ∙ rose in cc)
 
@@ -459,7 +460,7 @@ module _ {r m : LibraryRun} {n going : ℕ} {done : Progress} {bytes : List ℕ}
           let told : after.book.first_refused ≡ Some refusal =
           counts.book.first_refused ∙ (λ i. (k.book i).first_refused)
           ∙ ap (λ (o : Option Refusal). refusal_by (not ((state_of m).refusals == (entered r n).refusals)) o) is in
-          refused_so refusal told (k.rest.told (subst (λ (x : ℕ). 0 < x) (sym (before_last k.before)) h.0))
+          refused_so refusal told (k.leaves.rest.told (subst (λ (x : ℕ). 0 < x) (sym (before_last k.before)) h.0))
           (subst (λ (x : List Turn). IsRefused r.book.schedule first frames (x ++ turn_with m going done ∷ []) refusal (printed ++ bytes))
           (λ i. (sym k.book i).turns.items)
           (still_refused first frames refusal r (turn_with m going done) bytes printed (λ some. k.slot ∙ k.before.chosen.turn some)
@@ -481,9 +482,9 @@ module _ {r m : LibraryRun} {n going : ℕ} {done : Progress} {bytes : List ℕ}
   unfolding made_all
   leads_on after counts =
       steps_lead n (goes_on_with m going done) done bytes k.trap (state_of m) reached (state_of after) k.raises k.keeps
-      (k.rest, k.turn, k.uses)
+      k.leaves
       ((λ i. if goes_on_with m going done then state_of m else turn_ended (state_of m) (sym k.slot i)) ∙ sym counts.state)
-      (made r.book == 0) going (entered r n) (state_of r) k.before.went refl (λ is. k.before.chosen.next_is (none_made r is)) k.before.running
+      k.takes k.lowers k.gives_up (made r.book == 0) going (entered r n) (state_of r) k.before.went refl (λ is. k.before.chosen.next_is (none_made r is)) k.before.running
       k.before.is_guest
 
   keeps_traps : (after : LibraryRun) → CountsSteps m after going done → (most : ℕ) (traps : List TrapLine) →

@@ -134,8 +134,8 @@ pub steps_hold : {r m : LibraryRun} {n going : ℕ} {done : Progress} {bytes : L
 steps_hold {r = r} {m = m} {going = going} {done = done} k after counts room left =
     let told : r.book.steps ≡ steps_of r.book.turns.items + made r.book = k.before.holds.steps ∙ steps_told r in
     counted_holds _ m after (seen_with going done) (hidden_steps done) (some_steps going done) counts refl (record {
-      turns = k.rest.turns ∙ turns_are k.before ∙ (λ i. vec_len (sym k.book i).turns + 1);
-      last = k.rest.last ∙ last_is k.before ∙ ap (λ (x : ℕ). Some x) (sym k.slot);
+      turns = k.leaves.rest.turns ∙ turns_are k.before ∙ (λ i. vec_len (sym k.book i).turns + 1);
+      last = k.leaves.rest.last ∙ last_is k.before ∙ ap (λ (x : ℕ). Some x) (sym k.slot);
       within = subst (λ (x : ℕ). x < NENV) (sym k.slot) k.before.chosen.within;
       steps = (λ i. (k.book i).steps) ∙ told ∙ (λ i. steps_of (sym k.book i).turns.items + made (sym k.book i));
     }) room left

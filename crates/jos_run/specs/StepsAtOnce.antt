@@ -5,7 +5,7 @@ use Rattle.jos_base.specs.KernelState.{KernelState, slot_at}
 use Rattle.jos_kernel.specs.declared.trace.TrapLine.{TrapLine}
 use Rattle.lib_os.specs.declared.place.Place.TheVariants as place
 use Rattle.lib_os.specs.declared.progress.Progress.TheVariants as progress
-use Rattle.lib_os.specs.LibrarySteps.{IsLibraryStep, Leaves, Lowers, GivesUp}
+use Rattle.lib_os.specs.LibrarySteps.{IsLibraryStep, Leaves, Lowers, GivesUp, TakesByPlace}
 use Rattle.lib_os.specs.Places.{place_of}
 use Rattle.lib_os.specs.UserCalls.{Output}
 use Rattle.jos_run.specs.declared.steps.StepOutcome.{StepOutcome}
@@ -36,4 +36,5 @@ pub record MakesSteps (n going : ℕ) (last : Result StepOutcome Failed) (before
   pub leaves : Leaves (step_progress last) n reached after
   pub lowers : Lowers (step_progress last) n reached after
   pub gives_up : GivesUp (step_progress last) (slot_at reached n) (slot_at after n)
+  pub takes : IfOk last (λ stepped. TakesByPlace n reached after)
   pub raises : IfOk last (λ stepped. Raises (place_of (slot_at reached n)) n reached stepped.trap after)

@@ -3,11 +3,12 @@
 ghost use Rattle.std.specs.Prelude.{◌≡◌, ◌+◌, ◌-◌, ◌*◌, ◌%◌, ◌^◌, ◌<◌, min, [], length, true, false, IfErr, OnOk, OnErr};
 ghost use Rattle.jos_host.specs.Frames.{Unchanged, around, from_to};
 ghost use Rattle.jos_base.specs.declared.memory.Access.TheVariants.{Write};
-ghost use Rattle.jos_base.specs.declared.numbers.TheConstants.{NENV, UTRAPFRAME_WORDS};
+ghost use Rattle.jos_base.specs.declared.numbers.TheConstants.{E_INVAL, NENV, UTRAPFRAME_WORDS};
 ghost use Rattle.jos_base.specs.Environments.{is_live};
 ghost use Rattle.jos_base.specs.KernelState.{slot_at, with_spaces};
 ghost use Rattle.jos_base.specs.TrapFrames.{words_of_bytes};
 ghost use Rattle.jos_base.specs.UserMemory.{is_allowed, fault_at, touched};
+ghost use Rattle.jos_base.specs.Words.{negated};
 ghost use Rattle.jos_sys.specs.System.{state_of, left_of, Keeps};
 ghost use Rattle.lib_os.specs.InOrder.{IsInOrder};
 ghost use Rattle.lib_os.specs.UserCalls.{user_byte, user_word, with_user_byte, with_user_word};
@@ -17,7 +18,7 @@ ghost use Rattle.jos_run.specs.Served.{kernel_state, IsRaised};
 use crate::fence::LibraryFence;
 use byteorder::{ByteOrder, LittleEndian};
 use jos_base::{
-    Access, Called, EnvId, Extra, Line, NENV, PageFault, Regs, SYS_ENV_SET_TRAPFRAME,
+    Access, Called, E_INVAL, EnvId, Extra, Line, NENV, PageFault, Regs, SYS_ENV_SET_TRAPFRAME,
     UTRAPFRAME_WORDS,
 };
 use jos_host::{Failed, Host};
@@ -243,6 +244,22 @@ impl Served {
         self.put_byte(va + 3, fourth);
     }
 
+    /// Counts a call, and refuses the block of the disk for which it asks, since there is none.
+    fn refuse_block(&mut self) -> u32
+        requires { self.old.calls < 2 ^ 32 - 1 }
+        ensures answer { result ≡ negated E_INVAL }
+        ensures state { kernel_state self.new ≡ kernel_state self.old }
+        ensures slot { self.new.slot ≡ self.old.slot }
+        ensures calls { self.new.calls ≡ self.old.calls + 1 }
+        ensures written { self.new.written ≡ self.old.written }
+        ensures small { self.old.written < 2 ^ 64 }
+        ensures in_order { IsInOrder (kernel_state self.new) }
+    {
+        self.calls += 1;
+        self.keep_in_order();
+        E_INVAL.wrapping_neg()
+    }
+
     /// Whether the environment is there still.
     pub fn is_live(&self) -> bool
         ensures { result ≡ is_live (slot_at (kernel_state self.now) self.now.slot) }
@@ -377,6 +394,19 @@ impl UserOs for Served {
                 Err(stop)
             }
         }
+    }
+
+    fn block_read<H: Host>(&mut self, _host: &mut H, _block: u32, _va: u32) -> Result<u32, Failed> {
+        Ok(self.refuse_block())
+    }
+
+    fn block_write<H: Host>(
+        &mut self,
+        _host: &mut H,
+        _block: u32,
+        _va: u32,
+    ) -> Result<u32, Failed> {
+        Ok(self.refuse_block())
     }
 
     fn registers(&self) -> Regs {

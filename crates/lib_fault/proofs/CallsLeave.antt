@@ -30,7 +30,7 @@ use Rattle.lib_os.proofs.Touching.{touched_quiet}
 use Rattle.lib_stage.specs.Asks.{performed, got_as}
 use Rattle.lib_fault.specs.HandlerStages.{ask_of, copy_perm, page_start, frame_word, word_of_page}
 use Rattle.lib_fault.proofs.CallsMade.{map_step, page_map_is, page_map_not, set_upcall_is}
-use Rattle.lib_fault.proofs.CopiesLeft.{allocated_entries, inserted_entries, unmapped_entries, put_copies}
+use Rattle.lib_os.proofs.CopiesLeft.{allocated_entries, inserted_entries, unmapped_entries, put_copies}
 
 -- ---- an access
 

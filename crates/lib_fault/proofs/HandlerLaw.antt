@@ -16,7 +16,7 @@ use Rattle.lib_fault.proofs.Copying.{mapping_over_keeps, mapping_over_fails, unm
 use Rattle.lib_fault.proofs.Ending.{unsetting_keeps, unsetting_fails, touching_keeps, touching_fails}
 use Rattle.lib_os.proofs.StepsThere.{step_is_there}
 use Rattle.lib_fault.proofs.FrameReads.{entered_keeps, entered_fails, reading_error_keeps, reading_error_fails, reading_ip_keeps, reading_ip_fails}
-use Rattle.lib_fault.proofs.HandlerParts.{handler_lives, handler_leaves, handler_lowers, handler_gives_up}
+use Rattle.lib_fault.proofs.HandlerParts.{handler_lives, handler_leaves, handler_lowers, handler_gives_up, handler_takes}
 use Rattle.lib_fault.proofs.PageReads.{looking_keeps, looking_fails, loading_keeps, loading_fails}
 use Rattle.lib_fault.proofs.Restored.{restoring_keeps, restoring_fails}
 
@@ -35,6 +35,7 @@ law_of_step s n live at stands keeps = record {
   leaves = handler_leaves s n at;
   lowers = handler_lowers s n live at stands;
   gives_up = handler_gives_up s n at stands;
+  takes = handler_takes s n live at stands;
 }
 
 module _ (s : KernelState) (n : ℕ) (live : is_live (slot_at s n) ≡ true) where

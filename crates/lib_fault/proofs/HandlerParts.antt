@@ -1,6 +1,6 @@
 -- The parts of the law of the handler that are the same at all its steps: who goes on is there, what each step leaves, that less is left
--- behind each hidden one, and that none gives up its turn.
-use Rattle.std.proofs.Common.{◌≡◌, ◌∙◌, ◌<◌, ℕ, Bool, true, false, List, Option, Some, None, Result, Ok, Err, refl, sym, ap, subst}
+-- behind each hidden one, that none gives up its turn, and how many frames each takes.
+use Rattle.std.proofs.Common.{◌≡◌, ◌∙◌, ◌<◌, ◌≤◌, ℕ, Bool, true, false, List, Option, Some, None, Result, Ok, Err, refl, sym, ap, subst, arith}
 use Rattle.jos_base.specs.declared.called.Called.{Called}
 use Rattle.jos_base.specs.declared.memory.PageFault.{PageFault}
 use Rattle.jos_base.specs.declared.registers.Regs.{Regs}
@@ -14,20 +14,21 @@ use Rattle.lib_os.specs.declared.place.HandlerStep.{HandlerStep}
 use Rattle.lib_os.specs.declared.place.HandlerStep.TheVariants as handler
 use Rattle.lib_os.specs.declared.place.Place.TheVariants as place
 use Rattle.lib_os.specs.AbstractState.{AbstractState}
-use Rattle.lib_os.specs.LibrarySteps.{Stands, Leaves, Lowers, GivesUp, copies_left, is_pausing}
+use Rattle.lib_os.specs.LibrarySteps.{Stands, Leaves, Lowers, GivesUp, TakesAtMost, TakesByPlace, copies_left, frames_at, is_pausing}
 use Rattle.lib_os.specs.Places.{place_of}
 use Rattle.lib_os.specs.Rows.{rows_of}
 use Rattle.lib_os.specs.UserCalls.{CallStep, Got, got, to_handler, gone, faulting, restored, restore_frame, answer_of}
 use Rattle.lib_os.proofs.GoingOn.{gives_nothing_up}
 use Rattle.lib_os.proofs.Slots.{slot_put}
 use Rattle.lib_os.proofs.Remapping.{puts_over}
-use Rattle.lib_stage.specs.Asks.{performed}
+use Rattle.lib_stage.specs.Asks.{frames_of, performed}
 use Rattle.lib_stage.specs.Nexts.{is_gone}
 use Rattle.lib_stage.specs.ServiceSteps.{upshot_by}
+use Rattle.lib_stage.proofs.FramesTaken.{asks_few, takes_at}
 use Rattle.lib_stage.proofs.Laws.{is_plain, plain_leaves}
 use Rattle.lib_fault.specs.HandlerStages.{ask_of, next_of, handling, copy_perm}
 use Rattle.lib_fault.proofs.CallsLeave.{keeps_registers, call_left, told_gives}
-use Rattle.lib_fault.proofs.CopiesLeft.{inserted_entries, put_copies_less}
+use Rattle.lib_os.proofs.CopiesLeft.{inserted_entries, put_copies_less}
 use Rattle.lib_os.proofs.StepsThere.{step_is_there}
 use Rattle.lib_fault.proofs.Falling.{handler_falls}
 use Rattle.lib_fault.proofs.Lowering.{copies_fall, next_lowers, is_mapping}
@@ -154,3 +155,50 @@ module _ (s : KernelState) (n : ℕ) (live : is_live (slot_at s n) ≡ true) whe
       by_kind false sets =
           only_two (λ (x : HandlerStep). place_of (slot_at s n) ≡ place.InHandler x → LowersBy x (performed s n (ask_of x)).gives) at sets
           (restoring_lowers s n) (λ va error ip there. touching_lowers va error ip (performed s n (ask_of (handler.Touching va error ip))).gives) stands
+
+-- ---- how many frames are taken
+
+-- what is asked may take no more than a step may there, but where the copy is mapped over the page
+asks_no_more : (at : HandlerStep) → is_mapping at ≡ false → frames_of (ask_of at) ≤ frames_at (place.InHandler at)
+asks_no_more handler.Entered other = omega arith
+asks_no_more (handler.ReadingError va) other = omega arith
+asks_no_more (handler.Looking va) other = omega arith
+asks_no_more (handler.Taking va) other = omega arith
+asks_no_more (handler.Loading va index) other = omega arith
+asks_no_more (handler.Storing va index word) other = omega arith
+asks_no_more (handler.MappingOver va) other = absurd (let contradiction : true ≡ false = other in cc)
+asks_no_more (handler.Unmapping va) other = omega arith
+asks_no_more handler.Restoring other = omega arith
+asks_no_more (handler.ReadingIp va error) other = omega arith
+asks_no_more (handler.Unsetting va error ip) other = omega arith
+asks_no_more (handler.Touching va error ip) other = omega arith
+
+module _ (s : KernelState) (n : ℕ) (live : is_live (slot_at s n) ≡ true) where
+  abbrev Takes : HandlerStep → Type 0
+  Takes at = TakesByPlace n s (upshot_by (handling at) n (performed s n (ask_of at)) (performed s n (ask_of at)).gives).state
+
+  plainly_takes : (at : HandlerStep) → is_mapping at ≡ false → place_of (slot_at s n) ≡ place.InHandler at → Takes at
+  plainly_takes at other stands = asks_few s n (handling at) (place.InHandler at) stands (asks_no_more at other)
+
+  -- the table of the page is there, so that none is taken
+  mapping_takes : (va : ℕ) → place_of (slot_at s n) ≡ place.InHandler (handler.MappingOver va) → Takes (handler.MappingOver va)
+  unfolding performed
+  mapping_takes va stands =
+      takes_at s n (handling (handler.MappingOver va)) (performed s n (ask_of (handler.MappingOver va)))
+      (place.InHandler (handler.MappingOver va)) stands
+      (λ a h. let it = puts_over h.1 n va live stands in
+      subst (λ (z : CallStep Called). TakesAtMost 0 s.spaces z.state.spaces) (sym it.step) it.takes)
+
+  pub handler_takes : (at : HandlerStep) → place_of (slot_at s n) ≡ place.InHandler at → Takes at
+  handler_takes (handler.MappingOver va) stands = mapping_takes va stands
+  handler_takes handler.Entered stands = plainly_takes handler.Entered refl stands
+  handler_takes (handler.ReadingError va) stands = plainly_takes (handler.ReadingError va) refl stands
+  handler_takes (handler.Looking va) stands = plainly_takes (handler.Looking va) refl stands
+  handler_takes (handler.Taking va) stands = plainly_takes (handler.Taking va) refl stands
+  handler_takes (handler.Loading va index) stands = plainly_takes (handler.Loading va index) refl stands
+  handler_takes (handler.Storing va index word) stands = plainly_takes (handler.Storing va index word) refl stands
+  handler_takes (handler.Unmapping va) stands = plainly_takes (handler.Unmapping va) refl stands
+  handler_takes handler.Restoring stands = plainly_takes handler.Restoring refl stands
+  handler_takes (handler.ReadingIp va error) stands = plainly_takes (handler.ReadingIp va error) refl stands
+  handler_takes (handler.Unsetting va error ip) stands = plainly_takes (handler.Unsetting va error ip) refl stands
+  handler_takes (handler.Touching va error ip) stands = plainly_takes (handler.Touching va error ip) refl stands

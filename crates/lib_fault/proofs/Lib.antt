@@ -1,5 +1,4 @@
 pub mod CallsMade
-pub mod CopiesLeft
 pub mod CallsLeave
 pub mod Restored
 pub mod Loads

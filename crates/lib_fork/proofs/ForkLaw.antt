@@ -1,5 +1,6 @@
 -- The law of fork: its first step takes a slot for the child and its last one bears it, and all between are hidden.
-use Rattle.std.proofs.Common.{◌≡◌, ◌∙◌, ◌%◌, ℕ, true, false, List, [], ◌∷◌, Ok, refl, sym, ap, subst}
+use Rattle.std.proofs.Common.{◌≡◌, ◌∙◌, ◌%◌, ◌≤◌, ◌==◌, ◌&&◌, ℕ, Bool, true, false, List, [], ◌∷◌, Ok, refl, sym, ap, subst, arith}
+use Rattle.std.proofs.Math.Bool.{or-true}
 use Rattle.jos_base.specs.declared.called.Called.{Called}
 use Rattle.jos_base.specs.declared.environment.Status.{Status}
 use Rattle.jos_base.specs.declared.environment.Status.TheVariants.{Runnable}
@@ -13,26 +14,30 @@ use Rattle.lib_os.specs.declared.progress.Progress.TheVariants as progress
 use Rattle.lib_os.specs.declared.service.Service.TheVariants as service
 use Rattle.lib_os.specs.AbstractState.{AbstractState}
 use Rattle.lib_os.specs.InOrder.{IsInOrder}
-use Rattle.lib_os.specs.LibrarySteps.{Leaves, Stands, is_pausing, service_answered}
+use Rattle.lib_os.specs.LibrarySteps.{Leaves, Stands, TakesByPlace, frames_at, is_pausing, service_answered}
 use Rattle.lib_os.specs.Places.{place_of}
 use Rattle.lib_os.specs.UserCalls.{CallStep, Got, system}
 use Rattle.lib_os.proofs.Bearing.{bearer}
 use Rattle.lib_os.proofs.GoingOn.{gives_nothing_up}
 use Rattle.lib_os.proofs.Leaving.{running_calm, system_left}
+use Rattle.lib_os.proofs.NumbersKept.{KeepsCopies, copies_kept, mapping_copies, numbers_kept, places_kept}
+use Rattle.lib_os.proofs.OthersCopies.{plain_wait}
+use Rattle.lib_os.proofs.OthersKept.{own_stay, system_stay}
 use Rattle.lib_os.proofs.Slots.{slot_kept, slot_put}
 use Rattle.lib_os.proofs.UsesCalled.{system_found}
-use Rattle.lib_stage.specs.Asks.{performed}
+use Rattle.lib_stage.specs.Asks.{frames_of, performed}
 use Rattle.lib_stage.specs.ServiceSteps.{Plan, upshot_by, or_nowhere, ServiceHolds}
-use Rattle.lib_stage.proofs.Laws.{FailsBy, KeepsBy, falling_lowers, is_plain, law_of_nowhere, plain_leaves, system_gives}
+use Rattle.lib_stage.proofs.FramesTaken.{asks_few}
+use Rattle.lib_stage.proofs.Laws.{FailsBy, KeepsBy, falling_lowers, is_plain, knowingly, known_leaves, law_of_nowhere, plain_leaves, system_gives}
 use Rattle.lib_fork.specs.declared.fork.ForkStage.{ForkStage}
 use Rattle.lib_fork.specs.declared.fork.ForkStage.TheVariants as stage
-use Rattle.lib_fork.specs.ForkStages.{ask_of, fork_at, forking}
+use Rattle.lib_fork.specs.ForkStages.{ask_of, fork_at, forking, page_va}
 use Rattle.lib_fork.proofs.Beginning.{entered_holds}
 use Rattle.lib_fork.proofs.Birth.{child_runs_fails, child_runs_keeps, runs_is, undoing_fails, undoing_keeps}
 use Rattle.lib_fork.proofs.Falling.{fork_falls, step_of}
 use Rattle.lib_fork.proofs.Mapping.{map_child_fails, map_child_keeps}
 use Rattle.lib_fork.proofs.Readying.{child_stack_fails, child_stack_keeps, child_upcall_fails, child_upcall_keeps}
-use Rattle.lib_fork.proofs.Remaps.{remap_fails, remap_keeps}
+use Rattle.lib_fork.proofs.Remaps.{remap_fails, remap_keeps, remap_takes}
 use Rattle.lib_fork.proofs.Staying.{goes_on}
 use Rattle.lib_fork.proofs.Walking.{entry_fails, entry_keeps, region_fails, region_keeps}
 
@@ -49,9 +54,21 @@ abbrev StepLeaves : KernelState → ℕ → ForkStage → Type 0
 StepLeaves s n at =
     let did = upshot_by (plan at) n (performed s n (ask_of at)) (performed s n (ask_of at)).gives in Leaves (Ok did.progress) n s did.state
 
+abbrev StepTakes : KernelState → ℕ → ForkStage → Type 0
+StepTakes s n at = TakesByPlace n s (upshot_by (plan at) n (performed s n (ask_of at)) (performed s n (ask_of at)).gives).state
+
+-- what is asked may take no more frames than a step may at this stage
+abbrev Few : ForkStage → Type 0
+Few at = frames_of (ask_of at) ≤ frames_at (place.InService service.Fork (step_of at))
+
+takes_few : (s : KernelState) (n : ℕ) (at : ForkStage) → place_of (slot_at s n) ≡ place.InService service.Fork (step_of at) → Few at →
+    StepTakes s n at
+takes_few s n at stands few = asks_few s n (plan at) (place.InService service.Fork (step_of at)) stands few
+
 law_of_stage : (s : KernelState) (n : ℕ) → is_live (slot_at s n) ≡ true → (at : ForkStage) →
-    place_of (slot_at s n) ≡ place.InService service.Fork (step_of at) → StepLeaves s n at → StepKeeps s n at → ServiceHolds s n (plan at)
-law_of_stage s n live at stands leaves keeps = record {
+    place_of (slot_at s n) ≡ place.InService service.Fork (step_of at) → StepLeaves s n at → StepTakes s n at → StepKeeps s n at →
+    ServiceHolds s n (plan at)
+law_of_stage s n live at stands leaves takes keeps = record {
   lives = (goes_on s n live at).live;
   keeps = keeps.0;
   fails = keeps.1;
@@ -61,6 +78,7 @@ law_of_stage s n live at stands leaves keeps = record {
   gives_up =
       let did = upshot_by (plan at) n (performed s n (ask_of at)) (performed s n (ask_of at)).gives in
       gives_nothing_up (Ok did.progress) (slot_at s n) (slot_at did.state n) (ap is_pausing stands);
+  takes = takes;
 }
 
 -- ---- the step in which the child may run: its parent is not woken by it, since it is another
@@ -93,13 +111,20 @@ module _ (s : KernelState) (n id : ℕ) (live : is_live (slot_at s n) ≡ true)
 
   runs_leaves_so : Leaves (Ok progress.Finished) n s (after call.state)
   runs_leaves_so =
-      let rest = (system_left s n SYS_ENV_SET_STATUS args).rest in (
-        record { last = rest.last; turns = rest.turns; frames = rest.frames; refused = rest.refused; told = rest.told },
-        (λ a h running silent ready.
+      let rest = (system_left s n SYS_ENV_SET_STATUS args).rest in
+      let t : KernelState = call.state in
+      let others = own_stay s n t (system_stay s n SYS_ENV_SET_STATUS args refl)
+      (record (slot_at t n) { registers = record (slot_at t n).registers { eax = id }; extra = no_extra }) in
+      record {
+        rest = record { last = rest.last; turns = rest.turns; frames = rest.frames; refused = rest.refused; told = rest.told };
+        turn = λ a h running silent ready.
             let was : is_runnable (slot_at s n).status ≡ true = ap (λ (x : Status). is_runnable x) (sym (parent_still a h)) ∙ ready in
-            absurd (let contradiction : false ≡ true = sym (running_calm (slot_at s n).status running) ∙ was in cc)),
-        (λ in_order lives each. system_found s n SYS_ENV_SET_STATUS args in_order lives each),
-      )
+            absurd (let contradiction : false ≡ true = sym (running_calm (slot_at s n).status running) ∙ was in cc);
+        uses = λ in_order lives each. system_found s n SYS_ENV_SET_STATUS args in_order lives each;
+        places = places_kept s (after t) n (λ before then_so lives. others);
+        numbers = numbers_kept s (after t) n (λ before then_so lives. others)
+            (copies_kept s (after t) n (plain_wait s n SYS_ENV_SET_STATUS args refl));
+      }
 
   runs_leaves : StepLeaves s n (stage.ChildRuns id)
   unfolding performed
@@ -108,33 +133,48 @@ module _ (s : KernelState) (n id : ℕ) (live : is_live (slot_at s n) ≡ true)
       subst (λ (g : Got Called). let did = upshot_by (plan (stage.ChildRuns id)) n call g in Leaves (Ok did.progress) n s did.state)
       (sym gives.1) runs_leaves_so
 
+-- ---- the step in which a page is mapped into the child, which is not born
+
+map_child_copies : (s : KernelState) (n id page perm : ℕ) → place_of (slot_at s n) ≡ place.InService service.Fork (step.MapChild id page perm) →
+    KeepsCopies n s (performed s n (ask_of (stage.MapChild id page perm))).state
+unfolding performed
+map_child_copies s n id page perm stands = mapping_copies s n id page perm (page_va page) (page_va page) perm stands
+
+map_child_leaves : (s : KernelState) (n id page perm : ℕ) → place_of (slot_at s n) ≡ place.InService service.Fork (step.MapChild id page perm) →
+    StepLeaves s n (stage.MapChild id page perm)
+map_child_leaves s n id page perm stands =
+    known_leaves s n (plan (stage.MapChild id page perm)) (knowingly refl (map_child_copies s n id page perm stands))
+
 -- ---- each step
 
 module _ (s : KernelState) (n : ℕ) (live : is_live (slot_at s n) ≡ true) where
   plain_law : (at : ForkStage) → place_of (slot_at s n) ≡ place.InService service.Fork (step_of at) → is_plain (ask_of at) ≡ true →
-      StepKeeps s n at → ServiceHolds s n (plan at)
-  plain_law at stands plain keeps = law_of_stage s n live at stands (plain_leaves s n (plan at) plain) keeps
+      Few at → StepKeeps s n at → ServiceHolds s n (plan at)
+  plain_law at stands plain few keeps = law_of_stage s n live at stands (plain_leaves s n (plan at) plain) (takes_few s n at stands few) keeps
 
   pub fork_holds : (at : Step) → place_of (slot_at s n) ≡ place.InService service.Fork at → ServiceHolds s n (or_nowhere forking (fork_at at))
   fork_holds step.Entered stands = entered_holds s n live stands
   fork_holds (step.ForkRegion id r) stands =
-      plain_law (stage.Region id r) stands refl (region_keeps s n id r stands live, region_fails s n id r stands live)
+      plain_law (stage.Region id r) stands refl (omega arith) (region_keeps s n id r stands live, region_fails s n id r stands live)
   fork_holds (step.ForkEntry id page) stands =
-      plain_law (stage.Entry id page) stands refl (entry_keeps s n id page stands live, entry_fails s n id page stands live)
+      plain_law (stage.Entry id page) stands refl (omega arith) (entry_keeps s n id page stands live, entry_fails s n id page stands live)
   fork_holds (step.MapChild id page perm) stands =
-      plain_law (stage.MapChild id page perm) stands refl
+      law_of_stage s n live (stage.MapChild id page perm) stands (map_child_leaves s n id page perm stands)
+      (takes_few s n (stage.MapChild id page perm) stands (omega arith))
       (map_child_keeps s n id page perm live stands, map_child_fails s n id page perm live stands)
   fork_holds (step.Remap id page) stands =
-      plain_law (stage.Remap id page) stands refl (remap_keeps s n id page live stands, remap_fails s n id page live stands)
+      law_of_stage s n live (stage.Remap id page) stands (plain_leaves s n (plan (stage.Remap id page)) refl) (remap_takes s n id page live stands)
+      (remap_keeps s n id page live stands, remap_fails s n id page live stands)
   fork_holds (step.ChildStack id) stands =
-      plain_law (stage.ChildStack id) stands refl (child_stack_keeps s n id live stands, child_stack_fails s n id live stands)
+      plain_law (stage.ChildStack id) stands (ap (λ (t : Bool). t && true) (or-true (id == 0))) (omega arith)
+      (child_stack_keeps s n id live stands, child_stack_fails s n id live stands)
   fork_holds (step.ChildUpcall id) stands =
-      plain_law (stage.ChildUpcall id) stands refl (child_upcall_keeps s n id live stands, child_upcall_fails s n id live stands)
+      plain_law (stage.ChildUpcall id) stands refl (omega arith) (child_upcall_keeps s n id live stands, child_upcall_fails s n id live stands)
   fork_holds (step.ChildRuns id) stands =
-      law_of_stage s n live (stage.ChildRuns id) stands (runs_leaves s n id live stands)
+      law_of_stage s n live (stage.ChildRuns id) stands (runs_leaves s n id live stands) (takes_few s n (stage.ChildRuns id) stands (omega arith))
       (child_runs_keeps s n id live stands, child_runs_fails s n id live stands)
   fork_holds (step.Undoing id error) stands =
-      plain_law (stage.Undoing id error) stands refl (undoing_keeps s n id error stands, undoing_fails s n id error stands)
+      plain_law (stage.Undoing id error) stands refl (omega arith) (undoing_keeps s n id error stands, undoing_fails s n id error stands)
   fork_holds (step.Trying perm) stands = law_of_nowhere s n service.Fork (step.Trying perm) stands refl (λ view k b h. h)
   fork_holds (step.Pausing perm) stands = law_of_nowhere s n service.Fork (step.Pausing perm) stands refl (λ view k b h. h)
   fork_holds step.ReadingRegion stands = law_of_nowhere s n service.Fork step.ReadingRegion stands refl (λ view k b h. h)

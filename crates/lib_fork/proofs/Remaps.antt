@@ -11,7 +11,7 @@ use Rattle.lib_os.specs.declared.place.Step.TheVariants as step
 use Rattle.lib_os.specs.declared.progress.Progress.TheVariants as progress
 use Rattle.lib_os.specs.declared.service.Service.TheVariants as service
 use Rattle.lib_os.specs.InOrder.{IsInOrder}
-use Rattle.lib_os.specs.LibrarySteps.{KeepsStanding, Stays}
+use Rattle.lib_os.specs.LibrarySteps.{KeepsStanding, Stays, TakesAtMost, TakesByPlace}
 use Rattle.lib_os.specs.Places.{place_of}
 use Rattle.lib_os.specs.Rows.{cow_perm}
 use Rattle.lib_os.specs.UserCalls.{CallStep, Got, system}
@@ -21,6 +21,7 @@ use Rattle.lib_stage.specs.declared.ask.Next.TheVariants as next
 use Rattle.lib_stage.specs.Asks.{performed}
 use Rattle.lib_stage.specs.Nexts.{settled}
 use Rattle.lib_stage.specs.ServiceSteps.{Plan, upshot_by}
+use Rattle.lib_stage.proofs.FramesTaken.{takes_at}
 use Rattle.lib_stage.proofs.Laws.{FailsBy, KeepsBy, system_gives}
 use Rattle.lib_fork.specs.declared.fork.ForkStage.TheVariants as stage
 use Rattle.lib_fork.specs.ForkStages.{ask_of, below, forking, page_va}
@@ -64,3 +65,13 @@ module _ (s : KernelState) (n id page : ℕ) (live : is_live (slot_at s n) ≡ t
 
   pub remap_fails : FailsBy s n (forking (record { at = stage.Remap id page })) (performed s n (ask_of (stage.Remap id page)))
   remap_fails may a h = absurd (let contradiction : false ≡ true = may in cc)
+
+  -- the table is there, so that no frame is taken
+  pub remap_takes :
+      let step = performed s n (ask_of (stage.Remap id page)) in
+      TakesByPlace n s (upshot_by (forking (record { at = stage.Remap id page })) n step step.gives).state
+  unfolding performed
+  remap_takes =
+      takes_at s n (forking (record { at = stage.Remap id page })) asked (place.InService service.Fork (step.Remap id page)) stands
+      (λ a h. let call = maps_onto h.1 n id page stands in
+      subst (λ (z : CallStep Called). TakesAtMost 0 s.spaces z.state.spaces) (sym call.step) call.takes)

@@ -39,7 +39,7 @@ use Rattle.lib_stage.specs.declared.ask.Next.TheVariants as next
 use Rattle.lib_stage.specs.Asks.{performed}
 use Rattle.lib_stage.specs.Nexts.{seen_as, settled}
 use Rattle.lib_stage.specs.ServiceSteps.{Plan, ServiceHolds}
-use Rattle.lib_stage.proofs.Laws.{FailsBy, KeepsBy, law_of_load}
+use Rattle.lib_stage.proofs.Laws.{FailsBy, KeepsBy, law_of_load, plainly}
 use Rattle.lib_fork.specs.declared.fork.ForkStage.TheVariants as stage
 use Rattle.lib_fork.specs.ForkStages.{ask_of, below, first_page, forking, is_there, next_of, page_of, region_of}
 use Rattle.lib_fork.proofs.Falling.{fork_falls}
@@ -181,7 +181,7 @@ module _ (s : KernelState) (n id region : ℕ) (stands : place_of (slot_at s n) 
     pub region_holds : ServiceHolds s n plan
     region_holds =
         law_of_load s n plan service.Fork at
-        (record { stands = stands; live = live; numbered = refl; plain = refl; goes_on = refl; falls = fork_falls (stage.Region id region) })
+        (record { stands = stands; live = live; numbered = refl; plain = plainly refl; goes_on = refl; falls = fork_falls (stage.Region id region); few = omega arith })
         address refl (λ names a h. (record { word = word; is = region_loads names a h }, region_follows names a h))
 
     pub region_keeps : IsInOrder (performed s n (ask_of (stage.Region id region))).state →
@@ -289,7 +289,7 @@ module _ (s : KernelState) (n id page : ℕ) (stands : place_of (slot_at s n) �
     pub entry_holds : ServiceHolds s n entry_plan
     entry_holds =
         law_of_load s n entry_plan service.Fork at_entry
-        (record { stands = stands; live = live; numbered = refl; plain = refl; goes_on = refl; falls = fork_falls (stage.Entry id page) })
+        (record { stands = stands; live = live; numbered = refl; plain = plainly refl; goes_on = refl; falls = fork_falls (stage.Entry id page); few = omega arith })
         entry_address refl (λ names a h. (record { word = found; is = entry_loads names a h }, entry_follows names a h))
 
     pub entry_keeps : IsInOrder (performed s n (ask_of (stage.Entry id page))).state →

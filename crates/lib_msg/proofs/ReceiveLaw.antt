@@ -1,5 +1,5 @@
 -- The law of receive: its stages are the two steps that it has in the abstract system.
-use Rattle.std.proofs.Common.{◌≡◌, ◌||◌, ℕ, Bool, true, false, not, [], ◌∷◌, refl, sym, subst, arith, if◌then◌else◌}
+use Rattle.std.proofs.Common.{◌≡◌, ◌||◌, ◌≤◌, ℕ, Bool, true, false, not, [], ◌∷◌, refl, sym, subst, arith, if◌then◌else◌}
 use Rattle.jos_base.specs.declared.called.Called.{Called}
 use Rattle.jos_base.specs.declared.numbers.TheConstants.{E_INVAL, ENV_IPC_FROM, ENV_IPC_PERM, ENV_IPC_VALUE, SYS_GETENVID, SYS_IPC_RECV}
 use Rattle.jos_base.specs.Environments.{is_live, is_runnable, is_running}
@@ -9,14 +9,16 @@ use Rattle.lib_os.specs.declared.place.Place.TheVariants as place
 use Rattle.lib_os.specs.declared.place.Step.{Step}
 use Rattle.lib_os.specs.declared.place.Step.TheVariants as step
 use Rattle.lib_os.specs.declared.service.Service.TheVariants as service
+use Rattle.lib_os.specs.LibrarySteps.{frames_at}
 use Rattle.lib_os.specs.Places.{place_of}
 use Rattle.lib_os.specs.StandsFor.{destination_of}
 use Rattle.lib_os.specs.UserCalls.{CallStep, answer_of}
 use Rattle.lib_os.proofs.Calls.{getenvid_is}
 use Rattle.lib_os.proofs.Trying.{LivesOn, recv_lives}
 use Rattle.lib_stage.specs.declared.ask.Next.TheVariants as next
+use Rattle.lib_stage.specs.Asks.{frames_of}
 use Rattle.lib_stage.specs.ServiceSteps.{Plan, or_nowhere, ServiceHolds}
-use Rattle.lib_stage.proofs.Laws.{Falls, IsAt, KeepsBy, is_plain, shown_keeps, law_of_call, law_of_load, law_of_nowhere}
+use Rattle.lib_stage.proofs.Laws.{Falls, IsAt, KeepsBy, is_plain, shown_keeps, law_of_call, law_of_load, law_of_nowhere, plainly}
 use Rattle.lib_msg.specs.declared.receive.ReceiveStage.{ReceiveStage}
 use Rattle.lib_msg.specs.declared.receive.ReceiveStage.TheVariants as stage
 use Rattle.lib_msg.specs.ReceiveStages.{may_receive, next_of, receive_at, receiving, record_word}
@@ -47,10 +49,25 @@ module _ (s : KernelState) (n va from : ℕ) (live : is_live (slot_at s n) ≡ t
   abbrev plan : ReceiveStage → Plan
   plan at = receiving (record { va = va; from = from; at = at })
 
+  few : (at : ReceiveStage) → frames_of (plan at).asks ≤ frames_at (place.InService (service.Receive va from) (step_of at))
+  few stage.Entered = omega arith
+  few (stage.Receiving id) = omega arith
+  few (stage.ReadingValue id) = omega arith
+  few (stage.ReadingSender id value) = omega arith
+  few (stage.ReadingPerm id value sender) = omega arith
+
   here : (at : ReceiveStage) → place_of (slot_at s n) ≡ place.InService (service.Receive va from) (step_of at) →
       is_plain (plan at).asks ≡ true → IsAt s n (plan at) (service.Receive va from) (step_of at)
   here at stands plain =
-      record { stands = stands; live = live; numbered = refl; plain = plain; goes_on = refl; falls = λ called. falls at (answer_of called) }
+      record {
+        stands = stands;
+        live = live;
+        numbered = refl;
+        plain = plainly plain;
+        goes_on = refl;
+        falls = λ called. falls at (answer_of called);
+        few = few at;
+      }
 
   pub receive_holds : (at : Step) → place_of (slot_at s n) ≡ place.InService (service.Receive va from) at →
       ServiceHolds s n (or_nowhere receiving (receive_at va from at))

@@ -1,5 +1,6 @@
 -- The law of send: each of its stages is a part of its one step in the abstract system.
-use Rattle.std.proofs.Common.{◌≡◌, ◌+◌, ◌*◌, ◌/◌, ◌==◌, ◌^◌, ◌<◌, ℕ, Bool, true, false, not, [], ◌∷◌, refl, sym, ap, subst, arith, if◌then◌else◌}
+use Rattle.std.proofs.Common.{◌≡◌, ◌+◌, ◌*◌, ◌/◌, ◌==◌, ◌^◌, ◌<◌, ◌≤◌, ℕ, Bool, true, false, not, [], ◌∷◌, refl, sym, ap, subst, arith}
+use Rattle.std.proofs.Common.{if◌then◌else◌}
 use Rattle.std.specs.Prelude.{bit_and}
 use Rattle.jos_base.specs.declared.called.Called.{Called}
 use Rattle.jos_base.specs.declared.numbers.TheConstants.{NPTENTRIES, PGSIZE, PTE_P, UVPT, E_INVAL, E_IPC_NOT_RECV}
@@ -14,18 +15,20 @@ use Rattle.lib_os.specs.declared.place.Step.TheVariants as step
 use Rattle.lib_os.specs.declared.service.Service.{Service}
 use Rattle.lib_os.specs.declared.service.Service.TheVariants as service
 use Rattle.lib_os.specs.Fence.{is_page_inside}
-use Rattle.lib_os.specs.LibrarySteps.{is_pausing}
+use Rattle.lib_os.specs.LibrarySteps.{is_pausing, frames_at}
 use Rattle.lib_os.specs.Places.{place_of}
 use Rattle.lib_os.specs.Services.{named_service, service_of}
 use Rattle.lib_os.specs.StandsFor.{destination_of}
 use Rattle.lib_os.specs.UserCalls.{CallStep, answer_of}
 use Rattle.lib_os.proofs.Calls.{getenvid_is}
 use Rattle.lib_os.proofs.Numbered.{named_at}
+use Rattle.lib_os.proofs.NumbersKept.{KeepsCopies, sending_copies}
 use Rattle.lib_os.proofs.Trying.{LivesOn}
 use Rattle.lib_stage.specs.declared.ask.Next.{Next}
 use Rattle.lib_stage.specs.declared.ask.Next.TheVariants as next
+use Rattle.lib_stage.specs.Asks.{frames_of, performed}
 use Rattle.lib_stage.specs.ServiceSteps.{Plan, or_nowhere, ServiceHolds}
-use Rattle.lib_stage.proofs.Laws.{Falls, IsAt, KeepsBy, is_plain, answered_keeps, law_of_call, law_of_load, law_of_nowhere, law_of_pause}
+use Rattle.lib_stage.proofs.Laws.{Falls, IsAt, IsPlain, KeepsBy, plainly, knowingly, answered_keeps, law_of_call, law_of_load, law_of_nowhere, law_of_pause}
 use Rattle.lib_msg.specs.declared.send.SendStage.{SendStage}
 use Rattle.lib_msg.specs.declared.send.SendStage.TheVariants as stage
 use Rattle.lib_msg.specs.SendStages.{may_name, may_pass, next_of, send_at, sending}
@@ -82,30 +85,51 @@ module _ (s : KernelState) (n id value va : ℕ) (live : is_live (slot_at s n) �
   abbrev plan : SendStage → Plan
   plan at = sending (record { id = id; value = value; va = va; at = at })
 
+  few : (at : SendStage) → frames_of (plan at).asks ≤ frames_at (place.InService (service.Send id value va) (step_of at))
+  few stage.Entered = omega arith
+  few stage.ReadingRegion = omega arith
+  few stage.ReadingEntry = omega arith
+  few (stage.Trying perm) = omega arith
+  few (stage.Pausing perm) = omega arith
+
   -- what stands in ECX is a word
   module _ (small : (slot_at s n).registers.ecx < 2 ^ 32) where
     here : (at : SendStage) → place_of (slot_at s n) ≡ place.InService (service.Send id value va) (step_of at) →
-        is_plain (plan at).asks ≡ true → is_pausing (place.InService (service.Send id value va) (step_of at)) ≡ false →
+        IsPlain s n (plan at).asks → is_pausing (place.InService (service.Send id value va) (step_of at)) ≡ false →
         IsAt s n (plan at) (service.Send id value va) (step_of at)
     here at stands plain goes_on =
-        record { stands = stands; live = live; numbered = refl; plain = plain; goes_on = goes_on; falls = λ called. falls at (answer_of called) }
+        record {
+          stands = stands;
+          live = live;
+          numbered = refl;
+          plain = plain;
+          goes_on = goes_on;
+          falls = λ called. falls at (answer_of called);
+          few = few at;
+        }
+
+    -- a page that passes is none that waits to be copied
+    trying_copies : (perm : ℕ) → place_of (slot_at s n) ≡ place.InService (service.Send id value va) (step.Trying perm) →
+        KeepsCopies n s (performed s n (plan (stage.Trying perm)).asks).state
+    unfolding performed
+    trying_copies perm stands = sending_copies s n id value va perm stands
 
     pub send_holds : (at : Step) → place_of (slot_at s n) ≡ place.InService (service.Send id value va) at →
         ServiceHolds s n (or_nowhere sending (send_at id value va at))
     send_holds step.Entered stands =
         let args = 0 ∷ 0 ∷ 0 ∷ 0 ∷ 0 ∷ [] in
-        law_of_call s n (plan stage.Entered) (service.Send id value va) step.Entered (here stage.Entered stands refl refl) SYS_GETENVID args refl refl
+        law_of_call s n (plan stage.Entered) (service.Send id value va) step.Entered (here stage.Entered stands (plainly refl) refl) SYS_GETENVID args refl refl
         (subst (λ (z : CallStep Called). LivesOn z n (slot_at s n).registers) (sym (getenvid_is s n live args)) (record { live = live; registers = refl; written = refl }))
         (λ order. subst (λ (z : CallStep Called). KeepsBy s n (plan stage.Entered) z) (sym (getenvid_is s n live args)) (entered_keeps s n id value va stands))
     send_holds step.ReadingRegion stands =
-        law_of_load s n (plan stage.ReadingRegion) (service.Send id value va) step.ReadingRegion (here stage.ReadingRegion stands refl refl)
+        law_of_load s n (plan stage.ReadingRegion) (service.Send id value va) step.ReadingRegion (here stage.ReadingRegion stands (plainly refl) refl)
         (UVPD + 4 * (va / PGSIZE / NPTENTRIES)) refl
         (λ names a h. (
           record { word = region_word s n id value va stands; is = region_there s n id value va stands names a h },
           region_follows s n id value va stands names a h,
         ))
     send_holds step.ReadingEntry stands =
-        law_of_load s n (plan stage.ReadingEntry) (service.Send id value va) step.ReadingEntry (here stage.ReadingEntry stands refl refl)
+        law_of_load s n (plan stage.ReadingEntry) (service.Send id value va) step.ReadingEntry (here stage.ReadingEntry stands (plainly refl) refl)
         (UVPT + 4 * (va / PGSIZE)) refl
         (λ names a h. (
           record { word = word s n id value va stands; is = entry_there s n id value va stands names a h },
@@ -114,7 +138,7 @@ module _ (s : KernelState) (n id value va : ℕ) (live : is_live (slot_at s n) �
     send_holds (step.Trying perm) stands =
         let word_small : value < 2 ^ 32 = subst (λ (w : ℕ). w < 2 ^ 32) (given_word (slot_at s n) id value va (step.Trying perm) stands) small in
         let it = sent s n id value va perm stands live word_small in
-        law_of_call s n (plan (stage.Trying perm)) (service.Send id value va) (step.Trying perm) (here (stage.Trying perm) stands refl refl)
+        law_of_call s n (plan (stage.Trying perm)) (service.Send id value va) (step.Trying perm) (here (stage.Trying perm) stands (knowingly refl (trying_copies perm stands)) refl)
         SYS_IPC_TRY_SEND (id ∷ value ∷ destination_of va ∷ perm ∷ 0 ∷ []) refl refl
         (record { live = it.live; registers = it.registers; written = it.written })
         (answered_keeps s n (plan (stage.Trying perm)) (send_call s n id value va perm) it (trying_keeps s n id value va perm stands live word_small))

@@ -1,13 +1,10 @@
 -- How many frames of the list a call of the library takes, by what is called: none, but where it asks for a page, a table or a space.
-use Rattle.std.proofs.Common.{◌≡◌, ◌∙◌, ◌==◌, ◌%◌, ◌&&◌, ◌||◌, ◌+◌, ◌≤◌, ℕ, Bool, true, false, not, List, [], ◌∷◌, Option, Some, None}
-use Rattle.std.proofs.Common.{Result, Ok, Err, IfSome, arith, refl, sym, ap, subst, if◌then◌else◌}
+use Rattle.std.proofs.Common.{◌≡◌, ◌∙◌, ◌==◌, ◌%◌, ◌&&◌, ◌+◌, ◌≤◌, ℕ, Bool, true, false, not, List, [], ◌∷◌, Option, Some, None}
+use Rattle.std.proofs.Common.{Result, Ok, Err, IfSome, arith, refl, ap, subst, if◌then◌else◌}
 use Rattle.std.specs.Prelude.{length, nat_lt}
 use Rattle.std.specs.Int.{w32, to_le_bytes}
 use Rattle.std.proofs.lemmas.Bool.Decides.{nat_tests}
 use Rattle.jos_base.specs.declared.environment.Status.{Status}
-use Rattle.jos_base.specs.declared.environment.Status.TheVariants.{NotRunnable}
-use Rattle.jos_base.specs.declared.errno.Errno.{Errno}
-use Rattle.jos_base.specs.declared.errno.Errno.TheVariants.{BadEnv, Invalid, IpcNotRecv}
 use Rattle.jos_base.specs.declared.line.Line.{Line}
 use Rattle.jos_base.specs.declared.line.Line.TheVariants.{UserFault, UserMemCheck}
 use Rattle.jos_base.specs.declared.memory.Access.{Access}
@@ -19,17 +16,17 @@ use Rattle.jos_base.specs.declared.numbers.TheConstants.{SYS_ENV_SET_TRAPFRAME, 
 use Rattle.jos_base.specs.declared.numbers.TheConstants.{SYS_IPC_TRY_SEND, SYS_IPC_RECV}
 use Rattle.jos_base.specs.declared.registers.Regs.{Regs}
 use Rattle.jos_base.specs.Environments.{Slot, is_live, found, Environments, allotted}
-use Rattle.jos_base.specs.KernelState.{KernelState, slot_at, with_registers, with_spaces}
+use Rattle.jos_base.specs.KernelState.{KernelState, slot_at, with_registers}
 use Rattle.jos_base.specs.Messages.{accepts}
 use Rattle.jos_base.specs.Reach.{Entry, FrameOffset}
-use Rattle.jos_base.specs.SpacesState.{SpacesState, allocated, created, unmapped}
+use Rattle.jos_base.specs.SpacesState.{SpacesState, allocated, created}
 use Rattle.jos_base.specs.SystemCalls.{Did, killed, user_bytes, cputs_of, cputs, cgetc_from, env_destroy_of, status_named, env_set_status_of}
 use Rattle.jos_base.specs.SystemCalls.{is_page_address, is_page_perm, shared_entry, entry_at, inserted_at, answered_with, second_of}
 use Rattle.jos_base.specs.SystemCalls.{page_alloc_of, page_map_by, page_map_of, page_unmap_of, record_size, env_set_trapframe_by, env_set_trapframe_of}
 use Rattle.jos_base.specs.SystemCalls.{env_set_pgfault_upcall_of, Passing, nothing, a_page, invalid, passing_of, sent_with, sent, ipc_try_send_of}
 use Rattle.jos_base.specs.SystemCalls.{ipc_recv, call_of, exofork, exofork_of, environment_made, made_of, handler_entered, handled_at, handled}
 use Rattle.jos_base.specs.TrapFrames.{frame_size, upcall_place}
-use Rattle.jos_base.specs.UserMemory.{reach_in, touched}
+use Rattle.jos_base.specs.UserMemory.{reach_in}
 use Rattle.jos_base.specs.Words.{page_number}
 use Rattle.lib_os.specs.LibrarySteps.{TakesAtMost, frames_asked}
 use Rattle.lib_os.specs.UserCalls.{CallStep, giving, accessing, by_access, faulting, user_byte, user_word, with_user_byte, with_user_word}

@@ -1,6 +1,6 @@
 -- How many frames of the list what is done to address spaces takes: none, but where a page or a table is asked for.
-use Rattle.std.proofs.Common.{◌≡◌, ◌∙◌, ◌==◌, ◌/◌, ◌%◌, ◌+◌, ◌^◌, ◌≤◌, ℕ, zero, suc, Bool, true, false, List, [], ◌∷◌, Option, Some, None, Result}
-use Rattle.std.proofs.Common.{Ok, Err, IfSome, refl, sym, ap, arith, if◌then◌else◌}
+use Rattle.std.proofs.Common.{◌≡◌, ◌∙◌, ◌==◌, ◌/◌, ◌%◌, ◌+◌, ◌^◌, ℕ, zero, suc, Bool, true, false, List, [], ◌∷◌, Option, Some, None, Result}
+use Rattle.std.proofs.Common.{Ok, Err, IfSome, refl, ap, arith, if◌then◌else◌}
 use Rattle.std.specs.Prelude.{length, nat_lt}
 use Rattle.std.specs.Option.{option_map}
 use Rattle.jos_base.specs.declared.memory.Access.{Access}
@@ -33,7 +33,7 @@ released_more s (Some frame) = by_test (page_count s.entries frame == 0)
     by_test true = freed_more s frame
     by_test false = omega arith
 
-mapped_more : (s : SpacesState) (space number : ℕ) (entry : Entry) → TakesAtMost 0 s (mapped s space number entry)
+pub mapped_more : (s : SpacesState) (space number : ℕ) (entry : Entry) → TakesAtMost 0 s (mapped s space number entry)
 unfolding mapped
 mapped_more s space number entry = released_more (with_entry s space number entry) (frame_of (s.entries space number))
 

@@ -81,7 +81,7 @@ module _ (P : Type 0) (s : KernelState) (n : ℕ) where
 
   -- ---- changes of the state
 
-  same_left : Left P s n s
+  pub same_left : Left P s n s
   same_left = record { rest = record { last = refl; turns = refl; frames = refl; refused = λ two some. refl; told = λ some. some }; calm = λ p calm. calm }
 
   spaces_left : (spaces : SpacesState) → spaces.frames ≡ s.spaces.frames → Left P s n (with_spaces s spaces)

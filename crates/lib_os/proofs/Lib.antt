@@ -47,6 +47,10 @@ pub mod FramesKept
 pub mod FreeFrames
 pub mod FramesAsked
 pub mod Leaving
+pub mod OthersKept
+pub mod CopiesLeft
+pub mod OthersCopies
+pub mod NumbersKept
 pub mod StepsLeave
 pub mod Trying
 pub mod Apart

@@ -23,6 +23,7 @@ use Rattle.lib_os.specs.declared.place.Step.TheVariants as step
 use Rattle.lib_os.specs.declared.service.Service.TheVariants as service
 use Rattle.lib_os.specs.AbstractState.{AbstractState, own}
 use Rattle.lib_os.specs.InOrder.{IsInOrder}
+use Rattle.lib_os.specs.LibrarySteps.{TakesAtMost}
 use Rattle.lib_os.specs.Places.{place_of, words_at}
 use Rattle.lib_os.specs.Rows.{EntryRow, IsUsers, Names, Rows, as_cow, counted, cow_perm}
 use Rattle.lib_os.specs.Rows.{is_programs, is_shared, logical, may_write, page_seen, rows_of}
@@ -34,6 +35,7 @@ use Rattle.lib_os.proofs.Calls.{made_step}
 use Rattle.lib_os.proofs.Effects.{Given}
 use Rattle.lib_os.proofs.EntriesStand.{rows_bytes, rows_same, rows_stand, seen_at, seen_own}
 use Rattle.lib_os.proofs.EntryWords.{row_entry}
+use Rattle.lib_os.proofs.FreeFrames.{mapped_more}
 use Rattle.lib_os.proofs.GoesDown.{IsOnWay, bearing_moves, goes_below, has_from, moved, own_moved, step_below, there_programs}
 use Rattle.lib_os.proofs.GoingOn.{in_with_words}
 use Rattle.lib_os.proofs.Logical.{logical_some}
@@ -259,6 +261,7 @@ pub record MapsOnto (s : KernelState) (n page : ℕ) (asked : CallStep Called) :
   pub frame : entry.frame ≡ old.frame
   pub spaces : SpacesState
   pub is : inserted s.spaces (slot_at s n).directory page (record { frame = old.frame; perm = cow_perm }) ≡ Some spaces
+  pub takes : TakesAtMost 0 s.spaces spaces
   pub step : asked ≡ giving (with_spaces s spaces) (Answered 0)
 
 -- where a page begins
@@ -290,6 +293,7 @@ module _ {names : Names} {s : KernelState} {a : AbstractState} (h : StandsFor na
         frame = same;
         spaces = mapped s.spaces d page over;
         is = ap (λ (f : ℕ). inserted s.spaces d page (record { frame = f; perm = cow_perm })) (sym same) ∙ is;
+        takes = mapped_more s.spaces d page over;
         step = page_map_is s n (parent_lives h n id (step.Remap id page) v) (start_of page) (start_of page) cow_perm begins.0 begins.0 over
             (ap (λ (q : ℕ). shared_entry (s.spaces.entries d q) cow_perm) begins.1 ∙ (λ i. shared_entry (raw.1 i) cow_perm))
             ∙ ap (λ (q : ℕ). made_step s (inserted s.spaces d q over)) begins.1

@@ -24,7 +24,7 @@ use Rattle.lib_os.specs.declared.place.Place.TheVariants as place
 use Rattle.lib_os.specs.AbstractState.{AbstractState}
 use Rattle.lib_os.specs.Fence.{is_inside}
 use Rattle.lib_os.specs.LibraryPages.{LibraryPages, IsOwnWritable}
-use Rattle.lib_os.specs.LibrarySteps.{is_to_copy}
+use Rattle.lib_os.specs.LibrarySteps.{TakesAtMost, is_to_copy}
 use Rattle.lib_os.specs.Places.{place_of}
 use Rattle.lib_os.specs.Rows.{Names, rows_of, lasting}
 use Rattle.lib_os.specs.StandsFor.{StandsFor}
@@ -33,6 +33,7 @@ use Rattle.lib_os.proofs.Calls.{system_is, caller_is, made_is, made_step}
 use Rattle.lib_os.proofs.CopiesStand.{copy_page, copy_bits, over_way}
 use Rattle.lib_os.proofs.EntryWords.{row_entry}
 use Rattle.lib_os.proofs.Fences.{inside_below, inside_number}
+use Rattle.lib_os.proofs.FreeFrames.{mapped_more}
 use Rattle.lib_os.proofs.Handled.{handled_part}
 
 -- page_map(0, from, 0, to, perm), by the entry that is given on
@@ -95,6 +96,7 @@ pub record PutsOver (s : KernelState) (n va : ℕ) (asked : CallStep Called) : T
   pub frame : entry.frame ≡ copy.frame
   pub spaces : SpacesState
   pub is : inserted s.spaces (slot_at s n).directory (page_number va) (record { frame = copy.frame; perm = copy_bits }) ≡ Some spaces
+  pub takes : TakesAtMost 0 s.spaces spaces
   pub step : asked ≡ giving (with_spaces s spaces) (Answered 0)
   pub waited : is_to_copy (rows_of s.spaces (slot_at s n).directory (page_number va)) ≡ true
   pub below : page_number va < page_limit
@@ -136,6 +138,7 @@ module _ {names : Names} {s : KernelState} {a : AbstractState} (h : StandsFor na
         frame = refl;
         spaces = mapped s.spaces d (page_number va) over;
         is = is;
+        takes = mapped_more s.spaces d (page_number va) over;
         step = page_map_is s n live PFTEMP start copy_bits refl begins.0 over
             (ap (λ (o : Option Entry). shared_entry o copy_bits) raw.1 ∙ given_on raw.0 copy_bits refl writes)
             ∙ ap (λ (q : ℕ). made_step s (inserted s.spaces d q over)) begins.1

@@ -1,100 +1,84 @@
 -- What a step leaves, by the call that it makes and what follows it: an answer, words that tell how far it is, or nothing.
-use Rattle.std.proofs.Common.{◌≡◌, ◌∙◌, ℕ, true, false, List, Result, Ok, Err, refl, sym, subst}
-use Rattle.jos_host.specs.declared.host.Failed.{Failed}
-use Rattle.jos_base.specs.declared.called.Called.{Called}
+use Rattle.std.proofs.Common.{◌≡◌, ◌∙◌, ℕ, true, false, List, Ok, refl, sym, subst}
 use Rattle.jos_base.specs.declared.registers.Regs.{Regs}
-use Rattle.jos_base.specs.Environments.{no_extra}
-use Rattle.jos_base.specs.KernelState.{KernelState, slot_at, with_extra}
+use Rattle.jos_base.specs.Environments.{Slot, is_live, no_extra}
+use Rattle.jos_base.specs.KernelState.{KernelState, slot_at, with_slot_at, with_extra}
 use Rattle.lib_os.specs.declared.progress.Progress.{Progress}
-use Rattle.lib_os.specs.declared.progress.Progress.TheVariants as progress
-use Rattle.lib_os.specs.declared.user_os.Stop.{Stop}
-use Rattle.lib_os.specs.declared.user_os.Stop.TheVariants as stop
-use Rattle.lib_os.specs.LibrarySteps.{LeavesRest, KeepsUses, Leaves, IsStopped, is_pausing, gone_back, service_answered}
-use Rattle.lib_os.specs.Places.{place_of}
-use Rattle.lib_os.specs.UserCalls.{IsStep, IsCallStep, Output, load, system}
-use Rattle.lib_os.proofs.UsesCalled.{system_found, load_found}
-use Rattle.lib_os.proofs.Leaving.{Left, put_left, load_left, system_left, wakes, running_calm}
+use Rattle.lib_os.specs.LibrarySteps.{KeepsUses, Leaves, gone_back, service_answered}
+use Rattle.lib_os.specs.UserCalls.{system}
+use Rattle.lib_os.proofs.UsesCalled.{system_found}
+use Rattle.lib_os.proofs.Leaving.{Left, put_left, system_left, wakes, running_calm}
+use Rattle.lib_os.proofs.NumbersKept.{KeepsCopies, KeepsOthers, copies_kept, numbers_kept, places_kept}
+use Rattle.lib_os.proofs.OthersCopies.{maps_no_copy, plain_wait}
+use Rattle.lib_os.proofs.OthersKept.{own_stay, system_stay, sets_others}
+use Rattle.lib_os.proofs.StatesStand.{slot_was_in_order}
 
--- Behind a call in which the environment did not wake itself: one that is in its turn, and waits for nothing, is not RUNNABLE.
+-- Behind a call in which the environment did not wake itself: one that is in its turn, and waits for nothing, is not RUNNABLE. Each
+-- other one stands where it stood, and no more of its pages wait to be copied.
 pub record Behind (s : KernelState) (n : ℕ) (mid : KernelState) : Type 0 where
   pub left : Left ((slot_at s n).rendezvous.receiving ≡ false) s n mid
   pub used : KeepsUses n s mid
+  pub others : KeepsOthers n s mid
+  pub copies : KeepsCopies n s mid
 
-pub behind : (s : KernelState) (n number : ℕ) (args : List ℕ) → wakes number ≡ false → Behind s n (system s n number args).state
-behind s n number args asleep =
+pub behind : (s : KernelState) (n number : ℕ) (args : List ℕ) → wakes number ≡ false →
+    KeepsOthers n s (system s n number args).state → KeepsCopies n s (system s n number args).state → Behind s n (system s n number args).state
+behind s n number args asleep others copies =
     let h = system_left s n number args in record {
       left = record { rest = h.rest; calm = λ silent calm. h.calm (silent, asleep) calm };
       used = λ in_order live each. system_found s n number args in_order live each;
+      others = others;
+      copies = copies;
     }
 
-pub behind_call : (s mid : KernelState) (n number : ℕ) (args : List ℕ) (called : Called) (output : Output) →
-    wakes number ≡ false → IsCallStep (system s n number args) (Ok called) mid output → Behind s n mid
-behind_call s mid n number args called output asleep call =
-    subst (λ (t : KernelState). Behind s n t) (sym call.1) (behind s n number args asleep)
+pub behind_calm : (s : KernelState) (n number : ℕ) (args : List ℕ) → wakes number ≡ false → sets_others number ≡ false →
+    KeepsCopies n s (system s n number args).state → Behind s n (system s n number args).state
+behind_calm s n number args asleep calm copies = behind s n number args asleep (λ before after live. system_stay s n number args calm) copies
 
-loaded : (s : KernelState) (n va : ℕ) → Behind s n (load s n va).state
-loaded s n va = record { left = load_left _ s n va; used = λ in_order live each. load_found s n in_order.frames each va }
+pub behind_plain : (s : KernelState) (n number : ℕ) (args : List ℕ) → wakes number ≡ false → sets_others number ≡ false →
+    maps_no_copy number args ≡ true → Behind s n (system s n number args).state
+behind_plain s n number args asleep calm plain =
+    behind_calm s n number args asleep calm (copies_kept s (system s n number args).state n (plain_wait s n number args plain))
 
-pub behind_load : (s mid : KernelState) (n va word : ℕ) (output : Output) → IsStep (load s n va) (Ok word) mid output → Behind s n mid
-behind_load s mid n va word output call = subst (λ (t : KernelState). Behind s n t) (sym call.1) (loaded s n va)
+-- its own slot is changed in what tells neither whether it is there, nor whether it may run, nor its space
+pub behind_own : (s : KernelState) (n : ℕ) (mid : KernelState) (slot : Slot) → slot.status ≡ (slot_at mid n).status →
+    slot.directory ≡ (slot_at mid n).directory → Behind s n mid → Behind s n (with_slot_at mid n slot)
+behind_own s n mid slot status directory h = record {
+  left = put_left _ s n mid h.left n slot status;
+  used = h.used;
+  others = λ before after live.
+      own_stay s n mid (h.others before (slot_was_in_order mid n slot (λ i. is_live (record slot { status = status i })) directory after) live) slot;
+  copies = h.copies;
+}
 
 -- ---- what follows it
 
 -- nothing
 pub stays : (s after : KernelState) (n : ℕ) (done : Progress) → Behind s n after → Leaves (Ok done) n s after
-stays s after n done h = (
-  h.left.rest,
-  (λ a stands running silent runs. absurd (
+stays s after n done h = record {
+  rest = h.left.rest;
+  turn = λ a stands running silent runs. absurd (
       let contradiction : true ≡ false = sym runs ∙ h.left.calm silent (running_calm (slot_at s n).status running) in cc
-      )),
-  h.used,
-)
+      );
+  uses = h.used;
+  places = places_kept s after n h.others;
+  numbers = numbers_kept s after n h.others h.copies;
+}
 
 -- registers and no words, or an answer
-pub goes_back : (s mid after : KernelState) (n m : ℕ) (regs : Regs) (done : Progress) → Behind s n mid → after ≡ gone_back mid m regs →
+pub goes_back : (s mid after : KernelState) (n : ℕ) (regs : Regs) (done : Progress) → Behind s n mid → after ≡ gone_back mid n regs →
     Leaves (Ok done) n s after
-goes_back s mid after n m regs done h is =
+goes_back s mid after n regs done h is =
     subst (λ (t : KernelState). Leaves (Ok done) n s t) (sym is)
-    (stays s (gone_back mid m regs) n done (record {
-      left = put_left _ s n mid h.left m (record (slot_at mid m) { registers = regs; extra = no_extra }) refl;
-      used = h.used;
-    }))
+    (stays s (gone_back mid n regs) n done (behind_own s n mid (record (slot_at mid n) { registers = regs; extra = no_extra }) refl refl h))
 
-pub answers : (s mid after : KernelState) (n m word : ℕ) (done : Progress) → Behind s n mid → after ≡ service_answered mid m word →
+pub answers : (s mid after : KernelState) (n word : ℕ) (done : Progress) → Behind s n mid → after ≡ service_answered mid n word →
     Leaves (Ok done) n s after
-answers s mid after n m word done h is = goes_back s mid after n m (record (slot_at mid m).registers { eax = word }) done h is
+answers s mid after n word done h is = goes_back s mid after n (record (slot_at mid n).registers { eax = word }) done h is
 
 -- words
-pub goes_on : (s mid after : KernelState) (n m : ℕ) (words : List ℕ) (done : Progress) → Behind s n mid → after ≡ with_extra mid m words →
+pub goes_on : (s mid after : KernelState) (n : ℕ) (words : List ℕ) (done : Progress) → Behind s n mid → after ≡ with_extra mid n words →
     Leaves (Ok done) n s after
-goes_on s mid after n m words done h is =
+goes_on s mid after n words done h is =
     subst (λ (t : KernelState). Leaves (Ok done) n s t) (sym is)
-    (stays s (with_extra mid m words) n done
-    (record { left = put_left _ s n mid h.left m (record (slot_at mid m) { extra = words }) refl; used = h.used }))
-
--- a step that pauses, and then tries again
-pub pauses_on : (s mid after : KernelState) (n m number : ℕ) (args words : List ℕ) (called : Called) (output : Output) →
-    is_pausing (place_of (slot_at s n)) ≡ true →
-    IsCallStep (system s n number args) (Ok called) mid output → after ≡ with_extra mid m words → Leaves (Ok progress.Hidden) n s after
-pauses_on s mid after n m number args words called output pausing call is =
-    subst (λ (t : KernelState). Leaves (Ok progress.Hidden) n s t) (sym is) (
-      record { last = rest.last; turns = rest.turns; frames = rest.frames; refused = rest.refused; told = rest.told },
-      (λ a stands running silent runs. pausing),
-      used,
-    )
-  where
-    rest : LeavesRest s mid
-    rest = subst (λ (t : KernelState). LeavesRest s t) (sym call.1) (system_left s n number args).rest
-
-    used : KeepsUses n s mid
-    used = subst (λ (t : KernelState). KeepsUses n s t) (sym call.1) (λ in_order live each. system_found s n number args in_order live each)
-
--- a load in vain
-pub stopped_leaves : (s mid : KernelState) (n va : ℕ) (e : Stop) (result : Result Progress Failed) (output : Output) →
-    IsStep (load s n va) (Err e) mid output → IsStopped e result → Leaves result n s mid
-stopped_leaves s mid n va e (Err failed) output call is = tt
-stopped_leaves s mid n va stop.Failed (Ok done) output call is = absurd is
-stopped_leaves s mid n va stop.Upcall (Ok done) output call is =
-    stays s mid n done (subst (λ (t : KernelState). Behind s n t) (sym call.1) (loaded s n va))
-stopped_leaves s mid n va stop.Ended (Ok done) output call is =
-    stays s mid n done (subst (λ (t : KernelState). Behind s n t) (sym call.1) (loaded s n va))
+    (stays s (with_extra mid n words) n done (behind_own s n mid (record (slot_at mid n) { extra = words }) refl refl h))

@@ -24,7 +24,7 @@ use Rattle.lib_os.specs.declared.place.Place.TheVariants as place
 use Rattle.lib_os.specs.declared.place.Step.{Step}
 use Rattle.lib_os.specs.declared.place.Step.TheVariants as step
 use Rattle.lib_os.specs.declared.service.Service.TheVariants as service
-use Rattle.lib_os.specs.AbstractState.{AbstractState}
+use Rattle.lib_os.specs.AbstractState.{AbstractState, Born, born}
 use Rattle.lib_os.specs.AbstractRun.{abs_step, may_wait}
 use Rattle.lib_os.specs.InOrder.{IsInOrder}
 use Rattle.lib_os.specs.Need.{EachHasUse, count_below}
@@ -100,6 +100,25 @@ frames_asked number =
     else if (number == SYS_PAGE_MAP) || (number == SYS_EXOFORK) || (number == SYS_IPC_TRY_SEND) then 1
     else 0
 
+-- How many frames a step may take from the list, by where its environment stands: fork takes one for the child's directory, one for a
+-- table of the child's with each page that it maps there, and two for the child's stack; the handler takes two for a page and its table;
+-- page_new takes as many, and a message that is tried one, for a table of the page that goes with it. A page that is mapped over another
+-- takes none, since its table is there; a step of a program takes none, and so does each other step.
+abbrev pub frames_at : Place → ℕ
+frames_at (place.InService (service.PageNew va flags) at) = 2
+frames_at (place.InService (service.Send id value va) (step.Trying perm)) = 1
+frames_at (place.InService (service.Wait id) (step.Trying perm)) = 1
+frames_at (place.InService service.Fork step.Entered) = 1
+frames_at (place.InService service.Fork (step.MapChild id page perm)) = 1
+frames_at (place.InService service.Fork (step.ChildStack id)) = 2
+frames_at (place.InHandler (handler.Taking va)) = 2
+frames_at _ = 0
+
+-- So many a step takes at most, wherever the state stands for an abstract one.
+abbrev pub TakesByPlace : ℕ → KernelState → KernelState → Type 0
+TakesByPlace n before after =
+    (a : AbstractState) → Stands before a → TakesAtMost (frames_at (place_of (slot_at before n))) before.spaces after.spaces
+
 abbrev pub is_yield : Place → Bool
 is_yield (place.InService service.Yield s) = true
 is_yield _ = false
@@ -120,14 +139,6 @@ KeepsTurn done before after =
 abbrev pub KeepsUses : ℕ → KernelState → KernelState → Type 0
 KeepsUses n before after =
     IsInOrder before → is_live (slot_at before n) ≡ true → EachHasUse before.spaces → EachHasUse after.spaces
-
--- Its turn is kept where the state stands for an abstract one. Where the host failed nothing is said.
-abbrev pub Leaves : Result Progress Failed → ℕ → KernelState → KernelState → Type 0
-Leaves (Ok done) n before after =
-    LeavesRest before after
-    × ((a : AbstractState) → Stands before a → KeepsTurn done (slot_at before n) (slot_at after n))
-    × KeepsUses n before after
-Leaves (Err _) n before after = Unit {0}
 
 -- ---- the number that falls
 
@@ -212,6 +223,35 @@ abbrev pub GivesUp : Result Progress Failed → Slot → Slot → Type 0
 GivesUp (Ok done) before after =
     is_pausing (place_of before) ≡ true → (done ≡ progress.Hidden) × (is_runnable after.status ≡ true)
 GivesUp (Err _) before after = Unit {0}
+
+-- ---- what a step leaves to the others
+
+-- An environment beside the one whose step it is stands where it stood, if it is there before and after.
+abbrev pub KeepsPlaces : ℕ → KernelState → KernelState → Type 0
+KeepsPlaces n before after =
+    IsInOrder before → IsInOrder after → is_live (slot_at before n) ≡ true →
+    (m : ℕ) → m ≢ n → is_live (slot_at before m) ≡ true → is_live (slot_at after m) ≡ true →
+    place_of (slot_at after m) ≡ place_of (slot_at before m)
+
+-- Where the state stands for an abstract one, a step does not raise the number of hidden steps that another environment may still make, but
+-- that of a child that is not born yet, which is given its pages.
+abbrev pub KeepsNumbers : ℕ → KernelState → KernelState → Type 0
+KeepsNumbers n before after =
+    IsInOrder after → is_live (slot_at before n) ≡ true → (a : AbstractState) → Stands before a →
+    (m : ℕ) (b : Born) → m ≢ n → a.slots m ≡ born b → is_live (slot_at after m) ≡ true → hidden_left after m ≤ hidden_left before m
+
+-- What a step leaves to the one whose step it is and to the others. Its turn is kept where the state stands for an abstract one.
+pub record LeavesEach (done : Progress) (n : ℕ) (before after : KernelState) : Type 0 where
+  pub rest : LeavesRest before after
+  pub turn : (a : AbstractState) → Stands before a → KeepsTurn done (slot_at before n) (slot_at after n)
+  pub uses : KeepsUses n before after
+  pub places : KeepsPlaces n before after
+  pub numbers : KeepsNumbers n before after
+
+-- Where the host failed nothing is said.
+abbrev pub Leaves : Result Progress Failed → ℕ → KernelState → KernelState → Type 0
+Leaves (Ok done) n before after = LeavesEach done n before after
+Leaves (Err _) n before after = Unit {0}
 
 -- ---- calls
 

@@ -11,7 +11,7 @@ use Rattle.jos_base.specs.declared.line.Line.TheVariants.{UserFault}
 use Rattle.jos_base.specs.declared.memory.Access.{Access}
 use Rattle.jos_base.specs.declared.memory.Access.TheVariants.{Read, Write}
 use Rattle.jos_base.specs.declared.memory.PageFault.{PageFault}
-use Rattle.jos_base.specs.declared.numbers.TheConstants.{SYS_ENV_SET_TRAPFRAME}
+use Rattle.jos_base.specs.declared.numbers.TheConstants.{E_INVAL, SYS_ENV_SET_TRAPFRAME}
 use Rattle.jos_base.specs.declared.registers.Regs.{Regs}
 use Rattle.jos_base.specs.Environments.{records_of, found, is_live}
 use Rattle.jos_base.specs.KernelState.{KernelState, slot_at, with_registers, with_spaces}
@@ -19,7 +19,7 @@ use Rattle.jos_base.specs.Reach.{FrameOffset}
 use Rattle.jos_base.specs.SystemCalls.{Did, handled, killed, system_call, user_bytes, with_bytes_reached}
 use Rattle.jos_base.specs.TrapFrames.{words_of_bytes, frame_size, from_frame}
 use Rattle.jos_base.specs.UserMemory.{reach_in, touched, byte_at, stored_byte}
-use Rattle.jos_base.specs.Words.{is_exactly}
+use Rattle.jos_base.specs.Words.{is_exactly, negated}
 use Rattle.jos_host.specs.declared.host.Failed.{Failed}
 use Rattle.jos_host.specs.Told.{Rose}
 use Rattle.jos_host.specs.Frames.{Around, around}
@@ -141,6 +141,21 @@ restored s n (Err fault) = faulting s n fault (handled s n fault)
 unfoldable pub restore_frame : KernelState → ℕ → CallStep (Unit {0})
 restore_frame s n = restored s n (user_bytes s n (slot_at s n).registers.esp frame_size)
 
+-- ---- blocks of the disk
+
+-- The disk stands beside the kernel's state, as the console does. So far it is empty: a call that would move a block is refused, whoever
+-- makes it and whatever it names, and does nothing else.
+abbrev pub moves_nothing : KernelState → CallStep ℕ
+moves_nothing s = giving s (negated E_INVAL)
+
+-- block_read(block, va): the block's bytes come to the page at an address
+unfoldable pub block_read : KernelState → ℕ → ℕ → ℕ → CallStep ℕ
+block_read s n block va = moves_nothing s
+
+-- block_write(block, va): the page's bytes come to the block
+unfoldable pub block_write : KernelState → ℕ → ℕ → ℕ → CallStep ℕ
+block_write s n block va = moves_nothing s
+
 -- ---- what is printed
 
 -- What came to the console, where the host tells it, and how many bytes were counted.
@@ -177,6 +192,11 @@ IsStep step (Err stop.Failed) state output = (step.gives ≡ gone) × PrintsPart
 abbrev pub IsCallStep : CallStep Called → Result Called Failed → KernelState → Output → Type 0
 IsCallStep step (Ok called) state output = (step.gives ≡ got called) × (state ≡ step.state) × Prints output step.written
 IsCallStep step (Err _) state output = PrintsPart output step.written
+
+-- The same of a block. The host is not asked for one that the disk does not have, and so can't fail.
+abbrev pub IsBlockStep : CallStep ℕ → Result ℕ Failed → KernelState → Output → Type 0
+IsBlockStep step (Ok word) state output = (step.gives ≡ got word) × (state ≡ step.state) × Prints output step.written
+IsBlockStep step (Err _) state output = ⊥
 
 -- the word that a system call has answered; 0 where it has answered nothing
 abbrev pub answer_of : Called → ℕ

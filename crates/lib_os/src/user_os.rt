@@ -5,10 +5,10 @@ ghost use Rattle.jos_host.specs.Told.{HasCause};
 ghost use Rattle.jos_host.specs.Frames.{Unchanged, around, from_to};
 ghost use Rattle.jos_base.specs.Environments.{is_live};
 ghost use Rattle.jos_base.specs.KernelState.{KernelState, slot_at, with_registers, with_extra};
-ghost use Rattle.jos_base.specs.SystemCalls.{may_print};
+ghost use Rattle.jos_base.specs.SystemCalls.{is_page_address, may_print};
 ghost use Rattle.lib_os.specs.InOrder.{IsInOrder};
 ghost use Rattle.lib_os.specs.UserCalls as call;
-ghost use Rattle.lib_os.specs.UserCalls.{IsStep, IsCallStep, HasStopCause, output};
+ghost use Rattle.lib_os.specs.UserCalls.{IsStep, IsBlockStep, IsCallStep, HasStopCause, output};
 
 use jos_base::{Called, Extra, Regs};
 use jos_host::{Failed, Host};
@@ -122,6 +122,34 @@ pub trait UserOs {
         ensures calls { calls self.new ≡ calls self.old + 1 }
         ensures rest { Unchanged H.files H.input H.asked H.notes host.old host.new }
         ensures cause { HasStopCause (around H.faults host.old host.new) result };
+
+    /// Reads a block of the disk into the page at an address, for the file server: 0 where it has done that, and 3 negated where
+    /// another asks, where the disk has no such block, or where the page may not be written. The disk is empty so far, so that every
+    /// block is refused.
+    fn block_read<H: Host>(&mut self, host: &mut H, block: u32, va: u32) -> Result<u32, Failed>
+        requires live { is_live (slot_at (state self.old) (slot self.old)) ≡ true }
+        requires page { is_page_address va ≡ true }
+        requires few { calls self.old < 2 ^ 32 - 1 }
+        ensures step { IsBlockStep (call.block_read (state self.old) (slot self.old) block va) result (state self.new) (output H.console written (from_to host.old host.new) (from_to self.old self.new)) }
+        ensures in_order { IsInOrder (state self.new) }
+        ensures slot { slot self.new ≡ slot self.old }
+        ensures calls { calls self.new ≡ calls self.old + 1 }
+        ensures rest { Unchanged H.files H.input H.asked H.notes host.old host.new }
+        ensures cause { HasCause (H.faults host.old) (H.faults host.new) result };
+
+    /// Writes the page at an address to a block of the disk, for the file server: 0 where it has done that, and 3 negated where
+    /// another asks, where the disk has no such block, or where the page may not be read. The disk is empty so far, so that every
+    /// block is refused.
+    fn block_write<H: Host>(&mut self, host: &mut H, block: u32, va: u32) -> Result<u32, Failed>
+        requires live { is_live (slot_at (state self.old) (slot self.old)) ≡ true }
+        requires page { is_page_address va ≡ true }
+        requires few { calls self.old < 2 ^ 32 - 1 }
+        ensures step { IsBlockStep (call.block_write (state self.old) (slot self.old) block va) result (state self.new) (output H.console written (from_to host.old host.new) (from_to self.old self.new)) }
+        ensures in_order { IsInOrder (state self.new) }
+        ensures slot { slot self.new ≡ slot self.old }
+        ensures calls { calls self.new ≡ calls self.old + 1 }
+        ensures rest { Unchanged H.files H.input H.asked H.notes host.old host.new }
+        ensures cause { HasCause (H.faults host.old) (H.faults host.new) result };
 
     /// The environment's registers. This is no call that is counted, nor are the next three.
     fn registers(&self) -> Regs

@@ -62,5 +62,5 @@ module _ (s : KernelState) (n : ℕ) (at : Step) (stands : place_of (slot_at s n
 
   pub exit_holds : ServiceHolds s n exiting
   exit_holds =
-      law_of_end s n service.Exit at stands refl SERVICE_EXIT SYS_ENV_DESTROY (0 ∷ 0 ∷ 0 ∷ 0 ∷ 0 ∷ []) refl refl
+      law_of_end s n service.Exit at stands refl SERVICE_EXIT SYS_ENV_DESTROY (0 ∷ 0 ∷ 0 ∷ 0 ∷ 0 ∷ []) refl refl refl
       (subst (λ (z : CallStep Called). IsInOrder z.state → KeepsBy s n exiting z) (sym (env_destroy_is s n live (0 ∷ 0 ∷ 0 ∷ 0 ∷ []))) exit_keeps)

@@ -1,5 +1,5 @@
 -- The law of wait: each of its stages is a part of its one step in the abstract system.
-use Rattle.std.proofs.Common.{◌≡◌, ◌==◌, ◌||◌, ℕ, Bool, true, false, [], ◌∷◌, refl, sym, subst, arith, if◌then◌else◌}
+use Rattle.std.proofs.Common.{◌≡◌, ◌==◌, ◌||◌, ◌≤◌, ℕ, Bool, true, false, [], ◌∷◌, refl, sym, subst, arith, if◌then◌else◌}
 use Rattle.jos_base.specs.declared.called.Called.{Called}
 use Rattle.jos_base.specs.declared.numbers.TheConstants.{E_BAD_ENV, E_INVAL, SYS_GETENVID, SYS_IPC_TRY_SEND}
 use Rattle.jos_base.specs.Environments.{is_live}
@@ -10,14 +10,15 @@ use Rattle.lib_os.specs.declared.place.Place.TheVariants as place
 use Rattle.lib_os.specs.declared.place.Step.{Step}
 use Rattle.lib_os.specs.declared.place.Step.TheVariants as step
 use Rattle.lib_os.specs.declared.service.Service.TheVariants as service
-use Rattle.lib_os.specs.LibrarySteps.{is_pausing}
+use Rattle.lib_os.specs.LibrarySteps.{is_pausing, frames_at}
 use Rattle.lib_os.specs.Places.{place_of}
 use Rattle.lib_os.specs.UserCalls.{CallStep, answer_of}
 use Rattle.lib_os.proofs.Calls.{getenvid_is}
 use Rattle.lib_os.proofs.Trying.{LivesOn}
 use Rattle.lib_stage.specs.declared.ask.Next.TheVariants as next
+use Rattle.lib_stage.specs.Asks.{frames_of}
 use Rattle.lib_stage.specs.ServiceSteps.{Plan, or_nowhere, ServiceHolds}
-use Rattle.lib_stage.proofs.Laws.{Falls, IsAt, KeepsBy, is_plain, answered_keeps, law_of_call, law_of_nowhere, law_of_pause}
+use Rattle.lib_stage.proofs.Laws.{Falls, IsAt, KeepsBy, is_plain, answered_keeps, law_of_call, law_of_nowhere, law_of_pause, plainly}
 use Rattle.lib_spawn.specs.declared.services.WaitStage.{WaitStage}
 use Rattle.lib_spawn.specs.declared.services.WaitStage.TheVariants as stage
 use Rattle.lib_spawn.specs.EndStages.{next_of, wait_at, waiting}
@@ -46,10 +47,23 @@ module _ (s : KernelState) (n id : ℕ) (live : is_live (slot_at s n) ≡ true) 
   abbrev plan : WaitStage → Plan
   plan at = waiting (record { id = id; at = at })
 
+  few : (at : WaitStage) → frames_of (plan at).asks ≤ frames_at (place.InService (service.Wait id) (step_of at))
+  few stage.Entered = omega arith
+  few (stage.Trying perm) = omega arith
+  few (stage.Pausing perm) = omega arith
+
   here : (at : WaitStage) → place_of (slot_at s n) ≡ place.InService (service.Wait id) (step_of at) → is_plain (plan at).asks ≡ true →
       is_pausing (place.InService (service.Wait id) (step_of at)) ≡ false → IsAt s n (plan at) (service.Wait id) (step_of at)
   here at stands plain goes_on =
-      record { stands = stands; live = live; numbered = refl; plain = plain; goes_on = goes_on; falls = λ called. falls at (answer_of called) }
+      record {
+        stands = stands;
+        live = live;
+        numbered = refl;
+        plain = plainly plain;
+        goes_on = goes_on;
+        falls = λ called. falls at (answer_of called);
+        few = few at;
+      }
 
   pub wait_holds : (at : Step) → place_of (slot_at s n) ≡ place.InService (service.Wait id) at →
       ServiceHolds s n (or_nowhere waiting (wait_at id at))

@@ -1,5 +1,6 @@
 -- What the law of a service says of a step that its driver has made.
 use Rattle.std.proofs.Common.{◌≡◌, ◌∙◌, ℕ, false, true, Result, Ok, Err, sym, ap, subst, arith}
+use Rattle.std.specs.Prelude.{IfOk}
 use Rattle.jos_host.specs.declared.host.Failed.{Failed}
 use Rattle.jos_host.specs.Frames.{Around}
 use Rattle.jos_host.specs.Told.{HasCause}
@@ -10,7 +11,7 @@ use Rattle.lib_os.specs.declared.progress.Progress.{Progress}
 use Rattle.lib_os.specs.declared.user_os.Stop.{Stop}
 use Rattle.lib_os.specs.declared.user_os.Stop.TheVariants as stop
 use Rattle.lib_os.specs.InOrder.{IsInOrder}
-use Rattle.lib_os.specs.LibrarySteps.{IsLibraryStep, IsStopped, KeepsStanding, Leaves, Lowers, GivesUp}
+use Rattle.lib_os.specs.LibrarySteps.{IsLibraryStep, IsStopped, KeepsStanding, Leaves, Lowers, GivesUp, TakesByPlace}
 use Rattle.lib_os.specs.UserCalls.{Got, got, to_handler, gone, Output, Prints, HasStopCause}
 use Rattle.lib_stage.specs.declared.ask.Ask.{Ask}
 use Rattle.lib_stage.specs.Asks.{performed, IsPerformed}
@@ -103,6 +104,11 @@ module _ (s : KernelState) (n : ℕ) (plan : Plan) where
         (subst (λ (p : Progress). GivesUp (Ok p) (slot_at s n) (slot_at after n)) (sym h.0)
         (subst (λ (t : KernelState). GivesUp (Ok (service_step s n plan).progress) (slot_at s n) (slot_at t n)) (sym h.1) law.gives_up))
     law_gives_up (Err failed) after output m same h = tt
+
+    pub law_takes : (result : Result Progress Failed) (after : KernelState) (output : Output) → IsServiceStep result s n plan after output →
+        IfOk result (λ done. TakesByPlace n s after)
+    law_takes (Ok done) after output h = subst (λ (t : KernelState). TakesByPlace n s t) (sym h.1) law.takes
+    law_takes (Err failed) after output h = tt
 
 -- ---- why the host failed
 

@@ -1,6 +1,8 @@
 -- The parts of a service's law that are the same for all services: by what it asks, and by where it goes on.
-use Rattle.std.proofs.Common.{◌≡◌, ◌∙◌, ◌+◌, ◌-◌, ◌^◌, ◌<◌, ◌++◌, ℕ, Bool, true, false, not, List, [], length, Ok, Some, None, refl, sym, ap, subst}
+use Rattle.std.proofs.Common.{◌≡◌, ◌∙◌, ◌+◌, ◌-◌, ◌^◌, ◌<◌, ◌++◌, ◌&&◌, ℕ, Bool, true, false, not, List, [], length, Ok, Some, None, refl, sym, ap, subst}
 use Rattle.std.specs.Prelude.{min}
+use Rattle.std.proofs.Common.{◌≤◌, arith}
+use Rattle.std.proofs.lemmas.Bool.{and_parts}
 use Rattle.jos_host.specs.Frames.{from_to}
 use Rattle.jos_base.specs.declared.called.Called.{Called}
 use Rattle.jos_base.specs.declared.called.Called.TheVariants.{Answered}
@@ -21,21 +23,26 @@ use Rattle.lib_os.specs.AbstractState.{AbstractState, Born}
 use Rattle.lib_os.specs.InOrder.{IsInOrder}
 use Rattle.lib_os.specs.Need.{EachHasUse}
 use Rattle.lib_os.specs.LibrarySteps.{Stands, AbstractFollows, KeepsStanding, KeepsUses, Leaves, LeavesRest, Lowers, LowersAt, is_pausing}
-use Rattle.lib_os.specs.LibrarySteps.{steps_left, copies_left, left_at, hidden_left}
+use Rattle.lib_os.specs.LibrarySteps.{steps_left, copies_left, left_at, hidden_left, frames_asked, frames_at}
 use Rattle.lib_os.specs.LibraryPages.{View}
 use Rattle.lib_os.specs.Places.{place_of, words_at, handler_registers}
 use Rattle.lib_os.specs.Rows.{Names, rows_of}
 use Rattle.lib_os.specs.StandsFor.{StandsFor, StandsAtStep, view_of}
-use Rattle.lib_os.specs.UserCalls.{CallStep, Got, got, to_handler, gone, giving, load, asking, system, Output}
+use Rattle.lib_os.specs.UserCalls.{CallStep, Got, got, to_handler, gone, block_read, block_write, giving, load, asking, system, Output}
 use Rattle.lib_os.proofs.Calls.{yield_is}
 use Rattle.lib_os.proofs.GoingOn.{went_to, gave_up, gives_nothing_up}
-use Rattle.lib_os.proofs.Leaving.{Left, load_left, load_byte_left, store_left, store_byte_left, exchange_left, restore_left}
-use Rattle.lib_os.proofs.Leaving.{put_left, system_left, wakes}
+use Rattle.lib_os.proofs.Leaving.{Left, same_left, load_left, load_byte_left, store_left, store_byte_left, exchange_left, restore_left}
+use Rattle.lib_os.proofs.Leaving.{system_left, wakes}
+use Rattle.lib_os.proofs.NumbersKept.{KeepsCopies, copies_kept, numbers_kept, places_kept}
+use Rattle.lib_os.proofs.OthersCopies.{NoMoreWait, IsBeside, maps_no_copy, plain_wait, same_wait, load_wait, load_byte_wait}
+use Rattle.lib_os.proofs.OthersCopies.{store_wait, store_byte_wait, exchange_wait, restore_wait}
+use Rattle.lib_os.proofs.OthersKept.{OthersStay, same_stay, own_stay, own_before, sets_others, exofork_stays, load_stay, load_byte_stay}
+use Rattle.lib_os.proofs.OthersKept.{store_stay, store_byte_stay, exchange_stay, restore_stay}
 use Rattle.lib_os.proofs.Slots.{slots_alike}
 use Rattle.lib_os.proofs.Loading.{loaded, loaded_state, GivesWord}
 use Rattle.lib_os.proofs.Numbered.{number_of}
 use Rattle.lib_os.proofs.Serving.{served}
-use Rattle.lib_os.proofs.StepsLeave.{Behind, behind, answers, goes_back, goes_on, stays}
+use Rattle.lib_os.proofs.StepsLeave.{Behind, behind, behind_calm, behind_plain, behind_own, answers, goes_back, goes_on, stays}
 use Rattle.lib_os.proofs.Trying.{IsAnswered, LivesOn}
 use Rattle.lib_os.proofs.UsesCalled.{load_found, load_byte_found, store_found, store_byte_found, exchange_found}
 use Rattle.lib_os.proofs.UsesCalled.{restore_frame_found, system_found}
@@ -44,25 +51,38 @@ use Rattle.lib_stage.specs.declared.ask.Ask.{Ask}
 use Rattle.lib_stage.specs.declared.ask.Ask.TheVariants as ask
 use Rattle.lib_stage.specs.declared.ask.Next.{Next}
 use Rattle.lib_stage.specs.declared.ask.Next.TheVariants as next
-use Rattle.lib_stage.specs.Asks.{as_given, performed, at_instruction, got_as, told_as, MayFail}
+use Rattle.lib_stage.specs.Asks.{as_given, performed, at_instruction, got_as, told_as, frames_of, MayFail}
 use Rattle.lib_stage.specs.Nexts.{settled, seen_as, is_gone}
 use Rattle.lib_stage.specs.ServiceSteps.{Plan, upshot_by, nowhere, PlanHolds, ServiceHolds}
+use Rattle.lib_stage.proofs.FramesTaken.{asks_few, takes_none}
 
 -- ---- what is left
 
--- a call in which an environment does not wake itself
+-- a call in which an environment does not wake itself, nor sets another's registers, and in which it makes none
+abbrev pub is_calm : Ask → Bool
+is_calm (ask.System number args) = not (wakes number) && not (sets_others number)
+is_calm _ = true
+
+-- and in which it maps into no other space a page that waits to be copied
 abbrev pub is_plain : Ask → Bool
-is_plain (ask.System number args) = not (wakes number)
+is_plain (ask.System number args) = (not (wakes number) && not (sets_others number)) && maps_no_copy number args
 is_plain _ = true
 
-asleep : (t : Bool) → not t ≡ true → t ≡ false
-asleep false is = refl
-asleep true is = absurd (let contradiction : false ≡ true = is in cc)
+-- a plain one, or one of which it is known by where the service stands that others' pages are left
+pub data IsPlain (s : KernelState) (n : ℕ) (a : Ask) : Type 0 where
+  plainly : is_plain a ≡ true → IsPlain s n a
+  knowingly : is_calm a ≡ true → KeepsCopies n s (performed s n a).state → IsPlain s n a
+
+neither : (t u : Bool) → not t && not u ≡ true → (t ≡ false) × (u ≡ false)
+neither false false is = (refl, refl)
+neither false true is = absurd (let contradiction : false ≡ true = is in cc)
+neither true u is = absurd (let contradiction : false ≡ true = is in cc)
 
 -- the environment stands at an instruction before
 moved_behind : (s : KernelState) (n ip : ℕ) (after : KernelState) → Left (Unit {0}) (at_instruction s n ip) n after →
-    (IsInOrder s → EachHasUse s.spaces → EachHasUse after.spaces) → Behind s n after
-moved_behind s n ip after h used = record {
+    (IsInOrder s → EachHasUse s.spaces → EachHasUse after.spaces) → OthersStay (at_instruction s n ip) n after →
+    NoMoreWait (IsBeside s n) s.spaces after.spaces → Behind s n after
+moved_behind s n ip after h used others wait = record {
   left = record {
     rest = record { last = h.rest.last; turns = h.rest.turns; frames = h.rest.frames; refused = h.rest.refused; told = h.rest.told };
     calm = λ p calm. h.calm tt (
@@ -71,54 +91,104 @@ moved_behind s n ip after h used = record {
         );
   };
   used = λ in_order live each. used in_order each;
+  others = λ before then_so live.
+      own_before s n (record (slot_at s n) { registers = record (slot_at s n).registers { eip = ip } }) after others;
+  copies = copies_kept s after n wait;
 }
 
+-- an access
+reached_behind : (s : KernelState) (n : ℕ) (after : KernelState) → Left ((slot_at s n).rendezvous.receiving ≡ false) s n after →
+    (IsInOrder s → EachHasUse s.spaces → EachHasUse after.spaces) → OthersStay s n after →
+    NoMoreWait (IsBeside s n) s.spaces after.spaces → Behind s n after
+reached_behind s n after h used others wait = record {
+  left = h;
+  used = λ in_order live each. used in_order each;
+  others = λ before then_so live. others;
+  copies = copies_kept s after n wait;
+}
+
+-- nothing is done
+nothing_behind : (s : KernelState) (n : ℕ) → Behind s n s
+nothing_behind s n = reached_behind s n s (same_left _ s n) (λ in_order each. each) (same_stay s n) (same_wait _ s.spaces)
+
 pub plain_behind : (s : KernelState) (n : ℕ) (a : Ask) → is_plain a ≡ true → Behind s n (performed s n a).state
-unfolding performed
-plain_behind s n (ask.System number args) plain = behind s n number args (asleep (wakes number) plain)
-plain_behind s n ask.Exofork plain = behind s n SYS_EXOFORK (as_given (slot_at s n).registers) refl
+unfolding performed block_read block_write
+plain_behind s n (ask.System number args) plain =
+    let parts = and_parts (not (wakes number) && not (sets_others number)) (maps_no_copy number args) plain in
+    let both = neither (wakes number) (sets_others number) parts.0 in
+    behind_plain s n number args both.0 both.1 parts.1
+plain_behind s n ask.Exofork plain =
+    behind s n SYS_EXOFORK (as_given (slot_at s n).registers) refl (λ before then_so live. exofork_stays s n before live then_so)
+    (copies_kept s (system s n SYS_EXOFORK (as_given (slot_at s n).registers)).state n
+    (plain_wait s n SYS_EXOFORK (as_given (slot_at s n).registers) refl))
 plain_behind s n (ask.Load va) plain =
-    record { left = load_left _ s n va; used = λ in_order live each. load_found s n in_order.frames each va }
+    reached_behind s n _ (load_left _ s n va) (λ in_order each. load_found s n in_order.frames each va) (load_stay s n va) (load_wait _ s n va)
 plain_behind s n (ask.LoadByte va) plain =
-    record { left = load_byte_left _ s n va; used = λ in_order live each. load_byte_found s n in_order.frames each va }
+    reached_behind s n _ (load_byte_left _ s n va) (λ in_order each. load_byte_found s n in_order.frames each va) (load_byte_stay s n va) (load_byte_wait _ s n va)
 plain_behind s n (ask.Store va word) plain =
-    record { left = store_left _ s n va word; used = λ in_order live each. store_found s n in_order.frames each va word }
+    reached_behind s n _ (store_left _ s n va word) (λ in_order each. store_found s n in_order.frames each va word) (store_stay s n va word) (store_wait _ s n va word)
 plain_behind s n (ask.StoreByte va byte) plain =
-    record { left = store_byte_left _ s n va byte; used = λ in_order live each. store_byte_found s n in_order.frames each va byte }
+    reached_behind s n _ (store_byte_left _ s n va byte) (λ in_order each. store_byte_found s n in_order.frames each va byte)
+    (store_byte_stay s n va byte) (store_byte_wait _ s n va byte)
 plain_behind s n (ask.Exchange va word) plain =
-    record { left = exchange_left _ s n va word; used = λ in_order live each. exchange_found s n in_order.frames each va word }
+    reached_behind s n _ (exchange_left _ s n va word) (λ in_order each. exchange_found s n in_order.frames each va word)
+    (exchange_stay s n va word) (exchange_wait _ s n va word)
+plain_behind s n (ask.BlockRead block va) plain = nothing_behind s n
+plain_behind s n (ask.BlockWrite block va) plain = nothing_behind s n
 plain_behind s n ask.RestoreFrame plain =
-    record { left = restore_left _ s n; used = λ in_order live each. restore_frame_found s n in_order.frames each }
+    reached_behind s n _ (restore_left _ s n) (λ in_order each. restore_frame_found s n in_order.frames each) (restore_stay s n) (restore_wait _ s n)
 plain_behind s n (ask.Touch ip va true) plain =
     let t = at_instruction s n ip in
-    moved_behind s n ip _ (store_byte_left _ t n va 0) (λ in_order each. store_byte_found t n in_order.frames each va 0)
+    moved_behind s n ip _ (store_byte_left _ t n va 0) (λ in_order each. store_byte_found t n in_order.frames each va 0) (store_byte_stay t n va 0) (store_byte_wait _ t n va 0)
 plain_behind s n (ask.Touch ip va false) plain =
     let t = at_instruction s n ip in
-    moved_behind s n ip _ (load_byte_left _ t n va) (λ in_order each. load_byte_found t n in_order.frames each va)
+    moved_behind s n ip _ (load_byte_left _ t n va) (λ in_order each. load_byte_found t n in_order.frames each va) (load_byte_stay t n va) (load_byte_wait _ t n va)
+
+calm_behind : (s : KernelState) (n : ℕ) (a : Ask) → is_calm a ≡ true → KeepsCopies n s (performed s n a).state → Behind s n (performed s n a).state
+unfolding performed
+calm_behind s n (ask.System number args) calm copies =
+    let both = neither (wakes number) (sets_others number) calm in behind_calm s n number args both.0 both.1 copies
+calm_behind s n ask.Exofork calm copies = plain_behind s n ask.Exofork refl
+calm_behind s n (ask.Load va) calm copies = plain_behind s n (ask.Load va) refl
+calm_behind s n (ask.LoadByte va) calm copies = plain_behind s n (ask.LoadByte va) refl
+calm_behind s n (ask.Store va word) calm copies = plain_behind s n (ask.Store va word) refl
+calm_behind s n (ask.StoreByte va byte) calm copies = plain_behind s n (ask.StoreByte va byte) refl
+calm_behind s n (ask.Exchange va word) calm copies = plain_behind s n (ask.Exchange va word) refl
+calm_behind s n (ask.BlockRead block va) calm copies = plain_behind s n (ask.BlockRead block va) refl
+calm_behind s n (ask.BlockWrite block va) calm copies = plain_behind s n (ask.BlockWrite block va) refl
+calm_behind s n ask.RestoreFrame calm copies = plain_behind s n ask.RestoreFrame refl
+calm_behind s n (ask.Touch ip va write) calm copies = plain_behind s n (ask.Touch ip va write) refl
+
+-- the same of one of which it is known
+pub known_behind : (s : KernelState) (n : ℕ) (a : Ask) → IsPlain s n a → Behind s n (performed s n a).state
+known_behind s n a (plainly plain) = plain_behind s n a plain
+known_behind s n a (knowingly calm copies) = calm_behind s n a calm copies
 
 pub settled_leaves : (s mid : KernelState) (n number : ℕ) (x : Next) → Behind s n mid → Leaves (Ok (seen_as x)) n s (settled number x mid n)
-settled_leaves s mid n number (next.Answer word) h = answers s mid _ n n word progress.Finished h refl
+settled_leaves s mid n number (next.Answer word) h = answers s mid _ n word progress.Finished h refl
 settled_leaves s mid n number (next.Answers eax edx ecx ebx) h =
-    goes_back s mid _ n n (record (slot_at mid n).registers { eax = eax; edx = edx; ecx = ecx; ebx = ebx }) progress.Finished h refl
-settled_leaves s mid n number (next.GoOn at) h = goes_on s mid _ n n (words_at number at) progress.Hidden h refl
-settled_leaves s mid n number (next.Show at) h = goes_on s mid _ n n (words_at number at) progress.Visible h refl
-settled_leaves s mid n number (next.Wait at) h = goes_on s mid _ n n (words_at number at) progress.Waited h refl
+    goes_back s mid _ n (record (slot_at mid n).registers { eax = eax; edx = edx; ecx = ecx; ebx = ebx }) progress.Finished h refl
+settled_leaves s mid n number (next.GoOn at) h = goes_on s mid _ n (words_at number at) progress.Hidden h refl
+settled_leaves s mid n number (next.Show at) h = goes_on s mid _ n (words_at number at) progress.Visible h refl
+settled_leaves s mid n number (next.Wait at) h = goes_on s mid _ n (words_at number at) progress.Waited h refl
 settled_leaves s mid n number (next.Handle at) h =
-    stays s (settled number (next.Handle at) mid n) n progress.Hidden (record {
-      left = put_left _ s n mid h.left n (record (slot_at mid n) { registers = handler_registers (slot_at mid n).registers at }) refl;
-      used = h.used;
-    })
+    stays s (settled number (next.Handle at) mid n) n progress.Hidden
+    (behind_own s n mid (record (slot_at mid n) { registers = handler_registers (slot_at mid n).registers at }) refl refl h)
 settled_leaves s mid n number next.Leave h = stays s mid n progress.Hidden h
 settled_leaves s mid n number next.Gone h = stays s mid n progress.Ended h
 
-pub plain_leaves : (s : KernelState) (n : ℕ) (plan : Plan) → is_plain plan.asks ≡ true →
+pub known_leaves : (s : KernelState) (n : ℕ) (plan : Plan) → IsPlain s n plan.asks →
     let did = upshot_by plan n (performed s n plan.asks) (performed s n plan.asks).gives in Leaves (Ok did.progress) n s did.state
-plain_leaves s n plan plain = by_got (performed s n plan.asks).gives
+known_leaves s n plan plain = by_got (performed s n plan.asks).gives
   where
     by_got : (g : Got Called) → let did = upshot_by plan n (performed s n plan.asks) g in Leaves (Ok did.progress) n s did.state
-    by_got (got called) = settled_leaves s _ n plan.number (plan.next called) (plain_behind s n plan.asks plain)
-    by_got to_handler = stays s _ n progress.Ended (plain_behind s n plan.asks plain)
-    by_got gone = stays s _ n progress.Ended (plain_behind s n plan.asks plain)
+    by_got (got called) = settled_leaves s _ n plan.number (plan.next called) (known_behind s n plan.asks plain)
+    by_got to_handler = stays s _ n progress.Ended (known_behind s n plan.asks plain)
+    by_got gone = stays s _ n progress.Ended (known_behind s n plan.asks plain)
+
+pub plain_leaves : (s : KernelState) (n : ℕ) (plan : Plan) → is_plain plan.asks ≡ true →
+    let did = upshot_by plan n (performed s n plan.asks) (performed s n plan.asks).gives in Leaves (Ok did.progress) n s did.state
+plain_leaves s n plan plain = known_leaves s n plan (plainly plain)
 
 -- ---- who goes on
 
@@ -187,14 +257,15 @@ abbrev pub FailsBy : KernelState → ℕ → Plan → CallStep Called → Type 0
 FailsBy s n plan step = MayFail plan.asks step.gives → (a : AbstractState) → Stands s a →
     (b : AbstractState) × (abs_step a n ≡ Some b) × (b.console ≡ a.console ++ step.written)
 
--- a stage of a service, at which it stands and from which it goes on lower, and does not give up its turn
+-- a stage of a service, at which it stands and from which it goes on lower, and does not give up its turn, nor takes more frames than it may
 pub record IsAt (s : KernelState) (n : ℕ) (plan : Plan) (service : Service) (from : Step) : Type 0 where
   pub stands : place_of (slot_at s n) ≡ place.InService service from
   pub live : is_live (slot_at s n) ≡ true
   pub numbered : plan.number ≡ number_of service
-  pub plain : is_plain plan.asks ≡ true
+  pub plain : IsPlain s n plan.asks
   pub goes_on : is_pausing (place.InService service from) ≡ false
   pub falls : (called : Called) → Falls service from (plan.next called)
+  pub few : frames_of plan.asks ≤ frames_at (place.InService service from)
 
 pub law_of : (s : KernelState) (n : ℕ) (plan : Plan) (service : Service) (from : Step) → IsAt s n plan service from →
     GoesOn s n plan (performed s n plan.asks) → (IsInOrder (performed s n plan.asks).state → KeepsBy s n plan (performed s n plan.asks)) →
@@ -203,11 +274,12 @@ law_of s n plan service from at goes keeps fails = record {
   lives = goes.live;
   keeps = keeps;
   fails = fails;
-  leaves = plain_leaves s n plan at.plain;
+  leaves = known_leaves s n plan at.plain;
   lowers = falling_lowers s n plan (performed s n plan.asks) service from at.stands at.numbered goes at.falls;
   gives_up =
       let did = upshot_by plan n (performed s n plan.asks) (performed s n plan.asks).gives in
       gives_nothing_up (Ok did.progress) (slot_at s n) (slot_at did.state n) (ap is_pausing at.stands ∙ at.goes_on);
+  takes = asks_few s n plan (place.InService service from) at.stands at.few;
 }
 
 -- ---- a call that is known, and prints nothing
@@ -263,7 +335,7 @@ gone_lowers s n number asks step gone = tt
 
 module _ (s : KernelState) (n : ℕ) (service : Service) (from : Step) (stands : place_of (slot_at s n) ≡ place.InService service from)
     (goes_on : is_pausing (place.InService service from) ≡ false) (number call : ℕ) (args : List ℕ)
-    (plain : is_plain (ask.System call args) ≡ true) (silent : may_print call ≡ false) where
+    (plain : is_plain (ask.System call args) ≡ true) (silent : may_print call ≡ false) (none : frames_asked call ≡ 0) where
   abbrev ending : Plan
   ending = record { number = number; asks = ask.System call args; next = λ called. next.Gone }
 
@@ -278,6 +350,7 @@ module _ (s : KernelState) (n : ℕ) (service : Service) (from : Step) (stands :
         leaves = plain_leaves s n ending plain;
         lowers = gone_lowers s n number ending.asks (performed s n ending.asks) (performed s n ending.asks).gives;
         gives_up = gives_nothing_up (Ok did.progress) (slot_at s n) (slot_at did.state n) (ap is_pausing stands ∙ goes_on);
+        takes = asks_few s n ending (place.InService service from) stands (omega (arith, none));
       }
 
 -- ---- a step that the service has not
@@ -299,6 +372,7 @@ module _ (s : KernelState) (n : ℕ) (service : Service) (at : Step) (stands : p
         leaves = plain_leaves s n nowhere refl;
         lowers = gone_lowers s n SERVICES nowhere.asks (performed s n nowhere.asks) (performed s n nowhere.asks).gives;
         gives_up = gives_nothing_up (Ok did.progress) (slot_at s n) (slot_at did.state n) (ap is_pausing stands ∙ goes_on);
+        takes = asks_few s n nowhere (place.InService service at) stands (omega arith);
       }
 
 -- ---- a load at a window
@@ -375,6 +449,10 @@ module _ (s : KernelState) (n : ℕ) (service : Service) (from to : Step) (numbe
   used : KeepsUses n s ran
   used = subst (λ (z : CallStep Called). KeepsUses n s z.state) (yield_is s n live args) (λ in_order live each. system_found s n SYS_YIELD args in_order live each)
 
+  others : OthersStay s n after
+  others =
+      own_stay s n ran (own_stay s n s (same_stay s n) (record (slot_at s n) { status = Runnable })) (record (slot_at ran n) { extra = words_at number to })
+
   pub law_of_pause : steps_left to < steps_left from → KeepsStanding progress.Hidden n s after [] →
       ServiceHolds s n pause
   unfolding performed
@@ -384,13 +462,16 @@ module _ (s : KernelState) (n : ℕ) (service : Service) (from to : Step) (numbe
         lives = λ called is stays. ap (λ (k : Slot). is_live k) slot_is;
         keeps = λ order. keeps;
         fails = λ may a h. absurd (let contradiction : false ≡ true = may in cc);
-        leaves = (
-          record { last = rest.last; turns = rest.turns; frames = rest.frames; refused = rest.refused; told = rest.told },
-          (λ a stands_for running silent runs. ap is_pausing stands ∙ pausing),
-          used,
-        );
+        leaves = record {
+          rest = record { last = rest.last; turns = rest.turns; frames = rest.frames; refused = rest.refused; told = rest.told };
+          turn = λ a stands_for running silent runs. ap is_pausing stands ∙ pausing;
+          uses = used;
+          places = places_kept s after n (λ before then_so live. others);
+          numbers = numbers_kept s after n (λ before then_so live. others) (copies_kept s after n (same_wait (IsBeside s n) s.spaces));
+        };
         lowers = falling_lowers s n pause call service from stands numbered
             (record { live = λ called is stays. ap (λ (k : Slot). is_live k) slot_is; registers = λ called is stays. ap (λ (k : Slot). k.registers) slot_is })
             (λ called. falls);
         gives_up = gave_up s ran after n n n (words_at number to) refl refl refl refl;
+        takes = takes_none s n pause call refl;
       })

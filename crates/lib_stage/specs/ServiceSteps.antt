@@ -11,7 +11,7 @@ use Rattle.lib_os.specs.declared.progress.Progress.TheVariants as progress
 use Rattle.lib_os.specs.AbstractRun.{abs_step}
 use Rattle.lib_os.specs.AbstractState.{AbstractState}
 use Rattle.lib_os.specs.InOrder.{IsInOrder}
-use Rattle.lib_os.specs.LibrarySteps.{Stands, KeepsStanding, Leaves, Lowers, GivesUp}
+use Rattle.lib_os.specs.LibrarySteps.{Stands, KeepsStanding, Leaves, Lowers, GivesUp, TakesByPlace}
 use Rattle.lib_os.specs.UserCalls.{CallStep, Got, got, to_handler, gone, Output, Prints, PrintsPart}
 use Rattle.lib_stage.specs.declared.ask.Ask.{Ask}
 use Rattle.lib_stage.specs.declared.ask.Ask.TheVariants as ask
@@ -53,7 +53,7 @@ IsServiceStep (Err _) s n plan state output =
     let step = performed s n plan.asks in MayFail plan.asks step.gives × PrintsPart output step.written
 
 -- The law of a service, over states, by what its call comes to: what its step is in the abstract system, what it leaves,
--- and that it comes to an end.
+-- that it comes to an end, and how many frames it takes.
 pub record PlanHolds (s : KernelState) (n : ℕ) (plan : Plan) (step : CallStep Called) : Type 0 where
   -- who goes on is there
   pub lives : (called : Called) → step.gives ≡ got called → is_gone (plan.next called) ≡ false → is_live (slot_at step.state n) ≡ true
@@ -63,6 +63,7 @@ pub record PlanHolds (s : KernelState) (n : ℕ) (plan : Plan) (step : CallStep 
   pub leaves : let did = upshot_by plan n step step.gives in Leaves (Ok did.progress) n s did.state
   pub lowers : let did = upshot_by plan n step step.gives in Lowers (Ok did.progress) n s did.state
   pub gives_up : let did = upshot_by plan n step step.gives in GivesUp (Ok did.progress) (slot_at s n) (slot_at did.state n)
+  pub takes : let did = upshot_by plan n step step.gives in TakesByPlace n s did.state
 
 abbrev pub ServiceHolds : KernelState → ℕ → Plan → Type 0
 ServiceHolds s n plan = PlanHolds s n plan (performed s n plan.asks)

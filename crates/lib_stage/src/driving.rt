@@ -6,7 +6,7 @@ ghost use Rattle.jos_host.specs.Frames.{Unchanged, around, from_to};
 ghost use Rattle.jos_base.specs.Environments.{is_live};
 ghost use Rattle.jos_base.specs.KernelState.{slot_at};
 ghost use Rattle.lib_os.specs.declared.numbers.TheConstants.{SERVICES};
-ghost use Rattle.lib_os.specs.LibrarySteps.{IsLibraryStep, Leaves, Lowers, GivesUp, MakesOneCall, TakesAtMost};
+ghost use Rattle.lib_os.specs.LibrarySteps.{IsLibraryStep, Leaves, Lowers, GivesUp, MakesOneCall, TakesAtMost, TakesByPlace};
 ghost use Rattle.lib_os.specs.UserCalls.{output};
 ghost use Rattle.lib_stage.specs.Asks.{IsAligned, frames_of};
 ghost use Rattle.lib_stage.specs.ServiceSteps.{Plan, IsServiceStep, ServiceHolds};
@@ -57,6 +57,7 @@ pub fn drive<S: Planned, O: UserOs, H: Host>(
     ensures lowers { Lowers result (O.slot os.old) (O.state os.old) (O.state os.new) }
     ensures gives_up { GivesUp result (slot_at (O.state os.old) (O.slot os.old)) (slot_at (O.state os.new) (O.slot os.new)) }
     ensures frames { IfOk result (λ done. TakesAtMost (frames_of (S.plan stage.now).asks) (O.state os.old).spaces (O.state os.new).spaces) }
+    ensures by_place { IfOk result (λ done. TakesByPlace (O.slot os.old) (O.state os.old) (O.state os.new)) }
     ensures one { MakesOneCall (around O.slot os.old os.new) (around O.calls os.old os.new) }
     ensures rest { Unchanged H.files H.input H.asked H.notes host.old host.new }
     ensures cause { HasCause (H.faults host.old) (H.faults host.new) result }

@@ -95,6 +95,14 @@ pub fn perform<O: UserOs, H: Host>(os: &mut O, host: &mut H, ask: Ask) -> Result
             Ok(stood) => Ok(Called::Answered(stood)),
             Err(stop) => Err(stop),
         },
+        Ask::BlockRead { block, va } => match os.block_read(host, block, va) {
+            Ok(word) => Ok(Called::Answered(word)),
+            Err(Failed) => Err(Stop::Failed),
+        },
+        Ask::BlockWrite { block, va } => match os.block_write(host, block, va) {
+            Ok(word) => Ok(Called::Answered(word)),
+            Err(Failed) => Err(Stop::Failed),
+        },
         Ask::RestoreFrame => match os.restore_frame(host) {
             Ok(()) => Ok(Called::Answered(0)),
             Err(stop) => Err(stop),

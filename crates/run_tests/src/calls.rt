@@ -1,13 +1,14 @@
 //! An environment that is asked call by call: `load`, `load_byte`, `store`, `store_byte`, `exchange`, `system`, `restore_frame`,
-//! `registers`, `set_registers`, `extra` and `set_extra`, as `UserOs` has them.
+//! `block_read`, `block_write`, `registers`, `set_registers`, `extra` and `set_extra`, as `UserOs` has them.
 
-ghost use Rattle.std.specs.Prelude.{◌%◌, ◌≡◌, ◌<◌};
+ghost use Rattle.std.specs.Prelude.{◌%◌, ◌≡◌, ◌<◌, true};
 ghost use Rattle.jos_base.specs.declared.numbers.TheConstants.{NENV};
+ghost use Rattle.jos_base.specs.SystemCalls.{is_page_address};
 
 use crate::telling::{quoted, tell_numbers};
-use jos_base::{Called, Extra};
+use jos_base::{Called, Extra, PGSIZE, UTOP};
 use jos_cpu::Decodings;
-use jos_host::MemHost;
+use jos_host::{Failed, MemHost};
 use jos_run::Served;
 use lib_os::{Stop, UserOs};
 use std::alloc::{AllocError, Global};
@@ -29,11 +30,27 @@ fn aligned(va: u32) -> u32
     va - va % 4
 }
 
+/// The page of an address below UTOP.
+fn page_at(va: u32) -> u32
+    ensures { is_page_address result ≡ true }
+{
+    let below = va % UTOP;
+    below - below % PGSIZE
+}
+
 /// A word that a call gave.
 fn tell_word(alloc: Global, given: Result<u32, Stop>) -> Result<String, AllocError> {
     match given {
         Ok(word) => format!(in alloc; "{word:x}"),
         Err(stop) => format!(in alloc; "{stop:?}"),
+    }
+}
+
+/// What a call for a block of the disk has answered.
+fn tell_moved(alloc: Global, moved: Result<u32, Failed>) -> Result<String, AllocError> {
+    match moved {
+        Ok(word) => format!(in alloc; "{word:x}"),
+        Err(Failed) => String::from_str(alloc, "the host failed"),
     }
 }
 
@@ -88,6 +105,8 @@ impl ServedBench {
             "store" => tell_done(alloc, served.store(host, aligned(va), word)),
             "store_byte" => tell_done(alloc, served.store_byte(host, va, (word % 256) as u8)),
             "exchange" => tell_word(alloc, served.exchange(host, aligned(va), word)),
+            "block_read" => tell_moved(alloc, served.block_read(host, word, page_at(va))),
+            "block_write" => tell_moved(alloc, served.block_write(host, word, page_at(va))),
             "restore_frame" => tell_done(alloc, served.restore_frame(host)),
             "system" => self.system_call(alloc, given),
             _ => self.own_call(alloc, call, given),

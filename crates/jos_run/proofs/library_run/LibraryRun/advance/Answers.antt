@@ -70,13 +70,14 @@ makes g c =
     record {
       before = before_last g (made_so g c) (Ok c.in-Ok.stepped) b;
       keeps = b.step.2;
-      rest = b.leaves.0;
-      turn = b.leaves.1;
+      leaves = b.leaves;
       trap = trap;
       raises = b.raises;
-      uses = b.leaves.2;
       slot = c.make_steps-made.ensures.slot ∙ before.slot;
       written = b.step.1.counted ∙ (λ i. min (before.written i + length b.step.0) (2 ^ 64 - 1));
+      takes = b.takes;
+      lowers = b.lowers;
+      gives_up = b.gives_up;
       book = c.keep_trap.ensures
           ∙ (λ i. record (c.note_refusal.ensures i) { trace = traced (c.note_refusal.ensures i).trace trap })
           ∙ (λ i. record (before.rest i).book {

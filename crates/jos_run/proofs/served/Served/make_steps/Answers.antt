@@ -45,6 +45,7 @@ returns-in-InService-clause-made g c =
     c.came_with.result c.came_with.ensures.answer c.came_with.ensures.trap
     c.drive.ensures.step c.drive.ensures.leaves c.drive.ensures.lowers
     (subst (λ (m : ℕ). GivesUp c.drive.result (slot_at s n) (slot_at after m)) same c.drive.ensures.gives_up)
+    c.drive.ensures.by_place
 
 pub returns-in-InHandler-clause-made : goal.returns-in-InHandler-clause-made
 returns-in-InHandler-clause-made g c =
@@ -61,3 +62,4 @@ returns-in-InHandler-clause-made g c =
     c.drive-answer.ensures.step c.drive-answer.ensures.leaves
     c.drive-answer.ensures.lowers
     (subst (λ (m : ℕ). GivesUp c.drive-answer.result (slot_at s n) (slot_at after m)) same c.drive-answer.ensures.gives_up)
+    c.drive-answer.ensures.by_place

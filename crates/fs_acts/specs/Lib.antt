@@ -1,0 +1,2 @@
+pub mod BlockActs
+pub mod BlockLaws
