@@ -7,11 +7,12 @@ use Rattle.std.proofs.lemmas.Bool.{and_parts}
 use Rattle.std.proofs.lemmas.Bool.Decides.{nat_tests}
 use Rattle.fs_layout.specs.declared.numbers.TheConstants.{BLKSIZE, RECORDSIZE, MAXNAMELEN}
 use Rattle.fs_layout.specs.FileTree.{Node}
-use Rattle.fs_layout.specs.DiskImage.{values_below, block_count, root_place, first_data_block, is_data_block, name_of, slot_place}
+use Rattle.jos_base.specs.Below.{values_below}
+use Rattle.fs_layout.specs.DiskImage.{block_count, root_place, first_data_block, is_data_block, name_of, slot_place}
 use Rattle.fs_layout.specs.DiskImage.{blocks_needed, block_number_at}
 use Rattle.fs_layout.specs.DiskFiles.{file_byte, node_of, records_at}
 use Rattle.fs_layout.specs.LayoutLaws.{Same}
-use Rattle.fs_layout.proofs.Below.{values-same}
+use Rattle.jos_base.proofs.Below.{values-same}
 use Rattle.fs_acts.specs.BlockActs.{mark_place}
 use Rattle.fs_acts.specs.BlockLaws.{AreGood, IsCounted, Holds, times_named, times_on_disk}
 use Rattle.fs_acts.proofs.Fields.{SameLabel, same-word}

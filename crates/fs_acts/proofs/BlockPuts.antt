@@ -2,7 +2,7 @@
 use Rattle.std.proofs.Common.{◌≡◌, ◌≢◌, ◌∙◌, ◌⊎◌, inl, inr, ℕ, ◌+◌, ◌*◌, ◌^◌, ◌<◌, ◌≤◌, zero, suc, List, [], ◌∷◌}
 use Rattle.std.proofs.Common.{refl, sym, ap, arith}
 use Rattle.jos_base.specs.Words.{word_at}
-use Rattle.fs_layout.specs.DiskImage.{values_below}
+use Rattle.jos_base.specs.Below.{values_below}
 use Rattle.fs_acts.specs.BlockActs.{Put, put_byte, put_word, stored, written, zero_block}
 use Rattle.fs_acts.proofs.Stored.{stored-byte, stored-word, stored-zero, stored-left, written-more}
 

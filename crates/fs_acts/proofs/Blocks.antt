@@ -5,10 +5,11 @@ use Rattle.std.specs.Prelude.{nat_le, nat_lt}
 use Rattle.std.proofs.lemmas.Bool.Decides.{nat_tests}
 use Rattle.fs_layout.specs.declared.numbers.TheConstants.{BLKSIZE, RECORDSIZE, MAXNAMELEN, NDIRECT, NINDIRECT}
 use Rattle.fs_layout.specs.FileTree.{Node, a_file, a_directory, Records}
-use Rattle.fs_layout.specs.DiskImage.{some_below, direct_of, indirect_of, is_directory_at, has_indirect}
+use Rattle.jos_base.specs.Below.{some_below}
+use Rattle.fs_layout.specs.DiskImage.{direct_of, indirect_of, is_directory_at, has_indirect}
 use Rattle.fs_layout.specs.DiskImage.{blocks_needed, number_in_indirect, has_stray, has_stray_in_indirect}
 use Rattle.fs_layout.specs.DiskFiles.{file_bytes, node_of, records_at}
-use Rattle.fs_layout.proofs.Below.{some_below-at}
+use Rattle.jos_base.proofs.Below.{some_below-at}
 use Rattle.fs_acts.specs.BlockActs.{number_place}
 use Rattle.fs_acts.specs.BlockLaws.{IsGoodRecord, own_times}
 use Rattle.fs_acts.proofs.Records.{directory-node, file-node}

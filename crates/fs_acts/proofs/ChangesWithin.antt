@@ -9,7 +9,8 @@ use Rattle.std.proofs.lemmas.List.{length-replicate}
 use Rattle.std.proofs.lemmas.List.Elements.{All-nil, All-cons, All-append}
 use Rattle.fs_layout.specs.declared.numbers.TheConstants.{BLKSIZE, RECORDSIZE, MAXNAMELEN, MAXFILESIZE, NDIRECT}
 use Rattle.fs_layout.specs.FileTree.{blocks_of}
-use Rattle.fs_layout.specs.DiskImage.{values_below, block_count, root_place, size_of, indirect_of, is_directory_at}
+use Rattle.jos_base.specs.Below.{values_below}
+use Rattle.fs_layout.specs.DiskImage.{block_count, root_place, size_of, indirect_of, is_directory_at}
 use Rattle.fs_layout.specs.DiskImage.{is_empty_record, has_indirect, blocks_needed, block_number_at, slot_count, slot_place, none_named}
 use Rattle.fs_layout.specs.DiskFiles.{IsDiskImage}
 use Rattle.fs_acts.specs.BlockActs.{Put, put_byte, put_word, number_place, byte_place, mark_place, lowest_free, put_size, put_indirect}

@@ -7,9 +7,9 @@ use Rattle.std.proofs.lemmas.List.{take-append-le, append-nil, replicate-append-
 use Rattle.std.proofs.lemmas.Bool.{cases_lt}
 use Rattle.fs_layout.specs.FileTree.{blocks_of}
 use Rattle.fs_layout.specs.FileActs.{overwritten, resized}
-use Rattle.fs_layout.specs.DiskImage.{values_below}
+use Rattle.jos_base.specs.Below.{values_below}
 use Rattle.fs_layout.proofs.FileBytes.{length-resized}
-use Rattle.fs_layout.proofs.Below.{is-values, length-values, get_or-values}
+use Rattle.jos_base.proofs.Below.{is-values, length-values, get_or-values}
 
 -- ---- sizes
 

@@ -15,9 +15,10 @@ use Rattle.fs_layout.specs.declared.numbers.TheConstants.{BLKSIZE, RECORDSIZE, B
 use Rattle.fs_layout.specs.FileTree.{Node, a_file, a_directory, NamedNode, FileSystem, records_from, with_node, blocks_of}
 use Rattle.fs_layout.specs.FileTree.{needs_indirect, blocks_taken, tree_blocks, records_blocks, directory_size}
 use Rattle.fs_layout.specs.FileActs.{done, refused, done_if_it_fits, has_name, new_file, free_place, with_room, with_new_file, directory_grown}
-use Rattle.fs_layout.specs.DiskImage.{values_below, size_of, has_indirect, is_empty_record, name_of, blocks_needed, slot_count, slot_place}
+use Rattle.jos_base.specs.Below.{values_below}
+use Rattle.fs_layout.specs.DiskImage.{size_of, has_indirect, is_empty_record, name_of, blocks_needed, slot_count, slot_place}
 use Rattle.fs_layout.specs.DiskFiles.{file_system_of, free_blocks, named_of, node_of}
-use Rattle.fs_layout.proofs.Below.{length-values, get_or-values}
+use Rattle.jos_base.proofs.Below.{length-values, get_or-values}
 use Rattle.fs_acts.specs.BlockActs.{Change, planned, turned_down, planned_if_it_fits, blocks_grown, fill, take_indirect, take_block}
 use Rattle.fs_acts.specs.BlockActs.{take_blocks, growth, make_record, first_slot, create_plan_at, create_plan}
 use Rattle.fs_acts.specs.BlockLaws.{Holds, HasRoom, IsRecordName}

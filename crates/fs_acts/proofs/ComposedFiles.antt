@@ -10,7 +10,8 @@ use Rattle.fs_layout.specs.FileTree.{Node, a_file, a_directory, NamedNode, FileS
 use Rattle.fs_layout.specs.FileTree.{needs_indirect, blocks_taken, tree_blocks, blocks_in_use, blocks_free}
 use Rattle.fs_layout.specs.FileActs.{Acted, done, refused, done_if_it_fits, on_file, grown_file, overwritten, resized, bytes_at, handed_back}
 use Rattle.fs_layout.specs.FileActs.{write_to, set_size_to, stat_of, stat_bytes}
-use Rattle.fs_layout.specs.DiskImage.{values_below, block_count, root_place, size_of, has_indirect, is_directory_at, name_of}
+use Rattle.jos_base.specs.Below.{values_below}
+use Rattle.fs_layout.specs.DiskImage.{block_count, root_place, size_of, has_indirect, is_directory_at, name_of}
 use Rattle.fs_layout.specs.DiskFiles.{IsDiskImage, file_system_of, file_byte, file_bytes, free_blocks, node_of, records_at}
 use Rattle.fs_layout.proofs.FileBytes.{length-overwritten, length-resized}
 use Rattle.fs_layout.proofs.DiskSound.{disks-sound}

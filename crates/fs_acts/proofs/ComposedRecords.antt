@@ -7,10 +7,11 @@ use Rattle.fs_layout.specs.declared.numbers.TheConstants.{BLKSIZE, RECORDSIZE, M
 use Rattle.fs_layout.specs.FileTree.{Node, a_file, a_directory, Records, NamedNode, listed, records_from, blocks_of}
 use Rattle.fs_layout.specs.FileTree.{tree_blocks, bitmap_blocks}
 use Rattle.fs_layout.specs.DiskImage.{block_count, root_place, size_of, has_indirect, is_directory_at}
-use Rattle.fs_layout.specs.DiskImage.{slot_count, slot_place, values_below}
+use Rattle.jos_base.specs.Below.{values_below}
+use Rattle.fs_layout.specs.DiskImage.{slot_count, slot_place}
 use Rattle.fs_layout.specs.DiskFiles.{IsDiskImage, file_system_of, file_bytes, free_blocks, named_of, node_of, records_at}
 use Rattle.fs_layout.proofs.FileTrees.{listed-records_from}
-use Rattle.fs_layout.proofs.Below.{length-values}
+use Rattle.jos_base.proofs.Below.{length-values}
 use Rattle.fs_acts.specs.BlockActs.{is_named_slot, place_from, place_at}
 use Rattle.fs_acts.specs.BlockLaws.{IsGoodRecord, AreGood, Holds}
 use Rattle.fs_acts.proofs.ComposedSteps.{ChangesAreActs}

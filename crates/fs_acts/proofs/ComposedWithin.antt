@@ -11,10 +11,11 @@ use Rattle.fs_layout.specs.FileTree.{FileAct, open_path, read_file, write_file, 
 use Rattle.fs_layout.specs.FileTree.{Node, a_file, a_directory, NamedNode, FileSystem, listed, records_from, blocks_of}
 use Rattle.fs_layout.specs.FileTree.{needs_indirect, blocks_taken}
 use Rattle.fs_layout.specs.FileActs.{is_good_path, names_in, look_up}
-use Rattle.fs_layout.specs.DiskImage.{values_below, block_count, root_place, size_of, has_indirect, is_directory_at, is_empty_record}
+use Rattle.jos_base.specs.Below.{values_below}
+use Rattle.fs_layout.specs.DiskImage.{block_count, root_place, size_of, has_indirect, is_directory_at, is_empty_record}
 use Rattle.fs_layout.specs.DiskImage.{slot_count, slot_place}
 use Rattle.fs_layout.specs.DiskFiles.{IsDiskImage, file_system_of, file_bytes, free_blocks, node_of, records_at}
-use Rattle.fs_layout.proofs.Below.{length-values}
+use Rattle.jos_base.proofs.Below.{length-values}
 use Rattle.fs_layout.proofs.FileTrees.{records_from-listed}
 use Rattle.fs_acts.specs.BlockActs.{Change, Planned, planned, turned_down, planned_if_it_fits, fits, blocks_grown, overwrite, fill}
 use Rattle.fs_acts.specs.BlockActs.{take_indirect, take_block, growth, resizing, make_record, empty_it, size_plan, write_some, write_plan}

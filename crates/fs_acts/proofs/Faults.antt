@@ -17,7 +17,7 @@ use Rattle.fs_layout.specs.DiskImage.{has_stray_in_indirect, has_taken_name, blo
 use Rattle.fs_layout.specs.DiskImage.{stray_tests, record_tests, slot_tests, slot_test, contents_test, first_blocks_test, super_tests}
 use Rattle.fs_layout.specs.DiskImage.{tree_tests, image_tests, image_fault}
 use Rattle.fs_layout.specs.LayoutLaws.{Same}
-use Rattle.fs_layout.proofs.Below.{some_below-same}
+use Rattle.jos_base.proofs.Below.{some_below-same}
 use Rattle.fs_acts.specs.BlockLaws.{IsGoodRecord, SameWithin, FaultsAreTheirBlocks}
 use Rattle.fs_acts.proofs.Fields.{same-word, SameLabel, same-label, SameFields, same-fields, same-slot, same-stray, same-stray_behind}
 use Rattle.fs_acts.proofs.Counts.{counts-where, err-not-ok}

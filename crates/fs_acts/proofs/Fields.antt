@@ -14,7 +14,7 @@ use Rattle.fs_layout.specs.DiskImage.{block_count, is_data_block, size_of, kind_
 use Rattle.fs_layout.specs.DiskImage.{name_of, is_directory_at, has_indirect, blocks_needed, number_in_indirect, block_number_at}
 use Rattle.fs_layout.specs.DiskImage.{slot_count, slot_place, has_stray, has_stray_in_indirect}
 use Rattle.fs_layout.specs.LayoutLaws.{Same}
-use Rattle.fs_layout.proofs.Below.{values-same, some_below-same}
+use Rattle.jos_base.proofs.Below.{values-same, some_below-same}
 use Rattle.fs_acts.specs.BlockLaws.{IsGoodRecord, own_times}
 
 -- ---- bytes that are the same

@@ -13,7 +13,7 @@ use Rattle.fs_layout.specs.FileTree.{a_file, blocks_of, with_node}
 use Rattle.fs_layout.specs.DiskImage.{size_of, indirect_of, block_number_at}
 use Rattle.fs_layout.specs.DiskImage.{blocks_needed, has_indirect, name_of}
 use Rattle.fs_layout.specs.DiskFiles.{file_system_of, file_byte, file_bytes}
-use Rattle.fs_layout.proofs.Below.{values-same, is-values, length-values, get_or-values}
+use Rattle.jos_base.proofs.Below.{values-same, is-values, length-values, get_or-values}
 use Rattle.fs_acts.specs.BlockActs.{put_word, byte_place, put_size, written, cut}
 use Rattle.fs_acts.specs.BlockLaws.{own_times, NowHas, Holds, CutsAreActs}
 use Rattle.fs_acts.proofs.Stored.{stored-left, stored-word, same-word}

@@ -10,7 +10,8 @@ use Rattle.jos_base.proofs.Bounds.{below_or_last}
 use Rattle.fs_layout.specs.declared.numbers.TheConstants.{BLKSIZE, MAXNAMELEN, MAXFILESIZE}
 use Rattle.fs_layout.specs.FileTree.{a_file, blocks_of}
 use Rattle.fs_layout.specs.FileActs.{overwritten, resized}
-use Rattle.fs_layout.specs.DiskImage.{values_below, size_of, block_number_at, blocks_needed}
+use Rattle.jos_base.specs.Below.{values_below}
+use Rattle.fs_layout.specs.DiskImage.{size_of, block_number_at, blocks_needed}
 use Rattle.fs_layout.proofs.FileBytes.{length-overwritten, length-resized}
 use Rattle.fs_acts.specs.BlockActs.{Put, put_byte, byte_place, put_bytes, put_size, stored, written, fill, overwrite}
 use Rattle.fs_acts.specs.BlockLaws.{NowHas, Holds, OverwritesAreActs, FillsAreActs}

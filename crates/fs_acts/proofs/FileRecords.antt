@@ -13,7 +13,7 @@ use Rattle.fs_layout.specs.DiskImage.{block_count, root_place, is_data_block, fi
 use Rattle.fs_layout.specs.DiskImage.{size_of, direct_of, indirect_of, number_in_indirect, block_number_at, blocks_needed, has_indirect}
 use Rattle.fs_layout.specs.DiskImage.{is_directory_at, has_stray, has_stray_in_indirect}
 use Rattle.fs_layout.specs.DiskFiles.{IsDiskImage, file_bytes, node_of, records_at}
-use Rattle.fs_layout.proofs.Below.{some_below-same}
+use Rattle.jos_base.proofs.Below.{some_below-same}
 use Rattle.fs_acts.specs.BlockActs.{place_at}
 use Rattle.fs_acts.specs.BlockLaws.{IsGoodRecord, AreGood, own_times, times_named, NowHas, Holds}
 use Rattle.fs_acts.proofs.Fields.{same-directory}

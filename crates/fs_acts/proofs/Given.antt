@@ -10,11 +10,12 @@ use Rattle.jos_base.specs.Environments.{bit_of}
 use Rattle.jos_base.proofs.Sums.{total-same}
 use Rattle.fs_layout.specs.declared.numbers.TheConstants.{BLKSIZE, MAXNAMELEN, NDIRECT, NINDIRECT}
 use Rattle.fs_layout.specs.FileTree.{Node, a_file, blocks_of}
-use Rattle.fs_layout.specs.DiskImage.{values_below, block_count, root_place, is_data_block, size_of, direct_of, indirect_of, is_directory_at}
+use Rattle.jos_base.specs.Below.{values_below}
+use Rattle.fs_layout.specs.DiskImage.{block_count, root_place, is_data_block, size_of, direct_of, indirect_of, is_directory_at}
 use Rattle.fs_layout.specs.DiskImage.{has_indirect, blocks_needed, number_in_indirect, block_number_at, has_stray, has_stray_in_indirect}
 use Rattle.fs_layout.specs.DiskImage.{is_marked_free}
 use Rattle.fs_layout.specs.DiskFiles.{file_byte, file_bytes}
-use Rattle.fs_layout.proofs.Below.{some_below-none, length-values, get_or-values, is-values}
+use Rattle.jos_base.proofs.Below.{some_below-none, length-values, get_or-values, is-values}
 use Rattle.fs_acts.specs.BlockActs.{put_byte, put_word, stored, written, mark_place, number_place, give_block}
 use Rattle.fs_acts.specs.BlockLaws.{IsGoodRecord, own_times, times_named, Holds, NowHas, GivenBlocksAreLost}
 use Rattle.fs_acts.proofs.Fields.{same-directory}

@@ -9,12 +9,13 @@ use Rattle.jos_base.specs.Environments.{bit_of}
 use Rattle.jos_base.proofs.Sums.{total-same}
 use Rattle.fs_layout.specs.declared.numbers.TheConstants.{BLKSIZE, RECORDSIZE, BLKFILES, MAXNAMELEN, NDIRECT}
 use Rattle.fs_layout.specs.FileTree.{Node, a_file, a_directory, Records, NamedNode, listed, records_from, with_node}
-use Rattle.fs_layout.specs.DiskImage.{values_below, block_count, root_place, is_data_block, size_of, kind_at}
+use Rattle.jos_base.specs.Below.{values_below}
+use Rattle.fs_layout.specs.DiskImage.{block_count, root_place, is_data_block, size_of, kind_at}
 use Rattle.fs_layout.specs.DiskImage.{direct_of, indirect_of, is_directory_at, has_indirect, blocks_needed, block_number_at}
 use Rattle.fs_layout.specs.DiskImage.{slot_count, slot_place, has_stray, has_stray_in_indirect, is_marked_free}
 use Rattle.fs_layout.specs.DiskFiles.{file_byte, file_bytes, node_of, records_at, file_system_of}
 use Rattle.fs_layout.specs.LayoutLaws.{Same}
-use Rattle.fs_layout.proofs.Below.{some_below-same}
+use Rattle.jos_base.proofs.Below.{some_below-same}
 use Rattle.fs_layout.proofs.FileTrees.{records_from-listed}
 use Rattle.fs_acts.specs.BlockActs.{put_byte, put_word, stored, written, mark_place, give_indirect}
 use Rattle.fs_acts.specs.BlockLaws.{IsGoodRecord, AreGood, IsCounted, own_times, times_named, Holds, NowHas, marked}

@@ -10,12 +10,13 @@ use Rattle.std.proofs.lemmas.Slice.Eq.{bytes_eq-Decides}
 use Rattle.fs_layout.specs.declared.numbers.TheConstants.{MAXNAMELEN, NDIRECT}
 use Rattle.fs_layout.specs.FileTree.{Node, a_file, a_directory, Records, NamedNode, listed, records_from, with_record}
 use Rattle.fs_layout.specs.FileActs.{new_file, has_name}
-use Rattle.fs_layout.specs.DiskImage.{values_below, block_count, size_of, kind_at, direct_of, has_indirect}
+use Rattle.jos_base.specs.Below.{values_below}
+use Rattle.fs_layout.specs.DiskImage.{block_count, size_of, kind_at, direct_of, has_indirect}
 use Rattle.fs_layout.specs.DiskImage.{blocks_needed, is_directory_at, is_empty_record, name_of, slot_count, slot_place, is_good_kind}
 use Rattle.fs_layout.specs.DiskImage.{is_good_name, has_stray}
 use Rattle.fs_layout.specs.DiskFiles.{file_bytes, file_byte, node_of, named_of, records_at}
 use Rattle.fs_layout.proofs.FileTrees.{listed-records_from}
-use Rattle.fs_layout.proofs.Below.{length-values, get_or-values, some_below-none}
+use Rattle.jos_base.proofs.Below.{length-values, get_or-values, some_below-none}
 use Rattle.fs_acts.specs.BlockActs.{name_byte}
 use Rattle.fs_acts.specs.BlockLaws.{IsGoodRecord, NowHas, Holds, IsRecordName, MadeRecordsAreFiles}
 use Rattle.fs_acts.proofs.Ways.{tree-list, ways-lead}

@@ -4,7 +4,8 @@ use Rattle.std.proofs.Common.{List, [], ◌∷◌, ◌++◌, refl, ap, arith}
 use Rattle.std.proofs.lemmas.Bool.{cases_lt}
 use Rattle.jos_base.specs.Words.{word_at}
 use Rattle.fs_layout.specs.declared.numbers.TheConstants.{RECORDSIZE, MAXNAMELEN}
-use Rattle.fs_layout.specs.DiskImage.{values_below, slot_place}
+use Rattle.jos_base.specs.Below.{values_below}
+use Rattle.fs_layout.specs.DiskImage.{slot_place}
 use Rattle.fs_acts.specs.BlockActs.{Put, put_byte, put_word, written, name_byte, make_record}
 use Rattle.fs_acts.proofs.Puts.{written-append}
 use Rattle.fs_acts.proofs.Stored.{stored-byte, stored-left, stored-zero, same-word, written-more, written-left, left-values}

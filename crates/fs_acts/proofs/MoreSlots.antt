@@ -8,7 +8,7 @@ use Rattle.fs_layout.specs.FileTree.{a_file, a_directory, Records, NamedNode, li
 use Rattle.fs_layout.specs.DiskImage.{block_count, root_place, size_of, is_directory_at, has_indirect, blocks_needed}
 use Rattle.fs_layout.specs.DiskImage.{block_number_at, slot_count, slot_place}
 use Rattle.fs_layout.specs.DiskFiles.{file_bytes, node_of, records_at}
-use Rattle.fs_layout.proofs.Below.{length-values}
+use Rattle.jos_base.proofs.Below.{length-values}
 use Rattle.fs_layout.proofs.FileTrees.{listed-records_from, records_from-listed}
 use Rattle.fs_acts.specs.BlockActs.{put_byte, put_word, stored, written, zero_block, mark_place, number_place}
 use Rattle.fs_acts.specs.BlockLaws.{AreGood, IsCounted, Holds, NowHas, own_times, times_named, times_on_disk, TakenBlocksAreEmptyRecords}

@@ -8,7 +8,7 @@ use Rattle.jos_base.specs.Words.{word_at}
 use Rattle.fs_layout.specs.declared.numbers.TheConstants.{BLKSIZE, RECORDSIZE, MAXNAMELEN, NDIRECT, NINDIRECT}
 use Rattle.fs_layout.specs.DiskImage.{kind_at, direct_of, indirect_of, name_of, has_indirect, number_in_indirect}
 use Rattle.fs_layout.specs.DiskImage.{block_number_at}
-use Rattle.fs_layout.proofs.Below.{values-same}
+use Rattle.jos_base.proofs.Below.{values-same}
 use Rattle.fs_acts.specs.BlockActs.{number_place}
 use Rattle.fs_acts.proofs.Stored.{same-word}
 use Rattle.fs_acts.proofs.Fields.{SameLabel}

@@ -9,11 +9,12 @@ use Rattle.jos_base.specs.Counting.{total}
 use Rattle.jos_base.proofs.Sums.{total-same}
 use Rattle.fs_layout.specs.declared.numbers.TheConstants.{BLKSIZE, RECORDSIZE, BLKFILES}
 use Rattle.fs_layout.specs.FileTree.{Node, a_directory, NamedNode, records_from, with_record}
-use Rattle.fs_layout.specs.DiskImage.{values_below, block_count, name_of, size_of, is_directory_at, is_empty_record, has_indirect}
+use Rattle.jos_base.specs.Below.{values_below}
+use Rattle.fs_layout.specs.DiskImage.{block_count, name_of, size_of, is_directory_at, is_empty_record, has_indirect}
 use Rattle.fs_layout.specs.DiskImage.{block_number_at, indirect_of, slot_count, slot_place}
 use Rattle.fs_layout.specs.DiskFiles.{node_of, named_of, records_at}
 use Rattle.fs_layout.specs.LayoutLaws.{Same}
-use Rattle.fs_layout.proofs.Below.{is-values, length-values, get_or-values}
+use Rattle.jos_base.proofs.Below.{is-values, length-values, get_or-values}
 use Rattle.fs_acts.specs.BlockLaws.{AreGood, own_times, times_named}
 use Rattle.fs_acts.proofs.Fields.{SameLabel, same-label, same-fields, same-directory}
 use Rattle.fs_acts.proofs.Named.{IsNamed, own-one, own-two, own-indirect, own-both, slots, times_below, times-slot, times-slots}

@@ -8,11 +8,12 @@ use Rattle.std.proofs.lemmas.List.Quantifiers.{position-Some}
 use Rattle.fs_layout.specs.FileTree.{Node, a_directory, NamedNode, listed}
 use Rattle.fs_layout.specs.FileActs.{is_good_path, names_in, has_name, found_record, find_name, Looked, bad_path, nowhere, missing, there}
 use Rattle.fs_layout.specs.FileActs.{seen_from_above, looked_in, look_from, look_up}
-use Rattle.fs_layout.specs.DiskImage.{values_below, block_count, root_place, name_of, is_directory_at, has_indirect, is_empty_record}
+use Rattle.jos_base.specs.Below.{values_below}
+use Rattle.fs_layout.specs.DiskImage.{block_count, root_place, name_of, is_directory_at, has_indirect, is_empty_record}
 use Rattle.fs_layout.specs.DiskImage.{slot_count, slot_place}
 use Rattle.fs_layout.specs.DiskFiles.{node_of, named_of, records_at, file_system_of}
 use Rattle.fs_layout.specs.DiskLaws.{AreReadable}
-use Rattle.fs_layout.proofs.Below.{length-values, get_or-values}
+use Rattle.jos_base.proofs.Below.{length-values, get_or-values}
 use Rattle.fs_layout.proofs.DiskSound.{disks-sound}
 use Rattle.fs_acts.specs.BlockActs.{place_from, first_slot, slot_named, Led, too_long, astray, no_record, a_record, led_from_above, led_in}
 use Rattle.fs_acts.specs.BlockActs.{led_by, led_to}

@@ -6,12 +6,13 @@ use Rattle.jos_base.specs.Counting.{total}
 use Rattle.jos_base.proofs.Sums.{total-same}
 use Rattle.fs_layout.specs.declared.numbers.TheConstants.{BLKSIZE, RECORDSIZE, BLKFILES}
 use Rattle.fs_layout.specs.FileTree.{a_file, a_directory, Records, NamedNode, records_from}
-use Rattle.fs_layout.specs.DiskImage.{values_below, block_count, size_of, kind_at, indirect_of, name_of, is_good_kind, is_good_name}
+use Rattle.jos_base.specs.Below.{values_below}
+use Rattle.fs_layout.specs.DiskImage.{block_count, size_of, kind_at, indirect_of, name_of, is_good_kind, is_good_name}
 use Rattle.fs_layout.specs.DiskImage.{is_directory_at, has_indirect, is_empty_record, blocks_needed, block_number_at}
 use Rattle.fs_layout.specs.DiskImage.{slot_count, slot_place, has_taken_name}
 use Rattle.fs_layout.specs.DiskFiles.{file_byte, file_bytes, node_of, named_of, records_at}
 use Rattle.fs_layout.specs.LayoutLaws.{Same}
-use Rattle.fs_layout.proofs.Below.{values-same, some_below-same}
+use Rattle.jos_base.proofs.Below.{values-same, some_below-same}
 use Rattle.fs_acts.specs.BlockLaws.{IsGoodRecord, IsGoodSlot, AreGood, own_times, times_named, RecordsAreTheirBlocks}
 use Rattle.fs_acts.proofs.Fields.{same-part, SameLabel, SameFields, same-label, same-fields, same-number, same-slot, same-directory}
 use Rattle.fs_acts.proofs.Fields.{good-same, own_times-same}

@@ -5,10 +5,11 @@ use Rattle.std.specs.Prelude.{bytes_eq, if◌then◌else◌}
 use Rattle.std.proofs.lemmas.List.{get_or_append_left, get_or-append_right, get_or-replicate, length-replicate}
 use Rattle.jos_base.specs.Counting.{total}
 use Rattle.fs_layout.specs.FileTree.{NamedNode, listed}
-use Rattle.fs_layout.specs.DiskImage.{values_below, kind_at, name_of, is_good_kind, is_good_name, is_directory_at}
+use Rattle.jos_base.specs.Below.{values_below}
+use Rattle.fs_layout.specs.DiskImage.{kind_at, name_of, is_good_kind, is_good_name, is_directory_at}
 use Rattle.fs_layout.specs.DiskImage.{is_empty_record, slot_count, slot_place, has_taken_name}
 use Rattle.fs_layout.specs.DiskFiles.{named_of, node_of, records_at}
-use Rattle.fs_layout.proofs.Below.{length-values, get_or-values, is-values, some_below-same}
+use Rattle.jos_base.proofs.Below.{length-values, get_or-values, is-values, some_below-same}
 use Rattle.fs_acts.specs.BlockLaws.{IsGoodRecord, IsGoodSlot, AreGood, own_times, times_named}
 use Rattle.fs_acts.proofs.Fields.{SameLabel}
 use Rattle.fs_acts.proofs.Named.{IsNamed, is-named, named-is, slots, times_below}

@@ -7,9 +7,10 @@ use Rattle.std.proofs.lemmas.List.Sums.{position_or_len_is}
 use Rattle.std.proofs.lemmas.List.{length-take, get_or-take}
 use Rattle.std.proofs.lemmas.Bool.Decides.{nat_tests}
 use Rattle.std.proofs.lemmas.Slice.Eq.{bytes_eq-Decides}
-use Rattle.fs_layout.specs.DiskImage.{values_below, name_of}
+use Rattle.jos_base.specs.Below.{values_below}
+use Rattle.fs_layout.specs.DiskImage.{name_of}
 use Rattle.std.proofs.lemmas.Bool.{false_from_ne_true, ne_eqb, eq-eqb}
-use Rattle.fs_layout.proofs.Below.{is-values, length-values, get_or-values}
+use Rattle.jos_base.proofs.Below.{is-values, length-values, get_or-values}
 
 -- the bytes of a record from its place on
 abbrev pub from : (ℕ → ℕ) → ℕ → ℕ → ℕ

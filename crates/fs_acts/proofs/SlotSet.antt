@@ -8,13 +8,14 @@ use Rattle.jos_base.specs.Counting.{total}
 use Rattle.jos_base.proofs.Sums.{total-same}
 use Rattle.fs_layout.specs.declared.numbers.TheConstants.{BLKSIZE, RECORDSIZE, BLKFILES}
 use Rattle.fs_layout.specs.FileTree.{Node, a_directory, NamedNode, records_from, listed, with_record}
-use Rattle.fs_layout.specs.DiskImage.{values_below, some_below, block_count, name_of, kind_at, size_of, is_directory_at, is_empty_record}
+use Rattle.jos_base.specs.Below.{values_below, some_below}
+use Rattle.fs_layout.specs.DiskImage.{block_count, name_of, kind_at, size_of, is_directory_at, is_empty_record}
 use Rattle.fs_layout.specs.DiskImage.{has_indirect, indirect_of, block_number_at, slot_count, slot_place, has_taken_name, is_good_kind}
 use Rattle.fs_layout.specs.DiskImage.{is_good_name}
 use Rattle.fs_layout.specs.DiskFiles.{node_of, named_of, records_at}
 use Rattle.fs_layout.specs.LayoutLaws.{Same}
 use Rattle.fs_layout.proofs.FileTrees.{records_from-listed}
-use Rattle.fs_layout.proofs.Below.{some_below-at, some_below-none}
+use Rattle.jos_base.proofs.Below.{some_below-at, some_below-none}
 use Rattle.fs_acts.specs.BlockLaws.{AreGood, IsGoodSlot, own_times, times_named}
 use Rattle.fs_acts.proofs.Fields.{SameLabel, SameFields, same-label, same-fields, same-slot, same-directory, good-same, own_times-same}
 use Rattle.fs_acts.proofs.Named.{IsNamed, is-named, own-two, own-both, slots, times_below, times-own, times-slot, below-slot}

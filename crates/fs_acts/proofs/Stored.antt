@@ -7,7 +7,7 @@ use Rattle.std.proofs.lemmas.Bool.Decides.{nat_tests}
 use Rattle.std.proofs.lemmas.Nat.{from_le_bytes-to_le_bytes_4}
 use Rattle.jos_base.specs.Words.{word_at}
 use Rattle.jos_base.proofs.Maps.{upd-at, upd-other}
-use Rattle.fs_layout.specs.DiskImage.{values_below}
+use Rattle.jos_base.specs.Below.{values_below}
 use Rattle.fs_acts.specs.BlockActs.{Put, put_byte, put_word, with_bytes, stored, written}
 use Rattle.fs_acts.proofs.Puts.{written-append}
 

@@ -7,7 +7,7 @@ use Rattle.jos_base.specs.Words.{word_at}
 use Rattle.fs_layout.specs.declared.numbers.TheConstants.{BLKSIZE, RECORDSIZE, NDIRECT, NINDIRECT}
 use Rattle.fs_layout.specs.DiskImage.{block_count, root_place, first_data_block, is_data_block, indirect_of, blocks_needed}
 use Rattle.fs_layout.specs.DiskImage.{number_in_indirect, has_stray_in_indirect, is_marked_free}
-use Rattle.fs_layout.proofs.Below.{some_below-none}
+use Rattle.jos_base.proofs.Below.{some_below-none}
 use Rattle.fs_acts.specs.BlockActs.{put_byte, put_word, stored, written, zero_block, mark_place, lowest_free}
 use Rattle.fs_acts.specs.BlockLaws.{IsCounted, times_named, times_on_disk}
 use Rattle.fs_acts.proofs.Stored.{same-word, stored-word, stored-zero}

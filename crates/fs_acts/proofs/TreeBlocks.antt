@@ -9,11 +9,12 @@ use Rattle.jos_base.proofs.Sums.{total-same, total-change, total-none, total-one
 use Rattle.fs_layout.specs.declared.numbers.TheConstants.{RECORDSIZE}
 use Rattle.fs_layout.specs.FileTree.{a_file, a_directory, NamedNode, listed, records_from, blocks_taken}
 use Rattle.fs_layout.specs.FileTree.{directory_size, tree_blocks, records_blocks}
-use Rattle.fs_layout.specs.DiskImage.{values_below, block_count, is_data_block, size_of, indirect_of, has_indirect}
+use Rattle.jos_base.specs.Below.{values_below}
+use Rattle.fs_layout.specs.DiskImage.{block_count, is_data_block, size_of, indirect_of, has_indirect}
 use Rattle.fs_layout.specs.DiskImage.{is_empty_record, is_directory_at, blocks_needed, block_number_at, slot_count, slot_place}
 use Rattle.fs_layout.specs.DiskFiles.{file_byte, file_bytes, node_of, named_of, records_at}
 use Rattle.fs_layout.proofs.FileTrees.{listed-records_from}
-use Rattle.fs_layout.proofs.Below.{length-values}
+use Rattle.jos_base.proofs.Below.{length-values}
 use Rattle.fs_acts.specs.BlockLaws.{own_times, times_named, IsGoodRecord, AreGood}
 use Rattle.fs_acts.proofs.WalkCounts.{parts-slot}
 

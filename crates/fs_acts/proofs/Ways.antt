@@ -6,11 +6,12 @@ use Rattle.std.proofs.lemmas.List.{get_or_past}
 use Rattle.std.proofs.lemmas.Bool.Decides.{nat_tests}
 use Rattle.fs_layout.specs.FileTree.{Node, a_directory, Records, NamedNode, listed, records_from, no_more}
 use Rattle.fs_layout.specs.FileTree.{record_at, named_from, root_record}
-use Rattle.fs_layout.specs.DiskImage.{values_below, block_count, root_place, name_of, is_directory_at, has_indirect, is_empty_record}
+use Rattle.jos_base.specs.Below.{values_below}
+use Rattle.fs_layout.specs.DiskImage.{block_count, root_place, name_of, is_directory_at, has_indirect, is_empty_record}
 use Rattle.fs_layout.specs.DiskImage.{slot_count, slot_place}
 use Rattle.fs_layout.specs.DiskFiles.{node_of, named_of, records_at, file_system_of}
 use Rattle.fs_layout.specs.DiskLaws.{AreReadable}
-use Rattle.fs_layout.proofs.Below.{values-same, length-values, get_or-values}
+use Rattle.jos_base.proofs.Below.{values-same, length-values, get_or-values}
 use Rattle.fs_layout.proofs.FileTrees.{listed-records_from}
 use Rattle.fs_layout.proofs.DiskSound.{disks-sound}
 use Rattle.fs_acts.specs.BlockActs.{is_named_slot, place_from}

@@ -16,7 +16,8 @@ use Rattle.fs_layout.specs.declared.numbers.TheConstants.{FS_MAGIC, O_CREAT, O_T
 use Rattle.fs_layout.specs.FileTree.{FileAct, open_path, read_file, write_file, set_file_size, stat_file, remove_path, sync_files}
 use Rattle.fs_layout.specs.FileTree.{blocks_of, needs_indirect, blocks_taken}
 use Rattle.fs_layout.specs.FileActs.{is_good_path, names_in, stat_bytes}
-use Rattle.fs_layout.specs.DiskImage.{values_below, magic_of, block_count, root_place, is_marked_free, first_data_block}
+use Rattle.jos_base.specs.Below.{values_below}
+use Rattle.fs_layout.specs.DiskImage.{magic_of, block_count, root_place, is_marked_free, first_data_block}
 use Rattle.fs_layout.specs.DiskImage.{is_data_block, is_good_count, is_good_kind, is_good_name, is_good_size}
 use Rattle.fs_layout.specs.DiskImage.{size_of, kind_at, indirect_of, name_of, is_empty_record, is_directory_at, has_indirect}
 use Rattle.fs_layout.specs.DiskImage.{blocks_needed, block_number_at, slot_count, slot_place}

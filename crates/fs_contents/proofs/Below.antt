@@ -6,8 +6,8 @@ use Rattle.std.specs.List.{range_with_len}
 use Rattle.std.proofs.lemmas.List.{length-take-le, get_or-take}
 use Rattle.std.proofs.lemmas.List.{get_or-drop, length-drop, append_assoc, append-nil}
 use Rattle.std.proofs.lemmas.List.FromFn.{length-map-range_with_len, get_or-map-range_with_len}
-use Rattle.fs_layout.specs.DiskImage.{values_below}
-use Rattle.fs_layout.proofs.Below.{length-values, get_or-values, is-values}
+use Rattle.jos_base.specs.Below.{values_below}
+use Rattle.jos_base.proofs.Below.{length-values, get_or-values, is-values}
 
 -- the first values and those behind them
 pub values-append : {A : Type 0} (m n : ℕ) (f : ℕ → A) →

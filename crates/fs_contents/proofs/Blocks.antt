@@ -2,10 +2,11 @@
 use Rattle.std.proofs.Common.{◌≡◌, ◌∙◌, ◌+◌, ◌*◌, ◌-◌, ◌/◌, ◌%◌, ◌<◌, ◌≤◌, ℕ, List, [], ◌++◌, min, length, take, drop}
 use Rattle.std.proofs.Common.{refl, sym, ap, arith}
 use Rattle.std.specs.Prelude.{slice_index}
-use Rattle.fs_layout.specs.DiskImage.{values_below, block_number_at, size_of}
+use Rattle.jos_base.specs.Below.{values_below}
+use Rattle.fs_layout.specs.DiskImage.{block_number_at, size_of}
 use Rattle.fs_layout.specs.DiskFiles.{file_byte, file_bytes}
 use Rattle.fs_contents.proofs.Below.{values-append, slice-values}
-use Rattle.fs_layout.proofs.Below.{values-same}
+use Rattle.jos_base.proofs.Below.{values-same}
 
 -- how many of so many bytes stand in the first blocks
 abbrev pub in_blocks : ℕ → ℕ → ℕ

@@ -6,3 +6,4 @@ pub mod Names
 pub mod Ways
 pub mod Paths
 pub mod Found
+pub mod Held

@@ -8,7 +8,8 @@ use Rattle.fs_layout.specs.declared.numbers.TheConstants.{RECORDSIZE, FTYPE_DIR}
 use Rattle.fs_layout.specs.declared.records.FileEntry.{FileEntry}
 use Rattle.fs_layout.specs.Layout.{file_entry_at, bytes_from}
 use Rattle.fs_layout.specs.FileTree.{NamedNode, listed}
-use Rattle.fs_layout.specs.DiskImage.{values_below, size_of, name_of, is_empty_record, is_directory_at}
+use Rattle.jos_base.specs.Below.{values_below}
+use Rattle.fs_layout.specs.DiskImage.{size_of, name_of, is_empty_record, is_directory_at}
 use Rattle.fs_layout.specs.DiskImage.{slot_count, slot_place}
 use Rattle.fs_layout.specs.DiskFiles.{file_byte, file_bytes, node_of, named_of, records_at}
 use Rattle.fs_layout.specs.DiskLaws.{IsReadable, AreReadable}
@@ -16,7 +17,7 @@ use Rattle.fs_layout.proofs.Places.{entry-same}
 use Rattle.fs_contents.specs.Contents.{Told, told_of_node, told_of_records, told_of_entry}
 use Rattle.fs_contents.specs.Walks.{entries_below}
 use Rattle.fs_contents.proofs.Below.{range-values}
-use Rattle.fs_layout.proofs.Below.{length-values}
+use Rattle.jos_base.proofs.Below.{length-values}
 use Rattle.fs_layout.proofs.FileTrees.{listed-records_from}
 use Rattle.std.proofs.lemmas.Bool.{ne_eqb, eq-eqb}
 use Rattle.jos_base.specs.Words.{word_at}

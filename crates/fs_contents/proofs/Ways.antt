@@ -10,13 +10,14 @@ use Rattle.jos_base.specs.declared.errno.Errno.TheVariants.{NotFound}
 use Rattle.fs_layout.specs.FileTree.{Node, Records, a_file, a_directory, NamedNode, listed}
 use Rattle.fs_layout.specs.FileActs.{has_name, find_name, Looked, bad_path, nowhere, missing, there, seen_from_above}
 use Rattle.fs_layout.specs.FileActs.{looked_in, look_from}
-use Rattle.fs_layout.specs.DiskImage.{values_below, name_of, is_empty_record, is_directory_at, has_indirect, slot_count, slot_place}
+use Rattle.jos_base.specs.Below.{values_below}
+use Rattle.fs_layout.specs.DiskImage.{name_of, is_empty_record, is_directory_at, has_indirect, slot_count, slot_place}
 use Rattle.fs_layout.specs.DiskFiles.{file_bytes, node_of, named_of, records_at}
 use Rattle.fs_layout.specs.DiskLaws.{AreReadable}
 use Rattle.fs_contents.specs.Contents.{found_node}
 use Rattle.fs_contents.specs.Walks.{IsFirstNamed, NoneIsNamed, LeadsOn}
 use Rattle.fs_contents.proofs.Names.{filled-if-named}
-use Rattle.fs_layout.proofs.Below.{length-values, get_or-values}
+use Rattle.jos_base.proofs.Below.{length-values, get_or-values}
 use Rattle.fs_layout.proofs.FileTrees.{listed-records_from}
 
 -- ---- a search in a directory

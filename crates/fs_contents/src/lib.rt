@@ -6,8 +6,10 @@
 
 mod fault;
 mod files;
+mod laws;
 mod reading;
 mod walking;
 
 pub use fault::ReadFault;
 pub use files::{list, read_file};
+pub use laws::held_disks_are_whole;

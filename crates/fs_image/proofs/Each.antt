@@ -1,7 +1,8 @@
 -- What tests one after another give.
 use Rattle.std.proofs.Common.{◌≡◌, ℕ, zero, suc, ◌+◌, ◌<◌, inl, inr, Bool, false, Ok, Err, Result, refl, sym, ◌∙◌, ap, arith, add-one}
 use Rattle.std.specs.Prelude.{List, [], ◌∷◌, ◌++◌}
-use Rattle.fs_layout.specs.DiskImage.{Blocks, Test, ImageFault, then_tested, in_turn, for_each_below, some_below}
+use Rattle.jos_base.specs.Below.{some_below}
+use Rattle.fs_layout.specs.DiskImage.{Blocks, Test, ImageFault, then_tested, in_turn, for_each_below}
 use Rattle.jos_base.proofs.Bounds.{below_or_last}
 
 pub each_none : (test : ℕ → Test) (named : Blocks) → for_each_below 0 test named ≡ Ok named

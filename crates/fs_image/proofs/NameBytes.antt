@@ -4,7 +4,8 @@ use Rattle.std.specs.Prelude.{◌==◌, not, slice_index, if◌then◌else◌}
 use Rattle.std.specs.List.{before_first, prefix_len}
 use Rattle.std.proofs.lemmas.List.{append-nil, append_assoc, take_more, get_or-drop, get_or_past, length-drop}
 use Rattle.std.proofs.lemmas.Bool.Decides.{leb_tells}
-use Rattle.fs_layout.specs.DiskImage.{values_below, name_of}
+use Rattle.jos_base.specs.Below.{values_below}
+use Rattle.fs_layout.specs.DiskImage.{name_of}
 use Rattle.std.proofs.lemmas.Bool.{ne_eqb}
 
 -- the bytes before the NUL, among so many from a place on

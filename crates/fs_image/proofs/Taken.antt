@@ -2,7 +2,8 @@
 use Rattle.std.proofs.Common.{◌≡◌, ◌≢◌, ◌∙◌, ℕ, ◌+◌, ◌<◌, Bool, true, false, cond, List, [], ◌∷◌, refl, sym, ap, add-one}
 use Rattle.std.specs.Prelude.{◌||◌, not, bytes_eq}
 use borrow.Author.Count.{below_more}
-use Rattle.fs_layout.specs.DiskImage.{some_below, name_of, slot_place, has_taken_name}
+use Rattle.jos_base.specs.Below.{some_below}
+use Rattle.fs_layout.specs.DiskImage.{name_of, slot_place, has_taken_name}
 
 -- whether one of so many records has the name
 abbrev pub is_name_below : (ℕ → ℕ) → ℕ → ℕ → List ℕ → Bool

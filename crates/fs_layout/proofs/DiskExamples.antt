@@ -10,7 +10,8 @@ use Rattle.fs_layout.specs.DiskImage.{Hole, Range, NamedTwice, MarkedFree, Stray
 use Rattle.fs_layout.specs.DiskImage.{super_tests, in_turn, none_named, image_fault, image_tests, tree_tests, contents_test}
 use Rattle.fs_layout.specs.DiskImage.{slot_tests, record_tests, has_taken_name, stray_tests, has_stray, has_stray_in_indirect}
 use Rattle.fs_layout.specs.DiskImage.{numbers_tests, indirect_test, first_blocks_test, number_test, block_test}
-use Rattle.fs_layout.specs.DiskImage.{for_each_below, values_below, some_below, name_of}
+use Rattle.jos_base.specs.Below.{values_below, some_below}
+use Rattle.fs_layout.specs.DiskImage.{for_each_below, name_of}
 use Rattle.fs_layout.specs.DiskFiles.{file_system_of, unnamed_blocks, named_blocks, free_blocks, records_at, file_bytes}
 
 -- ---- images, as the words that are not 0

@@ -10,7 +10,8 @@ use Rattle.fs_layout.specs.declared.numbers.TheConstants.{BLKSIZE, MAXFILESIZE, 
 use Rattle.fs_layout.specs.FileTree.{Records, no_more, a_directory, records_from}
 use Rattle.fs_layout.specs.DiskImage.{ImageFault, Kind, BadName, DirSize, TooLong, Hole, Range, NamedTwice, MarkedFree, SameName}
 use Rattle.fs_layout.specs.DiskImage.{TooShort, Magic, BlockCount, RootKind, Blocks, none_named, Test, demand, only_where, then_tested}
-use Rattle.fs_layout.specs.DiskImage.{in_turn, for_each_below, values_below, block_count, magic_of, is_good_count, is_data_block}
+use Rattle.jos_base.specs.Below.{values_below}
+use Rattle.fs_layout.specs.DiskImage.{in_turn, for_each_below, block_count, magic_of, is_good_count, is_data_block}
 use Rattle.fs_layout.specs.DiskImage.{is_marked_free, size_of, kind_at, direct_of, name_of, number_in_indirect, block_number_at}
 use Rattle.fs_layout.specs.DiskImage.{blocks_needed, slot_count, slot_place, is_empty_record, is_directory_at, has_indirect}
 use Rattle.fs_layout.specs.DiskImage.{is_good_kind, is_good_name, is_good_size, has_taken_name, block_test, number_test}
@@ -22,7 +23,7 @@ use Rattle.fs_layout.proofs.DiskDepth.{Meets, unnamed, unnamed-none, keeps-where
 use Rattle.fs_layout.proofs.DiskDepth.{keeps-slot_tests, keeps-contents}
 use Rattle.std.proofs.lemmas.Bool.{and_parts}
 use Rattle.jos_base.proofs.Bounds.{below_or_last}
-use Rattle.fs_layout.proofs.Below.{values-same}
+use Rattle.jos_base.proofs.Below.{values-same}
 
 -- ---- tests that were passed
 

@@ -1,7 +1,6 @@
 pub mod FileTrees
 pub mod FileBytes
 mod FileExamples
-pub mod Below
 pub mod OneTest
 pub mod PathNames
 pub mod PathParts

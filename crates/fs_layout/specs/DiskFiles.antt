@@ -7,7 +7,8 @@ use Rattle.jos_base.specs.Counting.{total}
 use Rattle.jos_base.specs.Environments.{bit_of}
 use Rattle.fs_layout.specs.declared.numbers.TheConstants.{BLKSIZE}
 use Rattle.fs_layout.specs.FileTree.{Node, a_file, a_directory, Records, no_more, NamedNode, records_from, FileSystem}
-use Rattle.fs_layout.specs.DiskImage.{values_below, block_count, root_place, is_marked_free, is_data_block, size_of}
+use Rattle.jos_base.specs.Below.{values_below}
+use Rattle.fs_layout.specs.DiskImage.{block_count, root_place, is_marked_free, is_data_block, size_of}
 use Rattle.fs_layout.specs.DiskImage.{has_indirect, name_of, is_empty_record, is_directory_at, block_number_at, slot_count, slot_place}
 use Rattle.fs_layout.specs.DiskImage.{Blocks, none_named, in_turn, tree_tests, image_fault}
 

@@ -8,23 +8,12 @@ use Rattle.std.specs.Prelude.{List, [], ◌∷◌, ◌++◌, length, bytes_eq, O
 use Rattle.std.specs.List.{before_first, list_any}
 use Rattle.std.specs.Result.{result_err}
 use Rattle.std.specs.Int.{bit_at}
+use Rattle.jos_base.specs.Below.{values_below, some_below}
 use Rattle.jos_base.specs.Words.{upd, word_at}
 use Rattle.fs_layout.specs.declared.numbers.TheConstants.{BLKSIZE, RECORDSIZE, BLKFILES, MAXNAMELEN, MAXFILESIZE, NDIRECT, NINDIRECT}
 use Rattle.fs_layout.specs.declared.numbers.TheConstants.{FTYPE_REG, FTYPE_DIR, FS_MAGIC, MINBLOCKS, MAXBLOCKS}
 use Rattle.fs_layout.specs.FileTree.{blocks_of, needs_indirect, bitmap_blocks}
 use Rattle.fs_layout.specs.FileActs.{is_slash}
-
--- ---- numbers below a count
-
--- the values at each of them
-unfoldable pub values_below : {A : Type 0} → ℕ → (ℕ → A) → List A
-values_below zero f = []
-values_below (suc n) f = values_below n f ++ f n ∷ []
-
--- whether one of them passes
-unfoldable pub some_below : ℕ → (ℕ → Bool) → Bool
-some_below zero passes = false
-some_below (suc n) passes = some_below n passes || passes n
 
 -- ---- the super block and the bitmap
 

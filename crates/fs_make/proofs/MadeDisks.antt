@@ -25,7 +25,7 @@ use Rattle.fs_make.proofs.MadeImages.{length-made, made-says}
 use Rattle.fs_make.proofs.MadeRecords.{file_at, starts_at, starts-first, starts-next, starts-past, starts-behind, starts-within}
 use Rattle.fs_make.proofs.MadeRecords.{slots-enough, Faultless, SaysRoot, Says}
 use Rattle.fs_layout.proofs.OneTest.{demand_passes, where_not, where_so}
-use Rattle.fs_layout.proofs.Below.{some_below-none}
+use Rattle.jos_base.proofs.Below.{some_below-none}
 
 -- ---- the blocks in use
 

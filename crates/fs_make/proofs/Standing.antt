@@ -8,9 +8,9 @@ use Rattle.std.proofs.lemmas.List.{get_or-replicate, get_or_past, length-replica
 use Rattle.jos_base.specs.TrapFrames.{bytes_of_words}
 use Rattle.jos_base.specs.Words.{word_at}
 use Rattle.fs_layout.specs.Layout.{zeros}
-use Rattle.fs_layout.specs.DiskImage.{values_below}
+use Rattle.jos_base.specs.Below.{values_below}
 use Rattle.fs_layout.proofs.Written.{Stands, stands-rest, word-back}
-use Rattle.fs_layout.proofs.Below.{length-values, get_or-values}
+use Rattle.jos_base.proofs.Below.{length-values, get_or-values}
 
 -- ---- zeros
 

@@ -13,7 +13,7 @@ use Rattle.fs_layout.specs.DiskImage.{is_marked_free, size_of, kind_at, direct_o
 use Rattle.fs_layout.specs.DiskImage.{blocks_needed, block_test, number_test, indirect_test, numbers_tests, has_stray}
 use Rattle.fs_layout.specs.DiskImage.{has_stray_in_indirect, stray_tests, is_good_size, record_tests}
 use Rattle.fs_layout.proofs.OneTest.{demand_passes, where_not, where_so}
-use Rattle.fs_layout.proofs.Below.{some_below-none}
+use Rattle.jos_base.proofs.Below.{some_below-none}
 
 -- ---- tests that pass
 

@@ -1,6 +1,7 @@
 pub mod Maps
 pub mod Puts
 pub mod Bounds
+pub mod Below
 pub mod Lists
 pub mod Options
 pub mod Sums

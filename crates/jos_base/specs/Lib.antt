@@ -1,4 +1,5 @@
 pub mod Words
+pub mod Below
 pub mod Reach
 pub mod Counting
 pub mod SpacesState

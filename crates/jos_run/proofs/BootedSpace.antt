@@ -25,7 +25,7 @@ use Rattle.lib_os.specs.Rows.{IsPage, rows_of}
 use Rattle.lib_os.proofs.PageBytes.{zero_page_whole}
 use Rattle.lib_spawn.specs.StackPage.{stack_contents, strings_of}
 use Rattle.jos_base.proofs.Maps.{upd-at, upd-other}
-use Rattle.fs_layout.proofs.Below.{some_below-at}
+use Rattle.jos_base.proofs.Below.{some_below-at}
 use Rattle.lib_os.specs.Rows.{AreBytes}
 use Rattle.jos_run.specs.Boot.{handler_page, program_registers, stack_segment}
 use Rattle.jos_run.specs.Start.{first_memory, page_of, stack_of}

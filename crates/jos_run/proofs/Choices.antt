@@ -16,7 +16,7 @@ use Rattle.jos_sched.specs.RoundRobin.{start, next}
 use Rattle.jos_sched.specs.RoundRobin as robin
 use Rattle.jos_kernel.specs.declared.report.End.{End}
 use Rattle.jos_kernel.specs.declared.report.End.TheVariants.{Done, Stuck, Budget, TurnsFull}
-use Rattle.fs_layout.specs.DiskImage.{some_below}
+use Rattle.jos_base.specs.Below.{some_below}
 use Rattle.lib_os.specs.AbstractState.{AbstractState, AbstractSlot, free, unborn, born, serving, Server, idle, can_run, can_run_as}
 use Rattle.lib_os.specs.Rows.{Names}
 use Rattle.lib_os.specs.StandsFor.{StandsFor, StandsForSlot, IsStatusFor}
@@ -24,7 +24,7 @@ use Rattle.lib_os.proofs.SlotsStand.{born_live}
 use Rattle.jos_run.specs.AbstractTurns.{first_of, next_slot, is_client, any_live, end_of}
 use Rattle.jos_run.specs.LibraryRuns.{NoneRuns, OnlyRuns, OnlyFirstServes, is_user, others_live, end_seen}
 use Rattle.jos_base.proofs.Maps.{upd-other, upd-all}
-use Rattle.fs_layout.proofs.Below.{some_below-same}
+use Rattle.jos_base.proofs.Below.{some_below-same}
 
 -- ---- who may run
 

@@ -32,7 +32,7 @@ use Rattle.jos_run.proofs.PagesFilled.{has_page-put}
 use Rattle.jos_run.proofs.StackLoaded.{fits-some, stack-touched}
 use Rattle.jos_run.proofs.Touched.{counted, counted-next, counted-none, counted-grows, counted-same, counted-drop}
 use Rattle.jos_base.proofs.Maps.{upd-at, upd-other}
-use Rattle.fs_layout.proofs.Below.{some_below-at, some_below-none}
+use Rattle.jos_base.proofs.Below.{some_below-at, some_below-none}
 
 module _ (frames : ℕ) (kernel : KernelState) (live : is_live (slot_at kernel 1) ≡ true) (small : (slot_at kernel 1).directory < frame_limit)
     (image : Layout) (words : List (List ℕ)) (file : List ℕ) where

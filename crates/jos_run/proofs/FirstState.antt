@@ -32,7 +32,7 @@ use Rattle.jos_run.proofs.FirstSpaces.{HasFrames, rising-some, spaces_one, space
 use Rattle.jos_run.proofs.FirstSpaces.{two_one_use, two_below}
 use Rattle.jos_run.proofs.FirstSpaces.{directory_one, directory_two, no_other}
 use Rattle.jos_run.proofs.PagesBegin.{Stage, space_memory, space_stage}
-use Rattle.fs_layout.proofs.Below.{some_below-none}
+use Rattle.jos_base.proofs.Below.{some_below-none}
 
 module _ (image : Layout) (words : List (List ℕ)) (input : List ℕ) (frames first n : ℕ) (has : HasFrames frames first n) where
   abbrev pub spaces : SpacesState

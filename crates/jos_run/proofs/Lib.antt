@@ -6,6 +6,7 @@ pub mod InOrder
 pub mod OthersLive
 pub mod Printed
 pub mod Puts
+pub mod BlockMoves
 pub mod RunsKept
 pub mod TurnsTaken
 pub mod SpacesKept

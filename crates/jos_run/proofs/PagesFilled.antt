@@ -10,7 +10,7 @@ use Rattle.lib_os.specs.AbstractState.{Page}
 use Rattle.lib_os.specs.InOrder.{HasOneUse}
 use Rattle.std.proofs.lemmas.Bool.{cases_eq}
 use Rattle.jos_base.proofs.Maps.{upd-at, upd-other}
-use Rattle.fs_layout.proofs.Below.{some_below-at, some_below-same}
+use Rattle.jos_base.proofs.Below.{some_below-at, some_below-same}
 
 -- each frame has its one use, whatever the bytes
 pub filled_one_use : (s : SpacesState) (f : ℕ) (bytes : List ℕ) → HasOneUse s → HasOneUse (with_page_bytes s f bytes)

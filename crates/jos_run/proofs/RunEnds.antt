@@ -42,7 +42,7 @@ use Rattle.jos_run.proofs.Choices.{end_stands, ended_none, next_stands, runs_sta
 use Rattle.jos_run.proofs.RunsKept.{run_begins, between_fits, in_turn_ran, in_turn_fits, running_born}
 use Rattle.jos_run.proofs.RunSteps.{no_step, lead_further, no_trap, traps_further, none_kept, none_written, written_further, no_turn_more, turns_further, end_between, end_in_turn, budget_spent}
 use Rattle.jos_run.proofs.StepsMade.{none_made, some_made}
-use Rattle.fs_layout.proofs.Below.{some_below-at}
+use Rattle.jos_base.proofs.Below.{some_below-at}
 use Rattle.jos_kernel.proofs.Choices.{runnable_live}
 
 -- ---- who is there

@@ -9,7 +9,7 @@ use Rattle.jos_kernel.specs.Boot.{any_touches}
 use Rattle.jos_kernel.specs.Loading.{IsFirstAt}
 use Rattle.jos_run.specs.Boot.{touches_region}
 use Rattle.std.proofs.lemmas.Bool.{cases_eq}
-use Rattle.fs_layout.proofs.Below.{some_below-at, some_below-none}
+use Rattle.jos_base.proofs.Below.{some_below-at, some_below-none}
 
 -- ---- counts
 

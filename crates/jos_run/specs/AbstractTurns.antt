@@ -10,7 +10,7 @@ use Rattle.jos_sched.specs.RoundRobin.{start}
 use Rattle.jos_kernel.specs.declared.report.End.{End}
 use Rattle.jos_kernel.specs.declared.report.End.TheVariants.{Done, Stuck, Budget, TurnsFull}
 use Rattle.jos_kernel.specs.declared.report.Turn.{Turn}
-use Rattle.fs_layout.specs.DiskImage.{some_below}
+use Rattle.jos_base.specs.Below.{some_below}
 use Rattle.lib_os.specs.declared.service.Service.{Service}
 use Rattle.lib_os.specs.declared.service.Service.TheVariants as service
 use Rattle.lib_os.specs.AbstractState.{AbstractState, AbstractSlot, born, serving, Phase, in_service, can_run, is_live}

@@ -21,7 +21,7 @@ use Rattle.jos_elf.specs.Parsed.{Layout}
 use Rattle.jos_kernel.specs.Boot.{any_touches, first_registers, only_state, page_loaded, pages_loaded, perm_of, stack_page}
 use Rattle.lib_os.specs.declared.numbers.TheConstants.{PGFAULT_UPCALL, UXSTACK}
 use Rattle.lib_spawn.specs.StackPage.{stack_contents, stack_pointer, stack_size}
-use Rattle.fs_layout.specs.DiskImage.{some_below}
+use Rattle.jos_base.specs.Below.{some_below}
 use Rattle.jos_run.specs.declared.boot.TheConstants.{FRAMES_BESIDE}
 
 -- ---- the program

@@ -11,7 +11,7 @@ use Rattle.jos_sched.specs.RoundRobin.{next}
 use Rattle.jos_kernel.specs.declared.report.End.{End}
 use Rattle.jos_kernel.specs.declared.report.End.TheVariants.{Done, Stuck, Budget, TurnsFull}
 use Rattle.jos_kernel.specs.declared.report.Turn.{Turn}
-use Rattle.fs_layout.specs.DiskImage.{some_below}
+use Rattle.jos_base.specs.Below.{some_below}
 use Rattle.lib_os.specs.declared.progress.Progress.{Progress}
 use Rattle.lib_os.specs.declared.progress.Progress.TheVariants as progress
 use Rattle.lib_os.specs.AbstractState.{AbstractState}

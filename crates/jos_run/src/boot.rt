@@ -85,7 +85,7 @@ pub fn boot_frames(image: &Image) -> u32
 // ---- the program
 
 /// Tells that bytes are bytes. Nothing is done.
-fn keep_bytes(bytes: &[u8])
+pub(crate) fn keep_bytes(bytes: &[u8])
     ensures { AreBytes bytes.now }
 {}
 

@@ -43,6 +43,7 @@ impl Served {
         ensures ended { OnErr result (is_handed (kernel_state self.old) self.old.slot trap error va ≡ false) }
         ensures slot { self.new.slot ≡ self.old.slot }
         ensures calls { self.new.calls ≡ self.old.calls }
+        ensures disk { self.new.disk ≡ self.old.disk }
         ensures rest { Unchanged H.files H.input H.asked H.notes host.old host.new }
         ensures cause { HasCause (H.faults host.old) (H.faults host.new) result }
     {
@@ -70,6 +71,7 @@ impl Served {
         ensures ended { OnErr result (is_handed_over (kernel_state self.old) self.old.slot event ≡ false) }
         ensures slot { self.new.slot ≡ self.old.slot }
         ensures calls { self.new.calls ≡ self.old.calls }
+        ensures disk { self.new.disk ≡ self.old.disk }
         ensures rest { Unchanged H.files H.input H.asked H.notes host.old host.new }
         ensures cause { HasCause (H.faults host.old) (H.faults host.new) result }
     {

@@ -7,6 +7,7 @@
 #![tactic(auto)]
 
 mod boot;
+mod disk;
 mod fence;
 mod guest;
 mod laws;
@@ -18,6 +19,7 @@ mod steps;
 mod turns;
 
 pub use boot::{FRAMES_BESIDE, boot_frames, boot_program, programs_begin};
+pub use disk::HostDisk;
 pub use laws::{runs_go_on_alike, turns_are_chosen_alike};
 pub use programs::{RunEnd, Setup, run};
 pub use served::Served;

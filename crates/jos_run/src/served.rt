@@ -1,25 +1,33 @@
 //! An environment that the library serves.
 
-ghost use Rattle.std.specs.Prelude.{◌≡◌, ◌+◌, ◌-◌, ◌*◌, ◌%◌, ◌^◌, ◌<◌, min, [], length, true, false, IfErr, OnOk, OnErr};
+ghost use Rattle.std.specs.Prelude.{◌≡◌, ◌+◌, ◌-◌, ◌*◌, ◌%◌, ◌^◌, ◌<◌, min, [], length, true, false, IfOk, IfErr, OnOk, OnErr, option_copied};
+ghost use Rattle.jos_host.specs.declared.host.HostCall.TheVariants as file_call;
+ghost use Rattle.jos_host.specs.Asked.{and_asked};
 ghost use Rattle.jos_host.specs.Frames.{Unchanged, around, from_to};
+ghost use Rattle.jos_host.specs.Told.{HasCause, WritesAt};
 ghost use Rattle.jos_base.specs.declared.memory.Access.TheVariants.{Write};
-ghost use Rattle.jos_base.specs.declared.numbers.TheConstants.{E_INVAL, NENV, UTRAPFRAME_WORDS};
+ghost use Rattle.jos_base.specs.declared.numbers.TheConstants.{NENV, UTRAPFRAME_WORDS};
 ghost use Rattle.jos_base.specs.Environments.{is_live};
 ghost use Rattle.jos_base.specs.KernelState.{slot_at, with_spaces};
+ghost use Rattle.jos_base.specs.SystemCalls.{is_page_address};
 ghost use Rattle.jos_base.specs.TrapFrames.{words_of_bytes};
 ghost use Rattle.jos_base.specs.UserMemory.{is_allowed, fault_at, touched};
-ghost use Rattle.jos_base.specs.Words.{negated};
 ghost use Rattle.jos_sys.specs.System.{state_of, left_of, Keeps};
+ghost use Rattle.fs_layout.specs.declared.numbers.TheConstants.{BLKSIZE};
+ghost use Rattle.lib_os.specs.Disk.{BlockCame, HasBlocks, no_disk};
 ghost use Rattle.lib_os.specs.InOrder.{IsInOrder};
-ghost use Rattle.lib_os.specs.UserCalls.{user_byte, user_word, with_user_byte, with_user_word};
+ghost use Rattle.lib_os.specs.UserCalls.{user_byte, user_word, with_user_byte, with_user_word, with_bytes_put};
 ghost use Rattle.lib_os.specs.UserCalls.{asking, sets_own, taken_back, HasStopCause, Prints, output};
-ghost use Rattle.jos_run.specs.Served.{kernel_state, IsRaised};
+ghost use Rattle.lib_os.specs.UserCalls.{block_call, may_move, page_accessed, page_bytes};
+ghost use Rattle.jos_run.specs.Served.{kernel_state, disk_of, serves_block, IsRaised};
 
+use crate::disk::HostDisk;
 use crate::fence::LibraryFence;
 use byteorder::{ByteOrder, LittleEndian};
+use fs_layout::BLKSIZE;
 use jos_base::{
-    Access, Called, E_INVAL, EnvId, Extra, Line, NENV, PageFault, Regs, SYS_ENV_SET_TRAPFRAME,
-    UTRAPFRAME_WORDS,
+    Access, Called, E_INVAL, EnvId, EnvType, Extra, Line, NENV, PageFault, Regs,
+    SYS_ENV_SET_TRAPFRAME, UTRAPFRAME_WORDS,
 };
 use jos_host::{Failed, Host};
 use jos_kernel::Machine;
@@ -28,24 +36,25 @@ use jos_trap::{FRAME_SIZE, from_frame};
 use lib_os::{Stop, UserOs};
 use std::marker::Model;
 
-/// The machine, an environment of it that the library serves, how many calls it has made for it, and how many bytes were
-/// printed in all.
+/// The machine, an environment of it that the library serves, how many calls it has made for it, how many bytes were printed
+/// in all, and the disk, if there is one.
 #[derive(Drop)]
 pub struct Served {
     pub(crate) machine: Machine<LibraryFence>,
     pub(crate) slot: usize,
     calls: u32,
     pub(crate) written: u64,
+    disk: Option<HostDisk>,
 }
 
 impl Model for Served {
-    ghost use Rattle.jos_run.specs.Served.{Parts, Lawful};
+    ghost use Rattle.jos_run.specs.Served.{Parts, Lawful, disk_of};
 
     ghost Value = { Parts };
 
-    ghost view = { λ s. record { machine = s.machine; slot = s.slot; calls = s.calls; written = s.written } };
+    ghost view = { λ s. record { machine = s.machine; slot = s.slot; calls = s.calls; written = s.written; disk = disk_of s.disk } };
 
-    ghost invariant = { λ s. Lawful (record { machine = s.machine; slot = s.slot; calls = s.calls; written = s.written }) };
+    ghost invariant = { λ s. Lawful (record { machine = s.machine; slot = s.slot; calls = s.calls; written = s.written; disk = disk_of s.disk }) };
 }
 
 /// The registers with which a system call with this number is made, given these words.
@@ -75,20 +84,30 @@ fn words_of_frame(bytes: &[u8]) -> [u32; UTRAPFRAME_WORDS]
 }
 
 impl Served {
-    /// Begins to serve the environment of slot 0.
+    /// Begins to serve the environment of slot 0, with no disk.
     pub fn new(system: System, input: Input) -> Served
         requires { Keeps system }
         ensures state { kernel_state result ≡ state_of system (left_of input) }
         ensures slot { result.slot ≡ 0 }
         ensures calls { result.calls ≡ 0 }
         ensures written { result.written ≡ 0 }
+        ensures disk { result.disk ≡ no_disk }
     {
         Served {
             machine: Machine::new(system, input),
             slot: 0,
             calls: 0,
             written: 0,
+            disk: None,
         }
+    }
+
+    /// The same with this disk.
+    pub fn with_disk(mut self, disk: HostDisk) -> Served
+        ensures { result ≡ record self { disk = disk } }
+    {
+        self.disk = Some(disk);
+        self
     }
 
     /// Begins to serve the environment of another slot. No call is made for it yet.
@@ -98,9 +117,17 @@ impl Served {
         ensures slot { self.new.slot ≡ slot }
         ensures calls { self.new.calls ≡ 0 }
         ensures written { self.new.written ≡ self.old.written }
+        ensures disk { self.new.disk ≡ self.old.disk }
     {
         self.slot = slot;
         self.calls = 0;
+    }
+
+    /// The disk, if there is one.
+    pub fn disk(&self) -> Option<&HostDisk>
+        ensures { disk_of (option_copied result) ≡ self.now.disk }
+    {
+        self.disk.as_ref()
     }
 
     /// Ends the service.
@@ -125,6 +152,7 @@ impl Served {
         ensures slot { self.new.slot ≡ self.old.slot }
         ensures calls { self.new.calls ≡ self.old.calls }
         ensures written { self.new.written ≡ min (self.old.written + bytes) (2 ^ 64 - 1) }
+        ensures disk { self.new.disk ≡ self.old.disk }
     {
         self.written = self.written.saturating_add(bytes as u64);
     }
@@ -136,6 +164,7 @@ impl Served {
         ensures raised { IsRaised (kernel_state self.old) self.old.slot fault result (kernel_state self.new) (output H.console (λ s. s.written) (from_to host.old host.new) (from_to self.old self.new)) }
         ensures slot { self.new.slot ≡ self.old.slot }
         ensures calls { self.new.calls ≡ self.old.calls }
+        ensures disk { self.new.disk ≡ self.old.disk }
         ensures rest { Unchanged H.files H.input H.asked H.notes host.old host.new }
         ensures cause { HasStopCause {X = Unit {0}} (around H.faults host.old host.new) (Err result) }
     {
@@ -171,6 +200,7 @@ impl Served {
             (fault_at (kernel_state self.old).spaces (slot_at (kernel_state self.old) self.old.slot).directory va access) why (kernel_state self.new) (output H.console (λ s. s.written) (from_to host.old host.new) (from_to self.old self.new))) }
         ensures slot { self.new.slot ≡ self.old.slot }
         ensures calls { self.new.calls ≡ self.old.calls + 1 }
+        ensures disk { self.new.disk ≡ self.old.disk }
         ensures in_order { IsInOrder (kernel_state self.new) }
         ensures rest { Unchanged H.files H.input H.asked H.notes host.old host.new }
         ensures cause { HasStopCause (around H.faults host.old host.new) result }
@@ -220,6 +250,7 @@ impl Served {
         ensures slot { self.new.slot ≡ self.old.slot }
         ensures calls { self.new.calls ≡ self.old.calls }
         ensures written { self.new.written ≡ self.old.written }
+        ensures disk { self.new.disk ≡ self.old.disk }
         ensures in_order { IsInOrder (kernel_state self.new) }
     {
         self.machine.store_byte(self.slot, va, byte);
@@ -235,6 +266,7 @@ impl Served {
         ensures slot { self.new.slot ≡ self.old.slot }
         ensures calls { self.new.calls ≡ self.old.calls }
         ensures written { self.new.written ≡ self.old.written }
+        ensures disk { self.new.disk ≡ self.old.disk }
         ensures in_order { IsInOrder (kernel_state self.new) }
     {
         let [first, second, third, fourth] = word.to_le_bytes();
@@ -244,20 +276,126 @@ impl Served {
         self.put_byte(va + 3, fourth);
     }
 
-    /// Counts a call, and refuses the block of the disk for which it asks, since there is none.
-    fn refuse_block(&mut self) -> u32
-        requires { self.old.calls < 2 ^ 32 - 1 }
-        ensures answer { result ≡ negated E_INVAL }
-        ensures state { kernel_state self.new ≡ kernel_state self.old }
+    /// How many blocks the disk has.
+    fn block_count(&self) -> u32
+        ensures { result ≡ self.now.disk.blocks }
+    {
+        match &self.disk {
+            Some(disk) => disk.blocks,
+            None => 0,
+        }
+    }
+
+    /// Whether the environment is the file server and the disk has a block.
+    fn serves_block(&self, block: u32) -> bool
+        requires { is_live (slot_at (kernel_state self.now) self.now.slot) ≡ true }
+        ensures { result ≡ serves_block (kernel_state self.now) self.now.slot self.now.disk block }
+    {
+        match self.machine.system().environment(self.slot).env_type {
+            EnvType::FileServer => block < self.block_count(),
+            EnvType::User => false,
+        }
+    }
+
+    /// Counts a call for a block of the disk, and reaches for the page at an address as the environment does, where it may be
+    /// moved. Where it may not, nothing else is done.
+    fn reach_page(&mut self, block: u32, va: u32, access: Access) -> bool
+        requires live { is_live (slot_at (kernel_state self.old) self.old.slot) ≡ true }
+        requires few { self.old.calls < 2 ^ 32 - 1 }
+        ensures may { result ≡ may_move (block_call (kernel_state self.old) self.old.slot self.old.disk block va) access }
+        ensures there { result ≡ true → block < self.old.disk.blocks }
+        ensures allowed { result ≡ true → is_allowed (kernel_state self.new).spaces (slot_at (kernel_state self.new) self.new.slot).directory va access ≡ true }
+        ensures reached { result ≡ true → kernel_state self.new ≡ page_accessed (kernel_state self.old) self.old.slot va access }
+        ensures refused { result ≡ false → kernel_state self.new ≡ kernel_state self.old }
         ensures slot { self.new.slot ≡ self.old.slot }
         ensures calls { self.new.calls ≡ self.old.calls + 1 }
         ensures written { self.new.written ≡ self.old.written }
         ensures small { self.old.written < 2 ^ 64 }
+        ensures disk { self.new.disk ≡ self.old.disk }
+        ensures live { is_live (slot_at (kernel_state self.new) self.new.slot) ≡ true }
         ensures in_order { IsInOrder (kernel_state self.new) }
     {
         self.calls += 1;
+        if !self.serves_block(block) {
+            self.keep_in_order();
+            return false;
+        }
+        let reached = self.machine.reach(self.slot, va, access);
         self.keep_in_order();
-        E_INVAL.wrapping_neg()
+        match reached {
+            Ok(()) => true,
+            Err(_) => false,
+        }
+    }
+
+    /// The bytes of the page at an address.
+    fn page(&self, va: u32) -> [u8; BLKSIZE as usize]
+        requires live { is_live (slot_at (kernel_state self.now) self.now.slot) ≡ true }
+        requires page { is_page_address va ≡ true }
+        ensures { result ≡ page_bytes (kernel_state self.now) self.now.slot va }
+    {
+        let mut bytes = [0; BLKSIZE as usize];
+        for place in 0..BLKSIZE {
+            bytes[place as usize] = self.byte(va + place);
+        }
+        bytes
+    }
+
+    /// Puts bytes into the page at an address, which the environment may write.
+    fn put_page(&mut self, va: u32, bytes: &[u8; BLKSIZE as usize])
+        requires live { is_live (slot_at (kernel_state self.old) self.old.slot) ≡ true }
+        requires page { is_page_address va ≡ true }
+        requires allowed { is_allowed (kernel_state self.old).spaces (slot_at (kernel_state self.old) self.old.slot).directory va Write ≡ true }
+        ensures state { kernel_state self.new ≡ with_bytes_put (kernel_state self.old) self.old.slot va bytes.now }
+        ensures slot { self.new.slot ≡ self.old.slot }
+        ensures calls { self.new.calls ≡ self.old.calls }
+        ensures written { self.new.written ≡ self.old.written }
+        ensures disk { self.new.disk ≡ self.old.disk }
+    {
+        for place in 0..BLKSIZE {
+            self.put_byte(va + place, bytes[place as usize]);
+        }
+    }
+
+    /// The bytes of a block that the disk has.
+    fn bytes_of<H: Host>(&self, host: &mut H, block: u32) -> Result<[u8; BLKSIZE as usize], Failed>
+        requires { block < self.now.disk.blocks }
+        ensures came { IfOk result (λ bytes. BlockCame (H.files host.old) self.now.disk block bytes) }
+        ensures files { H.files host.new ≡ H.files host.old }
+        ensures asked { H.asked host.new ≡ and_asked (H.asked host.old) file_call.Read self.now.disk.name }
+        ensures input { H.input host.new ≡ H.input host.old }
+        ensures console { H.console host.new ≡ H.console host.old }
+        ensures notes { H.notes host.new ≡ H.notes host.old }
+        ensures cause { HasCause (H.faults host.old) (H.faults host.new) result }
+    {
+        match &self.disk {
+            Some(disk) => disk.read_block(host, block),
+            // it has no block
+            None => Err(Failed),
+        }
+    }
+
+    /// Puts bytes into a block that the disk has.
+    fn put_block<H: Host>(
+        &self,
+        host: &mut H,
+        block: u32,
+        bytes: &[u8; BLKSIZE as usize],
+    ) -> Result<(), Failed>
+        requires there { block < self.now.disk.blocks }
+        requires whole { HasBlocks (H.files host.old) self.now.disk }
+        ensures told { WritesAt (H.files host.old) self.now.disk.name (BLKSIZE * block) bytes.now result (H.files host.new) }
+        ensures asked { H.asked host.new ≡ and_asked (H.asked host.old) file_call.Write self.now.disk.name }
+        ensures input { H.input host.new ≡ H.input host.old }
+        ensures console { H.console host.new ≡ H.console host.old }
+        ensures notes { H.notes host.new ≡ H.notes host.old }
+        ensures cause { HasCause (H.faults host.old) (H.faults host.new) result }
+    {
+        match &self.disk {
+            Some(disk) => disk.write_block(host, block, bytes),
+            // it has no block
+            None => Err(Failed),
+        }
     }
 
     /// Whether the environment is there still.
@@ -292,6 +430,7 @@ impl Served {
         ensures slot { self.new.slot ≡ self.old.slot }
         ensures calls { self.new.calls ≡ self.old.calls }
         ensures written { self.new.written ≡ self.old.written }
+        ensures disk { self.new.disk ≡ self.old.disk }
     {
         if self.is_live() && !own {
             self.machine.set_registers(self.slot, registers);
@@ -307,6 +446,8 @@ impl UserOs for Served {
     ghost calls = { λ s. s.calls };
 
     ghost written = { λ s. s.written };
+
+    ghost disk = { λ s. s.disk };
 
     fn load<H: Host>(&mut self, host: &mut H, va: u32) -> Result<u32, Stop> {
         match self.reach(host, va, Access::Read) {
@@ -396,17 +537,30 @@ impl UserOs for Served {
         }
     }
 
-    fn block_read<H: Host>(&mut self, _host: &mut H, _block: u32, _va: u32) -> Result<u32, Failed> {
-        Ok(self.refuse_block())
+    fn block_read<H: Host>(&mut self, host: &mut H, block: u32, va: u32) -> Result<u32, Failed> {
+        if !self.reach_page(block, va, Access::Write) {
+            return Ok(E_INVAL.wrapping_neg());
+        }
+        match self.bytes_of(host, block) {
+            Ok(bytes) => {
+                self.put_page(va, &bytes);
+                self.keep_in_order();
+                Ok(0)
+            }
+            Err(failed) => Err(failed),
+        }
     }
 
-    fn block_write<H: Host>(
-        &mut self,
-        _host: &mut H,
-        _block: u32,
-        _va: u32,
-    ) -> Result<u32, Failed> {
-        Ok(self.refuse_block())
+    fn block_write<H: Host>(&mut self, host: &mut H, block: u32, va: u32) -> Result<u32, Failed> {
+        // as they are before the access, whose bit a page of the window may show
+        let bytes = self.page(va);
+        if !self.reach_page(block, va, Access::Read) {
+            return Ok(E_INVAL.wrapping_neg());
+        }
+        match self.put_block(host, block, &bytes) {
+            Ok(()) => Ok(0),
+            Err(failed) => Err(failed),
+        }
     }
 
     fn registers(&self) -> Regs {

@@ -166,6 +166,7 @@ impl Served {
         ensures within { result.going < limit }
         ensures slot { self.new.slot ≡ self.old.slot }
         ensures calls { self.new.calls ≡ self.old.calls }
+        ensures disk { self.new.disk ≡ self.old.disk }
         ensures rest { Unchanged H.files H.input H.asked H.notes host.old host.new }
         ensures cause { HasCause (H.faults host.old) (H.faults host.new) result.last }
     {

@@ -89,6 +89,7 @@ impl Served {
         ensures slot { self.new.slot ≡ self.old.slot }
         ensures calls { self.new.calls ≡ self.old.calls }
         ensures written { self.new.written ≡ self.old.written }
+        ensures disk { self.new.disk ≡ self.old.disk }
     {
         self.machine.begin_turn(slot);
     }
@@ -100,6 +101,7 @@ impl Served {
         ensures slot { self.new.slot ≡ self.old.slot }
         ensures calls { self.new.calls ≡ self.old.calls }
         ensures written { self.new.written ≡ self.old.written }
+        ensures disk { self.new.disk ≡ self.old.disk }
     {
         self.machine.end_turn(slot);
     }

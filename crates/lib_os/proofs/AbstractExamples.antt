@@ -12,7 +12,7 @@ use Rattle.lib_os.specs.declared.service.Service.{Service}
 use Rattle.lib_os.specs.declared.service.Service.TheVariants as service
 use Rattle.lib_os.specs.AbstractState.{AbstractState, Born, own, free, born, serving, terminal, read_end, write_end}
 use Rattle.lib_os.specs.AbstractState.{ProgramState, guest, shell, in_service, entered, idle}
-use Rattle.fs_layout.specs.DiskImage.{some_below}
+use Rattle.jos_base.specs.Below.{some_below}
 use Rattle.lib_os.specs.Fence.{in_fence}
 use Rattle.lib_os.specs.GuestStep.{born_in}
 use Rattle.lib_os.specs.Answers.{bytes_from, all_stored}

@@ -42,7 +42,7 @@ use Rattle.lib_os.proofs.Bearing.{same_born, same_unborn}
 use Rattle.lib_os.proofs.Logical.{programs_beside}
 use Rattle.lib_os.proofs.PageBytes.{bytes_append, bytes_more, bytes_same, words_bytes}
 use Rattle.lib_os.proofs.SomeState.{whole}
-use Rattle.fs_layout.proofs.Below.{some_below-at}
+use Rattle.jos_base.proofs.Below.{some_below-at}
 
 -- ---- pages
 

@@ -86,4 +86,5 @@ pub mod UsesFound
 pub mod UsesRemoved
 pub mod UsesPlaced
 pub mod UsesCalled
+pub mod DiskBytes
 mod AbstractExamples

@@ -36,7 +36,7 @@ use Rattle.lib_os.proofs.Serving.{words_of_none}
 use Rattle.lib_os.proofs.SlotsStand.{born_at}
 use Rattle.lib_os.proofs.Sums.{is_at, is_at-here, at_most_once}
 use Rattle.jos_base.proofs.Sums.{total-mono, total-less, total-none, total-one, total-sum}
-use Rattle.fs_layout.proofs.Below.{some_below-at, some_below-none}
+use Rattle.jos_base.proofs.Below.{some_below-at, some_below-none}
 
 -- ---- the places
 

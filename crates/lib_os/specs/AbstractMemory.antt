@@ -7,7 +7,7 @@ use Rattle.jos_base.specs.declared.memory.PageFault.{PageFault}
 use Rattle.jos_base.specs.declared.numbers.TheConstants.{FEC_U, FEC_PR, NPTENTRIES}
 use Rattle.jos_base.specs.Words.{page_number, page_offset, upd}
 use Rattle.jos_base.specs.Reach.{write_bit}
-use Rattle.fs_layout.specs.DiskImage.{some_below}
+use Rattle.jos_base.specs.Below.{some_below}
 use Rattle.lib_os.specs.AbstractState.{AbstractState, Born, Page, own, named, free, with_born, with_slot, with_printed}
 
 abbrev pub page_at : Born → ℕ → Option Page

@@ -8,7 +8,7 @@ use Rattle.lib_os.specs.declared.service.Service.{Service}
 use Rattle.lib_os.specs.declared.service.Service.TheVariants as service
 use Rattle.lib_os.specs.AbstractState.{AbstractState, Born, AbstractSlot, free, unborn, born, serving, ProgramState, guest, shell, Phase, at_guest, faulted, in_service}
 use Rattle.lib_os.specs.AbstractState.{Server, idle, acted, is_idle, Object, read_end, write_end}
-use Rattle.fs_layout.specs.DiskImage.{some_below}
+use Rattle.jos_base.specs.Below.{some_below}
 use Rattle.lib_os.specs.GuestStep.{guest_step, ends_with, born_in}
 use Rattle.lib_os.specs.MemoryServices.{lives}
 use Rattle.lib_os.specs.Descriptors.{object_of}

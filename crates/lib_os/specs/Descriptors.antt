@@ -7,7 +7,7 @@ use Rattle.jos_base.specs.declared.numbers.TheConstants.{E_INVAL, E_MAX_OPEN, NE
 use Rattle.jos_base.specs.Words.{upd}
 use Rattle.lib_os.specs.declared.numbers.TheConstants.{DESCRIPTORS}
 use Rattle.lib_os.specs.AbstractState.{AbstractState, Born, Object, read_end, write_end, with_born}
-use Rattle.fs_layout.specs.DiskImage.{some_below}
+use Rattle.jos_base.specs.Below.{some_below}
 use Rattle.lib_os.specs.AbstractMemory.{slot_freed}
 use Rattle.lib_os.specs.GuestStep.{born_in}
 use Rattle.lib_os.specs.Answers.{answered, refused, back_with}

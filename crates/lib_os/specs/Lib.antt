@@ -17,6 +17,8 @@ pub mod AbstractLaws
 pub mod InOrder
 pub mod Places
 pub mod Rows
+pub mod Disk
+pub mod BlockCache
 pub mod LibraryPages
 pub mod StandsInHandler
 pub mod StandsFor

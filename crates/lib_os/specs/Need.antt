@@ -10,7 +10,7 @@ use Rattle.jos_base.specs.KernelState.{KernelState}
 use Rattle.jos_base.specs.Reach.{Entry}
 use Rattle.jos_base.specs.SpacesState.{SpacesState, Region, directory, region_limit, reserved_frames}
 use Rattle.jos_base.specs.Words.{is_exactly}
-use Rattle.fs_layout.specs.DiskImage.{some_below}
+use Rattle.jos_base.specs.Below.{some_below}
 use Rattle.lib_os.specs.declared.numbers.TheConstants.{DESCRIPTORS, MAXOPEN}
 use Rattle.lib_os.specs.AbstractState.{AbstractState, Born, Page, own, named, AbstractSlot, free, unborn, born, serving}
 use Rattle.lib_os.specs.AbstractState.{Object, read_end, write_end}

@@ -2,28 +2,36 @@
 -- moved as a user moves it, a system call, registers taken back from the frame of a page fault. Each call is one step, and
 -- another environment may have its turn between any two.
 -- (MIT 6.828, lib/syscall.c, and the loads and stores of lib/*.c.)
-use Rattle.std.specs.Prelude.{◌≡◌, ◌≤◌, ℕ, ◌+◌, ◌-◌, ◌^◌, min, ◌==◌, ◌&&◌, Bool, true, not, List, [], ◌∷◌, get_or, length}
+use Rattle.std.specs.Prelude.{◌≡◌, ◌≤◌, ℕ, ◌+◌, ◌-◌, ◌*◌, ◌^◌, min, nat_lt, ◌==◌, ◌&&◌, Bool, true, false, not, List, [], ◌∷◌, get_or, length}
 use Rattle.std.specs.Prelude.{Option, Some, None, Result, Ok, Err, if◌then◌else◌}
 use Rattle.std.specs.Int.{w32, to_le_bytes, from_le_bytes}
 use Rattle.jos_base.specs.declared.called.Called.{Called}
 use Rattle.jos_base.specs.declared.called.Called.TheVariants.{Answered}
+use Rattle.jos_base.specs.declared.environment.EnvType.{EnvType}
+use Rattle.jos_base.specs.declared.environment.EnvType.TheVariants.{User, FileServer}
 use Rattle.jos_base.specs.declared.line.Line.TheVariants.{UserFault}
 use Rattle.jos_base.specs.declared.memory.Access.{Access}
 use Rattle.jos_base.specs.declared.memory.Access.TheVariants.{Read, Write}
 use Rattle.jos_base.specs.declared.memory.PageFault.{PageFault}
-use Rattle.jos_base.specs.declared.numbers.TheConstants.{E_INVAL, SYS_ENV_SET_TRAPFRAME}
+use Rattle.jos_base.specs.declared.numbers.TheConstants.{E_INVAL, PGSIZE, SYS_ENV_SET_TRAPFRAME}
 use Rattle.jos_base.specs.declared.registers.Regs.{Regs}
+use Rattle.jos_base.specs.Below.{values_below}
 use Rattle.jos_base.specs.Environments.{records_of, found, is_live}
 use Rattle.jos_base.specs.KernelState.{KernelState, slot_at, with_registers, with_spaces}
 use Rattle.jos_base.specs.Reach.{FrameOffset}
 use Rattle.jos_base.specs.SystemCalls.{Did, handled, killed, system_call, user_bytes, with_bytes_reached}
 use Rattle.jos_base.specs.TrapFrames.{words_of_bytes, frame_size, from_frame}
-use Rattle.jos_base.specs.UserMemory.{reach_in, touched, byte_at, stored_byte}
+use Rattle.jos_base.specs.UserMemory.{reach_in, is_allowed, touched, byte_at, stored_byte}
 use Rattle.jos_base.specs.Words.{is_exactly, negated}
 use Rattle.jos_host.specs.declared.host.Failed.{Failed}
-use Rattle.jos_host.specs.Told.{Rose}
+use Rattle.jos_host.specs.declared.host.HostCall.{HostCall}
+use Rattle.jos_host.specs.Asked.{Asked, and_asked}
+use Rattle.jos_host.specs.Files.{Files}
+use Rattle.jos_host.specs.Told.{Rose, WritesAt}
 use Rattle.jos_host.specs.Frames.{Around, around}
+use Rattle.fs_layout.specs.declared.numbers.TheConstants.{BLKSIZE}
 use Rattle.jos_host.specs.Gains.{Gains, GainsPart}
+use Rattle.lib_os.specs.Disk.{DiskFile, BlockCame}
 use Rattle.lib_os.specs.declared.user_os.Stop.{Stop}
 use Rattle.lib_os.specs.declared.user_os.Stop.TheVariants as stop
 
@@ -143,18 +151,84 @@ restore_frame s n = restored s n (user_bytes s n (slot_at s n).registers.esp fra
 
 -- ---- blocks of the disk
 
--- The disk stands beside the kernel's state, as the console does. So far it is empty: a call that would move a block is refused, whoever
--- makes it and whatever it names, and does nothing else.
-abbrev pub moves_nothing : KernelState → CallStep ℕ
-moves_nothing s = giving s (negated E_INVAL)
+abbrev pub is_file_server : EnvType → Bool
+is_file_server FileServer = true
+is_file_server User = false
 
--- block_read(block, va): the block's bytes come to the page at an address
-unfoldable pub block_read : KernelState → ℕ → ℕ → ℕ → CallStep ℕ
-block_read s n block va = moves_nothing s
+-- a call for a block: the state, who makes it, the disk, and which block is moved to or from the page at which address
+pub record BlockCall : Type 0 where
+  pub state : KernelState
+  pub slot : ℕ
+  pub disk : DiskFile
+  pub block : ℕ
+  pub va : ℕ
 
--- block_write(block, va): the page's bytes come to the block
-unfoldable pub block_write : KernelState → ℕ → ℕ → ℕ → CallStep ℕ
-block_write s n block va = moves_nothing s
+-- The file server makes it, the disk has the block, and the page may be accessed so.
+abbrev pub may_move : BlockCall → Access → Bool
+may_move call access =
+    let caller = slot_at call.state call.slot in
+    is_file_server caller.env_type && nat_lt call.block call.disk.blocks && is_allowed call.state.spaces caller.directory call.va access
+
+-- what a call for a block is given
+abbrev pub block_call : KernelState → ℕ → DiskFile → ℕ → ℕ → BlockCall
+block_call s n disk block va = record { state = s; slot = n; disk = disk; block = block; va = va }
+
+-- A block is read into a page that may be written, and written from one that may be read.
+abbrev pub may_read_block : BlockCall → Bool
+may_read_block call = may_move call Write
+
+abbrev pub may_write_block : BlockCall → Bool
+may_write_block call = may_move call Read
+
+-- the bytes of the page at an address, as its environment reads them
+unfoldable pub page_bytes : KernelState → ℕ → ℕ → List ℕ
+page_bytes s n va = values_below PGSIZE (λ k. user_byte s n (va + k))
+
+-- the page at an address is accessed
+abbrev pub page_accessed : KernelState → ℕ → ℕ → Access → KernelState
+page_accessed s n va access = with_spaces s (touched s.spaces (slot_at s n).directory va access)
+
+-- these bytes come to it
+unfoldable pub block_put : KernelState → ℕ → ℕ → List ℕ → KernelState
+block_put s n va bytes = with_bytes_put (page_accessed s n va Write) n va bytes
+
+-- block_read(block, va): 0, and the bytes of the block have come to the page; or 3 negated, where they may not
+abbrev pub IsReadBy : Bool → BlockCall → Option Files → ℕ → KernelState → Type 0
+IsReadBy true call files word after =
+    (word ≡ 0) × (bytes : List ℕ) × BlockCame files call.disk call.block bytes × (after ≡ block_put call.state call.slot call.va bytes)
+IsReadBy false call files word after = (word ≡ negated E_INVAL) × (after ≡ call.state)
+
+-- Where the host failed, it was asked, and nothing is said of the state.
+abbrev pub IsBlockRead : BlockCall → Option Files → Result ℕ Failed → KernelState → Type 0
+IsBlockRead call files (Ok word) after = IsReadBy (may_read_block call) call files word after
+IsBlockRead call files (Err _) after = may_read_block call ≡ true
+
+-- block_write(block, va): 0, and the bytes of the page have come to the block; or 3 negated, where they may not
+abbrev pub IsSentBy : Bool → BlockCall → ℕ → KernelState → Type 0
+IsSentBy true call word after = (word ≡ 0) × (after ≡ page_accessed call.state call.slot call.va Read)
+IsSentBy false call word after = (word ≡ negated E_INVAL) × (after ≡ call.state)
+
+abbrev pub IsBlockWrite : BlockCall → Result ℕ Failed → KernelState → Type 0
+IsBlockWrite call (Ok word) after = IsSentBy (may_write_block call) call word after
+IsBlockWrite call (Err _) after = may_write_block call ≡ true
+
+-- whether the host has done it, without the word that is answered
+abbrev pub done_only : {E : Type 0} → Result ℕ E → Result (Unit {0}) E
+done_only (Ok word) = Ok tt
+done_only (Err failed) = Err failed
+
+-- What the host tells of its files behind it. Where the host failed, what stands in the block is unknown.
+abbrev pub FilesBehindBy : {E : Type 0} → Bool → BlockCall → Result ℕ E → Around (Option Files) → Type 0
+FilesBehindBy true call result files =
+    WritesAt files.before call.disk.name (BLKSIZE * call.block) (page_bytes call.state call.slot call.va) (done_only result) files.after
+FilesBehindBy false call result files = files.after ≡ files.before
+
+abbrev pub FilesBehind : {E : Type 0} → BlockCall → Result ℕ E → Around (Option Files) → Type 0
+FilesBehind call result files = FilesBehindBy (may_write_block call) call result files
+
+-- the calls that a host was asked, by whether it was asked this one of the disk's file
+abbrev pub asked_by : Bool → Option (List Asked) → HostCall → DiskFile → Option (List Asked)
+asked_by made told call disk = if made then and_asked told call disk.name else told
 
 -- ---- what is printed
 
@@ -192,11 +266,6 @@ IsStep step (Err stop.Failed) state output = (step.gives ≡ gone) × PrintsPart
 abbrev pub IsCallStep : CallStep Called → Result Called Failed → KernelState → Output → Type 0
 IsCallStep step (Ok called) state output = (step.gives ≡ got called) × (state ≡ step.state) × Prints output step.written
 IsCallStep step (Err _) state output = PrintsPart output step.written
-
--- The same of a block. The host is not asked for one that the disk does not have, and so can't fail.
-abbrev pub IsBlockStep : CallStep ℕ → Result ℕ Failed → KernelState → Output → Type 0
-IsBlockStep step (Ok word) state output = (step.gives ≡ got word) × (state ≡ step.state) × Prints output step.written
-IsBlockStep step (Err _) state output = ⊥
 
 -- the word that a system call has answered; 0 where it has answered nothing
 abbrev pub answer_of : Called → ℕ

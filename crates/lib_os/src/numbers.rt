@@ -45,6 +45,12 @@ pub const PFTEMP: u32 = 0x007f_f000;
 /// The page of the stack on which the handler of page faults finds its frame. (MIT 6.828, inc/memlayout.h: below `UXSTACKTOP`)
 pub const UXSTACK: u32 = 0xeebf_f000;
 
+/// Where the file server has the pages of its cache: block n at this address and 4,096 n. (MIT 6.828, lab 5: fs/fs.h)
+pub const DISKMAP: u32 = 0x1000_0000;
+
+/// The blocks that have an address there have numbers below this one.
+pub const CACHE_BLOCKS: u32 = 65_536;
+
 /// The words of a page.
 pub const PAGE_WORDS: u32 = 1024;
 

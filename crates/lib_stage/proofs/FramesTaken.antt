@@ -11,7 +11,7 @@ use Rattle.lib_os.specs.declared.progress.Progress.{Progress}
 use Rattle.lib_os.specs.AbstractState.{AbstractState}
 use Rattle.lib_os.specs.LibrarySteps.{Stands, TakesAtMost, TakesByPlace, frames_at}
 use Rattle.lib_os.specs.Places.{place_of}
-use Rattle.lib_os.specs.UserCalls.{block_read, block_write, CallStep, Got, got, to_handler, gone, Output}
+use Rattle.lib_os.specs.UserCalls.{CallStep, Got, got, to_handler, gone, Output}
 use Rattle.lib_os.proofs.FramesAsked.{system_takes, load_takes, load_byte_takes, store_takes, store_byte_takes, exchange_takes, restore_takes}
 use Rattle.lib_stage.specs.declared.ask.Ask.{Ask}
 use Rattle.lib_stage.specs.declared.ask.Ask.TheVariants as ask
@@ -21,11 +21,8 @@ use Rattle.lib_stage.specs.Asks.{as_given, at_instruction, performed, frames_of}
 use Rattle.lib_stage.specs.Nexts.{settled}
 use Rattle.lib_stage.specs.ServiceSteps.{Plan, upshot_by, service_step, IsServiceStep}
 
-none_taken : (s : KernelState) → TakesAtMost 0 s.spaces s.spaces
-none_taken s = omega arith
-
 performed_takes : (s : KernelState) (n : ℕ) (a : Ask) → TakesAtMost (frames_of a) s.spaces (performed s n a).state.spaces
-unfolding performed block_read block_write
+unfolding performed
 performed_takes s n (ask.System number args) = system_takes s n number args
 performed_takes s n ask.Exofork = system_takes s n SYS_EXOFORK (as_given (slot_at s n).registers)
 performed_takes s n (ask.Load va) = load_takes s n 0 va
@@ -33,8 +30,6 @@ performed_takes s n (ask.LoadByte va) = load_byte_takes s n 0 va
 performed_takes s n (ask.Store va word) = store_takes s n 0 va word
 performed_takes s n (ask.StoreByte va byte) = store_byte_takes s n 0 va byte
 performed_takes s n (ask.Exchange va word) = exchange_takes s n 0 va word
-performed_takes s n (ask.BlockRead block va) = none_taken s
-performed_takes s n (ask.BlockWrite block va) = none_taken s
 performed_takes s n ask.RestoreFrame = restore_takes s n 0
 performed_takes s n (ask.Touch ip va true) = store_byte_takes (at_instruction s n ip) n 0 va 0
 performed_takes s n (ask.Touch ip va false) = load_byte_takes (at_instruction s n ip) n 0 va

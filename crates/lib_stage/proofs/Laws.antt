@@ -28,10 +28,10 @@ use Rattle.lib_os.specs.LibraryPages.{View}
 use Rattle.lib_os.specs.Places.{place_of, words_at, handler_registers}
 use Rattle.lib_os.specs.Rows.{Names, rows_of}
 use Rattle.lib_os.specs.StandsFor.{StandsFor, StandsAtStep, view_of}
-use Rattle.lib_os.specs.UserCalls.{CallStep, Got, got, to_handler, gone, block_read, block_write, giving, load, asking, system, Output}
+use Rattle.lib_os.specs.UserCalls.{CallStep, Got, got, to_handler, gone, giving, load, asking, system, Output}
 use Rattle.lib_os.proofs.Calls.{yield_is}
 use Rattle.lib_os.proofs.GoingOn.{went_to, gave_up, gives_nothing_up}
-use Rattle.lib_os.proofs.Leaving.{Left, same_left, load_left, load_byte_left, store_left, store_byte_left, exchange_left, restore_left}
+use Rattle.lib_os.proofs.Leaving.{Left, load_left, load_byte_left, store_left, store_byte_left, exchange_left, restore_left}
 use Rattle.lib_os.proofs.Leaving.{system_left, wakes}
 use Rattle.lib_os.proofs.NumbersKept.{KeepsCopies, copies_kept, numbers_kept, places_kept}
 use Rattle.lib_os.proofs.OthersCopies.{NoMoreWait, IsBeside, maps_no_copy, plain_wait, same_wait, load_wait, load_byte_wait}
@@ -107,12 +107,8 @@ reached_behind s n after h used others wait = record {
   copies = copies_kept s after n wait;
 }
 
--- nothing is done
-nothing_behind : (s : KernelState) (n : ℕ) → Behind s n s
-nothing_behind s n = reached_behind s n s (same_left _ s n) (λ in_order each. each) (same_stay s n) (same_wait _ s.spaces)
-
 pub plain_behind : (s : KernelState) (n : ℕ) (a : Ask) → is_plain a ≡ true → Behind s n (performed s n a).state
-unfolding performed block_read block_write
+unfolding performed
 plain_behind s n (ask.System number args) plain =
     let parts = and_parts (not (wakes number) && not (sets_others number)) (maps_no_copy number args) plain in
     let both = neither (wakes number) (sets_others number) parts.0 in
@@ -133,8 +129,6 @@ plain_behind s n (ask.StoreByte va byte) plain =
 plain_behind s n (ask.Exchange va word) plain =
     reached_behind s n _ (exchange_left _ s n va word) (λ in_order each. exchange_found s n in_order.frames each va word)
     (exchange_stay s n va word) (exchange_wait _ s n va word)
-plain_behind s n (ask.BlockRead block va) plain = nothing_behind s n
-plain_behind s n (ask.BlockWrite block va) plain = nothing_behind s n
 plain_behind s n ask.RestoreFrame plain =
     reached_behind s n _ (restore_left _ s n) (λ in_order each. restore_frame_found s n in_order.frames each) (restore_stay s n) (restore_wait _ s n)
 plain_behind s n (ask.Touch ip va true) plain =
@@ -154,8 +148,6 @@ calm_behind s n (ask.LoadByte va) calm copies = plain_behind s n (ask.LoadByte v
 calm_behind s n (ask.Store va word) calm copies = plain_behind s n (ask.Store va word) refl
 calm_behind s n (ask.StoreByte va byte) calm copies = plain_behind s n (ask.StoreByte va byte) refl
 calm_behind s n (ask.Exchange va word) calm copies = plain_behind s n (ask.Exchange va word) refl
-calm_behind s n (ask.BlockRead block va) calm copies = plain_behind s n (ask.BlockRead block va) refl
-calm_behind s n (ask.BlockWrite block va) calm copies = plain_behind s n (ask.BlockWrite block va) refl
 calm_behind s n ask.RestoreFrame calm copies = plain_behind s n ask.RestoreFrame refl
 calm_behind s n (ask.Touch ip va write) calm copies = plain_behind s n (ask.Touch ip va write) refl
 

@@ -5,7 +5,7 @@ use Rattle.jos_base.specs.declared.called.Called.TheVariants.{Answered}
 use Rattle.jos_base.specs.declared.numbers.TheConstants.{SYS_EXOFORK}
 use Rattle.jos_base.specs.declared.registers.Regs.{Regs}
 use Rattle.jos_base.specs.KernelState.{KernelState, slot_at, with_registers}
-use Rattle.jos_base.specs.SystemCalls.{is_page_address, may_print}
+use Rattle.jos_base.specs.SystemCalls.{may_print}
 use Rattle.lib_os.specs.declared.user_os.Stop.{Stop}
 use Rattle.lib_os.specs.declared.user_os.Stop.TheVariants as stop
 use Rattle.lib_os.specs.LibrarySteps.{frames_asked}
@@ -51,8 +51,6 @@ performed s n (ask.LoadByte va) = told_as (λ byte. byte) (call.load_byte s n va
 performed s n (ask.Store va word) = told_as (λ done. 0) (call.store s n va word)
 performed s n (ask.StoreByte va byte) = told_as (λ done. 0) (call.store_byte s n va byte)
 performed s n (ask.Exchange va word) = told_as (λ stood. stood) (call.exchange s n va word)
-performed s n (ask.BlockRead block va) = told_as (λ word. word) (call.block_read s n block va)
-performed s n (ask.BlockWrite block va) = told_as (λ word. word) (call.block_write s n block va)
 performed s n ask.RestoreFrame = told_as (λ done. 0) (call.restore_frame s n)
 performed s n (ask.Touch ip va write) = touching (at_instruction s n ip) n va write
 
@@ -62,13 +60,11 @@ frames_of (ask.System number args) = frames_asked number
 frames_of ask.Exofork = frames_asked SYS_EXOFORK
 frames_of _ = 0
 
--- words lie at multiples of four, and a block is moved to or from a page
+-- words lie at multiples of four
 abbrev pub IsAligned : Ask → Type 0
 IsAligned (ask.Load va) = va % 4 ≡ 0
 IsAligned (ask.Store va word) = va % 4 ≡ 0
 IsAligned (ask.Exchange va word) = va % 4 ≡ 0
-IsAligned (ask.BlockRead block va) = is_page_address va ≡ true
-IsAligned (ask.BlockWrite block va) = is_page_address va ≡ true
 IsAligned _ = Unit {0}
 
 -- The host may fail in it: in a system call that prints, and where the environment is destroyed by its fault.

@@ -19,10 +19,6 @@ pub enum Ask {
     StoreByte { va: u32, byte: u8 },
     /// Puts a word at an address that is a multiple of four, and gives the one that stood there.
     Exchange { va: u32, word: u32 },
-    /// Moves a block of the disk to the page at an address.
-    BlockRead { block: u32, va: u32 },
-    /// Moves the page at an address to a block of the disk.
-    BlockWrite { block: u32, va: u32 },
     /// Takes the registers back from the frame of a page fault that stands at ESP.
     RestoreFrame,
     /// An access to a byte as at the program's instruction at `ip`, where the environment stands then: the byte is loaded, or,

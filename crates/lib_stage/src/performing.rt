@@ -23,6 +23,7 @@ fn touch<O: UserOs, H: Host>(os: &mut O, host: &mut H, va: u32, write: bool) -> 
     ensures step { IsStep (touching (O.state os.old) (O.slot os.old) va write) result (O.state os.new) (output H.console O.written (from_to host.old host.new) (from_to os.old os.new)) }
     ensures in_order { IsInOrder (O.state os.new) }
     ensures slot { O.slot os.new ≡ O.slot os.old }
+    ensures disk { O.disk os.new ≡ O.disk os.old }
     ensures calls { O.calls os.new ≡ O.calls os.old + 1 }
     ensures rest { Unchanged H.files H.input H.asked H.notes host.old host.new }
     ensures cause { HasStopCause (around H.faults host.old host.new) result }
@@ -52,6 +53,7 @@ pub fn perform<O: UserOs, H: Host>(os: &mut O, host: &mut H, ask: Ask) -> Result
     ensures step { IsPerformed ask (performed (O.state os.old) (O.slot os.old) ask) result (O.state os.new) (output H.console O.written (from_to host.old host.new) (from_to os.old os.new)) }
     ensures in_order { IsInOrder (O.state os.new) }
     ensures slot { O.slot os.new ≡ O.slot os.old }
+    ensures disk { O.disk os.new ≡ O.disk os.old }
     ensures calls { O.calls os.new ≡ O.calls os.old + 1 }
     ensures rest { Unchanged H.files H.input H.asked H.notes host.old host.new }
     ensures cause { HasStopCause (around H.faults host.old host.new) result }
@@ -94,14 +96,6 @@ pub fn perform<O: UserOs, H: Host>(os: &mut O, host: &mut H, ask: Ask) -> Result
         Ask::Exchange { va, word } => match os.exchange(host, va, word) {
             Ok(stood) => Ok(Called::Answered(stood)),
             Err(stop) => Err(stop),
-        },
-        Ask::BlockRead { block, va } => match os.block_read(host, block, va) {
-            Ok(word) => Ok(Called::Answered(word)),
-            Err(Failed) => Err(Stop::Failed),
-        },
-        Ask::BlockWrite { block, va } => match os.block_write(host, block, va) {
-            Ok(word) => Ok(Called::Answered(word)),
-            Err(Failed) => Err(Stop::Failed),
         },
         Ask::RestoreFrame => match os.restore_frame(host) {
             Ok(()) => Ok(Called::Answered(0)),

@@ -3,8 +3,9 @@
 ghost use Rattle.std.specs.Prelude.{◌<◌, ◌^◌, IfOk, length};
 
 use crate::calls::ServedBench;
+use crate::disks::{disk_of, host_with_disk};
 use jos_base::{
-    EnvId, FRAMES_MAX, FRAMES_MIN, PGSIZE, PTE_P, PTE_U, PTE_W, Perm, Status, UTEMP, UTEXT,
+    EnvId, EnvType, FRAMES_MAX, FRAMES_MIN, PGSIZE, PTE_P, PTE_U, PTE_W, Perm, Status, UTEMP, UTEXT,
 };
 use jos_elf::{Part, parse, write};
 use jos_kernel::BootFault;
@@ -12,7 +13,7 @@ use jos_run::{Served, boot_frames, boot_program};
 use jos_sys::{Input, System};
 use lib_spawn::fits_stack;
 use std::alloc::{AllocError, Global};
-use test_cases::program_words;
+use test_cases::{program_words, twelve_numbers};
 
 /// The file of a program with one page, which begins with a byte.
 fn one_page(alloc: Global) -> Result<Vec<u8>, AllocError>
@@ -82,25 +83,47 @@ pub(crate) fn boot(
     }
 }
 
-/// The first environment, in slot 0, with a page of zeros at `UTEMP` that it may write.
-fn first_environment(alloc: Global) -> Option<ServedBench> {
+/// The first environment, in slot 0, of a kind, with a page of zeros at `UTEMP` that it may write.
+fn first_environment(alloc: Global, kind: EnvType) -> Option<Served> {
     let Ok(mut system) = System::new(alloc, FRAMES_MIN) else {
         return None;
     };
     let Ok(slot) = system.make_environment(EnvId(0)) else {
         return None;
     };
+    system.set_env_type(slot, kind);
     system.set_status(slot, Status::Runnable);
     system.allocate(slot, UTEMP, Perm(PTE_P + PTE_W + PTE_U))?;
-    let served = Served::new(system, Input::new(Vec::new(alloc)));
-    Some(ServedBench::new(alloc, served, 0))
+    Some(Served::new(system, Input::new(Vec::new(alloc))))
 }
 
-/// Begins with it.
+/// Begins with a user, without a disk.
 pub(crate) fn first(alloc: Global, bench: &mut Option<ServedBench>) -> Result<String, AllocError> {
-    *bench = first_environment(alloc);
-    match bench {
-        Some(_) => String::from_str(alloc, "begins"),
+    match first_environment(alloc, EnvType::User) {
+        Some(served) => {
+            *bench = Some(ServedBench::new(alloc, served, 0));
+            String::from_str(alloc, "begins")
+        }
+        None => String::from_str(alloc, "no environment"),
+    }
+}
+
+/// Begins with an environment of a kind and a disk: how many blocks there are, how many bytes the host's file has, and which
+/// call of the host fails.
+pub(crate) fn with_disk(
+    alloc: Global,
+    bench: &mut Option<ServedBench>,
+    kind: EnvType,
+    given: &str,
+) -> Result<String, AllocError> {
+    let [blocks, len, fails, ..] = twelve_numbers(given);
+    match first_environment(alloc, kind) {
+        Some(served) => {
+            let served = served.with_disk(disk_of(alloc, blocks)?);
+            let host = host_with_disk(alloc, len, fails)?;
+            *bench = Some(ServedBench::over(served, host));
+            String::from_str(alloc, "begins")
+        }
         None => String::from_str(alloc, "no environment"),
     }
 }

@@ -5,6 +5,7 @@ ghost use Rattle.std.specs.Prelude.{◌%◌, ◌≡◌, ◌<◌, true};
 ghost use Rattle.jos_base.specs.declared.numbers.TheConstants.{NENV};
 ghost use Rattle.jos_base.specs.SystemCalls.{is_page_address};
 
+use crate::disks::{has_blocks, tell_file};
 use crate::telling::{quoted, tell_numbers};
 use jos_base::{Called, Extra, PGSIZE, UTOP};
 use jos_cpu::Decodings;
@@ -14,7 +15,7 @@ use lib_os::{Stop, UserOs};
 use std::alloc::{AllocError, Global};
 use test_cases::{given_registers, register_words, twelve_numbers};
 
-/// An environment in a slot, over a host without files and input at which no call fails.
+/// An environment in a slot, over a host in memory.
 #[derive(Drop)]
 pub(crate) struct ServedBench {
     served: Served,
@@ -63,12 +64,21 @@ fn tell_done(alloc: Global, done: Result<(), Stop>) -> Result<String, AllocError
 }
 
 impl ServedBench {
-    /// The environment that stands in a slot.
+    /// The environment that stands in a slot, over a host without files and input at which no call fails.
     pub(crate) fn new(alloc: Global, served: Served, slot: usize) -> ServedBench
         requires { slot < NENV }
     {
         let host = MemHost::new(alloc, Vec::new(alloc), Vec::new(alloc), Vec::new(alloc));
         ServedBench { served, host, slot }
+    }
+
+    /// That of slot 0, over a host that is given.
+    pub(crate) fn over(served: Served, host: MemHost) -> ServedBench {
+        ServedBench {
+            served,
+            host,
+            slot: 0,
+        }
     }
 
     /// Makes a system call.
@@ -106,7 +116,11 @@ impl ServedBench {
             "store_byte" => tell_done(alloc, served.store_byte(host, va, (word % 256) as u8)),
             "exchange" => tell_word(alloc, served.exchange(host, aligned(va), word)),
             "block_read" => tell_moved(alloc, served.block_read(host, word, page_at(va))),
-            "block_write" => tell_moved(alloc, served.block_write(host, word, page_at(va))),
+            "block_write" if has_blocks(served, host) => {
+                tell_moved(alloc, served.block_write(host, word, page_at(va)))
+            }
+            "block_write" => String::from_str(alloc, "the file is shorter"),
+            "file" => tell_file(alloc, host),
             "restore_frame" => tell_done(alloc, served.restore_frame(host)),
             "system" => self.system_call(alloc, given),
             _ => self.own_call(alloc, call, given),

@@ -10,19 +10,25 @@
 //! | `frames` | how many frames a run of a program with one page wants |
 //! | `boot FRAMES WORDS` | how it begins in so many frames |
 //! | `first` | nothing: an environment begins, with a page of zeros at `UTEMP` |
-//! | `end` | how the environment of `boot` or `first` stands at last, and the console |
+//! | `server BLOCKS BYTES FAILS` | nothing: so does the file server, with a disk of so many blocks, whose file has so many bytes; the call of the host with this number, counted from 1, fails |
+//! | `user BLOCKS BYTES FAILS` | the same with a user |
+//! | `end` | how the environment that began stands at last, and the console |
 //!
-//! Between `boot` or `first` and `end` any other line is a call of that environment (`src/calls.rt`).
+//! Between those that begin one and `end` any other line is a call of that environment (`src/calls.rt`), or `file`: how many
+//! bytes the disk's file has, and how many of them are others than at first. There each byte has the number of its block and one
+//! more as its first digit, and the place in the file modulo 8 as its second.
 #![tactic(auto)]
 
 mod beginning;
 mod calls;
+mod disks;
 mod stepping;
 mod telling;
 
-use crate::beginning::{boot, first, frames};
+use crate::beginning::{boot, first, frames, with_disk};
 use crate::calls::ServedBench;
 use crate::stepping::steps;
+use jos_base::EnvType;
 use std::alloc::{AllocError, Global};
 use test_cases::tell_lines;
 
@@ -38,6 +44,8 @@ fn answer(
         "frames" => frames(alloc),
         "boot" => boot(alloc, bench, given),
         "first" => first(alloc, bench),
+        "server" => with_disk(alloc, bench, EnvType::FileServer, given),
+        "user" => with_disk(alloc, bench, EnvType::User, given),
         "end" => match bench.take() {
             Some(bench) => bench.end(alloc),
             None => String::from_str(alloc, "no environment"),

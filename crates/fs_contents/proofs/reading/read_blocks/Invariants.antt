@@ -1,6 +1,6 @@
 use Rattle.std.proofs.Common.{◌≡◌}
 use Rattle.std.specs.Prelude.{slice_index}
-use Rattle.fs_layout.specs.DiskImage.{values_below}
+use Rattle.jos_base.specs.Below.{values_below}
 use Rattle.fs_layout.specs.DiskFiles.{file_byte}
 use Rattle.fs_contents.proofs.Blocks.{in_blocks}
 use Rattle.fs_contents.proofs.reading.read_blocks.Given as goal

@@ -1,6 +1,7 @@
 use Rattle.std.proofs.Common.{◌≡◌, false}
 use Rattle.std.specs.Prelude.{◌&&◌, ◌==◌, not, nat_le, slice_index}
-use Rattle.fs_layout.specs.DiskImage.{some_below, blocks_needed, direct_of}
+use Rattle.jos_base.specs.Below.{some_below}
+use Rattle.fs_layout.specs.DiskImage.{blocks_needed, direct_of}
 use Rattle.fs_image.proofs.records.has_stray.Given as goal
 
 abbrev pub invariant-loop-i : goal.invariant-loop-i

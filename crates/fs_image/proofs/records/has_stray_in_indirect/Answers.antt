@@ -1,10 +1,11 @@
 use Rattle.std.proofs.Common.{◌≡◌, ◌+◌, ℕ, Bool, sym, arith, ◌∙◌, ap}
 use Rattle.std.specs.Prelude.{◌&&◌, ◌==◌, not, nat_le, slice_index}
 use Rattle.fs_layout.specs.declared.numbers.TheConstants.{NDIRECT}
-use Rattle.fs_layout.specs.DiskImage.{some_below, blocks_needed, number_in_indirect, has_stray_in_indirect}
+use Rattle.jos_base.specs.Below.{some_below}
+use Rattle.fs_layout.specs.DiskImage.{blocks_needed, number_in_indirect, has_stray_in_indirect}
 use Rattle.fs_image.proofs.Each.{some_none, some_passed}
 use Rattle.fs_image.proofs.records.has_stray_in_indirect.Goals as goal
-use Rattle.fs_layout.proofs.Below.{some_below-at}
+use Rattle.jos_base.proofs.Below.{some_below-at}
 
 abbrev stray_at : (ℕ → ℕ) → ℕ → ℕ → Bool
 stray_at byte place i = nat_le (blocks_needed byte place) (NDIRECT + i) && not (number_in_indirect byte place i == 0)

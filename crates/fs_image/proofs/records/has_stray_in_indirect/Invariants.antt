@@ -1,7 +1,8 @@
 use Rattle.std.proofs.Common.{◌≡◌, ◌+◌, false}
 use Rattle.std.specs.Prelude.{◌&&◌, ◌==◌, not, nat_le, slice_index}
 use Rattle.fs_layout.specs.declared.numbers.TheConstants.{NDIRECT}
-use Rattle.fs_layout.specs.DiskImage.{some_below, blocks_needed, number_in_indirect}
+use Rattle.jos_base.specs.Below.{some_below}
+use Rattle.fs_layout.specs.DiskImage.{blocks_needed, number_in_indirect}
 use Rattle.fs_image.proofs.records.has_stray_in_indirect.Given as goal
 
 abbrev pub invariant-loop-i : goal.invariant-loop-i

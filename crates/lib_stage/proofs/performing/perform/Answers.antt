@@ -69,19 +69,3 @@ returns-in-Err-restore_frame-clause-step g c =
 pub touch-requires-clause-live : goal.touch-requires-clause-live
 touch-requires-clause-live g c =
     rw (c.set_registers.ensures.state, c.set_registers.ensures.slot) (set_live (g.O.UserOs.state c.args.os.now) (g.O.UserOs.slot c.args.os.now) _ c.requires.live)
-
-pub returns-in-Ok-block_read-clause-step : goal.returns-in-Ok-block_read-clause-step
-unfolding performed
-returns-in-Ok-block_read-clause-step g c =
-    rw c.in-BlockRead.is (told (ask.BlockRead c.in-BlockRead.block c.in-BlockRead.va) (λ gives e. e) (λ word. word) _ c.in-Ok-block_read.word _ _ c.in-Ok-block_read.ensures.step)
-
-pub returns-in-Err-block_read-clause-step : goal.returns-in-Err-block_read-clause-step
-returns-in-Err-block_read-clause-step g c = absurd c.in-Err-block_read.ensures.step
-
-pub returns-in-Ok-block_write-clause-step : goal.returns-in-Ok-block_write-clause-step
-unfolding performed
-returns-in-Ok-block_write-clause-step g c =
-    rw c.in-BlockWrite.is (told (ask.BlockWrite c.in-BlockWrite.block c.in-BlockWrite.va) (λ gives e. e) (λ word. word) _ c.in-Ok-block_write.word _ _ c.in-Ok-block_write.ensures.step)
-
-pub returns-in-Err-block_write-clause-step : goal.returns-in-Err-block_write-clause-step
-returns-in-Err-block_write-clause-step g c = absurd c.in-Err-block_write.ensures.step

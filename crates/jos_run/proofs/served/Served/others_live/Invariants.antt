@@ -1,5 +1,5 @@
 use Rattle.std.specs.Prelude.{◌≡◌, ◌≤◌, false}
-use Rattle.fs_layout.specs.DiskImage.{some_below}
+use Rattle.jos_base.specs.Below.{some_below}
 use Rattle.jos_run.specs.Served.{kernel_state}
 use Rattle.jos_run.proofs.OthersLive.{other_lives}
 use Rattle.jos_run.proofs.served.Served.others_live.Given as goal

@@ -4,7 +4,7 @@ use Rattle.std.proofs.Common.{refl, sym, ap, arith, add-one}
 use Rattle.std.proofs.lemmas.List.{ext_get_or, length_push, get_or_append_left, get_or_at}
 use Rattle.std.proofs.Math.Bool.{or-true}
 use Rattle.jos_base.proofs.Bounds.{below_or_last}
-use Rattle.fs_layout.specs.DiskImage.{values_below, some_below}
+use Rattle.jos_base.specs.Below.{values_below, some_below}
 
 -- ---- values
 

@@ -1,0 +1,97 @@
+-- How many blocks are cached, and how many of their pages were used, where one block has another entry.
+use Rattle.std.proofs.Common.{◌≡◌, ◌≢◌, ◌∙◌, ◌<◌, ◌≤◌, ◌+◌, ◌*◌, ℕ, Bool, true, false, is_some, Option, Some, None, inl, inr, refl, sym, ap, arith}
+use Rattle.std.proofs.lemmas.Bool.{cases_eq}
+use Rattle.jos_base.specs.Environments.{bit_of}
+use Rattle.jos_base.specs.Reach.{Entry}
+use Rattle.jos_base.proofs.Sums.{total-change, total-le, total-mono, total-same}
+use Rattle.lib_os.specs.declared.numbers.TheConstants.{CACHE_BLOCKS}
+use Rattle.lib_os.specs.Need.{count_below}
+use Rattle.lib_os.specs.Rows.{EntryRow}
+use Rattle.fs_cache.specs.CacheStands.{CacheView, was_used}
+use Rattle.fs_cache.specs.CacheSteps.{cached_count, used_count}
+use Rattle.fs_cache.proofs.Views.{RowSet, ViewKept}
+
+-- ---- of any numbers
+
+bit-le : (a : Bool) → bit_of a ≤ 1
+bit-le false = omega arith
+bit-le true = omega arith
+
+bits-le : (a b : Bool) → (a ≡ true → b ≡ true) → bit_of a ≤ bit_of b
+bits-le false b so = omega arith
+bits-le true b so = let is : bit_of b ≡ 1 = ap bit_of (so refl) in omega (arith, is)
+
+count-le : (n : ℕ) (g : ℕ → Bool) → count_below n g ≤ n
+count-le n g =
+    let most = total-le n 1 (λ k. bit_of (g k)) (λ k. bit-le (g k)) in
+    let same : n * 1 ≡ n = grind arith in
+    omega (arith, most, same)
+
+count-same : (n : ℕ) (g h : ℕ → Bool) → ((k : ℕ) → g k ≡ h k) → count_below n g ≡ count_below n h
+count-same n g h same = total-same n (λ k. bit_of (g k)) (λ k. bit_of (h k)) (λ k lt. ap bit_of (same k))
+
+count-mono : (n : ℕ) (g h : ℕ → Bool) → ((k : ℕ) → g k ≡ true → h k ≡ true) → count_below n g ≤ count_below n h
+count-mono n g h so = total-mono n (λ k. bit_of (g k)) (λ k. bit_of (h k)) (λ k lt. bits-le (g k) (h k) (so k))
+
+-- one of them passes no more
+count-off : (n k : ℕ) (g h : ℕ → Bool) → k < n → ((q : ℕ) → q ≢ k → g q ≡ h q) → g k ≡ false → h k ≡ true →
+    count_below n h ≡ count_below n g + 1
+count-off n k g h lt same off on =
+    let change = total-change n k (λ q. bit_of (g q)) (λ q. bit_of (h q)) lt (λ q ne. ap bit_of (same q ne)) in
+    let now : bit_of (g k) ≡ 0 = ap bit_of off in
+    let before : bit_of (h k) ≡ 1 = ap bit_of on in
+    omega (arith, change, now, before)
+
+-- ---- of any row
+
+pub cached_most : (row : EntryRow) → cached_count row ≤ CACHE_BLOCKS
+unfolding cached_count
+cached_most row = count-le CACHE_BLOCKS (λ n. is_some (row n))
+
+used_is_cached : (o : Option Entry) → was_used o ≡ true → is_some o ≡ true
+used_is_cached None used = absurd cc
+used_is_cached (Some e) used = refl
+
+pub used_most : (row : EntryRow) → used_count row ≤ cached_count row
+unfolding cached_count used_count
+used_most row = count-mono CACHE_BLOCKS (λ n. was_used (row n)) (λ n. is_some (row n)) (λ k. used_is_cached (row k))
+
+-- ---- of changes
+
+pub kept_row : (v w : CacheView) → ViewKept v w → w.row ≡ v.row
+kept_row v w kept = λ i. λ n. kept.row n i
+
+set_same : (v w : CacheView) (n : ℕ) (o : Option Entry) (test : Option Entry → Bool) → RowSet v w n o → test o ≡ test (v.row n) →
+    (m : ℕ) → test (w.row m) ≡ test (v.row m)
+set_same v w n o test set same m = elim (cases_eq m n) [
+  | inl e ↦ ap (λ k. test (w.row k)) e ∙ ap test set.set ∙ same ∙ sym (ap (λ k. test (v.row k)) e)
+  | inr ne ↦ ap test (set.rest m ne)
+]
+
+-- a block that is cached has another entry
+pub set_cached : (v w : CacheView) (n : ℕ) (e : Entry) → RowSet v w n (Some e) → is_some (v.row n) ≡ true → cached_count w.row ≡ cached_count v.row
+unfolding cached_count
+set_cached v w n e set is =
+    count-same CACHE_BLOCKS (λ m. is_some (w.row m)) (λ m. is_some (v.row m)) (set_same v w n (Some e) is_some set (sym is))
+
+-- and it counts as used, as before
+pub set_used : (v w : CacheView) (n : ℕ) (o : Option Entry) → RowSet v w n o → was_used o ≡ was_used (v.row n) → used_count w.row ≡ used_count v.row
+unfolding used_count
+set_used v w n o set same =
+    count-same CACHE_BLOCKS (λ m. was_used (w.row m)) (λ m. was_used (v.row m)) (set_same v w n o was_used set same)
+
+-- or no more
+pub set_unused : (v w : CacheView) (n : ℕ) (o : Option Entry) → RowSet v w n o → n < CACHE_BLOCKS → was_used o ≡ false → was_used (v.row n) ≡ true →
+    used_count v.row ≡ used_count w.row + 1
+unfolding used_count
+set_unused v w n o set below off on =
+    count-off CACHE_BLOCKS n (λ m. was_used (w.row m)) (λ m. was_used (v.row m)) below
+    (λ m ne. ap was_used (set.rest m ne)) (ap was_used set.set ∙ off) on
+
+-- a block that was cached is so no more
+pub set_none : (v w : CacheView) (n : ℕ) → RowSet v w n None → n < CACHE_BLOCKS → is_some (v.row n) ≡ true →
+    cached_count v.row ≡ cached_count w.row + 1
+unfolding cached_count
+set_none v w n set below is =
+    count-off CACHE_BLOCKS n (λ m. is_some (w.row m)) (λ m. is_some (v.row m)) below
+    (λ m ne. ap is_some (set.rest m ne)) (ap is_some set.set) is

@@ -1,0 +1,228 @@
+-- A step of the cache: what is asked is done by one call, and the cache goes on by the reply. What a block holds stays, and the steps
+-- come to an end.
+use Rattle.std.specs.Prelude.{◌≡◌, ◌≢◌, ◌<◌, ℕ, ◌+◌, ◌-◌, ◌*◌, ◌^◌, true, false, is_some, [], Option, Some, None, Result, Ok, Err}
+use Rattle.jos_host.specs.declared.host.Failed.{Failed}
+use Rattle.jos_host.specs.Files.{Files}
+use Rattle.jos_host.specs.Frames.{Around}
+use Rattle.jos_base.specs.declared.called.Called.{Called}
+use Rattle.jos_base.specs.KernelState.{KernelState, slot_at, with_extra}
+use Rattle.lib_os.specs.declared.numbers.TheConstants.{CACHE_BLOCKS}
+use Rattle.lib_os.specs.declared.user_os.Stop.{Stop}
+use Rattle.lib_os.specs.declared.user_os.Stop.TheVariants as stop
+use Rattle.lib_os.specs.BlockCache.{KeepsValues, block_address, block_row, own_addresses, is_dirty}
+use Rattle.lib_os.specs.Disk.{DiskFile, disk_in}
+use Rattle.lib_os.specs.Need.{count_below}
+use Rattle.lib_os.specs.Rows.{EntryRow}
+use Rattle.lib_os.specs.UserCalls as call
+use Rattle.lib_os.specs.UserCalls.{BlockCall, block_call, answer_of, IsStep, IsCallStep, may_read_block}
+use Rattle.lib_os.specs.UserCalls.{may_write_block, IsBlockRead, IsBlockWrite, FilesBehind, Output, Prints}
+use Rattle.fs_cache.specs.declared.place.CachePlace.{CachePlace}
+use Rattle.fs_cache.specs.declared.place.CachePlace.TheVariants as at
+use Rattle.fs_cache.specs.declared.place.CacheState.{CacheState}
+use Rattle.fs_cache.specs.declared.plan.CacheAsk.{CacheAsk}
+use Rattle.fs_cache.specs.declared.plan.CacheAsk.TheVariants as ask
+use Rattle.fs_cache.specs.declared.plan.Told.{Told}
+use Rattle.fs_cache.specs.declared.plan.Told.TheVariants as told
+use Rattle.fs_cache.specs.declared.steps.Cached.{Cached}
+use Rattle.fs_cache.specs.declared.steps.Cached.TheVariants as cached
+use Rattle.fs_cache.specs.declared.steps.Flushed.{Flushed}
+use Rattle.fs_cache.specs.declared.steps.Flushed.TheVariants as flushed
+use Rattle.fs_cache.specs.CachePlaces.{state_in, with_state}
+use Rattle.fs_cache.specs.CachePlans.{ask_at, next_at, fetching, flushing}
+use Rattle.fs_cache.specs.CacheStands.{CacheAt, cached_in, was_used}
+
+-- ---- one call
+
+-- who makes it, and of which disk
+pub record Caller : Type 0 where
+  pub state : KernelState
+  pub slot : ℕ
+  pub disk : DiskFile
+
+abbrev pub caller : KernelState → ℕ → DiskFile → Caller
+caller s n disk = record { state = s; slot = n; disk = disk }
+
+-- a block is moved to or from its page
+abbrev pub of_block : Caller → ℕ → BlockCall
+of_block c block = block_call c.state c.slot c.disk block (block_address block)
+
+-- What a call gives: a word, or that it was stopped.
+abbrev pub IsReply : CacheAsk → Caller → Option Files → Result ℕ Stop → KernelState → Output → Type 0
+IsReply (ask.Load va) c files result after output = IsStep (call.load c.state c.slot va) result after output
+IsReply (ask.System number args) c files (Ok word) after output =
+    (called : Called) × (word ≡ answer_of called) × IsCallStep (call.system c.state c.slot number args) (Ok called) after output
+IsReply (ask.System number args) c files (Err _) after output = ⊥
+IsReply (ask.ReadBlock block) c files (Ok word) after output = IsBlockRead (of_block c block) files (Ok word) after × Prints output []
+IsReply (ask.ReadBlock block) c files (Err stop.Failed) after output = (may_read_block (of_block c block) ≡ true) × Prints output []
+IsReply (ask.ReadBlock block) c files (Err _) after output = ⊥
+IsReply (ask.WriteBlock block) c files (Ok word) after output = IsBlockWrite (of_block c block) (Ok word) after × Prints output []
+IsReply (ask.WriteBlock block) c files (Err stop.Failed) after output = (may_write_block (of_block c block) ≡ true) × Prints output []
+IsReply (ask.WriteBlock block) c files (Err _) after output = ⊥
+
+-- what the host tells of its files behind it
+abbrev pub FilesAfter : CacheAsk → Caller → Result ℕ Stop → Around (Option Files) → Type 0
+FilesAfter (ask.WriteBlock block) c result files = FilesBehind (of_block c block) result files
+FilesAfter _ c result files = files.after ≡ files.before
+
+-- ---- one step
+
+-- the state in which the cache stands so
+abbrev pub gone_on : KernelState → ℕ → CacheState → KernelState
+gone_on s n state = with_extra s n (with_state (slot_at s n).extra state)
+
+-- The cache stood so, and a call was made: it goes on by the word; or the call was stopped by a fault, and nothing is known.
+pub data HasGone (state : CacheState) (c : Caller) (files : Around (Option Files)) (tells : Told) (after : KernelState) (output : Output)
+    : Type 0 where
+  by_word : (word : ℕ) (mid : KernelState) → IsReply (ask_at state) c files.before (Ok word) mid output →
+      FilesAfter (ask_at state) c (Ok word) files → tells ≡ (next_at state word).told →
+      after ≡ gone_on mid c.slot (next_at state word).state → HasGone state c files tells after output
+  stopped : (why : Stop) → why ≢ stop.Failed → IsReply (ask_at state) c files.before (Err why) after output →
+      FilesAfter (ask_at state) c (Err why) files → tells ≡ told.Going → HasGone state c files tells after output
+
+-- Where the host failed, it was in this call.
+abbrev pub IsCacheStep : CacheState → Caller → Result Told Failed → Around (Option Files) → KernelState → Output → Type 0
+IsCacheStep state c (Ok tells) files after output = HasGone state c files tells after output
+IsCacheStep state c (Err _) files after output =
+    IsReply (ask_at state) c files.before (Err stop.Failed) after output × FilesAfter (ask_at state) c (Err stop.Failed) files
+
+-- where it stands in a slot
+abbrev pub cache_state : KernelState → ℕ → CacheState
+cache_state s n = state_in (slot_at s n).extra
+
+-- and where it begins when a block is wanted, and when it is to be flushed
+abbrev pub fetch_state : KernelState → ℕ → ℕ → CacheState
+fetch_state s n block = let state = cache_state s n in record state { place = fetching state.place block }
+
+abbrev pub flush_state : KernelState → ℕ → CacheState
+flush_state s n = let state = cache_state s n in record state { place = flushing state.place }
+
+-- ---- what stays
+
+-- Where the host tells its files, the cache stands over the disk that it tells, and what each block holds is as before.
+abbrev pub KeepsCache : DiskFile → ℕ → Around KernelState → Around (Option Files) → Type 0
+KeepsCache disk n states files =
+    (before : Files) → files.before ≡ Some before → CacheAt (disk_in before disk) states.before n →
+    (after : Files) × (files.after ≡ Some after) × CacheAt (disk_in after disk) states.after n
+    × KeepsValues (disk_in before disk) (cached_in states.before n) (disk_in after disk) (cached_in states.after n)
+
+-- the same of a call that may have failed
+abbrev pub KeepsCacheWhereDone : {X : Type 0} → Result X Failed → DiskFile → ℕ → Around KernelState → Around (Option Files) → Type 0
+KeepsCacheWhereDone (Ok x) disk n states files = KeepsCache disk n states files
+KeepsCacheWhereDone (Err _) disk n states files = Unit {0}
+
+-- ---- the number that falls
+
+abbrev pub row_in : KernelState → ℕ → EntryRow
+row_in s n = block_row s.spaces (slot_at s n).directory own_addresses
+
+-- how many blocks are cached, and how many of their pages were used
+unfoldable pub cached_count : EntryRow → ℕ
+cached_count row = count_below CACHE_BLOCKS (λ n. is_some (row n))
+
+unfoldable pub used_count : EntryRow → ℕ
+used_count row = count_below CACHE_BLOCKS (λ n. was_used (row n))
+
+-- The hand goes round twice at most for each page that was used, and once more; and again for each page that was given up in vain.
+abbrev pub steps_of_round : ℕ
+steps_of_round = 2 * CACHE_BLOCKS + 6
+
+abbrev pub steps_of_page : ℕ
+steps_of_page = (CACHE_BLOCKS + 1) * steps_of_round + 10
+
+abbrev pub giving_left : ℕ → ℕ → ℕ
+giving_left cached used = cached * steps_of_page + used * steps_of_round + 10
+
+abbrev pub taking_left : ℕ → ℕ
+taking_left cached = giving_left cached cached + steps_of_round
+
+-- how many steps may come, at most, until a block that is wanted is there, by how many blocks are cached and how many pages were used
+abbrev pub fetch_left : CachePlace → ℕ → ℕ → ℕ
+fetch_left (at.LookingRegion block) cached used = taking_left cached + 2
+fetch_left (at.LookingPage block) cached used = taking_left cached + 1
+fetch_left (at.Taking block) cached used = taking_left cached
+fetch_left (at.Filling block) cached used = 2
+fetch_left (at.Settling block) cached used = 1
+fetch_left (at.HandRegion block left) cached used = giving_left cached used + 2 * left + 3
+fetch_left (at.HandPage block left) cached used = giving_left cached used + 2 * left + 2
+fetch_left (at.WritingBack block) cached used = giving_left cached used + 2
+fetch_left (at.Passing block) cached used = giving_left cached used + 1
+fetch_left (at.Moving block) cached used = giving_left cached used + 3
+fetch_left (at.Leaving block) cached used = 3
+fetch_left (at.Freeing block) cached used = giving_left cached used + 2
+fetch_left (at.TakingLast block) cached used = 4
+fetch_left _ cached used = 0
+
+-- the same until no page is dirty
+abbrev pub flush_left : CachePlace → ℕ → ℕ → ℕ
+flush_left at.Resting cached used = 5 * CACHE_BLOCKS + 5
+flush_left (at.Found block) cached used = 5 * CACHE_BLOCKS + 5
+flush_left (at.FlushRegion block) cached used = 5 * (CACHE_BLOCKS - block) + 4
+flush_left (at.FlushPage block) cached used = 5 * (CACHE_BLOCKS - block) + 3
+flush_left (at.FlushWriting block) cached used = 5 * (CACHE_BLOCKS - block) + 2
+flush_left (at.FlushSettling block) cached used = 5 * (CACHE_BLOCKS - block) + 1
+flush_left place cached used = 5 * CACHE_BLOCKS + 5 + fetch_left place cached used
+
+abbrev pub left_in : (CachePlace → ℕ → ℕ → ℕ) → CachePlace → KernelState → ℕ → ℕ
+left_in number place s n = number place (cached_count (row_in s n)) (used_count (row_in s n))
+
+-- ---- what a step tells
+
+-- A block that is ready has its page. Where there is more to do, a number is less than before. No
+-- page is to be had only where one was refused in this step, and no block is cached.
+abbrev pub FetchTells : ℕ → Cached → ℕ → Around KernelState → Type 0
+FetchTells block (cached.Ready va) n states = is_some (row_in states.before n block) ≡ true
+FetchTells block cached.Going n states =
+    left_in fetch_left (cache_state states.after n).place states.after n
+    < left_in fetch_left (fetching (cache_state states.before n).place block) states.before n
+FetchTells block cached.NoPage n states =
+    (states.before.refusals < 2 ^ 64 - 1 → states.before.refusals < states.after.refusals)
+    × ((m : ℕ) → row_in states.after n m ≡ None)
+
+-- Clean is told where no page is dirty. Where there is more to do, a number is less than before.
+abbrev pub FlushTells : Flushed → ℕ → Around KernelState → Type 0
+FlushTells flushed.Clean n states = (m : ℕ) → is_dirty (row_in states.after n m) ≡ false
+FlushTells flushed.Going n states =
+    left_in flush_left (cache_state states.after n).place states.after n
+    < left_in flush_left (flushing (cache_state states.before n).place) states.before n
+
+-- This holds where the host tells its files and the cache stands over the disk.
+abbrev pub WhereCached : DiskFile → ℕ → KernelState → Option Files → Type 0 → Type 0
+WhereCached disk n s files claim = (before : Files) → files ≡ Some before → CacheAt (disk_in before disk) s n → claim
+
+abbrev pub FetchTold : ℕ → Result Cached Failed → DiskFile → ℕ → Around KernelState → Option Files → Type 0
+FetchTold block (Ok tells) disk n states files = WhereCached disk n states.before files (FetchTells block tells n states)
+FetchTold block (Err _) disk n states files = Unit {0}
+
+abbrev pub FlushTold : Result Flushed Failed → DiskFile → ℕ → Around KernelState → Option Files → Type 0
+FlushTold (Ok tells) disk n states files = WhereCached disk n states.before files (FlushTells tells n states)
+FlushTold (Err _) disk n states files = Unit {0}
+
+-- ---- block_step and flush_step
+
+-- What is told of a step of the cache.
+abbrev pub as_cached : Told → Cached
+as_cached told.NoPage = cached.NoPage
+as_cached _ = cached.Going
+
+abbrev pub as_flushed : Told → Flushed
+as_flushed told.Clean = flushed.Clean
+as_flushed _ = flushed.Going
+
+-- A block that was found is ready, and nothing is done; else the cache makes a step.
+abbrev pub IsBlockStep : ℕ → Caller → Result Cached Failed → Around (Option Files) → KernelState → Output → Type 0
+IsBlockStep block c (Ok (cached.Ready va)) files after output =
+    ((cache_state c.state c.slot).place ≡ at.Found block) × (va ≡ block_address block) × (after ≡ c.state) × (files.after ≡ files.before)
+    × (output.console.after ≡ output.console.before) × (output.count.after ≡ output.count.before)
+IsBlockStep block c (Ok tells) files after output =
+    (step : Told) × (tells ≡ as_cached step) × HasGone (fetch_state c.state c.slot block) c files step after output
+IsBlockStep block c (Err failed) files after output = IsCacheStep (fetch_state c.state c.slot block) c (Err failed) files after output
+
+abbrev pub IsFlushStep : Caller → Result Flushed Failed → Around (Option Files) → KernelState → Output → Type 0
+IsFlushStep c (Ok tells) files after output =
+    (step : Told) × (tells ≡ as_flushed step) × HasGone (flush_state c.state c.slot) c files step after output
+IsFlushStep c (Err failed) files after output = IsCacheStep (flush_state c.state c.slot) c (Err failed) files after output
+
+-- how many calls a step is
+abbrev pub calls_made : Result Cached Failed → ℕ
+calls_made (Ok (cached.Ready va)) = 0
+calls_made _ = 1

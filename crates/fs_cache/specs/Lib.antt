@@ -1,0 +1,4 @@
+pub mod CachePlans
+pub mod CachePlaces
+pub mod CacheStands
+pub mod CacheSteps
