@@ -3,7 +3,7 @@
 
     python3 bench/library_model.py [--frames N] [--steps N] [--schedule FILE] [--trace N] [--] IMAGE [WORD..]
 
-It is written after docs/library.md, and shares nothing with the code: the fence, the services 0 to 9, each with its
+It is written after docs/library.md, and shares nothing with the code: the fence, the services 0 to 9, 11 and 19, each with its
 refusals and its steps, the handler of page faults, which copies a page that waits for that or ends the program, and turns.
 The processor is that of processor.py, and the frames are those of model.py. It takes the words of the command and answers
 with its console, notes and status; what it does not have is `Unmodelled`.
@@ -21,6 +21,8 @@ from processor import Processor
 SHARED, COPIED = 0x400, 0x800  # bits of an entry: its page is shared, or is copied when it is written
 KEPT = P | U | W | AVAILABLE  # the bits of an entry that a call gives
 COPY_PAGE = 0x007FF  # where a copy is made
+FIRST_DESCRIPTOR, DESCRIPTORS = 0xD0000, 32  # the pages of descriptors
+CONSOLE = struct.pack("<4I", ord("c"), 0, 2, 0)  # what such a page holds
 SERVER, PROGRAM = 0x1000, 0x1001
 FENCE = [(0x00200000, 0x00400000), (0x00800000, 0xD0000000), (0xD0400000, 0xEEBFE000)]
 RESIDENT = range(0xEEBFE800, 0xEEC00000)
@@ -152,7 +154,7 @@ class Run:
     def begin(self, words):
         """The strings end at the top of the stack; below them are their addresses and a 0, and below these argv and argc.
 
-        The handler of page faults has a stack of its own."""
+        The handler of page faults has a stack of its own, and the first two descriptors have a page for the console."""
         strings = [word + b"\0" for word in words]
         length = sum(map(len, strings))
         first = STACK_TOP - length
@@ -164,6 +166,10 @@ class Run:
         stack[esp % PAGE_SIZE:esp % PAGE_SIZE + len(table)] = table
         stack[PAGE_SIZE - length:] = b"".join(strings)
         assert self.frames.allocate(self.now.directory, EXCEPTION_STACK >> 12, P | U | W)
+        assert self.frames.allocate(self.now.directory, FIRST_DESCRIPTOR, P | U | W | SHARED)
+        self.page_bytes(FIRST_DESCRIPTOR << 12)[: len(CONSOLE)] = CONSOLE
+        frame = self.frames.entries[self.now.directory][FIRST_DESCRIPTOR][0]
+        assert self.frames.insert(self.now.directory, FIRST_DESCRIPTOR + 1, frame, P | U | W | SHARED)
         self.now.processor = Processor(self.entry, esp)
 
     # ---- environments
@@ -202,7 +208,7 @@ class Run:
         edx, ecx, ebx = registers[EDX], registers[ECX], registers[EBX]
         service = self.now.service
         if service == 0:
-            self.end()
+            self.exit()
         elif service == 1:
             self.cputs(edx, ecx)
         elif service == 2:
@@ -222,8 +228,77 @@ class Run:
             self.send(edx, ecx, ebx)
         elif service == 9:
             self.receive(edx, ecx)
+        elif service == 11:
+            self.close(edx)
+        elif service == 19:
+            self.dup(edx, ecx)
         else:
             self.now.answer(-INVALID)
+
+    # ---- descriptors: the entry of their region is read, and then that of a page; a page that is there is taken away
+
+    def has_descriptors(self):
+        return FIRST_DESCRIPTOR >> 10 in self.frames.regions[self.now.directory]
+
+    def is_open(self, descriptor):
+        return FIRST_DESCRIPTOR + descriptor in self.frames.entries[self.now.directory]
+
+    def drop(self, descriptor):
+        self.frames.remove(self.now.directory, FIRST_DESCRIPTOR + descriptor)
+
+    def exit(self):
+        if self.now.stage == "entered":
+            self.now.go_on(*("looking", 0) if self.has_descriptors() else ("ending",))
+        elif self.now.stage == "ending":
+            self.end()
+        else:
+            descriptor = self.now.found[0]
+            if self.now.stage == "looking" and self.is_open(descriptor):
+                self.now.go_on("dropping", descriptor)
+                return
+            if self.now.stage == "dropping":
+                self.drop(descriptor)
+            self.now.go_on(*("looking", descriptor + 1) if descriptor + 1 < DESCRIPTORS else ("ending",))
+
+    def close(self, descriptor):
+        if self.now.stage == "entered":
+            if descriptor < DESCRIPTORS and self.has_descriptors():
+                self.now.go_on("looking")
+            else:
+                self.now.answer(-INVALID)
+        elif self.now.stage == "looking":
+            if self.is_open(descriptor):
+                self.now.go_on("dropping")
+            else:
+                self.now.answer(-INVALID)
+        else:
+            self.drop(descriptor)
+            self.now.answer(0)
+
+    def dup(self, old, new):
+        if self.now.stage == "entered":
+            if old < DESCRIPTORS and self.has_descriptors():
+                self.now.go_on("looking at the old")
+            else:
+                self.now.answer(-INVALID)
+        elif self.now.stage == "looking at the old":
+            if not self.is_open(old) or new >= DESCRIPTORS:
+                self.now.answer(-INVALID)
+            elif old == new:
+                self.now.answer(new)
+            else:
+                self.now.go_on("looking at the new")
+        elif self.now.stage == "looking at the new":
+            self.now.go_on("dropping" if self.is_open(new) else "mapping")
+        elif self.now.stage == "dropping":
+            self.drop(new)
+            self.now.go_on("mapping")
+        else:
+            frame = self.frames.entries[self.now.directory][FIRST_DESCRIPTOR + old][0]
+            assert self.frames.insert(self.now.directory, FIRST_DESCRIPTOR + new, frame, P | U | W | SHARED)
+            self.now.answer(new)
+
+    # ---- the others
 
     def cputs(self, va, length):
         if length > CPUTS_MAX or (length > 0 and not in_fence(va, length)):

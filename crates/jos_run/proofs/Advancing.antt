@@ -69,6 +69,15 @@ silent_step v k b service.Fork (step.Remap id page) h awake = h.0.silent
 silent_step v k b service.Fork (step.ChildStack id) h awake = h.silent
 silent_step v k b service.Fork (step.ChildUpcall id) h awake = h.silent
 silent_step v k b service.Fork (step.ChildRuns id) h awake = h.silent
+silent_step v k b service.Exit (step.DescriptorEntry fd) h awake = h.0.silent
+silent_step v k b service.Exit (step.DroppingDescriptor fd) h awake = h.0.silent
+silent_step v k b service.Exit step.Ending h awake = h.0.silent
+silent_step v k b (service.Close fd) (step.DescriptorEntry at) h awake = h.0.silent
+silent_step v k b (service.Close fd) (step.DroppingDescriptor at) h awake = h.0.silent
+silent_step v k b (service.Dup old new) (step.DescriptorEntry at) h awake = h.0.silent
+silent_step v k b (service.Dup old new) step.TargetEntry h awake = h.0.silent
+silent_step v k b (service.Dup old new) (step.DroppingDescriptor at) h awake = h.0.silent
+silent_step v k b (service.Dup old new) step.MappingDescriptor h awake = h.0.silent
 silent_step v k b _ _ h awake = absurd h
 
 silent_at : (v : View) (k : Slot) (b : Born) (p : Place) → StandsAt p v k b → b.blocked ≡ false → k.rendezvous.receiving ≡ false

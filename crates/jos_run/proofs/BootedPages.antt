@@ -48,7 +48,7 @@ region_placed {s = s} {t = t} {d = d} {p = p} placed tables are r =
     ∙ sym (ap (λ (c : Bool). (c && (r == p / NPTENTRIES)) || is_some (s.regions d r)) here)
     ∙ sym (placed.regions d r)
 
-no_region : (o : Option Region) → is_some o ≡ false → o ≡ None
+pub no_region : (o : Option Region) → is_some o ≡ false → o ≡ None
 no_region None is = refl
 no_region (Some region) is = absurd cc
 

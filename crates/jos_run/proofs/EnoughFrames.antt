@@ -16,18 +16,20 @@ use Rattle.jos_kernel.specs.Boot.{stack_page}
 use Rattle.jos_kernel.proofs.ImagesRead.{read_lie}
 use Rattle.lib_os.specs.AbstractMemory.{has_page_in}
 use Rattle.lib_os.specs.AbstractState.{Page, own}
+use Rattle.lib_os.specs.Rows.{descriptor_page, descriptor_perm}
 use Rattle.lib_spawn.specs.StackPage.{stack_contents, stack_size}
 use Rattle.lib_spawn.proofs.StackPages.{fits}
 use Rattle.jos_run.specs.Begun.{ProgramsBoot}
 use Rattle.jos_run.specs.Boot.{boot_frames, booted_within, handler_page, handler_stack_loaded, program_loaded, space_loaded, stack_segment}
-use Rattle.jos_run.specs.Boot.{touches_region}
+use Rattle.jos_run.specs.Boot.{console_in, console_loaded, touches_region}
 use Rattle.jos_run.proofs.Booted.{booted-enough}
 use Rattle.jos_run.proofs.BootedPages.{no_row}
+use Rattle.jos_run.proofs.ConsoleLoaded.{last, no_descriptor, no_descriptor_too, second_inserted}
 use Rattle.jos_run.proofs.FirstState.{base, base_stage, booted_with, space_small}
 use Rattle.jos_run.proofs.FirstSpaces.{HasFrames, has_frames, spaces_two}
 use Rattle.jos_run.proofs.FramesTaken.{allocated_some, allocated_spends}
 use Rattle.jos_run.proofs.PagesBegin.{Stage, no_entry, memory_below, below-at, below-none, touched_next, untouched_next}
-use Rattle.jos_run.proofs.PagesBegin.{pages_stage, limit_small, no_stack}
+use Rattle.jos_run.proofs.PagesBegin.{pages_stage, program_stage, handler_stage, space_memory, limit_small, no_stack, no_handler}
 use Rattle.jos_run.proofs.PagesFilled.{has_page-put}
 use Rattle.jos_run.proofs.StackLoaded.{fits-some, stack-touched}
 use Rattle.jos_run.proofs.Touched.{counted, counted-next, counted-none, counted-grows, counted-same, counted-drop}
@@ -58,9 +60,9 @@ module _ (frames : ℕ) (kernel : KernelState) (live : is_live (slot_at kernel 1
   abbrev wanted : ℕ → ℕ
   wanted n = counted (wants_by (below n)) 832
 
-  -- as many frames are left as the pages from a number on and those regions want, and four
+  -- as many frames are left as the pages from a number on and those regions want, and six
   record Suffices (n : ℕ) (t : SpacesState) : Type 0 where
-    enough : counted touched 851968 + wanted n + 4 ≤ length t.free + counted touched n
+    enough : counted touched 851968 + wanted n + 6 ≤ length t.free + counted touched n
 
   bits : (n : ℕ) → touches_region segments n ≡ true → (b : Bool) → bit_of (touches_region segments n && not b) ≡ bit_of (not b)
   bits n is b = ap (λ (c : Bool). bit_of (c && not b)) is
@@ -144,13 +146,17 @@ module _ (frames : ℕ) (kernel : KernelState) (live : is_live (slot_at kernel 1
       let next = page_suffices n before.0 (omega arith) stage before.2 in
       (next.0, ap (λ (o : Option SpacesState). option_and_then (page_loaded segments file d n) o) before.1 ∙ next.1, next.2)
 
-  -- the page of the stack, and two frames are left
+  bit_small : (b : Bool) → bit_of b ≤ 1
+  bit_small true = omega arith
+  bit_small false = omega arith
+
+  -- the page of the stack, and four frames are left
   abbrev StackLoaded : SpacesState → Type 0
   StackLoaded t = (u : SpacesState)
-      × (page_loaded (stack_segment words ∷ []) (stack_contents words) d stack_page t ≡ Some u) × (2 ≤ length u.free)
+      × (page_loaded (stack_segment words ∷ []) (stack_contents words) d stack_page t ≡ Some u) × (4 ≤ length u.free)
 
   stack_suffices : 0 < stack_size words → stack_size words ≤ 4096 → (t : SpacesState) → t.entries d stack_page ≡ None →
-      4 ≤ length t.free → StackLoaded t
+      6 ≤ length t.free → StackLoaded t
   stack_suffices some most t none enough =
       let bits = perm_of (any_writes stack_page (stack_segment words ∷ [])) in
       let one = allocated_some t d stack_page bits (omega (arith, enough)) in
@@ -162,15 +168,11 @@ module _ (frames : ℕ) (kernel : KernelState) (live : is_live (slot_at kernel 1
             ∙ ap (filled bytes) one.1,
         omega (arith, enough, spent, table),
       )
-    where
-      bit_small : (b : Bool) → bit_of b ≤ 1
-      bit_small true = omega arith
-      bit_small false = omega arith
 
   -- all pages of the image, and that of the stack
   program_suffices : All (Lies (length file)) image.segments → 0 < stack_size words → stack_size words ≤ 4096 → (first : SpacesState) →
       At (λ p. None) first → Suffices 0 first →
-      (u : SpacesState) × (program_loaded segments file words d first ≡ Some u) × (2 ≤ length u.free)
+      (u : SpacesState) × (program_loaded segments file words d first ≡ Some u) × (4 ≤ length u.free)
   unfolding program_loaded
   program_suffices lie some most first h s =
       let loaded = pages_suffice first h s 851968 (omega arith) in
@@ -184,18 +186,44 @@ module _ (frames : ℕ) (kernel : KernelState) (live : is_live (slot_at kernel 1
         last.2,
       )
 
-  -- and that of the handler's stack
-  handler_suffices : (t : SpacesState) → 2 ≤ length t.free → (u : SpacesState) × (handler_stack_loaded d t ≡ Some u)
+  -- that of the handler's stack, and two frames are left
+  handler_suffices : (t : SpacesState) → t.entries d handler_page ≡ None → 4 ≤ length t.free →
+      (u : SpacesState) × (handler_stack_loaded d t ≡ Some u) × (2 ≤ length u.free)
   unfolding handler_stack_loaded
-  handler_suffices t enough =
-      let last = allocated_some t d handler_page (perm_of true) enough in (last.0.1, ap only_state last.1)
+  handler_suffices t none enough =
+      let one = allocated_some t d handler_page (perm_of true) (omega (arith, enough)) in
+      let spent = allocated_spends t one.0.1 d handler_page (perm_of true) one.0.0 none one.1 in
+      let table = bit_small (not (is_some (t.regions d (handler_page / 1024)))) in
+      (one.0.1, ap only_state one.1, omega (arith, enough, spent, table))
 
-  space_suffices : All (Lies (length file)) image.segments → 0 < stack_size words → stack_size words ≤ 4096 → (first : SpacesState) →
-      At (λ p. None) first → Suffices 0 first → (u : SpacesState) × (space_loaded segments file words d first ≡ Some u)
-  unfolding space_loaded
-  space_suffices lie some most first h s =
-      let loaded = program_suffices lie some most first h s in
-      let last = handler_suffices loaded.0 loaded.2 in (last.0, ap (option_and_then (handler_stack_loaded d)) loaded.1 ∙ last.1)
+  module _ (lie : All (Lies (length file)) image.segments) (some : 0 < stack_size words) (most : stack_size words ≤ 4096) where
+    -- and that of the console
+    console_suffices : (t : SpacesState) → At (space_memory image file words) t → 2 ≤ length t.free →
+        (u : SpacesState) × (console_loaded d t ≡ Some u)
+    unfolding console_loaded
+    console_suffices t h enough =
+        let memory = space_memory image file words in
+        let none = no_descriptor frames kernel live small image words file lie some most in
+        let none_too = no_descriptor_too frames kernel live small image words file lie some most in
+        let one = allocated_some t d (descriptor_page 0) descriptor_perm enough in (
+          last frames kernel live small memory t h none none_too one.0.0 one.0.1 one.1,
+          ap (console_in d) one.1 ∙ second_inserted frames kernel live small memory t h none none_too one.0.0 one.0.1 one.1,
+        )
+
+    space_suffices : (first : SpacesState) → At (λ p. None) first → Suffices 0 first →
+        (u : SpacesState) × (space_loaded segments file words d first ≡ Some u)
+    unfolding space_loaded
+    space_suffices first h s =
+        let loaded = program_suffices lie some most first h s in
+        let stage = program_stage frames kernel live small image words file lie some most first loaded.0 h loaded.1 in
+        let none = no_entry loaded.0 d handler_page
+        (no_row stage.has handler_page (no_handler frames kernel live small image words file lie some most)) in
+        let handler = handler_suffices loaded.0 none loaded.2 in
+        let both : option_and_then (handler_stack_loaded d) (program_loaded segments file words d first) ≡ Some handler.0 =
+        ap (option_and_then (handler_stack_loaded d)) loaded.1 ∙ handler.1 in
+        let whole = console_suffices handler.0
+        (handler_stage frames kernel live small image words file lie some most first handler.0 h both) handler.2 in
+        (whole.0, ap (option_and_then (console_loaded d)) both ∙ whole.1)
 
   -- at the beginning every region that is touched wants a table
   wanted_first : wanted 0 ≡ counted (touches_region segments) 832
@@ -209,7 +237,7 @@ module _ (frames : ℕ) (kernel : KernelState) (live : is_live (slot_at kernel 1
       and_true true = refl
       and_true false = refl
 
-  suffices_first : (first : SpacesState) → counted touched 851968 + counted (touches_region segments) 832 + 4 ≤ length first.free →
+  suffices_first : (first : SpacesState) → counted touched 851968 + counted (touches_region segments) 832 + 6 ≤ length first.free →
       Suffices 0 first
   suffices_first first le = record {
     enough = let none = counted-none touched in let regions = wanted_first in omega (arith, le, none, regions);

@@ -28,10 +28,11 @@ use Rattle.jos_run.specs.Begun.{IsNew}
 use Rattle.jos_run.specs.Boot.{server_in, program_in, program_booted, program_registers, program_started, space_loaded}
 use Rattle.jos_run.specs.LibraryRuns.{NoneRuns}
 use Rattle.jos_run.proofs.BootedPages.{HasPages}
+use Rattle.jos_run.proofs.ConsoleLoaded.{Begins, space_begins}
 use Rattle.jos_run.proofs.FirstSpaces.{HasFrames, rising-some, spaces_one, spaces_two, created_one, created_two}
 use Rattle.jos_run.proofs.FirstSpaces.{two_one_use, two_below}
 use Rattle.jos_run.proofs.FirstSpaces.{directory_one, directory_two, no_other}
-use Rattle.jos_run.proofs.PagesBegin.{Stage, space_memory, space_stage}
+use Rattle.jos_run.proofs.PagesBegin.{Stage, space_memory}
 use Rattle.jos_base.proofs.Below.{some_below-none}
 
 module _ (image : Layout) (words : List (List ℕ)) (input : List ℕ) (frames first n : ℕ) (has : HasFrames frames first n) where
@@ -188,7 +189,7 @@ module _ (image : Layout) (words : List (List ℕ)) (input : List ℕ) (frames f
   pub record HasBegun (file : List ℕ) (s : KernelState) : Type 0 where
     pub loaded : SpacesState
     pub state : s ≡ with_spaces base loaded
-    pub stage : Stage frames base refl space_small (space_memory image file words) loaded
+    pub begins : Begins frames base refl space_small (space_memory image file words) loaded
 
   pub has_begun : (file : List ℕ) (s : KernelState) → parsed file ≡ Ok image → 0 < stack_size words → stack_size words ≤ 4096 →
       program_booted image file words frames input ≡ Some s → HasBegun file s
@@ -201,7 +202,7 @@ module _ (image : Layout) (words : List (List ℕ)) (input : List ℕ) (frames f
       by_loaded (Some u) at found = record {
         loaded = u;
         state = sym (same_Some (with_spaces base u) s found);
-        stage = space_stage frames base refl space_small image words file (read_lie file image read) some small spaces u
+        begins = space_begins frames base refl space_small image words file (read_lie file image read) some small spaces u
             base_stage at;
       }
 
@@ -212,6 +213,6 @@ module _ (image : Layout) (words : List (List ℕ)) (input : List ℕ) (frames f
         refusals = refl;
         turns = refl;
         last = refl;
-        frames_are = h.stage.frames_are;
-        used = h.stage.used;
+        frames_are = h.begins.frames_are;
+        used = h.begins.used;
       })

@@ -19,7 +19,7 @@ use Rattle.jos_base.specs.SpacesState.{tabled_new, tabled_by, tabled, inserted, 
 use Rattle.jos_base.specs.Words.{upd}
 use Rattle.lib_os.specs.InOrder.{HasOneUse, AreFree}
 use Rattle.lib_os.proofs.Puts.{put-some, put-stands}
-use Rattle.jos_base.proofs.Maps.{upd-at, upd-other}
+use Rattle.jos_base.proofs.Maps.{upd-at, upd-other, upd-stays}
 use Rattle.jos_base.proofs.Puts.{put-at}
 use Rattle.jos_base.proofs.Released.{released_entries}
 
@@ -117,7 +117,7 @@ region_put s h d r space region is_table small new = record {
 }
 
 -- a page gets an entry
-entry_put : (s : SpacesState) → HasOneUse s → (d p : ℕ) (e : Entry) → s.uses e.frame ≡ page → s.uses d ≡ directory →
+pub entry_put : (s : SpacesState) → HasOneUse s → (d p : ℕ) (e : Entry) → s.uses e.frame ≡ page → s.uses d ≡ directory →
     d < frame_limit → p < page_limit → e.frame < frame_limit → e.perm < 4096 → is_some (s.regions d (p / NPTENTRIES)) ≡ true →
     HasOneUse (record s { entries = put s.entries d p (Some e) })
 entry_put s h d p e is_page space d_small p_small frame_small perm_small region = record {
@@ -333,6 +333,24 @@ allocated_entry s t d p perm f is = by_fresh (fresh_of s) is
             let at : u.entries d p ≡ Some (record { frame = g; perm = perm }) = inserted_entry first u d p
             (record { frame = g; perm = perm }) ins in
             subst (λ (z : ℕ × SpacesState). z.1.entries d p ≡ Some (record { frame = z.0; perm = perm })) both at
+
+-- ---- a page that stands somewhere gets one more entry
+
+-- where none stood, in a region that has a table
+pub inserted_beside : (s : SpacesState) (d p : ℕ) (e : Entry) → is_some (s.regions d (p / NPTENTRIES)) ≡ true → s.entries d p ≡ None →
+    s.uses e.frame ≡ page → inserted s d p e ≡ Some (record s { entries = put s.entries d p (Some e) })
+unfolding inserted tabled
+inserted_beside s d p e region none is_page = by_region (s.regions d (p / NPTENTRIES)) region
+  where
+    after : SpacesState
+    after = record s { entries = put s.entries d p (Some e) }
+
+    put_is : mapped s d p e ≡ after
+    put_is = mapped_new s d p e none ∙ (λ i. record after { uses = λ q. upd-stays s.uses e.frame page (sym is_page) q i })
+
+    by_region : (o : Option Region) → is_some o ≡ true → option_map (λ u. mapped u d p e) (tabled_by s o d (p / NPTENTRIES)) ≡ Some after
+    by_region None is = absurd cc
+    by_region (Some there) is = ap (λ (z : SpacesState). Some z) put_is
 
 -- ---- how many frames
 

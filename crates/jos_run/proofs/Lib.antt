@@ -29,6 +29,7 @@ pub mod BootedPages
 pub mod FirstSpaces
 pub mod PagesBegin
 pub mod BootedSpace
+pub mod ConsoleLoaded
 pub mod FirstState
 pub mod StartStands
 pub mod EnoughFrames

@@ -30,7 +30,7 @@ use Rattle.lib_os.proofs.Placing.{allocated_made}
 use Rattle.lib_os.proofs.UsesFound.{bytes_found}
 use Rattle.lib_os.proofs.UsesPlaced.{allocated_found}
 use Rattle.lib_spawn.specs.StackPage.{stack_contents, stack_size}
-use Rattle.jos_run.specs.Boot.{handler_page, handler_stack_loaded, program_loaded, space_loaded, stack_segment}
+use Rattle.jos_run.specs.Boot.{handler_page, handler_stack_loaded, program_loaded, stack_segment}
 use Rattle.jos_run.specs.Start.{first_memory, page_of, stack_of}
 use Rattle.jos_run.proofs.BootedPages.{HasPages, no_row, page_more}
 use Rattle.jos_run.proofs.FramesTaken.{AreBelow, Takes, allocated_entry, allocated_takes}
@@ -51,14 +51,14 @@ no_entry s d p none = by_entry (s.entries d p) refl none
     by_entry (Some e) at seen = absurd cc
 
 -- the frame of a page that is made is the one that is handed out
-made_frame : (s t : SpacesState) (d p perm f : ℕ) (made : Made s t d p perm) →
+pub made_frame : (s t : SpacesState) (d p perm f : ℕ) (made : Made s t d p perm) →
     t.entries d p ≡ Some (record { frame = f; perm = perm }) → made.frame ≡ f
 unfolding rows_of
 made_frame s t d p perm f made at =
     ap (λ (e : Entry). e.frame) (same_Some (record { frame = made.frame; perm = perm }) (lasting (record { frame = f; perm = perm }))
     (sym (row_placed made.placed) ∙ ap (option_map lasting) at))
 
-spaces_kept : (s t : SpacesState) (e : Environments) → ((f : ℕ) → is_directory (t.uses f) ≡ is_directory (s.uses f)) →
+pub spaces_kept : (s t : SpacesState) (e : Environments) → ((f : ℕ) → is_directory (t.uses f) ≡ is_directory (s.uses f)) →
     HasSpaces s e → HasSpaces t e
 spaces_kept s t e same h = record {
   in_use = λ n live. same (e.slots n).directory ∙ h.in_use n live;
@@ -307,7 +307,7 @@ module _ (frames : ℕ) (base : KernelState) (live : is_live (slot_at base 1) �
 
       -- ---- the page of the handler's stack
 
-      no_handler : first_memory image file words handler_page ≡ None
+      pub no_handler : first_memory image file words handler_page ≡ None
       no_handler = by_touch (any_touches handler_page segments) refl
         where
           by_touch : (touch : Bool) → any_touches handler_page segments ≡ touch → first_memory image file words handler_page ≡ None
@@ -315,10 +315,11 @@ module _ (frames : ℕ) (base : KernelState) (live : is_live (slot_at base 1) �
           by_touch false is =
               ap (λ (c : Bool). if c then Some (own (page_bytes segments file handler_page) (any_writes handler_page segments)) else None) is
 
-      pub space_stage : (first u : SpacesState) → Stage (λ p. None) first →
-          space_loaded segments file words space first ≡ Some u → Stage (space_memory image file words) u
-      unfolding space_loaded handler_stack_loaded
-      space_stage first u h is = by_program (program_loaded segments file words space first) refl is
+      pub handler_stage : (first u : SpacesState) → Stage (λ p. None) first →
+          option_and_then (handler_stack_loaded space) (program_loaded segments file words space first) ≡ Some u →
+          Stage (space_memory image file words) u
+      unfolding handler_stack_loaded
+      handler_stage first u h is = by_program (program_loaded segments file words space first) refl is
         where
           by_frame : (t : SpacesState) → Stage (first_memory image file words) t → (o : Option (ℕ × SpacesState)) →
               allocated t space handler_page (perm_of true) ≡ o → only_state o ≡ Some u → Stage (space_memory image file words) u

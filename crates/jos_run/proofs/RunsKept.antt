@@ -255,6 +255,15 @@ step_phase v k b service.Fork (step.Remap id page) h = (_, h.0.phase)
 step_phase v k b service.Fork (step.ChildStack id) h = (_, h.phase)
 step_phase v k b service.Fork (step.ChildUpcall id) h = (_, h.phase)
 step_phase v k b service.Fork (step.ChildRuns id) h = (_, h.phase)
+step_phase v k b service.Exit (step.DescriptorEntry fd) h = (_, h.0.phase)
+step_phase v k b service.Exit (step.DroppingDescriptor fd) h = (_, h.0.phase)
+step_phase v k b service.Exit step.Ending h = (_, h.0.phase)
+step_phase v k b (service.Close fd) (step.DescriptorEntry at) h = (_, h.0.phase)
+step_phase v k b (service.Close fd) (step.DroppingDescriptor at) h = (_, h.0.phase)
+step_phase v k b (service.Dup old new) (step.DescriptorEntry at) h = (_, h.0.phase)
+step_phase v k b (service.Dup old new) step.TargetEntry h = (_, h.0.phase)
+step_phase v k b (service.Dup old new) (step.DroppingDescriptor at) h = (_, h.0.phase)
+step_phase v k b (service.Dup old new) step.MappingDescriptor h = (_, h.0.phase)
 step_phase v k b _ _ h = absurd h
 
 pausing_phase : (v : View) (k : Slot) (b : Born) (p : Place) → StandsAt p v k b → is_pausing p ≡ true → waits_in b.phase ≡ true

@@ -11,12 +11,14 @@ use Rattle.lib_os.specs.Places.{place_of}
 use Rattle.lib_os.specs.Services.{is_built_service}
 use Rattle.lib_os.proofs.BuiltServices.{built_at}
 use Rattle.lib_stage.specs.ServiceSteps.{ServiceHolds}
+use Rattle.lib_fd.proofs.CloseLaw.{close_holds}
+use Rattle.lib_fd.proofs.DupLaw.{dup_holds}
+use Rattle.lib_fd.proofs.ExitLaw.{exit_holds}
 use Rattle.lib_fork.proofs.ForkLaw.{fork_holds}
 use Rattle.lib_mem.specs.declared.services.MemoryService.TheVariants as memory
 use Rattle.lib_mem.proofs.MemoryLaw.{memory_holds}
 use Rattle.lib_msg.proofs.ReceiveLaw.{receive_holds}
 use Rattle.lib_msg.proofs.SendLaw.{send_holds}
-use Rattle.lib_spawn.proofs.Exits.{exit_holds}
 use Rattle.lib_spawn.proofs.WaitLaw.{wait_holds}
 use Rattle.jos_run.specs.Plans.{plan_at}
 
@@ -24,7 +26,7 @@ module _ (s : KernelState) (n : ℕ) (live : is_live (slot_at s n) ≡ true)
     (awake : (is_runnable (slot_at s n).status || is_running (slot_at s n).status) ≡ true) (small : (slot_at s n).registers.ecx < 2 ^ 32)
     (at : Step) where
   by_service : (of : Service) → is_built_service of ≡ true → place_of (slot_at s n) ≡ place.InService of at → ServiceHolds s n (plan_at of at)
-  by_service service.Exit built stands = exit_holds s n at stands live
+  by_service service.Exit built stands = exit_holds s n live at stands
   by_service (service.Cputs va len) built stands = memory_holds s n at live (memory.Cputs va len) stands
   by_service service.GetId built stands = memory_holds s n at live memory.GetId stands
   by_service service.Yield built stands = memory_holds s n at live memory.Yield stands
@@ -34,6 +36,8 @@ module _ (s : KernelState) (n : ℕ) (live : is_live (slot_at s n) ≡ true)
   by_service (service.PageDrop va) built stands = memory_holds s n at live (memory.PageDrop va) stands
   by_service (service.Send id value va) built stands = send_holds s n id value va live small at stands
   by_service (service.Receive va from) built stands = receive_holds s n va from live awake at stands
+  by_service (service.Close fd) built stands = close_holds s n fd live at stands
+  by_service (service.Dup old new) built stands = dup_holds s n old new live at stands
   by_service service.Unknown built stands = memory_holds s n at live memory.Unknown stands
   by_service _ built stands = absurd (false≢true built)
 

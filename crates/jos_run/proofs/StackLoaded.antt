@@ -1,8 +1,9 @@
--- The page of a program's stack is loaded, and that of the stack of its handler of page faults, and then the program begins.
+-- The page of a program's stack is loaded, that of the stack of its handler of page faults, and that of the console, and then the
+-- program begins.
 use Rattle.std.proofs.Common.{◌≡◌, ◌∙◌, ℕ, ◌+◌, ◌-◌, ◌/◌, ◌<◌, ◌≤◌, ◌&&◌, ◌||◌, Bool, true, false, List, [], ◌∷◌, Option, Some}
-use Rattle.std.proofs.Common.{None, Ok, Err}
+use Rattle.std.proofs.Common.{None, Result, Ok, Err}
 use Rattle.std.proofs.Common.{take, refl, sym, ap, subst, arith}
-use Rattle.std.specs.Prelude.{IfSome, IsNone, is_some, nat_lt, option_and_then}
+use Rattle.std.specs.Prelude.{IfSome, IsNone, OnErr, OnOk, is_ok, is_some, nat_lt, option_and_then}
 use Rattle.std.specs.Option.{option_map}
 use Rattle.std.proofs.lemmas.Bool.{lt-ltb}
 use Rattle.std.proofs.lemmas.List.{take_all}
@@ -13,17 +14,18 @@ use Rattle.jos_base.specs.declared.memory.Frame.{Frame}
 use Rattle.jos_base.specs.declared.numbers.TheConstants.{FDTABLE, PGSIZE}
 use Rattle.jos_base.specs.declared.registers.Regs.{Regs}
 use Rattle.jos_base.specs.KernelState.{KernelState, slot_at, with_env_type, with_registers, with_spaces, with_status, with_upcall}
-use Rattle.jos_base.specs.SpacesState.{SpacesState, allocated, overlaid}
+use Rattle.jos_base.specs.Reach.{Entry}
+use Rattle.jos_base.specs.SpacesState.{SpacesState, allocated, inserted, overlaid, with_page_bytes, zero_page}
 use Rattle.jos_base.specs.SystemCalls.{environment_made}
 use Rattle.jos_elf.specs.declared.image.Segment.{Segment}
 use Rattle.jos_elf.specs.Parsed.{Layout}
 use Rattle.jos_kernel.specs.Boot.{any_touches, any_writes, laid_all, only_state, page_loaded, pages_loaded, stack_page, touches}
-use Rattle.jos_kernel.specs.Loading.{Loads}
+use Rattle.jos_kernel.specs.Loading.{Loads, with_bytes_in}
 use Rattle.jos_kernel.proofs.Laying.{laid-part}
 use Rattle.lib_os.specs.declared.numbers.TheConstants.{PGFAULT_UPCALL}
 use Rattle.lib_spawn.specs.StackPage.{stack_contents, stack_pointer, stack_size}
 use Rattle.lib_spawn.proofs.StackPages.{Fits, stack-has_size}
-use Rattle.jos_run.specs.Boot.{stack_segment, program_loaded, handler_stack_loaded, space_loaded}
+use Rattle.jos_run.specs.Boot.{stack_segment, program_loaded, handler_stack_loaded, console_bytes, console_in, console_loaded, space_loaded}
 use Rattle.jos_run.specs.Boot.{program_registers, program_started, program_in, server_in}
 
 -- ---- the page of the stack
@@ -102,18 +104,32 @@ module _ (segments : List Segment) (file : List ℕ) (words : List (List ℕ)) (
   unfolding program_loaded
   program-loads = then-loads stack_next image_pages slot s t
 
-  -- and that of the handler's stack
+  -- then that of the handler's stack, and then that of the console
 
-  pub space-none : Loads (program_loaded segments file words (slot_at s slot).directory s.spaces) false s t →
-      Loads (space_loaded segments file words (slot_at s slot).directory s.spaces) false s t
-  unfolding space_loaded
-  space-none = then-none handler_stack_loaded (program_loaded segments file words (slot_at s slot).directory s.spaces) slot s t
+  abbrev program_pages : Option SpacesState
+  program_pages = program_loaded segments file words (slot_at s slot).directory s.spaces
 
-  pub space-loads : Loads (program_loaded segments file words (slot_at s slot).directory s.spaces) true s t → (some : Bool) (u : KernelState) →
-      Loads (handler_stack_loaded (slot_at t slot).directory t.spaces) some t u →
-      Loads (space_loaded segments file words (slot_at s slot).directory s.spaces) some s u
+  abbrev handler_pages : Option SpacesState
+  handler_pages = option_and_then (handler_stack_loaded (slot_at s slot).directory) program_pages
+
+  pub space-none : Loads program_pages false s t → Loads (space_loaded segments file words (slot_at s slot).directory s.spaces) false s t
   unfolding space_loaded
-  space-loads = then-loads handler_stack_loaded (program_loaded segments file words (slot_at s slot).directory s.spaces) slot s t
+  space-none h = then-none console_loaded handler_pages slot s t (then-none handler_stack_loaded program_pages slot s t h)
+
+  pub handler-none : Loads program_pages true s t → (u : KernelState) →
+      Loads (handler_stack_loaded (slot_at t slot).directory t.spaces) false t u →
+      Loads (space_loaded segments file words (slot_at s slot).directory s.spaces) false s u
+  unfolding space_loaded
+  handler-none h u more =
+      then-none console_loaded handler_pages slot s u (then-loads handler_stack_loaded program_pages slot s t h false u more)
+
+  pub space-loads : Loads program_pages true s t → (u : KernelState) →
+      Loads (handler_stack_loaded (slot_at t slot).directory t.spaces) true t u → (some : Bool) (v : KernelState) →
+      Loads (console_loaded (slot_at u slot).directory u.spaces) some u v →
+      Loads (space_loaded segments file words (slot_at s slot).directory s.spaces) some s v
+  unfolding space_loaded
+  space-loads h u more some v last =
+      then-loads console_loaded handler_pages slot s u (then-loads handler_stack_loaded program_pages slot s t h true u more) some v last
 
 module _ (s t : KernelState) (d : ℕ) (rest : t ≡ with_spaces s t.spaces) where
   pub handler-loads : (page : Option Frame) (some : Bool) → some ≡ is_some page →
@@ -124,6 +140,49 @@ module _ (s t : KernelState) (d : ℕ) (rest : t ≡ with_spaces s t.spaces) whe
       subst (λ (b : Bool). Loads (handler_stack_loaded d s.spaces) b s t) (sym is) (ap only_state found, rest)
   handler-loads None some is found absent =
       subst (λ (b : Bool). Loads (handler_stack_loaded d s.spaces) b s t) (sym is) (ap only_state (absent refl), rest)
+
+-- ---- the page of the console
+
+module _ (slot : ℕ) (s t : KernelState) (rest : t ≡ with_spaces s t.spaces) where
+  abbrev console : Option SpacesState
+  console = console_loaded (slot_at s slot).directory s.spaces
+
+  pub console-none : allocated s.spaces (slot_at s slot).directory 851968 1031 ≡ None → Loads console false s t
+  unfolding console_loaded
+  console-none none = (ap (console_in (slot_at s slot).directory) none, rest)
+
+  module _ (u v : KernelState) (frame : ℕ) (bytes : List ℕ)
+      (made : allocated s.spaces (slot_at s slot).directory 851968 1031 ≡ Some (frame, t.spaces)) (clear : t.spaces.pages frame ≡ zero_page)
+      (bytes_are : bytes ≡ console_bytes) (laid : u ≡ with_bytes_in t frame (overlaid (t.spaces.pages frame) 0 bytes))
+      (last : v ≡ with_spaces u v.spaces) where
+    abbrev entry : Entry
+    entry = record { frame = frame; perm = 1031 }
+
+    -- its second entry
+    abbrev second : Option SpacesState
+    second = inserted u.spaces (slot_at u slot).directory 851969 entry
+
+    space_is : (slot_at u slot).directory ≡ (slot_at s slot).directory
+    space_is = ap (λ (k : KernelState). (slot_at k slot).directory) laid ∙ ap (λ (k : KernelState). (slot_at k slot).directory) rest
+
+    spaces_are : u.spaces ≡ with_page_bytes t.spaces frame (overlaid zero_page 0 console_bytes)
+    spaces_are = ap (λ (k : KernelState). k.spaces) laid
+        ∙ (λ i. with_page_bytes t.spaces frame (overlaid (clear i) 0 (bytes_are i)))
+
+    whole : console ≡ second
+    unfolding console_loaded
+    whole = ap (console_in (slot_at s slot).directory) made
+        ∙ sym (λ i. inserted (spaces_are i) (space_is i) 851969 entry)
+
+    rest_is : v ≡ with_spaces s v.spaces
+    rest_is = last ∙ ap (λ (k : KernelState). with_spaces k v.spaces) laid ∙ ap (λ (k : KernelState). with_spaces k v.spaces) rest
+
+    pub console-loads : {U E : Type 0} (some : Bool) (result : Result U E) → some ≡ is_ok result → OnOk result (second ≡ Some v.spaces) →
+        OnErr result (second ≡ None) → Loads console some s v
+    console-loads some (Ok unit) is done none =
+        subst (λ (b : Bool). Loads console b s v) (sym is) (whole ∙ done, rest_is)
+    console-loads some (Err error) is done none =
+        subst (λ (b : Bool). Loads console b s v) (sym is) (whole ∙ none, rest_is)
 
 -- ---- the environments
 

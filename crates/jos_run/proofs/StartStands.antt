@@ -1,49 +1,59 @@
 -- A program that is booted stands for the abstract state in which its run begins.
-use Rattle.std.proofs.Common.{◌≡◌, ◌∙◌, ◌+◌, ◌-◌, ◌*◌, ◌≤◌, ◌||◌, ◌&&◌, ℕ, not, Bool, true, false, List}
+use Rattle.std.proofs.Common.{◌≡◌, ◌≢◌, ◌∙◌, ◌⊎◌, inl, inr, ◌+◌, ◌-◌, ◌*◌, ◌<◌, ◌≤◌, ◌==◌, ◌||◌, ◌&&◌, ℕ, not, Bool, true, false, List, [], ◌∷◌}
 use Rattle.std.proofs.Common.{Option, Some, None, Ok, All, length}
 use Rattle.std.proofs.Common.{refl, sym, ap, subst, arith, if◌then◌else◌}
 use Rattle.std.specs.Prelude.{nat_le, nat_lt}
 use Rattle.std.specs.Option.{option_map}
-use Rattle.std.proofs.lemmas.Bool.{false≢true}
+use Rattle.std.proofs.lemmas.Bool.{cases_eq, false≢true}
 use Rattle.std.proofs.lemmas.Bool.Decides.{nat_tests}
-use Rattle.std.proofs.lemmas.Option.{none-some}
+use Rattle.std.proofs.lemmas.Option.{none-some, same_Some}
+use Rattle.jos_base.specs.declared.numbers.TheConstants.{USTACKTOP, UTEMP}
 use Rattle.jos_base.specs.declared.registers.Regs.{Regs}
 use Rattle.jos_base.specs.Environments.{Slot, is_live, no_extra, zero_registers}
 use Rattle.jos_base.specs.KernelState.{KernelState, with_spaces}
 use Rattle.jos_base.specs.Reach.{Entry}
-use Rattle.jos_base.specs.SpacesState.{SpacesState, reserved_frames}
+use Rattle.jos_base.specs.SpacesState.{SpacesState, reserved_frames, zero_page}
 use Rattle.jos_base.specs.SystemCalls.{has_write}
+use Rattle.jos_base.specs.TrapFrames.{bytes_of_words}
 use Rattle.jos_elf.specs.Parsed.{Layout, Lies, parsed}
 use Rattle.jos_kernel.specs.Boot.{perm_of}
 use Rattle.jos_kernel.proofs.ImagesRead.{read_lie}
+use Rattle.lib_os.specs.declared.numbers.TheConstants.{DEVICE_CONSOLE}
 use Rattle.lib_os.specs.declared.place.Place.{Place}
 use Rattle.lib_os.specs.declared.place.Place.TheVariants as place
-use Rattle.lib_os.specs.AbstractState.{Born, Page, free, own, named, unborn}
+use Rattle.lib_os.specs.AbstractMemory.{has_page_in}
+use Rattle.lib_os.specs.AbstractState.{Born, Page, free, own, named, terminal, unborn}
+use Rattle.lib_os.specs.DescriptorPages.{device_of}
 use Rattle.lib_os.specs.Fence.{in_fence, is_resident}
-use Rattle.lib_os.specs.LibraryPages.{LibraryPages, is_library_region}
+use Rattle.lib_os.specs.LibraryPages.{LibraryPages, region_index}
 use Rattle.lib_os.specs.LibrarySteps.{Stands}
 use Rattle.lib_os.specs.Places.{is_handlers, place_of}
-use Rattle.lib_os.specs.Rows.{EntryRow, IsUsers, Names, counted, is_programs, is_shared, logical, logical_by, may_write, page_by, page_seen}
-use Rattle.lib_os.specs.Rows.{rows_of, seen_where}
+use Rattle.lib_os.specs.Rows.{Agree, EntryRow, IsNamed, IsPage, IsUsers, Names, counted, is_programs, is_shared, logical, logical_by, may_write}
+use Rattle.lib_os.specs.Rows.{descriptor_page, descriptor_perm, descriptor_seen, is_descriptor, name_of, page_by, page_seen, rows_of, seen_where}
+use Rattle.lib_os.specs.Rows.{shown_at}
 use Rattle.lib_os.specs.StandsFor.{HasChildren, StandsFor, StandsForBorn, borne_in, upcall_at, view_of}
+use Rattle.lib_os.proofs.Logical.{programs_no_descriptor}
+use Rattle.lib_os.proofs.PageBytes.{page_overlaid, words_bytes, zero_page_whole}
 use Rattle.lib_os.proofs.Serving.{words_of_none}
 use Rattle.lib_os.proofs.TwoSlots as two
 use Rattle.lib_spawn.specs.StackPage.{fits_stack, stack_pointer, stack_size, strings_of}
 use Rattle.lib_spawn.proofs.StackPages.{fits}
 use Rattle.lib_os.specs.Rows.{AreBytes}
 use Rattle.jos_run.specs.Begun.{IsNew, ProgramsBegin}
-use Rattle.jos_run.specs.Boot.{booted_within}
-use Rattle.jos_run.specs.Start.{first_memory, program_with, start_state}
+use Rattle.jos_run.specs.Boot.{booted_within, console_bytes, handler_page}
+use Rattle.jos_run.specs.Start.{first_descriptors, first_memory, program_with, start_state}
 use Rattle.jos_run.proofs.Booted.{within-booted}
 use Rattle.jos_run.proofs.BootedPages.{IsPlain, own_by}
 use Rattle.jos_run.proofs.BootedSpace.{flags_are, handler_row, inside_pages, outside_no_page, outside_no_row, pages_whole, tables_are}
+use Rattle.jos_run.proofs.ConsoleLoaded.{Begins, console_page, descriptor_entry}
 use Rattle.jos_run.proofs.FirstSpaces.{HasFrames, has_frames, rising-slots}
 use Rattle.jos_run.proofs.FirstState.{base, begun_new, has_begun, registers, space_small}
-use Rattle.jos_run.proofs.PagesBegin.{Stage, space_memory}
+use Rattle.jos_run.proofs.PagesBegin.{space_memory}
 use Rattle.jos_run.proofs.StackLoaded.{fits-some}
 
-abbrev pub the_names : Names
-the_names = record { name = λ f. f; frame = λ name. name }
+-- the name of the console, which stands in this frame
+abbrev pub the_names : ℕ → Names
+the_names f = record { name = λ g. 0; frame = λ name. f; is_object = λ name. true }
 
 -- ---- pages of an environment's own, which may be written or not
 
@@ -71,6 +81,46 @@ plain_page perm (w, is) bytes name =
         else own bytes (may_write (perm_of b)))
     by_bits true = refl
     by_bits false = refl
+
+-- ---- the page of the console
+
+console_device : device_of console_page ≡ DEVICE_CONSOLE
+unfolding bytes_of_words
+console_device = refl
+
+console_whole : IsPage console_page
+unfolding bytes_of_words
+console_whole = page_overlaid zero_page 0 console_bytes (omega arith) (words_bytes (99 ∷ 0 ∷ 2 ∷ 0 ∷ [])) zero_page_whole
+
+console_users : IsUsers descriptor_perm
+console_users = record { page = refl; copied = λ is_cow. absurd (false≢true is_cow) }
+
+-- it stands where no page of a program's is
+descriptor_outside : (p : ℕ) → is_descriptor p ≡ true → is_programs p ≡ false
+descriptor_outside p is = by_test (is_programs p) refl
+  where
+    by_test : (t : Bool) → is_programs p ≡ t → is_programs p ≡ false
+    by_test true inside = absurd (false≢true (sym (programs_no_descriptor p inside) ∙ is))
+    by_test false outside = outside
+
+descriptor_is : (fd : ℕ) → fd < 32 → is_descriptor (descriptor_page fd) ≡ true
+descriptor_is fd lt =
+    let low : nat_le 851968 (851968 + fd) ≡ true = grind (arith, nat_tests) in
+    let high : nat_lt (851968 + fd) 852000 ≡ true = grind (arith, nat_tests) in
+    ap (λ (t : Bool). t && nat_lt (851968 + fd) 852000) low ∙ high
+
+-- a region of the descriptors' is one of the library's
+or_true : (t : Bool) → (t || true) ≡ true
+or_true true = refl
+or_true false = refl
+
+librarys_too : (has work descriptors stacks : Bool) → (descriptors || has) ≡ true → (has || (work || descriptors || stacks)) ≡ true
+librarys_too true work descriptors stacks is = refl
+librarys_too false true descriptors stacks is = refl
+librarys_too false false true stacks is = refl
+librarys_too false false false stacks is = absurd (false≢true is)
+
+-- ---- counted entries
 
 guests_count : (row : EntryRow) (p : ℕ) → counted place.Guest row p ≡ row p
 unfolding counted
@@ -110,48 +160,130 @@ module _ (image : Layout) (words : List (List ℕ)) (input : List ℕ) (frames f
 
   module _ (file : List ℕ) (file_bytes : AreBytes file) (word_bytes : AreBytes (strings_of words))
       (lie : All (Lies (length file)) image.segments) (u : SpacesState)
-      (h : Stage frames (base image words input frames first n has) refl (space_small image words input frames first n has)
+      (h : Begins frames (base image words input frames first n has) refl (space_small image words input frames first n has)
       (space_memory image file words) u) where
+    abbrev names : Names
+    names = the_names h.has.frame
+
     abbrev row : EntryRow
     row = rows_of u (first + 1)
+
+    abbrev before : SpacesState
+    before = h.has.before
+
+    -- what stood there before the console
+    abbrev row_before : EntryRow
+    row_before = rows_of before (first + 1)
+
+    abbrev console : Entry
+    console = descriptor_entry h.has.frame
 
     abbrev born : Born
     born = program_with image words (first_memory image file words)
 
+    -- ---- what stands in its space
+
+    abbrev IsConsoles : ℕ → Entry → Type 0
+    IsConsoles p x = (is_descriptor p ≡ true) × (x ≡ console)
+
+    abbrev StoodBefore : ℕ → Entry → Type 0
+    StoodBefore p x = (is_descriptor p ≡ false) × (row_before p ≡ Some x)
+
+    none_before : (p : ℕ) → is_descriptor p ≡ true → row_before p ≡ None
+    none_before p is = outside_no_row image file words lie h.has.had p (descriptor_outside p is)
+        (λ same. false≢true (sym (ap (λ (q : ℕ). is_descriptor q) same) ∙ is))
+
+    row_is : (p : ℕ) → is_descriptor p ≡ false → row p ≡ row_before p
+    row_is p other = h.has.rows p (λ same. false≢true (sym other ∙ ap (λ (q : ℕ). is_descriptor q) same))
+        (λ same. false≢true (sym other ∙ ap (λ (q : ℕ). is_descriptor q) same))
+
+    which : (p : ℕ) (x : Entry) → row p ≡ Some x → IsConsoles p x ⊎ StoodBefore p x
+    which p x is = elim (cases_eq p (descriptor_page 0)) [
+      | inl same ↦ inl (ap (λ (q : ℕ). is_descriptor q) same, same_Some x console (sym is ∙ ap row same ∙ h.has.first))
+      | inr ne ↦ elim (cases_eq p (descriptor_page 1)) [
+        | inl same ↦ inl (ap (λ (q : ℕ). is_descriptor q) same, same_Some x console (sym is ∙ ap row same ∙ h.has.second))
+        | inr ne_too ↦ inr (by_test (is_descriptor p) refl (sym (h.has.rows p ne ne_too) ∙ is))
+      ]
+    ]
+      where
+        by_test : (t : Bool) → is_descriptor p ≡ t → row_before p ≡ Some x → StoodBefore p x
+        by_test true at there = absurd (none-some x (sym (none_before p at) ∙ there))
+        by_test false at there = (at, there)
+
     -- ---- the program
 
-    seen_own : (p : ℕ) → option_map (own_by u.pages) (row p) ≡ option_map (page_by the_names u.pages) (row p)
-    seen_own p = by_entry (row p) refl
+    seen_own : (p : ℕ) → option_map (own_by before.pages) (row_before p) ≡ option_map (page_by names u.pages) (row_before p)
+    seen_own p = by_entry (row_before p) refl
       where
-        by_entry : (o : Option Entry) → row p ≡ o → option_map (own_by u.pages) o ≡ option_map (page_by the_names u.pages) o
+        by_entry : (o : Option Entry) → row_before p ≡ o → option_map (own_by before.pages) o ≡ option_map (page_by names u.pages) o
         by_entry None at = refl
-        by_entry (Some x) at = ap (λ (page : Page). Some page) (plain_page x.perm (h.has.plain p x at) (u.pages x.frame) x.frame)
+        by_entry (Some x) at =
+            ap (λ (bytes : List ℕ). Some (own bytes (has_write x.perm))) (sym (h.has.bytes p x at))
+            ∙ ap (λ (page : Page). Some page) (plain_page x.perm (h.has.had.plain p x at) (u.pages x.frame) 0)
 
-    memory_seen : (p : ℕ) → first_memory image file words p ≡ page_seen the_names u (first + 1) p
+    memory_seen : (p : ℕ) → first_memory image file words p ≡ page_seen names u (first + 1) p
     memory_seen p = by_test (is_programs p) refl
       where
-        by_test : (t : Bool) → is_programs p ≡ t → first_memory image file words p ≡ page_seen the_names u (first + 1) p
+        by_test : (t : Bool) → is_programs p ≡ t → first_memory image file words p ≡ page_seen names u (first + 1) p
         by_test true inside =
-            inside_pages image file words lie h.has p inside ∙ seen_own p
-            ∙ sym (ap (λ (t : Bool). seen_where t (option_map (page_by the_names u.pages) (row p))) inside)
+            inside_pages image file words lie h.has.had p inside ∙ seen_own p
+            ∙ sym (ap (option_map (page_by names u.pages)) (row_is p (programs_no_descriptor p inside)))
+            ∙ sym (ap (λ (t : Bool). seen_where t (option_map (page_by names u.pages) (row p))) inside)
         by_test false outside =
             outside_no_page image file words lie p outside
-            ∙ sym (ap (λ (t : Bool). seen_where t (option_map (page_by the_names u.pages) (row p))) outside)
+            ∙ sym (ap (λ (t : Bool). seen_where t (option_map (page_by names u.pages) (row p))) outside)
 
     library_pages : LibraryPages place.Guest row
     library_pages = record {
-      stack = let e = handler_row image file words lie h.has in record {
+      stack = let e = handler_row image file words lie h.has.had in record {
         entry = e.entry;
-        stands = e.stands;
+        stands = row_is handler_page refl ∙ e.stands;
         own_page = ap is_shared e.perm;
         writes = ap has_write e.perm;
       };
       copy = λ is. absurd (false≢true is);
-      no_copy = λ is. outside_no_row image file words lie h.has 2047 no_copy_inside (λ same. omega (arith, same));
-      none = λ p outside other too. outside_no_row image file words lie h.has p outside other;
+      no_copy = λ is. row_is 2047 refl ∙ outside_no_row image file words lie h.has.had 2047 no_copy_inside (λ same. omega (arith, same));
+      descriptors = λ p entry is there. elim (which p entry there) [
+        | inl consoles ↦ ap (λ (e : Entry). e.perm) consoles.1
+        | inr stood ↦ absurd (false≢true (sym stood.0 ∙ is))
+      ];
+      none = λ p outside no_descriptor other too. row_is p no_descriptor ∙ outside_no_row image file words lie h.has.had p outside other;
     }
 
-    program_stands : StandsForBorn the_names u program born
+    -- the first two descriptors name the console, and there are no others
+    abbrev Seen : ℕ → Type 0
+    Seen fd = first_descriptors fd ≡ descriptor_seen names u (first + 1) fd
+
+    named_there : row (descriptor_page 0) ≡ Some console → Some 0 ≡ name_of (shown_at names u (first + 1) (descriptor_page 0))
+    named_there is = sym (ap (λ (o : Option Entry). name_of (option_map (page_by names u.pages) o)) is)
+
+    named_there_too : row (descriptor_page 1) ≡ Some console → Some 0 ≡ name_of (shown_at names u (first + 1) (descriptor_page 1))
+    named_there_too is = sym (ap (λ (o : Option Entry). name_of (option_map (page_by names u.pages) o)) is)
+
+    no_more : (fd : ℕ) → 2 ≤ fd → Seen fd
+    no_more fd le = by_tests (nat_lt fd 2) (nat_lt fd 32) refl refl
+      where
+        by_tests : (s t : Bool) → nat_lt fd 2 ≡ s → nat_lt fd 32 ≡ t →
+            (if s then Some 0 else None) ≡ (if t then name_of (shown_at names u (first + 1) (descriptor_page fd)) else None)
+        by_tests true t low below = absurd (let less : fd < 2 = grind (arith, nat_tests) in omega (arith, less, le))
+        by_tests false false low below = refl
+        by_tests false true low below =
+            let less : fd < 32 = grind (arith, nat_tests) in
+            let nothing : row (descriptor_page fd) ≡ None =
+            h.has.rows (descriptor_page fd) (λ same. omega (arith, same, le)) (λ same. omega (arith, same, le))
+            ∙ none_before (descriptor_page fd) (descriptor_is fd less) in
+            sym (ap (λ (o : Option Entry). name_of (option_map (page_by names u.pages) o)) nothing)
+
+    descriptors_seen : (fd : ℕ) → Seen fd
+    descriptors_seen fd = elim (cases_eq fd 0) [
+      | inl same ↦ subst (λ (k : ℕ). Seen k) (sym same) (named_there h.has.first)
+      | inr some ↦ elim (cases_eq fd 1) [
+        | inl same ↦ subst (λ (k : ℕ). Seen k) (sym same) (named_there_too h.has.second)
+        | inr more ↦ no_more fd (grind (arith, nat_tests))
+      ]
+    ]
+
+    program_stands : StandsForBorn names u program born
     program_stands = record {
       id = refl;
       id_small = omega arith;
@@ -159,11 +291,14 @@ module _ (image : Layout) (words : List (List ℕ)) (input : List ℕ) (frames f
       env_type = refl;
       runs = tt;
       upcall = sym (ap upcall_at program_place);
-      descriptors = λ fd. refl;
+      descriptors = descriptors_seen;
       memory = memory_seen;
       library = subst (λ (at : Place). LibraryPages at row) (sym program_place) library_pages;
-      regions_have = λ r is. sym (tables_are image file words lie h.has r) ∙ is;
-      regions_only = λ r is. ap (λ (t : Bool). t || is_library_region r) (tables_are image file words lie h.has r ∙ is);
+      regions_have = λ r is. h.has.tables r
+          ∙ ap (λ (t : Bool). (r == 832) || t) (sym (tables_are image file words lie h.has.had r) ∙ is) ∙ or_true (r == 832);
+      regions_only = λ r is. librarys_too (has_page_in (first_memory image file words) r) (r == region_index UTEMP) (r == 832)
+          (r == region_index USTACKTOP)
+          (ap (λ (t : Bool). (r == 832) || t) (tables_are image file words lie h.has.had r) ∙ sym (h.has.tables r) ∙ is);
       stack = λ i. no_handler i || not (not_resident i);
       flags = flags_are image.entry words;
       at = two.at_start first (first + 1) regs no_handler (view_of u (first + 1)) born refl refl refl;
@@ -208,26 +343,58 @@ module _ (image : Layout) (words : List (List ℕ)) (input : List ℕ) (frames f
         (λ id parent is. absurd cc) (λ id parent is. absurd cc)
         (λ m a b id parent is. let none : free 0 ≡ unborn id parent = rw (a, b) at is in absurd cc)
 
-    no_children : HasChildren the_names u (two.slots first (first + 1) regs) (two.slot_of born)
+    no_children : HasChildren names u (two.slots first (first + 1) regs) (two.slot_of born)
     no_children = record {
       borne = λ m id parent is. absurd (no_child m id parent is);
       have = λ m id b is bears. absurd (none-some id (sym (bears_none m) ∙ bears));
     }
 
+    -- ---- each entry
+
+    agree : (p q : ℕ) (x y : Entry) → p ≢ q → x.frame ≡ y.frame → IsConsoles p x ⊎ StoodBefore p x → IsConsoles q y ⊎ StoodBefore q y →
+        Agree x.perm y.perm
+    agree p q x y ne same (inl a) (inl b) = record {
+      shared = ap (λ (e : Entry). is_shared e.perm) (a.1 ∙ sym b.1);
+      read_only = λ none. absurd (false≢true (sym none ∙ ap (λ (e : Entry). is_shared e.perm) a.1));
+    }
+    agree p q x y ne same (inl a) (inr b) = absurd (h.has.others q y b.1 (sym same ∙ ap (λ (e : Entry). e.frame) a.1))
+    agree p q x y ne same (inr a) (inl b) = absurd (h.has.others p x a.1 (same ∙ ap (λ (e : Entry). e.frame) b.1))
+    agree p q x y ne same (inr a) (inr b) = absurd (h.has.had.alone p q x y ne a.1 b.1 same)
+
+    named_so : (p : ℕ) (x : Entry) → is_shared x.perm ≡ true → IsConsoles p x ⊎ StoodBefore p x →
+        IsNamed names u.pages (λ name. []) (λ name. terminal) 1 p x.frame
+    named_so p x shared_page (inl consoles) = record {
+      home = sym (ap (λ (e : Entry). e.frame) consoles.1);
+      kind = sym consoles.0;
+      shows = ap (λ (e : Entry). device_of (u.pages e.frame)) consoles.1 ∙ ap (λ (bytes : List ℕ). device_of bytes) h.has.shows ∙ console_device;
+      old = omega arith;
+    }
+    named_so p x shared_page (inr stood) = absurd (false≢true (sym (plain_own x.perm (h.has.had.plain p x stood.1)) ∙ shared_page))
+
+    users_are : (p : ℕ) (x : Entry) → IsConsoles p x ⊎ StoodBefore p x → IsUsers x.perm
+    users_are p x (inl consoles) = subst (λ (e : Entry). IsUsers e.perm) (sym consoles.1) console_users
+    users_are p x (inr stood) = plain_users x.perm (h.has.had.plain p x stood.1)
+
+    whole_page : (p : ℕ) (x : Entry) → IsConsoles p x ⊎ StoodBefore p x → IsPage (u.pages x.frame)
+    whole_page p x (inl consoles) =
+        subst (λ (bytes : List ℕ). IsPage bytes) (sym (ap (λ (e : Entry). u.pages e.frame) consoles.1 ∙ h.has.shows)) console_whole
+    whole_page p x (inr stood) =
+        subst (λ (bytes : List ℕ). IsPage bytes) (sym (h.has.bytes p x stood.1))
+        (pages_whole image file words file_bytes word_bytes h.has.had p x stood.1)
+
     -- ---- the whole
 
-    pub state_stands : StandsFor the_names (with_spaces (base image words input frames first n has) u) (start_state image file words input)
+    pub state_stands : StandsFor names (with_spaces (base image words input frames first n has) u) (start_state image file words input)
     state_stands = record {
-      slots = two.slot_stands first (first + 1) regs the_names u born
+      slots = two.slot_stands first (first + 1) regs names u born
           (two.server_stands first (first + 1) regs u no_server_row
           (λ r. h.has.tables_elsewhere first r (λ same. omega (arith, same)))) program_stands;
       children = no_children;
       apart = λ d p e q x y ne is js same. let a = found d p x is in let b = found e q y js in
-          absurd (h.has.alone p q x y (ne (a.0 ∙ sym b.0)) a.1 b.1 same);
-      named = λ d p x is shared_page. let a = found d p x is in
-          absurd (false≢true (sym (plain_own x.perm (h.has.plain p x a.1)) ∙ shared_page));
-      users = λ d p x is. let a = found d p x is in plain_users x.perm (h.has.plain p x a.1);
-      whole = λ d p x is. let a = found d p x is in pages_whole image file words file_bytes word_bytes h.has p x a.1;
+          agree p q x y (ne (a.0 ∙ sym b.0)) same (which p x a.1) (which q y b.1);
+      named = λ d p x is shared_page. let a = found d p x is in named_so p x shared_page (which p x a.1);
+      users = λ d p x is. let a = found d p x is in users_are p x (which p x a.1);
+      whole = λ d p x is. let a = found d p x is in whole_page p x (which p x a.1);
       free_slots = record { same = refl; within = rising-slots 2 1022 (omega arith) };
       first = refl;
       server = refl;
@@ -246,9 +413,10 @@ programs_begin image file words frames input s file_bytes word_bytes read fit le
     let n = frames - reserved_frames frames - 2 in
     let begun = has_begun image words input frames first n has file s read (fits-some words h) h.size is in (
       (
-        the_names,
-        subst (λ (k : KernelState). StandsFor the_names k (start_state image file words input)) (sym begun.state)
-            (state_stands image words input frames first n has h.size file file_bytes word_bytes (read_lie file image read) begun.loaded begun.stage),
+        the_names begun.begins.has.frame,
+        subst (λ (k : KernelState). StandsFor (the_names begun.begins.has.frame) k (start_state image file words input)) (sym begun.state)
+            (state_stands image words input frames first n has h.size file file_bytes word_bytes (read_lie file image read) begun.loaded
+            begun.begins),
       ),
       begun_new image words input frames first n has file s begun,
     )

@@ -1,6 +1,6 @@
 -- How a run begins: the file server's environment in slot 0, which has no pages and never runs, and a program in slot 1,
--- with the pages of its image, a page of stack on which its words stand, and a page for the stack of the library's handler of page
--- faults, to which its page faults go.
+-- with the pages of its image, a page of stack on which its words stand, a page for the stack of the library's handler of page
+-- faults, to which its page faults go, and a page that tells the console, which its first two descriptors name.
 -- (MIT 6.828, env_create and load_icode of kern/env.c, init_stack of lib/spawn.c, and set_pgfault_handler of lib/pgfault.c.)
 use Rattle.std.specs.Prelude.{ℕ, ◌+◌, ◌*◌, ◌/◌, nat_lt, Bool, true, List, [], ◌∷◌, Option, None, Some, Result, Ok, Err, if◌then◌else◌}
 use Rattle.std.specs.Prelude.{option_and_then}
@@ -14,12 +14,14 @@ use Rattle.jos_base.specs.Counting.{total}
 use Rattle.jos_base.specs.Environments.{bit_of}
 use Rattle.jos_base.specs.KernelState.{KernelState, first_state, slot_at, with_env_type, with_registers, with_spaces, with_status}
 use Rattle.jos_base.specs.KernelState.{with_upcall}
-use Rattle.jos_base.specs.SpacesState.{SpacesState, allocated}
+use Rattle.jos_base.specs.SpacesState.{SpacesState, allocated, inserted, overlaid, with_page_bytes, zero_page}
 use Rattle.jos_base.specs.SystemCalls.{environment_made}
+use Rattle.jos_base.specs.TrapFrames.{bytes_of_words}
 use Rattle.jos_elf.specs.declared.image.Segment.{Segment}
 use Rattle.jos_elf.specs.Parsed.{Layout}
 use Rattle.jos_kernel.specs.Boot.{any_touches, first_registers, only_state, page_loaded, pages_loaded, perm_of, stack_page}
-use Rattle.lib_os.specs.declared.numbers.TheConstants.{PGFAULT_UPCALL, UXSTACK}
+use Rattle.lib_os.specs.declared.numbers.TheConstants.{DEVICE_CONSOLE, O_RDWR, PGFAULT_UPCALL, UXSTACK}
+use Rattle.lib_os.specs.Rows.{descriptor_page, descriptor_perm}
 use Rattle.lib_spawn.specs.StackPage.{stack_contents, stack_pointer, stack_size}
 use Rattle.jos_base.specs.Below.{some_below}
 use Rattle.jos_run.specs.declared.boot.TheConstants.{FRAMES_BESIDE}
@@ -49,10 +51,24 @@ handler_page = UXSTACK / PGSIZE
 unfoldable pub handler_stack_loaded : ℕ → SpacesState → Option SpacesState
 handler_stack_loaded space s = only_state (allocated s space handler_page (perm_of true))
 
--- the program, and then the stack of the handler
+-- what the page of a descriptor holds that names the console, which may be read and written
+abbrev pub console_bytes : List ℕ
+console_bytes = bytes_of_words (DEVICE_CONSOLE ∷ 0 ∷ O_RDWR ∷ 0 ∷ [])
+
+abbrev pub console_in : ℕ → Option (ℕ × SpacesState) → Option SpacesState
+console_in space None = None
+console_in space (Some page) =
+    inserted (with_page_bytes page.1 page.0 (overlaid zero_page 0 console_bytes)) space (descriptor_page 1)
+    (record { frame = page.0; perm = descriptor_perm })
+
+-- one page for the first two descriptors
+unfoldable pub console_loaded : ℕ → SpacesState → Option SpacesState
+console_loaded space s = console_in space (allocated s space (descriptor_page 0) descriptor_perm)
+
+-- the program, then the stack of the handler, and then the console
 unfoldable pub space_loaded : List Segment → List ℕ → List (List ℕ) → ℕ → SpacesState → Option SpacesState
 space_loaded segments file words space s =
-    option_and_then (handler_stack_loaded space) (program_loaded segments file words space s)
+    option_and_then (console_loaded space) (option_and_then (handler_stack_loaded space) (program_loaded segments file words space s))
 
 -- it stands at the image's entry, and ESP at its words
 abbrev pub program_registers : ℕ → List (List ℕ) → Regs

@@ -3,28 +3,33 @@ use Rattle.lib_os.specs.declared.place.Step.{Step}
 use Rattle.lib_os.specs.declared.service.Service.{Service}
 use Rattle.lib_os.specs.declared.service.Service.TheVariants as service
 use Rattle.lib_stage.specs.ServiceSteps.{Plan, nowhere, or_nowhere}
+use Rattle.lib_fd.specs.DescriptorStages.{close_at, closing, dup_at, duplicating, exit_at, exiting}
 use Rattle.lib_fork.specs.ForkStages.{fork_at, forking}
 use Rattle.lib_mem.specs.MemoryPlans.{memory_plan, memory_service}
 use Rattle.lib_msg.specs.ReceiveStages.{receive_at, receiving}
 use Rattle.lib_msg.specs.SendStages.{send_at, sending}
-use Rattle.lib_spawn.specs.EndStages.{exiting, wait_at, waiting}
+use Rattle.lib_spawn.specs.WaitStages.{wait_at, waiting}
 use Rattle.jos_run.specs.declared.services.ServiceStage.{ServiceStage}
 use Rattle.jos_run.specs.declared.services.ServiceStage.TheVariants as stage
 
 abbrev pub plan_of : ServiceStage → Plan
-plan_of (stage.Exit it) = exiting
+plan_of (stage.Exit it) = exiting it
 plan_of (stage.Fork it) = forking it
 plan_of (stage.Wait it) = waiting it
 plan_of (stage.Send it) = sending it
 plan_of (stage.Receive it) = receiving it
 plan_of (stage.Memory it) = memory_plan it
+plan_of (stage.Close it) = closing it
+plan_of (stage.Dup it) = duplicating it
 plan_of (stage.Nowhere it) = nowhere
 
 -- a service at a step
 abbrev pub plan_at : Service → Step → Plan
-plan_at service.Exit step = exiting
+plan_at service.Exit step = or_nowhere exiting (exit_at step)
 plan_at service.Fork step = or_nowhere forking (fork_at step)
 plan_at (service.Wait id) step = or_nowhere waiting (wait_at id step)
 plan_at (service.Send id value va) step = or_nowhere sending (send_at id value va step)
 plan_at (service.Receive va from) step = or_nowhere receiving (receive_at va from step)
+plan_at (service.Close fd) step = or_nowhere closing (close_at fd step)
+plan_at (service.Dup old new) step = or_nowhere duplicating (dup_at old new step)
 plan_at other step = or_nowhere memory_plan (memory_service other)

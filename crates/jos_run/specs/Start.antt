@@ -1,5 +1,5 @@
 -- The abstract state in which a run begins: the server, which is idle and has an empty disk, and one program.
-use Rattle.std.specs.Prelude.{ℕ, ◌+◌, ◌-◌, ◌==◌, true, false, List, [], ◌∷◌, Option, Some, None, if◌then◌else◌}
+use Rattle.std.specs.Prelude.{ℕ, ◌+◌, ◌-◌, ◌==◌, nat_lt, true, false, List, [], ◌∷◌, Option, Some, None, if◌then◌else◌}
 use Rattle.jos_base.specs.declared.numbers.TheConstants.{FIRST_ENV_ID, NENV}
 use Rattle.jos_base.specs.SpacesState.{rising}
 use Rattle.jos_elf.specs.declared.image.Segment.{Segment}
@@ -24,7 +24,11 @@ abbrev pub first_memory : Layout → List ℕ → List (List ℕ) → ℕ → Op
 first_memory image file words number =
     if number == stack_page then Some (stack_of words) else page_of image.segments file number
 
--- a program with this memory, at its first instruction
+-- its first two descriptors name one object
+abbrev pub first_descriptors : ℕ → Option ℕ
+first_descriptors fd = if nat_lt fd 2 then Some 0 else None
+
+-- a program with this memory, at its first instruction, whose first two descriptors name the console
 abbrev pub program_with : Layout → List (List ℕ) → (ℕ → Option Page) → Born
 program_with image words memory = record {
   id = FIRST_ENV_ID + 1;
@@ -32,7 +36,7 @@ program_with image words memory = record {
   program = guest (program_registers image.entry words);
   memory = memory;
   regions = has_page_in memory;
-  descriptors = λ fd. None;
+  descriptors = first_descriptors;
   phase = at_guest;
   blocked = false;
 }
@@ -51,7 +55,7 @@ start_with b input = record {
   shared = λ name. [];
   objects = λ name. terminal;
   pipes = λ name. [];
-  next_name = 0;
+  next_name = 1;
   files = record { root = a_directory no_more false; blocks = 0; unnamed = 0 };
   opened = λ k. no_place;
   server = idle;

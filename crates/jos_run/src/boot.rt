@@ -1,7 +1,8 @@
 //! How a run begins: the file server's environment in slot 0, and a program with its words in slot 1, with the stack of the
-//! library's handler of page faults.
+//! library's handler of page faults, and with two descriptors that name the console.
 
-ghost use Rattle.std.specs.Prelude.{◌≡◌, ℕ, ◌/◌, ◌<◌, ◌≤◌, List, [], ◌∷◌, Some, None, Ok, All, IfOk, IfErr, length, true, false, map};
+ghost use Rattle.std.specs.Prelude.{◌≡◌, ℕ, ◌+◌, ◌/◌, ◌<◌, ◌≤◌, ◌++◌, List, [], ◌∷◌, Some, None, Ok, All, IfOk, IfErr, length, true, false, map};
+ghost use Rattle.std.specs.Int.{w32, to_le_bytes};
 ghost use Rattle.jos_base.specs.declared.numbers.TheConstants.{FDTABLE, FRAMES_MAX, FRAMES_MIN, NPTENTRIES, PGSIZE};
 ghost use Rattle.jos_base.specs.SystemCalls.{environment_made};
 ghost use Rattle.jos_elf.specs.Parsed.{Lies, parsed};
@@ -14,15 +15,16 @@ ghost use Rattle.jos_run.specs.Start.{start_state};
 ghost use Rattle.jos_run.specs.Begun.{IsNew, ProgramsBegin, ProgramsBoot};
 ghost use Rattle.lib_os.specs.Rows.{AreBytes};
 ghost use Rattle.jos_run.specs.Boot.{pages_touched, touches_region, regions_touched, boot_frames, stack_segment, program_loaded};
-ghost use Rattle.jos_run.specs.Boot.{handler_stack_loaded, program_registers, program_in, server_in, booted_within};
+ghost use Rattle.jos_run.specs.Boot.{handler_stack_loaded, console_bytes, console_loaded, program_registers, program_in, server_in, booted_within};
 
+use arrayvec::ArrayVec;
 use jos_base::{
     EnvId, EnvType, FDTABLE, NPTENTRIES, PGSIZE, PTE_P, PTE_U, PTE_W, Perm, Regs, Status, USTACKTOP,
 };
 use jos_elf::{Image, Segment};
 use jos_kernel::{BootFault, first_registers, load_pages, next_touched};
 use jos_sys::System;
-use lib_os::{PGFAULT_UPCALL, UXSTACK};
+use lib_os::{DEVICE_CONSOLE, O_RDWR, PGFAULT_UPCALL, PTE_SHARE, UXSTACK};
 use lib_spawn::{stack_contents, stack_pointer};
 use std::alloc::Global;
 
@@ -149,6 +151,54 @@ fn load_handler_stack(system: &mut System, slot: usize) -> bool
         .is_some()
 }
 
+/// What the page of a descriptor holds that names something.
+type DescriptorBytes = ArrayVec<u8, 16>;
+
+/// Adds a word.
+fn push_word(bytes: &mut DescriptorBytes, word: u32)
+    requires { length bytes.old.items + 4 ≤ 16 }
+    ensures bytes { bytes.new.items ≡ bytes.old.items ++ to_le_bytes w32 word }
+    ensures size { length bytes.new.items ≡ length bytes.old.items + 4 }
+{
+    bytes.try_extend_from_slice(&word.to_le_bytes()).unwrap();
+}
+
+/// What it holds that names the console, which may be read and written.
+#[tactic(auto, unfolding(jos_base::specs::TrapFrames::bytes_of_words))]
+fn console_bytes() -> DescriptorBytes
+    ensures bytes { result.items ≡ console_bytes }
+    ensures size { length result.items ≡ 16 }
+{
+    let mut bytes = DescriptorBytes::new();
+    push_word(&mut bytes, DEVICE_CONSOLE);
+    push_word(&mut bytes, 0);
+    push_word(&mut bytes, O_RDWR);
+    push_word(&mut bytes, 0);
+    bytes
+}
+
+/// One page for the first two descriptors, which name the console. False where a frame is wanted and none is free.
+fn load_console(system: &mut System, slot: usize) -> bool
+    requires live { is_live_in system.old slot ≡ true }
+    requires spaces { Keeps system.old }
+    ensures loads { (input : List ℕ) →
+        Loads (console_loaded (directory_of system.old slot) (spaces_of system.old)) result
+        (state_of system.old input) (state_of system.new input) }
+    ensures spaces { Keeps system.new }
+{
+    const PERM: u32 = PTE_P + PTE_W + PTE_U + PTE_SHARE;
+    match system.allocate(slot, FDTABLE, Perm(PERM)) {
+        None => false,
+        Some(frame) => {
+            let bytes = console_bytes();
+            system.fill(frame, 0, bytes.as_slice());
+            system
+                .insert(slot, FDTABLE / PGSIZE + 1, frame, PERM)
+                .is_ok()
+        }
+    }
+}
+
 /// The registers of a program that begins at this address, with these words.
 fn program_registers(entry: u32, words: &[&str]) -> Regs
     requires { fits_stack (map (λ w. w.now) words.now) ≡ true }
@@ -182,6 +232,9 @@ fn start_program(system: &mut System, image: &Image, file: &[u8], words: &[&str]
         return false;
     }
     if !load_handler_stack(system, slot) {
+        return false;
+    }
+    if !load_console(system, slot) {
         return false;
     }
     system.set_registers(slot, program_registers(image.entry(), words));

@@ -4,11 +4,12 @@ ghost use Rattle.std.specs.Prelude.{◌≡◌};
 ghost use Rattle.jos_run.specs.Plans.{plan_at, plan_of};
 
 use jos_base::Called;
+use lib_fd::{Close, Dup, Exit};
 use lib_fork::Fork;
 use lib_mem::MemoryService;
 use lib_msg::{Receive, Send};
 use lib_os::{Service, Step};
-use lib_spawn::{Exit, Wait};
+use lib_spawn::Wait;
 use lib_stage::{Ask, Next, Nowhere, Planned};
 
 /// A service at a stage.
@@ -20,6 +21,8 @@ pub(crate) enum ServiceStage {
     Send(Send),
     Receive(Receive),
     Memory(MemoryService),
+    Close(Close),
+    Dup(Dup),
     /// The service has not this step.
     Nowhere(Nowhere),
 }
@@ -29,7 +32,10 @@ pub(crate) fn stage_of(service: Service, step: Step) -> ServiceStage
     ensures { plan_of result ≡ plan_at service step }
 {
     match service {
-        Service::Exit => ServiceStage::Exit(Exit),
+        Service::Exit => match Exit::at_step(step) {
+            Some(exit) => ServiceStage::Exit(exit),
+            None => ServiceStage::Nowhere(Nowhere),
+        },
         Service::Fork => match Fork::at_step(step) {
             Some(fork) => ServiceStage::Fork(fork),
             None => ServiceStage::Nowhere(Nowhere),
@@ -44,6 +50,14 @@ pub(crate) fn stage_of(service: Service, step: Step) -> ServiceStage
         },
         Service::Receive { va, from } => match Receive::at_step(va, from, step) {
             Some(receive) => ServiceStage::Receive(receive),
+            None => ServiceStage::Nowhere(Nowhere),
+        },
+        Service::Close { fd } => match Close::at_step(fd, step) {
+            Some(close) => ServiceStage::Close(close),
+            None => ServiceStage::Nowhere(Nowhere),
+        },
+        Service::Dup { old, new } => match Dup::at_step(old, new, step) {
+            Some(dup) => ServiceStage::Dup(dup),
             None => ServiceStage::Nowhere(Nowhere),
         },
         _ => match MemoryService::of(service) {
@@ -66,6 +80,8 @@ impl Planned for ServiceStage {
             ServiceStage::Send(send) => send.number(),
             ServiceStage::Receive(receive) => receive.number(),
             ServiceStage::Memory(memory) => memory.number(),
+            ServiceStage::Close(close) => close.number(),
+            ServiceStage::Dup(dup) => dup.number(),
             ServiceStage::Nowhere(nowhere) => nowhere.number(),
         }
     }
@@ -78,6 +94,8 @@ impl Planned for ServiceStage {
             ServiceStage::Send(send) => send.ask(),
             ServiceStage::Receive(receive) => receive.ask(),
             ServiceStage::Memory(memory) => memory.ask(),
+            ServiceStage::Close(close) => close.ask(),
+            ServiceStage::Dup(dup) => dup.ask(),
             ServiceStage::Nowhere(nowhere) => nowhere.ask(),
         }
     }
@@ -90,6 +108,8 @@ impl Planned for ServiceStage {
             ServiceStage::Send(send) => send.next(called),
             ServiceStage::Receive(receive) => receive.next(called),
             ServiceStage::Memory(memory) => memory.next(called),
+            ServiceStage::Close(close) => close.next(called),
+            ServiceStage::Dup(dup) => dup.next(called),
             ServiceStage::Nowhere(nowhere) => nowhere.next(called),
         }
     }

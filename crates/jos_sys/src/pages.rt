@@ -76,13 +76,7 @@ impl System {
 
     /// Puts a page into the space of an environment by this number, in the place of what stood there. `Empty` where a table
     /// is needed and no frame is free; nothing is changed then.
-    pub(crate) fn insert(
-        &mut self,
-        slot: usize,
-        number: u32,
-        frame: Frame,
-        perm: u32,
-    ) -> Result<(), Empty>
+    pub fn insert(&mut self, slot: usize, number: u32, frame: Frame, perm: u32) -> Result<(), Empty>
         requires live { is_live_in self.old slot ≡ true }
         requires spaces { Keeps self.old }
         requires number { number * PGSIZE < UTOP }

@@ -184,3 +184,8 @@ module _ (s : KernelState) (n : ℕ) (live : is_live (slot_at s n) ≡ true) whe
   fork_holds (step.ReadingSender id value) stands = law_of_nowhere s n service.Fork (step.ReadingSender id value) stands refl (λ view k b h. h)
   fork_holds (step.ReadingPerm id value sender) stands =
       law_of_nowhere s n service.Fork (step.ReadingPerm id value sender) stands refl (λ view k b h. h)
+  fork_holds (step.DescriptorEntry fd) stands = law_of_nowhere s n service.Fork (step.DescriptorEntry fd) stands refl (λ view k b h. h)
+  fork_holds step.TargetEntry stands = law_of_nowhere s n service.Fork step.TargetEntry stands refl (λ view k b h. h)
+  fork_holds (step.DroppingDescriptor fd) stands = law_of_nowhere s n service.Fork (step.DroppingDescriptor fd) stands refl (λ view k b h. h)
+  fork_holds step.MappingDescriptor stands = law_of_nowhere s n service.Fork step.MappingDescriptor stands refl (λ view k b h. h)
+  fork_holds step.Ending stands = law_of_nowhere s n service.Fork step.Ending stands refl (λ view k b h. h)

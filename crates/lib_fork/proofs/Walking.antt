@@ -20,15 +20,15 @@ use Rattle.lib_os.specs.AbstractState.{AbstractState}
 use Rattle.lib_os.specs.InOrder.{IsInOrder}
 use Rattle.lib_os.specs.LibrarySteps.{AbstractFollows}
 use Rattle.lib_os.specs.Places.{place_of, words_at}
-use Rattle.lib_os.specs.Rows.{Names, Rows, EntryRow, counted, rows_of, is_programs}
+use Rattle.lib_os.specs.Rows.{Names, Rows, EntryRow, IsUsers, counted, descriptor_perm, rows_of, is_descriptor, is_programs}
 use Rattle.lib_os.specs.StandsFor.{StandsFor, IsBearing, borne_at, child_perm, top_page}
 use Rattle.lib_os.specs.UserCalls.{load}
 use Rattle.lib_os.proofs.Bearing.{IsBearer, bearer}
 use Rattle.lib_os.proofs.BytesRead.{users_inside}
 use Rattle.lib_os.proofs.Effects.{Quiet}
 use Rattle.lib_os.proofs.EntryWords.{region_told, row_word_bits, row_word_none, row_word_present}
-use Rattle.lib_os.proofs.GoesDown.{HasFrom, IsOnWay, goes_below, has_from, is_child, moved, no_table, passes_over, passes_page, programs_below}
-use Rattle.lib_os.proofs.GoesDown.{way_stands}
+use Rattle.lib_os.proofs.GoesDown.{HasFrom, IsOnWay, goes_below, has_from, is_child, descriptors_below, moved, no_row, no_table, passes_over}
+use Rattle.lib_os.proofs.GoesDown.{passes_page, programs_below, way_stands}
 use Rattle.lib_os.proofs.EntriesStand.{seen_none}
 use Rattle.lib_os.proofs.GoingOn.{in_with_words}
 use Rattle.lib_os.proofs.Loading.{loaded}
@@ -58,6 +58,10 @@ first_inside region same = omega (arith, same)
 -- behind the first page of a region no program has another
 first_is_greatest : (region p : ℕ) → region_of region ≡ region → first_page region + 1 ≤ p → p < (region + 1) * NPTENTRIES → p < top_page → ⊥
 first_is_greatest region p same above inside lower = omega (arith, same, above, inside, lower)
+
+-- the bits of a descriptor's page are those of a page that may be read and is not copied
+descriptor_users : IsUsers descriptor_perm
+descriptor_users = record { page = refl; copied = λ cow. absurd (let contradiction : false ≡ true = cow in cc) }
 
 -- ---- a step that reads a word
 
@@ -139,10 +143,14 @@ module _ (s : KernelState) (n id region : ℕ) (stands : place_of (slot_at s n) 
           (omega (arith, same, small))
           (λ inside. absurd (inside (omega arith)))
           (passes_over ((region + 1) * NPTENTRIES) (region_of region * NPTENTRIES) (omega (arith, same))
-          (λ p inside at_least lower.
-          let here : p / NPTENTRIES ≡ region = omega (arith, same, at_least, lower) in
-          v.own.memory p ∙ no_table names (loaded s n address) (d s n) p order
-          (ap (λ (r : ℕ). is_some ((loaded s n address).spaces.regions (d s n) r)) here ∙ table_is ∙ absent)) has)
+          (λ p inside at_least lower. v.own.memory p ∙ no_table names (loaded s n address) (d s n) p order (no_table_at p at_least lower))
+          (λ p descriptor at_least lower. no_row (loaded s n address) (d s n) p order (no_table_at p at_least lower)) has)
+        where
+          no_table_at : (p : ℕ) → region_of region * NPTENTRIES ≤ p → p < (region + 1) * NPTENTRIES →
+              is_some ((loaded s n address).spaces.regions (d s n) (p / NPTENTRIES)) ≡ false
+          no_table_at p at_least lower =
+              let here : p / NPTENTRIES ≡ region = omega (arith, same, at_least, lower) in
+              ap (λ (r : ℕ). is_some ((loaded s n address).spaces.regions (d s n) r)) here ∙ table_is ∙ absent
 
       inside_it : is_there word ≡ true → way_to (step.ForkEntry id (first_page region))
       unfolding counted
@@ -152,7 +160,8 @@ module _ (s : KernelState) (n id region : ℕ) (stands : place_of (slot_at s n) 
             bears = refl;
             has = is_child next_step refl refl
                 (passes_over ((region + 1) * NPTENTRIES) (first_page region + 1) (first_inside region same)
-                (λ p inside at_least lower. absurd (first_is_greatest region p same at_least lower (programs_below p inside))) has);
+                (λ p inside at_least lower. absurd (first_is_greatest region p same at_least lower (programs_below p inside)))
+                (λ p descriptor at_least lower. absurd (first_is_greatest region p same at_least lower (descriptors_below p descriptor))) has);
             stands = (
               still_bears s n id address h order at stands refl next_step v.stands.0,
               first_below region,
@@ -241,11 +250,23 @@ module _ (s : KernelState) (n id page : ℕ) (stands : place_of (slot_at s n) �
               row_word_present s.spaces (d s n) page x (users_inside names s a n it.b h it.is page x inside is) is in
               let contradiction : true ≡ false = sym (ap (λ (w : ℕ). w == PTE_P) present) ∙ absent in absurd cc
 
+      -- the entry of a descriptor may be read
+      none_open : is_there found ≡ false → is_descriptor page ≡ true → rows_of (loaded s n entry_address).spaces (d s n) page ≡ None
+      none_open absent descriptor = by_row (rows_of s.spaces (d s n) page) refl
+        where
+          by_row : (o : Option Entry) → rows_of s.spaces (d s n) page ≡ o → rows_of (loaded s n entry_address).spaces (d s n) page ≡ None
+          by_row None none = row_is None none
+          by_row (Some x) is =
+              let perm : x.perm ≡ descriptor_perm = it.own.library.descriptors page x descriptor (row_is (Some x) is) in
+              let present : bit_and found PTE_P ≡ PTE_P =
+              row_word_present s.spaces (d s n) page x (subst IsUsers (sym perm) descriptor_users) is in
+              let contradiction : true ≡ false = sym (ap (λ (w : ℕ). w == PTE_P) present) ∙ absent in absurd cc
+
       passes_it : is_there found ≡ false → entry_way (below id page)
       passes_it absent =
           goes_below id page (moved (slot_at s n) (below id page))
           (still_bears s n id entry_address h order at_entry stands refl (below id page) it.stands.0) it.stands.1
-          (λ inside. it.stands.2) (passes_page page (missing absent) has_above)
+          (λ inside. it.stands.2) (passes_page page (missing absent) (none_open absent) has_above)
 
       maps_it : is_there found ≡ true → entry_way (step.MapChild id page bits)
       unfolding counted

@@ -115,3 +115,8 @@ module _ (s : KernelState) (n va from : ℕ) (live : is_live (slot_at s n) ≡ t
   receive_holds (step.ChildUpcall child) stands = law_of_nowhere s n (service.Receive va from) (step.ChildUpcall child) stands refl (λ view k b h. h)
   receive_holds (step.ChildRuns child) stands = law_of_nowhere s n (service.Receive va from) (step.ChildRuns child) stands refl (λ view k b h. h)
   receive_holds (step.Undoing child error) stands = law_of_nowhere s n (service.Receive va from) (step.Undoing child error) stands refl (λ view k b h. h)
+  receive_holds (step.DescriptorEntry fd) stands = law_of_nowhere s n (service.Receive va from) (step.DescriptorEntry fd) stands refl (λ view k b h. h)
+  receive_holds step.TargetEntry stands = law_of_nowhere s n (service.Receive va from) step.TargetEntry stands refl (λ view k b h. h)
+  receive_holds (step.DroppingDescriptor fd) stands = law_of_nowhere s n (service.Receive va from) (step.DroppingDescriptor fd) stands refl (λ view k b h. h)
+  receive_holds step.MappingDescriptor stands = law_of_nowhere s n (service.Receive va from) step.MappingDescriptor stands refl (λ view k b h. h)
+  receive_holds step.Ending stands = law_of_nowhere s n (service.Receive va from) step.Ending stands refl (λ view k b h. h)

@@ -159,3 +159,8 @@ module _ (s : KernelState) (n id value va : ℕ) (live : is_live (slot_at s n) �
     send_holds (step.ChildUpcall child) stands = law_of_nowhere s n (service.Send id value va) (step.ChildUpcall child) stands refl (λ view k b h. h)
     send_holds (step.ChildRuns child) stands = law_of_nowhere s n (service.Send id value va) (step.ChildRuns child) stands refl (λ view k b h. h)
     send_holds (step.Undoing child error) stands = law_of_nowhere s n (service.Send id value va) (step.Undoing child error) stands refl (λ view k b h. h)
+    send_holds (step.DescriptorEntry fd) stands = law_of_nowhere s n (service.Send id value va) (step.DescriptorEntry fd) stands refl (λ view k b h. h)
+    send_holds step.TargetEntry stands = law_of_nowhere s n (service.Send id value va) step.TargetEntry stands refl (λ view k b h. h)
+    send_holds (step.DroppingDescriptor fd) stands = law_of_nowhere s n (service.Send id value va) (step.DroppingDescriptor fd) stands refl (λ view k b h. h)
+    send_holds step.MappingDescriptor stands = law_of_nowhere s n (service.Send id value va) step.MappingDescriptor stands refl (λ view k b h. h)
+    send_holds step.Ending stands = law_of_nowhere s n (service.Send id value va) step.Ending stands refl (λ view k b h. h)

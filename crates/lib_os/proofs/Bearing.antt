@@ -16,7 +16,7 @@ use Rattle.lib_os.specs.AbstractMemory.{has_page_in}
 use Rattle.lib_os.specs.InOrder.{IsInOrder}
 use Rattle.lib_os.specs.LibraryPages.{is_library_region}
 use Rattle.lib_os.specs.Places.{place_of, is_handlers}
-use Rattle.lib_os.specs.Rows.{Names, rows_of, logical, page_seen, is_programs}
+use Rattle.lib_os.specs.Rows.{EntryRow, Names, rows_of, logical, page_seen, is_descriptor, is_programs}
 use Rattle.lib_os.specs.StandsFor.{StandsFor, StandsForSlot, StandsForBorn, StandsForUnborn, StandsAtStep, view_of, IsBorne, ChildPages}
 use Rattle.lib_os.specs.StandsFor.{borne_at, borne_in, is_passed, child_upcall}
 use Rattle.lib_os.proofs.Children.{same_child, borne_moved}
@@ -34,7 +34,8 @@ pub record IsChild (names : Names) (s : SpacesState) (parent : Slot) (b : Born) 
   pub registers : k.registers ≡ record parent.registers { eax = 0 }
   pub upcall : k.upcall ≡ child_upcall at
   pub passed : (p : ℕ) → is_programs p ≡ true → is_passed at p ≡ true → page_seen names s k.directory p ≡ b.memory p
-  pub rest : (p : ℕ) → is_programs p ≡ true → is_passed at p ≡ false → rows_of s k.directory p ≡ None
+  pub handed : (p : ℕ) → is_descriptor p ≡ true → is_passed at p ≡ true → rows_of s k.directory p ≡ rows_of s parent.directory p
+  pub rest : (p : ℕ) → is_programs p || is_descriptor p ≡ true → is_passed at p ≡ false → rows_of s k.directory p ≡ None
   pub library : ChildPages at (rows_of s k.directory)
   pub tables : (r : ℕ) → is_some (s.regions k.directory r) ≡ true → has_page_in b.memory r || is_library_region r ≡ true
 
@@ -51,6 +52,7 @@ child_borne {b = b} {at = at} id is stands bears h = record {
   registers = h.registers;
   upcall = h.upcall;
   passed = h.passed;
+  handed = h.handed;
   rest = h.rest;
   library = h.library;
   tables = h.tables;
@@ -74,6 +76,7 @@ borne_child {names = names} {s = s} {parent = parent} {k = k} b at is stands h =
       registers = h.registers;
       upcall = h.upcall;
       passed = h.passed;
+      handed = h.handed;
       rest = h.rest;
       library = h.library;
       tables = h.tables;
@@ -158,7 +161,7 @@ module _ {names : Names} {s : KernelState} {a : AbstractState} {sp : SpacesState
   module _ (settles : Settles (slot_at s n) k) (child_settles : Settles (slot_at s m) child)
       (stands : place_of k ≡ place.InService service.Fork next) (bears : borne_at next ≡ Some id)
       (mine : StandsForBorn names sp k v.b) (child_own : StandsForUnborn child id v.b.id) (its_child : IsChild names sp k v.b next child)
-      (rows : RowsStand names sp.pages a.shared a.next_name (logical sp slots_after))
+      (rows : RowsStand names sp.pages a.shared a.objects a.next_name (logical sp slots_after))
       (in_order : IsInOrder (with_slot_at (with_slot_at (with_spaces s sp) m child) n k)) where
     slots_stand : (j : ℕ) → StandsForSlot names sp (slots_after j) (a.slots j)
     slots_stand j = by_parent (j == n) refl
@@ -211,7 +214,10 @@ module _ {names : Names} {s : KernelState} {a : AbstractState} {sp : SpacesState
         let contradiction : born was.b ≡ unborn id v.b.id = sym was.born_by ∙ ap a.slots same ∙ v.child_is in absurd cc in
         let its_parent = others_after p other_parent not_child in
         borne_moved (slots_after p) (a.slots p) (slots_after j) (ap (λ (x : Slot). place_of x) its_parent)
-        (ap (λ (x : Slot). x.registers) its_parent) refl (same_child (slot_at s j) (slots_after j) (others_after j not_parent apart))
+        (ap (λ (x : Slot). x.registers) its_parent) refl
+        (λ q descriptor. ap (λ (x : Slot). rows_of sp x.directory q) its_parent ∙ ap (λ (r : EntryRow). r q)
+        (others_seen p other_parent not_child (ap (λ (x : AbstractSlot). is_live x) was.born_by)).rows)
+        (same_child (slot_at s j) (slots_after j) (others_after j not_parent apart))
         (others_seen j not_parent apart (ap (λ (x : AbstractSlot). is_live x) is)) was
 
     borne_still : (j own_id parent : ℕ) → a.slots j ≡ unborn own_id parent → Bears j own_id parent

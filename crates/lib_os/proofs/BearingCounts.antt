@@ -14,7 +14,7 @@ use Rattle.lib_os.specs.declared.place.Step.{Step}
 use Rattle.lib_os.specs.declared.service.Service.TheVariants as service
 use Rattle.lib_os.specs.AbstractState.{AbstractState, Born}
 use Rattle.lib_os.specs.Places.{place_of}
-use Rattle.lib_os.specs.Rows.{EntryRow, Names, counted, logical, logical_by, rows_of}
+use Rattle.lib_os.specs.Rows.{EntryRow, Names, counted, is_descriptor, logical, logical_by, rows_of}
 use Rattle.lib_os.specs.StandsFor.{ChildPages, StandsFor}
 use Rattle.lib_os.proofs.Bearing.{IsBearer, IsChild}
 use Rattle.lib_os.proofs.GoesDown.{moved, moved_place}
@@ -101,13 +101,15 @@ module _ {names : Names} {s : KernelState} {a : AbstractState} (h : StandsFor na
 
 -- ---- the child
 
--- in spaces of which nothing that is seen differs to it
+-- in spaces of which nothing that is seen differs to it, and in which its parent has the same entries of descriptors
 pub child_seen : {names : Names} {s t : SpacesState} {parent : Slot} {b : Born} {at : Step} {k : Slot} → SeenAlike names names s t k.directory →
+    ((p : ℕ) → is_descriptor p ≡ true → rows_of t parent.directory p ≡ rows_of s parent.directory p) →
     IsChild names s parent b at k → IsChild names t parent b at k
-child_seen {at = at} seen h = record {
+child_seen {at = at} seen kept h = record {
   registers = h.registers;
   upcall = h.upcall;
   passed = λ p inside on. seen_alike seen p ∙ h.passed p inside on;
+  handed = λ p descriptor on. ap (λ (r : EntryRow). r p) seen.rows ∙ h.handed p descriptor on ∙ sym (kept p descriptor);
   rest = λ p inside off. ap (λ (r : EntryRow). r p) seen.rows ∙ h.rest p inside off;
   library = subst (λ (r : EntryRow). ChildPages at r) (sym seen.rows) h.library;
   tables = λ r table. h.tables r (sym (seen.regions r) ∙ table);

@@ -2,8 +2,9 @@
 -- nothing is seen of anybody else.
 use Rattle.std.proofs.Common.{◌≡◌, ◌≢◌, ◌∙◌, ◌+◌, ◌*◌, ◌/◌, ◌%◌, ◌<◌, ◌||◌, ℕ, zero, suc, Bool, true, false, not, Option, Some, None}
 use Rattle.std.proofs.Common.{refl, sym, ap, subst, arith}
-use Rattle.std.specs.Prelude.{is_some}
+use Rattle.std.specs.Prelude.{is_some, nat_lt, if◌then◌else◌}
 use Rattle.std.specs.Option.{option_map}
+use Rattle.std.proofs.lemmas.Bool.Decides.{nat_tests}
 use Rattle.std.proofs.lemmas.Option.{none-some, same_Some}
 use Rattle.jos_base.specs.Below.{some_below}
 use Rattle.jos_base.specs.declared.environment.Status.TheVariants.{Runnable}
@@ -16,7 +17,7 @@ use Rattle.jos_base.specs.SpacesState.{SpacesState}
 use Rattle.jos_base.specs.TrapFrames.{user_flags}
 use Rattle.jos_base.specs.Words.{page_number, upd}
 use Rattle.jos_base.proofs.Maps.{upd-at, upd-other, upd-both}
-use Rattle.lib_os.specs.declared.numbers.TheConstants.{PFTEMP}
+use Rattle.lib_os.specs.declared.numbers.TheConstants.{DESCRIPTORS, PFTEMP}
 use Rattle.lib_os.specs.declared.place.Place.{Place}
 use Rattle.lib_os.specs.declared.place.Place.TheVariants as place
 use Rattle.lib_os.specs.declared.place.Step.{Step}
@@ -33,7 +34,8 @@ use Rattle.lib_os.specs.LibraryCall.{library_step}
 use Rattle.lib_os.specs.LibraryPages.{LibraryPages}
 use Rattle.lib_os.specs.LibrarySteps.{service_answered}
 use Rattle.lib_os.specs.Places.{place_of, is_handlers}
-use Rattle.lib_os.specs.Rows.{Names, EntryRow, rows_of, page_by, page_seen, seen_where, is_programs, counted, lasting, logical}
+use Rattle.lib_os.specs.Rows.{Names, EntryRow, rows_of, page_by, page_seen, seen_where, shown_at, is_programs, counted, lasting, logical}
+use Rattle.lib_os.specs.Rows.{descriptor_page, descriptor_seen, is_descriptor, name_of}
 use Rattle.lib_os.specs.StandsFor.{StandsFor, StandsForSlot, StandsForBorn, StandsForUnborn, StandsAt, IsBorne, IsIn, view_of, upcall_at}
 use Rattle.lib_os.specs.StandsFor.{borne_at, borne_in}
 use Rattle.lib_os.proofs.Bearing.{IsBearer}
@@ -87,6 +89,26 @@ copy_outside = by_test (is_programs (page_number PFTEMP)) refl
     by_test : (t : Bool) → is_programs (page_number PFTEMP) ≡ t → t ≡ false
     by_test true is = absurd ((programs_beside (page_number PFTEMP) is).0 refl)
     by_test false is = refl
+
+-- it is no descriptor's either
+copy_no_descriptor : is_descriptor (page_number PFTEMP) ≡ false
+copy_no_descriptor = refl
+
+-- the page of each descriptor is one
+descriptor_is : (fd : ℕ) → nat_lt fd DESCRIPTORS ≡ true → is_descriptor (descriptor_page fd) ≡ true
+descriptor_is fd below = grind (arith, nat_tests)
+
+-- where two spaces have the same entry at its page, they have the same descriptor
+descriptor_same : (names : Names) (s : SpacesState) (d c fd : ℕ) →
+    (is_descriptor (descriptor_page fd) ≡ true → rows_of s c (descriptor_page fd) ≡ rows_of s d (descriptor_page fd)) →
+    descriptor_seen names s c fd ≡ descriptor_seen names s d fd
+descriptor_same names s d c fd same = by_test (nat_lt fd DESCRIPTORS) refl
+  where
+    by_test : (t : Bool) → nat_lt fd DESCRIPTORS ≡ t →
+        (if t then name_of (shown_at names s c (descriptor_page fd)) else None)
+        ≡ (if t then name_of (shown_at names s d (descriptor_page fd)) else None)
+    by_test true below = ap (λ (o : Option Entry). name_of (option_map (page_by names s.pages) o)) (same (descriptor_is fd below))
+    by_test false below = refl
 
 -- entries count where the child is about to run as they do at a program
 runs_counts : (id : ℕ) (row : EntryRow) (p : ℕ) → counted place.Guest row p ≡ counted (place.InService service.Fork (step.ChildRuns id)) row p
@@ -166,12 +188,20 @@ module _ {names : Names} {s : KernelState} {a : AbstractState} (h : StandsFor na
       by_test false outside =
           v.own.memory p ∙ unseen names s.spaces k.directory p outside ∙ sym (unseen names s.spaces (slot_at s m).directory p outside)
 
+  -- its descriptors name the same objects
+  descriptors_are : (fd : ℕ) → v.b.descriptors fd ≡ descriptor_seen names s.spaces (slot_at s m).directory fd
+  descriptors_are fd =
+      v.own.descriptors fd
+      ∙ sym (descriptor_same names s.spaces k.directory (slot_at s m).directory fd
+      (λ descriptor. v.child.handed (descriptor_page fd) descriptor refl))
+
   library_is : LibraryPages place.Guest (rows_of s.spaces (slot_at s m).directory)
   library_is = record {
     stack = v.child.library.stack refl;
     copy = λ is. absurd (let contradiction : false ≡ true = is in cc);
-    no_copy = λ is. v.child.library.none (page_number PFTEMP) copy_outside (λ same. omega (arith, same));
-    none = λ p outside no_stack no_copy. v.child.library.none p outside no_stack;
+    no_copy = λ is. v.child.library.none (page_number PFTEMP) copy_outside copy_no_descriptor (λ same. omega (arith, same));
+    descriptors = λ p entry descriptor there. v.own.library.descriptors p entry descriptor (sym (v.child.handed p descriptor refl) ∙ there);
+    none = λ p outside no_descriptor no_stack no_copy. v.child.library.none p outside no_descriptor no_stack;
   }
 
   has_table : (r : ℕ) → has_page_in v.b.memory r ≡ true → is_some (s.spaces.regions (slot_at s m).directory r) ≡ true
@@ -189,7 +219,7 @@ module _ {names : Names} {s : KernelState} {a : AbstractState} (h : StandsFor na
     env_type = v.child_own.env_type;
     runs = tt;
     upcall = v.child.upcall ∙ sym (ap upcall_at child_at);
-    descriptors = v.own.descriptors;
+    descriptors = descriptors_are;
     memory = memory_is;
     library = subst (λ (at : Place). LibraryPages at (rows_of s.spaces (slot_at s m).directory)) (sym child_at) library_is;
     regions_have = has_table;
@@ -254,6 +284,7 @@ module _ {names : Names} {s : KernelState} {a : AbstractState} (h : StandsFor na
       let its_parent = slot_same p other_parent not_child in
       borne_moved (slots_after p) (abstract_after p) (slots_after j) (ap (λ (x : Slot). place_of x) its_parent)
       (ap (λ (x : Slot). x.registers) its_parent) (abstract_same p other_parent not_child)
+      (λ q descriptor. ap (λ (x : Slot). rows_of s.spaces x.directory q) its_parent)
       (same_child (slot_at s j) (slots_after j) (slot_same j ne apart)) (same_space names s.spaces (slot_at s j).directory) was
 
   borne_still : (j own_id parent_id : ℕ) → abstract_after j ≡ unborn own_id parent_id →
@@ -313,7 +344,7 @@ module _ {names : Names} {s : KernelState} {a : AbstractState} (h : StandsFor na
       set_counts running n parent live_so space_so counts_so j p
       ∙ set_counts s m child (sym child_lives) refl (λ row q. refl) j p
 
-  rows : RowsStand names s.spaces.pages a.shared a.next_name (logical s.spaces slots_after)
+  rows : RowsStand names s.spaces.pages a.shared a.objects a.next_name (logical s.spaces slots_after)
   rows = rows_same (logical s.spaces s.environments.slots) (logical s.spaces slots_after) all_count (rows_stand h)
 
   not_first : 0 ≢ m

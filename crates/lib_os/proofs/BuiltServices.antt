@@ -1,5 +1,5 @@
 -- A program that asks for a service gets one that is built, or none.
-use Rattle.std.proofs.Common.{◌≡◌, ◌∙◌, ℕ, ◌==◌, ◌-◌, Bool, true, false, List, refl, sym, ap, arith, if◌then◌else◌}
+use Rattle.std.proofs.Common.{◌≡◌, ◌≢◌, ◌∙◌, ℕ, ◌==◌, ◌-◌, Bool, true, false, List, refl, sym, ap, arith, if◌then◌else◌}
 use Rattle.std.specs.Prelude.{get_or}
 use Rattle.std.proofs.lemmas.Bool.{false≢true}
 use Rattle.std.proofs.lemmas.Bool.Decides.{nat_tests}
@@ -10,28 +10,29 @@ use Rattle.lib_os.specs.declared.place.Step.{Step}
 use Rattle.lib_os.specs.declared.service.Service.{Service}
 use Rattle.lib_os.specs.declared.service.Service.TheVariants as service
 use Rattle.lib_os.specs.Places.{place_in_words, step_in, is_handlers, handler_step_in}
-use Rattle.lib_os.specs.Services.{is_built, first_services, last_services, named_service, service_of, is_built_service}
+use Rattle.lib_os.specs.Services.{is_built, named_service, service_of, is_built_service}
+
+by_built : (q k : ℕ) (x y : Service) → (q ≡ k → is_built_service x ≡ true) → (q ≢ k → is_built_service y ≡ true) →
+    is_built_service (if q == k then x else y) ≡ true
+by_built q k x y here other = by_test (q == k) refl
+  where
+    by_test : (t : Bool) → (q == k) ≡ t → is_built_service (if t then x else y) ≡ true
+    by_test true is = here (grind (arith, nat_tests))
+    by_test false is = other (grind (arith, nat_tests))
 
 built_of : (r : Regs) → is_built r.eax ≡ true → is_built_service (named_service r) ≡ true
 unfolding named_service
-built_of r built = by_tests (r.eax == 0) (r.eax == 1) (r.eax == 2) (r.eax == 3) (r.eax == 4) (r.eax == 5) (r.eax == 6) (r.eax == 7) (r.eax == 8) (r.eax == 9) refl refl refl refl refl refl refl refl refl refl
+built_of r built =
+    by_built r.eax 0 _ _ (λ is. refl) (λ n0. by_built r.eax 1 _ _ (λ is. refl) (λ n1. by_built r.eax 2 _ _ (λ is. refl) (λ n2. by_built r.eax 3 _ _ (λ is. refl) (λ n3.
+    by_built r.eax 4 _ _ (λ is. refl) (λ n4. by_built r.eax 5 _ _ (λ is. refl) (λ n5. by_built r.eax 6 _ _ (λ is. refl) (λ n6. by_built r.eax 7 _ _ (λ is. refl) (λ n7.
+    by_built r.eax 8 _ _ (λ is. refl) (λ n8. by_built r.eax 9 _ _ (λ is. refl) (λ n9. by_built r.eax 10 _ _ (λ is. absurd (unbuilt 10 refl is)) (λ n10.
+    by_built r.eax 11 _ _ (λ is. refl) (λ n11. by_built r.eax 12 _ _ (λ is. absurd (unbuilt 12 refl is)) (λ n12. by_built r.eax 13 _ _ (λ is. absurd (unbuilt 13 refl is)) (λ n13.
+    by_built r.eax 14 _ _ (λ is. absurd (unbuilt 14 refl is)) (λ n14. by_built r.eax 15 _ _ (λ is. absurd (unbuilt 15 refl is)) (λ n15. by_built r.eax 16 _ _ (λ is. absurd (unbuilt 16 refl is)) (λ n16.
+    by_built r.eax 17 _ _ (λ is. absurd (unbuilt 17 refl is)) (λ n17. by_built r.eax 18 _ _ (λ is. absurd (unbuilt 18 refl is)) (λ n18. by_built r.eax 19 _ _ (λ is. refl) (λ n19.
+    let no_number : ⊥ = grind (arith, nat_tests) in absurd no_number))))))))))))))))))))
   where
-    by_tests : (a b c d e f g h i j : Bool) → (r.eax == 0) ≡ a → (r.eax == 1) ≡ b → (r.eax == 2) ≡ c → (r.eax == 3) ≡ d → (r.eax == 4) ≡ e →
-        (r.eax == 5) ≡ f → (r.eax == 6) ≡ g → (r.eax == 7) ≡ h → (r.eax == 8) ≡ i → (r.eax == 9) ≡ j →
-        is_built_service (first_services r (last_services r)) ≡ true
-    by_tests true b c d e f g h i j p0 p1 p2 p3 p4 p5 p6 p7 p8 p9 = rw p0 refl
-    by_tests false true c d e f g h i j p0 p1 p2 p3 p4 p5 p6 p7 p8 p9 = rw (p0, p1) refl
-    by_tests false false true d e f g h i j p0 p1 p2 p3 p4 p5 p6 p7 p8 p9 = rw (p0, p1, p2) refl
-    by_tests false false false true e f g h i j p0 p1 p2 p3 p4 p5 p6 p7 p8 p9 = rw (p0, p1, p2, p3) refl
-    by_tests false false false false true f g h i j p0 p1 p2 p3 p4 p5 p6 p7 p8 p9 =
-        rw (p0, p1, p2, p3, p4) refl
-    by_tests false false false false false true g h i j p0 p1 p2 p3 p4 p5 p6 p7 p8 p9 = rw (p0, p1, p2, p3, p4, p5) refl
-    by_tests false false false false false false true h i j p0 p1 p2 p3 p4 p5 p6 p7 p8 p9 = rw (p0, p1, p2, p3, p4, p5, p6) refl
-    by_tests false false false false false false false true i j p0 p1 p2 p3 p4 p5 p6 p7 p8 p9 = rw (p0, p1, p2, p3, p4, p5, p6, p7) refl
-    by_tests false false false false false false false false true j p0 p1 p2 p3 p4 p5 p6 p7 p8 p9 = rw (p0, p1, p2, p3, p4, p5, p6, p7, p8) refl
-    by_tests false false false false false false false false false true p0 p1 p2 p3 p4 p5 p6 p7 p8 p9 = rw (p0, p1, p2, p3, p4, p5, p6, p7, p8, p9) refl
-    by_tests false false false false false false false false false false p0 p1 p2 p3 p4 p5 p6 p7 p8 p9 =
-        let not_built : is_built r.eax ≡ false = grind (arith, nat_tests) in absurd (false≢true (sym not_built ∙ built))
+    unbuilt : (k : ℕ) → is_built k ≡ false → r.eax ≢ k
+    unbuilt k none same = false≢true (sym none ∙ sym (ap is_built same) ∙ built)
 
 built_service : (r : Regs) → is_built_service (service_of r) ≡ true
 unfolding service_of

@@ -37,6 +37,7 @@ use Rattle.lib_os.specs.declared.place.Place.TheVariants as place
 use Rattle.lib_os.specs.declared.place.Step.TheVariants as step
 use Rattle.lib_os.specs.declared.service.Service.TheVariants as service
 use Rattle.lib_os.specs.StandsInHandler.{IsToCopy, is_refused_by, is_write}
+use Rattle.lib_os.proofs.EntriesStand.{page_shows}
 use Rattle.lib_os.proofs.Fences.{buffer_each, buffer_below, inside_number}
 use Rattle.lib_os.proofs.Logical.{inside_programs, programs_beside, logical_beside, is_remapped}
 use Rattle.lib_os.proofs.SlotsStand.{born_live}
@@ -351,7 +352,7 @@ module _ (names : Names) (s : SpacesState) (d : ℕ) (b : Born) (memory : (p : �
         }
 
     module _ (a : AbstractState) (are_named : (p : ℕ) (x : Entry) → is_programs p ≡ true → rows_of s d p ≡ Some x → is_shared x.perm ≡ true →
-        IsNamed names s.pages a.shared a.next_name x.frame) (records : ℕ → List ℕ) where
+        IsNamed names s.pages a.shared a.objects a.next_name p x.frame) (records : ℕ → List ℕ) where
       -- the byte of the page is that of the frame which its entry names
       pub page_byte : (e : Entry) → s.entries d (page_number va) ≡ Some e →
           abstract_byte_at a b va ≡ slice_index (s.pages e.frame) (page_offset va)
@@ -361,7 +362,8 @@ module _ (names : Names) (s : SpacesState) (d : ℕ) (b : Born) (memory : (p : �
           ∙ ap (λ (bytes : List ℕ). slice_index bytes (page_offset va)) (entry_bytes names s.pages a e shared)
         where
           shared : is_shared (lasting e).perm ≡ true → a.shared (names.name e.frame) ≡ s.pages e.frame
-          shared h = (are_named (page_number va) (lasting e) (inside_programs va inside) (row_is e is) h).bytes
+          shared h =
+              page_shows (inside_programs va inside) (are_named (page_number va) (lasting e) (inside_programs va inside) (row_is e is) h)
 
       location_byte : (e : Entry) → s.entries d (page_number va) ≡ Some e →
           byte_of records s d va (record { frame = e.frame; offset = page_offset va }) ≡ abstract_byte_at a b va
@@ -447,10 +449,10 @@ module _ (names : Names) (s : KernelState) (a : AbstractState) (n : ℕ) (b : Bo
       by_step false other = stands.users n p x (logical_inside stands n b is p inside other ∙ at)
 
   pub named_inside : (p : ℕ) (x : Entry) → is_programs p ≡ true → rows_of s.spaces (slot_at s n).directory p ≡ Some x → is_shared x.perm ≡ true →
-      IsNamed names s.spaces.pages a.shared a.next_name x.frame
+      IsNamed names s.spaces.pages a.shared a.objects a.next_name p x.frame
   named_inside p x inside at shared_page = by_step (is_twice p) refl
     where
-      by_step : (c : Bool) → is_twice p ≡ c → IsNamed names s.spaces.pages a.shared a.next_name x.frame
+      by_step : (c : Bool) → is_twice p ≡ c → IsNamed names s.spaces.pages a.shared a.objects a.next_name p x.frame
       by_step true twice =
           let it = remapped p twice in
           let own_page : is_shared x.perm ≡ false =

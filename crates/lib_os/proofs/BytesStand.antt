@@ -12,11 +12,12 @@ use Rattle.lib_os.specs.AbstractState.{AbstractState, Born, Page, own, named, bo
 use Rattle.lib_os.specs.AbstractMemory.{stored, stored_in}
 use Rattle.lib_os.specs.InOrder.{IsInOrder}
 use Rattle.lib_os.specs.Places.{place_of}
-use Rattle.lib_os.specs.Rows.{Names, Rows, rows_of, logical, is_programs, is_shared, may_write, AgreeWhereShared, AreNamed, AreUsers, AreWhole, IsNamed, IsPage}
+use Rattle.lib_os.specs.Rows.{Names, Rows, rows_of, logical, is_programs, is_shared, may_write}
+use Rattle.lib_os.specs.Rows.{AgreeWhereShared, AreNamed, AreUsers, AreWhole, IsNamed, IsPage, ShowsBy}
 use Rattle.lib_os.specs.StandsFor.{StandsFor, StandsForBorn, view_of, borne_in}
 use Rattle.lib_os.proofs.Effects.{Stored}
 use Rattle.lib_os.proofs.EntriesCount.{entry_counts}
-use Rattle.lib_os.proofs.EntriesStand.{same_sharing, other_frame, seen_at, seen_own, seen_by}
+use Rattle.lib_os.proofs.EntriesStand.{same_sharing, other_frame, shown_same, seen_own, seen_by, named_bytes, page_kind, page_shows}
 use Rattle.lib_os.proofs.Logical.{logical_alike, logical_beside, logical_plain, programs_beside, unborne_plain, unborne_unremapped}
 use Rattle.lib_os.proofs.PageBytes.{page_set}
 use Rattle.lib_os.proofs.SlotsStand.{SeenAlike, kept_rows, library_alike, page_put, slot_stands, born_at, born_live}
@@ -122,17 +123,16 @@ module _ {names : Names} {s : KernelState} {a : AbstractState} {sp : SpacesState
     shared_elsewhere m q x hx shared_page same =
         let contradiction : true ≡ false = sym shared_page ∙ same_sharing before h.apart m q n p x e hx counts_here same ∙ own_page in cc
 
-    named_kept : AreNamed names sp.pages a.shared a.next_name (logical sp s.environments.slots)
+    named_kept : AreNamed names sp.pages a.shared a.objects a.next_name (logical sp s.environments.slots)
     named_kept m q x hx shared_page =
         let there : before m q ≡ Some x = sym (counts_kept m q) ∙ hx in
-        let was = h.named m q x there shared_page in
-        record { home = was.home; bytes = was.bytes ∙ sym (bytes_kept x (shared_elsewhere m q x there shared_page)); old = was.old }
+        named_bytes (sym (bytes_kept x (shared_elsewhere m q x there shared_page))) (h.named m q x there shared_page)
 
     mine : StandsForBorn names sp (slot_at s n) (record b { memory = upd b.memory p after })
-    mine = page_put names names s.spaces sp (slot_at s n) b p after b.regions (born_at h n b at)
+    mine = page_put names names s.spaces sp (slot_at s n) b p after b.regions (born_at h n b at) inside
         (sym (seen_own names sp d p e inside (row_kept d p ∙ he) own_page
         ∙ ap (λ (bytes : List ℕ). Some (own bytes (may_write e.perm))) bytes_put))
-        (λ q ne. seen_at names names s.spaces sp d q (row_kept d q) (λ x hx own_too. own_beside q x ne hx own_too) (λ x hx shared_too. refl))
+        (λ q ne. shown_same names names s.spaces sp d q (row_kept d q) (λ x hx own_too. own_beside q x ne hx own_too) (λ x hx shared_too. refl))
         (library_alike (place_of (slot_at s n)) (rows_of s.spaces d) (rows_of sp d) (ap (λ (rows : Rows). rows d) st.rows) (born_at h n b at).library)
         (record {
           have = λ r is. st.regions d r ∙ (born_at h n b at).regions_have r is;
@@ -166,24 +166,30 @@ module _ {names : Names} {s : KernelState} {a : AbstractState} {sp : SpacesState
 
     shared_put : sp.pages e.frame ≡ bytes_after
     shared_put =
-        bytes_put ∙ ap (λ (bytes : List ℕ). slice_set bytes (page_offset va) byte) (sym (h.named n p e counts_here shared_page).bytes)
+        bytes_put ∙ ap (λ (bytes : List ℕ). slice_set bytes (page_offset va) byte) (sym (page_shows inside (h.named n p e counts_here shared_page)))
 
-    named_stored : AreNamed names sp.pages (upd a.shared name bytes_after) a.next_name (logical sp s.environments.slots)
+    named_stored : AreNamed names sp.pages (upd a.shared name bytes_after) a.objects a.next_name (logical sp s.environments.slots)
     named_stored m q x hx shared_too =
         let was = h.named m q x (sym (counts_kept m q) ∙ hx) shared_too in
-        record { home = was.home; bytes = by_frame was (x.frame == e.frame) refl; old = was.old }
+        record { home = was.home; kind = was.kind; shows = by_frame was (x.frame == e.frame) refl; old = was.old }
       where
-        by_frame : IsNamed names s.spaces.pages a.shared a.next_name x.frame → (t : Bool) → (x.frame == e.frame) ≡ t →
-            upd a.shared name bytes_after (names.name x.frame) ≡ sp.pages x.frame
+        by_frame : IsNamed names s.spaces.pages a.shared a.objects a.next_name q x.frame → (t : Bool) → (x.frame == e.frame) ≡ t →
+            ShowsBy (names.is_object (names.name x.frame)) (upd a.shared name bytes_after (names.name x.frame)) (a.objects (names.name x.frame))
+            (sp.pages x.frame)
         by_frame was true test =
             let same : e.frame ≡ x.frame = grind (arith, nat_tests) in
-            subst (λ (f : ℕ). upd a.shared name bytes_after (names.name f) ≡ sp.pages f) same
-            (upd-at a.shared name bytes_after ∙ sym shared_put)
+            subst (λ (f : ℕ). ShowsBy (names.is_object (names.name f)) (upd a.shared name bytes_after (names.name f)) (a.objects (names.name f))
+            (sp.pages f)) same
+            (subst (λ (c : Bool). ShowsBy c (upd a.shared name bytes_after name) (a.objects name) (sp.pages e.frame))
+            (sym (page_kind inside (h.named n p e counts_here shared_page)))
+            (upd-at a.shared name bytes_after ∙ sym shared_put))
         by_frame was false test =
             let other : x.frame ≢ e.frame = grind (arith, nat_tests) in
             let other_name : names.name x.frame ≢ name =
             λ same. other (sym was.home ∙ ap (λ (m : ℕ). names.frame m) same ∙ (h.named n p e counts_here shared_page).home) in
-            upd-other a.shared name bytes_after (names.name x.frame) other_name ∙ was.bytes ∙ sym (bytes_kept x other)
+            subst (λ (l : List ℕ). ShowsBy (names.is_object (names.name x.frame)) l (a.objects (names.name x.frame)) (sp.pages x.frame))
+            (sym (upd-other a.shared name bytes_after (names.name x.frame) other_name))
+            (named_bytes {after = sp.pages} (sym (bytes_kept x other)) was).shows
 
     shared_stored : StandsFor names (with_spaces s sp) (record a { shared = upd a.shared name bytes_after })
     shared_stored = record {

@@ -20,13 +20,13 @@ use Rattle.lib_os.specs.AbstractState.{AbstractState}
 use Rattle.lib_os.specs.InOrder.{IsInOrder}
 use Rattle.lib_os.specs.LibraryPages.{is_library_region, region_index}
 use Rattle.lib_os.specs.Places.{place_of, words_at}
-use Rattle.lib_os.specs.Rows.{EntryRow, IsPage, IsUsers, Names, counted, is_programs, is_shared, logical, page_seen, rows_of}
+use Rattle.lib_os.specs.Rows.{EntryRow, IsPage, IsUsers, Names, counted, is_descriptor, is_programs, is_shared, logical, page_seen, rows_of}
 use Rattle.lib_os.specs.StandsFor.{StandsFor, StandsForBorn, StandsForUnborn}
 use Rattle.lib_os.proofs.Bearing.{IsBearer, IsChild, bearer, bearing_stands, others_count_too}
 use Rattle.lib_os.proofs.BearingCounts.{of_slots, live_counts, parent_lives, child_lives, child_place, spaces_apart, parent_counted, child_counted}
 use Rattle.lib_os.proofs.BearingCounts.{parent_counts, child_counts, other_counts}
 use Rattle.lib_os.proofs.Effects.{Made}
-use Rattle.lib_os.proofs.EntriesStand.{PutsRow, put_is, rows_put, rows_same, rows_stand, seen_at}
+use Rattle.lib_os.proofs.EntriesStand.{PutsRow, named_bytes, put_is, rows_put, rows_same, rows_stand, seen_at}
 use Rattle.lib_os.proofs.GoesDown.{bearing_moves, moved, moved_place, own_moved}
 use Rattle.lib_os.proofs.GoingOn.{in_with_words}
 use Rattle.lib_os.proofs.Logical.{counted_plain, logical_some, programs_beside}
@@ -83,6 +83,7 @@ module _ {names : Names} {s : KernelState} {a : AbstractState} (h : StandsFor na
     registers = v.child.registers;
     upcall = refl;
     passed = λ p inside on. v.child.passed p inside refl;
+    handed = λ p is on. v.child.handed p is refl;
     rest = λ p inside off. absurd (let contradiction : true ≡ false = off in cc);
     library = record {
       stack = λ on. v.child.library.stack refl;
@@ -151,6 +152,10 @@ stack_page = page_number UXSTACK
 stack_user : IsUsers stack_bits
 stack_user = record { page = refl; copied = λ is. absurd (let contradiction : false ≡ true = is in cc) }
 
+-- it is no descriptor's
+no_stack : (p : ℕ) → is_descriptor p ≡ true → p ≢ stack_page
+no_stack p is same = let contradiction : true ≡ false = sym is ∙ ap is_descriptor same in cc
+
 -- its region is one of the library's
 stack_region : (r : ℕ) → (r == stack_page / NPTENTRIES) ≡ true → is_library_region r ≡ true
 stack_region r is = last ((r == region_index UTEMP) || (r == region_index FDTABLE)) (r == region_index USTACKTOP) is
@@ -215,11 +220,12 @@ module _ {names : Names} {s : KernelState} {a : AbstractState} {sp : SpacesState
     registers = u.child.registers;
     upcall = u.child.upcall;
     passed = passed;
+    handed = handed;
     rest = λ p inside off. absurd (let contradiction : true ≡ false = off in cc);
     library = record {
       stack = λ on. record { entry = new_entry; stands = row_placed made.placed; own_page = refl; writes = refl };
       no_stack = λ off. absurd (let contradiction : true ≡ false = off in cc);
-      none = λ p outside other. rows_beside d p (λ same too. other too) ∙ u.child.library.none p outside other;
+      none = λ p outside no_descriptor other. rows_beside d p (λ same too. other too) ∙ u.child.library.none p outside no_descriptor other;
     };
     tables = λ r is. by_region r (r == stack_page / NPTENTRIES) refl (sym (table_is r) ∙ is);
   }
@@ -229,6 +235,12 @@ module _ {names : Names} {s : KernelState} {a : AbstractState} {sp : SpacesState
           seen_at names names s.spaces sp d p (rows_beside d p (λ same too. (programs_beside p inside).1 too))
           (λ x hx own_page. bytes_kept d p x hx) (λ x hx shared_page. refl)
           ∙ u.child.passed p inside refl
+
+      handed : (p : ℕ) → is_descriptor p ≡ true → true ≡ true → rows_of sp d p ≡ rows_of sp mother.directory p
+      handed p is on =
+          rows_beside d p (λ same too. no_stack p is too)
+          ∙ u.child.handed p is refl
+          ∙ sym (rows_beside mother.directory p (λ same too. spaces_apart h n id from u same))
 
       here : (d == d) ≡ true
       here = grind (arith, nat_tests)
@@ -276,7 +288,8 @@ module _ {names : Names} {s : KernelState} {a : AbstractState} {sp : SpacesState
       let found = (logical_some s.spaces s.environments.slots j q x hx).1 in
       subst (λ (f : ℕ). sp.pages f ≡ s.spaces.pages f) found.frame (bytes_kept _ q found.entry found.stands)
 
-  stack_row : PutsRow names names s.spaces.pages a.shared sp.pages a.shared a.next_name a.next_name before (id % NENV) stack_page (Some new_entry)
+  stack_row : PutsRow names names s.spaces.pages a.shared sp.pages a.shared a.objects a.next_name a.next_name before (id % NENV) stack_page
+      (Some new_entry)
   stack_row = record {
     bytes = λ j q x ne hx. counted_bytes j q x hx;
     agree = λ j q x e ne hx is same.
@@ -287,8 +300,7 @@ module _ {names : Names} {s : KernelState} {a : AbstractState} {sp : SpacesState
         (subst (λ (page : List ℕ). IsPage page) (sym made.zero) zero_page_whole);
     named_new = λ e is shared_page.
         let contradiction : false ≡ true = ap (λ (y : Entry). is_shared y.perm) (same_Some new_entry e is) ∙ shared_page in cc;
-    named_old = λ j q x ne hx shared_page was.
-        record { home = was.home; bytes = was.bytes ∙ sym (counted_bytes j q x hx); old = was.old };
+    named_old = λ j q x ne hx shared_page was. named_bytes (sym (counted_bytes j q x hx)) was;
   }
 
   pub stack_made_stands : StandsFor names (with_extra (with_spaces s sp) n (words_at SERVICE_FORK to)) a

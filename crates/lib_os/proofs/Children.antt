@@ -8,7 +8,7 @@ use Rattle.jos_base.specs.Environments.{Slot}
 use Rattle.jos_base.specs.SpacesState.{SpacesState}
 use Rattle.lib_os.specs.AbstractState.{AbstractSlot, Born, unborn, born, is_live}
 use Rattle.lib_os.specs.Places.{place_of}
-use Rattle.lib_os.specs.Rows.{Names, EntryRow, rows_of, page_seen}
+use Rattle.lib_os.specs.Rows.{Names, EntryRow, rows_of, page_seen, is_descriptor}
 use Rattle.lib_os.specs.StandsFor.{HasChildren, IsBorne, ChildPages, borne_in}
 use Rattle.lib_os.proofs.SlotsStand.{SeenAlike, seen_alike}
 
@@ -29,9 +29,11 @@ same_child k after same = record {
 
 pub borne_moved : {names after : Names} {s t : SpacesState} {parent : Slot} {parent_is : AbstractSlot} {k : Slot} {id parent_id : ℕ}
     (parent_after : Slot) (parent_after_is : AbstractSlot) (k_after : Slot) → place_of parent_after ≡ place_of parent →
-    parent_after.registers ≡ parent.registers → parent_after_is ≡ parent_is → SameChild k k_after → SeenAlike names after s t k.directory →
+    parent_after.registers ≡ parent.registers → parent_after_is ≡ parent_is →
+    ((p : ℕ) → is_descriptor p ≡ true → rows_of t parent_after.directory p ≡ rows_of s parent.directory p) →
+    SameChild k k_after → SeenAlike names after s t k.directory →
     IsBorne names s parent parent_is k id parent_id → IsBorne after t parent_after parent_after_is k_after id parent_id
-borne_moved {names = names} {after = after} {s = s} {t = t} {k = k} parent_after parent_after_is k_after place registers same child seen h = record {
+borne_moved {names = names} {after = after} {s = s} {t = t} {k = k} parent_after parent_after_is k_after place registers same kept child seen h = record {
   b = h.b;
   born_by = same ∙ h.born_by;
   named = h.named;
@@ -42,6 +44,8 @@ borne_moved {names = names} {after = after} {s = s} {t = t} {k = k} parent_after
   upcall = child.upcall ∙ h.upcall;
   passed = λ p inside passed.
       ap (λ (d : ℕ). page_seen after t d p) child.directory ∙ seen_alike seen p ∙ h.passed p inside passed;
+  handed = λ p is passed.
+      ap (λ (d : ℕ). rows_of t d p) child.directory ∙ ap (λ (r : EntryRow). r p) seen.rows ∙ h.handed p is passed ∙ sym (kept p is);
   rest = λ p inside off.
       ap (λ (d : ℕ). rows_of t d p) child.directory ∙ ap (λ (r : EntryRow). r p) seen.rows ∙ h.rest p inside off;
   library = subst (λ (r : EntryRow). ChildPages h.step r) (sym (ap (λ (d : ℕ). rows_of t d) child.directory ∙ seen.rows)) h.library;
@@ -86,6 +90,8 @@ module _ {names after : Names} {s t : SpacesState} {slots slots_after : ℕ → 
           let its_parent : slots_after (parent % NENV) ≡ slots (parent % NENV) = same (parent % NENV) apart in
           borne_moved (slots_after (parent % NENV)) (abstract_after (parent % NENV)) (slots_after m)
           (ap (λ (k : Slot). place_of k) its_parent) (ap (λ (k : Slot). k.registers) its_parent) (same_abstract (parent % NENV) apart)
+          (λ p descriptor. ap (λ (k : Slot). rows_of t k.directory p) its_parent ∙ ap (λ (r : EntryRow). r p)
+          (seen (parent % NENV) apart (ap (λ (x : AbstractSlot). is_live x) (h.borne m id parent was).born_by)).rows)
           (same_child (slots m) (slots_after m) (same m ne)) (seen m ne (ap (λ (x : AbstractSlot). is_live x) was)) (h.borne m id parent was)
 
       borne : (m id parent : ℕ) → abstract_after m ≡ unborn id parent →
@@ -125,7 +131,9 @@ module _ {names after : Names} {s t : SpacesState} {slots slots_after : ℕ → 
     borne = λ m id parent is.
         let was : abstract m ≡ unborn id parent = sym (same_abstract m) ∙ is in
         let p = parent % NENV in
-        borne_moved (slots_after p) (abstract_after p) (slots_after m) (places p) (same p).registers (same_abstract p) (same m)
+        borne_moved (slots_after p) (abstract_after p) (slots_after m) (places p) (same p).registers (same_abstract p)
+        (λ q descriptor. ap (λ (d : ℕ). rows_of t d q) (same p).directory
+        ∙ ap (λ (r : EntryRow). r q) (seen p (ap (λ (x : AbstractSlot). is_live x) (h.borne m id parent was).born_by)).rows) (same m)
         (seen m (ap (λ (x : AbstractSlot). is_live x) was)) (h.borne m id parent was);
     have = λ q id b is bears.
         same_abstract (id % NENV) ∙ h.have q id b (sym (same_abstract q) ∙ is) (ap borne_in (sym (places q)) ∙ bears);

@@ -2,10 +2,10 @@
 -- for the copy, and words are stored there; it is put in the place of the page, and taken away from where it was made. Only
 -- at the page itself is anything seen of it, and there the bytes are those that stood there.
 use Rattle.std.proofs.Common.{◌≡◌, ◌≢◌, ◌∙◌, ◌<◌, ◌==◌, ◌&&◌, ◌||◌, inl, inr, ◌/◌, ℕ, suc, Bool, true, false, not}
-use Rattle.std.proofs.Common.{List, [], ◌∷◌, length, refl, sym, ap, subst, arith}
+use Rattle.std.proofs.Common.{List, [], ◌∷◌, length, refl, sym, ap, subst, arith, if◌then◌else◌}
 use Rattle.std.proofs.lemmas.Bool.Decides.{nat_tests}
 use Rattle.std.proofs.lemmas.Option.{same_Some, none-some}
-use Rattle.std.specs.Prelude.{Option, Some, None, is_some, slice_index}
+use Rattle.std.specs.Prelude.{Option, Some, None, is_some, nat_lt, slice_index}
 use Rattle.std.specs.Option.{option_map}
 use Rattle.jos_base.specs.declared.numbers.TheConstants.{FDTABLE, NPTENTRIES, PGSIZE, USTACKTOP}
 use Rattle.jos_base.specs.Environments.{Slot, is_live as is_live_slot}
@@ -15,7 +15,7 @@ use Rattle.jos_base.specs.SpacesState.{SpacesState, put}
 use Rattle.jos_base.specs.SystemCalls.{has_write}
 use Rattle.jos_base.specs.TrapFrames.{user_flags}
 use Rattle.jos_base.specs.Words.{page_number, upd}
-use Rattle.lib_os.specs.declared.numbers.TheConstants.{PFTEMP, UXSTACK}
+use Rattle.lib_os.specs.declared.numbers.TheConstants.{DESCRIPTORS, PFTEMP, UXSTACK}
 use Rattle.lib_os.specs.declared.place.HandlerStep.{HandlerStep}
 use Rattle.lib_os.specs.declared.place.HandlerStep.TheVariants as handler
 use Rattle.lib_os.specs.declared.place.Place.{Place}
@@ -26,13 +26,14 @@ use Rattle.lib_os.specs.InOrder.{IsInOrder}
 use Rattle.lib_os.specs.LibraryPages.{View, LibraryPages, IsOwnWritable, is_library_region, region_index}
 use Rattle.lib_os.specs.Places.{place_of, is_handlers, handler_registers}
 use Rattle.lib_os.specs.Rows.{IsPage, Names, EntryRow, Rows, rows_of, logical, logical_by, counted, page_by, page_seen, seen_where, is_programs}
-use Rattle.lib_os.specs.Rows.{is_shared, is_cow}
+use Rattle.lib_os.specs.Rows.{descriptor_page, descriptor_perm, descriptor_seen, is_cow, is_descriptor, is_shared, name_of, shown_at}
 use Rattle.lib_os.specs.Rows.{may_write, IsUsers}
 use Rattle.lib_os.specs.StandingLaws.{IsHandlerStep}
 use Rattle.lib_os.specs.StandsFor.{StandsFor, StandsForBorn, StandsAt, view_of, upcall_at, borne_in}
 use Rattle.lib_os.specs.StandsInHandler.{IsInHandler, Copies, CopiesAt, CopiesOrEnds, copies, ends, IsToCopy, IsCopiedTo, IsMappedTwice}
 use Rattle.lib_os.proofs.Effects.{Made, Given, Removed}
-use Rattle.lib_os.proofs.EntriesStand.{RowsStand, PutsRow, rows_put, rows_same, rows_bytes, rows_stand, put_is, seen_at, seen_own}
+use Rattle.lib_os.proofs.EntriesStand.{RowsStand, PutsRow, rows_put, rows_same, rows_bytes, rows_stand, put_is, seen_own}
+use Rattle.lib_os.proofs.EntriesStand.{named_bytes, shown_same}
 use Rattle.lib_os.proofs.Handled.{IsHandled, handled_part, handler_slot, handler_place, esp_kept, eflags_kept}
 use Rattle.lib_os.proofs.Logical.{is_plain, is_remapped, counted_plain, counted_elsewhere, logical_live, logical_plain, logical_beside, inside_programs}
 use Rattle.lib_os.proofs.Logical.{programs_beside}
@@ -42,7 +43,7 @@ use Rattle.lib_os.proofs.Puts.{put-found}
 use Rattle.lib_os.proofs.Releasing.{row_entry}
 use Rattle.lib_os.proofs.Serving.{library_moved}
 use Rattle.lib_os.proofs.Slots.{upd-back}
-use Rattle.lib_os.proofs.SlotsStand.{SeenAlike, HasTables, library_put, born_live}
+use Rattle.lib_os.proofs.SlotsStand.{SeenAlike, HasTables, descriptors_beside, library_put, born_live}
 use Rattle.lib_os.proofs.StatesStand.{own_moves, others_count, slot_in_order}
 use Rattle.jos_base.proofs.Maps.{upd-at}
 use Rattle.jos_base.proofs.Puts.{Elsewhere, put-at, put-other}
@@ -64,13 +65,14 @@ copy_user = record { page = refl; copied = λ is. absurd (let contradiction : fa
 pub born_back : (a : AbstractState) (n : ℕ) (b : Born) → a.slots n ≡ born b → with_born a n b ≡ a
 born_back a n b at = λ i. record a { slots = upd-back a.slots n (born b) (sym at) i }
 
--- What it has of its own at another step, in other spaces in which its memory is seen as it was.
+-- What it has of its own at another step, in other spaces in which its memory and its descriptors are seen as they were.
 pub handler_moved : {names : Names} {s t : SpacesState} {k : Slot} {b : Born} (to : HandlerStep) → StandsForBorn names s k b →
     is_handlers k.registers.esp ≡ true → IsHandlerStep to → k.upcall ≡ upcall_at (place.InHandler to) →
     ((p : ℕ) → page_seen names t k.directory p ≡ page_seen names s k.directory p) →
+    ((fd : ℕ) → descriptor_seen names t k.directory fd ≡ descriptor_seen names s k.directory fd) →
     LibraryPages (place.InHandler to) (rows_of t k.directory) → HasTables t k.directory b.regions →
     IsInHandler to (view_of t k.directory) (handler_slot k to) b → StandsForBorn names t (handler_slot k to) b
-handler_moved {t = t} {k = k} {b = b} to had inside there upcall memory library tables at =
+handler_moved {t = t} {k = k} {b = b} to had inside there upcall memory descriptors library tables at =
     let where_it_is : place_of (handler_slot k to) ≡ place.InHandler to = handler_place k to inside there in
     record {
       id = had.id;
@@ -79,7 +81,7 @@ handler_moved {t = t} {k = k} {b = b} to had inside there upcall memory library 
       env_type = had.env_type;
       runs = had.runs;
       upcall = upcall ∙ sym (ap upcall_at where_it_is);
-      descriptors = had.descriptors;
+      descriptors = λ fd. had.descriptors fd ∙ sym (descriptors fd);
       memory = λ p. had.memory p ∙ sym (memory p);
       library = subst (λ (p : Place). LibraryPages p (rows_of t k.directory)) (sym where_it_is) library;
       regions_have = tables.have;
@@ -120,7 +122,7 @@ pub copying_stands : {names : Names} {s : KernelState} {a : AbstractState} {sp :
     a.slots n ≡ born b → (to : HandlerStep) → borne_in (place_of (slot_at s n)) ≡ None → borne_in (place_of (handler_slot (slot_at s n) to)) ≡ None →
     ((d : ℕ) → d ≢ (slot_at s n).directory → SeenAlike names names s.spaces sp d) →
     StandsForBorn names sp (handler_slot (slot_at s n) to) b →
-    RowsStand names sp.pages a.shared a.next_name (logical sp (upd s.environments.slots n (handler_slot (slot_at s n) to))) →
+    RowsStand names sp.pages a.shared a.objects a.next_name (logical sp (upd s.environments.slots n (handler_slot (slot_at s n) to))) →
     IsInOrder (with_spaces s sp) →
     StandsFor names (with_registers (with_spaces s sp) n (handler_registers (slot_at s n).registers to)) a
 copying_stands {names = names} {s = s} {a = a} {sp = sp} h n b at to unborne unborne_after others mine rows in_order =
@@ -156,10 +158,29 @@ pub copy_outside : is_programs copy_page ≡ false
 unfolding in_fence
 copy_outside = refl
 
+-- nor is it that of a descriptor
+pub copy_no_descriptor : is_descriptor copy_page ≡ false
+copy_no_descriptor = refl
+
+descriptor_off : (p : ℕ) → is_descriptor p ≡ true → p ≢ copy_page
+descriptor_off p is same = let contradiction : true ≡ false = sym is ∙ ap is_descriptor same ∙ copy_no_descriptor in cc
+
 -- so that nothing is seen of it
 pub copy_unseen : (names : Names) (s : SpacesState) (d : ℕ) → page_seen names s d copy_page ≡ None
 copy_unseen names s d =
     ap (λ (c : Bool). seen_where c (option_map (page_by names s.pages) (rows_of s d copy_page))) copy_outside
+
+-- Descriptors are seen as they were, where the same is shown at all pages but one that is none of theirs.
+pub descriptors_off : (names after : Names) (s t : SpacesState) (d p : ℕ) → is_descriptor p ≡ false →
+    ((q : ℕ) → q ≢ p → shown_at after t d q ≡ shown_at names s d q) → (fd : ℕ) → descriptor_seen after t d fd ≡ descriptor_seen names s d fd
+descriptors_off names after s t d p none same fd = by_test (nat_lt fd DESCRIPTORS) refl
+  where
+    by_test : (c : Bool) → nat_lt fd DESCRIPTORS ≡ c →
+        (if c then name_of (shown_at after t d (descriptor_page fd)) else None) ≡ (if c then name_of (shown_at names s d (descriptor_page fd)) else None)
+    by_test true below =
+        let one : is_descriptor (descriptor_page fd) ≡ true = grind (arith, nat_tests) in
+        ap name_of (same (descriptor_page fd) (λ here. let contradiction : true ≡ false = sym one ∙ ap is_descriptor here ∙ none in cc))
+    by_test false below = refl
 
 -- the stack of the handler is another page
 pub stack_beside : page_number UXSTACK ≢ copy_page
@@ -172,6 +193,10 @@ module _ {names : Names} {s t : SpacesState} {d : ℕ} {v : Option Entry} (puts 
   row_here : rows_of t d copy_page ≡ v
   row_here = ap (λ (rows : Rows). rows d copy_page) puts.rows ∙ put-at (rows_of s) d copy_page v
 
+  shown_kept : (p : ℕ) → p ≢ copy_page → shown_at names t d p ≡ shown_at names s d p
+  shown_kept p other =
+      shown_same names names s t d p (kept_beside p other) (λ x hx own_page. puts.bytes d p x (λ same. other) hx) (λ x hx shared_page. refl)
+
   memory_kept : (p : ℕ) → page_seen names t d p ≡ page_seen names s d p
   memory_kept p = by_page (p == copy_page) refl
     where
@@ -180,8 +205,15 @@ module _ {names : Names} {s t : SpacesState} {d : ℕ} {v : Option Entry} (puts 
           let same : p ≡ copy_page = grind (arith, nat_tests) in
           subst (λ (q : ℕ). page_seen names t d q ≡ page_seen names s d q) (sym same) (copy_unseen names t d ∙ sym (copy_unseen names s d))
       by_page false test =
-          let other : p ≢ copy_page = grind (arith, nat_tests) in
-          seen_at names names s t d p (kept_beside p other) (λ x hx own_page. puts.bytes d p x (λ same. other) hx) (λ x hx shared_page. refl)
+          let other : p ≢ copy_page = grind (arith, nat_tests) in ap (seen_where (is_programs p)) (shown_kept p other)
+
+  descriptors_kept : (fd : ℕ) → descriptor_seen names t d fd ≡ descriptor_seen names s d fd
+  descriptors_kept = descriptors_off names names s t d copy_page copy_no_descriptor shown_kept
+
+  -- those that a space has there have the bits that they had
+  bits_kept : {at : Place} → LibraryPages at (rows_of s d) → (p : ℕ) (entry : Entry) → is_descriptor p ≡ true → rows_of t d p ≡ Some entry →
+      entry.perm ≡ descriptor_perm
+  bits_kept before p entry is stands = before.descriptors p entry is (sym (kept_beside p (descriptor_off p is)) ∙ stands)
 
   stack_kept : IsOwnWritable (rows_of s d) (page_number UXSTACK) → IsOwnWritable (rows_of t d) (page_number UXSTACK)
   stack_kept h = record {
@@ -248,7 +280,7 @@ module _ {names : Names} {s : KernelState} {a : AbstractState} {sp : SpacesState
           by_slot false test =
               others_count h n v.b v.is (handler_slot (slot_at s n) to) others m (grind (arith, nat_tests)) q
 
-  taken_row : PutsRow names names s.spaces.pages a.shared sp.pages a.shared a.next_name a.next_name (logical s.spaces s.environments.slots) n
+  taken_row : PutsRow names names s.spaces.pages a.shared sp.pages a.shared a.objects a.next_name a.next_name (logical s.spaces s.environments.slots) n
       copy_page (Some new_entry)
   taken_row = record {
     bytes = bytes_elsewhere h n v.b v.is taken_puts;
@@ -261,7 +293,7 @@ module _ {names : Names} {s : KernelState} {a : AbstractState} {sp : SpacesState
     named_new = λ e is shared_page.
         let contradiction : false ≡ true = ap (λ (y : Entry). is_shared y.perm) (same_Some new_entry e is) ∙ shared_page in cc;
     named_old = λ m q x ne hx shared_page was.
-        record { home = was.home; bytes = was.bytes ∙ sym (bytes_elsewhere h n v.b v.is taken_puts m q x ne hx); old = was.old };
+        named_bytes (sym (bytes_elsewhere h n v.b v.is taken_puts m q x ne hx)) was;
   }
 
   -- the library's pages, with the copy
@@ -273,7 +305,9 @@ module _ {names : Names} {s : KernelState} {a : AbstractState} {sp : SpacesState
         stack = stack_kept taken_puts before.stack;
         copy = λ is. record { entry = new_entry; stands = row_here taken_puts; own_page = refl; writes = refl };
         no_copy = λ is. absurd (let contradiction : true ≡ false = is in cc);
-        none = λ p outside no_stack no_copy. kept_beside taken_puts p no_copy ∙ before.none p outside no_stack no_copy;
+        descriptors = bits_kept taken_puts before;
+        none = λ p outside no_descriptor no_stack no_copy.
+            kept_beside taken_puts p no_copy ∙ before.none p outside no_descriptor no_stack no_copy;
       }
 
   -- the region of the copy is one of the library's
@@ -309,7 +343,8 @@ module _ {names : Names} {s : KernelState} {a : AbstractState} {sp : SpacesState
       by_way (ends way) = absurd way.at
       by_way (copies way) =
           copying_stands h n v.b v.is to (ap borne_in stands) (ap borne_in (handler_place (slot_at s n) to v.inside (omega arith))) others
-          (handler_moved to v.own v.inside (omega arith) (v.own.upcall ∙ ap upcall_at stands) (memory_kept taken_puts) taken_library taken_tables
+          (handler_moved to v.own v.inside (omega arith) (v.own.upcall ∙ ap upcall_at stands) (memory_kept taken_puts)
+          (descriptors_kept taken_puts) taken_library taken_tables
           (copying_goes (handler.Taking va) to (view_of s.spaces d) (view_of sp d) (slot_at s n) v.b v.at way
           (kept_beside taken_puts (page_number UXSTACK) stack_beside)
           (λ x hx own_page. taken_puts.bytes d (page_number UXSTACK) x (λ same. stack_beside) hx) (goes way)))
@@ -419,7 +454,9 @@ module _ {names : Names} {s : KernelState} {a : AbstractState} {sp : SpacesState
         stack = stack_kept unmapped_puts before.stack;
         copy = λ is. absurd (let contradiction : false ≡ true = is in cc);
         no_copy = λ is. row_here unmapped_puts;
-        none = λ p outside no_stack no_copy. kept_beside unmapped_puts p no_copy ∙ before.none p outside no_stack no_copy;
+        descriptors = bits_kept unmapped_puts before;
+        none = λ p outside no_descriptor no_stack no_copy.
+            kept_beside unmapped_puts p no_copy ∙ before.none p outside no_descriptor no_stack no_copy;
       }
 
   unmapped_tables : HasTables sp space w.b.regions
@@ -436,7 +473,8 @@ module _ {names : Names} {s : KernelState} {a : AbstractState} {sp : SpacesState
       by_way (ends way) = absurd way.at
       by_way (copies way) =
           copying_stands h n w.b w.is back (ap borne_in stands) (ap borne_in (handler_place (slot_at s n) back w.inside tt)) unmapped_others
-          (handler_moved back w.own w.inside tt (w.own.upcall ∙ ap upcall_at stands) (memory_kept unmapped_puts) unmapped_library unmapped_tables
+          (handler_moved back w.own w.inside tt (w.own.upcall ∙ ap upcall_at stands) (memory_kept unmapped_puts)
+          (descriptors_kept unmapped_puts) unmapped_library unmapped_tables
           (copying_goes (handler.Unmapping va) back (view_of s.spaces space) (view_of sp space) (slot_at s n) w.b w.at way
           (kept_beside unmapped_puts (page_number UXSTACK) stack_beside)
           (λ x hx own_page. unmapped_puts.bytes space (page_number UXSTACK) x (λ same. stack_beside) hx) tt))
@@ -584,7 +622,12 @@ module _ {names : Names} {s : KernelState} {a : AbstractState} {sp : SpacesState
   kept_bytes : (q : ℕ) (x : Entry) → q ≢ p → rows_of s.spaces home q ≡ Some x → sp.pages x.frame ≡ s.spaces.pages x.frame
   kept_bytes q x ne hx = over_puts.bytes home q x (λ same. ne) hx
 
-  -- the page is seen as it was
+  -- all but the page is shown as it was
+  over_shown : (q : ℕ) → q ≢ p → shown_at names sp home q ≡ shown_at names s.spaces home q
+  over_shown q ne =
+      shown_same names names s.spaces sp home q (over_kept q ne) (λ x hx own_page. kept_bytes q x ne hx) (λ x hx shared_page. refl)
+
+  -- and the page is seen as it was
   over_memory : (q : ℕ) → page_seen names sp home q ≡ page_seen names s.spaces home q
   over_memory q = by_page (q == p) refl
     where
@@ -602,8 +645,11 @@ module _ {names : Names} {s : KernelState} {a : AbstractState} {sp : SpacesState
           let same : q ≡ p = grind (arith, nat_tests) in
           subst (λ (r : ℕ). page_seen names sp home r ≡ page_seen names s.spaces home r) (sym same) here
       by_page false test =
-          let other : q ≢ p = grind (arith, nat_tests) in
-          seen_at names names s.spaces sp home q (over_kept q other) (λ x hx own_page. kept_bytes q x other hx) (λ x hx shared_page. refl)
+          let other : q ≢ p = grind (arith, nat_tests) in ap (seen_where (is_programs q)) (over_shown q other)
+
+  -- no descriptor is the page
+  over_descriptors : (fd : ℕ) → descriptor_seen names sp home fd ≡ descriptor_seen names s.spaces home fd
+  over_descriptors = descriptors_beside names names s.spaces sp home p page_inside over_shown
 
   over_library : LibraryPages (place.InHandler next) (rows_of sp home)
   over_library =
@@ -667,7 +713,7 @@ module _ {names : Names} {s : KernelState} {a : AbstractState} {sp : SpacesState
               others_count h n u.b u.is (handler_slot (slot_at s n) next) over_others m other q
               ∙ sym (put-other before n copy_page None m q (λ same. absurd (other same)))
 
-  left_row : PutsRow names names s.spaces.pages a.shared s.spaces.pages a.shared a.next_name a.next_name before n copy_page None
+  left_row : PutsRow names names s.spaces.pages a.shared s.spaces.pages a.shared a.objects a.next_name a.next_name before n copy_page None
   left_row = record {
     bytes = λ m q x ne hx. refl;
     agree = λ m q x e ne hx is same. absurd (none-some e is);
@@ -688,7 +734,7 @@ module _ {names : Names} {s : KernelState} {a : AbstractState} {sp : SpacesState
   left_bytes m q x ne hx =
       bytes_elsewhere h n u.b u.is over_puts m q x ne (left_found m q x hx).0
 
-  over_row : PutsRow names names s.spaces.pages a.shared sp.pages a.shared a.next_name a.next_name left n p (Some over)
+  over_row : PutsRow names names s.spaces.pages a.shared sp.pages a.shared a.objects a.next_name a.next_name left n p (Some over)
   over_row = record {
     bytes = left_bytes;
     agree = λ m q x e ne hx is same.
@@ -698,7 +744,7 @@ module _ {names : Names} {s : KernelState} {a : AbstractState} {sp : SpacesState
         (subst (λ (page : List ℕ). IsPage page) (sym given.same) (h.whole n copy_page copy copy_counts));
     named_new = λ e is shared_page.
         let contradiction : false ≡ true = ap (λ (y : Entry). is_shared y.perm) (same_Some over e is) ∙ shared_page in cc;
-    named_old = λ m q x ne hx shared_page was. record { home = was.home; bytes = was.bytes ∙ sym (left_bytes m q x ne hx); old = was.old };
+    named_old = λ m q x ne hx shared_page was. named_bytes (sym (left_bytes m q x ne hx)) was;
   }
 
   -- ---- it stands
@@ -718,7 +764,7 @@ module _ {names : Names} {s : KernelState} {a : AbstractState} {sp : SpacesState
   pub over_stands : StandsFor names (with_registers (with_spaces s sp) n (handler_registers (slot_at s n).registers next)) a
   over_stands =
       copying_stands h n u.b u.is next (ap borne_in stands) (ap borne_in (handler_place (slot_at s n) next u.inside tt)) over_others
-      (handler_moved next u.own u.inside tt (u.own.upcall ∙ ap upcall_at stands) over_memory over_library over_tables
+      (handler_moved next u.own u.inside tt (u.own.upcall ∙ ap upcall_at stands) over_memory over_descriptors over_library over_tables
       (copying_goes (handler.MappingOver va) next (view_of s.spaces home) (view_of sp home) (slot_at s n) u.b u.at way
       (over_kept (page_number UXSTACK) (λ e. beside.1 (sym e)))
       (λ x hx own_page. kept_bytes (page_number UXSTACK) x (λ e. beside.1 (sym e)) hx)

@@ -27,17 +27,19 @@ use Rattle.lib_os.specs.AbstractState.{AbstractState}
 use Rattle.lib_os.specs.InOrder.{IsInOrder}
 use Rattle.lib_os.specs.LibraryPages.{LibraryPages, IsOwnWritable, has_copy}
 use Rattle.lib_os.specs.Places.{place_of, handler_registers}
-use Rattle.lib_os.specs.Rows.{Names, Rows, AreBytes, IsPage, rows_of, logical, page_seen, is_shared}
+use Rattle.lib_os.specs.Rows.{Names, Rows, AreBytes, IsPage, rows_of, logical, descriptor_seen, page_seen, seen_where, shown_at}
+use Rattle.lib_os.specs.Rows.{is_programs, is_shared}
 use Rattle.lib_os.specs.StandingLaws.{IsHandlerStep}
 use Rattle.lib_os.specs.StandsFor.{StandsFor, view_of, upcall_at, borne_in}
 use Rattle.lib_os.specs.StandsInHandler.{Copies, CopiesAt, CopiesOrEnds, copies, ends, IsToCopy, IsCopiedTo, page_word}
 use Rattle.lib_os.specs.UserCalls.{giving, accessing, with_user_word, store}
 use Rattle.lib_os.proofs.BytesPut.{bytes_put, put_whole, put_before, put_there, spaces_put, put_is, page_put, reached_to_write}
 use Rattle.lib_os.proofs.BytesRead.{lasting_reads, lasting_writes}
-use Rattle.lib_os.proofs.CopiesStand.{copy_page, copy_alone, copy_unseen, stack_beside, handler_moved, copying_goes, copying_stands, counts_at}
+use Rattle.lib_os.proofs.CopiesStand.{copy_page, copy_alone, copy_no_descriptor, copy_unseen, descriptors_off, stack_beside}
+use Rattle.lib_os.proofs.CopiesStand.{handler_moved, copying_goes, copying_stands, counts_at}
 use Rattle.lib_os.proofs.Effects.{Quiet}
 use Rattle.lib_os.proofs.EntriesCount.{entry_counts}
-use Rattle.lib_os.proofs.EntriesStand.{RowsStand, seen_at}
+use Rattle.lib_os.proofs.EntriesStand.{RowsStand, named_bytes, shown_same}
 use Rattle.lib_os.proofs.EntryWords.{row_entry}
 use Rattle.lib_os.proofs.Handled.{IsHandled, handled_part, handler_slot, handler_place}
 use Rattle.lib_os.proofs.Logical.{is_plain, is_remapped, counted_plain, logical_plain, logical_beside, inside_programs, programs_beside}
@@ -135,6 +137,10 @@ module _ {names : Names} {s : KernelState} {a : AbstractState} {sp : SpacesState
           let apart : found.entry.frame ≢ copy.frame = alone found.slot found.page found.entry (λ same. absurd (other same)) found.counts in
           bytes_kept x.frame (λ same. apart (found.frame ∙ same))
 
+  shown_kept : (q : ℕ) → q ≢ copy_page → shown_at names sp d q ≡ shown_at names s.spaces d q
+  shown_kept q other =
+      shown_same names names s.spaces sp d q (row_kept d q) (λ x hx own_page. other_bytes q x other hx) (λ x hx shared_page. refl)
+
   memory_kept : (q : ℕ) → page_seen names sp d q ≡ page_seen names s.spaces d q
   memory_kept q = by_page (q == copy_page) refl
     where
@@ -144,8 +150,10 @@ module _ {names : Names} {s : KernelState} {a : AbstractState} {sp : SpacesState
           subst (λ (r : ℕ). page_seen names sp d r ≡ page_seen names s.spaces d r) (sym same)
           (copy_unseen names sp d ∙ sym (copy_unseen names s.spaces d))
       by_page false test =
-          let other : q ≢ copy_page = grind (arith, nat_tests) in
-          seen_at names names s.spaces sp d q (row_kept d q) (λ x hx own_page. other_bytes q x other hx) (λ x hx shared_page. refl)
+          let other : q ≢ copy_page = grind (arith, nat_tests) in ap (seen_where (is_programs q)) (shown_kept q other)
+
+  descriptors_kept : (fd : ℕ) → descriptor_seen names sp d fd ≡ descriptor_seen names s.spaces d fd
+  descriptors_kept = descriptors_off names names s.spaces sp d copy_page copy_no_descriptor shown_kept
 
   tables_kept : HasTables sp d v.b.regions
   tables_kept = record {
@@ -195,13 +203,12 @@ module _ {names : Names} {s : KernelState} {a : AbstractState} {sp : SpacesState
             let same : m ≡ n = grind (arith, nat_tests) in subst (λ (o : ℕ). after o q ≡ before o q) (sym same) here
         by_slot false test = others_count h n v.b v.is (handler_slot (slot_at s n) to) others m (grind (arith, nat_tests)) q
 
-    rows_kept : RowsStand names sp.pages a.shared a.next_name after
+    rows_kept : RowsStand names sp.pages a.shared a.objects a.next_name after
     rows_kept = record {
       apart = λ m o q r x y ne hx hy same. h.apart m o q r x y ne (sym (counts_kept m o) ∙ hx) (sym (counts_kept q r) ∙ hy) same;
       named = λ m q x hx shared_page.
           let it : before m q ≡ Some x = sym (counts_kept m q) ∙ hx in
-          let was = h.named m q x it shared_page in
-          record { home = was.home; bytes = was.bytes ∙ sym (counted_bytes m q x it shared_page); old = was.old };
+          named_bytes (sym (counted_bytes m q x it shared_page)) (h.named m q x it shared_page);
       users = λ m q x hx. h.users m q x (sym (counts_kept m q) ∙ hx);
       whole = λ m q x hx. as_whole m q x (sym (counts_kept m q) ∙ hx);
     }
@@ -215,7 +222,7 @@ module _ {names : Names} {s : KernelState} {a : AbstractState} {sp : SpacesState
         StandsFor names (with_registers (with_spaces s sp) n (handler_registers (slot_at s n).registers to)) a
     rewritten_stands goes =
         copying_stands h n v.b v.is to (ap borne_in stands) (ap borne_in (handler_place (slot_at s n) to v.inside there)) others
-        (handler_moved to v.own v.inside there (v.own.upcall ∙ ap upcall_at stands ∙ sym upcall) memory_kept library_kept tables_kept
+        (handler_moved to v.own v.inside there (v.own.upcall ∙ ap upcall_at stands ∙ sym upcall) memory_kept descriptors_kept library_kept tables_kept
         (copying_goes from to (view_of s.spaces d) (view_of sp d) (slot_at s n) v.b v.at way (row_kept d (page_number UXSTACK))
         (λ x hx own_page. other_bytes (page_number UXSTACK) x stack_beside hx) goes)) rows_kept in_order
 

@@ -17,6 +17,7 @@ use Rattle.lib_os.specs.Places.{place_of}
 use Rattle.lib_os.specs.Rows.{Names, rows_of, logical, IsPage}
 use Rattle.lib_os.specs.StandsFor.{StandsFor, StandsForSlot, borne_in}
 use Rattle.lib_os.proofs.Effects.{Gone}
+use Rattle.lib_os.proofs.EntriesStand.{named_bytes}
 use Rattle.lib_os.proofs.SlotsStand.{SeenAlike, born_at, born_live}
 use Rattle.lib_os.proofs.Children.{born_bears_none, children_kept}
 use Rattle.lib_os.proofs.StatesStand.{born_not_first, directories_apart, others_stand, others_count, tabled_freed}
@@ -60,8 +61,8 @@ ended_stands {names = names} {s = s} {a = a} h n b at unborne gone in_order =
           });
       apart = λ q r m o x y ne hx hy same.
           h.apart q r m o x y ne (still q r x hx).0 (still m o y hy).0 same;
-      named = λ q r x hx shared_page. let before = still q r x hx in let was = h.named q r x before.0 shared_page in
-          record { home = was.home; bytes = was.bytes ∙ sym before.1; old = was.old };
+      named = λ q r x hx shared_page. let before = still q r x hx in
+          named_bytes (sym before.1) (h.named q r x before.0 shared_page);
       users = λ q r x hx. h.users q r x (still q r x hx).0;
       whole = λ q r x hx. let before = still q r x hx in subst (λ (l : List ℕ). IsPage l) (sym before.1) (h.whole q r x before.0);
       free_slots = record {

@@ -8,10 +8,11 @@ use Rattle.jos_base.specs.Reach.{Entry}
 use Rattle.jos_base.specs.KernelState.{KernelState}
 use Rattle.jos_base.specs.SpacesState.{SpacesState, put}
 use Rattle.jos_base.specs.SystemCalls.{has_write}
-use Rattle.lib_os.specs.AbstractState.{AbstractState, own, named}
-use Rattle.lib_os.specs.Rows.{Names, Rows, rows_of, logical, page_by, page_seen, seen_where, is_programs, is_shared, may_write}
-use Rattle.lib_os.specs.Rows.{Agree, AgreeWhereShared, IsNamed, AreNamed, AreUsers, IsUsers, AreWhole, IsPage}
+use Rattle.lib_os.specs.AbstractState.{AbstractState, Object, own, named}
+use Rattle.lib_os.specs.Rows.{Names, Rows, rows_of, logical, page_by, page_seen, seen_where, shown_at, is_programs, is_shared, may_write}
+use Rattle.lib_os.specs.Rows.{Agree, AgreeWhereShared, IsNamed, AreNamed, AreUsers, IsUsers, AreWhole, IsPage, ShowsBy, is_descriptor}
 use Rattle.lib_os.specs.StandsFor.{StandsFor}
+use Rattle.lib_os.proofs.Logical.{programs_no_descriptor}
 use Rattle.lib_os.proofs.SlotsStand.{page_alike, option_map_alike}
 use Rattle.lib_os.proofs.Puts.{put-found}
 use Rattle.jos_base.proofs.Puts.{Elsewhere, place_cases, put-at, put-other}
@@ -54,68 +55,95 @@ apart_put rows d p v apart agree q r m o x y ne hx hy same = by_case (put-found 
     by_case (inr first) (inr second) = apart q r m o x y ne first.1 second.1 same
 
 -- what holds of each entry that is kept, and of the one that is put, holds of each
-pub all_put : (rows : Rows) (d p : ℕ) (v : Option Entry) (Q : Entry → Type 0) →
-    ((q r : ℕ) (x : Entry) → Elsewhere q r d p → rows q r ≡ Some x → Q x) → ((e : Entry) → v ≡ Some e → Q e) →
-    (q r : ℕ) (x : Entry) → put rows d p v q r ≡ Some x → Q x
+pub all_put : (rows : Rows) (d p : ℕ) (v : Option Entry) (Q : ℕ → Entry → Type 0) →
+    ((q r : ℕ) (x : Entry) → Elsewhere q r d p → rows q r ≡ Some x → Q r x) → ((e : Entry) → v ≡ Some e → Q p e) →
+    (q r : ℕ) (x : Entry) → put rows d p v q r ≡ Some x → Q r x
 all_put rows d p v Q old new q r x hx = by_case (put-found rows d p v q r x hx)
   where
-    by_case : ((q ≡ d) × (r ≡ p) × (v ≡ Some x)) ⊎ ((e : Elsewhere q r d p) × (rows q r ≡ Some x)) → Q x
-    by_case (inl here) = new x here.2
+    by_case : ((q ≡ d) × (r ≡ p) × (v ≡ Some x)) ⊎ ((e : Elsewhere q r d p) × (rows q r ≡ Some x)) → Q r x
+    by_case (inl here) = subst (λ (t : ℕ). Q t x) (sym here.1) (new x here.2)
     by_case (inr there) = old q r x there.0 there.1
+
+-- ---- names
+
+-- a frame is named by what it shows, where that is in other bytes that are the same
+pub named_bytes : {names : Names} {pages after shared : ℕ → List ℕ} {objects : ℕ → Object} {next p f : ℕ} → pages f ≡ after f →
+    IsNamed names pages shared objects next p f → IsNamed names after shared objects next p f
+named_bytes {names = names} {shared = shared} {objects = objects} {f = f} same was = record {
+  home = was.home;
+  kind = was.kind;
+  shows = subst (λ (l : List ℕ). ShowsBy (names.is_object (names.name f)) (shared (names.name f)) (objects (names.name f)) l) same was.shows;
+  old = was.old;
+}
+
+-- what is named at a program's page is a page
+pub page_kind : {names : Names} {pages shared : ℕ → List ℕ} {objects : ℕ → Object} {next p f : ℕ} → is_programs p ≡ true →
+    IsNamed names pages shared objects next p f → names.is_object (names.name f) ≡ false
+page_kind {p = p} inside was = was.kind ∙ programs_no_descriptor p inside
+
+-- and has its bytes
+pub page_shows : {names : Names} {pages shared : ℕ → List ℕ} {objects : ℕ → Object} {next p f : ℕ} → is_programs p ≡ true →
+    IsNamed names pages shared objects next p f → shared (names.name f) ≡ pages f
+page_shows {names = names} {pages = pages} {shared = shared} {objects = objects} {f = f} inside was =
+    subst (λ (c : Bool). ShowsBy c (shared (names.name f)) (objects (names.name f)) (pages f)) (page_kind inside was) was.shows
+
+-- a name keeps its frame where it stands at another page of the same kind
+pub named_at : {names : Names} {pages shared : ℕ → List ℕ} {objects : ℕ → Object} {next p q f : ℕ} → is_descriptor q ≡ is_descriptor p →
+    IsNamed names pages shared objects next p f → IsNamed names pages shared objects next q f
+named_at same was = record { home = was.home; kind = was.kind ∙ sym same; shows = was.shows; old = was.old }
 
 -- ---- all of it
 
 -- what holds of entries as they count, with the bytes of their frames
-pub record RowsStand (names : Names) (pages shared : ℕ → List ℕ) (next : ℕ) (rows : Rows) : Type 0 where
+pub record RowsStand (names : Names) (pages shared : ℕ → List ℕ) (objects : ℕ → Object) (next : ℕ) (rows : Rows) : Type 0 where
   pub apart : AgreeWhereShared rows
-  pub named : AreNamed names pages shared next rows
+  pub named : AreNamed names pages shared objects next rows
   pub users : AreUsers rows
   pub whole : AreWhole pages rows
 
 pub rows_stand : {names : Names} {s : KernelState} {a : AbstractState} → StandsFor names s a →
-    RowsStand names s.spaces.pages a.shared a.next_name (logical s.spaces s.environments.slots)
+    RowsStand names s.spaces.pages a.shared a.objects a.next_name (logical s.spaces s.environments.slots)
 rows_stand h = record { apart = h.apart; named = h.named; users = h.users; whole = h.whole }
 
 -- of the same entries
-pub rows_same : {names : Names} {pages shared : ℕ → List ℕ} {next : ℕ} (rows after : Rows) → ((n p : ℕ) → after n p ≡ rows n p) →
-    RowsStand names pages shared next rows → RowsStand names pages shared next after
-rows_same {names = names} {pages = pages} {shared = shared} {next = next} rows after same h =
-    subst (λ (r : Rows). RowsStand names pages shared next r) (λ i n p. sym (same n p) i) h
+pub rows_same : {names : Names} {pages shared : ℕ → List ℕ} {objects : ℕ → Object} {next : ℕ} (rows after : Rows) →
+    ((n p : ℕ) → after n p ≡ rows n p) → RowsStand names pages shared objects next rows → RowsStand names pages shared objects next after
+rows_same {names = names} {pages = pages} {shared = shared} {objects = objects} {next = next} rows after same h =
+    subst (λ (r : Rows). RowsStand names pages shared objects next r) (λ i n p. sym (same n p) i) h
 
 -- where their frames keep their bytes
-pub rows_bytes : {names : Names} {pages shared : ℕ → List ℕ} {next : ℕ} {rows : Rows} (after : ℕ → List ℕ) →
-    ((n p : ℕ) (x : Entry) → rows n p ≡ Some x → after x.frame ≡ pages x.frame) → RowsStand names pages shared next rows →
-    RowsStand names after shared next rows
+pub rows_bytes : {names : Names} {pages shared : ℕ → List ℕ} {objects : ℕ → Object} {next : ℕ} {rows : Rows} (after : ℕ → List ℕ) →
+    ((n p : ℕ) (x : Entry) → rows n p ≡ Some x → after x.frame ≡ pages x.frame) → RowsStand names pages shared objects next rows →
+    RowsStand names after shared objects next rows
 rows_bytes after same h = record {
   apart = h.apart;
-  named = λ n p x is shared_page. let was = h.named n p x is shared_page in
-      record { home = was.home; bytes = was.bytes ∙ sym (same n p x is); old = was.old };
+  named = λ n p x is shared_page. named_bytes (sym (same n p x is)) (h.named n p x is shared_page);
   users = h.users;
   whole = λ n p x is. subst (λ (l : List ℕ). IsPage l) (sym (same n p x is)) (h.whole n p x is);
 }
 
 -- An entry, or none, in the place of what stood there: all others keep their bytes, and names.
-pub record PutsRow (names after : Names) (pages shared pages_after shared_after : ℕ → List ℕ) (next next_after : ℕ) (rows : Rows) (n p : ℕ)
-    (v : Option Entry) : Type 0 where
+pub record PutsRow (names after : Names) (pages shared pages_after shared_after : ℕ → List ℕ) (objects : ℕ → Object) (next next_after : ℕ)
+    (rows : Rows) (n p : ℕ) (v : Option Entry) : Type 0 where
   pub bytes : (m q : ℕ) (x : Entry) → Elsewhere m q n p → rows m q ≡ Some x → pages_after x.frame ≡ pages x.frame
   pub agree : (m q : ℕ) (x e : Entry) → Elsewhere m q n p → rows m q ≡ Some x → v ≡ Some e → x.frame ≡ e.frame → Agree x.perm e.perm
   pub user : (e : Entry) → v ≡ Some e → IsUsers e.perm
   pub whole : (e : Entry) → v ≡ Some e → IsPage (pages_after e.frame)
-  pub named_new : (e : Entry) → v ≡ Some e → is_shared e.perm ≡ true → IsNamed after pages_after shared_after next_after e.frame
+  pub named_new : (e : Entry) → v ≡ Some e → is_shared e.perm ≡ true → IsNamed after pages_after shared_after objects next_after p e.frame
   pub named_old : (m q : ℕ) (x : Entry) → Elsewhere m q n p → rows m q ≡ Some x → is_shared x.perm ≡ true →
-      IsNamed names pages shared next x.frame → IsNamed after pages_after shared_after next_after x.frame
+      IsNamed names pages shared objects next q x.frame → IsNamed after pages_after shared_after objects next_after q x.frame
 
-pub rows_put : {names after : Names} {pages shared pages_after shared_after : ℕ → List ℕ} {next next_after : ℕ} {rows : Rows} {n p : ℕ}
-    {v : Option Entry} → RowsStand names pages shared next rows →
-    PutsRow names after pages shared pages_after shared_after next next_after rows n p v →
-    RowsStand after pages_after shared_after next_after (put rows n p v)
-rows_put {after = after} {pages_after = pages_after} {shared_after = shared_after} {next_after = next_after} {rows = rows} {n = n} {p = p}
-    {v = v} h puts = record {
+pub rows_put : {names after : Names} {pages shared pages_after shared_after : ℕ → List ℕ} {objects : ℕ → Object} {next next_after : ℕ} {rows : Rows}
+    {n p : ℕ} {v : Option Entry} → RowsStand names pages shared objects next rows →
+    PutsRow names after pages shared pages_after shared_after objects next next_after rows n p v →
+    RowsStand after pages_after shared_after objects next_after (put rows n p v)
+rows_put {after = after} {pages_after = pages_after} {shared_after = shared_after} {objects = objects} {next_after = next_after} {rows = rows}
+    {n = n} {p = p} {v = v} h puts = record {
       apart = apart_put rows n p v h.apart puts.agree;
-      named = all_put rows n p v (λ x. is_shared x.perm ≡ true → IsNamed after pages_after shared_after next_after x.frame)
+      named = all_put rows n p v (λ q x. is_shared x.perm ≡ true → IsNamed after pages_after shared_after objects next_after q x.frame)
           (λ m q x ne hx shared_page. puts.named_old m q x ne hx shared_page (h.named m q x hx shared_page)) puts.named_new;
-      users = all_put rows n p v (λ x. IsUsers x.perm) (λ m q x ne hx. h.users m q x hx) puts.user;
-      whole = all_put rows n p v (λ x. IsPage (pages_after x.frame))
+      users = all_put rows n p v (λ q x. IsUsers x.perm) (λ m q x ne hx. h.users m q x hx) puts.user;
+      whole = all_put rows n p v (λ q x. IsPage (pages_after x.frame))
           (λ m q x ne hx. subst (λ (l : List ℕ). IsPage l) (sym (puts.bytes m q x ne hx)) (h.whole m q x hx)) puts.whole;
     }
 
@@ -131,15 +159,22 @@ put_is {V = V} f g n p v here there m q = by_case (place_cases m q n p)
 
 -- ---- pages
 
--- the page at one place, where its entry is the same, and its frame's bytes or its name
+-- what is shown at one place, where its entry is the same, and its frame's bytes or its name
+pub shown_same : (names after : Names) (s t : SpacesState) (d p : ℕ) → rows_of t d p ≡ rows_of s d p →
+    ((x : Entry) → rows_of s d p ≡ Some x → is_shared x.perm ≡ false → t.pages x.frame ≡ s.pages x.frame) →
+    ((x : Entry) → rows_of s d p ≡ Some x → is_shared x.perm ≡ true → after.name x.frame ≡ names.name x.frame) →
+    shown_at after t d p ≡ shown_at names s d p
+shown_same names after s t d p row bytes named_so =
+    option_map_alike (page_by names s.pages) (page_by after t.pages) (rows_of s d p) (rows_of t d p) row
+    (λ x at. page_alike names after s.pages t.pages x (bytes x at) (named_so x at))
+
+-- and the page there
 pub seen_at : (names after : Names) (s t : SpacesState) (d p : ℕ) → rows_of t d p ≡ rows_of s d p →
     ((x : Entry) → rows_of s d p ≡ Some x → is_shared x.perm ≡ false → t.pages x.frame ≡ s.pages x.frame) →
     ((x : Entry) → rows_of s d p ≡ Some x → is_shared x.perm ≡ true → after.name x.frame ≡ names.name x.frame) →
     page_seen after t d p ≡ page_seen names s d p
 seen_at names after s t d p row bytes named_so =
-    ap (seen_where (is_programs p))
-    (option_map_alike (page_by names s.pages) (page_by after t.pages) (rows_of s d p) (rows_of t d p) row
-    (λ x at. page_alike names after s.pages t.pages x (bytes x at) (named_so x at)))
+    ap (seen_where (is_programs p)) (shown_same names after s t d p row bytes named_so)
 
 pub seen_by : (names : Names) (s : SpacesState) (d p : ℕ) (e : Entry) → is_programs p ≡ true → rows_of s d p ≡ Some e →
     page_seen names s d p ≡ Some (page_by names s.pages e)

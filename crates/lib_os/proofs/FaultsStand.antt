@@ -1,7 +1,7 @@
 -- A page fault of a program is handed to the library's handler: the frame is written to the top of the handler's stack, and the handler
 -- stands at its first step. The state stands for the abstract one where the page waits to be copied, and else for that in which the
 -- program is marked with its fault.
-use Rattle.std.proofs.Common.{◌≡◌, ◌∙◌, ◌==◌, ◌||◌, ◌<◌, ◌+◌, ◌-◌, ◌*◌, ◌^◌, ℕ, zero, suc, not, Bool, true, false}
+use Rattle.std.proofs.Common.{◌≡◌, ◌≢◌, ◌∙◌, ◌==◌, ◌||◌, ◌<◌, ◌+◌, ◌-◌, ◌*◌, ◌^◌, ℕ, zero, suc, not, Bool, true, false}
 use Rattle.std.proofs.Common.{List, [], ◌∷◌, length, refl, sym, ap, subst, arith, if◌then◌else◌}
 use Rattle.std.specs.Prelude.{Option, Some, None, Ok, get_or, nat_lt, slice_index, bit_and}
 use Rattle.std.proofs.lemmas.Bool.{false≢true}
@@ -31,11 +31,13 @@ use Rattle.lib_os.specs.InOrder.{IsInOrder}
 use Rattle.lib_os.specs.LibraryPages.{IsOwnWritable, HasFrame, frame_place, has_copy}
 use Rattle.lib_os.specs.LibrarySteps.{copies_left, copy_steps, hidden_left, is_to_copy, left_at}
 use Rattle.lib_os.specs.Places.{handler_step_in, is_handlers, place_in_words, place_of}
-use Rattle.lib_os.specs.Rows.{EntryRow, IsPage, IsUsers, Names, Rows, lasting, logical, page_seen, rows_of}
+use Rattle.lib_os.specs.Rows.{EntryRow, IsPage, IsUsers, Names, Rows, descriptor_seen, is_programs, lasting, logical, page_seen, rows_of}
+use Rattle.lib_os.specs.Rows.{seen_where, shown_at}
 use Rattle.lib_os.specs.StandsFor.{StandsFor, StandsForBorn, StandsAt, upcall_at, view_of, borne_in}
 use Rattle.lib_os.specs.StandsInHandler.{AreSmall, CopiesOrEnds, IsAtGuest, IsToCopy, copies, ends}
 use Rattle.lib_os.proofs.BytesRead.{IsRefusal, lasting_reads, lasting_writes, remapped}
-use Rattle.lib_os.proofs.EntriesStand.{seen_at}
+use Rattle.lib_os.proofs.CopiesStand.{descriptors_off}
+use Rattle.lib_os.proofs.EntriesStand.{shown_same}
 use Rattle.lib_os.proofs.EntryWords.{row_entry}
 use Rattle.lib_os.proofs.Fences.{inside_below, inside_number}
 use Rattle.lib_os.proofs.LaidStand.{Laid, bytes_laid, laid_beside, laid_others, laid_rows, overlaid_at}
@@ -286,7 +288,15 @@ module _ {names : Names} {s : KernelState} {a : AbstractState} (h : StandsFor na
           (omega (arith, size, lt));
     }
 
-    -- memory is seen as before
+    -- all but the stack is shown as before
+    shown_kept : (q : ℕ) → q ≢ page_number UXSTACK → shown_at names sp d q ≡ shown_at names s.spaces d q
+    shown_kept q other =
+        shown_same names names s.spaces sp d q (ap (λ (row : EntryRow). row q) row_kept)
+        (λ x hx own_too. laid_beside h n b at plain (page_number UXSTACK) (stack_page h n b at).entry (stack_page h n b at).stands
+        (stack_page h n b at).own_page (stack_page h n b at).writes bytes laid q x other hx own_too)
+        (λ x hx shared_page. refl)
+
+    -- memory is seen as before, and descriptors
     seen_kept : (q : ℕ) → page_seen names sp d q ≡ page_seen names s.spaces d q
     unfolding in_fence
     seen_kept q = by_page (q == page_number UXSTACK) refl
@@ -296,10 +306,10 @@ module _ {names : Names} {s : KernelState} {a : AbstractState} (h : StandsFor na
             let here : page_number UXSTACK ≡ q = grind (arith, nat_tests) in
             subst (λ (r : ℕ). page_seen names sp d r ≡ page_seen names s.spaces d r) here refl
         by_page false test =
-            seen_at names names s.spaces sp d q (ap (λ (row : EntryRow). row q) row_kept)
-            (λ x hx own_too. laid_beside h n b at plain (page_number UXSTACK) (stack_page h n b at).entry (stack_page h n b at).stands
-            (stack_page h n b at).own_page (stack_page h n b at).writes bytes laid q x (grind (arith, nat_tests)) hx own_too)
-            (λ x hx shared_page. refl)
+            ap (seen_where (is_programs q)) (shown_kept q (grind (arith, nat_tests)))
+
+    descriptors_kept : (fd : ℕ) → descriptor_seen names sp d fd ≡ descriptor_seen names s.spaces d fd
+    descriptors_kept = descriptors_off names names s.spaces sp d (page_number UXSTACK) refl shown_kept
 
     -- what the environment has of its own, marked with its fault or not
     module _ (small : AreSmall k.registers) (va_small : fault.va < 2 ^ 32) (error_small : fault.error < 2 ^ 32) (phase : Phase)
@@ -314,7 +324,7 @@ module _ {names : Names} {s : KernelState} {a : AbstractState} (h : StandsFor na
             env_type = own.env_type;
             runs = own.runs;
             upcall = upcall_is ∙ sym (ap upcall_at there);
-            descriptors = own.descriptors;
+            descriptors = λ fd. own.descriptors fd ∙ sym (descriptors_kept fd);
             memory = λ q. own.memory q ∙ sym (seen_kept q);
             library = library_alike (place_of (entered_slot k)) (rows_of s.spaces d) (rows_of sp d) row_kept
                 (library_moved (place_of k) (place_of (entered_slot k)) (rows_of s.spaces d) (ap has_copy stands ∙ sym (ap has_copy there))

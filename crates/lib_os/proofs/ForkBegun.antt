@@ -5,14 +5,14 @@ use Rattle.std.proofs.lemmas.Bool.{false≢true}
 use Rattle.std.proofs.lemmas.Bool.Decides.{nat_tests}
 use Rattle.std.proofs.lemmas.Option.{none-some, same_Some}
 use Rattle.jos_base.specs.declared.environment.EnvType.TheVariants.{User}
-use Rattle.jos_base.specs.declared.numbers.TheConstants.{NENV, NPTENTRIES, PGSIZE, USTACKTOP}
+use Rattle.jos_base.specs.declared.numbers.TheConstants.{FDTABLE, NENV, NPTENTRIES, PGSIZE, USTACKTOP}
 use Rattle.jos_base.specs.declared.registers.Regs.{Regs}
 use Rattle.jos_base.specs.Environments.{Slot, is_live as is_live_slot, is_running, next_id}
 use Rattle.jos_base.specs.KernelState.{KernelState, slot_at, with_extra, with_slot_at}
 use Rattle.jos_base.specs.Reach.{Entry}
 use Rattle.jos_base.specs.SpacesState.{SpacesState, Region, Use, directory, free as unused, page as as_page}
-use Rattle.jos_base.specs.Words.{upd}
-use Rattle.lib_os.specs.declared.numbers.TheConstants.{SERVICE_FORK}
+use Rattle.jos_base.specs.Words.{page_number, upd}
+use Rattle.lib_os.specs.declared.numbers.TheConstants.{DESCRIPTORS, SERVICE_FORK}
 use Rattle.lib_os.specs.declared.place.Place.{Place}
 use Rattle.lib_os.specs.declared.place.Place.TheVariants as place
 use Rattle.lib_os.specs.declared.place.Step.{Step}
@@ -25,7 +25,7 @@ use Rattle.lib_os.specs.Answers.{at_stage}
 use Rattle.lib_os.specs.InOrder.{IsInOrder, AreFree}
 use Rattle.lib_os.specs.LibraryPages.{region_index}
 use Rattle.lib_os.specs.Places.{place_of, words_at}
-use Rattle.lib_os.specs.Rows.{Names, EntryRow, rows_of, counted, logical, logical_by, is_programs}
+use Rattle.lib_os.specs.Rows.{Names, EntryRow, rows_of, counted, logical, logical_by, is_descriptor, is_programs}
 use Rattle.lib_os.specs.StandsFor.{StandsFor, StandsForSlot, StandsForBorn, StandsForUnborn, StandsAt, IsTabled, AreSlots, IsBorne}
 use Rattle.lib_os.specs.StandsFor.{IsBearing, view_of, borne_in, is_passed}
 use Rattle.lib_os.proofs.Bearing.{IsChild, child_borne}
@@ -77,7 +77,14 @@ guest_counts row p = refl
 
 -- ---- a child that has nothing yet
 
--- no page of a program is passed on
+-- no page of a descriptor is passed on
+none_handed : (id p : ℕ) → is_descriptor p ≡ true → is_passed (step.ForkRegion id (region_index USTACKTOP)) p ≡ true → ⊥
+none_handed id p is passed =
+    let below : p < page_number FDTABLE + DESCRIPTORS = grind (arith, nat_tests) in
+    let above : (region_index USTACKTOP + 1) * NPTENTRIES ≤ p = grind (arith, nat_tests) in
+    omega (arith, below, above)
+
+-- and none of a program
 none_passed : (id p : ℕ) → is_programs p ≡ true → is_passed (step.ForkRegion id (region_index USTACKTOP)) p ≡ true → ⊥
 none_passed id p inside passed =
     let below : p * PGSIZE + PGSIZE ≤ USTACKTOP = fence_below (p * PGSIZE) PGSIZE inside in
@@ -313,7 +320,7 @@ module _ {names : Names} {s : KernelState} {a : AbstractState} (h : StandsFor na
           subst (λ (q : ℕ). logical sp slots_after q p ≡ logical s.spaces s.environments.slots q p) same here
       by_parent false test = by_child (grind (arith, nat_tests)) (j == m) refl
 
-  rows : RowsStand names sp.pages a.shared a.next_name (logical sp slots_after)
+  rows : RowsStand names sp.pages a.shared a.objects a.next_name (logical sp slots_after)
   rows =
       rows_same (logical s.spaces s.environments.slots) (logical sp slots_after) rows_count
       (rows_bytes sp.pages (λ j p x is.
@@ -327,11 +334,12 @@ module _ {names : Names} {s : KernelState} {a : AbstractState} (h : StandsFor na
     registers = refl;
     upcall = refl;
     passed = λ p inside passed. absurd (none_passed id p inside passed);
+    handed = λ p is passed. absurd (none_handed id p is passed);
     rest = λ p inside off. no_row p;
     library = record {
       stack = λ has. absurd (false≢true has);
       no_stack = λ none. no_row _;
-      none = λ p outside other. no_row p;
+      none = λ p outside no_descriptor other. no_row p;
     };
     tables = λ r table. absurd (false≢true (sym (no_table r) ∙ table));
   }
@@ -360,6 +368,7 @@ module _ {names : Names} {s : KernelState} {a : AbstractState} (h : StandsFor na
       let its_parent = slots_else p not_parent not_child in
       borne_moved (slots_after p) (abstract_after p) (slots_after j) (ap (λ (x : Slot). place_of x) its_parent)
       (ap (λ (x : Slot). x.registers) its_parent) (abstract_else p not_parent not_child)
+      (λ q is. ap (λ (x : Slot). rows_of sp x.directory q) its_parent ∙ ap (λ (row : EntryRow). row q) (rows_kept (slot_at s p).directory))
       (same_child (slot_at s j) (slots_after j) (slots_else j ne other)) (seen (slot_at s j).directory) was
 
   same_unborn : (x y z w : ℕ) → unborn x y ≡ unborn z w → (x ≡ z) × (y ≡ w)

@@ -26,7 +26,7 @@ use Rattle.lib_os.specs.Fence.{in_fence}
 use Rattle.lib_os.specs.InOrder.{IsInOrder}
 use Rattle.lib_os.specs.LibraryPages.{has_copy, is_library_region}
 use Rattle.lib_os.specs.Places.{place_of, words_at}
-use Rattle.lib_os.specs.Rows.{Names, EntryRow, counted, lasting, rows_of, logical, page_seen, is_programs}
+use Rattle.lib_os.specs.Rows.{Names, EntryRow, counted, lasting, rows_of, logical, page_seen, is_descriptor, is_programs}
 use Rattle.lib_os.specs.StandsFor.{StandsFor, StandsForBorn, StandsAt, StandsAtStep, IsBearing, view_of, upcall_at}
 use Rattle.lib_os.specs.StandsFor.{borne_at, is_passed, has_stack, child_upcall, top_page}
 use Rattle.lib_os.proofs.Bearing.{IsBearer, IsChild, bearing_stands}
@@ -45,8 +45,9 @@ pub record HasFrom (names : Names) (s : SpacesState) (parent : Slot) (b : Born) 
   pub registers : k.registers ≡ record parent.registers { eax = 0 }
   pub upcall : k.upcall ≡ 0
   pub passed : (p : ℕ) → is_programs p ≡ true → page ≤ p → page_seen names s k.directory p ≡ b.memory p
-  pub rest : (p : ℕ) → is_programs p ≡ true → p < page → rows_of s k.directory p ≡ None
-  pub none : (p : ℕ) → is_programs p ≡ false → rows_of s k.directory p ≡ None
+  pub handed : (p : ℕ) → is_descriptor p ≡ true → page ≤ p → rows_of s k.directory p ≡ rows_of s parent.directory p
+  pub rest : (p : ℕ) → is_programs p || is_descriptor p ≡ true → p < page → rows_of s k.directory p ≡ None
+  pub none : (p : ℕ) → is_programs p ≡ false → is_descriptor p ≡ false → rows_of s k.directory p ≡ None
   pub tables : (r : ℕ) → is_some (s.regions k.directory r) ≡ true → has_page_in b.memory r || is_library_region r ≡ true
 
 -- the least page that is passed on at a step
@@ -97,10 +98,29 @@ passed_from (step.ChildStack id) p = every p
 passed_from (step.ChildUpcall id) p = every p
 passed_from (step.ChildRuns id) p = every p
 passed_from (step.Undoing id error) p = every p
+passed_from (step.DescriptorEntry fd) p = every p
+passed_from step.TargetEntry p = every p
+passed_from (step.DroppingDescriptor fd) p = every p
+passed_from step.MappingDescriptor p = every p
+passed_from step.Ending p = every p
 
 stack_kept : is_programs (page_number UXSTACK) ≡ false
 unfolding in_fence
 stack_kept = refl
+
+stack_no_descriptor : is_descriptor (page_number UXSTACK) ≡ false
+stack_no_descriptor = refl
+
+-- fork passes on the pages of a program, and those of its descriptors
+pub programs_handed : (p : ℕ) → is_programs p ≡ true → is_programs p || is_descriptor p ≡ true
+programs_handed p inside = ap (λ (c : Bool). c || is_descriptor p) inside
+
+pub descriptor_handed : (p : ℕ) → is_descriptor p ≡ true → is_programs p || is_descriptor p ≡ true
+descriptor_handed p descriptor = ap (λ (c : Bool). is_programs p || c) descriptor ∙ by_test (is_programs p)
+  where
+    by_test : (c : Bool) → c || true ≡ true
+    by_test true = refl
+    by_test false = refl
 
 module _ {names : Names} {s : SpacesState} {parent : Slot} {b : Born} {k : Slot} where
   -- a child at a step at which it has neither the stack of its handler nor the handler
@@ -109,39 +129,43 @@ module _ {names : Names} {s : SpacesState} {parent : Slot} {b : Born} {k : Slot}
     registers = h.registers;
     upcall = h.upcall ∙ no_handler;
     passed = λ p inside from. h.passed p inside (passed_from at p ∙ is_from (lowest at) p from);
+    handed = λ p descriptor from. h.handed p descriptor (passed_from at p ∙ is_from (lowest at) p from);
     rest = λ p inside below. h.rest p inside (passed_from at p ∙ is_below (lowest at) p below);
     none = none;
     tables = h.tables;
   }
     where
-      none : (p : ℕ) → is_programs p ≡ false → rows_of s k.directory p ≡ None
-      none p outside = by_stack (p == page_number UXSTACK) refl
+      none : (p : ℕ) → is_programs p ≡ false → is_descriptor p ≡ false → rows_of s k.directory p ≡ None
+      none p outside no_descriptor = by_stack (p == page_number UXSTACK) refl
         where
           by_stack : (c : Bool) → (p == page_number UXSTACK) ≡ c → rows_of s k.directory p ≡ None
           by_stack true is = ap (rows_of s k.directory) (eqb-true p (page_number UXSTACK) is) ∙ h.library.no_stack no_stack
-          by_stack false is = h.library.none p outside (eqb-false p (page_number UXSTACK) is)
+          by_stack false is = h.library.none p outside no_descriptor (eqb-false p (page_number UXSTACK) is)
 
   pub is_child : (at : Step) → has_stack at ≡ false → child_upcall at ≡ 0 → HasFrom names s parent b (lowest at) k → IsChild names s parent b at k
   is_child at no_stack no_handler h = record {
     registers = h.registers;
     upcall = h.upcall ∙ sym no_handler;
     passed = λ p inside on. h.passed p inside (from_is (lowest at) p (sym (passed_from at p) ∙ on));
+    handed = λ p descriptor on. h.handed p descriptor (from_is (lowest at) p (sym (passed_from at p) ∙ on));
     rest = λ p inside off. h.rest p inside (below_is (lowest at) p (sym (passed_from at p) ∙ off));
     library = record {
       stack = λ on. absurd (let contradiction : true ≡ false = sym on ∙ no_stack in cc);
-      no_stack = λ off. h.none (page_number UXSTACK) stack_kept;
-      none = λ p outside other. h.none p outside;
+      no_stack = λ off. h.none (page_number UXSTACK) stack_kept stack_no_descriptor;
+      none = λ p outside no_descriptor other. h.none p outside no_descriptor;
     };
     tables = h.tables;
   }
 
   -- Pages are passed over where the parent has none.
   pub passes_over : (from page : ℕ) → page ≤ from → ((p : ℕ) → is_programs p ≡ true → page ≤ p → p < from → b.memory p ≡ None) →
+      ((p : ℕ) → is_descriptor p ≡ true → page ≤ p → p < from → rows_of s parent.directory p ≡ None) →
       HasFrom names s parent b from k → HasFrom names s parent b page k
-  passes_over from page below nothing h = record {
+  passes_over from page below nothing none_open h = record {
     registers = h.registers;
     upcall = h.upcall;
     passed = passed;
+    handed = handed;
     rest = λ p inside lower. h.rest p inside (omega (arith, lower, below));
     none = h.none;
     tables = h.tables;
@@ -154,14 +178,26 @@ module _ {names : Names} {s : SpacesState} {parent : Slot} {b : Born} {k : Slot}
           by_test true is = h.passed p inside (from_is from p is)
           by_test false is =
               let lower = below_is from p is in
-              seen_none names s k.directory p (h.rest p inside lower) ∙ sym (nothing p inside at_least lower)
+              seen_none names s k.directory p (h.rest p (programs_handed p inside) lower) ∙ sym (nothing p inside at_least lower)
+
+      handed : (p : ℕ) → is_descriptor p ≡ true → page ≤ p → rows_of s k.directory p ≡ rows_of s parent.directory p
+      handed p descriptor at_least = by_test (nat_le from p) refl
+        where
+          by_test : (c : Bool) → nat_le from p ≡ c → rows_of s k.directory p ≡ rows_of s parent.directory p
+          by_test true is = h.handed p descriptor (from_is from p is)
+          by_test false is =
+              let lower = below_is from p is in
+              h.rest p (descriptor_handed p descriptor) lower ∙ sym (none_open p descriptor at_least lower)
 
   pub passes_page : (page : ℕ) → (is_programs page ≡ true → b.memory page ≡ None) →
+      (is_descriptor page ≡ true → rows_of s parent.directory page ≡ None) →
       HasFrom names s parent b (page + 1) k → HasFrom names s parent b page k
-  passes_page page nothing =
+  passes_page page nothing none_open =
       passes_over (page + 1) page (omega arith)
       (λ p inside at_least lower. let here : p ≡ page = omega (arith, at_least, lower) in
       ap b.memory here ∙ nothing (ap is_programs (sym here) ∙ inside))
+      (λ p descriptor at_least lower. let here : p ≡ page = omega (arith, at_least, lower) in
+      ap (rows_of s parent.directory) here ∙ none_open (ap is_descriptor (sym here) ∙ descriptor))
 
 -- ---- pages that the parent has not
 
@@ -169,15 +205,23 @@ module _ {names : Names} {s : SpacesState} {parent : Slot} {b : Born} {k : Slot}
 pub programs_below : (p : ℕ) → is_programs p ≡ true → p < top_page
 programs_below p inside = let below = fence_below (p * PGSIZE) PGSIZE inside in omega (arith, below)
 
--- no page is seen in a region that has no table
-pub no_table : (names : Names) (s : KernelState) (d p : ℕ) → IsInOrder s → is_some (s.spaces.regions d (p / NPTENTRIES)) ≡ false →
-    page_seen names s.spaces d p ≡ None
+-- and so have those of descriptors
+pub descriptors_below : (p : ℕ) → is_descriptor p ≡ true → p < top_page
+descriptors_below p descriptor = grind (arith, nat_tests)
+
+-- no entry stands in a region that has no table
+pub no_row : (s : KernelState) (d p : ℕ) → IsInOrder s → is_some (s.spaces.regions d (p / NPTENTRIES)) ≡ false → rows_of s.spaces d p ≡ None
 unfolding rows_of
-no_table names s d p in_order none = seen_none names s.spaces d p (by_entry (s.spaces.entries d p) refl)
+no_row s d p in_order none = by_entry (s.spaces.entries d p) refl
   where
     by_entry : (o : Option Entry) → s.spaces.entries d p ≡ o → option_map lasting o ≡ None
     by_entry None is = refl
     by_entry (Some e) is = absurd (let contradiction : true ≡ false = sym (in_order.frames.regions d p e is) ∙ none in cc)
+
+-- so no page is seen there
+pub no_table : (names : Names) (s : KernelState) (d p : ℕ) → IsInOrder s → is_some (s.spaces.regions d (p / NPTENTRIES)) ≡ false →
+    page_seen names s.spaces d p ≡ None
+no_table names s d p in_order none = seen_none names s.spaces d p (no_row s d p in_order none)
 
 -- ---- where fork goes on behind a page
 
@@ -281,34 +325,36 @@ module _ (k : Slot) (at next : Step) (stands : place_of k ≡ place.InService se
     at = subst (λ (p : Place). StandsAt p (view_of s k.directory) (moved k next) b) (sym moved_place) so;
   }
 
-  -- a page that fork looks at, and that is there, is one that a program may have
-  pub there_programs : {names : Names} {s : SpacesState} {b : Born} → StandsForBorn names s k b → (p : ℕ) (x : Entry) → p < top_page →
-      rows_of s k.directory p ≡ Some x → is_programs p ≡ true
-  there_programs {s = s} own p x lower is = by_test (is_programs p) refl
+  -- a page that fork looks at, and that is there, is one that a program may have, or a descriptor's
+  pub there_handed : {names : Names} {s : SpacesState} {b : Born} → StandsForBorn names s k b → (p : ℕ) (x : Entry) → p < top_page →
+      rows_of s k.directory p ≡ Some x → is_programs p || is_descriptor p ≡ true
+  there_handed {s = s} own p x lower is = by_tests (is_programs p) (is_descriptor p) refl refl
     where
       copy : rows_of s k.directory (page_number PFTEMP) ≡ None
       copy = own.library.no_copy (ap has_copy stands)
 
-      by_test : (c : Bool) → is_programs p ≡ c → is_programs p ≡ true
-      by_test true inside = inside
-      by_test false outside = by_copy (p == page_number PFTEMP) refl
+      by_tests : (c t : Bool) → is_programs p ≡ c → is_descriptor p ≡ t → c || t ≡ true
+      by_tests true t inside descriptor = refl
+      by_tests false true outside descriptor = refl
+      by_tests false false outside no_descriptor = by_copy (p == page_number PFTEMP) refl
         where
-          nowhere : rows_of s k.directory p ≡ None → is_programs p ≡ true
+          nowhere : rows_of s k.directory p ≡ None → false ≡ true
           nowhere none = let contradiction : ◌≡◌ {A = Option Entry} None (Some x) = sym none ∙ is in absurd cc
 
-          by_copy : (c : Bool) → (p == page_number PFTEMP) ≡ c → is_programs p ≡ true
+          by_copy : (c : Bool) → (p == page_number PFTEMP) ≡ c → false ≡ true
           by_copy true here = nowhere (ap (rows_of s k.directory) (eqb-true p (page_number PFTEMP) here) ∙ copy)
           by_copy false other =
-              nowhere (own.library.none p outside (λ same. let too : p ≡ page_number UXSTACK = same in omega (arith, lower, too))
+              nowhere (own.library.none p outside no_descriptor (λ same. let too : p ≡ page_number UXSTACK = same in omega (arith, lower, too))
               (eqb-false p (page_number PFTEMP) other))
 
--- a child is what it is by its parent's registers
+-- a child is what it is by its parent's registers and space
 pub child_still : {names : Names} {s : SpacesState} {parent : Slot} {b : Born} {at : Step} {k : Slot} (after : Slot) →
-    after.registers ≡ parent.registers → IsChild names s parent b at k → IsChild names s after b at k
-child_still after same h = record {
+    after.registers ≡ parent.registers → after.directory ≡ parent.directory → IsChild names s parent b at k → IsChild names s after b at k
+child_still {s = s} after same space h = record {
   registers = h.registers ∙ ap (λ (r : Regs). record r { eax = 0 }) (sym same);
   upcall = h.upcall;
   passed = h.passed;
+  handed = λ p descriptor on. h.handed p descriptor on ∙ ap (λ (d : ℕ). rows_of s d p) (sym space);
   rest = h.rest;
   library = h.library;
   tables = h.tables;
@@ -329,7 +375,7 @@ module _ {names : Names} {s : KernelState} {a : AbstractState} (h : StandsFor na
 
   module _ (sp : SpacesState) (others : (d : ℕ) → d ≢ parent.directory → d ≢ child.directory → SeenAlike names names s.spaces sp d)
       (mine : StandsForBorn names sp after v.b) (has : IsChild names sp parent v.b next child)
-      (rows : RowsStand names sp.pages a.shared a.next_name (logical sp (upd s.environments.slots n after)))
+      (rows : RowsStand names sp.pages a.shared a.objects a.next_name (logical sp (upd s.environments.slots n after)))
       (in_order : IsInOrder (with_spaces s sp)) where
     back : with_slot_at (with_spaces s sp) (id % NENV) child ≡ with_spaces s sp
     back = slot_back (with_spaces s sp) (id % NENV) child refl
@@ -340,8 +386,8 @@ module _ {names : Names} {s : KernelState} {a : AbstractState} (h : StandsFor na
         subst (λ (t : KernelState). StandsFor names (with_slot_at t n after) a) back
         (bearing_stands h n id at next v after child refl refl others
         (record { id = refl; env_type = refl; calm = λ runs. runs }) (record { id = refl; env_type = refl; calm = λ runs. runs })
-        (moved_place parent at next v.place) bears mine v.child_own (child_still after refl has)
-        (subst (λ (slots : ℕ → Slot). RowsStand names sp.pages a.shared a.next_name (logical sp (upd slots n after)))
+        (moved_place parent at next v.place) bears mine v.child_own (child_still after refl refl has)
+        (subst (λ (slots : ℕ → Slot). RowsStand names sp.pages a.shared a.objects a.next_name (logical sp (upd slots n after)))
         (sym (upd-back s.environments.slots (id % NENV) child refl)) rows)
         (subst (λ (t : KernelState). IsInOrder (with_slot_at t n after)) (sym back)
         (slot_in_order (with_spaces s sp) n after refl refl in_order)))

@@ -30,7 +30,7 @@ use Rattle.lib_os.specs.AbstractMemory.{has_page_in}
 use Rattle.lib_os.specs.Fence.{in_fence}
 use Rattle.lib_os.specs.LibraryPages.{View, HasFrame, frame_place, is_library_region}
 use Rattle.lib_os.specs.Places.{handler_step_in, place_in_words, place_of, step_in, words_at}
-use Rattle.lib_os.specs.Rows.{AreBytes, IsPage, counted, is_programs, lasting, page_by, rows_of, seen_where}
+use Rattle.lib_os.specs.Rows.{AreBytes, IsPage, counted, is_descriptor, is_programs, lasting, page_by, rows_of, seen_where}
 use Rattle.lib_os.specs.Services.{named_service, service_of}
 use Rattle.lib_os.specs.StandingLaws.{IsHalfCopied, SomeCopyStands}
 use Rattle.lib_os.specs.StandsFor.{view_of, borne_in, HasChildren, IsBorne, StandsForUnborn}
@@ -309,10 +309,10 @@ parent_slot = running_slot 0x1001 21 program forking
 abbrev parent_is : Born
 parent_is = born_in spaces 0x1001 21 program is_bearing
 
--- all that a program may have there is the page between them
-child_row : (p : ℕ) → is_programs p ≡ true → rows_of (spaces_of spaces) 28 p ≡ rows_of (spaces_of spaces) 21 p
+-- all that stands there beside the stack of the parent's handler is the page between them
+child_row : (p : ℕ) → p ≢ page_number UXSTACK → rows_of (spaces_of spaces) 28 p ≡ rows_of (spaces_of spaces) 21 p
 unfolding rows_of
-child_row p inside = by_page (0x800 == p) refl
+child_row p beside = by_page (0x800 == p) refl
   where
     by_page : (c : Bool) → (0x800 == p) ≡ c → option_map lasting (found ((0x800, between) ∷ []) p)
         ≡ option_map lasting (found ((0x800, between) ∷ (0xeebff, own_entry 31) ∷ []) p)
@@ -323,7 +323,7 @@ child_row p inside = by_page (0x800 == p) refl
             ≡ option_map lasting (found ((0x800, between) ∷ (0xeebff, own_entry 31) ∷ []) p)
         by_stack true stack =
             let same : p ≡ 0xeebff = grind (arith, nat_tests) in
-            absurd ((programs_beside p inside).1 same)
+            absurd (beside same)
         by_stack false stack = rw (test, stack) refl
 
 child_none : (p : ℕ) → (0x800 == p) ≡ false → rows_of (spaces_of spaces) 28 p ≡ None
@@ -352,12 +352,14 @@ is_child = record {
   registers = refl;
   upcall = refl;
   passed = λ p inside passed.
-      ap (λ (o : Option Entry). seen_where (is_programs p) (option_map (page_by the_names (spaces_of spaces).pages) o)) (child_row p inside);
+      ap (λ (o : Option Entry). seen_where (is_programs p) (option_map (page_by the_names (spaces_of spaces).pages) o))
+      (child_row p (programs_beside p inside).1);
+  handed = λ p descriptor passed. child_row p (λ same. absurd (let contradiction : true ≡ false = sym descriptor ∙ ap is_descriptor same in cc));
   rest = λ p inside below. child_none p (grind (arith, nat_tests, below));
   library = record {
     stack = λ has. absurd (let contradiction : false ≡ true = has in cc);
     no_stack = λ none. child_none (page_number UXSTACK) refl;
-    none = λ p outside beside. child_none p (by_page p outside (0x800 == p) refl);
+    none = λ p outside closed beside. child_none p (by_page p outside (0x800 == p) refl);
   };
   tables = λ r has. by_region r has (2 == r) refl;
 }

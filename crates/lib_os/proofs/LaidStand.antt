@@ -16,7 +16,7 @@ use Rattle.lib_os.specs.Places.{place_of}
 use Rattle.lib_os.specs.Rows.{Names, Rows, rows_of, counted, logical, logical_by, is_shared, IsPage}
 use Rattle.lib_os.specs.StandsFor.{StandsFor}
 use Rattle.lib_os.proofs.EntriesCount.{entry_counts}
-use Rattle.lib_os.proofs.EntriesStand.{RowsStand, rows_same, same_sharing, other_frame}
+use Rattle.lib_os.proofs.EntriesStand.{RowsStand, rows_same, same_sharing, other_frame, named_bytes}
 use Rattle.lib_os.proofs.Logical.{is_plain, logical_plain}
 use Rattle.lib_os.proofs.SlotsStand.{SeenAlike, born_at, born_live}
 use Rattle.lib_os.proofs.StatesStand.{CountsAlike, set_counts}
@@ -103,15 +103,14 @@ module _ {names : Names} {s : KernelState} {a : AbstractState} {sp : SpacesState
   -- where its slot is another, in the same space, and its entries count as before, all is as it was of entries
   pub laid_rows : IsPage bytes → (k : Slot) → is_live k ≡ is_live (slot_at s n) → k.directory ≡ d →
       CountsAlike (place_of (slot_at s n)) (place_of k) →
-      RowsStand names sp.pages a.shared a.next_name (logical sp (upd s.environments.slots n k))
+      RowsStand names sp.pages a.shared a.objects a.next_name (logical sp (upd s.environments.slots n k))
   laid_rows page k live directory counts =
       rows_same before (logical sp (upd s.environments.slots n k))
       (λ m q. same_rows_count s.spaces sp laid.rows (upd s.environments.slots n k) m q ∙ set_counts s n k live directory counts m q)
       (record {
         apart = h.apart;
         named = λ m q x hx shared_page.
-            let was = h.named m q x hx shared_page in
-            record { home = was.home; bytes = was.bytes ∙ sym (bytes_kept x (shared_elsewhere m q x hx shared_page)); old = was.old };
+            named_bytes (sym (bytes_kept x (shared_elsewhere m q x hx shared_page))) (h.named m q x hx shared_page);
         users = h.users;
         whole = λ m q x hx. by_frame x (x.frame == e.frame) refl (h.whole m q x hx);
       })

@@ -88,3 +88,5 @@ pub mod UsesPlaced
 pub mod UsesCalled
 pub mod DiskBytes
 mod AbstractExamples
+pub mod DescriptorLooks
+pub mod DescriptorsStand

@@ -2,7 +2,7 @@
 -- each that is listed holds everywhere, so that the state is in order and stands for an abstract one.
 use Rattle.std.proofs.Common.{◌≡◌, ◌≢◌, ◌∙◌, ◌<◌, ◌/◌, ◌%◌, ◌^◌, ◌==◌, ◌||◌, not, ℕ, Bool, true, false, List, [], ◌∷◌, refl, sym}
 use Rattle.std.proofs.Common.{ap, subst, arith, if◌then◌else◌}
-use Rattle.std.specs.Prelude.{Option, Some, None, is_some}
+use Rattle.std.specs.Prelude.{Option, Some, None, is_some, nat_lt}
 use Rattle.std.specs.Option.{option_map}
 use Rattle.std.proofs.lemmas.Bool.{false≢true}
 use Rattle.std.proofs.lemmas.Bool.Decides.{nat_tests}
@@ -20,7 +20,7 @@ use Rattle.jos_base.specs.SystemCalls.{has_write}
 use Rattle.jos_base.specs.TrapFrames.{user_flags}
 use Rattle.jos_base.specs.Words.{page_number}
 use Rattle.fs_layout.specs.FileTree.{a_directory, no_more}
-use Rattle.lib_os.specs.declared.numbers.TheConstants.{PFTEMP, PGFAULT_UPCALL, UXSTACK}
+use Rattle.lib_os.specs.declared.numbers.TheConstants.{DESCRIPTORS, PFTEMP, PGFAULT_UPCALL, UXSTACK}
 use Rattle.lib_os.specs.declared.place.Place.{Place}
 use Rattle.lib_os.specs.AbstractState.{AbstractState, Born, AbstractSlot, free, unborn, born, serving, Phase, guest, idle, terminal}
 use Rattle.lib_os.specs.Fence.{is_resident}
@@ -28,8 +28,9 @@ use Rattle.lib_os.specs.InOrder.{HasOneUse}
 use Rattle.lib_os.specs.LibraryPages.{LibraryPages, IsOwnWritable, has_copy, is_library_region, region_index}
 use Rattle.lib_os.specs.Places.{place_of, place_in_words, is_handlers}
 use Rattle.lib_os.specs.Rows.{Names, EntryRow, lasting, rows_of, counted, logical, page_seen, is_programs, is_shared, IsUsers, Agree, AgreeWhereShared, IsPage}
+use Rattle.lib_os.specs.Rows.{descriptor_page, descriptor_seen, is_descriptor, name_of, page_by, shown_at}
 use Rattle.lib_os.specs.StandsFor.{StandsFor, StandsForSlot, StandsForBorn, StandsAt, view_of, upcall_at, HasChildren, borne_in}
-use Rattle.lib_os.proofs.Logical.{logical_live, logical_some}
+use Rattle.lib_os.proofs.Logical.{logical_live, logical_some, programs_no_descriptor}
 
 -- ---- lists by numbers
 
@@ -225,7 +226,7 @@ abbrev pub no_pair : Pair
 no_pair = (free_slot 0, free 0)
 
 abbrev pub the_names : Names
-the_names = record { name = λ f. f; frame = λ name. name }
+the_names = record { name = λ f. f; frame = λ name. name; is_object = λ name. false }
 
 abbrev pub state_of : Spaces → List (ℕ × Pair) → KernelState
 state_of l pairs = record {
@@ -449,6 +450,28 @@ none_unknown l d known p outside no_stack no_copy = by_entry (found_two l.rows d
             is_programs p || (p == page_number UXSTACK) || (p == page_number PFTEMP) ≡ false
         unknown a b c = rw (a, b, c) refl
 
+-- so no descriptor's page stands there
+no_descriptor : (l : Spaces) (d : ℕ) → AllListed IsKnown (listed l.rows [] d) → (p : ℕ) → is_descriptor p ≡ true →
+    rows_of (spaces_of l) d p ≡ None
+no_descriptor l d known p descriptor = by_programs (is_programs p) refl
+  where
+    by_programs : (c : Bool) → is_programs p ≡ c → rows_of (spaces_of l) d p ≡ None
+    by_programs true inside = absurd (false≢true (sym (programs_no_descriptor p inside) ∙ descriptor))
+    by_programs false outside = none_unknown l d known p outside (λ same. absurd (false≢true (sym (ap is_descriptor same) ∙ descriptor)))
+        (λ same. absurd (false≢true (sym (ap is_descriptor same) ∙ descriptor)))
+
+-- and no descriptor is open
+none_open : (l : Spaces) (d : ℕ) → AllListed IsKnown (listed l.rows [] d) → (fd : ℕ) → None ≡ descriptor_seen the_names (spaces_of l) d fd
+none_open l d known fd = by_test (nat_lt fd DESCRIPTORS) refl
+  where
+    by_test : (c : Bool) → nat_lt fd DESCRIPTORS ≡ c →
+        None ≡ (if c then name_of (shown_at the_names (spaces_of l) d (descriptor_page fd)) else None)
+    by_test true below =
+        let descriptor : is_descriptor (descriptor_page fd) ≡ true = grind (arith, nat_tests) in
+        let none = no_descriptor l d known (descriptor_page fd) descriptor in
+        sym (ap (λ (o : Option Entry). name_of (option_map (page_by the_names (spaces_of l).pages) o)) none)
+    by_test false below = refl
+
 known_region : (l : Spaces) (d : ℕ) → AllListed IsKnownRegion (listed l.tables [] d) → (r : ℕ) →
     is_some ((spaces_of l).regions d r) ≡ true → (r == region_index UTEXT) || is_library_region r ≡ true
 known_region l d known r has = by_table (found_two l.tables d r) refl has
@@ -489,13 +512,14 @@ environment_stands l id d registers program words phase at h = record {
   env_type = refl;
   runs = tt;
   upcall = sym h.upcall ∙ sym (ap upcall_at h.place_is);
-  descriptors = λ fd. refl;
+  descriptors = none_open l d h.known;
   memory = λ p. refl;
   library = subst (λ (x : Place). LibraryPages x (rows_of (spaces_of l) d)) (sym h.place_is) (record {
     stack = h.stack_page;
     copy = h.copy;
     no_copy = h.no_copy;
-    none = none_unknown l d h.known;
+    descriptors = λ p entry descriptor is. absurd (none-some entry (sym (no_descriptor l d h.known p descriptor) ∙ is));
+    none = λ p outside closed no_stack no_copy. none_unknown l d h.known p outside no_stack no_copy;
   });
   regions_have = λ r is. has_region l d r h.table is;
   regions_only = known_region l d h.regions;

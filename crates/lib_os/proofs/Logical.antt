@@ -21,7 +21,7 @@ use Rattle.lib_os.specs.declared.service.Service.TheVariants as service
 use Rattle.lib_os.specs.StandsFor.{borne_in}
 use Rattle.lib_os.specs.Fence.{in_fence, is_inside, is_page_inside}
 use Rattle.lib_os.specs.Places.{place_of}
-use Rattle.lib_os.specs.Rows.{EntryRow, rows_of, counted, logical_by, logical, is_programs, is_shared, as_cow, cow_perm}
+use Rattle.lib_os.specs.Rows.{EntryRow, rows_of, counted, logical_by, logical, is_descriptor, is_programs, is_shared, as_cow, cow_perm}
 use Rattle.lib_os.proofs.WordsTell.{is_in_handler}
 
 -- ---- pages that a program may have
@@ -44,6 +44,11 @@ programs_beside p inside = (
 
     no_stack : in_fence (page_number UXSTACK * PGSIZE) PGSIZE ≡ true → ⊥
     no_stack h = let contradiction : false ≡ true = h in cc
+
+-- nor is one of them a descriptor's
+pub programs_no_descriptor : (p : ℕ) → is_programs p ≡ true → is_descriptor p ≡ false
+unfolding in_fence
+programs_no_descriptor p inside = grind (arith, nat_tests)
 
 -- a byte that a program may touch lies in such a page
 pub inside_programs : (va : ℕ) → is_inside va ≡ true → is_programs (page_number va) ≡ true
@@ -114,6 +119,11 @@ fork_plain (step.ChildStack id) row plain p = refl
 fork_plain (step.ChildUpcall id) row plain p = refl
 fork_plain (step.ChildRuns id) row plain p = refl
 fork_plain (step.Undoing id error) row plain p = refl
+fork_plain (step.DescriptorEntry fd) row plain p = refl
+fork_plain step.TargetEntry row plain p = refl
+fork_plain (step.DroppingDescriptor fd) row plain p = refl
+fork_plain step.MappingDescriptor row plain p = refl
+fork_plain step.Ending row plain p = refl
 
 service_plain : (s : Service) (at : Step) (row : EntryRow) → is_plain (place.InService s at) ≡ true → (p : ℕ) →
     counted (place.InService s at) row p ≡ row p
@@ -171,6 +181,11 @@ fork_unremapped (step.ChildStack id) p plain = refl
 fork_unremapped (step.ChildUpcall id) p plain = refl
 fork_unremapped (step.ChildRuns id) p plain = refl
 fork_unremapped (step.Undoing id error) p plain = refl
+fork_unremapped (step.DescriptorEntry fd) p plain = refl
+fork_unremapped step.TargetEntry p plain = refl
+fork_unremapped (step.DroppingDescriptor fd) p plain = refl
+fork_unremapped step.MappingDescriptor p plain = refl
+fork_unremapped step.Ending p plain = refl
 
 pub plain_unremapped : (at : Place) (p : ℕ) → is_plain at ≡ true → is_remapped at p ≡ false
 plain_unremapped place.Guest p plain = refl
@@ -246,6 +261,11 @@ fork_elsewhere (step.ChildStack id) row p other = refl
 fork_elsewhere (step.ChildUpcall id) row p other = refl
 fork_elsewhere (step.ChildRuns id) row p other = refl
 fork_elsewhere (step.Undoing id error) row p other = refl
+fork_elsewhere (step.DescriptorEntry fd) row p other = refl
+fork_elsewhere step.TargetEntry row p other = refl
+fork_elsewhere (step.DroppingDescriptor fd) row p other = refl
+fork_elsewhere step.MappingDescriptor row p other = refl
+fork_elsewhere step.Ending row p other = refl
 
 service_elsewhere : (s : Service) (at : Step) (row : EntryRow) (p : ℕ) → is_remapped (place.InService s at) p ≡ false →
     counted (place.InService s at) row p ≡ row p
@@ -360,6 +380,11 @@ fork_some (step.ChildStack id) row p x is = itself (row p) x is
 fork_some (step.ChildUpcall id) row p x is = itself (row p) x is
 fork_some (step.ChildRuns id) row p x is = itself (row p) x is
 fork_some (step.Undoing id error) row p x is = itself (row p) x is
+fork_some (step.DescriptorEntry fd) row p x is = itself (row p) x is
+fork_some step.TargetEntry row p x is = itself (row p) x is
+fork_some (step.DroppingDescriptor fd) row p x is = itself (row p) x is
+fork_some step.MappingDescriptor row p x is = itself (row p) x is
+fork_some step.Ending row p x is = itself (row p) x is
 
 service_some : (s : Service) (at : Step) (row : EntryRow) (p : ℕ) (x : Entry) → counted (place.InService s at) row p ≡ Some x → StandsAs (row p) x
 unfolding counted

@@ -1,19 +1,20 @@
 -- Where each frame that is handed out has a use, and no more than one is free, the abstract system wants as many frames: each
--- stands in a place of a live slot or of a shared page's name, and for each of these places the abstract system wants one.
-use Rattle.std.proofs.Common.{◌≡◌, ◌∙◌, ◌+◌, ◌*◌, ◌/◌, ◌%◌, ◌<◌, ◌≤◌, ◌==◌, ◌||◌, ℕ, zero, suc, Bool, true, false, List, [], ◌∷◌, length, refl, sym}
-use Rattle.std.proofs.Common.{ap, subst, arith}
-use Rattle.std.specs.Prelude.{Option, Some, None, is_some, if◌then◌else◌}
+-- stands in a place of a live slot or of the name of a shared page or of an object, and for each of these places the abstract
+-- system wants one.
+use Rattle.std.proofs.Common.{◌≡◌, ◌≢◌, ◌∙◌, ◌+◌, ◌-◌, ◌*◌, ◌/◌, ◌%◌, ◌<◌, ◌≤◌, ◌==◌, ◌||◌, ℕ, zero, suc, Bool, true, false, List, [], ◌∷◌, length}
+use Rattle.std.proofs.Common.{refl, sym, ap, subst, arith}
+use Rattle.std.specs.Prelude.{Option, Some, None, is_some, nat_lt, if◌then◌else◌}
 use Rattle.std.specs.List.{Contains}
 use Rattle.std.specs.Option.{option_map}
-use Rattle.jos_base.specs.declared.numbers.TheConstants.{FIRST_ENV_ID, NENV, NPTENTRIES}
+use Rattle.jos_base.specs.declared.numbers.TheConstants.{FDTABLE, FIRST_ENV_ID, NENV, NPTENTRIES}
 use Rattle.jos_base.specs.Counting.{total, page_limit}
 use Rattle.jos_base.specs.Environments.{Slot, bit_of, free_slot, is_live}
 use Rattle.jos_base.specs.KernelState.{KernelState, slot_at}
 use Rattle.jos_base.specs.Reach.{Entry}
 use Rattle.jos_base.specs.SpacesState.{SpacesState, Region, directory, is_directory, region_limit, reserved_frames}
 use Rattle.jos_base.specs.SystemCalls.{has_write}
-use Rattle.jos_base.specs.Words.{page_number}
-use Rattle.lib_os.specs.declared.numbers.TheConstants.{PFTEMP, UXSTACK}
+use Rattle.jos_base.specs.Words.{is_exactly, page_number}
+use Rattle.lib_os.specs.declared.numbers.TheConstants.{DESCRIPTORS, PFTEMP, UXSTACK}
 use Rattle.lib_os.specs.AbstractState.{AbstractState, Born, Page, own, named, AbstractSlot, free, unborn, born, serving}
 use Rattle.lib_os.specs.declared.place.Place.TheVariants as place
 use Rattle.lib_os.specs.AbstractMemory.{has_page_in}
@@ -21,22 +22,32 @@ use Rattle.lib_os.specs.InOrder.{HasOneUse}
 use Rattle.lib_os.specs.Need.{NeedIsReached, HasUse, in_list, in_entry, as_directory, as_table, EachHasUse, pool_of, need}
 use Rattle.lib_os.specs.Need.{slot_need, born_need, parent_need}
 use Rattle.lib_os.specs.LibraryPages.{is_library_region, IsOwnWritable, has_copy}
-use Rattle.lib_os.specs.Need.{server_need, count_below, is_own, someone, born_passes, has_page_of, is_page_of}
+use Rattle.lib_os.specs.Need.{server_need, count_below, is_own, someone, born_passes, has_object_of, has_page_of, is_page_of}
 use Rattle.lib_os.specs.Places.{place_of}
 use Rattle.lib_os.specs.Rows.{Names, EntryRow, IsNamed, rows_of, lasting, is_shared, may_write, page_by, page_seen, seen_where, is_programs}
+use Rattle.lib_os.specs.Rows.{descriptor_page, descriptor_perm, is_descriptor, name_of, shown_at}
 use Rattle.lib_os.specs.StandsFor.{StandsFor, StandsForSlot, StandsForBorn, StandsForServer, StandsForUnborn, IsBorne, is_passed, has_stack}
 use Rattle.std.proofs.lemmas.Bool.{false≢true}
 use Rattle.std.proofs.lemmas.Bool.Decides.{nat_tests}
 use Rattle.std.proofs.lemmas.Option.{none-some, same_Some}
 use Rattle.lib_os.proofs.Covering.{no_more_frames, filled, times_in}
-use Rattle.lib_os.proofs.BytesRead.{named_inside}
+use Rattle.lib_os.proofs.BytesRead.{remapped}
 use Rattle.lib_os.proofs.EntryWords.{row_entry}
-use Rattle.lib_os.proofs.Logical.{is_plain, logical_plain}
+use Rattle.lib_os.proofs.Logical.{is_plain, is_remapped, logical_beside, logical_plain}
 use Rattle.lib_os.proofs.Serving.{words_of_none}
-use Rattle.lib_os.proofs.SlotsStand.{born_at}
+use Rattle.lib_os.proofs.SlotsStand.{born_at, born_live}
 use Rattle.lib_os.proofs.Sums.{is_at, is_at-here, at_most_once}
 use Rattle.jos_base.proofs.Sums.{total-mono, total-less, total-none, total-one, total-sum}
 use Rattle.jos_base.proofs.Below.{some_below-at, some_below-none}
+
+-- ---- one of two
+
+first_holds : (t u : Bool) → t ≡ true → t || u ≡ true
+first_holds t u is = ap (λ (x : Bool). x || u) is
+
+second_holds : (t u : Bool) → u ≡ true → t || u ≡ true
+second_holds true u is = refl
+second_holds false u is = is
 
 -- ---- the places
 
@@ -62,7 +73,7 @@ abbrev page_of : SpacesState → Slot → ℕ → Option ℕ
 page_of s k p = where_so (is_live k) (own_frame (rows_of s k.directory p))
 
 abbrev named_frame : Names → AbstractState → ℕ → Option ℕ
-named_frame names a m = where_so (someone a (has_page_of m)) (Some (names.frame m))
+named_frame names a m = where_so (someone a (has_page_of m) || someone a (has_object_of m)) (Some (names.frame m))
 
 -- ---- each place is wanted
 
@@ -73,6 +84,10 @@ so_of_some false x = omega arith
 bit_small : (t : Bool) → bit_of t ≤ 1
 bit_small true = omega arith
 bit_small false = omega arith
+
+bit_of_either : (t u : Bool) → bit_of (t || u) ≤ bit_of t + bit_of u
+bit_of_either true u = omega arith
+bit_of_either false u = omega arith
 
 so_of_region : (t : Bool) (o : Option Region) (wants : Bool) → (is_some o ≡ true → wants ≡ true) →
     bit_of (is_some (where_so t (option_map (λ (x : Region). x.table) o))) ≤ bit_of wants
@@ -91,6 +106,13 @@ so_of_page names bytes true (Some e) = by_test (is_shared e.perm)
         (may_write e.perm))))
     by_test true = omega arith
     by_test false = omega arith
+
+-- a descriptor's page is shared, and so none of its environment's own
+descriptor_unowned : (t : Bool) (o : Option Entry) → ((e : Entry) → o ≡ Some e → e.perm ≡ descriptor_perm) →
+    bit_of (is_some (where_so t (own_frame o))) ≡ 0
+descriptor_unowned false o perm = refl
+descriptor_unowned true None perm = refl
+descriptor_unowned true (Some e) perm = ap (λ (q : ℕ). bit_of (is_some (if is_shared q then None else Some e.frame))) (perm e refl)
 
 -- ---- the library's pages: the stack of its handler of page faults, and the copy that this makes
 
@@ -119,10 +141,16 @@ page_wanted names s k b h p = by_inside (is_programs p) refl
         bit_of (is_some (page_of s k p)) ≤ bit_of c + bit_of d
     by_page true d stack copy outside = let one = bit_small (is_some (page_of s k p)) in omega (arith, one)
     by_page false true stack copy outside = let one = bit_small (is_some (page_of s k p)) in omega (arith, one)
-    by_page false false stack copy outside =
-        let none = h.library.none p outside (grind (arith, nat_tests)) (grind (arith, nat_tests)) in
-        let zeros = nothing (is_live k) none in
-        omega (arith, zeros)
+    by_page false false stack copy outside = by_descriptor (is_descriptor p) refl
+      where
+        by_descriptor : (t : Bool) → is_descriptor p ≡ t → bit_of (is_some (page_of s k p)) ≤ 0
+        by_descriptor true descriptor =
+            let zeros = descriptor_unowned (is_live k) (rows_of s k.directory p) (λ e is. h.library.descriptors p e descriptor is) in
+            omega (arith, zeros)
+        by_descriptor false no_descriptor =
+            let none = h.library.none p outside no_descriptor (grind (arith, nat_tests)) (grind (arith, nat_tests)) in
+            let zeros = nothing (is_live k) none in
+            omega (arith, zeros)
 
     by_inside : (inside : Bool) → is_programs p ≡ inside → bit_of (is_some (page_of s k p))
         ≤ bit_of (is_own (seen_where inside (option_map (page_by names s.pages) (rows_of s k.directory p)))) + (is_stack p + is_copy p)
@@ -212,13 +240,24 @@ module _ (names : Names) (s : SpacesState) (parent : Slot) (parent_is : Abstract
   child_nothing false p none = refl
   child_nothing true p none = ap (λ (o : Option Entry). bit_of (is_some (own_frame o))) none
 
-  child_page : (p : ℕ) → bit_of (is_some (page_of s k p)) ≤ bit_of (is_own (c.b.memory p)) + (is_stack p + is_copy p)
-  child_page p = by_inside (is_programs p) refl
+  child_page : StandsForBorn names s parent c.b → (p : ℕ) →
+      bit_of (is_some (page_of s k p)) ≤ bit_of (is_own (c.b.memory p)) + (is_stack p + is_copy p)
+  child_page h p = by_inside (is_programs p) refl
     where
+      by_handed : is_descriptor p ≡ true → (t : Bool) → is_passed c.step p ≡ t → bit_of (is_some (page_of s k p)) ≡ 0
+      by_handed descriptor true passed =
+          descriptor_unowned (is_live k) (rows_of s k.directory p)
+          (λ e is. h.library.descriptors p e descriptor (sym (c.handed p descriptor passed) ∙ is))
+      by_handed descriptor false off = child_nothing (is_live k) p (c.rest p (second_holds (is_programs p) (is_descriptor p) descriptor) off)
+
       by_stack : (t : Bool) → (page_number UXSTACK == 0 + p) ≡ t → is_programs p ≡ false → bit_of (is_some (page_of s k p)) ≤ bit_of t
       by_stack true stack outside = bit_small (is_some (page_of s k p))
-      by_stack false stack outside =
-          let none = child_nothing (is_live k) p (c.library.none p outside (grind (arith, nat_tests))) in omega (arith, none)
+      by_stack false stack outside = by_descriptor (is_descriptor p) refl
+        where
+          by_descriptor : (t : Bool) → is_descriptor p ≡ t → bit_of (is_some (page_of s k p)) ≤ 0
+          by_descriptor true descriptor = let none = by_handed descriptor (is_passed c.step p) refl in omega (arith, none)
+          by_descriptor false no_descriptor =
+              let none = child_nothing (is_live k) p (c.library.none p outside no_descriptor (grind (arith, nat_tests))) in omega (arith, none)
 
       by_passed : is_programs p ≡ true → (t : Bool) → is_passed c.step p ≡ t → bit_of (is_some (page_of s k p)) ≤ bit_of (is_own (c.b.memory p))
       by_passed inside true passed =
@@ -226,7 +265,8 @@ module _ (names : Names) (s : SpacesState) (parent : Slot) (parent_is : Abstract
           ap (λ (t : Bool). seen_where t (option_map (page_by names s.pages) (rows_of s k.directory p))) inside in
           subst (λ (x : Option Page). bit_of (is_some (page_of s k p)) ≤ bit_of (is_own x)) (sym seen ∙ c.passed p inside passed)
           (so_of_page names s.pages (is_live k) (rows_of s k.directory p))
-      by_passed inside false off = let none = child_nothing (is_live k) p (c.rest p inside off) in omega (arith, none)
+      by_passed inside false off =
+          let none = child_nothing (is_live k) p (c.rest p (first_holds (is_programs p) (is_descriptor p) inside) off) in omega (arith, none)
 
       by_inside : (inside : Bool) → is_programs p ≡ inside →
           bit_of (is_some (page_of s k p)) ≤ bit_of (is_own (c.b.memory p)) + (is_stack p + is_copy p)
@@ -251,7 +291,7 @@ module _ (names : Names) (s : SpacesState) (parent : Slot) (parent_is : Abstract
       let tables = total-mono region_limit (λ r. bit_of (is_some (table_of s k r))) (λ r. bit_of (c.b.regions r || is_library_region r))
       (λ r lt. so_of_region (is_live k) (s.regions k.directory r) (c.b.regions r || is_library_region r) (child_region frames h r)) in
       let pages = total-mono page_limit (λ p. bit_of (is_some (page_of s k p)))
-      (λ p. bit_of (is_own (c.b.memory p)) + (is_stack p + is_copy p)) (λ p lt. child_page p) in
+      (λ p. bit_of (is_own (c.b.memory p)) + (is_stack p + is_copy p)) (λ p lt. child_page h p) in
       let sum = total-sum page_limit (λ p. bit_of (is_own (c.b.memory p))) (λ p. is_stack p + is_copy p) in
       let beside = two_beside in
       omega (arith, one, tables, pages, sum, beside)
@@ -336,35 +376,35 @@ module _ (names : Names) (s : KernelState) (a : AbstractState) (h : StandsFor na
       let entry_is : mine.entry ≡ e = same_Some mine.entry e (sym mine.stands ∙ sym (ap row same) ∙ stands) in
       false≢true (sym mine.own_page ∙ ap (λ (x : Entry). is_shared x.perm) entry_is ∙ shared)
 
-  -- so a shared page is one that the program may have
-  shared_inside : (n p : ℕ) (e : Entry) (b : Born) → a.slots n ≡ born b → rows_of s.spaces (slot n).directory p ≡ Some e →
-      is_shared e.perm ≡ true → is_programs p ≡ true
-  shared_inside n p e b at stands shared = by_inside (is_programs p) refl
-    where
-      row : EntryRow
-      row = rows_of s.spaces (slot n).directory
+  -- an environment has a page by this name, or a descriptor that names it
+  abbrev Has : Born → ℕ → Type 0
+  Has b m = has_page_of m b || has_object_of m b ≡ true
 
-      no_copy : (c : Bool) → has_copy (place_of (slot n)) ≡ c → p ≡ page_number PFTEMP → ⊥
-      no_copy true has same = own_alone row p (page_number PFTEMP) e ((born_at h n b at).library.copy has) same stands shared
-      no_copy false has same = none-some e (sym ((born_at h n b at).library.no_copy has) ∙ sym (ap row same) ∙ stands)
-
-      by_inside : (inside : Bool) → is_programs p ≡ inside → is_programs p ≡ true
-      by_inside true inside = inside
-      by_inside false inside = absurd (none-some e (sym
-          ((born_at h n b at).library.none p inside
-          (λ same. own_alone row p (page_number UXSTACK) e (born_at h n b at).library.stack same stands shared)
-          (λ same. no_copy (has_copy (place_of (slot n))) refl same)) ∙ stands))
-
-  -- A shared page that stands in a slot's space is one that an environment has: that of the slot, or the parent of its child.
+  -- A shared page that stands in a slot's space is one that an environment has, or the page of an object that one of its descriptors
+  -- names: the environment is that of the slot, or the parent of its child.
   record IsHad (p : ℕ) (e : Entry) : Type 0 where
     home : ℕ
     below : home < NENV
     b : Born
     at : a.slots home ≡ born b
-    memory : b.memory p ≡ Some (named (names.name e.frame) (has_write e.perm))
-    name : IsNamed names s.spaces.pages a.shared a.next_name e.frame
+    has : Has b (names.name e.frame)
+    name : IsNamed names s.spaces.pages a.shared a.objects a.next_name p e.frame
 
-  -- what is seen of it
+  -- it has the page that stands in its memory
+  page_had : (b : Born) (p m : ℕ) (writable : Bool) → p < page_limit → b.memory p ≡ Some (named m writable) → Has b m
+  page_had b p m writable lt memory =
+      let self : is_page_of m (Some (named m writable)) ≡ true = grind (arith, nat_tests) in
+      first_holds (has_page_of m b) (has_object_of m b)
+      (some_below-at (λ q. is_page_of m (b.memory q)) page_limit p lt (ap (is_page_of m) memory ∙ self))
+
+  -- and what one of its descriptors names
+  object_had : (b : Born) (fd m : ℕ) → fd < DESCRIPTORS → b.descriptors fd ≡ Some m → Has b m
+  object_had b fd m lt names_it =
+      let self : is_exactly m (Some m) ≡ true = grind (arith, nat_tests) in
+      second_holds (has_page_of m b) (has_object_of m b)
+      (some_below-at (λ q. is_exactly m (b.descriptors q)) DESCRIPTORS fd lt (ap (is_exactly m) names_it ∙ self))
+
+  -- what is seen of a shared page
   seen_shared : (n p : ℕ) (e : Entry) → is_programs p ≡ true → rows_of s.spaces (slot n).directory p ≡ Some e → is_shared e.perm ≡ true →
       page_seen names s.spaces (slot n).directory p ≡ Some (named (names.name e.frame) (has_write e.perm))
   seen_shared n p e inside stands shared =
@@ -373,14 +413,90 @@ module _ (names : Names) (s : KernelState) (a : AbstractState) (h : StandsFor na
       ∙ ap (λ (t : Bool). Some (if t then named (names.name e.frame) (has_write e.perm) else own (s.spaces.pages e.frame)
       (may_write e.perm))) shared
 
-  of_child : (n p : ℕ) (e : Entry) → is_live (slot n) ≡ true → rows_of s.spaces (slot n).directory p ≡ Some e → is_shared e.perm ≡ true →
-      (id parent : ℕ) → a.slots n ≡ unborn id parent → StandsForUnborn (slot n) id parent → IsHad p e
-  of_child n p e live stands shared id parent is k = by_inside (is_programs p) refl
+  -- what stands at the page of a descriptor has the name of the descriptor's object
+  descriptor_had : (n p : ℕ) (e : Entry) (b : Born) → StandsForBorn names s.spaces (slot n) b → is_descriptor p ≡ true →
+      rows_of s.spaces (slot n).directory p ≡ Some e → is_shared e.perm ≡ true → Has b (names.name e.frame)
+  descriptor_had n p e b k descriptor stands shared = object_had b fd (names.name e.frame) (grind (arith, nat_tests)) (
+      k.descriptors fd
+      ∙ ap (λ (c : Bool). if c then name_of (shown_at names s.spaces d (descriptor_page fd)) else None) below
+      ∙ ap (λ (q : ℕ). name_of (shown_at names s.spaces d q)) same
+      ∙ ap (λ (o : Option Entry). name_of (option_map (page_by names s.spaces.pages) o)) stands
+      ∙ ap (λ (t : Bool). name_of (Some (if t then named (names.name e.frame) (has_write e.perm) else own (s.spaces.pages e.frame)
+      (may_write e.perm)))) shared)
+    where
+      fd : ℕ
+      fd = p - page_number FDTABLE
+
+      d : ℕ
+      d = (slot n).directory
+
+      below : nat_lt fd DESCRIPTORS ≡ true
+      below = grind (arith, nat_tests)
+
+      same : descriptor_page fd ≡ p
+      same = grind (arith, nat_tests)
+
+  -- a shared page of an environment's space has its name, where it is not the copy that the handler of page faults makes
+  its_name : (n p : ℕ) (e : Entry) (b : Born) → a.slots n ≡ born b → p ≢ page_number PFTEMP →
+      rows_of s.spaces (slot n).directory p ≡ Some e → is_shared e.perm ≡ true →
+      IsNamed names s.spaces.pages a.shared a.objects a.next_name p e.frame
+  its_name n p e b at beside stands shared = by_step (is_remapped (place_of (slot n)) p) refl
+    where
+      by_step : (c : Bool) → is_remapped (place_of (slot n)) p ≡ c → IsNamed names s.spaces.pages a.shared a.objects a.next_name p e.frame
+      by_step true twice =
+          let it = remapped names s a n b h at p twice in
+          let entry_is : it.entry ≡ e = same_Some it.entry e (sym it.stands ∙ stands) in
+          absurd (false≢true (sym it.own_page ∙ ap (λ (x : Entry). is_shared x.perm) entry_is ∙ shared))
+      by_step false other =
+          h.named n p e (logical_beside s.spaces s.environments.slots n (born_live (born_at h n b at)) p beside other ∙ stands) shared
+
+  -- in an environment's space it is a page that the program may have, or that of a descriptor
+  of_born : (n p : ℕ) (e : Entry) → n < NENV → p < page_limit → rows_of s.spaces (slot n).directory p ≡ Some e → is_shared e.perm ≡ true →
+      (b : Born) → a.slots n ≡ born b → StandsForBorn names s.spaces (slot n) b → IsHad p e
+  of_born n p e lt within stands shared b at k = record {
+    home = n;
+    below = lt;
+    b = b;
+    at = at;
+    has = by_inside (is_programs p) refl;
+    name = its_name n p e b at (no_copy (has_copy (place_of (slot n))) refl) stands shared;
+  }
+    where
+      row : EntryRow
+      row = rows_of s.spaces (slot n).directory
+
+      no_copy : (c : Bool) → has_copy (place_of (slot n)) ≡ c → p ≢ page_number PFTEMP
+      no_copy true has same = own_alone row p (page_number PFTEMP) e (k.library.copy has) same stands shared
+      no_copy false has same = none-some e (sym (k.library.no_copy has) ∙ sym (ap row same) ∙ stands)
+
+      by_inside : (inside : Bool) → is_programs p ≡ inside → Has b (names.name e.frame)
+      by_inside true inside =
+          page_had b p (names.name e.frame) (has_write e.perm) within (k.memory p ∙ seen_shared n p e inside stands shared)
+      by_inside false outside = by_descriptor (is_descriptor p) refl
+        where
+          by_descriptor : (t : Bool) → is_descriptor p ≡ t → Has b (names.name e.frame)
+          by_descriptor true descriptor = descriptor_had n p e b k descriptor stands shared
+          by_descriptor false no_descriptor = absurd (none-some e (sym
+              (k.library.none p outside no_descriptor
+              (λ same. own_alone row p (page_number UXSTACK) e k.library.stack same stands shared)
+              (no_copy (has_copy (place_of (slot n))) refl)) ∙ stands))
+
+  -- and in a child's it is one that its parent has
+  of_child : (n p : ℕ) (e : Entry) → is_live (slot n) ≡ true → p < page_limit → rows_of s.spaces (slot n).directory p ≡ Some e →
+      is_shared e.perm ≡ true → (id parent : ℕ) → a.slots n ≡ unborn id parent → StandsForUnborn (slot n) id parent → IsHad p e
+  of_child n p e live within stands shared id parent is k = record {
+    home = parent % NENV;
+    below = omega arith;
+    b = child.b;
+    at = child.born_by;
+    has = by_inside (is_programs p) refl;
+    name = h.named n p e (logical_plain s.spaces s.environments.slots n live (ap is_plain guest) p ∙ stands) shared;
+  }
     where
       child : IsBorne names s.spaces (slot (parent % NENV)) (a.slots (parent % NENV)) (slot n) id parent
       child = h.children.borne n id parent is
 
-      by_stack : (t : Bool) → has_stack child.step ≡ t → p ≡ page_number UXSTACK → ⊥
+      by_stack : (t : Bool) → has_stack child.step ≡ t → p ≢ page_number UXSTACK
       by_stack true has same =
           own_alone (rows_of s.spaces (slot n).directory) p (page_number UXSTACK) e (child.library.stack has) same stands shared
       by_stack false none same =
@@ -389,41 +505,53 @@ module _ (names : Names) (s : KernelState) (a : AbstractState) (h : StandsFor na
       guest : place_of (slot n) ≡ place.Guest
       guest = words_of_none (slot n).registers (slot n).extra k.stack k.words
 
-      by_passed : is_programs p ≡ true → (t : Bool) → is_passed child.step p ≡ t → IsHad p e
-      by_passed inside true passed = record {
-        home = parent % NENV;
-        below = omega arith;
-        b = child.b;
-        at = child.born_by;
-        memory = sym (child.passed p inside passed) ∙ seen_shared n p e inside stands shared;
-        name = h.named n p e (logical_plain s.spaces s.environments.slots n live (ap is_plain guest) p ∙ stands) shared;
-      }
-      by_passed inside false off = absurd (none-some e (sym (child.rest p inside off) ∙ stands))
+      by_passed : is_programs p ≡ true → (t : Bool) → is_passed child.step p ≡ t → Has child.b (names.name e.frame)
+      by_passed inside true passed =
+          page_had child.b p (names.name e.frame) (has_write e.perm) within
+          (sym (child.passed p inside passed) ∙ seen_shared n p e inside stands shared)
+      by_passed inside false off =
+          absurd (none-some e (sym (child.rest p (first_holds (is_programs p) (is_descriptor p) inside) off) ∙ stands))
 
-      by_inside : (inside : Bool) → is_programs p ≡ inside → IsHad p e
+      by_handed : is_descriptor p ≡ true → (t : Bool) → is_passed child.step p ≡ t → Has child.b (names.name e.frame)
+      by_handed descriptor true passed =
+          descriptor_had (parent % NENV) p e child.b (born_at h (parent % NENV) child.b child.born_by) descriptor
+          (sym (child.handed p descriptor passed) ∙ stands) shared
+      by_handed descriptor false off =
+          absurd (none-some e (sym (child.rest p (second_holds (is_programs p) (is_descriptor p) descriptor) off) ∙ stands))
+
+      by_inside : (inside : Bool) → is_programs p ≡ inside → Has child.b (names.name e.frame)
       by_inside true inside = by_passed inside (is_passed child.step p) refl
-      by_inside false outside =
-          absurd (none-some e (sym (child.library.none p outside (λ same. by_stack (has_stack child.step) refl same)) ∙ stands))
+      by_inside false outside = by_descriptor (is_descriptor p) refl
+        where
+          by_descriptor : (t : Bool) → is_descriptor p ≡ t → Has child.b (names.name e.frame)
+          by_descriptor true descriptor = by_handed descriptor (is_passed child.step p) refl
+          by_descriptor false no_descriptor =
+              absurd (none-some e (sym (child.library.none p outside no_descriptor (by_stack (has_stack child.step) refl)) ∙ stands))
 
-  had : (n p : ℕ) (e : Entry) → n < NENV → is_live (slot n) ≡ true → rows_of s.spaces (slot n).directory p ≡ Some e → is_shared e.perm ≡ true →
-      IsHad p e
-  had n p e below live stands shared = by_slot (a.slots n) refl (h.slots n)
+  had : (n p : ℕ) (e : Entry) → n < NENV → is_live (slot n) ≡ true → p < page_limit → rows_of s.spaces (slot n).directory p ≡ Some e →
+      is_shared e.perm ≡ true → IsHad p e
+  had n p e below live within stands shared = by_slot (a.slots n) refl (h.slots n)
     where
       by_slot : (y : AbstractSlot) → a.slots n ≡ y → StandsForSlot names s.spaces (slot n) y → IsHad p e
       by_slot (free id) at k_is = absurd (let e : ◌≡◌ {A = Bool} false true = sym (ap (λ (k : Slot). is_live k) k_is)
           ∙ live in cc)
-      by_slot (unborn id parent) at k_is = of_child n p e live stands shared id parent at k_is
-      by_slot (born b) at k_is =
-          let inside = shared_inside n p e b at stands shared in
-          record {
-            home = n;
-            below = below;
-            b = b;
-            at = at;
-            memory = k_is.memory p ∙ seen_shared n p e inside stands shared;
-            name = named_inside names s a n b h at p e inside stands shared;
-          }
+      by_slot (unborn id parent) at k_is = of_child n p e live within stands shared id parent at k_is
+      by_slot (born b) at k_is = of_born n p e below within stands shared b at k_is
       by_slot (serving id) at k_is = absurd (let e : ◌≡◌ {A = Option Entry} None (Some e) = sym (k_is.empty p) ∙ stands in cc)
+
+  -- so someone has it
+  someone_has : (home : ℕ) (b : Born) (m : ℕ) → home < NENV → a.slots home ≡ born b → Has b m →
+      someone a (has_page_of m) || someone a (has_object_of m) ≡ true
+  someone_has home b m lt at has = by_page (has_page_of m b) refl has
+    where
+      by_page : (t : Bool) → has_page_of m b ≡ t → t || has_object_of m b ≡ true →
+          someone a (has_page_of m) || someone a (has_object_of m) ≡ true
+      by_page true page has =
+          first_holds (someone a (has_page_of m)) (someone a (has_object_of m))
+          (some_below-at (λ q. born_passes (has_page_of m) (a.slots q)) NENV home lt (ap (born_passes (has_page_of m)) at ∙ page))
+      by_page false page object =
+          second_holds (someone a (has_page_of m)) (someone a (has_object_of m))
+          (some_below-at (λ q. born_passes (has_object_of m) (a.slots q)) NENV home lt (ap (born_passes (has_object_of m)) at ∙ object))
 
   -- a page of an environment's own, or one that is shared
   page_stands : (n p : ℕ) (e : Entry) → n < NENV → is_live (slot n) ≡ true → p < page_limit →
@@ -441,13 +569,9 @@ module _ (names : Names) (s : KernelState) (a : AbstractState) (h : StandsFor na
           in_slot n e.frame below (omega (arith, here, one))
       by_test true shared =
           let m = names.name e.frame in
-          let found = had n p e below live stands shared in
-          let self : is_page_of m (Some (named m (has_write e.perm))) ≡ true = grind (arith, nat_tests) in
-          let has : has_page_of m found.b ≡ true = some_below-at (λ q. is_page_of m (found.b.memory q)) page_limit p lt
-          (ap (is_page_of m) found.memory ∙ self) in
-          let some : someone a (has_page_of m) ≡ true =
-          some_below-at (λ q. born_passes (has_page_of m) (a.slots q)) NENV found.home found.below
-          (ap (born_passes (has_page_of m)) found.at ∙ has) in
+          let found = had n p e below live lt stands shared in
+          let some : someone a (has_page_of m) || someone a (has_object_of m) ≡ true =
+          someone_has found.home found.b m found.below found.at found.has in
           let here = is_at-here (named_frame names a m) e.frame (names.frame m)
           (ap (λ (t : Bool). where_so t (Some (names.frame m))) some) found.name.home in
           let one = total-one a.next_name m (λ q. is_at (named_frame names a q) e.frame) found.name.old in
@@ -478,10 +602,15 @@ module _ (names : Names) (s : KernelState) (a : AbstractState) (h : StandsFor na
       (server_frames a s.spaces (slot 0) FIRST_ENV_ID (subst (λ (y : AbstractSlot). StandsForSlot names s.spaces (slot 0) y) h.first
       (h.slots 0))))
 
-  names_want : filled a.next_name (named_frame names a) ≤ count_below a.next_name (λ name. someone a (has_page_of name))
+  names_want : filled a.next_name (named_frame names a)
+      ≤ count_below a.next_name (λ name. someone a (has_page_of name)) + count_below a.next_name (λ name. someone a (has_object_of name))
   names_want =
-      total-mono a.next_name (λ m. bit_of (is_some (named_frame names a m))) (λ m. bit_of (someone a (has_page_of m)))
-      (λ m lt. so_of_some (someone a (has_page_of m)) (names.frame m))
+      let each = total-mono a.next_name (λ m. bit_of (is_some (named_frame names a m)))
+      (λ m. bit_of (someone a (has_page_of m)) + bit_of (someone a (has_object_of m)))
+      (λ m lt. let some = so_of_some (someone a (has_page_of m) || someone a (has_object_of m)) (names.frame m) in
+      let either = bit_of_either (someone a (has_page_of m)) (someone a (has_object_of m)) in omega (arith, some, either)) in
+      let sum = total-sum a.next_name (λ m. bit_of (someone a (has_page_of m))) (λ m. bit_of (someone a (has_object_of m))) in
+      omega (arith, each, sum)
 
   need_covers : EachHasUse s.spaces → length s.spaces.free ≤ 1 → pool_of s.spaces ≤ need a
   unfolding need

@@ -17,11 +17,14 @@ use Rattle.lib_os.specs.AbstractMemory.{page_at, with_page, without_page}
 use Rattle.lib_os.specs.InOrder.{IsInOrder}
 use Rattle.lib_os.specs.LibraryPages.{is_library_region}
 use Rattle.lib_os.specs.Places.{place_of}
-use Rattle.lib_os.specs.Rows.{Names, Rows, rows_of, logical, page_by, page_seen, is_programs, is_shared, is_cow, may_write, Agree, IsUsers, IsNamed, IsPage}
+use Rattle.lib_os.specs.Rows.{Names, Rows, rows_of, logical, page_by, page_seen, is_programs, is_shared, is_cow, may_write}
+use Rattle.lib_os.specs.Rows.{Agree, IsUsers, IsNamed, IsPage, ShowsBy, is_descriptor}
 use Rattle.lib_os.specs.StandsFor.{StandsFor, StandsForBorn, view_of, borne_in}
 use Rattle.lib_os.proofs.Effects.{Placed, Made, Given, Removed}
-use Rattle.lib_os.proofs.EntriesStand.{PutsRow, rows_put, rows_same, rows_stand, put_is, same_entry, seen_at, seen_own, seen_named, seen_by, seen_none}
-use Rattle.lib_os.proofs.Logical.{is_plain, logical_some, logical_plain, logical_beside, logical_alike, programs_beside, StandsAs, plain_unborne, unborne_unremapped}
+use Rattle.lib_os.proofs.EntriesStand.{PutsRow, rows_put, rows_same, rows_stand, put_is, same_entry, shown_same, seen_own, seen_named, seen_by, seen_none}
+use Rattle.lib_os.proofs.EntriesStand.{named_at, named_bytes}
+use Rattle.lib_os.proofs.Logical.{is_plain, logical_some, logical_plain, logical_beside, logical_alike, programs_beside, StandsAs}
+use Rattle.lib_os.proofs.Logical.{plain_unborne, programs_no_descriptor, unborne_unremapped}
 use Rattle.lib_os.proofs.PageBytes.{zero_page_whole}
 use Rattle.lib_os.proofs.SlotsStand.{SeenAlike, HasTables, minds_page, unminded_plain, kept_unminded, library_put, page_alike, page_put}
 use Rattle.lib_os.proofs.SlotsStand.{born_at, born_live, live_stands}
@@ -104,7 +107,7 @@ module _ {names after : Names} {s : KernelState} {a : AbstractState} {sp : Space
 
   pub puts_stand : is_programs p ≡ true → (page : Option Page) → page ≡ page_seen after sp dir p →
       (regions : ℕ → Bool) → HasTables sp dir regions → (shared : ℕ → List ℕ) (next : ℕ) →
-      PutsRow names after s.spaces.pages a.shared sp.pages shared a.next_name next (logical s.spaces s.environments.slots) n p v →
+      PutsRow names after s.spaces.pages a.shared sp.pages shared a.objects a.next_name next (logical s.spaces s.environments.slots) n p v →
       minds_page (place_of (slot_at s n)) ≡ false → IsInOrder (with_spaces s sp) →
       StandsFor after (with_spaces s sp)
       (with_born (record a { shared = shared; next_name = next }) n (record b { memory = upd b.memory p page; regions = regions }))
@@ -115,8 +118,8 @@ module _ {names after : Names} {s : KernelState} {a : AbstractState} {sp : Space
       (counts_put (unminded_plain (place_of (slot_at s n)) unminded)) (rows_put (rows_stand h) row)) in_order
     where
       mine : StandsForBorn after sp (slot_at s n) (record b { memory = upd b.memory p page; regions = regions })
-      mine = page_put names after s.spaces sp (slot_at s n) b p page regions (born_at h n b at) here
-          (λ q ne. seen_at names after s.spaces sp dir q (row_kept dir q (λ same too. ne too))
+      mine = page_put names after s.spaces sp (slot_at s n) b p page regions (born_at h n b at) inside here
+          (λ q ne. shown_same names after s.spaces sp dir q (row_kept dir q (λ same too. ne too))
           (λ x hx own_page. puts.bytes dir q x (λ same too. ne too) hx) (λ x hx shared_page. puts.named_so dir q x hx shared_page))
           (library_put (place_of (slot_at s n)) (rows_of s.spaces dir) (rows_of sp dir) p inside
           (λ q ne. row_kept dir q (λ same too. ne too)) (born_at h n b at).library)
@@ -194,10 +197,10 @@ module _ {names : Names} {s : KernelState} {a : AbstractState} {sp : SpacesState
 
   made_row : (after : Names) (named_so : (q r : ℕ) (x : Entry) → rows_of s.spaces q r ≡ Some x → is_shared x.perm ≡ true →
       after.name x.frame ≡ names.name x.frame) (shared : ℕ → List ℕ) (next : ℕ) →
-      (is_shared perm ≡ true → IsNamed after sp.pages shared next made.frame) →
+      (is_shared perm ≡ true → IsNamed after sp.pages shared a.objects next p made.frame) →
       ((q r : ℕ) (x : Entry) → rows_of s.spaces q r ≡ Some x → sp.pages x.frame ≡ s.spaces.pages x.frame →
-      IsNamed names s.spaces.pages a.shared a.next_name x.frame → IsNamed after sp.pages shared next x.frame) →
-      PutsRow names after s.spaces.pages a.shared sp.pages shared a.next_name next (logical s.spaces s.environments.slots) n p (Some new_entry)
+      IsNamed names s.spaces.pages a.shared a.objects a.next_name r x.frame → IsNamed after sp.pages shared a.objects next r x.frame) →
+      PutsRow names after s.spaces.pages a.shared sp.pages shared a.objects a.next_name next (logical s.spaces s.environments.slots) n p (Some new_entry)
   made_row after named_so shared next new_named old_named = record {
     bytes = bytes_elsewhere h n b at (made_puts after named_so);
     agree = λ m q x e ne hx is same.
@@ -206,13 +209,14 @@ module _ {names : Names} {s : KernelState} {a : AbstractState} {sp : SpacesState
     user = λ e is. subst (λ (y : Entry). IsUsers y.perm) (same_Some new_entry e is) is_user;
     whole = λ e is. subst (λ (y : Entry). IsPage (sp.pages y.frame)) (same_Some new_entry e is)
         (subst (λ (l : List ℕ). IsPage l) (sym made.zero) zero_page_whole);
-    named_new = λ e is. subst (λ (y : Entry). is_shared y.perm ≡ true → IsNamed after sp.pages shared next y.frame) (same_Some new_entry e is) new_named;
+    named_new = λ e is. subst (λ (y : Entry). is_shared y.perm ≡ true → IsNamed after sp.pages shared a.objects next p y.frame)
+        (same_Some new_entry e is) new_named;
     named_old = λ m q x ne hx shared_page was.
         let found = elsewhere h n b at (made_puts after named_so) m q x ne hx in
         let y = found.1.entry in
-        subst (λ (f : ℕ). IsNamed after sp.pages shared next f) found.1.frame
+        subst (λ (f : ℕ). IsNamed after sp.pages shared a.objects next q f) found.1.frame
         (old_named _ q y found.1.stands (old_bytes _ q y found.0 found.1.stands)
-        (subst (λ (f : ℕ). IsNamed names s.spaces.pages a.shared a.next_name f) (sym found.1.frame) was));
+        (subst (λ (f : ℕ). IsNamed names s.spaces.pages a.shared a.objects a.next_name q f) (sym found.1.frame) was));
   }
 
   tables_made : HasTables sp d (upd b.regions (p / NPTENTRIES) true)
@@ -228,7 +232,7 @@ module _ {names : Names} {s : KernelState} {a : AbstractState} {sp : SpacesState
       (upd b.regions (p / NPTENTRIES) true) tables_made a.shared a.next_name
       (made_row names (λ q r x hx shared_page. refl) a.shared a.next_name
       (λ shared_page. absurd (let contradiction : true ≡ false = sym shared_page ∙ own_page in cc))
-      (λ q r x hx bytes was. record { home = was.home; bytes = was.bytes ∙ sym bytes; old = was.old })) unminded in_order
+      (λ q r x hx bytes was. named_bytes (sym bytes) was)) unminded in_order
     where
       or_false : (w : Bool) → (w || false) ≡ w
       or_false true = refl
@@ -237,9 +241,13 @@ module _ {names : Names} {s : KernelState} {a : AbstractState} {sp : SpacesState
       writes : may_write perm ≡ has_write perm
       writes = ap (λ (c : Bool). has_write perm || c) no_copy ∙ or_false (has_write perm)
 
-  -- the new page's frame has the next name
+  -- the new page's frame has the next name, which is a page's
   abbrev pub names_after : Names
-  names_after = record { name = upd names.name made.frame a.next_name; frame = upd names.frame a.next_name made.frame }
+  names_after = record {
+    name = upd names.name made.frame a.next_name;
+    frame = upd names.frame a.next_name made.frame;
+    is_object = upd names.is_object a.next_name false;
+  }
 
   made_shared : is_shared perm ≡ true →
       StandsFor names_after (with_spaces s sp)
@@ -252,32 +260,44 @@ module _ {names : Names} {s : KernelState} {a : AbstractState} {sp : SpacesState
       ∙ ap (λ (m : ℕ). Some (named m (has_write perm))) (upd-at names.name made.frame a.next_name)))
       (upd b.regions (p / NPTENTRIES) true) tables_made (upd a.shared a.next_name zero_page) (a.next_name + 1)
       (made_row names_after names_kept (upd a.shared a.next_name zero_page) (a.next_name + 1) (λ is. new_named)
-      (λ q r x hx bytes was. old_named x.frame (made.new q r x hx) bytes was)) unminded in_order
+      (λ q r x hx bytes was. old_named r x.frame (made.new q r x hx) bytes was)) unminded in_order
     where
       names_kept : (q r : ℕ) (x : Entry) → rows_of s.spaces q r ≡ Some x → is_shared x.perm ≡ true →
           names_after.name x.frame ≡ names.name x.frame
       names_kept q r x hx shared_too = upd-other names.name made.frame a.next_name x.frame (made.new q r x hx)
 
-      old_named : (f : ℕ) → f ≢ made.frame → sp.pages f ≡ s.spaces.pages f →
-          IsNamed names s.spaces.pages a.shared a.next_name f →
-          IsNamed names_after sp.pages (upd a.shared a.next_name zero_page) (a.next_name + 1) f
-      old_named f ne bytes was =
-          let other : names.name f ≢ a.next_name = (let lower = was.old in omega arith) in
-          subst (λ (m : ℕ). (names_after.frame m ≡ f) × (upd a.shared a.next_name zero_page m ≡ sp.pages f) × (m < a.next_name + 1) →
-          IsNamed names_after sp.pages (upd a.shared a.next_name zero_page) (a.next_name + 1) f)
-          (upd-other names.name made.frame a.next_name f ne)
-          (λ facts. record { home = facts.0; bytes = facts.1; old = facts.2 }) (
-            upd-other names.frame a.next_name made.frame (names.name f) other ∙ was.home,
-            upd-other a.shared a.next_name zero_page (names.name f) other ∙ was.bytes ∙ sym bytes,
+      old_named : (r f : ℕ) → f ≢ made.frame → sp.pages f ≡ s.spaces.pages f →
+          IsNamed names s.spaces.pages a.shared a.objects a.next_name r f →
+          IsNamed names_after sp.pages (upd a.shared a.next_name zero_page) a.objects (a.next_name + 1) r f
+      old_named r f ne bytes was =
+          let name = names.name f in
+          let other : name ≢ a.next_name = (let lower = was.old in omega arith) in
+          let object : upd names.is_object a.next_name false name ≡ names.is_object name = upd-other names.is_object a.next_name false name other in
+          let page : upd a.shared a.next_name zero_page name ≡ a.shared name = upd-other a.shared a.next_name zero_page name other in
+          let here : ShowsBy (names.is_object name) (a.shared name) (a.objects name) (sp.pages f) =
+          (named_bytes {after = sp.pages} (sym bytes) was).shows in
+          let facts = subst (λ (m : ℕ). (names_after.frame m ≡ f) × (names_after.is_object m ≡ is_descriptor r)
+          × ShowsBy (names_after.is_object m) (upd a.shared a.next_name zero_page m) (a.objects m) (sp.pages f) × (m < a.next_name + 1))
+          (sym (upd-other names.name made.frame a.next_name f ne)) (
+            upd-other names.frame a.next_name made.frame name other ∙ was.home,
+            object ∙ was.kind,
+            subst (λ (c : Bool). ShowsBy c (upd a.shared a.next_name zero_page name) (a.objects name) (sp.pages f)) (sym object)
+                (subst (λ (l : List ℕ). ShowsBy (names.is_object name) l (a.objects name) (sp.pages f)) (sym page) here),
             (let lower = was.old in omega arith),
-          )
+          ) in
+          record { home = facts.0; kind = facts.1; shows = facts.2; old = facts.3 }
 
-      new_named : IsNamed names_after sp.pages (upd a.shared a.next_name zero_page) (a.next_name + 1) made.frame
+      new_named : IsNamed names_after sp.pages (upd a.shared a.next_name zero_page) a.objects (a.next_name + 1) p made.frame
       new_named =
           let name_is : upd names.name made.frame a.next_name made.frame ≡ a.next_name = upd-at names.name made.frame a.next_name in
+          let object : upd names.is_object a.next_name false a.next_name ≡ false = upd-at names.is_object a.next_name false in
           record {
             home = ap (λ (m : ℕ). upd names.frame a.next_name made.frame m) name_is ∙ upd-at names.frame a.next_name made.frame;
-            bytes = ap (λ (m : ℕ). upd a.shared a.next_name zero_page m) name_is ∙ upd-at a.shared a.next_name zero_page ∙ sym made.zero;
+            kind = ap (λ (m : ℕ). upd names.is_object a.next_name false m) name_is ∙ object ∙ sym (programs_no_descriptor p inside);
+            shows = subst (λ (m : ℕ). ShowsBy (upd names.is_object a.next_name false m) (upd a.shared a.next_name zero_page m) (a.objects m)
+                (sp.pages made.frame)) (sym name_is)
+                (subst (λ (c : Bool). ShowsBy c (upd a.shared a.next_name zero_page a.next_name) (a.objects a.next_name) (sp.pages made.frame))
+                (sym object) (upd-at a.shared a.next_name zero_page ∙ sym made.zero));
             old = subst (λ (m : ℕ). m < a.next_name + 1) (sym name_is) (omega arith);
           }
 
@@ -350,7 +370,7 @@ module _ {names : Names} {s : KernelState} {a : AbstractState} {sp : SpacesState
     regions = other_regions given.placed;
   }
 
-  given_row : PutsRow names names s.spaces.pages a.shared sp.pages a.shared a.next_name a.next_name (logical s.spaces s.environments.slots) m
+  given_row : PutsRow names names s.spaces.pages a.shared sp.pages a.shared a.objects a.next_name a.next_name (logical s.spaces s.environments.slots) m
       (page_number va) (Some x)
   given_row = record {
     bytes = bytes_elsewhere h m c target_at given_puts;
@@ -361,12 +381,13 @@ module _ {names : Names} {s : KernelState} {a : AbstractState} {sp : SpacesState
     user = λ e is. subst (λ (z : Entry). IsUsers z.perm) (same_Some x e is) (h.users n (page_number from) x counts_here);
     whole = λ e is. subst (λ (z : Entry). IsPage (sp.pages z.frame)) (same_Some x e is)
         (subst (λ (l : List ℕ). IsPage l) (sym given.same) (h.whole n (page_number from) x counts_here));
-    named_new = λ e is. subst (λ (y : Entry). is_shared y.perm ≡ true → IsNamed names sp.pages a.shared a.next_name y.frame)
+    named_new = λ e is.
+        subst (λ (y : Entry). is_shared y.perm ≡ true → IsNamed names sp.pages a.shared a.objects a.next_name (page_number va) y.frame)
         (same_Some x e is)
-        (λ shared_page. let was = h.named n (page_number from) x counts_here shared_page in
-        record { home = was.home; bytes = was.bytes ∙ sym given.same; old = was.old });
-    named_old = λ q r y ne hy shared_page was.
-        record { home = was.home; bytes = was.bytes ∙ sym (bytes_elsewhere h m c target_at given_puts q r y ne hy); old = was.old };
+        (λ shared_page. named_bytes (sym given.same)
+        (named_at (programs_no_descriptor (page_number va) inside ∙ sym (programs_no_descriptor (page_number from) from_inside))
+        (h.named n (page_number from) x counts_here shared_page)));
+    named_old = λ q r y ne hy shared_page was. named_bytes (sym (bytes_elsewhere h m c target_at given_puts q r y ne hy)) was;
   }
 
   given_seen : Some page ≡ page_seen names sp to_space (page_number va)
@@ -408,7 +429,7 @@ module _ {names : Names} {s : KernelState} {a : AbstractState} {sp : SpacesState
     regions = λ q r ne. removed.regions q r;
   }
 
-  removed_row : PutsRow names names s.spaces.pages a.shared sp.pages a.shared a.next_name a.next_name (logical s.spaces s.environments.slots) n
+  removed_row : PutsRow names names s.spaces.pages a.shared sp.pages a.shared a.objects a.next_name a.next_name (logical s.spaces s.environments.slots) n
       number None
   removed_row = record {
     bytes = bytes_elsewhere h n b at removed_puts;
@@ -416,8 +437,7 @@ module _ {names : Names} {s : KernelState} {a : AbstractState} {sp : SpacesState
     user = λ e is. absurd (none-some e is);
     whole = λ e is. absurd (none-some e is);
     named_new = λ e is. absurd (none-some e is);
-    named_old = λ m q x ne hx shared_page was.
-        record { home = was.home; bytes = was.bytes ∙ sym (bytes_elsewhere h n b at removed_puts m q x ne hx); old = was.old };
+    named_old = λ m q x ne hx shared_page was. named_bytes (sym (bytes_elsewhere h n b at removed_puts m q x ne hx)) was;
   }
 
   pub removed_stands : StandsFor names (with_spaces s sp) (with_born a n (without_page b va))

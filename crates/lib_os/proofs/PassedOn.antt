@@ -8,7 +8,7 @@ use Rattle.std.specs.Option.{option_map}
 use Rattle.std.proofs.lemmas.Bool.Decides.{nat_tests}
 use Rattle.std.proofs.lemmas.Option.{none-some, same_Some}
 use Rattle.jos_base.proofs.Below.{some_below-at}
-use Rattle.jos_base.specs.declared.numbers.TheConstants.{FIRST_ENV_ID, NENV, NPTENTRIES, SYS_PAGE_MAP}
+use Rattle.jos_base.specs.declared.numbers.TheConstants.{FDTABLE, FIRST_ENV_ID, NENV, NPTENTRIES, SYS_PAGE_MAP, USTACKTOP, UTEMP}
 use Rattle.jos_base.specs.declared.registers.Regs.{Regs}
 use Rattle.jos_base.specs.Environments.{Environments, Slot, found, is_live as is_live_slot}
 use Rattle.jos_base.specs.KernelState.{KernelState, slot_at, with_extra, with_registers, with_spaces}
@@ -23,23 +23,22 @@ use Rattle.lib_os.specs.declared.place.Place.TheVariants as place
 use Rattle.lib_os.specs.declared.place.Step.{Step}
 use Rattle.lib_os.specs.declared.place.Step.TheVariants as step
 use Rattle.lib_os.specs.declared.service.Service.TheVariants as service
-use Rattle.lib_os.specs.AbstractState.{AbstractState, AbstractSlot, Page, own, unborn, serving, is_live}
+use Rattle.lib_os.specs.AbstractState.{AbstractState, AbstractSlot, Object, Page, own, unborn, serving, is_live}
 use Rattle.lib_os.specs.AbstractMemory.{has_page_in}
 use Rattle.lib_os.specs.InOrder.{IsInOrder}
-use Rattle.lib_os.specs.LibraryPages.{is_library_region}
+use Rattle.lib_os.specs.LibraryPages.{is_library_region, region_index}
 use Rattle.lib_os.specs.Places.{place_in_words, place_of, words_at}
 use Rattle.lib_os.specs.Rows.{Agree, EntryRow, IsNamed, IsPage, IsUsers, Names, Rows, as_cow, counted, cow_perm}
-use Rattle.lib_os.specs.Rows.{is_cow, is_programs, is_shared, lasting, logical, logical_by, may_write, page_by, page_seen, rows_of}
+use Rattle.lib_os.specs.Rows.{is_cow, is_descriptor, is_programs, is_shared, lasting, logical, logical_by, may_write, page_by, page_seen, rows_of}
 use Rattle.lib_os.specs.StandsFor.{StandsFor, StandsAtStep, IsBearing, IsMapping, borne_at, view_of}
 use Rattle.lib_os.specs.UserCalls.{asking, called_by, system}
 use Rattle.lib_os.proofs.Bearing.{IsBearer, IsChild}
-use Rattle.lib_os.proofs.BytesRead.{users_inside}
 use Rattle.lib_os.proofs.Calls.{caller_is, made_is, made_step, system_is}
 use Rattle.lib_os.proofs.Effects.{Given}
 use Rattle.lib_os.proofs.EntriesStand.{PutsRow, RowsStand, put_is, rows_bytes, rows_put, rows_same, rows_stand}
 use Rattle.lib_os.proofs.EntriesStand.{same_entry, seen_at, seen_by, seen_own}
 use Rattle.lib_os.proofs.EntryWords.{row_entry}
-use Rattle.lib_os.proofs.GoesDown.{HasFrom, bearing_moves, goes_below, has_from, is_child, moved, moved_place, own_moved, step_below, there_programs}
+use Rattle.lib_os.proofs.GoesDown.{HasFrom, bearing_moves, goes_below, has_from, is_child, moved, moved_place, own_moved, step_below, there_handed}
 use Rattle.lib_os.proofs.GoingOn.{in_with_words}
 use Rattle.lib_os.proofs.Logical.{logical_alike, logical_some}
 use Rattle.lib_os.proofs.PagesStand.{other_regions, row_elsewhere, row_placed}
@@ -144,6 +143,10 @@ remapped_counts id page row p = refl
 
 -- ---- the bits of the page
 
+no_other : (t u : Bool) → (t || u) ≡ true → (u ≡ true → ⊥) → t ≡ true
+no_other true u is other = refl
+no_other false u is other = absurd (other is)
+
 both_off : (t u : Bool) → (t || not u) ≡ false → (t ≡ false) × (u ≡ true)
 both_off true u is = absurd (let contradiction : true ≡ false = is in cc)
 both_off false true is = (refl, refl)
@@ -175,15 +178,17 @@ cow_agreed had own_page = record {
   read_only = λ is. ((had.read_only is).0, refl);
 }
 
--- A page that stands somewhere gets an entry in the place of what stood there, which agrees with all others of its frame.
-rows_given : {names : Names} {pages shared : ℕ → List ℕ} {next : ℕ} {rows : Rows} → RowsStand names pages shared next rows → (n p m q : ℕ)
-    (x e : Entry) → rows n p ≡ Some x → x.frame ≡ e.frame → IsUsers e.perm → (is_shared e.perm ≡ true → is_shared x.perm ≡ true) →
-    ((j r : ℕ) (y : Entry) → Elsewhere j r m q → rows j r ≡ Some y → y.frame ≡ e.frame → Agree y.perm e.perm) →
-    RowsStand names pages shared next (put rows m q (Some e))
-rows_given {names = names} {pages = pages} {shared = shared} {next = next} {rows = rows} h n p m q x e stands frame is_user sharing agrees =
+-- A page that stands somewhere gets an entry at the same number in some space, which agrees with all others of its frame.
+rows_given : {names : Names} {pages shared : ℕ → List ℕ} {objects : ℕ → Object} {next : ℕ} {rows : Rows} →
+    RowsStand names pages shared objects next rows → (n p m : ℕ) (x e : Entry) → rows n p ≡ Some x → x.frame ≡ e.frame → IsUsers e.perm →
+    (is_shared e.perm ≡ true → is_shared x.perm ≡ true) →
+    ((j r : ℕ) (y : Entry) → Elsewhere j r m p → rows j r ≡ Some y → y.frame ≡ e.frame → Agree y.perm e.perm) →
+    RowsStand names pages shared objects next (put rows m p (Some e))
+rows_given {names = names} {pages = pages} {shared = shared} {objects = objects} {next = next} {rows = rows} h n p m x e stands frame is_user sharing
+    agrees =
     rows_put h puts
   where
-    puts : PutsRow names names pages shared pages shared next next rows m q (Some e)
+    puts : PutsRow names names pages shared pages shared objects next next rows m p (Some e)
     puts = record {
       bytes = λ j r y ne hy. refl;
       agree = λ j r y z ne hy is same.
@@ -192,10 +197,20 @@ rows_given {names = names} {pages = pages} {shared = shared} {next = next} {rows
       user = λ z is. subst (λ (w : Entry). IsUsers w.perm) (same_Some e z is) is_user;
       whole = λ z is. subst (λ (w : Entry). IsPage (pages w.frame)) (same_Some e z is)
           (subst (λ (f : ℕ). IsPage (pages f)) frame (h.whole n p x stands));
-      named_new = λ z is. subst (λ (w : Entry). is_shared w.perm ≡ true → IsNamed names pages shared next w.frame) (same_Some e z is)
-          (λ shared_page. subst (λ (f : ℕ). IsNamed names pages shared next f) frame (h.named n p x stands (sharing shared_page)));
+      named_new = λ z is. subst (λ (w : Entry). is_shared w.perm ≡ true → IsNamed names pages shared objects next p w.frame) (same_Some e z is)
+          (λ shared_page. subst (λ (f : ℕ). IsNamed names pages shared objects next p f) frame (h.named n p x stands (sharing shared_page)));
       named_old = λ j r y ne hy shared_page was. was;
     }
+
+or_true : (c t : Bool) → t ≡ true → (c || t) ≡ true
+or_true true t on = refl
+or_true false t on = on
+
+-- the pages of descriptors lie in a region of the library's
+descriptors_region : (p : ℕ) → is_descriptor p ≡ true → is_library_region (p / NPTENTRIES) ≡ true
+descriptors_region p is =
+    let there : (p / NPTENTRIES == region_index FDTABLE) ≡ true = grind (arith, nat_tests) in
+    ap (λ (c : Bool). c || (p / NPTENTRIES == region_index USTACKTOP)) (or_true (p / NPTENTRIES == region_index UTEMP) _ there)
 
 -- ---- the page is mapped
 
@@ -234,14 +249,37 @@ module _ {names : Names} {s : KernelState} {a : AbstractState} (h : StandsFor na
   unfolding place_in_words
   child_guest = let outside = v.child_own.stack in let none = v.child_own.words in rw (outside, none) refl
 
-  -- what fork passes on is a program's
-  page_inside : is_programs page ≡ true
-  page_inside =
+  -- what fork passes on is a program's, or a descriptor's
+  page_handed : is_programs page || is_descriptor page ≡ true
+  page_handed =
       let at : Step = step.MapChild id page perm in
-      there_programs (slot_at s n) at at v.place v.own page mapping.entry mapping.below mapping.stands
+      there_handed (slot_at s n) at at v.place v.own page mapping.entry mapping.below mapping.stands
+
+  -- a descriptor's is mapped as it is
+  descriptor_kept : is_descriptor page ≡ true → is_kept ≡ true
+  descriptor_kept is =
+      ap (λ (bits : ℕ). is_shared bits || not (may_write bits)) (v.own.library.descriptors page mapping.entry is mapping.stands)
+
+  -- any other is a program's
+  copied_inside : is_kept ≡ false → is_programs page ≡ true
+  copied_inside is =
+      no_other (is_programs page) (is_descriptor page) page_handed
+      (λ descriptor. let contradiction : false ≡ true = sym is ∙ descriptor_kept descriptor in cc)
+
+  -- the parent's entries count as they stand
+  abbrev before : Rows
+  before = logical s.spaces s.environments.slots
+
+  counts_before : (p : ℕ) → before n p ≡ rows_of s.spaces d p
+  counts_before p =
+      counts_at s.spaces s.environments.slots n (slot_at s n) (place.InService service.Fork (step.MapChild id page perm)) refl live v.place p
+      ∙ mapping_counts id page perm (rows_of s.spaces d) p
+
+  entry_counts : before n page ≡ Some mapping.entry
+  entry_counts = counts_before page ∙ mapping.stands
 
   user : IsUsers mapping.entry.perm
-  user = users_inside names s a n v.b h v.is page entry page_inside mapping.stands
+  user = h.users n page mapping.entry entry_counts
 
   bits_are : (c : Bool) → is_kept ≡ c → perm ≡ (if c then mapping.entry.perm else cow_perm)
   bits_are c is = mapping.bits ∙ ap (λ (t : Bool). if t then mapping.entry.perm else cow_perm) is
@@ -307,7 +345,7 @@ module _ {names : Names} {s : KernelState} {a : AbstractState} (h : StandsFor na
   child_had = has_from (step.MapChild id page perm) refl refl v.child
 
   none_there : rows_of s.spaces child_space page ≡ None
-  none_there = child_had.rest page page_inside (omega arith)
+  none_there = child_had.rest page page_handed (omega arith)
 
   -- ---- what is seen of spaces
 
@@ -339,9 +377,9 @@ module _ {names : Names} {s : KernelState} {a : AbstractState} (h : StandsFor na
     parent_beside : d ≢ child_space
     parent_beside same = v.apart (sym (h.in_order.spaces.apart n m live child_live same))
 
-    -- the page is seen as the parent sees it
-    seen_here : page_seen names sp child_space page ≡ v.b.memory page
-    seen_here = by_test is_kept refl ∙ sym (v.own.memory page)
+    -- a program's page is seen as the parent sees it
+    seen_here : is_programs page ≡ true → page_seen names sp child_space page ≡ v.b.memory page
+    seen_here page_inside = by_test is_kept refl ∙ sym (v.own.memory page)
       where
         by_test : (c : Bool) → is_kept ≡ c → page_seen names sp child_space page ≡ page_seen names s.spaces d page
         by_test true is =
@@ -364,19 +402,41 @@ module _ {names : Names} {s : KernelState} {a : AbstractState} (h : StandsFor na
         by_page : (c : Bool) → (p == page) ≡ c → page_seen names sp child_space p ≡ v.b.memory p
         by_page true test =
             let same : page ≡ p = grind (arith, nat_tests) in
-            subst (λ (q : ℕ). page_seen names sp child_space q ≡ v.b.memory q) same seen_here
+            subst (λ (q : ℕ). page_seen names sp child_space q ≡ v.b.memory q) same (seen_here (ap is_programs same ∙ inside))
         by_page false test =
             let other : p ≢ page = grind (arith, nat_tests) in
             seen_at names names s.spaces sp child_space p (kept child_space p (λ same. other)) (λ x hx own_page. bytes_kept child_space p x hx)
             (λ x hx shared_page. refl)
             ∙ child_had.passed p inside (omega (arith, from, other))
 
-    -- the parent has a page in the region for which the child may have got a table
-    has_page : has_page_in v.b.memory (page / NPTENTRIES) ≡ true
-    has_page =
-        some_below-at (λ p. is_some (v.b.memory (page / NPTENTRIES * NPTENTRIES + p))) NPTENTRIES (page % NPTENTRIES) (omega arith)
-        (ap (λ (p : ℕ). is_some (v.b.memory p)) (let same : page / NPTENTRIES * NPTENTRIES + page % NPTENTRIES ≡ page = omega arith in same)
-        ∙ ap (λ (o : Option Page). is_some o) (v.own.memory page ∙ seen_by names s.spaces d page mapping.entry page_inside mapping.stands))
+    -- a descriptor's page has the parent's entry
+    child_handed : (p : ℕ) → is_descriptor p ≡ true → page ≤ p → rows_of sp child_space p ≡ rows_of sp d p
+    child_handed p is from = by_page (p == page) refl ∙ sym (ap (λ (row : EntryRow). row p) (seen_beside d parent_beside).rows)
+      where
+        by_page : (c : Bool) → (p == page) ≡ c → rows_of sp child_space p ≡ rows_of s.spaces d p
+        by_page true test =
+            let same : page ≡ p = grind (arith, nat_tests) in
+            subst (λ (q : ℕ). rows_of sp child_space q ≡ rows_of s.spaces d q) same
+            (row_placed given.placed ∙ ap (λ (e : Entry). Some e) (kept_entry (descriptor_kept (ap is_descriptor same ∙ is))) ∙ sym mapping.stands)
+        by_page false test =
+            let other : p ≢ page = grind (arith, nat_tests) in
+            kept child_space p (λ same. other) ∙ child_had.handed p is (omega (arith, from, other))
+
+    -- the parent has a page in the region for which the child may have got a table, or that is the region of descriptors
+    has_page : has_page_in v.b.memory (page / NPTENTRIES) || is_library_region (page / NPTENTRIES) ≡ true
+    has_page = by_test (is_programs page) refl
+      where
+        programs : is_programs page ≡ true → has_page_in v.b.memory (page / NPTENTRIES) ≡ true
+        programs inside =
+            some_below-at (λ p. is_some (v.b.memory (page / NPTENTRIES * NPTENTRIES + p))) NPTENTRIES (page % NPTENTRIES) (omega arith)
+            (ap (λ (p : ℕ). is_some (v.b.memory p)) (let same : page / NPTENTRIES * NPTENTRIES + page % NPTENTRIES ≡ page = omega arith in same)
+            ∙ ap (λ (o : Option Page). is_some o) (v.own.memory page ∙ seen_by names s.spaces d page mapping.entry inside mapping.stands))
+
+        by_test : (c : Bool) → is_programs page ≡ c → has_page_in v.b.memory (page / NPTENTRIES) || is_library_region (page / NPTENTRIES) ≡ true
+        by_test true inside = ap (λ (c : Bool). c || is_library_region (page / NPTENTRIES)) (programs inside)
+        by_test false outside =
+            or_true (has_page_in v.b.memory (page / NPTENTRIES)) (is_library_region (page / NPTENTRIES))
+            (descriptors_region page (sym (ap (λ (c : Bool). c || is_descriptor page) outside) ∙ page_handed))
 
     child_tables : (r : ℕ) → is_some (sp.regions child_space r) ≡ true → has_page_in v.b.memory r || is_library_region r ≡ true
     child_tables r table = by_region (r == page / NPTENTRIES) refl (sym (given.placed.regions child_space r) ∙ table)
@@ -390,7 +450,7 @@ module _ {names : Names} {s : KernelState} {a : AbstractState} (h : StandsFor na
         by_region true test is =
             let same : page / NPTENTRIES ≡ r = grind (arith, nat_tests) in
             subst (λ (q : ℕ). has_page_in v.b.memory q || is_library_region q ≡ true) same
-            (ap (λ (c : Bool). c || is_library_region (page / NPTENTRIES)) has_page)
+            has_page
         by_region false test is =
             v.child.tables r
             (sym ((λ i. ((there i) && (test i)) || is_some (s.spaces.regions child_space r))) ∙ is)
@@ -401,34 +461,25 @@ module _ {names : Names} {s : KernelState} {a : AbstractState} (h : StandsFor na
       registers = child_had.registers;
       upcall = child_had.upcall;
       passed = child_memory;
+      handed = child_handed;
       rest = λ p inside lower. kept child_space p (λ same at. omega (arith, lower, at)) ∙ child_had.rest p inside (omega (arith, lower));
-      none = λ p outside.
+      none = λ p outside no_descriptor.
           kept child_space p
-          (λ same at. absurd (let contradiction : false ≡ true = sym outside ∙ ap is_programs at ∙ page_inside in cc))
-          ∙ child_had.none p outside;
+          (λ same at. absurd (let contradiction : false ≡ true = (λ i. sym outside i || sym no_descriptor i)
+          ∙ ap (λ (q : ℕ). is_programs q || is_descriptor q) at ∙ page_handed in cc))
+          ∙ child_had.none p outside no_descriptor;
       tables = child_tables;
     }
 
     -- ---- entries as they count
 
-    abbrev before : Rows
-    before = logical s.spaces s.environments.slots
-
     abbrev after : Step → Rows
     after next = logical sp (upd s.environments.slots n (moved (slot_at s n) next))
-
-    counts_before : (p : ℕ) → before n p ≡ rows_of s.spaces d p
-    counts_before p =
-        counts_at s.spaces s.environments.slots n (slot_at s n) (place.InService service.Fork (step.MapChild id page perm)) refl live v.place p
-        ∙ mapping_counts id page perm (rows_of s.spaces d) p
 
     child_counts_before : (p : ℕ) → before m p ≡ rows_of s.spaces child_space p
     child_counts_before p =
         counts_at s.spaces s.environments.slots m (slot_at s m) place.Guest refl child_live child_guest p
         ∙ guest_counts (rows_of s.spaces child_space) p
-
-    entry_counts : before n page ≡ Some mapping.entry
-    entry_counts = counts_before page ∙ mapping.stands
 
     counts_after : (next : Step) (p : ℕ) → after next n p ≡ counted (place.InService service.Fork next) (rows_of s.spaces d) p
     counts_after next p =
@@ -474,7 +525,7 @@ module _ {names : Names} {s : KernelState} {a : AbstractState} (h : StandsFor na
         let found = (logical_some s.spaces s.environments.slots q r x hx).1 in
         subst (λ (f : ℕ). sp.pages f ≡ s.spaces.pages f) found.frame (bytes_kept (slot_at s q).directory r found.entry found.stands)
 
-    rows_before : RowsStand names sp.pages a.shared a.next_name before
+    rows_before : RowsStand names sp.pages a.shared a.objects a.next_name before
     rows_before = rows_bytes sp.pages bytes_counted (rows_stand h)
 
     child_counts : (next : Step) → after next m page ≡ Some passed_on
@@ -502,14 +553,14 @@ module _ {names : Names} {s : KernelState} {a : AbstractState} (h : StandsFor na
               })
           by_place (inr ne) = agreed q r x ne hx same
 
-      rows_kept : RowsStand names sp.pages a.shared a.next_name (put before m page (Some passed_on))
+      rows_kept : RowsStand names sp.pages a.shared a.objects a.next_name (put before m page (Some passed_on))
       rows_kept =
-          subst (λ (e : Entry). RowsStand names sp.pages a.shared a.next_name (put before m page (Some e))) (sym (kept_entry is))
-          (rows_given rows_before n page m page mapping.entry mapping.entry entry_counts refl user (λ shared_page. shared_page)
+          subst (λ (e : Entry). RowsStand names sp.pages a.shared a.objects a.next_name (put before m page (Some e))) (sym (kept_entry is))
+          (rows_given rows_before n page m mapping.entry mapping.entry entry_counts refl user (λ shared_page. shared_page)
           (λ q r x ne hx same. all_agree q r x hx same))
 
       rows_below : (next : Step) → ((row : EntryRow) (p : ℕ) → counted (place.InService service.Fork next) row p ≡ row p) →
-          RowsStand names sp.pages a.shared a.next_name (after next)
+          RowsStand names sp.pages a.shared a.objects a.next_name (after next)
       rows_below next plain =
           rows_same (put before m page (Some passed_on)) (after next)
           (put_is before (after next) m page (Some passed_on) (child_counts next)
@@ -532,9 +583,9 @@ module _ {names : Names} {s : KernelState} {a : AbstractState} (h : StandsFor na
       abbrev parent_copied : Rows
       parent_copied = put before n page (Some copied_entry)
 
-      rows_parent : RowsStand names sp.pages a.shared a.next_name parent_copied
+      rows_parent : RowsStand names sp.pages a.shared a.objects a.next_name parent_copied
       rows_parent =
-          rows_given rows_before n page n page mapping.entry copied_entry entry_counts refl cow_user
+          rows_given rows_before n page n mapping.entry copied_entry entry_counts refl cow_user
           (λ shared_page. absurd (let contradiction : false ≡ true = shared_page in cc))
           (λ q r x ne hx same. cow_agreed (agreed q r x ne hx same) own_writable.0)
 
@@ -544,10 +595,10 @@ module _ {names : Names} {s : KernelState} {a : AbstractState} (h : StandsFor na
         | inr there ↦ cow_agreed (agreed q r x there.0 there.1 same) own_writable.0
       ]
 
-      rows_both : RowsStand names sp.pages a.shared a.next_name (put parent_copied m page (Some passed_on))
+      rows_both : RowsStand names sp.pages a.shared a.objects a.next_name (put parent_copied m page (Some passed_on))
       rows_both =
-          subst (λ (e : Entry). RowsStand names sp.pages a.shared a.next_name (put parent_copied m page (Some e))) (sym cow_entry)
-          (rows_given rows_parent n page m page copied_entry copied_entry (put-at before n page (Some copied_entry)) refl cow_user
+          subst (λ (e : Entry). RowsStand names sp.pages a.shared a.objects a.next_name (put parent_copied m page (Some e))) (sym cow_entry)
+          (rows_given rows_parent n page m copied_entry copied_entry (put-at before n page (Some copied_entry)) refl cow_user
           (λ shared_page. shared_page) (λ q r x ne hx same. parent_agrees q r x hx same))
 
       parent_counts : (p : ℕ) → after (step.Remap id page) n p ≡ parent_copied n p
@@ -566,7 +617,7 @@ module _ {names : Names} {s : KernelState} {a : AbstractState} (h : StandsFor na
               let other : p ≢ page = grind (arith, nat_tests) in
               sym (counts_before p) ∙ sym (put-other before n page (Some copied_entry) n p (λ same. other))
 
-      rows_remap : RowsStand names sp.pages a.shared a.next_name (after (step.Remap id page))
+      rows_remap : RowsStand names sp.pages a.shared a.objects a.next_name (after (step.Remap id page))
       rows_remap =
           rows_same (put parent_copied m page (Some passed_on)) (after (step.Remap id page))
           (put_is parent_copied (after (step.Remap id page)) m page (Some passed_on) (child_counts (step.Remap id page))
@@ -582,7 +633,7 @@ module _ {names : Names} {s : KernelState} {a : AbstractState} (h : StandsFor na
           in_with_words (words_at SERVICE_FORK next) at.0
 
       stands_at : (next : Step) → borne_at next ≡ Some id → StandsAtStep (view_of sp d) (moved (slot_at s n) next) v.b service.Fork next →
-          IsChild names sp (slot_at s n) v.b next (slot_at s m) → RowsStand names sp.pages a.shared a.next_name (after next) →
+          IsChild names sp (slot_at s n) v.b next (slot_at s m) → RowsStand names sp.pages a.shared a.objects a.next_name (after next) →
           StandsFor names (with_extra (with_spaces s sp) n (words_at SERVICE_FORK next)) a
       stands_at next bears so has rows =
           bearing_moves h n id (step.MapChild id page perm) next v bears sp (λ q ne apart. seen_beside q apart)

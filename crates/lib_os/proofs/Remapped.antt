@@ -26,23 +26,27 @@ use Rattle.lib_os.specs.InOrder.{IsInOrder}
 use Rattle.lib_os.specs.LibrarySteps.{TakesAtMost}
 use Rattle.lib_os.specs.Places.{place_of, words_at}
 use Rattle.lib_os.specs.Rows.{EntryRow, IsUsers, Names, Rows, as_cow, counted, cow_perm}
-use Rattle.lib_os.specs.Rows.{is_programs, is_shared, logical, may_write, page_seen, rows_of}
+use Rattle.lib_os.specs.Rows.{is_descriptor, is_programs, is_shared, logical, may_write, page_seen, rows_of, seen_where, shown_at}
 use Rattle.lib_os.specs.StandsFor.{IsBearing, IsRemapping, StandsAt, StandsFor, StandsForBorn, top_page, view_of}
 use Rattle.lib_os.specs.UserCalls.{CallStep, giving, system}
 use Rattle.lib_os.proofs.Bearing.{IsBearer, bearer}
 use Rattle.lib_os.proofs.BearingCounts.{child_seen, other_counts, parent_counted, parent_counts, parent_lives, spaces_apart}
 use Rattle.lib_os.proofs.Calls.{made_step}
 use Rattle.lib_os.proofs.Effects.{Given}
-use Rattle.lib_os.proofs.EntriesStand.{rows_bytes, rows_same, rows_stand, seen_at, seen_own}
+use Rattle.lib_os.proofs.EntriesStand.{rows_bytes, rows_same, rows_stand, seen_own, shown_same}
 use Rattle.lib_os.proofs.EntryWords.{row_entry}
 use Rattle.lib_os.proofs.FreeFrames.{mapped_more}
-use Rattle.lib_os.proofs.GoesDown.{IsOnWay, bearing_moves, goes_below, has_from, moved, own_moved, step_below, there_programs}
+use Rattle.lib_os.proofs.GoesDown.{IsOnWay, bearing_moves, goes_below, has_from, moved, own_moved, step_below, there_handed}
 use Rattle.lib_os.proofs.GoingOn.{in_with_words}
 use Rattle.lib_os.proofs.Logical.{logical_some}
 use Rattle.lib_os.proofs.PagesStand.{other_regions, row_elsewhere, row_placed}
 use Rattle.lib_os.proofs.Remapping.{inserted_already, page_map_is}
-use Rattle.lib_os.proofs.SlotsStand.{SeenAlike, library_put}
+use Rattle.lib_os.proofs.SlotsStand.{SeenAlike, descriptors_beside, library_put}
 use Rattle.jos_base.proofs.Puts.{Elsewhere}
+
+no_other : (t u : Bool) → (t || u) ≡ true → (u ≡ true → ⊥) → t ≡ true
+no_other true u is other = refl
+no_other false u is other = absurd (other is)
 
 cow_user : IsUsers cow_perm
 cow_user = record { page = refl; copied = λ is. (refl, refl) }
@@ -102,8 +106,14 @@ module _ {names : Names} {s : KernelState} {a : AbstractState} {sp : SpacesState
   old_writes : may_write old.perm ≡ true
   old_writes = ap (λ (e : Entry). may_write e.perm) (sym same_entry) ∙ remapping.writes
 
+  -- a page of its own is no descriptor's
+  no_descriptor : is_descriptor page ≡ true → ⊥
+  no_descriptor is =
+      let contradiction : false ≡ true = sym old_own ∙ ap (λ (bits : ℕ). is_shared bits) (v.own.library.descriptors page old is old_is) in cc
+
   inside : is_programs page ≡ true
-  inside = there_programs parent at next stands v.own page old remapping.below old_is
+  inside =
+      no_other (is_programs page) (is_descriptor page) (there_handed parent at next stands v.own page old remapping.below old_is) no_descriptor
 
   -- ---- the spaces after it
 
@@ -131,6 +141,9 @@ module _ {names : Names} {s : KernelState} {a : AbstractState} {sp : SpacesState
   row_kept : (p : ℕ) → p ≢ page → rows_of sp d p ≡ rows_of s.spaces d p
   row_kept p ne = row_elsewhere given.placed d p (λ same too. ne too)
 
+  shown_kept : (p : ℕ) → p ≢ page → shown_at names sp d p ≡ shown_at names s.spaces d p
+  shown_kept p ne = shown_same names names s.spaces sp d p (row_kept p ne) (λ x hx own_page. bytes_kept d p x hx) (λ x hx shared_page. refl)
+
   memory_kept : (p : ℕ) → page_seen names sp d p ≡ page_seen names s.spaces d p
   memory_kept p = by_page (p == page) refl
     where
@@ -144,9 +157,7 @@ module _ {names : Names} {s : KernelState} {a : AbstractState} {sp : SpacesState
       by_page true test =
           let same : page ≡ p = grind (arith, nat_tests) in
           subst (λ (q : ℕ). page_seen names sp d q ≡ page_seen names s.spaces d q) same here
-      by_page false test =
-          seen_at names names s.spaces sp d p (row_kept p (grind (arith, nat_tests))) (λ x hx own_page. bytes_kept d p x hx)
-          (λ x hx shared_page. refl)
+      by_page false test = ap (seen_where (is_programs p)) (shown_kept p (grind (arith, nat_tests)))
 
   -- the region has its table already
   stood : is_some (s.spaces.regions d (page / NPTENTRIES)) ≡ true
@@ -178,7 +189,7 @@ module _ {names : Names} {s : KernelState} {a : AbstractState} {sp : SpacesState
     env_type = v.own.env_type;
     runs = v.own.runs;
     upcall = v.own.upcall;
-    descriptors = v.own.descriptors;
+    descriptors = λ fd. v.own.descriptors fd ∙ sym (descriptors_beside names names s.spaces sp d page inside shown_kept fd);
     memory = λ p. v.own.memory p ∙ sym (memory_kept p);
     library = library_put (place_of parent) (rows_of s.spaces d) (rows_of sp d) page inside row_kept v.own.library;
     regions_have = λ r is. table_is r ∙ v.own.regions_have r is;
@@ -202,7 +213,9 @@ module _ {names : Names} {s : KernelState} {a : AbstractState} {sp : SpacesState
   way =
       goes_below id page (moved parent next) (in_with_words (words_at SERVICE_FORK next) bearing) remapping.below
       (λ inner. table_is (page / NPTENTRIES) ∙ stood)
-      (has_from at refl refl (child_seen (others_alike child.directory (λ same. spaces_apart h n id at v (sym same))) v.child))
+      (has_from at refl refl
+      (child_seen (others_alike child.directory (λ same. spaces_apart h n id at v (sym same)))
+      (λ p is. row_kept p (λ same. no_descriptor (sym (ap is_descriptor same) ∙ is))) v.child))
 
   -- ---- entries as they count
 

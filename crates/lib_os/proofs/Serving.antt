@@ -107,6 +107,7 @@ library_moved at after row same h = record {
   stack = h.stack;
   copy = λ is. h.copy (same ∙ is);
   no_copy = λ is. h.no_copy (same ∙ is);
+  descriptors = h.descriptors;
   none = h.none;
 }
 

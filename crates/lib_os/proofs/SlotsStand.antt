@@ -1,7 +1,8 @@
 -- A slot of the kernel's goes on standing for one of the abstract system while nothing that is seen of it changes: where it
 -- stands in a service or in its handler, its pages, and whether it is live.
-use Rattle.std.proofs.Common.{◌≡◌, ◌≢◌, ◌∙◌, ◌||◌, ℕ, ◌/◌, Bool, true, false, not, List, refl, sym, ap, subst, if◌then◌else◌}
-use Rattle.std.specs.Prelude.{Option, Some, None, is_none, is_some}
+use Rattle.std.proofs.Common.{◌≡◌, ◌≢◌, ◌∙◌, ◌||◌, ℕ, ◌/◌, Bool, true, false, not, List, refl, sym, ap, subst, arith, if◌then◌else◌}
+use Rattle.std.specs.Prelude.{Option, Some, None, is_none, is_some, nat_lt}
+use Rattle.std.proofs.lemmas.Bool.Decides.{nat_tests}
 use Rattle.std.specs.Option.{option_map}
 use Rattle.jos_base.specs.declared.environment.Status.{Status}
 use Rattle.jos_base.specs.declared.environment.Status.TheVariants.{Runnable, Running, NotRunnable}
@@ -20,30 +21,41 @@ use Rattle.lib_os.specs.declared.place.Step.{Step}
 use Rattle.lib_os.specs.declared.place.Step.TheVariants as step
 use Rattle.lib_os.specs.declared.service.Service.{Service}
 use Rattle.lib_os.specs.declared.service.Service.TheVariants as service
-use Rattle.jos_base.specs.declared.numbers.TheConstants.{NPTENTRIES}
+use Rattle.jos_base.specs.declared.numbers.TheConstants.{FDTABLE, NPTENTRIES}
 use Rattle.jos_base.specs.Words.{page_number, upd}
-use Rattle.lib_os.specs.declared.numbers.TheConstants.{PFTEMP}
+use Rattle.lib_os.specs.declared.numbers.TheConstants.{DESCRIPTORS, PFTEMP}
 use Rattle.lib_os.specs.AbstractState.{AbstractState, Born, Page, own, named, AbstractSlot, free, unborn, born, serving}
 use Rattle.lib_os.specs.AbstractState.{Stage, slot_id, is_live}
-use Rattle.lib_os.specs.LibraryPages.{View, HasFrame, IsOwnWritable, LibraryPages, is_library_region}
+use Rattle.lib_os.specs.LibraryPages.{View, HasFrame, IsOwnWritable, LibraryPages, is_library_region, region_index}
 use Rattle.lib_os.specs.Places.{place_of}
 use Rattle.lib_os.specs.Rows.{Names, EntryRow, rows_of, page_by, page_seen, seen_where, is_programs, is_shared, may_write}
+use Rattle.lib_os.specs.Rows.{descriptor_page, descriptor_seen, is_descriptor, name_of, shown_at}
 use Rattle.lib_os.specs.StandsInHandler.{IsAtGuest, IsToCopy, IsCopiedTo, HasWord, IsMappedTwice, CopiesAt}
 use Rattle.lib_os.specs.StandsInHandler.{CopiesOrEnds, copies, ends, IsInHandler, is_refused_by, is_write}
 use Rattle.lib_os.specs.StandsFor.{StandsFor, StandsForSlot, StandsForBorn, StandsAt, StandsAtStep, view_of, IsStatusFor, MaySend}
-use Rattle.lib_os.specs.StandsFor.{borne_in, IsMapping, IsRemapping}
+use Rattle.lib_os.specs.StandsFor.{borne_in, IsMapping, IsRemapping, IsDuplicating, IsOpen, NoneIsOpenBelow}
 use Rattle.lib_os.specs.StandsFor.{IsIn, IsTrying, IsWaiting, IsLooking, IsAboutToWait, IsReceiving, HasReceived, WaitsOrHas, waits, has}
-use Rattle.lib_os.proofs.Logical.{is_plain, programs_beside}
+use Rattle.lib_os.proofs.Logical.{is_plain, programs_beside, programs_no_descriptor}
 use Rattle.lib_os.proofs.WordsTell.{is_in_handler}
 use Rattle.jos_base.proofs.Maps.{upd-all}
 
 -- ---- what is kept in mind
 
--- a step at which send keeps in mind what page stands at an address, or that its region has a table
+-- A step at which send keeps in mind what page stands at an address, or that its region has a table; or exit, close or dup which
+-- descriptors are open.
 abbrev pub minds_page_at : Service → Step → Bool
 minds_page_at (service.Send id value va) (step.Trying perm) = true
 minds_page_at (service.Send id value va) (step.Pausing perm) = true
 minds_page_at (service.Send id value va) step.ReadingEntry = true
+minds_page_at service.Exit (step.DescriptorEntry fd) = true
+minds_page_at service.Exit (step.DroppingDescriptor fd) = true
+minds_page_at service.Exit step.Ending = true
+minds_page_at (service.Close fd) (step.DescriptorEntry at) = true
+minds_page_at (service.Close fd) (step.DroppingDescriptor at) = true
+minds_page_at (service.Dup old new) (step.DescriptorEntry at) = true
+minds_page_at (service.Dup old new) step.TargetEntry = true
+minds_page_at (service.Dup old new) (step.DroppingDescriptor at) = true
+minds_page_at (service.Dup old new) step.MappingDescriptor = true
 minds_page_at _ _ = false
 
 -- or a step of fork that bears a child, or one of the handler, which keeps its stack and its copy in mind
@@ -167,12 +179,13 @@ module _ (v w : View) (same : ViewAlike v w) where
 
 -- ---- where it stands
 
-module _ (v w : View) (k : Slot) (b : Born) (status : Status) (runs : ℕ) (memory : ℕ → Option Page) (regions : ℕ → Bool) where
+module _ (v w : View) (k : Slot) (b : Born) (status : Status) (runs : ℕ) (memory : ℕ → Option Page) (regions : ℕ → Bool)
+    (descriptors : ℕ → Option ℕ) where
   abbrev kernel_slot : Slot
   kernel_slot = record k { status = status; runs = runs }
 
   abbrev environment : Born
-  environment = record b { memory = memory; regions = regions }
+  environment = record b { memory = memory; regions = regions; descriptors = descriptors }
 
   in_kept : (s : Service) (stage : Stage) → IsIn k b s stage → IsIn kernel_slot environment s stage
   in_kept s stage h = record { program = h.program; phase = h.phase; silent = h.silent; awake = h.awake }
@@ -232,6 +245,15 @@ module _ (v w : View) (k : Slot) (b : Born) (status : Status) (runs : ℕ) (memo
   remapping_kept : (page : ℕ) → w.row ≡ v.row → IsRemapping v.row page → IsRemapping w.row page
   remapping_kept page row h = subst (λ (r : EntryRow). IsRemapping r page) (sym row) h
 
+  none_kept : (n : ℕ) → w.row ≡ v.row → NoneIsOpenBelow v.row n → NoneIsOpenBelow w.row n
+  none_kept n row h = subst (λ (r : EntryRow). NoneIsOpenBelow r n) (sym row) h
+
+  open_kept : (fd : ℕ) → w.row ≡ v.row → IsOpen v.row fd → IsOpen w.row fd
+  open_kept fd row h = subst (λ (r : EntryRow). IsOpen r fd) (sym row) h
+
+  duplicating_kept : (old new : ℕ) → w.row ≡ v.row → IsDuplicating v.row old new → IsDuplicating w.row old new
+  duplicating_kept old new row h = subst (λ (r : EntryRow). IsDuplicating r old new) (sym row) h
+
   step_kept : (s : Service) (stands : Step) → KeepsRow (minds_page (place.InService s stands)) v.row w.row →
       KeepsTables (minds_page (place.InService s stands)) v.tables w.tables → StandsAtStep v k b s stands →
       StandsAtStep w kernel_slot environment s stands
@@ -253,6 +275,22 @@ module _ (v w : View) (k : Slot) (b : Born) (status : Status) (runs : ℕ) (memo
   step_kept service.Fork (step.ChildStack id) row tables h = in_kept _ _ h
   step_kept service.Fork (step.ChildUpcall id) row tables h = in_kept _ _ h
   step_kept service.Fork (step.ChildRuns id) row tables h = in_kept _ _ h
+  step_kept service.Exit (step.DescriptorEntry fd) row tables h =
+      (in_kept _ _ h.0, h.1, none_kept fd (row refl) h.2, tables refl (region_index FDTABLE) h.3)
+  step_kept service.Exit (step.DroppingDescriptor fd) row tables h =
+      (in_kept _ _ h.0, h.1, none_kept fd (row refl) h.2, tables refl (region_index FDTABLE) h.3, open_kept fd (row refl) h.4)
+  step_kept service.Exit step.Ending row tables h = (in_kept _ _ h.0, none_kept DESCRIPTORS (row refl) h.1)
+  step_kept (service.Close fd) (step.DescriptorEntry at) row tables h =
+      (in_kept _ _ h.0, h.1, h.2, tables refl (region_index FDTABLE) h.3)
+  step_kept (service.Close fd) (step.DroppingDescriptor at) row tables h = (in_kept _ _ h.0, h.1, h.2, open_kept fd (row refl) h.3)
+  step_kept (service.Dup old new) (step.DescriptorEntry at) row tables h =
+      (in_kept _ _ h.0, h.1, h.2, tables refl (region_index FDTABLE) h.3)
+  step_kept (service.Dup old new) step.TargetEntry row tables h =
+      (in_kept _ _ h.0, duplicating_kept old new (row refl) h.1, tables refl (region_index FDTABLE) h.2)
+  step_kept (service.Dup old new) (step.DroppingDescriptor at) row tables h =
+      (in_kept _ _ h.0, h.1, duplicating_kept old new (row refl) h.2, tables refl (region_index FDTABLE) h.3, open_kept new (row refl) h.4)
+  step_kept (service.Dup old new) step.MappingDescriptor row tables h =
+      (in_kept _ _ h.0, duplicating_kept old new (row refl) h.1, tables refl (region_index FDTABLE) h.2, ap (λ (r : EntryRow). r (descriptor_page new)) (row refl) ∙ h.3)
   step_kept _ _ row tables h = absurd h
 
   way_kept : ViewAlike v w → (h : HandlerStep) (fault : PageFault) (regs : Regs) → CopiesOrEnds h v k b fault regs →
@@ -310,9 +348,12 @@ library_put at row after p inside same h =
       stack = own_alike row after _ (same _ (λ e. beside.1 (sym e))) h.stack;
       copy = λ is. own_alike row after _ copy_same (h.copy is);
       no_copy = λ is. copy_same ∙ h.no_copy is;
-      none = λ q outside no_stack no_copy.
+      descriptors = λ q entry is stands.
+          h.descriptors q entry is
+          (sym (same q (λ e. absurd (let contradiction : true ≡ false = sym is ∙ ap is_descriptor e ∙ programs_no_descriptor p inside in cc))) ∙ stands);
+      none = λ q outside no_descriptor no_stack no_copy.
           same q (λ e. absurd (let contradiction : false ≡ true = sym outside ∙ ap is_programs e ∙ inside in cc))
-          ∙ h.none q outside no_stack no_copy;
+          ∙ h.none q outside no_descriptor no_stack no_copy;
     }
 
 -- ---- what is seen of a space
@@ -348,12 +389,42 @@ option_map_alike {X = X} f g o after same alike = ap (λ (r : Option X). option_
     by_case None alike_in = refl
     by_case (Some x) alike_in = ap Some (alike_in x refl)
 
+pub shown_alike : {names after : Names} {s t : SpacesState} {d : ℕ} → SeenAlike names after s t d → (p : ℕ) →
+    shown_at after t d p ≡ shown_at names s d p
+shown_alike {names = names} {after = after} {s = s} {t = t} {d = d} h p =
+    option_map_alike (page_by names s.pages) (page_by after t.pages) (rows_of s d p) (rows_of t d p) (ap (λ (r : EntryRow). r p) h.rows)
+    (λ x at. page_alike names after s.pages t.pages x (h.bytes p x at) (h.named_so p x at))
+
 pub seen_alike : {names after : Names} {s t : SpacesState} {d : ℕ} → SeenAlike names after s t d → (p : ℕ) →
     page_seen after t d p ≡ page_seen names s d p
-seen_alike {names = names} {after = after} {s = s} {t = t} {d = d} h p =
-    ap (seen_where (is_programs p))
-    (option_map_alike (page_by names s.pages) (page_by after t.pages) (rows_of s d p) (rows_of t d p) (ap (λ (r : EntryRow). r p) h.rows)
-    (λ x at. page_alike names after s.pages t.pages x (h.bytes p x at) (h.named_so p x at)))
+seen_alike h p = ap (seen_where (is_programs p)) (shown_alike h p)
+
+-- a descriptor, where the same is shown at its page
+pub descriptor_shown : (names after : Names) (s t : SpacesState) (d fd : ℕ) →
+    shown_at after t d (descriptor_page fd) ≡ shown_at names s d (descriptor_page fd) → descriptor_seen after t d fd ≡ descriptor_seen names s d fd
+descriptor_shown names after s t d fd same = ap (λ (o : Option Page). if nat_lt fd DESCRIPTORS then name_of o else None) same
+
+pub descriptor_alike : {names after : Names} {s t : SpacesState} {d : ℕ} → SeenAlike names after s t d → (fd : ℕ) →
+    descriptor_seen after t d fd ≡ descriptor_seen names s d fd
+descriptor_alike {names = names} {after = after} {s = s} {t = t} {d = d} h fd =
+    descriptor_shown names after s t d fd (shown_alike h (descriptor_page fd))
+
+-- no page that a program may have is that of one of the descriptors
+pub descriptor_beside : (p fd : ℕ) → is_programs p ≡ true → nat_lt fd DESCRIPTORS ≡ true → descriptor_page fd ≢ p
+descriptor_beside p fd inside below same =
+    let none : is_descriptor p ≡ false = programs_no_descriptor p inside in
+    let one : is_descriptor (descriptor_page fd) ≡ true = grind (arith, nat_tests) in
+    let contradiction : true ≡ false = sym one ∙ ap is_descriptor same ∙ none in cc
+
+-- where what is shown differs at one page of a program's alone
+pub descriptors_beside : (names after : Names) (s t : SpacesState) (d p : ℕ) → is_programs p ≡ true →
+    ((q : ℕ) → q ≢ p → shown_at after t d q ≡ shown_at names s d q) → (fd : ℕ) → descriptor_seen after t d fd ≡ descriptor_seen names s d fd
+descriptors_beside names after s t d p inside there fd = by_test (nat_lt fd DESCRIPTORS) refl
+  where
+    by_test : (c : Bool) → nat_lt fd DESCRIPTORS ≡ c →
+        (if c then name_of (shown_at after t d (descriptor_page fd)) else None) ≡ (if c then name_of (shown_at names s d (descriptor_page fd)) else None)
+    by_test true below = ap name_of (there (descriptor_page fd) (descriptor_beside p fd inside below))
+    by_test false below = refl
 
 pub born_stands : {names after : Names} {s t : SpacesState} (k : Slot) (b : Born) → SeenAlike names after s t k.directory →
     StandsForBorn names s k b → StandsForBorn after t k b
@@ -364,14 +435,14 @@ born_stands {names = names} {after = after} {s = s} {t = t} k b same h = record 
   env_type = h.env_type;
   runs = h.runs;
   upcall = h.upcall;
-  descriptors = h.descriptors;
+  descriptors = λ fd. h.descriptors fd ∙ sym (descriptor_alike same fd);
   memory = λ p. h.memory p ∙ sym (seen_alike same p);
   library = library_alike (place_of k) (rows_of s k.directory) (rows_of t k.directory) same.rows h.library;
   regions_have = λ r has_it. same.regions r ∙ h.regions_have r has_it;
   regions_only = λ r table. h.regions_only r (sym (same.regions r) ∙ table);
   stack = h.stack;
   flags = h.flags;
-  at = at_kept (view_of s k.directory) (view_of t k.directory) k b k.status k.runs b.memory b.regions (place_of k)
+  at = at_kept (view_of s k.directory) (view_of t k.directory) k b k.status k.runs b.memory b.regions b.descriptors (place_of k)
       (kept_alike (place_of k) (view_of s k.directory) (view_of t k.directory) (view_alike same) same.regions) h.at;
 }
 
@@ -463,7 +534,7 @@ status_born {s = s} k b status runs so h = record {
   regions_only = h.regions_only;
   stack = h.stack;
   flags = h.flags;
-  at = at_kept (view_of s k.directory) (view_of s k.directory) k b status runs b.memory b.regions (place_of k)
+  at = at_kept (view_of s k.directory) (view_of s k.directory) k b status runs b.memory b.regions b.descriptors (place_of k)
       (kept_alike (place_of k) (view_of s k.directory) (view_of s k.directory) (record { row = refl; bytes = λ p x is own_page. refl }) (λ r. refl)) h.at;
 }
 
@@ -473,25 +544,25 @@ pub record HasTables (s : SpacesState) (d : ℕ) (regions : ℕ → Bool) : Type
   pub only : (r : ℕ) → is_some (s.regions d r) ≡ true → (regions r || is_library_region r) ≡ true
 
 pub page_put : (names after : Names) (s t : SpacesState) (k : Slot) (b : Born) (p : ℕ) (page : Option Page) (regions : ℕ → Bool) →
-    StandsForBorn names s k b → page ≡ page_seen after t k.directory p →
-    ((q : ℕ) → q ≢ p → page_seen after t k.directory q ≡ page_seen names s k.directory q) →
+    StandsForBorn names s k b → is_programs p ≡ true → page ≡ page_seen after t k.directory p →
+    ((q : ℕ) → q ≢ p → shown_at after t k.directory q ≡ shown_at names s k.directory q) →
     LibraryPages (place_of k) (rows_of t k.directory) → HasTables t k.directory regions →
     KeptAt (place_of k) (view_of s k.directory) (view_of t k.directory) →
     StandsForBorn after t k (record b { memory = upd b.memory p page; regions = regions })
-page_put names after s t k b p page regions h here there library tables kept = record {
+page_put names after s t k b p page regions h inside here there library tables kept = record {
   id = h.id;
   id_small = h.id_small;
   parent = h.parent;
   env_type = h.env_type;
   runs = h.runs;
   upcall = h.upcall;
-  descriptors = h.descriptors;
+  descriptors = λ fd. h.descriptors fd ∙ sym (descriptors_beside names after s t k.directory p inside there fd);
   memory = upd-all (λ q (v : Option Page). v ≡ page_seen after t k.directory q) b.memory p page here
-      (λ q ne. h.memory q ∙ sym (there q ne));
+      (λ q ne. h.memory q ∙ sym (ap (seen_where (is_programs q)) (there q ne)));
   library = library;
   regions_have = tables.have;
   regions_only = tables.only;
   stack = h.stack;
   flags = h.flags;
-  at = at_kept (view_of s k.directory) (view_of t k.directory) k b k.status k.runs (upd b.memory p page) regions (place_of k) kept h.at;
+  at = at_kept (view_of s k.directory) (view_of t k.directory) k b k.status k.runs (upd b.memory p page) regions b.descriptors (place_of k) kept h.at;
 }

@@ -144,7 +144,7 @@ set_counts s n k live directory counts =
 
 rows_set : {names : Names} {s : KernelState} {a : AbstractState} → StandsFor names s a → (n : ℕ) (b : Born) → a.slots n ≡ born b → (k : Slot) →
     is_live_slot k ≡ is_live_slot (slot_at s n) → k.directory ≡ (slot_at s n).directory → CountsAlike (place_of (slot_at s n)) (place_of k) →
-    RowsStand names s.spaces.pages a.shared a.next_name (logical s.spaces (upd s.environments.slots n k))
+    RowsStand names s.spaces.pages a.shared a.objects a.next_name (logical s.spaces (upd s.environments.slots n k))
 rows_set {s = s} h n b at k live directory counts =
     rows_same (logical s.spaces s.environments.slots) (logical s.spaces (upd s.environments.slots n k)) (set_counts s n k live directory counts) (rows_stand h)
 
@@ -407,7 +407,7 @@ pub own_moves : {names after : Names} {s : KernelState} {a : AbstractState} → 
     a.slots n ≡ born b → (sp : SpacesState) (k : Slot) (c : Born) (shared : ℕ → List ℕ) (next : ℕ) →
     k.directory ≡ (slot_at s n).directory → Settles (slot_at s n) k → borne_in (place_of (slot_at s n)) ≡ None → borne_in (place_of k) ≡ None →
     ((d : ℕ) → d ≢ (slot_at s n).directory → SeenAlike names after s.spaces sp d) → StandsForBorn after sp k c →
-    RowsStand after sp.pages shared next (logical sp (upd s.environments.slots n k)) →
+    RowsStand after sp.pages shared a.objects next (logical sp (upd s.environments.slots n k)) →
     IsInOrder (with_slot_at (with_spaces s sp) n k) →
     StandsFor after (with_slot_at (with_spaces s sp) n k) (with_born (record a { shared = shared; next_name = next }) n c)
 own_moves {names = names} {after = after} {s = s} {a = a} h n b at sp k c shared next directory settles none none_after others mine rows in_order = record {
@@ -434,7 +434,7 @@ own_moves {names = names} {after = after} {s = s} {a = a} h n b at sp k c shared
 pub space_moves : {names after : Names} {s : KernelState} {a : AbstractState} → StandsFor names s a → (n : ℕ) (b : Born) →
     a.slots n ≡ born b → (sp : SpacesState) (c : Born) (shared : ℕ → List ℕ) (next : ℕ) → borne_in (place_of (slot_at s n)) ≡ None →
     ((d : ℕ) → d ≢ (slot_at s n).directory → SeenAlike names after s.spaces sp d) → StandsForBorn after sp (slot_at s n) c →
-    RowsStand after sp.pages shared next (logical sp s.environments.slots) → IsInOrder (with_spaces s sp) →
+    RowsStand after sp.pages shared a.objects next (logical sp s.environments.slots) → IsInOrder (with_spaces s sp) →
     StandsFor after (with_spaces s sp) (with_born (record a { shared = shared; next_name = next }) n c)
 space_moves {names = names} {after = after} {s = s} {a = a} h n b at sp c shared next none others mine rows in_order = record {
   slots = upd-all (λ m (y : AbstractSlot). StandsForSlot after sp (slot_at s m) y) a.slots n (born c) mine (others_stand h n b at others);

@@ -78,6 +78,15 @@ at_step v k c service.Fork (step.Remap id page) h = inl (bearing_silent id h.0)
 at_step v k c service.Fork (step.ChildStack id) h = inl (bearing_silent id h)
 at_step v k c service.Fork (step.ChildUpcall id) h = inl (bearing_silent id h)
 at_step v k c service.Fork (step.ChildRuns id) h = inl (bearing_silent id h)
+at_step v k c service.Exit (step.DescriptorEntry fd) h = inl (in_silence _ h.0)
+at_step v k c service.Exit (step.DroppingDescriptor fd) h = inl (in_silence _ h.0)
+at_step v k c service.Exit step.Ending h = inl (in_silence _ h.0)
+at_step v k c (service.Close fd) (step.DescriptorEntry at) h = inl (in_silence _ h.0)
+at_step v k c (service.Close fd) (step.DroppingDescriptor at) h = inl (in_silence _ h.0)
+at_step v k c (service.Dup old new) (step.DescriptorEntry at) h = inl (in_silence _ h.0)
+at_step v k c (service.Dup old new) step.TargetEntry h = inl (in_silence _ h.0)
+at_step v k c (service.Dup old new) (step.DroppingDescriptor at) h = inl (in_silence _ h.0)
+at_step v k c (service.Dup old new) step.MappingDescriptor h = inl (in_silence _ h.0)
 at_step v k c _ _ h = absurd h
 
 -- its page is copied, or it is on the way to its end

@@ -41,6 +41,11 @@ place_at regs number at outside =
     by_step (step.ChildUpcall id) some back = rw (outside, some, back) refl
     by_step (step.ChildRuns id) some back = rw (outside, some, back) refl
     by_step (step.Undoing id error) some back = rw (outside, some, back) refl
+    by_step (step.DescriptorEntry fd) some back = rw (outside, some, back) refl
+    by_step step.TargetEntry some back = rw (outside, some, back) refl
+    by_step (step.DroppingDescriptor fd) some back = rw (outside, some, back) refl
+    by_step step.MappingDescriptor some back = rw (outside, some, back) refl
+    by_step step.Ending some back = rw (outside, some, back) refl
 
 -- ---- the handler's registers
 

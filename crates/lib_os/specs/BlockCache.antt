@@ -2,7 +2,7 @@
 -- holds where it has no page.
 -- (MIT 6.828, lab 5: fs/bc.c, diskaddr, va_is_mapped, va_is_dirty, bc_pgfault and flush_block. That blocks are given up where no page is
 -- to be had is this system's own.)
-use Rattle.std.specs.Prelude.{◌≡◌, ◌<◌, ℕ, ◌+◌, ◌*◌, Bool, true, false, nat_lt, List, Option, Some, None, unwrap_or, if◌then◌else◌}
+use Rattle.std.specs.Prelude.{◌≡◌, ◌<◌, ℕ, ◌+◌, ◌*◌, Bool, false, nat_lt, List, Option, Some, None, unwrap_or, if◌then◌else◌}
 use Rattle.std.specs.Option.{option_map}
 use Rattle.jos_base.specs.declared.numbers.TheConstants.{PTE_D}
 use Rattle.jos_base.specs.Reach.{Entry}

@@ -16,6 +16,7 @@ pub mod AbstractRun
 pub mod AbstractLaws
 pub mod InOrder
 pub mod Places
+pub mod DescriptorPages
 pub mod Rows
 pub mod Disk
 pub mod BlockCache

@@ -14,7 +14,7 @@ use Rattle.lib_os.specs.declared.numbers.TheConstants.{PFTEMP, UXSTACK}
 use Rattle.lib_os.specs.declared.place.HandlerStep.TheVariants as handler
 use Rattle.lib_os.specs.declared.place.Place.{Place}
 use Rattle.lib_os.specs.declared.place.Place.TheVariants as place
-use Rattle.lib_os.specs.Rows.{EntryRow, is_shared, is_programs}
+use Rattle.lib_os.specs.Rows.{EntryRow, descriptor_perm, is_descriptor, is_programs, is_shared}
 
 -- ---- regions
 
@@ -51,12 +51,14 @@ has_copy (place.InHandler (handler.MappingOver va)) = true
 has_copy (place.InHandler (handler.Unmapping va)) = true
 has_copy _ = false
 
--- Beside the pages that a program may have there is the stack of the handler of page faults, and, while it copies, the copy.
+-- Beside the pages that a program may have there are those of its descriptors, the stack of the handler of page faults, and, while it
+-- copies, the copy.
 pub record LibraryPages (at : Place) (row : EntryRow) : Type 0 where
   pub stack : IsOwnWritable row (page_number UXSTACK)
   pub copy : has_copy at ≡ true → IsOwnWritable row (page_number PFTEMP)
   pub no_copy : has_copy at ≡ false → row (page_number PFTEMP) ≡ None
-  pub none : (p : ℕ) → is_programs p ≡ false → p ≢ page_number UXSTACK → p ≢ page_number PFTEMP → row p ≡ None
+  pub descriptors : (p : ℕ) (entry : Entry) → is_descriptor p ≡ true → row p ≡ Some entry → entry.perm ≡ descriptor_perm
+  pub none : (p : ℕ) → is_programs p ≡ false → is_descriptor p ≡ false → p ≢ page_number UXSTACK → p ≢ page_number PFTEMP → row p ≡ None
 
 -- ---- the frame of a page fault
 

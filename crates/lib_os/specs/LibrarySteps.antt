@@ -1,7 +1,7 @@
 -- What a step of the library promises. Wherever the kernel's state stands for one of the abstract system, the state after
 -- the step stands for the same one, where the step is hidden, or for the one after the slot's step there. Nothing is said
 -- of a step that was refused a frame or a slot.
-use Rattle.std.specs.Prelude.{◌≡◌, ◌≢◌, ◌<◌, ◌≤◌, ℕ, ◌+◌, ◌-◌, ◌*◌, ◌/◌, ◌^◌, ◌++◌, ◌==◌, ◌||◌, Bool, true, false, List, [], length, if◌then◌else◌}
+use Rattle.std.specs.Prelude.{◌≡◌, ◌≢◌, ◌<◌, ◌≤◌, ℕ, ◌+◌, ◌-◌, ◌*◌, ◌/◌, ◌%◌, ◌^◌, ◌++◌, ◌==◌, ◌||◌, Bool, true, false, List, [], length, if◌then◌else◌}
 use Rattle.std.specs.Prelude.{Option, Some, None, Result, Ok, Err}
 use Rattle.jos_host.specs.declared.host.Failed.{Failed}
 use Rattle.jos_host.specs.Frames.{Around}
@@ -16,7 +16,7 @@ use Rattle.lib_os.specs.declared.user_os.Stop.{Stop}
 use Rattle.lib_os.specs.declared.user_os.Stop.TheVariants as stop
 use Rattle.lib_os.specs.declared.progress.Progress.{Progress}
 use Rattle.lib_os.specs.declared.progress.Progress.TheVariants as progress
-use Rattle.lib_os.specs.declared.numbers.TheConstants.{PAGE_WORDS, SHORT_QUANTUM}
+use Rattle.lib_os.specs.declared.numbers.TheConstants.{DESCRIPTORS, PAGE_WORDS, SHORT_QUANTUM}
 use Rattle.lib_os.specs.declared.place.HandlerStep.{HandlerStep}
 use Rattle.lib_os.specs.declared.place.HandlerStep.TheVariants as handler
 use Rattle.lib_os.specs.declared.place.Place.{Place}
@@ -143,9 +143,9 @@ KeepsUses n before after =
 -- ---- the number that falls
 
 -- How many hidden steps a service may still make, at most, from a step on. (fork makes three for each page that is there, at most,
--- and one for each region.)
+-- and one for each region; exit looks at each descriptor.)
 abbrev pub steps_left : Step → ℕ
-steps_left step.Entered = 10
+steps_left step.Entered = 40
 steps_left step.ReadingRegion = 9
 steps_left step.ReadingEntry = 8
 steps_left (step.Pausing perm) = 7
@@ -162,6 +162,11 @@ steps_left (step.ChildStack id) = 3
 steps_left (step.ChildUpcall id) = 2
 steps_left (step.ChildRuns id) = 1
 steps_left (step.Undoing id error) = 1
+steps_left (step.DescriptorEntry fd) = (DESCRIPTORS - fd % DESCRIPTORS) + 4
+steps_left step.TargetEntry = 4
+steps_left (step.DroppingDescriptor fd) = 3
+steps_left step.MappingDescriptor = 2
+steps_left step.Ending = 1
 
 -- The same of the handler of page faults, for one fault: a page is loaded and stored word by word.
 abbrev pub handler_steps_left : HandlerStep → ℕ

@@ -23,7 +23,8 @@ use Rattle.lib_os.specs.declared.numbers.TheConstants.{STEP_ENTERED, STEP_TRYING
 use Rattle.lib_os.specs.declared.numbers.TheConstants.{STEP_READING_ENTRY, STEP_RECEIVING, STEP_READING_VALUE}
 use Rattle.lib_os.specs.declared.numbers.TheConstants.{STEP_READING_SENDER, STEP_READING_PERM, STEP_FORK_REGION}
 use Rattle.lib_os.specs.declared.numbers.TheConstants.{STEP_FORK_ENTRY, STEP_MAP_CHILD, STEP_REMAP, STEP_CHILD_STACK}
-use Rattle.lib_os.specs.declared.numbers.TheConstants.{STEP_CHILD_UPCALL, STEP_CHILD_RUNS, STEP_UNDOING}
+use Rattle.lib_os.specs.declared.numbers.TheConstants.{STEP_CHILD_UPCALL, STEP_CHILD_RUNS, STEP_UNDOING, STEP_DESCRIPTOR_ENTRY}
+use Rattle.lib_os.specs.declared.numbers.TheConstants.{STEP_TARGET_ENTRY, STEP_DROPPING_DESCRIPTOR, STEP_MAPPING_DESCRIPTOR, STEP_ENDING}
 use Rattle.lib_os.specs.Services.{service_of}
 
 -- ---- places
@@ -63,6 +64,11 @@ step_in words =
     else if n == STEP_CHILD_STACK then step.ChildStack (first_word words)
     else if n == STEP_CHILD_UPCALL then step.ChildUpcall (first_word words)
     else if n == STEP_CHILD_RUNS then step.ChildRuns (first_word words)
+    else if n == STEP_DESCRIPTOR_ENTRY then step.DescriptorEntry (first_word words)
+    else if n == STEP_TARGET_ENTRY then step.TargetEntry
+    else if n == STEP_DROPPING_DESCRIPTOR then step.DroppingDescriptor (first_word words)
+    else if n == STEP_MAPPING_DESCRIPTOR then step.MappingDescriptor
+    else if n == STEP_ENDING then step.Ending
     else step.Undoing (first_word words) (second_word words)
 
 -- ESP lies on the stack of the handler of page faults
@@ -118,6 +124,11 @@ words_at number (step.ChildStack id) = place_words number STEP_CHILD_STACK id 0 
 words_at number (step.ChildUpcall id) = place_words number STEP_CHILD_UPCALL id 0 0
 words_at number (step.ChildRuns id) = place_words number STEP_CHILD_RUNS id 0 0
 words_at number (step.Undoing id error) = place_words number STEP_UNDOING id error 0
+words_at number (step.DescriptorEntry fd) = place_words number STEP_DESCRIPTOR_ENTRY fd 0 0
+words_at number step.TargetEntry = place_words number STEP_TARGET_ENTRY 0 0 0
+words_at number (step.DroppingDescriptor fd) = place_words number STEP_DROPPING_DESCRIPTOR fd 0 0
+words_at number step.MappingDescriptor = place_words number STEP_MAPPING_DESCRIPTOR 0 0 0
+words_at number step.Ending = place_words number STEP_ENDING 0 0 0
 
 -- the words with which a program's INT 0x40 leaves it; all numbers that name no service are kept as one
 abbrev pub words_entered : Regs → List ℕ

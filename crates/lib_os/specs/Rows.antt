@@ -1,22 +1,23 @@
 -- The pages of address spaces as the library sees them: what an entry is to its environment, and how entries count where they
 -- are counted together, be a page on its way from one place to another.
 -- (MIT 6.828, lib/fork.c: PTE_COW; inc/lib.h: PTE_SHARE.)
-use Rattle.std.specs.Prelude.{◌≡◌, ◌<◌, ℕ, ◌+◌, ◌*◌, ◌==◌, ◌||◌, Bool, true, false, List, Option, None, Some}
+use Rattle.std.specs.Prelude.{◌≡◌, ◌<◌, ℕ, ◌+◌, ◌*◌, ◌==◌, ◌&&◌, ◌||◌, nat_le, nat_lt, Bool, true, false, List, Option, None, Some}
 use Rattle.std.specs.Prelude.{bit_and, length, slice_index, if◌then◌else◌}
 use Rattle.std.specs.Option.{option_map}
-use Rattle.jos_base.specs.declared.numbers.TheConstants.{PGSIZE, PTE_P, PTE_SYSCALL, PTE_U}
+use Rattle.jos_base.specs.declared.numbers.TheConstants.{FDTABLE, PGSIZE, PTE_P, PTE_SYSCALL, PTE_U, PTE_W}
 use Rattle.jos_base.specs.Environments.{Slot, is_live}
 use Rattle.jos_base.specs.Reach.{Entry}
 use Rattle.jos_base.specs.SpacesState.{SpacesState}
 use Rattle.jos_base.specs.SystemCalls.{is_page_perm, has_write}
 use Rattle.jos_base.specs.Words.{page_number}
-use Rattle.lib_os.specs.declared.numbers.TheConstants.{PFTEMP, PTE_COW, PTE_SHARE}
+use Rattle.lib_os.specs.declared.numbers.TheConstants.{DESCRIPTORS, PFTEMP, PTE_COW, PTE_SHARE}
 use Rattle.lib_os.specs.declared.place.HandlerStep.TheVariants as handler
 use Rattle.lib_os.specs.declared.place.Place.{Place}
 use Rattle.lib_os.specs.declared.place.Place.TheVariants as place
 use Rattle.lib_os.specs.declared.place.Step.TheVariants as step
 use Rattle.lib_os.specs.declared.service.Service.TheVariants as service
-use Rattle.lib_os.specs.AbstractState.{Page, own, named}
+use Rattle.lib_os.specs.AbstractState.{Object, Page, own, named}
+use Rattle.lib_os.specs.DescriptorPages.{HasObject}
 use Rattle.lib_os.specs.Fence.{in_fence}
 use Rattle.lib_os.specs.Places.{place_of}
 
@@ -51,10 +52,11 @@ may_write perm = has_write perm || is_cow perm
 
 -- ---- pages
 
--- Which page stands in each shared frame: the name of the frame's page, and the frame of a name's page.
+-- What stands in each shared frame: its name, and the frame of a name; and whether a name is that of an object, and not of a page.
 pub record Names : Type 0 where
   pub name : ℕ → ℕ
   pub frame : ℕ → ℕ
+  pub is_object : ℕ → Bool
 
 -- the page that an entry is to its environment
 abbrev pub page_by : Names → (ℕ → List ℕ) → Entry → Page
@@ -69,8 +71,33 @@ is_programs p = in_fence (p * PGSIZE) PGSIZE
 abbrev pub seen_where : Bool → Option Page → Option Page
 seen_where inside page = if inside then page else None
 
+abbrev pub shown_at : Names → SpacesState → ℕ → ℕ → Option Page
+shown_at names s d p = option_map (page_by names s.pages) (rows_of s d p)
+
 abbrev pub page_seen : Names → SpacesState → ℕ → ℕ → Option Page
-page_seen names s d p = seen_where (is_programs p) (option_map (page_by names s.pages) (rows_of s d p))
+page_seen names s d p = seen_where (is_programs p) (shown_at names s d p)
+
+-- ---- descriptors
+
+-- the page of a descriptor
+abbrev pub descriptor_page : ℕ → ℕ
+descriptor_page fd = page_number FDTABLE + fd
+
+-- a page with this number is that of a descriptor
+abbrev pub is_descriptor : ℕ → Bool
+is_descriptor p = nat_le (page_number FDTABLE) p && nat_lt p (page_number FDTABLE + DESCRIPTORS)
+
+-- the bits of each
+abbrev pub descriptor_perm : ℕ
+descriptor_perm = PTE_P + PTE_W + PTE_U + PTE_SHARE
+
+abbrev pub name_of : Option Page → Option ℕ
+name_of (Some (named name writable)) = Some name
+name_of _ = None
+
+-- the name of the object whose page stands there
+abbrev pub descriptor_seen : Names → SpacesState → ℕ → ℕ → Option ℕ
+descriptor_seen names s d fd = if nat_lt fd DESCRIPTORS then name_of (shown_at names s d (descriptor_page fd)) else None
 
 -- ---- entries as they count
 
@@ -107,15 +134,22 @@ abbrev pub AgreeWhereShared : Rows → Type 0
 AgreeWhereShared rows = (d p e q : ℕ) (x y : Entry) → (d ≡ e → p ≡ q → ⊥) → rows d p ≡ Some x → rows e q ≡ Some y →
     x.frame ≡ y.frame → Agree x.perm y.perm
 
--- A shared frame is that of its page's name, and has the page's bytes.
-pub record IsNamed (names : Names) (pages shared : ℕ → List ℕ) (next f : ℕ) : Type 0 where
+-- what a name says of bytes: they are those of a page, or tell an object
+abbrev pub ShowsBy : Bool → List ℕ → Object → List ℕ → Type 0
+ShowsBy false page object bytes = page ≡ bytes
+ShowsBy true page object bytes = HasObject object bytes
+
+-- A shared frame, whose entry has this number of a page, is that of its name: an object's at the page of a descriptor, and elsewhere a
+-- page's. It shows what has the name.
+pub record IsNamed (names : Names) (pages shared : ℕ → List ℕ) (objects : ℕ → Object) (next p f : ℕ) : Type 0 where
   pub home : names.frame (names.name f) ≡ f
-  pub bytes : shared (names.name f) ≡ pages f
+  pub kind : names.is_object (names.name f) ≡ is_descriptor p
+  pub shows : ShowsBy (names.is_object (names.name f)) (shared (names.name f)) (objects (names.name f)) (pages f)
   pub old : names.name f < next
 
-abbrev pub AreNamed : Names → (ℕ → List ℕ) → (ℕ → List ℕ) → ℕ → Rows → Type 0
-AreNamed names pages shared next rows = (d p : ℕ) (x : Entry) → rows d p ≡ Some x → is_shared x.perm ≡ true →
-    IsNamed names pages shared next x.frame
+abbrev pub AreNamed : Names → (ℕ → List ℕ) → (ℕ → List ℕ) → (ℕ → Object) → ℕ → Rows → Type 0
+AreNamed names pages shared objects next rows = (d p : ℕ) (x : Entry) → rows d p ≡ Some x → is_shared x.perm ≡ true →
+    IsNamed names pages shared objects next p x.frame
 
 -- Whoever has an entry may read by it, and it has no bits of others; what is copied when it is written is nobody else's, and
 -- can't be written before.

@@ -1,13 +1,13 @@
 -- When a state of the kernel stands for a state of the abstract system. It is a conjunction of parts: one of each slot,
 -- with its registers, its place in a service and its pages; one of each frame, with the entries that name it; and one of
 -- what is there once. Nothing here speaks of steps. (That the library keeps this is what its steps promise, in
--- `LibrarySteps.antt`. As far as services are built: there are no descriptors and no files.)
+-- `LibrarySteps.antt`. As far as services are built: what a descriptor names is the console, and there are no files.)
 use Rattle.std.specs.Prelude.{◌≡◌, ◌≢◌, ◌<◌, ◌≤◌, ℕ, ◌+◌, ◌*◌, ◌/◌, ◌%◌, ◌^◌, ◌==◌, ◌||◌, nat_le, nat_lt, not, Bool, true, false, is_some, List, [], ◌∷◌, Option, Some, None}
 use Rattle.std.specs.Prelude.{if◌then◌else◌}
 use Rattle.jos_base.specs.declared.environment.EnvType.TheVariants.{User, FileServer}
 use Rattle.jos_base.specs.declared.environment.Status.{Status}
 use Rattle.jos_base.specs.declared.environment.Status.TheVariants.{Runnable, Running, NotRunnable}
-use Rattle.jos_base.specs.declared.numbers.TheConstants.{FIRST_ENV_ID, NENV, NPTENTRIES, USTACKTOP, UTOP}
+use Rattle.jos_base.specs.declared.numbers.TheConstants.{FDTABLE, FIRST_ENV_ID, NENV, NPTENTRIES, USTACKTOP, UTOP}
 use Rattle.jos_base.specs.declared.registers.Regs.{Regs}
 use Rattle.jos_base.specs.Environments.{Slot, free_slot, no_extra, is_live, is_running}
 use Rattle.jos_base.specs.KernelState.{KernelState, slot_at}
@@ -17,7 +17,7 @@ use Rattle.jos_base.specs.SpacesState.{SpacesState}
 use Rattle.jos_base.specs.SystemCalls.{has_write}
 use Rattle.jos_base.specs.TrapFrames.{user_flags}
 use Rattle.jos_base.specs.Words.{page_number}
-use Rattle.lib_os.specs.declared.numbers.TheConstants.{PGFAULT_UPCALL, UXSTACK}
+use Rattle.lib_os.specs.declared.numbers.TheConstants.{DESCRIPTORS, PGFAULT_UPCALL, UXSTACK}
 use Rattle.lib_os.specs.declared.place.HandlerStep.TheVariants as handler
 use Rattle.lib_os.specs.declared.place.Place.{Place}
 use Rattle.lib_os.specs.declared.place.Place.TheVariants as place
@@ -34,6 +34,7 @@ use Rattle.lib_os.specs.InOrder.{IsInOrder}
 use Rattle.lib_os.specs.LibraryPages.{View, IsOwnWritable, LibraryPages, is_library_region, region_index}
 use Rattle.lib_os.specs.Places.{place_of, is_handlers}
 use Rattle.lib_os.specs.Rows.{EntryRow, Names, rows_of, page_seen, logical, is_programs, is_shared, may_write, cow_perm}
+use Rattle.lib_os.specs.Rows.{descriptor_page, descriptor_seen, is_descriptor}
 use Rattle.lib_os.specs.Rows.{AgreeWhereShared, AreNamed, AreUsers, IsUsers, AreWhole}
 use Rattle.lib_os.specs.StandsInHandler.{IsAtGuest, IsInHandler}
 
@@ -135,6 +136,27 @@ pub data WaitsOrHas (k : Slot) (b : Born) (va from : ℕ) : Type 0 where
   waits : IsReceiving k b va from → WaitsOrHas k b va from
   has : HasReceived k b va from → WaitsOrHas k b va from
 
+-- ---- descriptors
+
+-- a descriptor is open
+abbrev pub IsOpen : EntryRow → ℕ → Type 0
+IsOpen row fd = is_some (row (descriptor_page fd)) ≡ true
+
+-- none below this one is
+abbrev pub NoneIsOpenBelow : EntryRow → ℕ → Type 0
+NoneIsOpenBelow row n = (fd : ℕ) → fd < n → row (descriptor_page fd) ≡ None
+
+-- the region of the descriptors' pages has a table
+abbrev pub HasTable : View → Type 0
+HasTable v = v.tables (region_index FDTABLE) ≡ true
+
+-- dup: the old descriptor is open, the new one is another
+pub record IsDuplicating (row : EntryRow) (old new : ℕ) : Type 0 where
+  pub old_below : old < DESCRIPTORS
+  pub new_below : new < DESCRIPTORS
+  pub other : old ≢ new
+  pub stands : IsOpen row old
+
 -- ---- fork
 
 -- it bears the child with this id
@@ -189,6 +211,21 @@ StandsAtStep v k b service.Fork (step.Remap id page) = IsBearing k b id × IsRem
 StandsAtStep v k b service.Fork (step.ChildStack id) = IsBearing k b id
 StandsAtStep v k b service.Fork (step.ChildUpcall id) = IsBearing k b id
 StandsAtStep v k b service.Fork (step.ChildRuns id) = IsBearing k b id
+StandsAtStep v k b service.Exit (step.DescriptorEntry fd) =
+    IsIn k b service.Exit entered × (fd < DESCRIPTORS) × NoneIsOpenBelow v.row fd × HasTable v
+StandsAtStep v k b service.Exit (step.DroppingDescriptor fd) =
+    IsIn k b service.Exit entered × (fd < DESCRIPTORS) × NoneIsOpenBelow v.row fd × HasTable v × IsOpen v.row fd
+StandsAtStep v k b service.Exit step.Ending = IsIn k b service.Exit entered × NoneIsOpenBelow v.row DESCRIPTORS
+StandsAtStep v k b (service.Close fd) (step.DescriptorEntry at) = IsIn k b (service.Close fd) entered × (at ≡ fd) × (fd < DESCRIPTORS) × HasTable v
+StandsAtStep v k b (service.Close fd) (step.DroppingDescriptor at) =
+    IsIn k b (service.Close fd) entered × (at ≡ fd) × (fd < DESCRIPTORS) × IsOpen v.row fd
+StandsAtStep v k b (service.Dup old new) (step.DescriptorEntry at) =
+    IsIn k b (service.Dup old new) entered × (at ≡ old) × (old < DESCRIPTORS) × HasTable v
+StandsAtStep v k b (service.Dup old new) step.TargetEntry = IsIn k b (service.Dup old new) entered × IsDuplicating v.row old new × HasTable v
+StandsAtStep v k b (service.Dup old new) (step.DroppingDescriptor at) =
+    IsIn k b (service.Dup old new) entered × (at ≡ new) × IsDuplicating v.row old new × HasTable v × IsOpen v.row new
+StandsAtStep v k b (service.Dup old new) step.MappingDescriptor =
+    IsIn k b (service.Dup old new) entered × IsDuplicating v.row old new × HasTable v × (v.row (descriptor_page new) ≡ None)
 StandsAtStep v k b _ _ = ⊥
 
 abbrev pub StandsAt : Place → View → Slot → Born → Type 0
@@ -222,7 +259,7 @@ pub record StandsForBorn (names : Names) (s : SpacesState) (k : Slot) (b : Born)
   pub env_type : k.env_type ≡ User
   pub runs : IsStatusFor k.status b.blocked
   pub upcall : k.upcall ≡ upcall_at (place_of k)
-  pub descriptors : (fd : ℕ) → b.descriptors fd ≡ None
+  pub descriptors : (fd : ℕ) → b.descriptors fd ≡ descriptor_seen names s k.directory fd
   pub memory : (p : ℕ) → b.memory p ≡ page_seen names s k.directory p
   pub library : LibraryPages (place_of k) (rows_of s k.directory)
   pub regions_have : (r : ℕ) → b.regions r ≡ true → is_some (s.regions k.directory r) ≡ true
@@ -248,7 +285,7 @@ abbrev pub borne_in : Place → Option ℕ
 borne_in (place.InService service.Fork step) = borne_at step
 borne_in _ = None
 
--- Fork goes from the greatest page downwards: the page of this number is passed on.
+-- Fork passes on the pages of a program and those of its descriptors, from the greatest downwards: the page of this number is passed on.
 abbrev pub is_passed : Step → ℕ → Bool
 is_passed (step.ForkRegion id region) p = nat_le ((region + 1) * NPTENTRIES) p
 is_passed (step.ForkEntry id page) p = nat_lt page p
@@ -270,7 +307,7 @@ child_upcall _ = 0
 pub record ChildPages (step : Step) (row : EntryRow) : Type 0 where
   pub stack : has_stack step ≡ true → IsOwnWritable row (page_number UXSTACK)
   pub no_stack : has_stack step ≡ false → row (page_number UXSTACK) ≡ None
-  pub none : (p : ℕ) → is_programs p ≡ false → p ≢ page_number UXSTACK → row p ≡ None
+  pub none : (p : ℕ) → is_programs p ≡ false → is_descriptor p ≡ false → p ≢ page_number UXSTACK → row p ≡ None
 
 -- What is a child's own that is not born: it never runs.
 pub record StandsForUnborn (k : Slot) (id parent : ℕ) : Type 0 where
@@ -283,8 +320,8 @@ pub record StandsForUnborn (k : Slot) (id parent : ℕ) : Type 0 where
   pub words : k.extra ≡ no_extra
   pub stack : is_handlers k.registers.esp ≡ false
 
--- Its parent stands in fork, and bears it. It has the pages that are passed on, each as the parent sees it, and the registers that it
--- will begin with.
+-- Its parent stands in fork, and bears it. It has the pages that are passed on, each as the parent sees it, those of descriptors by the
+-- parent's own entries, and the registers that it will begin with.
 pub record IsBorne (names : Names) (s : SpacesState) (parent : Slot) (parent_is : AbstractSlot) (k : Slot) (id parent_id : ℕ) : Type 0 where
   pub b : Born
   pub born_by : parent_is ≡ born b
@@ -296,7 +333,8 @@ pub record IsBorne (names : Names) (s : SpacesState) (parent : Slot) (parent_is 
   pub registers : k.registers ≡ record parent.registers { eax = 0 }
   pub upcall : k.upcall ≡ child_upcall step
   pub passed : (p : ℕ) → is_programs p ≡ true → is_passed step p ≡ true → page_seen names s k.directory p ≡ b.memory p
-  pub rest : (p : ℕ) → is_programs p ≡ true → is_passed step p ≡ false → rows_of s k.directory p ≡ None
+  pub handed : (p : ℕ) → is_descriptor p ≡ true → is_passed step p ≡ true → rows_of s k.directory p ≡ rows_of s parent.directory p
+  pub rest : (p : ℕ) → is_programs p || is_descriptor p ≡ true → is_passed step p ≡ false → rows_of s k.directory p ≡ None
   pub library : ChildPages step (rows_of s k.directory)
   pub tables : (r : ℕ) → is_some (s.regions k.directory r) ≡ true → has_page_in b.memory r || is_library_region r ≡ true
 
@@ -350,7 +388,7 @@ pub record StandsFor (names : Names) (s : KernelState) (a : AbstractState) : Typ
   pub children : HasChildren names s.spaces s.environments.slots a.slots
   -- each frame
   pub apart : AgreeWhereShared (logical s.spaces s.environments.slots)
-  pub named : AreNamed names s.spaces.pages a.shared a.next_name (logical s.spaces s.environments.slots)
+  pub named : AreNamed names s.spaces.pages a.shared a.objects a.next_name (logical s.spaces s.environments.slots)
   pub users : AreUsers (logical s.spaces s.environments.slots)
   pub whole : AreWhole s.spaces.pages (logical s.spaces s.environments.slots)
   -- what is there once

@@ -3,6 +3,15 @@
 /// The descriptors of an environment. (MIT 6.828, lib/fd.c: `MAXFD`)
 pub const DESCRIPTORS: usize = 32;
 
+/// Where the page of a descriptor has the word that tells what it names. (MIT 6.828, inc/fd.h: `fd_dev_id`)
+pub const FD_DEVICE: u32 = 0;
+
+/// The console, as that word tells it. (MIT 6.828, lib/console.c: `devcons`)
+pub const DEVICE_CONSOLE: u32 = 0x63;
+
+/// The mode of what may be read and written. (MIT 6.828, inc/lib.h)
+pub const O_RDWR: u32 = 2;
+
 /// Behind the pages of descriptors and pipes, which lie from `FDTABLE` on.
 pub const FDTABLE_END: u32 = 0xd040_0000;
 
@@ -181,6 +190,21 @@ pub const STEP_CHILD_RUNS: u32 = 15;
 
 /// It was refused something, and is about to destroy its child.
 pub const STEP_UNDOING: u32 = 16;
+
+/// The number of exit's, close's and dup's step that reads the entry of a descriptor's page.
+pub const STEP_DESCRIPTOR_ENTRY: u32 = 17;
+
+/// The number of dup's step that reads the entry of the new descriptor's page.
+pub const STEP_TARGET_ENTRY: u32 = 18;
+
+/// The number of exit's, close's and dup's step that drops a descriptor.
+pub const STEP_DROPPING_DESCRIPTOR: u32 = 19;
+
+/// The number of dup's step that maps the new descriptor's page.
+pub const STEP_MAPPING_DESCRIPTOR: u32 = 20;
+
+/// The number of exit's step that ends the environment.
+pub const STEP_ENDING: u32 = 21;
 
 // ---- how far the handler of page faults is, as the EIP of its environment. Nothing is fetched there: no page stands below the
 // exception stack, and that the handler runs is told by ESP.

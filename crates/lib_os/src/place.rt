@@ -9,10 +9,11 @@ use crate::numbers::{
     HANDLER_LOADING, HANDLER_LOOKING, HANDLER_MAPPING_OVER, HANDLER_READING_ERROR,
     HANDLER_READING_IP, HANDLER_RESTORING, HANDLER_STORING, HANDLER_TAKING, HANDLER_TOUCHING,
     HANDLER_UNMAPPING, HANDLER_UNSETTING, PAGE_WORDS, PGFAULT_UPCALL, STEP_CHILD_RUNS,
-    STEP_CHILD_STACK, STEP_CHILD_UPCALL, STEP_ENTERED, STEP_FORK_ENTRY, STEP_FORK_REGION,
-    STEP_MAP_CHILD, STEP_PAUSING, STEP_READING_ENTRY, STEP_READING_PERM, STEP_READING_REGION,
-    STEP_READING_SENDER, STEP_READING_VALUE, STEP_RECEIVING, STEP_REMAP, STEP_TRYING, STEP_UNDOING,
-    UXSTACK,
+    STEP_CHILD_STACK, STEP_CHILD_UPCALL, STEP_DESCRIPTOR_ENTRY, STEP_DROPPING_DESCRIPTOR,
+    STEP_ENDING, STEP_ENTERED, STEP_FORK_ENTRY, STEP_FORK_REGION, STEP_MAP_CHILD,
+    STEP_MAPPING_DESCRIPTOR, STEP_PAUSING, STEP_READING_ENTRY, STEP_READING_PERM,
+    STEP_READING_REGION, STEP_READING_SENDER, STEP_READING_VALUE, STEP_RECEIVING, STEP_REMAP,
+    STEP_TARGET_ENTRY, STEP_TRYING, STEP_UNDOING, UXSTACK,
 };
 use crate::service::{Service, service_of};
 use jos_base::{Extra, Regs, UXSTACKTOP};
@@ -54,6 +55,16 @@ pub enum Step {
     ChildRuns { id: u32 },
     /// fork: it was refused something with this answer, and is about to destroy the child.
     Undoing { id: u32, error: u32 },
+    /// exit, close and dup: it is about to read the entry of this descriptor's page.
+    DescriptorEntry { fd: u32 },
+    /// dup: it is about to read the entry of the new descriptor's page.
+    TargetEntry,
+    /// exit, close and dup: it is about to drop this descriptor.
+    DroppingDescriptor { fd: u32 },
+    /// dup: it is about to map the old descriptor's page as the new one's.
+    MappingDescriptor,
+    /// exit: no descriptor is open, and the environment is about to end.
+    Ending,
 }
 
 /// How far the handler of page faults is, with what it has found out: the address of the fault, its error code, the address of
@@ -212,6 +223,11 @@ fn find_step(words: &Extra) -> Step
         STEP_CHILD_STACK => Step::ChildStack { id: first },
         STEP_CHILD_UPCALL => Step::ChildUpcall { id: first },
         STEP_CHILD_RUNS => Step::ChildRuns { id: first },
+        STEP_DESCRIPTOR_ENTRY => Step::DescriptorEntry { fd: first },
+        STEP_TARGET_ENTRY => Step::TargetEntry,
+        STEP_DROPPING_DESCRIPTOR => Step::DroppingDescriptor { fd: first },
+        STEP_MAPPING_DESCRIPTOR => Step::MappingDescriptor,
+        STEP_ENDING => Step::Ending,
         _ => Step::Undoing {
             id: first,
             error: second,
@@ -266,6 +282,11 @@ pub fn words_at(number: u32, step: Step) -> Extra
         Step::ChildUpcall { id } => (STEP_CHILD_UPCALL, id, 0, 0),
         Step::ChildRuns { id } => (STEP_CHILD_RUNS, id, 0, 0),
         Step::Undoing { id, error } => (STEP_UNDOING, id, error, 0),
+        Step::DescriptorEntry { fd } => (STEP_DESCRIPTOR_ENTRY, fd, 0, 0),
+        Step::TargetEntry => (STEP_TARGET_ENTRY, 0, 0, 0),
+        Step::DroppingDescriptor { fd } => (STEP_DROPPING_DESCRIPTOR, fd, 0, 0),
+        Step::MappingDescriptor => (STEP_MAPPING_DESCRIPTOR, 0, 0, 0),
+        Step::Ending => (STEP_ENDING, 0, 0, 0),
     };
     Extra([number + 1, place, first, second, third, 0, 0, 0, 0, 0, 0, 0])
 }

@@ -1,4 +1,3 @@
-pub mod Exits
 pub mod StackPages
 pub mod Waits
 pub mod WaitLaw

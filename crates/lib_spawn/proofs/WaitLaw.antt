@@ -21,7 +21,7 @@ use Rattle.lib_stage.specs.ServiceSteps.{Plan, or_nowhere, ServiceHolds}
 use Rattle.lib_stage.proofs.Laws.{Falls, IsAt, KeepsBy, is_plain, answered_keeps, law_of_call, law_of_nowhere, law_of_pause, plainly}
 use Rattle.lib_spawn.specs.declared.services.WaitStage.{WaitStage}
 use Rattle.lib_spawn.specs.declared.services.WaitStage.TheVariants as stage
-use Rattle.lib_spawn.specs.EndStages.{next_of, wait_at, waiting}
+use Rattle.lib_spawn.specs.WaitStages.{next_of, wait_at, waiting}
 use Rattle.lib_spawn.proofs.Waits.{entered_keeps, wait_call, tried_is, trying_keeps, pausing_keeps}
 
 -- the step that a stage is kept as
@@ -97,3 +97,9 @@ module _ (s : KernelState) (n id : ℕ) (live : is_live (slot_at s n) ≡ true) 
   wait_holds (step.ChildUpcall child) stands = law_of_nowhere s n (service.Wait id) (step.ChildUpcall child) stands refl (λ row k b h. h)
   wait_holds (step.ChildRuns child) stands = law_of_nowhere s n (service.Wait id) (step.ChildRuns child) stands refl (λ row k b h. h)
   wait_holds (step.Undoing child error) stands = law_of_nowhere s n (service.Wait id) (step.Undoing child error) stands refl (λ row k b h. h)
+  wait_holds (step.DescriptorEntry fd) stands = law_of_nowhere s n (service.Wait id) (step.DescriptorEntry fd) stands refl (λ row k b h. h)
+  wait_holds step.TargetEntry stands = law_of_nowhere s n (service.Wait id) step.TargetEntry stands refl (λ row k b h. h)
+  wait_holds (step.DroppingDescriptor fd) stands =
+      law_of_nowhere s n (service.Wait id) (step.DroppingDescriptor fd) stands refl (λ row k b h. h)
+  wait_holds step.MappingDescriptor stands = law_of_nowhere s n (service.Wait id) step.MappingDescriptor stands refl (λ row k b h. h)
+  wait_holds step.Ending stands = law_of_nowhere s n (service.Wait id) step.Ending stands refl (λ row k b h. h)

@@ -40,7 +40,7 @@ use Rattle.lib_os.proofs.Trying.{IsAnswered, try_send_answered, there_stands}
 use Rattle.lib_stage.specs.declared.ask.Next.TheVariants as next
 use Rattle.lib_stage.specs.Nexts.{seen_as, settled}
 use Rattle.lib_spawn.specs.declared.services.WaitStage.TheVariants as stage
-use Rattle.lib_spawn.specs.EndStages.{next_of}
+use Rattle.lib_spawn.specs.WaitStages.{next_of}
 
 -- ---- the abstract step
 

@@ -1,2 +1,2 @@
 pub mod StackPage
-pub mod EndStages
+pub mod WaitStages

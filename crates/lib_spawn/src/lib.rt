@@ -1,10 +1,9 @@
-//! The library's services on the ends of environments: exit and wait.
+//! What belongs to programs that others start: wait, and the words that a program is given.
 //!
-//! Each is one step of the abstract system behind INT 0x40 (`exit` in `Descriptors.antt` and `wait` in
-//! `MemoryServices.antt` of `lib_os`), and a plan of what it asks of the kernel, and of what it does next by the reply
-//! (`EndStages.antt`). exit is one call of the kernel. wait asks for the environment's id, and then tries to send to the other
-//! one, by an address that is none of a page, so that nothing is ever sent: as long as the other one lives, it gives up its turn
-//! and tries again.
+//! wait is one step of the abstract system behind INT 0x40 (`wait` in `MemoryServices.antt` of `lib_os`), and a plan of what it asks of
+//! the kernel, and of what it does next by the reply (`WaitStages.antt`). It asks for the environment's id, and then tries to send
+//! to the other one, by an address that is none of a page, so that nothing is ever sent: as long as the other one lives, it gives up
+//! its turn and tries again.
 //!
 //! The words that a program is given stand on the first page of its stack (`StackPage.antt`).
 #![tactic(auto)]
@@ -12,7 +11,7 @@
 mod services;
 mod stack;
 
-pub use services::{Exit, Wait, WaitStage};
+pub use services::{Wait, WaitStage};
 pub use stack::{
     ARGS_MAX, STACK_ROOM, StackBytes, fits_stack, stack_contents, stack_pointer, stack_size,
 };

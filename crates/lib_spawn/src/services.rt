@@ -1,20 +1,14 @@
-//! exit and wait: what they ask at each stage, and what they do next.
+//! wait: what it asks at each stage, and what it does next.
 
 ghost use Rattle.std.specs.Prelude.{◌≡◌};
-ghost use Rattle.lib_spawn.specs.EndStages.{wait_at};
+ghost use Rattle.lib_spawn.specs.WaitStages.{wait_at};
 
-use jos_base::{
-    Called, E_BAD_ENV, E_INVAL, SYS_ENV_DESTROY, SYS_GETENVID, SYS_IPC_TRY_SEND, SYS_YIELD,
-};
-use lib_os::{SERVICE_EXIT, SERVICE_WAIT, Step, answer_of};
+use jos_base::{Called, E_BAD_ENV, E_INVAL, SYS_GETENVID, SYS_IPC_TRY_SEND, SYS_YIELD};
+use lib_os::{SERVICE_WAIT, Step, answer_of};
 use lib_stage::{Ask, Next, Planned};
 
 /// An address that is none of a page, so that what is sent from there is never taken.
 const NO_PAGE: u32 = 1;
-
-/// exit(): no descriptor is open, so that the environment ends at once.
-#[derive(Clone, Copy, Debug, PartialEq, Eq)]
-pub struct Exit;
 
 /// How far wait is.
 #[derive(Clone, Copy, Debug, PartialEq, Eq)]
@@ -49,29 +43,8 @@ impl Wait {
     }
 }
 
-impl Planned for Exit {
-    ghost use Rattle.lib_spawn.specs.EndStages.{exiting};
-
-    ghost plan = { λ it. exiting };
-
-    fn number(&self) -> u32 {
-        SERVICE_EXIT
-    }
-
-    fn ask(&self) -> Ask {
-        Ask::System {
-            number: SYS_ENV_DESTROY,
-            args: [0; 5],
-        }
-    }
-
-    fn next(&self, _called: Called) -> Next {
-        Next::Gone
-    }
-}
-
 impl Planned for Wait {
-    ghost use Rattle.lib_spawn.specs.EndStages.{waiting};
+    ghost use Rattle.lib_spawn.specs.WaitStages.{waiting};
 
     ghost plan = { waiting };
 

@@ -1,7 +1,8 @@
 /* A fork with so many frames as --frames gives, from the least number with which a run begins to the first with which nothing
-   is refused. The program takes 230 pages, behind which no frame is left of the least number, and so many as it is raised by
+   is refused. The program takes 228 pages, behind which no frame is left of the least number, and so many as it is raised by
    of any other. With one more than the least number there is one for the child's directory, then for its tables, one of each
-   of three regions, and then for the stack of its handler: with less than these five fork is answered -4 (E_NO_MEM). Behind
+   of four regions, of which the descriptors have one, and then for the stack of its handler: with less than these six fork is answered
+   -4 (E_NO_MEM). Behind
    it the child's first copy wants two, a page and a table for the place where copies are made, and its second copy one: where
    there is none, the write ends the child. The parent writes nothing until the child has ended, and so has what was the
    child's for its own copies. */
@@ -10,7 +11,7 @@
 #include "service.h"
 
 #define FIRST 0x10000000
-#define PAGES 230
+#define PAGES 228
 
 static volatile uint32_t datum = 1;
 

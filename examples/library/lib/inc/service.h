@@ -23,6 +23,8 @@ enum {
     SERVICE_page_drop = 7,
     SERVICE_send = 8,
     SERVICE_receive = 9,
+    SERVICE_close = 11,
+    SERVICE_dup = 19,
 };
 
 /* the most bytes of one cputs */
@@ -71,5 +73,13 @@ struct message {
 
 /* Waits for a message from an environment, or from any (0). A page comes to stand at va, where that is not 0. */
 int receive(uint32_t va, uint32_t from, struct message *message);
+
+/* ---- descriptors.c. A program begins with 0 and 1, which name the console. */
+
+/* the descriptors of an environment: 0 to 31 */
+#define MAXFD 32
+
+int close(uint32_t fd);
+int dup(uint32_t old_fd, uint32_t new_fd); /* new_fd, which is closed first where it is open */
 
 #endif

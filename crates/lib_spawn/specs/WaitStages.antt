@@ -1,9 +1,9 @@
--- exit and wait: what they ask at each stage, and what they do next by the reply.
+-- wait: what it asks at each stage, and what it does next by the reply.
 use Rattle.std.specs.Prelude.{ℕ, ◌==◌, ◌||◌, [], ◌∷◌, Option, Some, None, if◌then◌else◌}
 use Rattle.std.specs.Option.{option_map}
-use Rattle.jos_base.specs.declared.numbers.TheConstants.{E_BAD_ENV, E_INVAL, SYS_ENV_DESTROY, SYS_GETENVID, SYS_IPC_TRY_SEND, SYS_YIELD}
+use Rattle.jos_base.specs.declared.numbers.TheConstants.{E_BAD_ENV, E_INVAL, SYS_GETENVID, SYS_IPC_TRY_SEND, SYS_YIELD}
 use Rattle.jos_base.specs.Words.{negated}
-use Rattle.lib_os.specs.declared.numbers.TheConstants.{SERVICE_EXIT, SERVICE_WAIT}
+use Rattle.lib_os.specs.declared.numbers.TheConstants.{SERVICE_WAIT}
 use Rattle.lib_os.specs.declared.place.Step.{Step}
 use Rattle.lib_os.specs.declared.place.Step.TheVariants as step
 use Rattle.lib_os.specs.UserCalls.{answer_of}
@@ -17,13 +17,6 @@ use Rattle.lib_spawn.specs.declared.services.TheConstants.{NO_PAGE}
 use Rattle.lib_spawn.specs.declared.services.Wait.{Wait}
 use Rattle.lib_spawn.specs.declared.services.WaitStage.{WaitStage}
 use Rattle.lib_spawn.specs.declared.services.WaitStage.TheVariants as stage
-
--- ---- exit
-
-abbrev pub exiting : Plan
-exiting = record { number = SERVICE_EXIT; asks = ask.System SYS_ENV_DESTROY no_args; next = λ called. next.Gone }
-
--- ---- wait
 
 -- the stage of wait that is kept as a step, if it is one of wait's
 abbrev pub stage_at : Step → Option WaitStage

@@ -1,0 +1,2 @@
+pub mod FreesBits
+pub mod Bits

@@ -1,0 +1,3 @@
+pub mod TreeTests
+pub mod TreeBounds
+pub mod RecordFields

@@ -1,0 +1,2 @@
+pub mod TreePlans
+pub mod TreeRuns

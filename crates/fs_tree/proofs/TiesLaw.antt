@@ -1,0 +1,325 @@
+-- From a call that a job's step makes to what the step tells.
+use Rattle.std.proofs.Common.{◌≡◌, ◌∙◌, ◌+◌, ◌-◌, ◌*◌, ◌/◌, ◌%◌, ◌<◌, ◌≤◌, ◌^◌, ℕ, true, false, List, [], ◌∷◌, Option, Some, None, Result, Ok, Err}
+use Rattle.std.proofs.Common.{refl, sym, ap, subst, arith}
+use Rattle.std.specs.Int.{w32, to_le_bytes}
+use Rattle.jos_host.specs.Files.{Files}
+use Rattle.jos_host.specs.Frames.{Around, from_to}
+use Rattle.jos_base.specs.declared.memory.Access.{Access}
+use Rattle.jos_base.specs.declared.memory.Access.TheVariants.{Read, Write}
+use Rattle.jos_base.specs.declared.memory.PageFault.{PageFault}
+use Rattle.jos_base.specs.declared.numbers.TheConstants.{E_NO_MEM, PGSIZE}
+use Rattle.jos_base.specs.declared.registers.Regs.{Regs}
+use Rattle.jos_base.specs.KernelState.{KernelState, slot_at, with_extra, with_registers}
+use Rattle.jos_base.specs.Reach.{FrameOffset}
+use Rattle.jos_base.specs.SystemCalls.{handled}
+use Rattle.jos_base.specs.UserMemory.{reach_in}
+use Rattle.jos_base.specs.Words.{negated}
+use Rattle.fs_layout.specs.declared.numbers.TheConstants.{BLKSIZE, MAXBLOCKS}
+use Rattle.lib_os.specs.declared.numbers.TheConstants.{CACHE_BLOCKS}
+use Rattle.lib_os.specs.declared.user_os.Stop.{Stop}
+use Rattle.lib_os.specs.BlockCache.{block_address}
+use Rattle.lib_os.specs.Disk.{Disk, DiskFile, disk_in}
+use Rattle.lib_os.specs.InOrder.{IsInOrder}
+use Rattle.lib_os.specs.UserCalls.{CallStep, IsStep, Output, accessing, faulting, giving, gone, got, to_handler, load, load_byte, store, store_byte}
+use Rattle.lib_os.specs.UserCalls.{user_byte, user_word, with_bytes_put, with_user_byte}
+use Rattle.lib_os.proofs.BytesPut.{put_is}
+use Rattle.fs_cache.specs.declared.place.CachePlace.TheVariants as cached_place
+use Rattle.fs_cache.specs.declared.steps.Cached.TheVariants as cached
+use Rattle.fs_cache.specs.CacheSteps.{Caller, FetchTold, IsBlockStep, KeepsCacheWhereDone, cache_state}
+use Rattle.fs_jobs.specs.declared.asks.TreeAsk.{TreeAsk}
+use Rattle.fs_jobs.specs.declared.asks.TreeAsk.TheVariants as ask
+use Rattle.fs_jobs.specs.declared.asks.TreeNext.TheVariants.{Answer, GoOn}
+use Rattle.fs_jobs.specs.declared.place.TreeState.{TreeState}
+use Rattle.fs_tree.specs.declared.steps.Acted.{Acted}
+use Rattle.fs_tree.specs.declared.steps.Acted.TheVariants as acted
+use Rattle.fs_tree.specs.declared.steps.Done.{Done}
+use Rattle.fs_tree.specs.declared.steps.Done.TheVariants as done
+use Rattle.fs_tree.specs.declared.steps.TheConstants.{REQUEST}
+use Rattle.fs_jobs.specs.TreeBounds.{is_bounded}
+use Rattle.fs_tree.specs.TreeMakes.{DoesWhereTold, HasDone, IsAccess, IsOfDisk, IsOfRequest, IsStored, going, no_page, word}
+use Rattle.fs_tree.specs.TreePlaces.{registers_with, state_in, words_with}
+use Rattle.fs_runs.specs.TreePlans.{ask_at, next_at}
+use Rattle.fs_runs.specs.TreeRuns.{IsInside, memory_after, reply_of}
+use Rattle.fs_tree.specs.TreeSteps.{IsLawful, IsWaiting, StepsWhereTold, TreeAt, answers, goes, job_in, lacks, memory_in, waits}
+use Rattle.fs_jobs.specs.TreeTests.{low_byte}
+use Rattle.fs_tree.proofs.TiesMemory.{HasMade, load_byte_made, load_made, store_byte_made, store_made}
+use Rattle.fs_tree.proofs.TiesRequest.{hand_back_made, request_made}
+use Rattle.fs_tree.proofs.TiesSteps.{step_waits}
+use Rattle.fs_tree.proofs.TiesWords.{state_set}
+
+-- ---- the slot behind an access
+
+-- It stays, whatever state the access was made in.
+module _ {X : Type 0} (s : KernelState) (n va : ℕ) (access : Access) (then_does : KernelState → CallStep X)
+    (keeps : (after : KernelState) → slot_at (then_does after).state n ≡ slot_at after n) (x : X) where
+  by_handler : (fault : PageFault) (o : Option KernelState) → (faulting {X = X} s n fault o).gives ≡ got x → ⊥
+  by_handler fault (Some after) e = let contradiction : to_handler ≡ got x = e in cc
+  by_handler fault None e = let contradiction : gone ≡ got x = e in cc
+
+  accessing_slot : (r : Result FrameOffset PageFault) → (accessing s n va access then_does r).gives ≡ got x →
+      slot_at (accessing s n va access then_does r).state n ≡ slot_at s n
+  accessing_slot (Ok location) gives = keeps _
+  accessing_slot (Err fault) gives = absurd (by_handler fault (handled s n fault) gives)
+
+put_slot : (s : KernelState) (n va : ℕ) (bytes : List ℕ) → slot_at (with_bytes_put s n va bytes) n ≡ slot_at s n
+put_slot s n va bytes = ap (λ (k : KernelState). slot_at k n) (put_is s n va bytes)
+
+module _ (s mid : KernelState) (n va : ℕ) (output : Output) where
+  word_slot : (w : ℕ) → IsStep (load s n va) (Ok w) mid output → slot_at mid n ≡ slot_at s n
+  unfolding load
+  word_slot w call =
+      ap (λ (k : KernelState). slot_at k n) call.1
+      ∙ accessing_slot s n va Read (λ after. giving after (user_word after n va)) (λ after. refl) w
+      (reach_in s.spaces (slot_at s n).directory va Read) call.0
+
+  byte_slot : (w : ℕ) → IsStep (load_byte s n va) (Ok w) mid output → slot_at mid n ≡ slot_at s n
+  unfolding load_byte
+  byte_slot w call =
+      ap (λ (k : KernelState). slot_at k n) call.1
+      ∙ accessing_slot s n va Read (λ after. giving after (user_byte after n va)) (λ after. refl) w
+      (reach_in s.spaces (slot_at s n).directory va Read) call.0
+
+  word_put_slot : (value : ℕ) → IsStep (store s n va value) (Ok tt) mid output → slot_at mid n ≡ slot_at s n
+  unfolding store
+  word_put_slot value call =
+      ap (λ (k : KernelState). slot_at k n) call.1
+      ∙ accessing_slot {X = Unit {0}} s n va Write (λ after. giving (with_bytes_put after n va (to_le_bytes w32 value)) tt)
+      (λ after. put_slot after n va (to_le_bytes w32 value)) tt (reach_in s.spaces (slot_at s n).directory va Write) call.0
+
+  byte_put_slot : (value : ℕ) → IsStep (store_byte s n va value) (Ok tt) mid output → slot_at mid n ≡ slot_at s n
+  unfolding store_byte
+  byte_put_slot value call =
+      ap (λ (k : KernelState). slot_at k n) call.1
+      ∙ accessing_slot {X = Unit {0}} s n va Write (λ after. giving (with_user_byte after n va value) tt)
+      (λ after. put_slot after n va (value ∷ [])) tt (reach_in s.spaces (slot_at s n).directory va Write) call.0
+
+pub access_slot : (a : TreeAsk) (s mid : KernelState) (n va w : ℕ) (output : Output) → IsAccess a va s n (Ok w) mid output → slot_at mid n ≡ slot_at s n
+access_slot (ask.Load at) s mid n va w output call = word_slot s mid n (va - va % 4) output w call
+access_slot (ask.LoadByte at) s mid n va w output call = byte_slot s mid n va output w call
+access_slot (ask.Store at value) s mid n va w output call = word_put_slot s mid n (va - va % 4) output value call.1
+access_slot (ask.StoreByte at value) s mid n va w output call = byte_put_slot s mid n va output (low_byte value) call.1
+access_slot (ask.Request at) s mid n va w output call = byte_slot s mid n va output w call
+access_slot (ask.HandBack at value) s mid n va w output call = byte_put_slot s mid n va output (low_byte value) call.1
+
+-- ---- an access that is lawful
+
+-- it gives its reply, and the memory is as it is to be
+abbrev Makes : Disk → KernelState → KernelState → ℕ → TreeAsk → Result ℕ Stop → Type 0
+Makes d s mid n a result = (result ≡ Ok (reply_of a (memory_in d s n))) × HasMade d s mid n a
+
+stored_made : (d : Disk) (s mid : KernelState) (n : ℕ) (a : TreeAsk) (step : CallStep (Unit {0})) (output : Output) → reply_of a (memory_in d s n) ≡ 0 →
+    ((result : Result (Unit {0}) Stop) → IsStep step result mid output → (result ≡ Ok tt) × HasMade d s mid n a) →
+    (result : Result ℕ Stop) → IsStored step result mid output → Makes d s mid n a result
+stored_made d s mid n a step output none law (Ok w) call = (ap (λ (x : ℕ). Ok x) (call.0 ∙ sym none), (law (Ok tt) call.1).1)
+stored_made d s mid n a step output none law (Err why) call =
+    absurd (let contradiction : ◌≡◌ {A = Result (Unit {0}) Stop} (Err why) (Ok tt) = (law (Err why) call).0 in cc)
+
+-- where a place lies within the disk its block is cached
+inside_block : (count at : ℕ) → at < BLKSIZE * count → at / BLKSIZE < count
+inside_block count at inside = omega (arith, inside)
+
+aligned_address : (at : ℕ) → at % 4 ≡ 0 →
+    block_address (at / BLKSIZE) + at % BLKSIZE - (block_address (at / BLKSIZE) + at % BLKSIZE) % 4 ≡ block_address (at / BLKSIZE) + at % BLKSIZE
+aligned_address at aligned = omega (arith, aligned)
+
+module _ (d : Disk) (s mid : KernelState) (n : ℕ) (h : TreeAt d s n) (output : Output) (in_order : IsInOrder mid) (result : Result ℕ Stop) where
+  disk_made : (a : TreeAsk) (at va : ℕ) → IsOfDisk a at → IsInside d.count a → (cache_state s n).place ≡ cached_place.Found (at / BLKSIZE) →
+      va ≡ block_address (at / BLKSIZE) + at % BLKSIZE → IsAccess a va s n result mid output → Makes d s mid n a result
+  disk_made (ask.Load place) at va is inside found address call =
+      let here : IsStep (load s n (block_address (at / BLKSIZE) + at % BLKSIZE)) result mid output =
+      subst (λ (x : ℕ). IsStep (load s n x) result mid output) (ap (λ (x : ℕ). x - x % 4) address ∙ aligned_address at (ap (λ (x : ℕ). x % 4) (sym is) ∙ inside.1))
+      call in
+      subst (λ (x : ℕ). Makes d s mid n (ask.Load x) result) (sym is)
+      (load_made d s n at h (inside_block d.count at (omega (arith, is, inside.0))) found mid in_order output (ap (λ (x : ℕ). x % 4) (sym is) ∙ inside.1) result here)
+  disk_made (ask.LoadByte place) at va is inside found address call =
+      subst (λ (x : ℕ). Makes d s mid n (ask.LoadByte x) result) (sym is)
+      (load_byte_made d s n at h (inside_block d.count at (subst (λ (x : ℕ). x < BLKSIZE * d.count) is inside)) found mid in_order output result
+      (subst (λ (x : ℕ). IsStep (load_byte s n x) result mid output) address call))
+  disk_made (ask.Store place value) at va is inside found address call =
+      let aligned : at % 4 ≡ 0 = ap (λ (x : ℕ). x % 4) (sym is) ∙ inside.1 in
+      subst (λ (x : ℕ). Makes d s mid n (ask.Store x value) result) (sym is)
+      (stored_made d s mid n (ask.Store at value) (store s n (block_address (at / BLKSIZE) + at % BLKSIZE) value) output refl
+      (store_made d s n at h (inside_block d.count at (omega (arith, is, inside.0))) found mid in_order output value aligned) result
+      (subst (λ (x : ℕ). IsStored (store s n x value) result mid output) (ap (λ (x : ℕ). x - x % 4) address ∙ aligned_address at aligned) call))
+  disk_made (ask.StoreByte place value) at va is inside found address call =
+      subst (λ (x : ℕ). Makes d s mid n (ask.StoreByte x value) result) (sym is)
+      (stored_made d s mid n (ask.StoreByte at value) (store_byte s n (block_address (at / BLKSIZE) + at % BLKSIZE) (low_byte value)) output refl
+      (store_byte_made d s n at h (inside_block d.count at (subst (λ (x : ℕ). x < BLKSIZE * d.count) is inside)) found mid in_order output value) result
+      (subst (λ (x : ℕ). IsStored (store_byte s n x (low_byte value)) result mid output) address call))
+  disk_made (ask.Request place) at va is inside found address call = absurd is
+  disk_made (ask.HandBack place value) at va is inside found address call = absurd is
+
+  page_made : (a : TreeAsk) (at va : ℕ) → IsOfRequest a at → IsInside d.count a → va ≡ REQUEST + at % PGSIZE → IsAccess a va s n result mid output →
+      Makes d s mid n a result
+  page_made (ask.Request place) at va is inside address call =
+      let below : at < PGSIZE = subst (λ (x : ℕ). x < PGSIZE) is inside in
+      let here : va ≡ REQUEST + at = omega (arith, address, below) in
+      subst (λ (x : ℕ). Makes d s mid n (ask.Request x) result) (sym is)
+      (request_made d s n h mid in_order at below output result (subst (λ (x : ℕ). IsStep (load_byte s n x) result mid output) here call))
+  page_made (ask.HandBack place value) at va is inside address call =
+      let below : at < PGSIZE = subst (λ (x : ℕ). x < PGSIZE) is inside in
+      let here : va ≡ REQUEST + at = omega (arith, address, below) in
+      subst (λ (x : ℕ). Makes d s mid n (ask.HandBack x value) result) (sym is)
+      (stored_made d s mid n (ask.HandBack at value) (store_byte s n (REQUEST + at) (low_byte value)) output refl
+      (hand_back_made d s n h mid in_order at below output value) result
+      (subst (λ (x : ℕ). IsStored (store_byte s n x (low_byte value)) result mid output) here call))
+  page_made (ask.Load place) at va is inside address call = absurd is
+  page_made (ask.LoadByte place) at va is inside address call = absurd is
+  page_made (ask.Store place value) at va is inside address call = absurd is
+  page_made (ask.StoreByte place value) at va is inside address call = absurd is
+
+-- ---- what comes of it
+
+not_made : (d : Disk) (s mid : KernelState) (n : ℕ) (a : TreeAsk) (why : Stop) → Makes d s mid n a (Err why) → ⊥
+not_made d s mid n a why makes =
+    let contradiction : ◌≡◌ {A = Result ℕ Stop} (Err why) (Ok (reply_of a (memory_in d s n))) = makes.0 in cc
+
+word_done : (d : Disk) (s mid : KernelState) (n : ℕ) (a : TreeAsk) (w : ℕ) → Makes d s mid n a (Ok w) → HasDone d d s mid n a (done.Word w)
+word_done d s mid n a w makes =
+    let same : ◌≡◌ {A = Result ℕ Stop} (Ok w) (Ok (reply_of a (memory_in d s n))) = makes.0 in
+    let it : ◌≡◌ {A = ℕ} w (reply_of a (memory_in d s n)) = cc in
+    word w it makes.1.stands makes.1.memory
+
+-- the number of a block within the disk is its own
+own_block : (d : Disk) (at : ℕ) → d.count ≤ MAXBLOCKS → at / BLKSIZE < d.count → at / BLKSIZE % CACHE_BLOCKS ≡ at / BLKSIZE
+own_block d at most below = omega (arith, most, below)
+
+place_inside : (a : TreeAsk) (at count : ℕ) → IsOfDisk a at → IsInside count a → at / BLKSIZE < count
+place_inside (ask.Load place) at count is inside = inside_block count at (omega (arith, is, inside.0))
+place_inside (ask.LoadByte place) at count is inside = inside_block count at (subst (λ (x : ℕ). x < BLKSIZE * count) is inside)
+place_inside (ask.Store place value) at count is inside = inside_block count at (omega (arith, is, inside.0))
+place_inside (ask.StoreByte place value) at count is inside = inside_block count at (subst (λ (x : ℕ). x < BLKSIZE * count) is inside)
+place_inside (ask.Request place) at count is inside = absurd is
+place_inside (ask.HandBack place value) at count is inside = absurd is
+
+module _ (a : TreeAsk) (at : ℕ) (c : Caller) (is : IsOfDisk a at) (mid : KernelState) (output : Output) (in_order : IsInOrder mid) (va : ℕ)
+    (found : (cache_state c.state c.slot).place ≡ cached_place.Found (at / BLKSIZE % CACHE_BLOCKS)) (address : va ≡ block_address (at / BLKSIZE % CACHE_BLOCKS)) where
+  ready_made : (d : Disk) → TreeAt d c.state c.slot → IsInside d.count a → (result : Result ℕ Stop) →
+      IsAccess a (va + at % BLKSIZE) c.state c.slot result mid output → Makes d c.state mid c.slot a result
+  ready_made d h inside result call =
+      let own = own_block d at h.count (place_inside a at d.count is inside) in
+      disk_made d c.state mid c.slot h output in_order result a at (va + at % BLKSIZE) is inside (found ∙ ap (λ (b : ℕ). cached_place.Found b) own)
+      (ap (λ (x : ℕ). x + at % BLKSIZE) (address ∙ ap block_address own)) call
+
+  pub ready_word : (files : Around (Option Files)) → files.after ≡ files.before → (w : ℕ) →
+      IsAccess a (va + at % BLKSIZE) c.state c.slot (Ok w) mid output → DoesWhereTold a (Ok (done.Word w)) c.disk c.slot (from_to c.state mid) files
+  ready_word files same w call before told h inside =
+      let d = disk_in before c.disk in (
+        before,
+        same ∙ told,
+        word_done d c.state mid c.slot a w (ready_made d h inside (Ok w) call),
+      )
+
+  pub ready_stopped : (files : Around (Option Files)) (why : Stop) →
+      IsAccess a (va + at % BLKSIZE) c.state c.slot (Err why) mid output → DoesWhereTold a (Ok done.Going) c.disk c.slot (from_to c.state mid) files
+  ready_stopped files why call before told h inside =
+      let d = disk_in before c.disk in absurd (not_made d c.state mid c.slot a why (ready_made d h inside (Err why) call))
+
+-- of the page of the request
+module _ (a : TreeAsk) (at : ℕ) (c : Caller) (is : IsOfRequest a at) (mid : KernelState) (output : Output) (in_order : IsInOrder mid)
+    (files : Around (Option Files)) where
+  pub request_word : files.after ≡ files.before → (w : ℕ) →
+      IsAccess a (REQUEST + at % PGSIZE) c.state c.slot (Ok w) mid output → DoesWhereTold a (Ok (done.Word w)) c.disk c.slot (from_to c.state mid) files
+  request_word same w call before told h inside =
+      let d = disk_in before c.disk in (
+        before,
+        same ∙ told,
+        word_done d c.state mid c.slot a w (page_made d c.state mid c.slot h output in_order (Ok w) a at (REQUEST + at % PGSIZE) is inside refl call),
+      )
+
+  pub request_stopped : (why : Stop) →
+      IsAccess a (REQUEST + at % PGSIZE) c.state c.slot (Err why) mid output → DoesWhereTold a (Ok done.Going) c.disk c.slot (from_to c.state mid) files
+  request_stopped why call before told h inside =
+      let d = disk_in before c.disk in
+      absurd (not_made d c.state mid c.slot a why (page_made d c.state mid c.slot h output in_order (Err why) a at (REQUEST + at % PGSIZE) is inside refl call))
+
+-- the cache has made a step
+module _ (a : TreeAsk) (block : ℕ) (c : Caller) (below : block < CACHE_BLOCKS) (files : Around (Option Files)) (after : KernelState)
+    (output : Output) where
+  pub cache_going : IsBlockStep block c (Ok cached.Going) files after output →
+      KeepsCacheWhereDone (Ok cached.Going) c.disk c.slot (from_to c.state after) files →
+      DoesWhereTold a (Ok done.Going) c.disk c.slot (from_to c.state after) files
+  cache_going made keeps before is h inside =
+      let waited = step_waits c block below before h made.0 output files after is made.2 keeps in
+      (waited.0, waited.1, going waited.2)
+
+  pub cache_lacks : IsBlockStep block c (Ok cached.NoPage) files after output →
+      KeepsCacheWhereDone (Ok cached.NoPage) c.disk c.slot (from_to c.state after) files →
+      FetchTold block (Ok cached.NoPage) c.disk c.slot (from_to c.state after) files.before →
+      DoesWhereTold a (Ok done.NoPage) c.disk c.slot (from_to c.state after) files
+  cache_lacks made keeps tells before is h inside =
+      let waited = step_waits c block below before h made.0 output files after is made.2 keeps in
+      (waited.0, waited.1, no_page waited.2 (tells before is h.cache).0)
+
+-- ---- what the step tells
+
+-- where the job stands, as the code has found it
+pub known_state : (s : KernelState) (n : ℕ) (state : TreeState) (regs : Regs) (words : List ℕ) → state ≡ state_in regs words →
+    regs ≡ (slot_at s n).registers → words ≡ (slot_at s n).extra → state ≡ job_in s n
+known_state s n state regs words is regs_are words_are = is ∙ (λ i. state_in (regs_are i) (words_are i))
+
+as_word : {d e : Disk} {s mid : KernelState} {n : ℕ} {a : TreeAsk} {w : ℕ} → HasDone d e s mid n a (done.Word w) →
+    (w ≡ reply_of a (memory_in d s n)) × TreeAt e mid n × (memory_in e mid n ≡ memory_after a (memory_in d s n))
+as_word (word w is stands memory) = (is, stands, memory)
+
+as_waiting : {d e : Disk} {s mid : KernelState} {n : ℕ} {a : TreeAsk} → HasDone d e s mid n a done.Going → IsWaiting d e s mid n
+as_waiting (going waiting) = waiting
+
+as_lacking : {d e : Disk} {s mid : KernelState} {n : ℕ} {a : TreeAsk} → HasDone d e s mid n a done.NoPage →
+    IsWaiting d e s mid n × (s.refusals < 2 ^ 64 - 1 → s.refusals < mid.refusals)
+as_lacking (no_page waiting refused) = (waiting, refused)
+
+module _ (disk : DiskFile) (n : ℕ) (s mid : KernelState) (files : Around (Option Files)) (a : TreeAsk) (asks : a ≡ ask_at (job_in s n)) where
+  inside : (before : Files) → IsLawful (disk_in before disk) s n → IsInside disk.blocks a
+  inside before lawful = subst (λ (x : TreeAsk). IsInside disk.blocks x) (sym asks) lawful.inside
+
+  -- what came of the job's own ask
+  own : (x : Done) → DoesWhereTold a (Ok x) disk n (from_to s mid) files →
+      (before : Files) → files.before ≡ Some before → TreeAt (disk_in before disk) s n → IsLawful (disk_in before disk) s n →
+      (after : Files) × (files.after ≡ Some after) × HasDone (disk_in before disk) (disk_in after disk) s mid n (ask_at (job_in s n)) x
+  own x does before is h lawful =
+      let came = does before is h (inside before lawful) in (
+        came.0,
+        came.1,
+        subst (λ (b : TreeAsk). HasDone (disk_in before disk) (disk_in came.0 disk) s mid n b x) asks came.2,
+      )
+
+  pub step_going : DoesWhereTold a (Ok done.Going) disk n (from_to s mid) files → StepsWhereTold (Ok acted.Going) disk n (from_to s mid) files
+  step_going does before is h lawful =
+      let came = own done.Going does before is h lawful in
+      (came.0, came.1, waits (as_waiting came.2))
+
+  pub step_lacks : DoesWhereTold a (Ok done.NoPage) disk n (from_to s mid) files →
+      StepsWhereTold (Ok (acted.Answer (negated E_NO_MEM))) disk n (from_to s mid) files
+  step_lacks does before is h lawful =
+      let came = own done.NoPage does before is h lawful in
+      let both = as_lacking came.2 in
+      (came.0, came.1, lacks both.0 both.1)
+
+  module _ (w : ℕ) (does : DoesWhereTold a (Ok (done.Word w)) disk n (from_to s mid) files) where
+    pub step_answers : (answer : ℕ) → next_at (job_in s n) w ≡ Answer answer → StepsWhereTold (Ok (acted.Answer answer)) disk n (from_to s mid) files
+    step_answers answer ends before is h lawful =
+        let came = own (done.Word w) does before is h lawful in
+        let three = as_word came.2 in (
+          came.0,
+          came.1,
+          answers answer (record { stands = three.1; memory = three.2 }) (ap (next_at (job_in s n)) (sym three.0) ∙ ends),
+        )
+
+    pub step_goes_on : (next : TreeState) (after : KernelState) → next_at (job_in s n) w ≡ GoOn next → IsInOrder after →
+        after ≡ with_extra (with_registers mid n (registers_with (slot_at mid n).registers next)) n (words_with (slot_at mid n).extra next) →
+        StepsWhereTold (Ok acted.Going) disk n (from_to s after) files
+    step_goes_on next after on in_order set before is h lawful =
+        let came = own (done.Word w) does before is h lawful in
+        let three = as_word came.2 in
+        let it = state_set (disk_in came.0 disk) mid n next three.1 after in_order set in (
+          came.0,
+          came.1,
+          goes next (record { stands = it.stands; memory = it.memory ∙ three.2 }) (ap (next_at (job_in s n)) (sym three.0) ∙ on) it.job,
+        )
+
+-- a state that no job comes to
+pub step_refused : (disk : DiskFile) (n : ℕ) (s after : KernelState) (files : Around (Option Files)) (acts : Acted) →
+    is_bounded (job_in s n) ≡ false → StepsWhereTold (Ok acts) disk n (from_to s after) files
+step_refused disk n s after files acts off before is h lawful =
+    absurd (let contradiction : ◌≡◌ true false = sym lawful.bounded ∙ off in cc)

@@ -1,0 +1,47 @@
+use Rattle.std.proofs.Common.{◌+◌, ◌%◌}
+use Rattle.jos_host.specs.Frames.{around, from_to}
+use Rattle.jos_base.specs.declared.numbers.TheConstants.{PGSIZE}
+use Rattle.lib_os.specs.UserCalls.{output}
+use Rattle.fs_cache.specs.CacheSteps.{caller}
+use Rattle.fs_tree.specs.declared.steps.TheConstants.{REQUEST}
+use Rattle.fs_tree.proofs.TiesLaw.{access_slot, request_stopped, request_word}
+use Rattle.fs_tree.proofs.steps.make_at_request.Goals as goal
+
+pub returns-in-Ok-clause-told : goal.returns-in-Ok-clause-told
+returns-in-Ok-clause-told g c =
+    let s = g.O.UserOs.state c.args.os.now in
+    let n = g.O.UserOs.slot c.args.os.now in
+    let called = caller s n (g.O.UserOs.disk c.args.os.now) in
+    let files = around g.H.Host.files c.args.host.now c.access.new.host in
+    let mid = g.O.UserOs.state c.access.new.os in
+    let told = output g.H.Host.console g.O.UserOs.written (from_to c.args.host.now c.access.new.host) (from_to c.args.os.now c.access.new.os) in
+    request_word c.args.ask c.args.at called c.requires.place mid told c.access.ensures.in_order files c.access.ensures.rest.first c.in-Ok.word
+    c.in-Ok.ensures.step
+
+pub returns-in-Ok-clause-kept : goal.returns-in-Ok-clause-kept
+returns-in-Ok-clause-kept g c =
+    let s = g.O.UserOs.state c.args.os.now in
+    let n = g.O.UserOs.slot c.args.os.now in
+    let mid = g.O.UserOs.state c.access.new.os in
+    let told = output g.H.Host.console g.O.UserOs.written (from_to c.args.host.now c.access.new.host) (from_to c.args.os.now c.access.new.os) in
+    access_slot c.args.ask s mid n (REQUEST + c.args.at % PGSIZE) c.in-Ok.word told c.in-Ok.ensures.step
+
+pub returns-in-Err-Upcall-clause-told : goal.returns-in-Err-Upcall-clause-told
+returns-in-Err-Upcall-clause-told g c =
+    let s = g.O.UserOs.state c.args.os.now in
+    let n = g.O.UserOs.slot c.args.os.now in
+    let called = caller s n (g.O.UserOs.disk c.args.os.now) in
+    let files = around g.H.Host.files c.args.host.now c.access.new.host in
+    let mid = g.O.UserOs.state c.access.new.os in
+    let told = output g.H.Host.console g.O.UserOs.written (from_to c.args.host.now c.access.new.host) (from_to c.args.os.now c.access.new.os) in
+    request_stopped c.args.ask c.args.at called c.requires.place mid told c.access.ensures.in_order files c.in-Err-Upcall.field-0 c.in-Err-Upcall.ensures.step
+
+pub returns-in-Err-Ended-clause-told : goal.returns-in-Err-Ended-clause-told
+returns-in-Err-Ended-clause-told g c =
+    let s = g.O.UserOs.state c.args.os.now in
+    let n = g.O.UserOs.slot c.args.os.now in
+    let called = caller s n (g.O.UserOs.disk c.args.os.now) in
+    let files = around g.H.Host.files c.args.host.now c.access.new.host in
+    let mid = g.O.UserOs.state c.access.new.os in
+    let told = output g.H.Host.console g.O.UserOs.written (from_to c.args.host.now c.access.new.host) (from_to c.args.os.now c.access.new.os) in
+    request_stopped c.args.ask c.args.at called c.requires.place mid told c.access.ensures.in_order files c.in-Err-Ended.field-0 c.in-Err-Ended.ensures.step

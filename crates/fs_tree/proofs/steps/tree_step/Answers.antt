@@ -1,0 +1,75 @@
+use Rattle.std.proofs.Common.{◌≡◌, ◌∙◌, ℕ, Ok, ap, subst, sym}
+use Rattle.jos_host.specs.Frames.{around, from_to}
+use Rattle.jos_base.specs.KernelState.{slot_at, with_extra, with_registers}
+use Rattle.fs_jobs.specs.declared.place.TreeState.{TreeState}
+use Rattle.fs_tree.specs.declared.steps.Acted.TheVariants.{Answer}
+use Rattle.fs_tree.specs.declared.steps.Done.{Done}
+use Rattle.fs_tree.specs.TreeMakes.{DoesWhereTold}
+use Rattle.fs_tree.specs.TreePlaces.{registers_with, words_with}
+use Rattle.fs_runs.specs.TreePlans.{ask_at, next_at}
+use Rattle.fs_tree.specs.TreeSteps.{StepsWhereTold, job_in}
+use Rattle.fs_tree.proofs.TiesLaw.{known_state, step_answers, step_goes_on, step_going, step_lacks}
+use Rattle.fs_tree.proofs.steps.tree_step.Goals as goal
+
+pub returns-in-Answer-clause-told : goal.returns-in-Answer-clause-told
+returns-in-Answer-clause-told g c =
+    let s = g.O.UserOs.state c.args.os.now in
+    let n = g.O.UserOs.slot c.args.os.now in
+    let disk = g.O.UserOs.disk c.args.os.now in
+    let files = around g.H.Host.files c.args.host.now c.make.new.host in
+    let mid = g.O.UserOs.state c.make.new.os in
+    let known : c.find_state-state.result ≡ job_in s n =
+    known_state s n c.find_state-state.result c.registers-registers.result c.extra-extra.result.0 c.find_state-state.ensures
+    c.registers-registers.ensures c.extra-extra.ensures in
+    let asks : c.ask_at.result ≡ ask_at (job_in s n) = c.ask_at.ensures ∙ ap (λ (t : TreeState). ask_at t) known in
+    let does = subst (λ (x : Done). DoesWhereTold c.ask_at.result (Ok x) disk n (from_to s mid) files) c.in-Ok-Word.field-0-is c.in-Ok-Word.ensures.told in
+    step_answers disk n s mid files c.ask_at.result asks c.in-Ok-Word.word does c.in-Answer.answer
+    (ap (λ (t : TreeState). next_at t c.in-Ok-Word.word) (sym known) ∙ sym c.in-Answer.ensures)
+
+pub returns-in-GoOn-clause-told : goal.returns-in-GoOn-clause-told
+returns-in-GoOn-clause-told g c =
+    let s = g.O.UserOs.state c.args.os.now in
+    let n = g.O.UserOs.slot c.args.os.now in
+    let disk = g.O.UserOs.disk c.args.os.now in
+    let files = around g.H.Host.files c.args.host.now c.make.new.host in
+    let mid = g.O.UserOs.state c.make.new.os in
+    let known : c.find_state-state.result ≡ job_in s n =
+    known_state s n c.find_state-state.result c.registers-registers.result c.extra-extra.result.0 c.find_state-state.ensures
+    c.registers-registers.ensures c.extra-extra.ensures in
+    let asks : c.ask_at.result ≡ ask_at (job_in s n) = c.ask_at.ensures ∙ ap (λ (t : TreeState). ask_at t) known in
+    let does = subst (λ (x : Done). DoesWhereTold c.ask_at.result (Ok x) disk n (from_to s mid) files) c.in-Ok-Word.field-0-is c.in-Ok-Word.ensures.told in
+    let next = c.in-GoOn.next in
+    let after = g.O.UserOs.state c.go_on.new.os in
+    step_goes_on disk n s mid files c.ask_at.result asks c.in-Ok-Word.word does next after
+    (ap (λ (t : TreeState). next_at t c.in-Ok-Word.word) (sym known) ∙ sym c.in-GoOn.ensures) c.go_on.ensures.in_order
+    (subst (λ (m : ℕ). after ≡ with_extra (with_registers mid m (registers_with (slot_at mid m).registers next)) m (words_with (slot_at mid m).extra next))
+    c.make.ensures.slot c.go_on.ensures.state)
+
+pub returns-in-Ok-Going-clause-told : goal.returns-in-Ok-Going-clause-told
+returns-in-Ok-Going-clause-told g c =
+    let s = g.O.UserOs.state c.args.os.now in
+    let n = g.O.UserOs.slot c.args.os.now in
+    let disk = g.O.UserOs.disk c.args.os.now in
+    let files = around g.H.Host.files c.args.host.now c.make.new.host in
+    let mid = g.O.UserOs.state c.make.new.os in
+    let known : c.find_state-state.result ≡ job_in s n =
+    known_state s n c.find_state-state.result c.registers-registers.result c.extra-extra.result.0 c.find_state-state.ensures
+    c.registers-registers.ensures c.extra-extra.ensures in
+    let asks : c.ask_at.result ≡ ask_at (job_in s n) = c.ask_at.ensures ∙ ap (λ (t : TreeState). ask_at t) known in
+    let does = subst (λ (x : Done). DoesWhereTold c.ask_at.result (Ok x) disk n (from_to s mid) files) c.in-Ok-Going.field-0-is c.in-Ok-Going.ensures.told in
+    step_going disk n s mid files c.ask_at.result asks does
+
+pub returns-in-Ok-NoPage-clause-told : goal.returns-in-Ok-NoPage-clause-told
+returns-in-Ok-NoPage-clause-told g c =
+    let s = g.O.UserOs.state c.args.os.now in
+    let n = g.O.UserOs.slot c.args.os.now in
+    let disk = g.O.UserOs.disk c.args.os.now in
+    let files = around g.H.Host.files c.args.host.now c.make.new.host in
+    let mid = g.O.UserOs.state c.make.new.os in
+    let known : c.find_state-state.result ≡ job_in s n =
+    known_state s n c.find_state-state.result c.registers-registers.result c.extra-extra.result.0 c.find_state-state.ensures
+    c.registers-registers.ensures c.extra-extra.ensures in
+    let asks : c.ask_at.result ≡ ask_at (job_in s n) = c.ask_at.ensures ∙ ap (λ (t : TreeState). ask_at t) known in
+    let does = subst (λ (x : Done). DoesWhereTold c.ask_at.result (Ok x) disk n (from_to s mid) files) c.in-Ok-NoPage.field-0-is c.in-Ok-NoPage.ensures.told in
+    subst (λ (w : ℕ). StepsWhereTold (Ok (Answer w)) disk n (from_to s mid) files) (sym c.negated.ensures)
+    (step_lacks disk n s mid files c.ask_at.result asks does)

@@ -1,0 +1,3 @@
+pub mod TreePlaces
+pub mod TreeSteps
+pub mod TreeMakes

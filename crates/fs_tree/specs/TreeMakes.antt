@@ -1,0 +1,75 @@
+-- What a job asks, done over the block cache: an access to a byte or a word of a block that has its page, or of the page of the request; or
+-- the cache makes a step.
+use Rattle.std.specs.Prelude.{◌≡◌, ◌<◌, ℕ, ◌-◌, ◌%◌, ◌^◌, Option, Some, Result, Ok, Err}
+use Rattle.jos_host.specs.declared.host.Failed.{Failed}
+use Rattle.jos_host.specs.Files.{Files}
+use Rattle.jos_host.specs.Frames.{Around}
+use Rattle.jos_base.specs.KernelState.{KernelState, slot_at}
+use Rattle.lib_os.specs.declared.user_os.Stop.{Stop}
+use Rattle.lib_os.specs.Disk.{Disk, DiskFile, disk_in}
+use Rattle.lib_os.specs.UserCalls as call
+use Rattle.lib_os.specs.UserCalls.{CallStep, IsStep, Output}
+use Rattle.fs_jobs.specs.declared.asks.TreeAsk.{TreeAsk}
+use Rattle.fs_jobs.specs.declared.asks.TreeAsk.TheVariants as ask
+use Rattle.fs_tree.specs.declared.steps.Done.{Done}
+use Rattle.fs_tree.specs.declared.steps.Done.TheVariants as done
+use Rattle.fs_runs.specs.TreeRuns.{IsInside}
+use Rattle.fs_tree.specs.TreeSteps.{IsWaiting, TreeAt, memory_in}
+use Rattle.fs_runs.specs.TreeRuns.{memory_after, reply_of}
+use Rattle.fs_jobs.specs.TreeTests.{low_byte}
+
+-- ---- one access
+
+-- A store gives no word.
+abbrev pub IsStored : CallStep (Unit {0}) → Result ℕ Stop → KernelState → Output → Type 0
+IsStored step (Ok word) after output = (word ≡ 0) × IsStep step (Ok tt) after output
+IsStored step (Err why) after output = IsStep step (Err why) after output
+
+abbrev pub IsLoaded : ℕ → KernelState → ℕ → Result ℕ Stop → KernelState → Output → Type 0
+IsLoaded va s n result after output = IsStep (call.load_byte s n va) result after output
+
+abbrev pub IsByteStored : ℕ → ℕ → KernelState → ℕ → Result ℕ Stop → KernelState → Output → Type 0
+IsByteStored va word s n result after output = IsStored (call.store_byte s n va (low_byte word)) result after output
+
+-- what is asked, at an address; words lie at multiples of four
+abbrev pub IsAccess : TreeAsk → ℕ → KernelState → ℕ → Result ℕ Stop → KernelState → Output → Type 0
+IsAccess (ask.Load at) va s n result after output = IsStep (call.load s n (va - va % 4)) result after output
+IsAccess (ask.LoadByte at) va s n result after output = IsLoaded va s n result after output
+IsAccess (ask.Store at word) va s n result after output = IsStored (call.store s n (va - va % 4) word) result after output
+IsAccess (ask.StoreByte at byte) va s n result after output = IsByteStored va byte s n result after output
+IsAccess (ask.Request at) va s n result after output = IsLoaded va s n result after output
+IsAccess (ask.HandBack at byte) va s n result after output = IsByteStored va byte s n result after output
+
+-- ---- what comes of it
+
+-- what is asked of the disk, and what of the page of the request
+abbrev pub IsOfDisk : TreeAsk → ℕ → Type 0
+IsOfDisk (ask.Load place) at = place ≡ at
+IsOfDisk (ask.LoadByte place) at = place ≡ at
+IsOfDisk (ask.Store place word) at = place ≡ at
+IsOfDisk (ask.StoreByte place byte) at = place ≡ at
+IsOfDisk (ask.Request place) at = ⊥
+IsOfDisk (ask.HandBack place byte) at = ⊥
+
+abbrev pub IsOfRequest : TreeAsk → ℕ → Type 0
+IsOfRequest (ask.Request place) at = place ≡ at
+IsOfRequest (ask.HandBack place byte) at = place ≡ at
+IsOfRequest _ at = ⊥
+
+-- It is done, or the cache has made a step, or no page was to be had for a block.
+pub data HasDone (d e : Disk) (s after : KernelState) (n : ℕ) (a : TreeAsk) : Done → Type 0 where
+  word : (w : ℕ) → w ≡ reply_of a (memory_in d s n) → TreeAt e after n → memory_in e after n ≡ memory_after a (memory_in d s n) →
+      HasDone d e s after n a (done.Word w)
+  going : IsWaiting d e s after n → HasDone d e s after n a done.Going
+  no_page : IsWaiting d e s after n → (s.refusals < 2 ^ 64 - 1 → s.refusals < after.refusals) → HasDone d e s after n a done.NoPage
+
+abbrev pub DoesWhereTold : TreeAsk → Result Done Failed → DiskFile → ℕ → Around KernelState → Around (Option Files) → Type 0
+DoesWhereTold a (Ok told) disk n states files =
+    (before : Files) → files.before ≡ Some before → TreeAt (disk_in before disk) states.before n → IsInside disk.blocks a →
+    (after : Files) × (files.after ≡ Some after) × HasDone (disk_in before disk) (disk_in after disk) states.before states.after n a told
+DoesWhereTold a (Err _) disk n states files = Unit {0}
+
+-- Where a word came, the environment is as it was, but for its space.
+abbrev pub KeepsSlot : Result Done Failed → ℕ → Around KernelState → Type 0
+KeepsSlot (Ok (done.Word w)) n states = slot_at states.after n ≡ slot_at states.before n
+KeepsSlot _ n states = Unit {0}

@@ -1,0 +1,93 @@
+-- A step of a job in the environment that serves files: the block that it wants comes nearer, or the job makes its step over what the cache
+-- has of the disk.
+use Rattle.std.specs.Prelude.{◌≡◌, ◌≢◌, ◌<◌, ◌≤◌, ℕ, ◌+◌, ◌/◌, ◌^◌, ◌-◌, nat_lt, true, Option, Some, Result, Ok, Err, if◌then◌else◌}
+use Rattle.jos_host.specs.declared.host.Failed.{Failed}
+use Rattle.jos_host.specs.Files.{Files}
+use Rattle.jos_host.specs.Frames.{Around}
+use Rattle.jos_base.specs.declared.numbers.TheConstants.{E_NO_MEM, PGSIZE}
+use Rattle.jos_base.specs.KernelState.{KernelState, slot_at}
+use Rattle.jos_base.specs.Reach.{Entry}
+use Rattle.jos_base.specs.Words.{negated, page_number}
+use Rattle.fs_layout.specs.declared.numbers.TheConstants.{BLKSIZE, MAXBLOCKS}
+use Rattle.lib_os.specs.BlockCache.{CachedBlocks, block_value}
+use Rattle.lib_os.specs.Disk.{Disk, DiskFile, byte_in_blocks, disk_in}
+use Rattle.lib_os.specs.Rows.{IsPage}
+use Rattle.lib_os.specs.UserCalls.{user_byte}
+use Rattle.fs_cache.specs.CacheStands.{CacheAt, IsBlockEntry, cached_in}
+use Rattle.fs_cache.specs.CacheSteps.{row_in}
+use Rattle.fs_jobs.specs.declared.asks.TreeNext.TheVariants.{Answer, GoOn}
+use Rattle.fs_jobs.specs.declared.place.TreeState.{TreeState}
+use Rattle.fs_tree.specs.declared.steps.Acted.{Acted}
+use Rattle.fs_tree.specs.declared.steps.Acted.TheVariants as acted
+use Rattle.fs_tree.specs.declared.steps.TheConstants.{REQUEST}
+use Rattle.fs_jobs.specs.TreeBounds.{is_bounded}
+use Rattle.fs_tree.specs.TreePlaces.{state_in}
+use Rattle.fs_runs.specs.TreePlans.{ask_at, next_at}
+use Rattle.fs_runs.specs.TreeRuns.{IsInside, Memory, memory_after, reply_of}
+
+-- ---- what a job sees
+
+-- the bytes of the disk, as its blocks hold them
+abbrev pub disk_bytes : Disk → CachedBlocks → ℕ → ℕ
+disk_bytes d c at = if nat_lt (at / BLKSIZE) d.count then byte_in_blocks (block_value d c) at else 0
+
+-- those of the page of the request
+abbrev pub request_bytes : KernelState → ℕ → ℕ → ℕ
+request_bytes s n at = if nat_lt at PGSIZE then user_byte s n (REQUEST + at) else 0
+
+abbrev pub memory_in : Disk → KernelState → ℕ → Memory
+memory_in d s n = record { disk = disk_bytes d (cached_in s n); page = request_bytes s n }
+
+-- where its job stands
+abbrev pub job_in : KernelState → ℕ → TreeState
+job_in s n = state_in (slot_at s n).registers (slot_at s n).extra
+
+-- The page of the request is there, may be written, and is no block's.
+pub record HasRequest (s : KernelState) (n : ℕ) : Type 0 where
+  pub entry : Entry
+  pub stands : s.spaces.entries (slot_at s n).directory (page_number REQUEST) ≡ Some entry
+  pub bits : IsBlockEntry entry
+  pub whole : IsPage (s.spaces.pages entry.frame)
+  pub apart : (b : ℕ) (e : Entry) → row_in s n b ≡ Some e → e.frame ≢ entry.frame
+
+-- The cache stands over the disk, and there is a page for a request.
+pub record TreeAt (d : Disk) (s : KernelState) (n : ℕ) : Type 0 where
+  pub cache : CacheAt d s n
+  pub request : HasRequest s n
+  pub count : d.count ≤ MAXBLOCKS
+
+-- ---- what a step does
+
+-- what a job does next lies within the disk and its page
+pub record IsLawful (d : Disk) (s : KernelState) (n : ℕ) : Type 0 where
+  pub bounded : is_bounded (job_in s n) ≡ true
+  pub inside : IsInside d.count (ask_at (job_in s n))
+
+-- the cache has made a step, and the job sees what it saw
+pub record IsWaiting (d e : Disk) (s after : KernelState) (n : ℕ) : Type 0 where
+  pub stands : TreeAt e after n
+  pub job : job_in after n ≡ job_in s n
+  pub memory : memory_in e after n ≡ memory_in d s n
+
+-- the job has made its step
+pub record HasMoved (d e : Disk) (s after : KernelState) (n : ℕ) : Type 0 where
+  pub stands : TreeAt e after n
+  pub memory : memory_in e after n ≡ memory_after (ask_at (job_in s n)) (memory_in d s n)
+
+abbrev pub reply_in : Disk → KernelState → ℕ → ℕ
+reply_in d s n = reply_of (ask_at (job_in s n)) (memory_in d s n)
+
+pub data HasStepped (d e : Disk) (s after : KernelState) (n : ℕ) : Acted → Type 0 where
+  waits : IsWaiting d e s after n → HasStepped d e s after n acted.Going
+  goes : (next : TreeState) → HasMoved d e s after n → next_at (job_in s n) (reply_in d s n) ≡ GoOn next → job_in after n ≡ next →
+      HasStepped d e s after n acted.Going
+  answers : (word : ℕ) → HasMoved d e s after n → next_at (job_in s n) (reply_in d s n) ≡ Answer word → HasStepped d e s after n (acted.Answer word)
+  -- no page was to be had for a block
+  lacks : IsWaiting d e s after n → (s.refusals < 2 ^ 64 - 1 → s.refusals < after.refusals) → HasStepped d e s after n (acted.Answer (negated E_NO_MEM))
+
+-- Where the host tells its files, the job's next step is lawful, and all stands.
+abbrev pub StepsWhereTold : Result Acted Failed → DiskFile → ℕ → Around KernelState → Around (Option Files) → Type 0
+StepsWhereTold (Ok told) disk n states files =
+    (before : Files) → files.before ≡ Some before → TreeAt (disk_in before disk) states.before n → IsLawful (disk_in before disk) states.before n →
+    (after : Files) × (files.after ≡ Some after) × HasStepped (disk_in before disk) (disk_in after disk) states.before states.after n told
+StepsWhereTold (Err _) disk n states files = Unit {0}

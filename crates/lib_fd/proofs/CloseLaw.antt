@@ -1,0 +1,145 @@
+-- The law of close: each of its stages is a part of its one step in the abstract system.
+use Rattle.std.proofs.Common.{◌≡◌, ◌∙◌, ◌||◌, ◌≤◌, ℕ, Bool, true, false, not, [], ◌∷◌, refl, sym, ap, subst, arith, if◌then◌else◌}
+use Rattle.std.specs.Prelude.{nat_lt}
+use Rattle.std.proofs.lemmas.Bool.Decides.{nat_tests}
+use Rattle.jos_base.specs.declared.called.Called.{Called}
+use Rattle.jos_base.specs.declared.called.Called.TheVariants.{Answered}
+use Rattle.jos_base.specs.declared.numbers.TheConstants.{E_INVAL, SYS_GETENVID, SYS_PAGE_UNMAP}
+use Rattle.jos_base.specs.Environments.{Slot, is_live}
+use Rattle.jos_base.specs.KernelState.{KernelState, slot_at}
+use Rattle.jos_base.specs.Words.{negated}
+use Rattle.lib_os.specs.declared.numbers.TheConstants.{DESCRIPTORS}
+use Rattle.lib_os.specs.declared.place.Place.TheVariants as place
+use Rattle.lib_os.specs.declared.place.Step.{Step}
+use Rattle.lib_os.specs.declared.place.Step.TheVariants as step
+use Rattle.lib_os.specs.declared.service.Service.TheVariants as service
+use Rattle.lib_os.specs.AbstractState.{Born}
+use Rattle.lib_os.specs.InOrder.{IsInOrder}
+use Rattle.lib_os.specs.LibraryPages.{View}
+use Rattle.lib_os.specs.LibrarySteps.{frames_at}
+use Rattle.lib_os.specs.Places.{place_of}
+use Rattle.lib_os.specs.StandsFor.{StandsAtStep}
+use Rattle.lib_os.specs.UserCalls.{CallStep, answer_of, giving}
+use Rattle.lib_os.proofs.Calls.{getenvid_is}
+use Rattle.lib_os.proofs.DescriptorLooks.{descriptor_va, entry_va, page_word, table_gives, table_va, table_word}
+use Rattle.lib_os.proofs.DescriptorsStand.{drop_is, drop_lives}
+use Rattle.lib_os.proofs.Trying.{LivesOn}
+use Rattle.lib_stage.specs.declared.ask.Ask.{Ask}
+use Rattle.lib_stage.specs.declared.ask.Ask.TheVariants as ask
+use Rattle.lib_stage.specs.declared.ask.Next.TheVariants as next
+use Rattle.lib_stage.specs.Asks.{frames_of, no_args}
+use Rattle.lib_stage.specs.ServiceSteps.{Plan, ServiceHolds, nowhere, or_nowhere}
+use Rattle.lib_stage.proofs.Laws.{Falls, IsAt, KeepsBy, is_plain, law_of_call, law_of_load, law_of_nowhere, plainly}
+use Rattle.lib_fd.specs.declared.close.CloseStage.{CloseStage}
+use Rattle.lib_fd.specs.declared.close.CloseStage.TheVariants as stage
+use Rattle.lib_fd.specs.DescriptorStages.{close_at, close_next, closing, is_there, region_asked}
+use Rattle.lib_fd.proofs.Closing.{dropping_keeps, entry_follows, entry_gives, past_keeps, table_follows}
+
+-- the stage at which it stands at a step
+data IsStep : CloseStage → Step → Type 0 where
+  entered : IsStep stage.Entered step.Entered
+  entry : (at : ℕ) → IsStep stage.Entry (step.DescriptorEntry at)
+  dropping : (at : ℕ) → IsStep stage.Dropping (step.DroppingDescriptor at)
+
+module _ (s : KernelState) (n fd : ℕ) (live : is_live (slot_at s n) ≡ true) where
+  abbrev plan : CloseStage → Plan
+  plan at = closing (record { fd = fd; at = at })
+
+  -- it goes on lower
+  falls : (at : CloseStage) (from : Step) → IsStep at from → (word : ℕ) → Falls (service.Close fd) from (close_next fd at word)
+  falls _ _ entered word = by_test (not (nat_lt fd DESCRIPTORS) || not (is_there word))
+    where
+      by_test : (t : Bool) →
+          Falls (service.Close fd) step.Entered (if t then next.Answer (negated E_INVAL) else next.GoOn (step.DescriptorEntry fd))
+      by_test true = tt
+      by_test false = omega arith
+  falls _ _ (entry at) word = by_test (is_there word)
+    where
+      by_test : (t : Bool) → Falls (service.Close fd) (step.DescriptorEntry at)
+          (if not t then next.Answer (negated E_INVAL) else next.GoOn (step.DroppingDescriptor fd))
+      by_test true = omega arith
+      by_test false = tt
+  falls _ _ (dropping at) word = tt
+
+  here : (at : CloseStage) (from : Step) → IsStep at from → place_of (slot_at s n) ≡ place.InService (service.Close fd) from →
+      is_plain (plan at).asks ≡ true → frames_of (plan at).asks ≤ frames_at (place.InService (service.Close fd) from) →
+      IsAt s n (plan at) (service.Close fd) from
+  here at from is stands plain few = record {
+    stands = stands;
+    live = live;
+    numbered = refl;
+    plain = plainly plain;
+    goes_on = refl;
+    falls = λ called. falls at from is (answer_of called);
+    few = few;
+  }
+
+  -- ---- its first stage, by whether the number is one of a descriptor
+
+  module _ (stands : place_of (slot_at s n) ≡ place.InService (service.Close fd) step.Entered) where
+    asks_by : (t : Bool) → nat_lt fd DESCRIPTORS ≡ t →
+        (plan stage.Entered).asks ≡ (if t then region_asked else ask.System SYS_GETENVID no_args)
+    asks_by t is = ap (λ (c : Bool). if c then region_asked else ask.System SYS_GETENVID no_args) is
+
+    here_by : (x : Ask) → (plan stage.Entered).asks ≡ x → is_plain x ≡ true → frames_of x ≤ 0 →
+        IsAt s n (plan stage.Entered) (service.Close fd) step.Entered
+    here_by x is plain few =
+        here stage.Entered step.Entered entered stands (ap is_plain is ∙ plain) (subst (λ (y : Ask). frames_of y ≤ 0) (sym is) few)
+
+    entered_holds : (t : Bool) → nat_lt fd DESCRIPTORS ≡ t → ServiceHolds s n (plan stage.Entered)
+    entered_holds true is =
+        law_of_load s n (plan stage.Entered) (service.Close fd) step.Entered (here_by region_asked (asks_by true is) refl (omega arith)) table_va
+        (asks_by true is)
+        (λ names a h. (record { word = table_word s n; is = table_gives h n }, table_follows s n fd stands (grind (arith, nat_tests)) names a h))
+    entered_holds false is =
+        law_of_call s n (plan stage.Entered) (service.Close fd) step.Entered
+        (here_by (ask.System SYS_GETENVID no_args) (asks_by false is) refl (omega arith)) SYS_GETENVID no_args (asks_by false is) refl
+        (subst (λ (z : CallStep Called). LivesOn z n (slot_at s n).registers) (sym (getenvid_is s n live no_args))
+        (record { live = live; registers = refl; written = refl }))
+        (λ order. subst (λ (z : CallStep Called). KeepsBy s n (plan stage.Entered) z) (sym (getenvid_is s n live no_args)) keeps)
+      where
+        keeps : KeepsBy s n (plan stage.Entered) (giving s (Answered (slot_at s n).id))
+        keeps = rw is (past_keeps s n fd stands (grind (arith, nat_tests)))
+
+  -- ---- each step
+
+  -- one that close has not
+  no_step : (at : Step) → place_of (slot_at s n) ≡ place.InService (service.Close fd) at →
+      ((view : View) (k : Slot) (b : Born) → StandsAtStep view k b (service.Close fd) at → ⊥) → ServiceHolds s n nowhere
+  no_step at stands none = law_of_nowhere s n (service.Close fd) at stands refl none
+
+  pub close_holds : (at : Step) → place_of (slot_at s n) ≡ place.InService (service.Close fd) at →
+      ServiceHolds s n (or_nowhere closing (close_at fd at))
+  close_holds step.Entered stands = entered_holds stands (nat_lt fd DESCRIPTORS) refl
+  close_holds (step.DescriptorEntry at) stands =
+      law_of_load s n (plan stage.Entry) (service.Close fd) (step.DescriptorEntry at)
+      (here stage.Entry (step.DescriptorEntry at) (entry at) stands refl (omega arith)) (entry_va fd) refl
+      (λ names a h. (
+        record { word = page_word s n fd; is = entry_gives s n fd at stands names a h },
+        entry_follows s n fd at stands names a h,
+      ))
+  close_holds (step.DroppingDescriptor at) stands =
+      law_of_call s n (plan stage.Dropping) (service.Close fd) (step.DroppingDescriptor at)
+      (here stage.Dropping (step.DroppingDescriptor at) (dropping at) stands refl (omega arith)) SYS_PAGE_UNMAP
+      (0 ∷ descriptor_va fd ∷ 0 ∷ 0 ∷ 0 ∷ []) refl refl (drop_lives s n fd live)
+      (subst (λ (z : CallStep Called). IsInOrder z.state → KeepsBy s n (plan stage.Dropping) z) (sym (drop_is s n fd live))
+      (dropping_keeps s n fd at stands))
+  close_holds (step.Trying perm) stands = no_step (step.Trying perm) stands (λ view k b h. h)
+  close_holds (step.Pausing perm) stands = no_step (step.Pausing perm) stands (λ view k b h. h)
+  close_holds step.ReadingRegion stands = no_step step.ReadingRegion stands (λ view k b h. h)
+  close_holds step.ReadingEntry stands = no_step step.ReadingEntry stands (λ view k b h. h)
+  close_holds (step.Receiving id) stands = no_step (step.Receiving id) stands (λ view k b h. h)
+  close_holds (step.ReadingValue id) stands = no_step (step.ReadingValue id) stands (λ view k b h. h)
+  close_holds (step.ReadingSender id value) stands = no_step (step.ReadingSender id value) stands (λ view k b h. h)
+  close_holds (step.ReadingPerm id value sender) stands = no_step (step.ReadingPerm id value sender) stands (λ view k b h. h)
+  close_holds (step.ForkRegion child region) stands = no_step (step.ForkRegion child region) stands (λ view k b h. h)
+  close_holds (step.ForkEntry child page) stands = no_step (step.ForkEntry child page) stands (λ view k b h. h)
+  close_holds (step.MapChild child page perm) stands = no_step (step.MapChild child page perm) stands (λ view k b h. h)
+  close_holds (step.Remap child page) stands = no_step (step.Remap child page) stands (λ view k b h. h)
+  close_holds (step.ChildStack child) stands = no_step (step.ChildStack child) stands (λ view k b h. h)
+  close_holds (step.ChildUpcall child) stands = no_step (step.ChildUpcall child) stands (λ view k b h. h)
+  close_holds (step.ChildRuns child) stands = no_step (step.ChildRuns child) stands (λ view k b h. h)
+  close_holds (step.Undoing child error) stands = no_step (step.Undoing child error) stands (λ view k b h. h)
+  close_holds step.TargetEntry stands = no_step step.TargetEntry stands (λ view k b h. h)
+  close_holds step.MappingDescriptor stands = no_step step.MappingDescriptor stands (λ view k b h. h)
+  close_holds step.Ending stands = no_step step.Ending stands (λ view k b h. h)

@@ -1,0 +1,40 @@
+-- The law of dup: its answers are seen, and that the new descriptor is dropped where it is open; all between is hidden.
+use Rattle.std.proofs.Common.{◌≡◌, ℕ, true, refl}
+use Rattle.jos_base.specs.Environments.{is_live}
+use Rattle.jos_base.specs.KernelState.{KernelState, slot_at}
+use Rattle.lib_os.specs.declared.place.Place.TheVariants as place
+use Rattle.lib_os.specs.declared.place.Step.{Step}
+use Rattle.lib_os.specs.declared.place.Step.TheVariants as step
+use Rattle.lib_os.specs.declared.service.Service.TheVariants as service
+use Rattle.lib_os.specs.Places.{place_of}
+use Rattle.lib_stage.specs.ServiceSteps.{or_nowhere, ServiceHolds}
+use Rattle.lib_stage.proofs.Laws.{law_of_nowhere}
+use Rattle.lib_fd.specs.DescriptorStages.{dup_at, duplicating}
+use Rattle.lib_fd.proofs.DupChanges.{dropping_holds, mapping_holds}
+use Rattle.lib_fd.proofs.DupReads.{entered_holds, new_entry_holds, old_entry_holds}
+
+module _ (s : KernelState) (n old new : ℕ) (live : is_live (slot_at s n) ≡ true) where
+  pub dup_holds : (at : Step) → place_of (slot_at s n) ≡ place.InService (service.Dup old new) at →
+      ServiceHolds s n (or_nowhere duplicating (dup_at old new at))
+  dup_holds step.Entered stands = entered_holds s n old new live stands
+  dup_holds (step.DescriptorEntry fd) stands = old_entry_holds s n old new live fd stands
+  dup_holds step.TargetEntry stands = new_entry_holds s n old new live stands
+  dup_holds (step.DroppingDescriptor fd) stands = dropping_holds s n old new live fd stands
+  dup_holds step.MappingDescriptor stands = mapping_holds s n old new live stands
+  dup_holds step.ReadingRegion stands = law_of_nowhere s n (service.Dup old new) step.ReadingRegion stands refl (λ view k b h. h)
+  dup_holds step.ReadingEntry stands = law_of_nowhere s n (service.Dup old new) step.ReadingEntry stands refl (λ view k b h. h)
+  dup_holds (step.Trying perm) stands = law_of_nowhere s n (service.Dup old new) (step.Trying perm) stands refl (λ view k b h. h)
+  dup_holds (step.Pausing perm) stands = law_of_nowhere s n (service.Dup old new) (step.Pausing perm) stands refl (λ view k b h. h)
+  dup_holds (step.Receiving id) stands = law_of_nowhere s n (service.Dup old new) (step.Receiving id) stands refl (λ view k b h. h)
+  dup_holds (step.ReadingValue id) stands = law_of_nowhere s n (service.Dup old new) (step.ReadingValue id) stands refl (λ view k b h. h)
+  dup_holds (step.ReadingSender id value) stands = law_of_nowhere s n (service.Dup old new) (step.ReadingSender id value) stands refl (λ view k b h. h)
+  dup_holds (step.ReadingPerm id value sender) stands = law_of_nowhere s n (service.Dup old new) (step.ReadingPerm id value sender) stands refl (λ view k b h. h)
+  dup_holds (step.ForkRegion id region) stands = law_of_nowhere s n (service.Dup old new) (step.ForkRegion id region) stands refl (λ view k b h. h)
+  dup_holds (step.ForkEntry id page) stands = law_of_nowhere s n (service.Dup old new) (step.ForkEntry id page) stands refl (λ view k b h. h)
+  dup_holds (step.MapChild id page perm) stands = law_of_nowhere s n (service.Dup old new) (step.MapChild id page perm) stands refl (λ view k b h. h)
+  dup_holds (step.Remap id page) stands = law_of_nowhere s n (service.Dup old new) (step.Remap id page) stands refl (λ view k b h. h)
+  dup_holds (step.ChildStack id) stands = law_of_nowhere s n (service.Dup old new) (step.ChildStack id) stands refl (λ view k b h. h)
+  dup_holds (step.ChildUpcall id) stands = law_of_nowhere s n (service.Dup old new) (step.ChildUpcall id) stands refl (λ view k b h. h)
+  dup_holds (step.ChildRuns id) stands = law_of_nowhere s n (service.Dup old new) (step.ChildRuns id) stands refl (λ view k b h. h)
+  dup_holds (step.Undoing id error) stands = law_of_nowhere s n (service.Dup old new) (step.Undoing id error) stands refl (λ view k b h. h)
+  dup_holds step.Ending stands = law_of_nowhere s n (service.Dup old new) step.Ending stands refl (λ view k b h. h)

@@ -1,0 +1,98 @@
+//! What is asked of the pages of descriptors. Numbers of descriptors may come from words that hold anything, so that they are
+//! bounded here.
+
+ghost use Rattle.std.specs.Prelude.{◌≡◌, ◌<◌};
+ghost use Rattle.lib_fd.specs.DescriptorStages as stages;
+
+use jos_base::{
+    FDTABLE, NPTENTRIES, PGSIZE, PTE_P, PTE_U, PTE_W, SYS_GETENVID, SYS_PAGE_MAP, SYS_PAGE_UNMAP,
+    UVPT,
+};
+use lib_os::{PTE_SHARE, UVPD};
+use lib_stage::Ask;
+
+/// The descriptors of an environment.
+pub(crate) const DESCRIPTORS: u32 = lib_os::DESCRIPTORS as u32;
+
+/// The bits of a descriptor's page.
+const DESCRIPTOR_PERM: u32 = PTE_P + PTE_W + PTE_U + PTE_SHARE;
+
+/// The descriptor of a word that may hold anything.
+pub(crate) fn descriptor_of(fd: u32) -> u32
+    ensures is { result ≡ stages.descriptor_of fd }
+    ensures below { result < 32 }
+{
+    fd % DESCRIPTORS
+}
+
+/// Where the page of a descriptor begins.
+fn descriptor_va(fd: u32) -> u32
+    ensures { result ≡ stages.descriptor_va fd }
+{
+    FDTABLE + PGSIZE * descriptor_of(fd)
+}
+
+/// The word of the region in which the pages lie.
+pub(crate) fn ask_region() -> Ask
+    ensures { result ≡ stages.region_asked }
+{
+    Ask::Load {
+        va: UVPD + 4 * (FDTABLE / PGSIZE / NPTENTRIES),
+    }
+}
+
+/// The same for a descriptor that a program has given, which may be no number of one; then nothing.
+pub(crate) fn ask_region_for(fd: u32) -> Ask
+    ensures { result ≡ stages.region_asked_for fd }
+{
+    if fd < DESCRIPTORS {
+        ask_region()
+    } else {
+        Ask::System {
+            number: SYS_GETENVID,
+            args: [0; 5],
+        }
+    }
+}
+
+/// The word of a descriptor's entry.
+pub(crate) fn ask_entry(fd: u32) -> Ask
+    ensures { result ≡ stages.entry_asked fd }
+{
+    Ask::Load {
+        va: UVPT + 4 * (FDTABLE / PGSIZE + descriptor_of(fd)),
+    }
+}
+
+/// A descriptor's page is unmapped.
+pub(crate) fn ask_drop(fd: u32) -> Ask
+    ensures { result ≡ stages.drop_asked fd }
+{
+    Ask::System {
+        number: SYS_PAGE_UNMAP,
+        args: [0, descriptor_va(fd), 0, 0, 0],
+    }
+}
+
+/// A descriptor's page is mapped as that of another one.
+pub(crate) fn ask_map(old: u32, new: u32) -> Ask
+    ensures { result ≡ stages.map_asked old new }
+{
+    Ask::System {
+        number: SYS_PAGE_MAP,
+        args: [
+            0,
+            descriptor_va(old),
+            0,
+            descriptor_va(new),
+            DESCRIPTOR_PERM,
+        ],
+    }
+}
+
+/// Whether the word of an entry says that a page, or a region's table, is there.
+pub(crate) fn is_there(word: u32) -> bool
+    ensures { result ≡ stages.is_there word }
+{
+    word & PTE_P == PTE_P
+}
