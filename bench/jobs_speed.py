@@ -116,7 +116,7 @@ def main():
         measure(title, wide + [path("/15999"), "find"], [([path("/" + name)], "find", wanted)])
 
     # the pages of the cache are frames of the machine, which are there before a block is read
-    for lines, what in ((wide[:1], "of 65,536 frames, before a block is read"), (wide + [path("/none"), "find"], "with 1,003 blocks in the cache")):
+    for lines, what in ((wide[:1], "of 65,536 frames, before a block is read"), (wide + [path("/none"), "find"], "behind a look-up in 16,000 records")):
         done = subprocess.run(["/usr/bin/time", "-f", "%M", PROGRAM], input="\n".join(lines) + "\n", capture_output=True, text=True, check=False)
         print(f"memory of a machine {what}: {int(re.findall(r'[0-9]+', done.stderr)[-1]) / 1024:.0f} MB")
 
