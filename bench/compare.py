@@ -188,18 +188,19 @@ def compare_library(seed, folder):
     frames = Run.wanted_frames(content) + chance.choice([0, 1, 20, 60, 500])
     steps, traps = chance.choice([3000, 60000, 200000] if forks else [777, 3000, 20000]), chance.choice([0, 1, 1024])
     schedule, given = random_schedule(chance), random_words(chance)
+    console_input = bytes(chance.choice([4, 0, 10, 255, *range(32, 127)]) for _ in range(chance.choice([0, 1, 2, 5, 20])))
     if forks and program.fills_table:
         frames, steps, schedule = frames + 5000, 5000000, schedule + [1000]
     words = [folder / "image", *given]
     words[0].write_bytes(content)
     (folder / "schedule").write_text(" ".join(map(str, schedule)))
-    model = Run(content, [str(each).encode() for each in words], frames, schedule, steps, traps)
+    model = Run(content, [str(each).encode() for each in words], frames, console_input, schedule, steps, traps)
     try:
         notes = model.notes(model.run())
     except Unmodelled:
         return "left out"
     options = ["--frames", frames, "--steps", steps, "--trace", traps, "--schedule", folder / "schedule"]
-    return compared(seed, folder, model, notes, ["run", *options, "--", *words], b"")
+    return compared(seed, folder, model, notes, ["run", *options, "--", *words], console_input)
 
 
 def main():

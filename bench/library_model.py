@@ -3,10 +3,10 @@
 
     python3 bench/library_model.py [--frames N] [--steps N] [--schedule FILE] [--trace N] [--] IMAGE [WORD..]
 
-It is written after docs/library.md, and shares nothing with the code: the fence, the services 0 to 9, 11 and 19, each with its
-refusals and its steps, the handler of page faults, which copies a page that waits for that or ends the program, and turns.
-The processor is that of processor.py, and the frames are those of model.py. It takes the words of the command and answers
-with its console, notes and status; what it does not have is `Unmodelled`.
+It is written after docs/library.md, and shares nothing with the code: the fence, the services 0 to 9, 11 to 16 and 19, each with
+its refusals and its steps, the handler of page faults, which copies a page that waits for that or ends the program, and turns.
+The processor is that of processor.py, and the frames are those of model.py. It takes the words of the command, and the console's
+input on its own, and answers with its console, notes and status; what it does not have is `Unmodelled`.
 """
 import argparse
 import pathlib
@@ -21,8 +21,13 @@ from processor import Processor
 SHARED, COPIED = 0x400, 0x800  # bits of an entry: its page is shared, or is copied when it is written
 KEPT = P | U | W | AVAILABLE  # the bits of an entry that a call gives
 COPY_PAGE = 0x007FF  # where a copy is made
+WORKING_PAGE = 0x00400  # where write keeps the bytes that it has taken
 FIRST_DESCRIPTOR, DESCRIPTORS = 0xD0000, 32  # the pages of descriptors
 CONSOLE = struct.pack("<4I", ord("c"), 0, 2, 0)  # what such a page holds
+CONSOLE_STAT = b"<cons>".ljust(128, b"\0") + struct.pack("<2I", 0, 0)  # what stat tells of it
+TRANSFER_MAX = 4096  # bytes of one read or write
+END_OF_INPUT = 4  # what is read where there is no byte
+NOT_SUPPORTED = 15
 SERVER, PROGRAM = 0x1000, 0x1001
 FENCE = [(0x00200000, 0x00400000), (0x00800000, 0xD0000000), (0xD0400000, 0xEEBFE000)]
 RESIDENT = range(0xEEBFE800, 0xEEC00000)
@@ -37,6 +42,15 @@ def in_fence(va, length):
 
 def is_page(va):
     return va % PAGE_SIZE == 0 and in_fence(va, PAGE_SIZE)
+
+
+def is_buffer(va, length):
+    return length == 0 or in_fence(va, length)
+
+
+def moved_at_once(va, wanted):
+    """A word, where it lies whole at a multiple of four, and else a byte."""
+    return 4 if va % 4 == 0 and wanted >= 4 else 1
 
 
 def segments_of(image):
@@ -97,6 +111,7 @@ class Environment:
         self.service = None  # its number, with the stage and what it has found out
         self.stage, self.found = "entered", ()
         self.fault = None  # that the handler has: the error code, the address, and that of the instruction
+        self.beneath = None  # the stage of the service that has raised it, and what that has found out
         self.receives = None  # where it waits for a message: the page, or 0, and from whom
         self.message = (0, 0, 0)  # who sent, the word, and the bits of the page
 
@@ -116,8 +131,8 @@ def is_own_and_written(bits):
 class Run:
     """A run of a program and of those that it makes."""
 
-    def __init__(self, image, words, frames, schedule, steps, traps):
-        self.frames = Frames(frames)
+    def __init__(self, image, words, frames, console_input, schedule, steps, traps):
+        self.frames, self.input = Frames(frames), list(console_input)
         self.schedule, self.steps_left, self.traps_kept = schedule, steps, traps
         self.steps = self.turns = self.refused = self.upcalls = 0
         self.output, self.traps = bytearray(), []
@@ -230,6 +245,14 @@ class Run:
             self.receive(edx, ecx)
         elif service == 11:
             self.close(edx)
+        elif service == 12:
+            self.read(edx, ecx, ebx)
+        elif service == 13:
+            self.write(edx, ecx, ebx)
+        elif service in (14, 16):
+            self.seek_or_set_size(edx)
+        elif service == 15:
+            self.stat(edx, ecx)
         elif service == 19:
             self.dup(edx, ecx)
         else:
@@ -298,10 +321,138 @@ class Run:
             assert self.frames.insert(self.now.directory, FIRST_DESCRIPTOR + new, frame, P | U | W | SHARED)
             self.now.answer(new)
 
+    # ---- on the console: what the descriptor names is found, then the buffer's pages are looked at, and then bytes are moved
+
+    def finds(self, descriptor):
+        """Whether the step is the third load, of the word that tells the console; else it is made: the entry of the descriptors'
+        region, or that of the descriptor, either of which may refuse it."""
+        if self.now.stage == "entered":
+            if descriptor < DESCRIPTORS and self.has_descriptors():
+                self.now.go_on("looking")
+            else:
+                self.now.answer(-INVALID)
+        elif self.now.stage == "looking":
+            if self.is_open(descriptor):
+                self.now.go_on("what it names")
+            else:
+                self.now.answer(-INVALID)
+        else:
+            return self.now.stage == "what it names"
+        return False
+
+    def seek_or_set_size(self, descriptor):
+        if self.finds(descriptor):
+            self.now.answer(-NOT_SUPPORTED)
+
+    def is_refused(self, va, length):
+        """A buffer that is refused, or of which nothing is wanted, is answered at once."""
+        if not is_buffer(va, length):
+            self.now.answer(-INVALID)
+        elif length == 0:
+            self.now.answer(0)
+        return self.now.service is None
+
+    def looks(self, va, wanted):
+        """Whether the step is none of those before a page's first byte: the entry of the region in which the next byte lies, and
+        that of its page, where there is a table. Where the page is not there, or has none of the bits, the byte is touched all
+        the same. What is found out begins with how many bytes are moved."""
+        found, page = self.now.found, va + self.now.found[0] >> 12
+        if self.now.stage == "region":
+            there = page >> 10 in self.frames.regions[self.now.directory]
+            self.now.go_on("entry" if there else "touching", *found)
+        elif self.now.stage == "entry":
+            entry = self.frames.entries[self.now.directory].get(page)
+            self.now.go_on("moving" if entry is not None and entry[1] & wanted else "touching", *found)
+        else:
+            return True
+        return False
+
+    def puts(self, va, content):
+        """Whether the bytes were put there; else the handler of page faults has the fault. Of a page that refuses it, one byte is
+        touched."""
+        try:
+            self.now.memory.write(va, content)
+        except PageFault as fault:
+            self.page_fault(fault.error, fault.address, self.now.processor.eip)
+            return False
+        assert self.now.stage == "moving"
+        return True
+
+    def behind(self, va, done, *rest):
+        """Goes on with the next byte, which may be the first of a page."""
+        self.now.go_on("region" if (va + done) % PAGE_SIZE == 0 else "moving", done, *rest)
+
+    def read(self, descriptor, va, length):
+        """A byte of the console."""
+        if self.now.stage == "getting":
+            byte = self.input.pop(0) if self.input else END_OF_INPUT
+            if byte == END_OF_INPUT:
+                self.now.answer(0)
+            else:
+                self.now.go_on("region", 0, byte)
+        elif self.now.stage in ("entered", "looking", "what it names"):
+            if self.finds(descriptor) and not self.is_refused(va, min(length, TRANSFER_MAX)):
+                self.now.go_on("getting")
+        elif self.looks(va, W | COPIED):
+            if self.puts(va, bytes([self.now.found[1]])):
+                self.now.answer(1)
+
+    def stat(self, descriptor, va):
+        """A name, a size and a kind."""
+        if self.now.stage in ("entered", "looking", "what it names"):
+            if self.finds(descriptor) and not self.is_refused(va, len(CONSOLE_STAT)):
+                self.now.go_on("region", 0)
+        elif self.looks(va, W | COPIED):
+            done = self.now.found[0]
+            moved = moved_at_once(va + done, len(CONSOLE_STAT) - done)
+            if self.puts(va + done, CONSOLE_STAT[done:done + moved]):
+                if done + moved == len(CONSOLE_STAT):
+                    self.now.answer(0)
+                else:
+                    self.behind(va, done + moved)
+
+    def write(self, descriptor, va, length):
+        """A page is taken, the bytes are loaded and put there, and then all are printed and the page is given back."""
+        stage, wanted = self.now.stage, min(length, TRANSFER_MAX)
+        if stage == "taking":
+            if self.frames.allocate(self.now.directory, WORKING_PAGE, P | U | W):
+                self.now.go_on("region", 0)
+            else:
+                self.now.answer(self.wanting(NO_MEMORY))
+        elif stage == "keeping":
+            done, content = self.now.found
+            kept = content if len(content) == 4 and done % 4 == 0 else content[:1]
+            self.page_bytes(WORKING_PAGE << 12)[done:done + len(kept)] = kept
+            done, content = done + len(kept), content[len(kept):]
+            if content:
+                self.now.go_on("keeping", done, content)
+            elif done == wanted:
+                self.now.go_on("printing")
+            else:
+                self.behind(va, done)
+        elif stage == "printing":
+            self.output += self.page_bytes(WORKING_PAGE << 12)[:wanted]
+            self.now.go_on("giving back")
+        elif stage == "giving back":
+            self.frames.remove(self.now.directory, WORKING_PAGE)
+            self.now.answer(wanted)
+        elif stage in ("entered", "looking", "what it names"):
+            if self.finds(descriptor) and not self.is_refused(va, wanted):
+                self.now.go_on("taking")
+        elif self.looks(va, P):
+            done = self.now.found[0]
+            try:
+                content = self.now.memory.read(va + done, moved_at_once(va + done, wanted - done))
+            except PageFault as fault:
+                self.page_fault(fault.error, fault.address, self.now.processor.eip)
+            else:
+                assert stage == "moving"
+                self.now.go_on("keeping", done, content)
+
     # ---- the others
 
     def cputs(self, va, length):
-        if length > CPUTS_MAX or (length > 0 and not in_fence(va, length)):
+        if length > CPUTS_MAX or not is_buffer(va, length):
             self.now.answer(-INVALID)
             return
         for k in range(length):
@@ -475,10 +626,10 @@ class Run:
     # ---- page faults
 
     def page_fault(self, error, va, ip):
-        """It goes to the handler."""
+        """It goes to the handler. Where a service has raised it, the address is that behind its INT 0x40."""
         self.traps.append((self.now.id, 14, error, va, ip))
         self.upcalls += 1
-        self.now.fault = (error, va, ip)
+        self.now.fault, self.now.beneath = (error, va, ip), (self.now.stage, self.now.found)
         self.now.go_on("address")
 
     def handle(self):
@@ -486,8 +637,8 @@ class Run:
 
         It reads the address and the error code. Where a page is that may not be written, it looks at its entry, and, if that
         page waits to be copied, takes a page elsewhere, copies word by word, maps the copy over the page, unmaps it where it
-        was made, and takes the registers back. Else it reads the address of the instruction, sets that there is no handler any
-        more, and raises the fault again, which ends the program."""
+        was made, and takes the registers back: the program makes its instruction again, or the service its step. Else it reads the
+        address of the instruction, sets that there is no handler any more, and raises the fault again, which ends the program."""
         error, va, ip = self.now.fault
         stage, directory, page = self.now.stage, self.now.directory, va >> 12
         entries = self.frames.entries[directory]
@@ -520,7 +671,7 @@ class Run:
             self.frames.remove(directory, COPY_PAGE)
             self.now.go_on("registers")
         elif stage == "registers":
-            self.now.fault = None
+            self.now.fault, (self.now.stage, self.now.found) = None, self.now.beneath
         elif stage == "instruction":
             self.now.go_on("no handler")
         elif stage == "no handler":
@@ -625,7 +776,8 @@ def main():
     if told.frames < Run.wanted_frames(image):
         print("limit: boot", file=sys.stderr)
         return 3
-    run = Run(image, [word.encode() for word in told.words], told.frames, schedule, told.steps, told.trace)
+    words = [word.encode() for word in told.words]
+    run = Run(image, words, told.frames, sys.stdin.buffer.read(), schedule, told.steps, told.trace)
     end = run.run()
     sys.stdout.buffer.write(run.output)
     sys.stderr.write(run.notes(end))

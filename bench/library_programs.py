@@ -11,11 +11,13 @@ ENDS = [0x1FFFFF, 0x200000, 0x3FFFFF, 0x400000, 0x7FFFFF, 0x800000, 0xCFFFFFFF, 
         0xEEBFDFFF, 0xEEBFE000, 0xEEC00000, 0xFFFFFFFF]
 IDS = [0, 0x1001, 0x1002, 0x2001, 0x2000, 0x13FF, 0xFFFFFFFF]
 LIKELY_IDS = [0x1001, 0x1002, 0x1002, 0x1003, 0x1004, 0x2002, 0x2003]
-NUMBERS = [10, 13, 20, 21, 22, 0x41, 0x80000000, 0xFFFFFFFF]
+NUMBERS = [10, 17, 18, 20, 21, 22, 0x41, 0x80000000, 0xFFFFFFFF]
 FDS, ODD_FDS = [0, 1, 1, 2, 5, 31], [32, 33, 0x80000000, 0xFFFFFFFF]
+OPEN_FDS = [0, 1, 1, 1, 2]
+LENGTHS, ODD_LENGTHS = [1, 2, 3, 4, 5, 7, 8, 13, 16, 17], [0, 4095, 4096, 4097, 0x7FFFFFFF, 0xFFFFFFFF]
 
 # how often a program asks for which service; 99 is any other number
-ANY = {1: 4, 2: 1, 3: 2, 5: 2, 6: 6, 7: 3, 8: 4, 9: 1, 11: 2, 19: 4, 99: 1}
+ANY = {1: 4, 2: 1, 3: 2, 5: 2, 6: 6, 7: 3, 8: 4, 9: 1, 11: 2, 12: 3, 13: 5, 14: 1, 15: 2, 16: 1, 19: 4, 99: 1}
 # where ESP may lie, and at the end the first and last places where it may not
 STACKS = [STACK + 0x800, 0x902000, 0, 0xEEBFE000, 0xEEBFE7FF, 0xEEC00000, 0xEEC00FF0]
 RESIDENT = [0xEEBFE800, 0xEEBFF000, 0xEEBFFFFF]
@@ -25,6 +27,7 @@ class LibraryProgram:
     """Random services, reads and writes. What ends a program at once is rare before its end."""
 
     log_at = 0x801000  # where a program keeps its answers
+    page_ends = [0x801000]  # with a page on either side
 
     def __init__(self, chance):
         self.chance, self.code, self.answers = chance, b"", 0
@@ -49,6 +52,27 @@ class LibraryProgram:
     def page(self):
         return self.usually(0.75, PAGES, ODD_PAGES)
 
+    def fd(self):
+        return self.usually(0.9, OPEN_FDS, FDS + ODD_FDS)
+
+    def buffer(self, length):
+        """Where so many bytes may lie, or else may not, or may end the program: a place of the log's page or of the stack, one over
+        the end of a page, and others."""
+        chance = self.chance
+        kind = chance.random()
+        if kind < 0.7:
+            return chance.choice([self.log_at + 0xE00, STACK + 0x200]) + chance.randrange(32)
+        if kind < 0.9:
+            return chance.choice(self.page_ends) - chance.randrange(min(length, 40) + 1)
+        if kind < 0.96:
+            return chance.choice(ODD_PAGES + ENDS) - chance.choice([0, 0, 1, min(length, 4096) - 1, min(length, 4096)]) & 0xFFFFFFFF
+        return chance.choice(PAGES) + chance.choice([0, 1, 4, 0x800, 0xFF9, 0xFFC, 0xFFF])
+
+    def moved(self):
+        """What read and write are given."""
+        length = self.usually(0.85, LENGTHS, ODD_LENGTHS)
+        return self.fd(), self.buffer(length), length
+
     def service(self):
         chance = self.chance
         number = chance.choices(list(ANY), list(ANY.values()))[0]
@@ -65,6 +89,11 @@ class LibraryProgram:
             # only what is refused: it would wait for ever
             9: lambda: self.usually(0.5, [(chance.choice(ODD_PAGES[1:]), 0)], [(0, chance.choice([0x1000, 0x1001]))]),
             11: lambda: (self.usually(0.9, FDS, ODD_FDS),),
+            12: self.moved,
+            13: self.moved,
+            14: lambda: (self.fd(), chance.choice([0, 7, 0x7FFFFFFF, 0x80000000])),
+            15: lambda: (self.fd(), self.buffer(136)),
+            16: lambda: (self.fd(), chance.choice([0, 7, 0x7FFFFFFF, 0x80000000])),
             19: lambda: (self.usually(0.9, FDS, ODD_FDS), self.usually(0.9, FDS, ODD_FDS)),
         }.get(number, tuple)()
         self.ask(chance.choice(NUMBERS) if number == 99 else number, *given)
@@ -117,7 +146,7 @@ class LibraryProgram:
         self.ask(1, self.log_at, 4 * self.answers)
         if chance.random() < 0.5:
             self.ask(1, STACK, 4096)
-        kind = chance.randrange(14)
+        kind = chance.randrange(18)
         if kind == 0:
             self.ask(9, self.usually(0.5, [0], PAGES), chance.choice([0, 0x1002]))
         elif kind == 1:
@@ -134,6 +163,10 @@ class LibraryProgram:
             self.ask(1, chance.choice(PAGES + [0x30000000]) + chance.choice([0, 0xFFF]), chance.choice([1, 2, 4096]))
         elif kind == 6:
             self.set(ESP, chance.choice(RESIDENT))
+        elif kind == 7:
+            # where no page is, or behind the end of one
+            where = chance.choice(PAGES + [0x30000000]) + chance.choice([0, 3, 0xFF0, 0xFFF])
+            self.ask(chance.choice([12, 13, 13, 15]), chance.choice([0, 1]), where, chance.choice([1, 4, 40, 4096]))
         self.ask(0)
 
     def build(self):
@@ -155,6 +188,7 @@ class ForkProgram(LibraryProgram):
     waiting. It has code in up to three pages, its answers in the next one, and two pages behind that."""
 
     log_at = 0x803000
+    page_ends = [0x803000, 0x804000, 0x805000]
     depth_max = 3
 
     def __init__(self, chance):
@@ -244,6 +278,17 @@ class ForkProgram(LibraryProgram):
                 self.end()
                 self.code = self.code[:begin - 4] + word(len(self.code) - begin) + self.code[begin:]
 
+    def hand_over(self):
+        """Bytes are handed over to a page that is there, mostly, and may wait to be copied, or to two, and are read; or they are
+        printed."""
+        chance = self.chance
+        page = self.usually(0.85, [self.log_at + 0x1000, self.log_at + 0x2000, STACK], PAGES[:3])
+        where = page + chance.choice([0, 1, 4, 0x7F2, 0xF78, 0xF79, 0xF7C, 0xFFC, 0xFFF, -1, -4, -0x85])
+        self.ask(*chance.choice([(12, 0, where, 1), (15, 1, where), (13, 1, where, chance.choice(LENGTHS))]))
+        self.log()
+        self.code += b"\xa1" + word(min(max(where, page), page + 0xFFC))
+        self.log()
+
     def write(self):
         """A word or a byte is written, or many, to a page that is there, mostly."""
         chance = self.chance
@@ -294,7 +339,7 @@ class ForkProgram(LibraryProgram):
             self.ask(7)
         for _ in range(chance.choice([1, 1, 2, 3])):
             self.fork()
-            self.write()
+            chance.choice([self.write, self.hand_over])()
 
     def many(self):
         """Children are made until it is refused; each waits for a message, or ends."""
@@ -316,10 +361,10 @@ class ForkProgram(LibraryProgram):
         return b"\xba" + word(0) + b"\xb9" + word(0) + b"\xb8" + word(9) + b"\xcd\x40"
 
     def acts(self, count):
-        kinds = [self.service, self.access, self.new_page_used, self.stack, self.write, self.fork, self.exchange]
+        kinds = [self.service, self.access, self.new_page_used, self.stack, self.write, self.hand_over, self.fork, self.exchange]
         for _ in range(count):
             if len(self.code) < 0x2000:
-                self.chance.choices(kinds, [6, 1, 3, 1, 6, 0 if self.depth == self.depth_max else 2, 1])[0]()
+                self.chance.choices(kinds, [6, 1, 3, 1, 5, 3, 0 if self.depth == self.depth_max else 2, 1])[0]()
 
     def build(self):
         chance = self.chance

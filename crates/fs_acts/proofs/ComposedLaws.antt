@@ -1,42 +1,9 @@
--- The laws from which the acts follow, together, and the acts.
+-- The acts, by the laws of their changes.
 use Rattle.fs_acts.specs.BlockLaws.{BlockActsAreActs, ChangesKeepDisks, ActsGoOn, PutsStayWithin}
-use Rattle.fs_acts.proofs.DiskCounts.{disks-counted}
-use Rattle.fs_acts.proofs.FreeCounted.{blocks-counted}
-use Rattle.fs_acts.proofs.Ways.{ways-lead}
-use Rattle.fs_acts.proofs.WayNames.{ways-names}
-use Rattle.fs_acts.proofs.Paths.{paths-lead}
-use Rattle.fs_acts.proofs.FilePuts.{overwrites-acts, fills-acts}
-use Rattle.fs_acts.proofs.FileData.{cuts-acts}
-use Rattle.fs_acts.proofs.IndirectTaken.{taken-indirect}
-use Rattle.fs_acts.proofs.Indirects.{given-indirect}
-use Rattle.fs_acts.proofs.MoreFiles.{taken-zeros}
-use Rattle.fs_acts.proofs.MoreSlots.{taken-empty}
-use Rattle.fs_acts.proofs.Given.{given-blocks}
-use Rattle.fs_acts.proofs.Made.{makes-acts}
-use Rattle.fs_acts.proofs.Removed.{empties-removed}
-use Rattle.fs_acts.proofs.ComposedSteps.{ChangesAreActs}
 use Rattle.fs_acts.proofs.ComposedActs.{acts-are-acts, changes-keep-disks}
+use Rattle.fs_acts.proofs.ComposedChanges.{changes-acts}
 use Rattle.fs_acts.proofs.ComposedLeftActs.{acts-go-on}
 use Rattle.fs_acts.proofs.ComposedWithin.{puts-stay-within}
-
-changes-acts : ChangesAreActs
-changes-acts = record {
-  counted = disks-counted;
-  blocks = blocks-counted;
-  ways = ways-lead;
-  names = ways-names;
-  paths = paths-lead;
-  overwrites = overwrites-acts;
-  cuts = cuts-acts;
-  fills = fills-acts;
-  taken_indirect = taken-indirect;
-  given_indirect = given-indirect;
-  taken_blocks = taken-zeros;
-  taken_records = taken-empty;
-  given_blocks = given-blocks;
-  made = makes-acts;
-  emptied = empties-removed;
-}
 
 pub block-acts : BlockActsAreActs
 block-acts = acts-are-acts changes-acts

@@ -46,6 +46,7 @@ pub mod ChangesWithin
 pub mod ComposedTrees
 pub mod ComposedBytes
 pub mod ComposedSteps
+pub mod ComposedChanges
 pub mod ComposedRecords
 pub mod ComposedSizes
 pub mod ComposedFiles

@@ -44,14 +44,14 @@ use Rattle.fs_cache.proofs.Interfaces.{BlockIsRead, BlockIsWritten, IsServer, vi
 
 -- ---- the bits of a block's entry
 
-abbrev bits : Bool → Bool → ℕ
+abbrev pub bits : Bool → Bool → ℕ
 bits used dirty = page_perm + (if used then PTE_A else 0) + (if dirty then PTE_D else 0)
 
-abbrev marked : Access → Entry → Entry
+abbrev pub marked : Access → Entry → Entry
 marked access e = record e { perm = bit_or e.perm (access_bits access) }
 
 module _ (e : Entry) (is : IsBlockEntry e) where
-  block_allows : (access : Access) → allows e.perm access ≡ true
+  pub block_allows : (access : Access) → allows e.perm access ≡ true
   block_allows access = ap (λ (perm : ℕ). allows perm access) is.bits ∙ by_bits is.used is.written access
     where
       by_bits : (used dirty : Bool) (a : Access) → allows (bits used dirty) a ≡ true
@@ -64,18 +64,17 @@ module _ (e : Entry) (is : IsBlockEntry e) where
       by_bits false true Write = refl
       by_bits false false Write = refl
 
-  written_entry : IsBlockEntry (marked Write e)
-  written_entry = record {
-    used = true;
-    written = true;
-    bits = ap (λ (perm : ℕ). bit_or perm (access_bits Write)) is.bits ∙ by_bits is.used is.written;
-  }
+  pub write_bits : (marked Write e).perm ≡ bits true true
+  write_bits = ap (λ (perm : ℕ). bit_or perm (access_bits Write)) is.bits ∙ by_bits is.used is.written
     where
       by_bits : (used dirty : Bool) → bit_or (bits used dirty) (access_bits Write) ≡ bits true true
       by_bits true true = refl
       by_bits true false = refl
       by_bits false true = refl
       by_bits false false = refl
+
+  pub written_entry : IsBlockEntry (marked Write e)
+  written_entry = record { used = true; written = true; bits = write_bits }
 
   read_bits : (marked Read e).perm ≡ bits true is.written
   read_bits = ap (λ (perm : ℕ). bit_or perm (access_bits Read)) is.bits ∙ by_bits is.used is.written
@@ -86,11 +85,11 @@ module _ (e : Entry) (is : IsBlockEntry e) where
       by_bits false true = refl
       by_bits false false = refl
 
-  read_entry : IsBlockEntry (marked Read e)
+  pub read_entry : IsBlockEntry (marked Read e)
   read_entry = record { used = true; written = is.written; bits = read_bits }
 
   -- a read leaves it as dirty as it was, and used
-  read_dirty : has_bit (marked Read e).perm PTE_D ≡ has_bit e.perm PTE_D
+  pub read_dirty : has_bit (marked Read e).perm PTE_D ≡ has_bit e.perm PTE_D
   read_dirty =
       ap (λ (perm : ℕ). has_bit perm PTE_D) read_bits ∙ by_bits is.used is.written ∙ sym (ap (λ (perm : ℕ). has_bit perm PTE_D) is.bits)
     where

@@ -8,6 +8,7 @@ use Rattle.fs_layout.specs.DiskImage.{block_count, blocks_needed, has_indirect, 
 use Rattle.fs_layout.specs.DiskFiles.{file_bytes, free_blocks, node_of, records_at}
 use Rattle.fs_layout.proofs.FileTrees.{records_from-listed}
 use Rattle.fs_acts.specs.BlockActs.{Change, fill, take_indirect, take_block, take_blocks, growth}
+use Rattle.fs_acts.proofs.ComposedChanges.{changes-acts}
 use Rattle.fs_acts.proofs.ComposedCreates.{directory-kept, one-taken, takes-both-records, unfilled}
 use Rattle.fs_acts.proofs.ComposedRecords.{directory-is}
 use Rattle.fs_acts.proofs.ComposedSizes.{idle, mark-counted, mark-grows, more-blocks, room-left, still-free}
@@ -16,7 +17,7 @@ use Rattle.fs_jobs.specs.declared.place.Job.{Job}
 use Rattle.fs_changes.specs.ChangePlans.{gives_back}
 use Rattle.fs_runs.specs.TreeRuns.{Memory}
 use Rattle.fs_runs.proofs.Pieces.{with_disk}
-use Rattle.fs_runs.proofs.JobsFacts.{Found, laws, read_now}
+use Rattle.fs_runs.proofs.JobsFacts.{Found, read_now}
 use Rattle.fs_runs.proofs.JobsChanges.{Keeps, Takes, comes-taken, keeps-now}
 use Rattle.fs_runs.proofs.JobsSizes.{Doing, Has, Run, comes-idle, free-there, marking, ran, run-append, run-one, works}
 
@@ -34,8 +35,8 @@ takes-records {count} {j} {home} {way} m list indirect does has back free =
     let long : ℕ = RECORDSIZE * length list in
     let end : ℕ = long + BLKSIZE in
     let both : List (Option NamedNode) = list ++ replicate BLKFILES None in
-    let is = directory-is laws size m.disk way home list indirect has.holds in
-    let pair = takes-both-records laws size m.disk way home list indirect has.holds does.short free in
+    let is = directory-is changes-acts size m.disk way home list indirect has.holds in
+    let pair = takes-both-records changes-acts size m.disk way home list indirect has.holds does.short free in
     let mark : Bool = pair.first.mark in
     let more : long < end = omega arith in
     let above : blocks_of long < blocks_of end = more-blocks long end is.whole more in
@@ -49,8 +50,8 @@ takes-records {count} {j} {home} {way} m list indirect does has back free =
     (free-there indirect (needs_indirect end) (blocks_of long) (blocks_of end) (free_blocks m.disk) above free)) in
     let mid : Memory = with_disk m (left_by (take_indirect home ∷ []) m.disk) in
     let next : Has count way home mid (a_directory (records_from list) mark) = ran has one in
-    let now = directory-is laws size mid.disk way home list mark next.holds in
-    let kept = directory-kept laws size m.disk way home list indirect mark (take_indirect home ∷ []) has.holds pair.first.turns in
+    let now = directory-is changes-acts size mid.disk way home list mark next.holds in
+    let kept = directory-kept changes-acts size m.disk way home list indirect mark (take_indirect home ∷ []) has.holds pair.first.turns in
     let still : Keeps j (read_now home end mid.disk) = keeps-now j home end mid.disk (λ so. never (gives_back j) back so) in
     let counted : (blocks_needed mid.disk home < NDIRECT) ⊎ (has_indirect mid.disk home ≡ true) =
     subst (λ (n : ℕ). (blocks_of n < NDIRECT) ⊎ (has_indirect mid.disk home ≡ true)) (sym now.size)
@@ -86,14 +87,14 @@ grows-directory {count} {j} {home} {way} m list indirect does has back free =
     let long : ℕ = RECORDSIZE * length list in
     let end : ℕ = long + BLKSIZE in
     let both : List (Option NamedNode) = list ++ replicate BLKFILES None in
-    let is = directory-is laws size m.disk way home list indirect has.holds in
+    let is = directory-is changes-acts size m.disk way home list indirect has.holds in
     let most : ℕ = min end (BLKSIZE * blocks_needed m.disk home) in
     let none = unfilled m.disk home most (full (size_of m.disk home) long is.size is.whole) in
     let one : Run count j home end way m (fill home most ∷ []) (a_directory (records_from list) indirect) =
     run-one m (fill home most) (a_directory (records_from list) indirect)
     (idle size m.disk way home (a_directory (records_from list) indirect) (fill home most) has.holds none)
     (comes-idle count j home end m (fill home most) none) in
-    let kept = directory-kept laws size m.disk way home list indirect indirect (fill home most ∷ []) has.holds one.turns in
+    let kept = directory-kept changes-acts size m.disk way home list indirect indirect (fill home most ∷ []) has.holds one.turns in
     let second =
     takes-records (with_disk m (left_by (fill home most ∷ []) m.disk)) list indirect does (ran has one) back
     (still-free (blocks_taken long indirect) (blocks_taken long indirect) (blocks_taken end (indirect || needs_indirect end))
@@ -143,7 +144,7 @@ has-directory {count} {way} {home} {m} found kind =
               sound = found.sound.disk;
               stands = found.stands;
               is =
-                  laws.ways (BLKSIZE * count) m.disk found.sound.disk way
+                  changes-acts.ways (BLKSIZE * count) m.disk found.sound.disk way
                   ∙ ap (option_map (node_of (records_at depth m.disk) m.disk)) found.stands
                   ∙ ap {B = Option Node} (λ (b : Bool). Some (if b then a_directory records mark else a_file (file_bytes m.disk home) mark)) kind
                   ∙ ap {B = Option Node} (λ (r : Records). Some (a_directory r mark)) (sym (records_from-listed records));

@@ -9,25 +9,11 @@ use Rattle.fs_layout.specs.DiskImage.{block_count, block_number_at, blocks_neede
 use Rattle.fs_layout.specs.DiskImage.{is_data_block, is_good_count, none_named, root_place, size_of}
 use Rattle.fs_acts.specs.BlockActs.{place_at}
 use Rattle.fs_acts.specs.BlockLaws.{own_times}
-use Rattle.fs_acts.proofs.ComposedSteps.{ChangesAreActs}
 use Rattle.fs_acts.proofs.AtEnd.{at-end}
 use Rattle.fs_acts.proofs.Named.{own-both, own-one, own-indirect}
 use Rattle.fs_acts.proofs.OneWay.{way-is}
-use Rattle.fs_acts.proofs.DiskCounts.{disks-counted, image-counted, super-met}
-use Rattle.fs_acts.proofs.FreeCounted.{blocks-counted}
-use Rattle.fs_acts.proofs.Ways.{ways-lead}
-use Rattle.fs_acts.proofs.WayNames.{ways-names}
-use Rattle.fs_acts.proofs.Paths.{paths-lead}
-use Rattle.fs_acts.proofs.FilePuts.{overwrites-acts, fills-acts}
-use Rattle.fs_acts.proofs.FileData.{cuts-acts}
+use Rattle.fs_acts.proofs.DiskCounts.{image-counted, super-met}
 use Rattle.fs_acts.proofs.FileRecords.{Stands, stands-at}
-use Rattle.fs_acts.proofs.IndirectTaken.{taken-indirect}
-use Rattle.fs_acts.proofs.Indirects.{given-indirect}
-use Rattle.fs_acts.proofs.MoreFiles.{taken-zeros}
-use Rattle.fs_acts.proofs.MoreSlots.{taken-empty}
-use Rattle.fs_acts.proofs.Given.{given-blocks}
-use Rattle.fs_acts.proofs.Made.{makes-acts}
-use Rattle.fs_acts.proofs.Removed.{empties-removed}
 use Rattle.fs_jobs.specs.declared.place.Changed.{Changed}
 use Rattle.fs_jobs.specs.declared.place.Job.{Job}
 use Rattle.fs_jobs.specs.TreeBounds.{is_bounded_changed, is_bounded_job, is_block, is_place}
@@ -37,7 +23,7 @@ use Rattle.fs_runs.proofs.Pieces.{IndirectsAreGiven, IndirectsAreTaken, IsCounte
 use Rattle.fs_runs.proofs.Pieces.{NumbersAreFound, NumbersAreRead, PathsAreRead, PlacesLie, RecordsAreEmptied, RecordsAreMade, SizesAreCut}
 use Rattle.fs_runs.proofs.Pieces.{StatsAreTold, SupersAreRead, WalksFind, WalksMiss, WalksStray}
 
--- ---- the pieces, and the laws of changes
+-- ---- the pieces
 
 pub record Pieces : Type 0 where
   pub paths_are_read : PathsAreRead
@@ -62,25 +48,6 @@ pub record Pieces : Type 0 where
   pub stats_are_told : StatsAreTold
   pub records_are_made : RecordsAreMade
   pub records_are_emptied : RecordsAreEmptied
-
-pub laws : ChangesAreActs
-laws = record {
-  counted = disks-counted;
-  blocks = blocks-counted;
-  ways = ways-lead;
-  names = ways-names;
-  paths = paths-lead;
-  overwrites = overwrites-acts;
-  cuts = cuts-acts;
-  fills = fills-acts;
-  taken_indirect = taken-indirect;
-  given_indirect = given-indirect;
-  taken_blocks = taken-zeros;
-  taken_records = taken-empty;
-  given_blocks = given-blocks;
-  made = makes-acts;
-  emptied = empties-removed;
-}
 
 -- ---- the disk
 

@@ -15,6 +15,7 @@ use Rattle.fs_layout.specs.DiskFiles.{file_bytes, free_blocks}
 use Rattle.fs_layout.proofs.FileBytes.{length-resized}
 use Rattle.fs_acts.specs.BlockActs.{Planned, blocks_grown, empty_it, growth, of_file, overwrite, place_at, planned, planned_if_it_fits}
 use Rattle.fs_acts.specs.BlockActs.{read_plan, resizing, size_plan, stat_plan, turned_down, write_plan, write_some, written}
+use Rattle.fs_acts.proofs.ComposedChanges.{changes-acts}
 use Rattle.fs_acts.proofs.ComposedFiles.{ends-past, not-past}
 use Rattle.fs_acts.proofs.ComposedRecords.{file-at, file-is}
 use Rattle.fs_acts.proofs.ComposedSteps.{left_by, left_by-append}
@@ -33,7 +34,7 @@ use Rattle.fs_jobs.specs.TreeTests.{refused}
 use Rattle.fs_runs.proofs.Leads.{Leads, leads_to_end}
 use Rattle.fs_runs.proofs.Pieces.{BytesLieApart, EndsWith, HasBytes, at_file, with_disk}
 use Rattle.fs_runs.proofs.JobsFacts.{Facts, Found, Pieces, bounded-changed, bounded-now, changed, count-small, facts, home-small}
-use Rattle.fs_runs.proofs.JobsFacts.{indirect-small, laws, read_now, size-small}
+use Rattle.fs_runs.proofs.JobsFacts.{indirect-small, read_now, size-small}
 use Rattle.fs_runs.proofs.JobsRuns.{before, bounded-file}
 use Rattle.fs_runs.proofs.JobsChanges.{Unmarked}
 use Rattle.fs_runs.proofs.JobsSizes.{Doing, Has, Run, grows, has-found, ran, resizes}
@@ -49,7 +50,7 @@ has-file {count} {way} {home} {m} found regular =
     record {
       small = found.sound.small;
       count_is = found.sound.count_is;
-      holds = file-at laws (BLKSIZE * count) m.disk way home found.sound.disk found.stands regular;
+      holds = file-at changes-acts (BLKSIZE * count) m.disk way home found.sound.disk found.stands regular;
     }
 
 -- what is done to the file at a way, and what is refused where it is a directory
@@ -70,7 +71,7 @@ fits-bytes : {count : ℕ} {way : List ℕ} {home : ℕ} {m : Memory} →
     nat_le (wanted - blocks_taken (size_of m.disk home) (has_indirect m.disk home)) (free_blocks m.disk) ≡ true →
     wanted ≤ blocks_taken (length (file_bytes m.disk home)) (has_indirect m.disk home) + free_blocks m.disk
 fits-bytes {count} {way} {home} {m} found regular wanted fit =
-    let is = file-is laws (BLKSIZE * count) m.disk way home (file_bytes m.disk home) (has_indirect m.disk home) (has-file found regular).holds in
+    let is = file-is changes-acts (BLKSIZE * count) m.disk way home (file_bytes m.disk home) (has_indirect m.disk home) (has-file found regular).holds in
     subst (λ (n : ℕ). wanted ≤ blocks_taken n (has_indirect m.disk home) + free_blocks m.disk) (sym is.long)
     (within (blocks_taken (size_of m.disk home) (has_indirect m.disk home)) wanted (free_blocks m.disk) fit)
 
@@ -97,7 +98,7 @@ resized-ends pieces count way home end m found regular short free size indirect 
     resizes does refl m bytes (has_indirect m.disk home) has free in
     let after : Memory = with_disk m (left_by (resizing m.disk home end) m.disk) in
     let now = ran has run in
-    let is = file-is laws (BLKSIZE * count) after.disk way home (resized bytes end) (needs_indirect end) now.holds in
+    let is = file-is changes-acts (BLKSIZE * count) after.disk way home (resized bytes end) (needs_indirect end) now.holds in
     let then_known = facts pieces count way home after (has-found now) in
     acts-after m (resizing m.disk home end) 0 after run.comes size indirect a b
     (λ s i c d.
@@ -402,7 +403,7 @@ write-acts pieces count way home at n m found regular low few = by (n == 0) refl
             Acts count (planned (growth m.disk home end ++ overwrite home at new ∷ []) n) m grown m
         grows-and-writes some_ short over_ lead fit =
             let has = has-file found regular in
-            let is = file-is laws (BLKSIZE * count) m.disk way home bytes (has_indirect m.disk home) has.holds in
+            let is = file-is changes-acts (BLKSIZE * count) m.disk way home bytes (has_indirect m.disk home) has.holds in
             let does : Doing count j home end = record { pieces = pieces; job = bounded; short = short } in
             let grow : Run count j home end way m (growth m.disk home end)
             (a_file (resized bytes end) (has_indirect m.disk home || needs_indirect end)) =
@@ -411,7 +412,7 @@ write-acts pieces count way home at n m found regular low few = by (n == 0) refl
             let now = ran has grow in
             let there = facts pieces count way home after (has-found now) in
             let then_is =
-            file-is laws (BLKSIZE * count) after.disk way home (resized bytes end) (has_indirect m.disk home || needs_indirect end) now.holds in
+            file-is changes-acts (BLKSIZE * count) after.disk way home (resized bytes end) (has_indirect m.disk home || needs_indirect end) now.holds in
             let size_is : size_of after.disk home ≡ end = sym then_is.long ∙ length-resized bytes end in
             let last : ℕ → ℕ = written (overwrite home at new after.disk) after.disk in
             let ends =
@@ -478,7 +479,7 @@ remove-acts pieces count way home m found regular =
     resizes does refl m bytes (has_indirect m.disk home) has (omega arith) in
     let after : Memory = with_disk m (left_by (resizing m.disk home 0) m.disk) in
     let now = ran has run in
-    let is = file-is laws (BLKSIZE * count) after.disk way home (resized bytes 0) (needs_indirect 0) now.holds in
+    let is = file-is changes-acts (BLKSIZE * count) after.disk way home (resized bytes 0) (needs_indirect 0) now.holds in
     let there = facts pieces count way home after (has-found now) in
     let c : Changed = read_now home 0 after.disk in
     let last : ℕ → ℕ = written (empty_it home after.disk) after.disk in

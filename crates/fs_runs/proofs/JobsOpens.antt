@@ -16,6 +16,7 @@ use Rattle.fs_layout.specs.DiskFiles.{file_system_of, free_blocks}
 use Rattle.fs_acts.specs.BlockActs.{Led, a_record, blocks_grown, create_plan, create_plan_at, first_slot, growth, led_to, make_record}
 use Rattle.fs_acts.specs.BlockActs.{planned, planned_if_it_fits, resizing, size_plan, turned_down, written}
 use Rattle.fs_acts.specs.BlockLaws.{LeadsAlike}
+use Rattle.fs_acts.proofs.ComposedChanges.{changes-acts}
 use Rattle.fs_acts.proofs.ComposedCreates.{length-room}
 use Rattle.fs_acts.proofs.ComposedFiles.{not-past}
 use Rattle.fs_acts.proofs.ComposedRecords.{directory-is}
@@ -38,7 +39,7 @@ use Rattle.fs_jobs.specs.TreeTests.{refused}
 use Rattle.fs_walks.specs.WalkPlans.{changed_to, opened, size_wanted, slot_taken}
 use Rattle.fs_runs.proofs.Leads.{Leads, here, leads_on, leads_to_end, on}
 use Rattle.fs_runs.proofs.Pieces.{EndsWith, IsDirectoryOf, IsLastName, at_file, at_walk, sought, with_disk}
-use Rattle.fs_runs.proofs.JobsFacts.{Facts, Found, Pieces, blocks-now, changes-now, count-small, facts, home-small, indirect-small, laws}
+use Rattle.fs_runs.proofs.JobsFacts.{Facts, Found, Pieces, blocks-now, changes-now, count-small, facts, home-small, indirect-small}
 use Rattle.fs_runs.proofs.JobsFacts.{read_now, size-small}
 use Rattle.fs_runs.proofs.JobsRuns.{before, inside-word}
 use Rattle.fs_runs.proofs.JobsSizes.{Doing, has-found, ran}
@@ -51,7 +52,7 @@ use Rattle.fs_runs.proofs.JobsFiles.{resized-ends}
 pub led-found : (count : ℕ) (path way : List ℕ) (place : ℕ) (m : Memory) → IsSound count m → led_to m.disk path ≡ a_record place way →
     Found count way place m
 led-found count path way place m sound e =
-    let alike = laws.paths (BLKSIZE * count) m.disk sound.disk path in
+    let alike = changes-acts.paths (BLKSIZE * count) m.disk sound.disk path in
     let stands = subst (λ (led : Led). LeadsAlike m.disk led (look_up (file_system_of m.disk) path)) e alike in
     record { sound = sound; stands = stands.0 }
 
@@ -322,14 +323,14 @@ creates-behind pieces count path name directory from m state makes short lead =
         let held = has-directory makes.found makes.kind in
         let list : List (Option NamedNode) = held.0 in
         let mark : Bool = has_indirect m.disk directory in
-        let is = directory-is laws (BLKSIZE * count) m.disk makes.way directory list mark held.1.holds in
+        let is = directory-is changes-acts (BLKSIZE * count) m.disk makes.way directory list mark held.1.holds in
         let does : Doing count j directory end = record { pieces = pieces; job = bounded; short = short } in
         let run =
         grows-by-block m list mark size (sym is.size) does held.1 refl
         (within (blocks_taken size mark) (blocks_grown m.disk directory end) (free_blocks m.disk) fit) in
         let now = ran held.1 run.1 in
         let both : List (Option NamedNode) = list ++ replicate BLKFILES None in
-        let now_is = directory-is laws (BLKSIZE * count) after.disk makes.way directory both run.0 now.holds in
+        let now_is = directory-is changes-acts (BLKSIZE * count) after.disk makes.way directory both run.0 now.holds in
         let there = facts pieces count makes.way directory after (has-found now) in
         let size_is : size_of after.disk directory ≡ end = now_is.size ∙ longer (length both) (length list) (length-room list) size is.size in
         let c : Changed = read_now directory end after.disk in
@@ -383,7 +384,7 @@ creates-file pieces count path name directory from m state sound has_path last i
     held : (list : List (Option NamedNode)) × (size ≡ 256 * length list)
     held =
         let it = has-directory found is.kind in
-        (it.0, (directory-is laws (BLKSIZE * count) m.disk is.way directory it.0 (has_indirect m.disk directory) it.1.holds).size)
+        (it.0, (directory-is changes-acts (BLKSIZE * count) m.disk is.way directory it.0 (has_indirect m.disk directory) it.1.holds).size)
 
     whole_of : (size l : ℕ) → size ≡ 256 * l → size / 256 * 256 ≡ size
     whole_of size l e = omega (arith, e)

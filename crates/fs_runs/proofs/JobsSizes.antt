@@ -15,6 +15,7 @@ use Rattle.fs_acts.specs.BlockActs.{Change, Put, cut, fill, take_indirect, take_
 use Rattle.fs_acts.specs.BlockActs.{resizing, written}
 use Rattle.fs_acts.specs.BlockLaws.{Holds}
 use Rattle.fs_acts.proofs.ComposedBytes.{resized-same, resized-twice, resized-take}
+use Rattle.fs_acts.proofs.ComposedChanges.{changes-acts}
 use Rattle.fs_acts.proofs.ComposedCreates.{unfilled}
 use Rattle.fs_acts.proofs.ComposedSteps.{left_by, left_by-append, Turns, turned, turns-one, turns-append}
 use Rattle.fs_acts.proofs.ComposedRecords.{file-is}
@@ -26,7 +27,7 @@ use Rattle.fs_changes.specs.ChangePlans.{gives_back}
 use Rattle.fs_jobs.specs.TreeBounds.{is_bounded_job}
 use Rattle.fs_runs.specs.TreeRuns.{AreSmall, Memory}
 use Rattle.fs_runs.proofs.Pieces.{with_disk}
-use Rattle.fs_runs.proofs.JobsFacts.{Found, Pieces, facts, laws, read_now}
+use Rattle.fs_runs.proofs.JobsFacts.{Found, Pieces, facts, read_now}
 use Rattle.fs_runs.proofs.JobsRuns.{before, leads-small}
 use Rattle.fs_runs.proofs.JobsChanges.{Comes, Keeps, Takes, Unmarked, Works, comes-cut, comes-filled, comes-given, comes-marked, comes-none}
 use Rattle.fs_runs.proofs.JobsChanges.{comes-on}
@@ -121,12 +122,12 @@ gives {count} {j} {home} {end} {way} does back (suc k) m bytes indirect has all 
     let size : ℕ = BLKSIZE * count in
     let n : ℕ = length bytes in
     let cut_off : List ℕ = take (BLKSIZE * (blocks_of n - 1)) bytes in
-    let is = file-is laws size m.disk way home bytes indirect has.holds in
+    let is = file-is changes-acts size m.disk way home bytes indirect has.holds in
     let less : blocks_of end < blocks_of n = omega (arith, all) in
     let one : Run count j home end way m (give_block home ∷ []) (a_file cut_off indirect) =
     run-one m (give_block home) (a_file cut_off indirect)
     (turns-one size m.disk way home (a_file bytes indirect) (a_file cut_off indirect) (give_block home) has.holds
-    (laws.given_blocks size m.disk way home bytes indirect has.holds (omega (arith, less))))
+    (changes-acts.given_blocks size m.disk way home bytes indirect has.holds (omega (arith, less))))
     (comes-given does.pieces count j home end m (works does has) back (subst (λ (l : ℕ). blocks_of end < blocks_of l) is.long less)) in
     let long : length cut_off ≡ min (BLKSIZE * (blocks_of n - 1)) n = length-take (BLKSIZE * (blocks_of n - 1)) bytes in
     let left : blocks_of (length cut_off) ≡ blocks_of n - 1 = ap (λ (l : ℕ). blocks_of l) long ∙ one-less n k (blocks_of end) all in
@@ -196,8 +197,8 @@ takes-one {count} {j} {home} {end} {way} does m bytes indirect has full whole mo
     let size : ℕ = BLKSIZE * count in
     let long : ℕ = length bytes in
     let most : ℕ = min end (long + BLKSIZE) in
-    let is = file-is laws size m.disk way home bytes indirect has.holds in
-    let pair = takes-both laws size m.disk way home bytes indirect end has.holds whole more does.short is.needed free in
+    let is = file-is changes-acts size m.disk way home bytes indirect has.holds in
+    let pair = takes-both changes-acts size m.disk way home bytes indirect end has.holds whole more does.short is.needed free in
     let mark : Bool = pair.first.mark in
     let above : blocks_of long < blocks_of end = more-blocks long end whole more in
     let keeps : Keeps j (read_now home end m.disk) =
@@ -211,8 +212,8 @@ takes-one {count} {j} {home} {end} {way} does m bytes indirect has full whole mo
     (free-there indirect (needs_indirect end) (blocks_of long) (blocks_of end) (free_blocks m.disk) above free)) in
     let mid : Memory = with_disk m (left_by (take_indirect home ∷ []) m.disk) in
     let next : Has count way home mid (a_file bytes mark) = ran has one in
-    let now = file-is laws size mid.disk way home bytes mark next.holds in
-    let kept = file-kept laws size m.disk way home bytes bytes indirect mark (take_indirect home ∷ []) has.holds pair.first.turns in
+    let now = file-is changes-acts size mid.disk way home bytes mark next.holds in
+    let kept = file-kept changes-acts size m.disk way home bytes bytes indirect mark (take_indirect home ∷ []) has.holds pair.first.turns in
     let still : Keeps j (read_now home end mid.disk) =
     keeps-now j home end mid.disk
     (λ back. (
@@ -246,7 +247,7 @@ takes : {count : ℕ} {j : Job} {home end : ℕ} {way : List ℕ} → Doing coun
     Run count j home end way m (take_blocks n home end) (a_file (resized bytes end) (indirect || needs_indirect end))
 unfolding take_blocks
 takes {count} {j} {home} {end} {way} does zero m bytes indirect has full count_is free clean =
-    let is = file-is laws (BLKSIZE * count) m.disk way home bytes indirect has.holds in
+    let is = file-is changes-acts (BLKSIZE * count) m.disk way home bytes indirect has.holds in
     let long : length bytes ≡ end = omega arith in
     run-renamed bytes (resized bytes end) indirect (indirect || needs_indirect end) (run-none m (a_file bytes indirect) has)
     (sym (resized-same bytes end long))
@@ -263,7 +264,7 @@ takes {count} {j} {home} {end} {way} does (suc n) m bytes indirect has full coun
     let pair : List Change = take_indirect home ∷ take_block home end ∷ [] in
     let grown : length now ≡ most = length-resized bytes most in
     let after : blocks_of most ≡ blocks_of long + 1 = one-more long end whole more in
-    let kept = file-kept laws size m.disk way home bytes now indirect mark pair has.holds one.turns in
+    let kept = file-kept changes-acts size m.disk way home bytes now indirect mark pair has.holds one.turns in
     let same : (mark || needs_indirect end) ≡ (indirect || needs_indirect end) = or-later indirect most end (omega arith) in
     let fits : HasFree (left_by pair m.disk) now mark end =
     subst (λ (b : Bool). blocks_taken end b ≤ blocks_taken (length now) mark + free_blocks (left_by pair m.disk)) (sym same)
@@ -300,15 +301,15 @@ fills-and-takes {count} {j} {home} {end} {way} does m bytes indirect n has free 
     let size : ℕ = BLKSIZE * count in
     let most : ℕ = min end (BLKSIZE * n) in
     let filled : List ℕ = resized bytes most in
-    let is = file-is laws size m.disk way home bytes indirect has.holds in
+    let is = file-is changes-acts size m.disk way home bytes indirect has.holds in
     let one : Run count j home end way m (fill home most ∷ []) (a_file filled indirect) =
     run-one m (fill home most) (a_file filled indirect)
     (turns-one size m.disk way home (a_file bytes indirect) (a_file filled indirect) (fill home most) has.holds
-    (laws.fills size m.disk way home bytes indirect has.holds most more same))
+    (changes-acts.fills size m.disk way home bytes indirect has.holds most more same))
     (filling is.long is.mark (cases_lt (size_of m.disk home) most)) in
     let grown : length filled ≡ most = length-resized bytes most in
     let blocks : blocks_of (length filled) ≡ blocks_of (length bytes) = ap (λ (k : ℕ). blocks_of k) grown ∙ same in
-    let kept = file-kept laws size m.disk way home bytes filled indirect indirect (fill home most ∷ []) has.holds one.turns in
+    let kept = file-kept changes-acts size m.disk way home bytes filled indirect indirect (fill home most ∷ []) has.holds one.turns in
     let rest =
     takes does (blocks_of end - n) (with_disk m (left_by (fill home most ∷ []) m.disk)) filled indirect (ran has one)
     (grown ∙ full ∙ ap (λ (k : ℕ). min end (BLKSIZE * k)) (sym blocks))
@@ -338,7 +339,7 @@ pub grows : {count : ℕ} {j : Job} {home end : ℕ} {way : List ℕ} → Doing 
     Run count j home end way m (growth m.disk home end) (a_file (resized bytes end) (indirect || needs_indirect end))
 unfolding growth
 grows {count} {j} {home} {end} {way} does m bytes indirect has free back more =
-    let is = file-is laws (BLKSIZE * count) m.disk way home bytes indirect has.holds in
+    let is = file-is changes-acts (BLKSIZE * count) m.disk way home bytes indirect has.holds in
     let own : blocks_of (length bytes) ≡ blocks_needed m.disk home = ap (λ (k : ℕ). blocks_of k) is.long in
     subst (λ (n : ℕ). Run count j home end way m (fill home (min end (BLKSIZE * n)) ∷ take_blocks (blocks_of end - n) home end)
     (a_file (resized bytes end) (indirect || needs_indirect end))) own
@@ -374,8 +375,8 @@ cuts : {count : ℕ} {j : Job} {home end : ℕ} {way : List ℕ} → Doing count
     Run count j home end way m (cut home end ∷ []) (a_file (take end bytes) indirect)
 cuts {count} {j} {home} {end} {way} does back m bytes indirect has few unmarked same =
     let size : ℕ = BLKSIZE * count in
-    let is = file-is laws size m.disk way home bytes indirect has.holds in
-    run-one m (cut home end) (a_file (take end bytes) indirect) (cuts-off laws size m.disk way home bytes indirect end has.holds same)
+    let is = file-is changes-acts size m.disk way home bytes indirect has.holds in
+    run-one m (cut home end) (a_file (take end bytes) indirect) (cuts-off changes-acts size m.disk way home bytes indirect end has.holds same)
     (by is.long is.mark (cases_lt end (size_of m.disk home)))
   where
     by : length bytes ≡ size_of m.disk home → has_indirect m.disk home ≡ indirect → (end < size_of m.disk home) ⊎ (size_of m.disk home ≤ end) →
@@ -398,9 +399,9 @@ unmarks-run {count} {j} {home} {end} {way} does back m bytes indirect has few tr
     and-all false = refl
 unmarks-run {count} {j} {home} {end} {way} does back m bytes indirect has few false is =
     let size : ℕ = BLKSIZE * count in
-    let file = file-is laws size m.disk way home bytes indirect has.holds in
+    let file = file-is changes-acts size m.disk way home bytes indirect has.holds in
     run-one m (give_indirect home) (a_file bytes (indirect && false))
-    (unmarks laws size m.disk way home bytes indirect false has.holds (λ e. most (length bytes) end few (not-needed end is)))
+    (unmarks changes-acts size m.disk way home bytes indirect false has.holds (λ e. most (length bytes) end few (not-needed end is)))
     (by (has_indirect m.disk home) refl (subst (λ (n : ℕ). blocks_of n ≤ blocks_of end) file.long few))
   where
     most : (n end : ℕ) → blocks_of n ≤ blocks_of end → blocks_of end ≤ 10 → blocks_of n ≤ 10
@@ -462,7 +463,7 @@ pub resizes : {count : ℕ} {j : Job} {home end : ℕ} {way : List ℕ} → Doin
     Run count j home end way m (resizing m.disk home end) (a_file (resized bytes end) (needs_indirect end))
 unfolding resizing growth
 resizes {count} {j} {home} {end} {way} does back m bytes indirect has free =
-    let is = file-is laws (BLKSIZE * count) m.disk way home bytes indirect has.holds in
+    let is = file-is changes-acts (BLKSIZE * count) m.disk way home bytes indirect has.holds in
     let own : blocks_of (length bytes) ≡ blocks_needed m.disk home = ap (λ (k : ℕ). blocks_of k) is.long in
     subst (λ (n : ℕ). Run count j home end way m
     (replicate (n - blocks_of end) (give_block home) ++ (if needs_indirect end then [] else give_indirect home ∷ [])
@@ -504,8 +505,8 @@ resizes {count} {j} {home} {end} {way} does back m bytes indirect has free =
         (left-cut (length bytes) end (subst (λ (l : ℕ). end < l) left_is less))) in
         let last : Memory = with_disk m (left_by (cut home end ∷ []) now.disk) in
         let last_has : Has count way home last (a_file short_of mark) = ran now_has three in
-        let kept_first = file-kept laws size m.disk way home bytes left indirect mark (those ++ its) has.holds both.turns in
-        let kept_then = file-kept laws size now.disk way home left short_of mark mark (cut home end ∷ []) now_has.holds three.turns in
+        let kept_first = file-kept changes-acts size m.disk way home bytes left indirect mark (those ++ its) has.holds both.turns in
+        let kept_then = file-kept changes-acts size now.disk way home left short_of mark mark (cut home end ∷ []) now_has.holds three.turns in
         let fits : HasFree last.disk short_of mark end =
         subst (λ (b : Bool). blocks_taken end b ≤ blocks_taken (length short_of) mark + free_blocks last.disk) (sym (needed-both indirect needs))
         (still-free (blocks_taken (length short_of) mark) (blocks_taken (length short_of) mark) (blocks_taken end needs)

@@ -1,4 +1,3 @@
-pub mod TreeWords
 pub mod TiesPages
 pub mod TiesBlocks
 pub mod TiesMemory

@@ -37,7 +37,7 @@ use Rattle.fs_tree.specs.declared.steps.Done.TheVariants as done
 use Rattle.fs_tree.specs.declared.steps.TheConstants.{REQUEST}
 use Rattle.fs_jobs.specs.TreeBounds.{is_bounded}
 use Rattle.fs_tree.specs.TreeMakes.{DoesWhereTold, HasDone, IsAccess, IsOfDisk, IsOfRequest, IsStored, going, no_page, word}
-use Rattle.fs_tree.specs.TreePlaces.{registers_with, state_in, words_with}
+use Rattle.fs_places.specs.TreePlaces.{registers_with, state_in, words_with}
 use Rattle.fs_runs.specs.TreePlans.{ask_at, next_at}
 use Rattle.fs_runs.specs.TreeRuns.{IsInside, memory_after, reply_of}
 use Rattle.fs_tree.specs.TreeSteps.{IsLawful, IsWaiting, StepsWhereTold, TreeAt, answers, goes, job_in, lacks, memory_in, waits}

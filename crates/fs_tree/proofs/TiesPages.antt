@@ -1,12 +1,12 @@
 -- What an access to a page does that may be read and written, as a block's page: it sets bits of the page's entry, and puts bytes into its frame.
-use Rattle.std.proofs.Common.{◌≡◌, ◌∙◌, ◌+◌, ◌*◌, ◌/◌, ◌<◌, ◌≤◌, ℕ, Bool, true, false, List, [], ◌∷◌, length, Option, Some, Result, Ok, Err}
-use Rattle.std.proofs.Common.{refl, sym, ap, arith, if◌then◌else◌}
+use Rattle.std.proofs.Common.{◌≡◌, ◌∙◌, ◌+◌, ◌*◌, ◌/◌, ◌<◌, ◌≤◌, ℕ, true, false, List, [], ◌∷◌, length, Option, Some, Result, Ok, Err}
+use Rattle.std.proofs.Common.{refl, sym, ap, arith}
 use Rattle.std.proofs.lemmas.Bool.Decides.{nat_tests}
-use Rattle.std.specs.Prelude.{bit_or, is_some, nat_lt, slice_index}
+use Rattle.std.specs.Prelude.{is_some, nat_lt, slice_index}
 use Rattle.std.specs.Int.{w32, to_le_bytes, from_le_bytes}
 use Rattle.jos_base.specs.declared.memory.Access.{Access}
 use Rattle.jos_base.specs.declared.memory.Access.TheVariants.{Read, Write}
-use Rattle.jos_base.specs.declared.numbers.TheConstants.{NPTENTRIES, PGSIZE, PTE_A, PTE_D}
+use Rattle.jos_base.specs.declared.numbers.TheConstants.{NPTENTRIES, PGSIZE, PTE_D}
 use Rattle.jos_base.specs.Counting.{page_limit}
 use Rattle.jos_base.specs.Environments.{records_of}
 use Rattle.jos_base.specs.KernelState.{KernelState, slot_at, with_spaces}
@@ -24,66 +24,18 @@ use Rattle.lib_os.specs.UserCalls.{user_byte, user_word, with_bytes_put, with_us
 use Rattle.lib_os.proofs.BytesPut.{bytes_put, page_put, put_is, spaces_put}
 use Rattle.lib_os.proofs.Slots.{upd-back}
 use Rattle.lib_os.proofs.Touching.{region_quiet}
-use Rattle.fs_cache.specs.CachePlans.{page_perm}
 use Rattle.fs_cache.specs.CacheStands.{IsBlockEntry}
+use Rattle.fs_cache.proofs.BlockMoves.{block_allows, marked, read_dirty, read_entry, write_bits, written_entry}
 
--- ---- the bits of the entry
-
-abbrev bits : Bool → Bool → ℕ
-bits used dirty = page_perm + (if used then PTE_A else 0) + (if dirty then PTE_D else 0)
-
-abbrev pub marked : Access → Entry → Entry
-marked access e = record e { perm = bit_or e.perm (access_bits access) }
+-- ---- the entry
 
 module _ (e : Entry) (is : IsBlockEntry e) where
-  pub block_allows : (access : Access) → allows e.perm access ≡ true
-  block_allows access = ap (λ (perm : ℕ). allows perm access) is.bits ∙ by_bits is.used is.written access
-    where
-      by_bits : (used dirty : Bool) (a : Access) → allows (bits used dirty) a ≡ true
-      by_bits true true Read = refl
-      by_bits true false Read = refl
-      by_bits false true Read = refl
-      by_bits false false Read = refl
-      by_bits true true Write = refl
-      by_bits true false Write = refl
-      by_bits false true Write = refl
-      by_bits false false Write = refl
-
-  write_bits : (marked Write e).perm ≡ bits true true
-  write_bits = ap (λ (perm : ℕ). bit_or perm (access_bits Write)) is.bits ∙ by_bits is.used is.written
-    where
-      by_bits : (used dirty : Bool) → bit_or (bits used dirty) (access_bits Write) ≡ bits true true
-      by_bits true true = refl
-      by_bits true false = refl
-      by_bits false true = refl
-      by_bits false false = refl
-
-  read_bits : (marked Read e).perm ≡ bits true is.written
-  read_bits = ap (λ (perm : ℕ). bit_or perm (access_bits Read)) is.bits ∙ by_bits is.used is.written
-    where
-      by_bits : (used dirty : Bool) → bit_or (bits used dirty) (access_bits Read) ≡ bits true dirty
-      by_bits true true = refl
-      by_bits true false = refl
-      by_bits false true = refl
-      by_bits false false = refl
-
   marked_entry : (access : Access) → IsBlockEntry (marked access e)
-  marked_entry Read = record { used = true; written = is.written; bits = read_bits }
-  marked_entry Write = record { used = true; written = true; bits = write_bits }
-
-  -- a read leaves it as dirty as it was
-  read_dirty : has_bit (marked Read e).perm PTE_D ≡ has_bit e.perm PTE_D
-  read_dirty =
-      ap (λ (perm : ℕ). has_bit perm PTE_D) read_bits ∙ by_bits is.used is.written ∙ sym (ap (λ (perm : ℕ). has_bit perm PTE_D) is.bits)
-    where
-      by_bits : (used dirty : Bool) → has_bit (bits true dirty) PTE_D ≡ has_bit (bits used dirty) PTE_D
-      by_bits true true = refl
-      by_bits true false = refl
-      by_bits false true = refl
-      by_bits false false = refl
+  marked_entry Read = read_entry e is
+  marked_entry Write = written_entry e is
 
   write_dirty : has_bit (marked Write e).perm PTE_D ≡ true
-  write_dirty = ap (λ (perm : ℕ). has_bit perm PTE_D) write_bits
+  write_dirty = ap (λ (perm : ℕ). has_bit perm PTE_D) (write_bits e is)
 
 -- ---- the page
 

@@ -32,11 +32,11 @@ use Rattle.fs_cache.proofs.CacheWords.{first_eight}
 use Rattle.fs_cache.proofs.Interfaces.{IsServer, view_in}
 use Rattle.fs_cache.proofs.Loads.{loads_give}
 use Rattle.fs_cache.proofs.Views.{IsFetching}
-use Rattle.fs_tree.specs.TreePlaces.{state_in}
+use Rattle.fs_places.specs.TreePlaces.{state_in}
 use Rattle.fs_tree.specs.TreeSteps.{HasRequest, IsWaiting, TreeAt, disk_bytes, job_in, request_bytes}
 use Rattle.fs_tree.proofs.TiesCalls.{RequestKept, entry_asked, map_asked, page_asked_of, read_asked, region_asked, sent_asked, unmap_asked}
 use Rattle.fs_tree.proofs.TiesWords.{request_bytes_set, request_set}
-use Rattle.fs_tree.proofs.TreeWords.{state_alike}
+use Rattle.fs_places.proofs.TreeWords.{state_alike}
 
 -- ---- the call
 

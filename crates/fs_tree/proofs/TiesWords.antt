@@ -18,10 +18,10 @@ use Rattle.fs_cache.specs.declared.place.CacheState.{CacheState}
 use Rattle.fs_cache.specs.CachePlaces.{place_in, state_in as cache_in}
 use Rattle.fs_cache.specs.CacheStands.{CacheAt, CacheStands, cache_view, cached_at, cached_in}
 use Rattle.fs_jobs.specs.declared.place.TreeState.{TreeState}
-use Rattle.fs_tree.specs.TreePlaces.{registers_with, state_in, words_with}
+use Rattle.fs_places.specs.TreePlaces.{registers_with, state_in, words_with}
 use Rattle.fs_tree.specs.TreeSteps.{HasRequest, TreeAt, disk_bytes, job_in, memory_in, request_bytes}
 use Rattle.fs_tree.proofs.TiesBlocks.{request_number, request_same}
-use Rattle.fs_tree.proofs.TreeWords.{last_four, length_with, state_told}
+use Rattle.fs_places.proofs.TreeWords.{last_four, length_with, state_told}
 
 -- ---- a slot that is set
 

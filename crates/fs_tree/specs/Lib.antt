@@ -1,3 +1,2 @@
-pub mod TreePlaces
 pub mod TreeSteps
 pub mod TreeMakes

@@ -21,7 +21,7 @@ use Rattle.fs_tree.specs.declared.steps.Acted.{Acted}
 use Rattle.fs_tree.specs.declared.steps.Acted.TheVariants as acted
 use Rattle.fs_tree.specs.declared.steps.TheConstants.{REQUEST}
 use Rattle.fs_jobs.specs.TreeBounds.{is_bounded}
-use Rattle.fs_tree.specs.TreePlaces.{state_in}
+use Rattle.fs_places.specs.TreePlaces.{state_in}
 use Rattle.fs_runs.specs.TreePlans.{ask_at, next_at}
 use Rattle.fs_runs.specs.TreeRuns.{IsInside, Memory, memory_after, reply_of}
 

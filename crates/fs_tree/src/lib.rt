@@ -6,7 +6,5 @@
 #![tactic(auto)]
 
 mod steps;
-mod words;
 
 pub use steps::{Acted, REQUEST, tree_step};
-pub use words::{begin, find_state, with_state};

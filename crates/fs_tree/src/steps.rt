@@ -9,13 +9,13 @@ ghost use Rattle.lib_os.specs.Disk.{HasBlocks};
 ghost use Rattle.lib_os.specs.InOrder.{IsInOrder};
 ghost use Rattle.lib_os.specs.UserCalls.{HasStopCause, output};
 ghost use Rattle.fs_tree.specs.TreeMakes as makes;
-ghost use Rattle.fs_tree.specs.TreePlaces as places;
+ghost use Rattle.fs_places.specs.TreePlaces as places;
 ghost use Rattle.fs_tree.specs.TreeSteps.{StepsWhereTold};
 
-use crate::words::{find_state, with_state};
 use fs_cache::{Cached, block_step};
 use fs_jobs::{TreeAsk, TreeNext, TreeState, is_bounded, negated};
 use fs_layout::BLKSIZE;
+use fs_places::{find_state, with_state};
 use fs_runs::{ask_at, next_at};
 use jos_base::{E_INVAL, E_NO_MEM, PGSIZE, SYS_GETENVID};
 use jos_host::{Failed, Host};

@@ -1,13 +1,19 @@
 -- What programs are made of, and the image of a program.
-use Rattle.std.specs.Prelude.{ℕ, false, List, [], ◌∷◌, length, None}
+use Rattle.std.specs.Prelude.{ℕ, false, List, [], ◌∷◌, ◌++◌, length, None}
+use Rattle.jos_base.specs.declared.numbers.TheConstants.{T_SERVICE}
+use Rattle.jos_isa.specs.Moves.{mov}
 use Rattle.jos_isa.specs.declared.instruction.Insn.{Insn}
-use Rattle.jos_isa.specs.declared.instruction.Row.TheVariants.{IntImm8, MovRm8Imm8, MovAlAddr, MovR8Imm8, TestRm32R32, PushR32}
-use Rattle.jos_isa.specs.declared.instruction.Row.TheVariants.{MovRm32R32}
+use Rattle.jos_isa.specs.declared.instruction.Row.TheVariants.{IntImm8, MovRm8Imm8, MovAlAddr, MovR8Imm8, MovRm32R32}
+use Rattle.jos_isa.specs.declared.instruction.Row.TheVariants.{TestRm8R8, TestRm32R32, PushR32, PopR32, DecR32, AluRm32R32}
+use Rattle.jos_isa.specs.declared.instruction.Row.TheVariants.{Lodsb, Stosb}
 use Rattle.jos_isa.specs.declared.instruction.Repeat.TheVariants.{Once}
 use Rattle.jos_isa.specs.declared.instruction.Operand.TheVariants.{Absent, Reg, Mem}
 use Rattle.jos_isa.specs.declared.instruction.Disp.TheVariants.{Word}
+use Rattle.jos_asm.specs.declared.item.Item.{Item}
+use Rattle.jos_asm.specs.declared.item.Item.TheVariants as item
+use Rattle.jos_asm.specs.Program.{Program}
 use Rattle.jos_elf.specs.Written.{written}
-use Rattle.jos_demo.specs.declared.code.TheConstants.{TEXT, EAX, EDX, AH}
+use Rattle.jos_demo.specs.declared.code.TheConstants.{TEXT, EAX, AL, ADD, SUB}
 
 -- int vector
 abbrev pub int : ℕ → Insn
@@ -27,9 +33,21 @@ store_byte va byte = record {
 abbrev pub load_al : ℕ → Insn
 load_al va = record { row = MovAlAddr; repeat = Once; operand = Absent; reg = 0; imm = va }
 
--- mov ah, byte
-abbrev pub mov_ah : ℕ → Insn
-mov_ah byte = record { row = MovR8Imm8; repeat = Once; operand = Absent; reg = AH; imm = byte }
+-- mov reg, byte: AL, CL, DL, BL, AH, CH, DH or BH
+abbrev pub mov_byte : ℕ → ℕ → Insn
+mov_byte reg byte = record { row = MovR8Imm8; repeat = Once; operand = Absent; reg = reg; imm = byte }
+
+-- lodsb
+abbrev pub lodsb : Insn
+lodsb = record { row = Lodsb; repeat = Once; operand = Absent; reg = 0; imm = 0 }
+
+-- stosb
+abbrev pub stosb : Insn
+stosb = record { row = Stosb; repeat = Once; operand = Absent; reg = 0; imm = 0 }
+
+-- test al, al
+abbrev pub test_al : Insn
+test_al = record { row = TestRm8R8; repeat = Once; operand = Reg AL; reg = AL; imm = 0 }
 
 -- test eax, eax
 abbrev pub test_eax : Insn
@@ -39,9 +57,34 @@ test_eax = record { row = TestRm32R32; repeat = Once; operand = Reg EAX; reg = E
 abbrev pub push_eax : Insn
 push_eax = record { row = PushR32; repeat = Once; operand = Absent; reg = EAX; imm = 0 }
 
--- mov edx, from
-abbrev pub mov_edx : ℕ → Insn
-mov_edx from = record { row = MovRm32R32; repeat = Once; operand = Reg EDX; reg = from; imm = 0 }
+-- pop reg
+abbrev pub pop : ℕ → Insn
+pop reg = record { row = PopR32; repeat = Once; operand = Absent; reg = reg; imm = 0 }
+
+-- dec reg
+abbrev pub dec : ℕ → Insn
+dec reg = record { row = DecR32; repeat = Once; operand = Absent; reg = reg; imm = 0 }
+
+-- mov to, from
+abbrev pub mov_register : ℕ → ℕ → Insn
+mov_register to from = record { row = MovRm32R32; repeat = Once; operand = Reg to; reg = from; imm = 0 }
+
+-- add to, from
+abbrev pub add_register : ℕ → ℕ → Insn
+add_register to from = record { row = AluRm32R32 ADD; repeat = Once; operand = Reg to; reg = from; imm = 0 }
+
+-- sub to, from
+abbrev pub sub_register : ℕ → ℕ → Insn
+sub_register to from = record { row = AluRm32R32 SUB; repeat = Once; operand = Reg to; reg = from; imm = 0 }
+
+-- a service by its number
+abbrev pub service : ℕ → List Item
+service number = item.Insn (mov EAX number) ∷ item.Insn (int T_SERVICE) ∷ []
+
+-- a program with these items behind its own
+unfoldable pub with_items : Program → List Item → Program
+with_items p [] = p
+with_items p (i ∷ items) = with_items (record p { items = p.items ++ i ∷ [] }) items
 
 -- the image of code in one segment that is not written, from where it starts
 unfoldable pub image : List ℕ → List ℕ

@@ -1,3 +1,4 @@
 pub mod Code
 pub mod Programs
 pub mod Pairs
+pub mod Streams

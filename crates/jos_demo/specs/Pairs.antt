@@ -1,22 +1,17 @@
 -- The programs in which a parent and its child write on one page and read it, under the library, in parts.
 use Rattle.std.specs.Prelude.{ℕ, List, [], ◌∷◌, ◌++◌, codes}
-use Rattle.jos_base.specs.declared.numbers.TheConstants.{T_SERVICE}
 use Rattle.jos_isa.specs.Moves.{mov}
 use Rattle.jos_isa.specs.declared.instruction.Row.TheVariants.{JccRel8, JmpRel8}
 use Rattle.jos_asm.specs.declared.item.Item.{Item}
 use Rattle.jos_asm.specs.declared.item.Item.TheVariants.{Label, Insn, Jump, Address, Bytes}
 use Rattle.jos_asm.specs.Program.{Program}
-use Rattle.jos_demo.specs.declared.code.TheConstants.{TEXT, EAX, ECX, EDX, EBX, ESP, SERVICE_CPUTS, SERVICE_EXIT}
-use Rattle.jos_demo.specs.declared.code.TheConstants.{SERVICE_FORK, SERVICE_WAIT, SERVICE_PAGE_NEW, SERVICE_SEND}
-use Rattle.jos_demo.specs.declared.code.TheConstants.{SERVICE_RECEIVE}
-use Rattle.jos_demo.specs.declared.pairs.TheConstants.{PAGE, PRIVATE, SHARED, NOT_ZERO, CHILDS, PARENTS, NEWLINE}
-use Rattle.jos_demo.specs.Code.{int, store_byte, load_al, mov_ah, test_eax, push_eax, mov_edx}
+use Rattle.jos_demo.specs.declared.code.TheConstants.{TEXT, EAX, ECX, EDX, EBX, ESP, AH, NOT_ZERO, PAGE, PRIVATE, NEWLINE}
+use Rattle.jos_demo.specs.declared.code.TheConstants.{SERVICE_CPUTS, SERVICE_EXIT, SERVICE_FORK, SERVICE_WAIT, SERVICE_PAGE_NEW}
+use Rattle.jos_demo.specs.declared.code.TheConstants.{SERVICE_SEND, SERVICE_RECEIVE}
+use Rattle.jos_demo.specs.declared.pairs.TheConstants.{SHARED, CHILDS, PARENTS}
+use Rattle.jos_demo.specs.Code.{store_byte, load_al, mov_byte, test_eax, push_eax, mov_register, service}
 
 -- ---- PARTS
-
--- a service by its number
-abbrev pub service : ℕ → List Item
-service number = Insn (mov EAX number) ∷ Insn (int T_SERVICE) ∷ []
 
 -- page_new(PAGE, flags), and fork; the child goes on here, and writes its byte
 abbrev pub forked : ℕ → List Item
@@ -38,7 +33,7 @@ parted =
     ∷ Address EDX (codes "child text")
     ∷ Jump JmpRel8 (codes "both")
     ∷ Label (codes "parent")
-    ∷ Insn (mov_edx EAX)
+    ∷ Insn (mov_register EDX EAX)
     ∷ []
 
 -- send(id, 0, 0): a message to the child, without a page
@@ -53,7 +48,7 @@ joined =
     ∷ Address EDX (codes "parent text")
     ∷ Label (codes "both")
     ∷ Insn (load_al PAGE)
-    ∷ Insn (mov_ah NEWLINE)
+    ∷ Insn (mov_byte AH NEWLINE)
     ∷ Insn push_eax
     ∷ []
 
@@ -61,16 +56,11 @@ joined =
 abbrev pub told : List Item
 told =
     service SERVICE_CPUTS
-    ++ Insn (mov_edx ESP) ∷ Insn (mov ECX 2) ∷ service SERVICE_CPUTS
+    ++ Insn (mov_register EDX ESP) ∷ Insn (mov ECX 2) ∷ service SERVICE_CPUTS
     ++ service SERVICE_EXIT
     ++ Label (codes "child text") ∷ Bytes (codes "child ")
     ∷ Label (codes "parent text") ∷ Bytes (codes "parent ")
     ∷ []
-
--- a program with these items behind its own
-unfoldable pub with_items : Program → List Item → Program
-with_items p [] = p
-with_items p (i ∷ items) = with_items (record p { items = p.items ++ i ∷ [] }) items
 
 -- ---- PROGRAMS
 

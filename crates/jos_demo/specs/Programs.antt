@@ -9,6 +9,7 @@ use Rattle.jos_asm.specs.Program.{Program, finished}
 use Rattle.jos_demo.specs.declared.code.TheConstants.{TEXT, EAX, ECX, EDX, SERVICE_CPUTS, SERVICE_EXIT}
 use Rattle.jos_demo.specs.Code.{int, image}
 use Rattle.jos_demo.specs.Pairs.{forkpair, sharepair}
+use Rattle.jos_demo.specs.Streams.{echo, cat}
 
 -- on the bare kernel: cputs("hello\n", 6), and env_destroy(0)
 unfoldable pub xhello : Program
@@ -55,6 +56,8 @@ program_named name =
     else if bytes_eq name (codes "hello") then Some hello
     else if bytes_eq name (codes "forkpair") then Some forkpair
     else if bytes_eq name (codes "sharepair") then Some sharepair
+    else if bytes_eq name (codes "echo") then Some echo
+    else if bytes_eq name (codes "cat") then Some cat
     else None
 
 abbrev pub file_of_program : Option Program → Option (List ℕ)

@@ -2,12 +2,13 @@
 
 ghost use Rattle.std.specs.Prelude.{◌≡◌, ◌<◌, ◌≤◌, IsTrue, IfOk, length};
 ghost use Rattle.jos_isa.specs.Lawful.{is_lawful};
-ghost use Rattle.jos_demo.specs.Code.{int, store_byte, load_al, mov_ah, test_eax, push_eax, mov_edx, image};
+ghost use Rattle.jos_demo.specs.Code.{int, store_byte, load_al, mov_byte, lodsb, stosb, test_al, test_eax, push_eax, pop, dec};
+ghost use Rattle.jos_demo.specs.Code.{mov_register, add_register, sub_register, service, with_items, image};
 
-use jos_asm::CODE_MAX;
-use jos_base::{NoMemory, UTEXT};
+use jos_asm::{Builder, CODE_MAX};
+use jos_base::{NoMemory, T_SERVICE, UTEXT};
 use jos_elf::{Part, write};
-use jos_isa::{Disp, Insn, MemArg, Operand, Repeat, Row};
+use jos_isa::{Disp, Insn, MemArg, Operand, Repeat, Row, mov};
 use std::alloc::Global;
 
 /// Where the code of programs begins. (MIT 6.828, user/user.ld)
@@ -28,8 +29,40 @@ pub(crate) const EBX: u8 = 3;
 /// The number of ESP.
 pub(crate) const ESP: u8 = 4;
 
+/// The number of ESI.
+pub(crate) const ESI: u8 = 6;
+
+/// The number of EDI.
+pub(crate) const EDI: u8 = 7;
+
+/// The number of AL.
+pub(crate) const AL: u8 = 0;
+
 /// The number of AH.
-const AH: u8 = 4;
+pub(crate) const AH: u8 = 4;
+
+/// The number of the operation ADD. (`jos_isa`, `Row`)
+const ADD: u8 = 0;
+
+/// The number of the operation SUB. (`jos_isa`, `Row`)
+const SUB: u8 = 5;
+
+/// The condition of a jump where what was tested is not zero.
+pub(crate) const NOT_ZERO: u8 = 5;
+
+/// The condition of a jump where what was tested is negative.
+pub(crate) const NEGATIVE: u8 = 8;
+
+/// The condition of a jump where what was tested is zero or negative.
+pub(crate) const NOT_POSITIVE: u8 = 14;
+
+/// The page that a program makes.
+pub(crate) const PAGE: u32 = 0x0090_0000;
+
+/// The flags of a page of one's own that may be written. (docs/library.md: page_new)
+pub(crate) const PRIVATE: u32 = 1;
+
+pub(crate) const NEWLINE: u8 = b'\n';
 
 /// The number of the service that ends a program. (`lib_os`, specs/Services.antt)
 pub(crate) const SERVICE_EXIT: u32 = 0;
@@ -51,6 +84,12 @@ pub(crate) const SERVICE_SEND: u32 = 8;
 
 /// The number of the service that receives a message. (`lib_os`, specs/Services.antt)
 pub(crate) const SERVICE_RECEIVE: u32 = 9;
+
+/// The number of the service that reads. (`lib_os`, specs/Services.antt)
+pub(crate) const SERVICE_READ: u32 = 12;
+
+/// The number of the service that writes. (`lib_os`, specs/Services.antt)
+pub(crate) const SERVICE_WRITE: u32 = 13;
 
 /// A software interrupt.
 pub(crate) fn int(vector: u8) -> Insn
@@ -99,21 +138,64 @@ pub(crate) fn load_al(va: u32) -> Insn
     }
 }
 
-/// A move of a byte into AH.
-pub(crate) fn mov_ah(byte: u8) -> Insn
-    ensures value { result ≡ mov_ah byte }
+/// A move of a byte into a register of a byte, 0 to 7.
+pub(crate) fn mov_byte(reg: u8, byte: u8) -> Insn
+    requires { reg < 8 }
+    ensures value { result ≡ mov_byte reg byte }
     ensures lawful { IsTrue (is_lawful result) }
 {
     Insn {
         row: Row::MovR8Imm8,
         repeat: Repeat::Once,
         operand: Operand::Absent,
-        reg: AH,
+        reg,
         imm: byte as u32,
     }
 }
 
-/// A test of EAX, which tells whether it is 0.
+/// The byte to which ESI points into AL; ESI points behind it then.
+pub(crate) fn lodsb() -> Insn
+    ensures value { result ≡ lodsb }
+    ensures lawful { IsTrue (is_lawful result) }
+{
+    Insn {
+        row: Row::Lodsb,
+        repeat: Repeat::Once,
+        operand: Operand::Absent,
+        reg: 0,
+        imm: 0,
+    }
+}
+
+/// AL to where EDI points; EDI points behind it then.
+pub(crate) fn stosb() -> Insn
+    ensures value { result ≡ stosb }
+    ensures lawful { IsTrue (is_lawful result) }
+{
+    Insn {
+        row: Row::Stosb,
+        repeat: Repeat::Once,
+        operand: Operand::Absent,
+        reg: 0,
+        imm: 0,
+    }
+}
+
+/// A test of AL, which tells whether it is 0.
+pub(crate) fn test_al() -> Insn
+    ensures value { result ≡ test_al }
+    ensures lawful { IsTrue (is_lawful result) }
+{
+    Insn {
+        row: Row::TestRm8R8,
+        repeat: Repeat::Once,
+        operand: Operand::Reg(AL),
+        reg: AL,
+        imm: 0,
+    }
+}
+
+/// A test of EAX, which tells whether it is 0, and whether it is negative.
 pub(crate) fn test_eax() -> Insn
     ensures value { result ≡ test_eax }
     ensures lawful { IsTrue (is_lawful result) }
@@ -141,19 +223,92 @@ pub(crate) fn push_eax() -> Insn
     }
 }
 
-/// A move of another register, 0 to 7, into EDX.
-pub(crate) fn mov_edx(from: u8) -> Insn
-    requires { from < 8 }
-    ensures value { result ≡ mov_edx from }
+/// What is on the stack into a register, 0 to 7.
+pub(crate) fn pop(reg: u8) -> Insn
+    requires { reg < 8 }
+    ensures value { result ≡ pop reg }
+    ensures lawful { IsTrue (is_lawful result) }
+{
+    Insn {
+        row: Row::PopR32,
+        repeat: Repeat::Once,
+        operand: Operand::Absent,
+        reg,
+        imm: 0,
+    }
+}
+
+/// One less in a register, 0 to 7.
+pub(crate) fn dec(reg: u8) -> Insn
+    requires { reg < 8 }
+    ensures value { result ≡ dec reg }
+    ensures lawful { IsTrue (is_lawful result) }
+{
+    Insn {
+        row: Row::DecR32,
+        repeat: Repeat::Once,
+        operand: Operand::Absent,
+        reg,
+        imm: 0,
+    }
+}
+
+/// A move of one register into another, each 0 to 7.
+pub(crate) fn mov_register(to: u8, from: u8) -> Insn
+    requires to { to < 8 }
+    requires from { from < 8 }
+    ensures value { result ≡ mov_register to from }
     ensures lawful { IsTrue (is_lawful result) }
 {
     Insn {
         row: Row::MovRm32R32,
         repeat: Repeat::Once,
-        operand: Operand::Reg(EDX),
+        operand: Operand::Reg(to),
         reg: from,
         imm: 0,
     }
+}
+
+/// One register is added to another, each 0 to 7.
+pub(crate) fn add_register(to: u8, from: u8) -> Insn
+    requires to { to < 8 }
+    requires from { from < 8 }
+    ensures value { result ≡ add_register to from }
+    ensures lawful { IsTrue (is_lawful result) }
+{
+    Insn {
+        row: Row::AluRm32R32(ADD),
+        repeat: Repeat::Once,
+        operand: Operand::Reg(to),
+        reg: from,
+        imm: 0,
+    }
+}
+
+/// One register is taken from another, each 0 to 7.
+pub(crate) fn sub_register(to: u8, from: u8) -> Insn
+    requires to { to < 8 }
+    requires from { from < 8 }
+    ensures value { result ≡ sub_register to from }
+    ensures lawful { IsTrue (is_lawful result) }
+{
+    Insn {
+        row: Row::AluRm32R32(SUB),
+        repeat: Repeat::Once,
+        operand: Operand::Reg(to),
+        reg: from,
+        imm: 0,
+    }
+}
+
+/// Asks for the service of this number.
+#[tactic(auto, unfolding(crate::specs::Code::with_items))]
+pub(crate) fn service(program: &mut Builder, number: u32) -> Result<(), NoMemory>
+    ensures { IfOk result (λ _. program.new ≡ with_items program.old (service number)) }
+{
+    program.insn(mov(EAX, number))?;
+    program.insn(int(T_SERVICE))?;
+    Ok(())
 }
 
 /// The image of code that begins at `TEXT` and starts with its first byte.

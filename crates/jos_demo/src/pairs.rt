@@ -3,30 +3,22 @@
 ghost use Rattle.std.specs.Prelude.{◌≡◌, IfOk, []};
 ghost use Rattle.jos_asm.specs.declared.item.Item.TheVariants.{Insn};
 ghost use Rattle.jos_demo.specs.declared.code.TheConstants.{TEXT};
-ghost use Rattle.jos_demo.specs.Pairs.{service, forked, received, parted, sent, joined, told, with_items};
+ghost use Rattle.jos_demo.specs.Code.{with_items};
+ghost use Rattle.jos_demo.specs.Pairs.{forked, received, parted, sent, joined, told};
 ghost use Rattle.jos_demo.specs.Pairs.{forkpair, sharepair};
 
 use crate::code::{
-    EAX, EBX, ECX, EDX, ESP, SERVICE_CPUTS, SERVICE_EXIT, SERVICE_FORK, SERVICE_PAGE_NEW,
-    SERVICE_RECEIVE, SERVICE_SEND, SERVICE_WAIT, TEXT, int, load_al, mov_ah, mov_edx, push_eax,
-    store_byte, test_eax,
+    AH, EAX, EBX, ECX, EDX, ESP, NEWLINE, NOT_ZERO, PAGE, PRIVATE, SERVICE_CPUTS, SERVICE_EXIT,
+    SERVICE_FORK, SERVICE_PAGE_NEW, SERVICE_RECEIVE, SERVICE_SEND, SERVICE_WAIT, TEXT, load_al,
+    mov_byte, mov_register, push_eax, service, store_byte, test_eax,
 };
 use jos_asm::Builder;
-use jos_base::{NoMemory, T_SERVICE};
+use jos_base::NoMemory;
 use jos_isa::{Row, mov};
 use std::alloc::Global;
 
-/// The page that both write on.
-const PAGE: u32 = 0x0090_0000;
-
-/// The flags of a page of one's own that may be written. (docs/library.md: page_new)
-const PRIVATE: u32 = 1;
-
 /// The flags of a shared page that may be written. (docs/library.md: page_new)
 const SHARED: u32 = 3;
-
-/// The condition of a jump where what was tested is not zero.
-const NOT_ZERO: u8 = 5;
 
 /// What the child writes.
 const CHILDS: u8 = b'c';
@@ -34,26 +26,15 @@ const CHILDS: u8 = b'c';
 /// What the parent writes.
 const PARENTS: u8 = b'p';
 
-const NEWLINE: u8 = b'\n';
-
 /// What the child prints before the byte that it has read.
 const CHILD_TEXT: [u8; 6] = *b"child ";
 
 /// What the parent prints before the byte that it has read.
 const PARENT_TEXT: [u8; 7] = *b"parent ";
 
-/// Asks for the service of this number.
-#[tactic(auto, unfolding(crate::specs::Pairs::with_items))]
-fn service(program: &mut Builder, number: u32) -> Result<(), NoMemory>
-    ensures { IfOk result (λ _. program.new ≡ with_items program.old (service number)) }
-{
-    program.insn(mov(EAX, number))?;
-    program.insn(int(T_SERVICE))?;
-    Ok(())
-}
-
-/// The beginning of a program: makes the page, with these flags, and forks; the child goes on behind it, and writes.
-#[tactic(auto, unfolding(crate::specs::Pairs::with_items))]
+/// The beginning of a program: makes the page that both write on, with these flags, and forks; the child goes on
+/// behind it, and writes.
+#[tactic(auto, unfolding(crate::specs::Code::with_items))]
 fn forked(alloc: Global, flags: u32) -> Result<Builder, NoMemory>
     ensures { IfOk result (λ program. program ≡ record { base = TEXT; items = forked flags }) }
 {
@@ -69,7 +50,7 @@ fn forked(alloc: Global, flags: u32) -> Result<Builder, NoMemory>
 }
 
 /// Receives a message of anyone.
-#[tactic(auto, unfolding(crate::specs::Pairs::with_items))]
+#[tactic(auto, unfolding(crate::specs::Code::with_items))]
 fn received(program: &mut Builder) -> Result<(), NoMemory>
     ensures { IfOk result (λ _. program.new ≡ with_items program.old received) }
 {
@@ -80,7 +61,7 @@ fn received(program: &mut Builder) -> Result<(), NoMemory>
 }
 
 /// The end of the child's own part and the beginning of the parent's.
-#[tactic(auto, unfolding(crate::specs::Pairs::with_items))]
+#[tactic(auto, unfolding(crate::specs::Code::with_items))]
 fn parted(program: &mut Builder) -> Result<(), NoMemory>
     ensures { IfOk result (λ _. program.new ≡ with_items program.old parted) }
 {
@@ -88,12 +69,12 @@ fn parted(program: &mut Builder) -> Result<(), NoMemory>
     program.address(EDX, "child text")?;
     program.jump(Row::JmpRel8, "both")?;
     program.label("parent")?;
-    program.insn(mov_edx(EAX))?;
+    program.insn(mov_register(EDX, EAX))?;
     Ok(())
 }
 
 /// Sends a message to the child, whose id is in EDX.
-#[tactic(auto, unfolding(crate::specs::Pairs::with_items))]
+#[tactic(auto, unfolding(crate::specs::Code::with_items))]
 fn sent(program: &mut Builder) -> Result<(), NoMemory>
     ensures { IfOk result (λ _. program.new ≡ with_items program.old sent) }
 {
@@ -105,7 +86,7 @@ fn sent(program: &mut Builder) -> Result<(), NoMemory>
 
 /// The end of the parent's own part, in which it waits for the child, and the beginning of that of both, which reads
 /// the byte.
-#[tactic(auto, unfolding(crate::specs::Pairs::with_items))]
+#[tactic(auto, unfolding(crate::specs::Code::with_items))]
 fn joined(program: &mut Builder) -> Result<(), NoMemory>
     ensures { IfOk result (λ _. program.new ≡ with_items program.old joined) }
 {
@@ -114,18 +95,18 @@ fn joined(program: &mut Builder) -> Result<(), NoMemory>
     program.address(EDX, "parent text")?;
     program.label("both")?;
     program.insn(load_al(PAGE))?;
-    program.insn(mov_ah(NEWLINE))?;
+    program.insn(mov_byte(AH, NEWLINE))?;
     program.insn(push_eax())?;
     Ok(())
 }
 
 /// The end of a program: prints the text and what is on the stack, and ends.
-#[tactic(auto, unfolding(crate::specs::Pairs::with_items))]
+#[tactic(auto, unfolding(crate::specs::Code::with_items))]
 fn told(program: &mut Builder) -> Result<(), NoMemory>
     ensures { IfOk result (λ _. program.new ≡ with_items program.old told) }
 {
     service(program, SERVICE_CPUTS)?;
-    program.insn(mov_edx(ESP))?;
+    program.insn(mov_register(EDX, ESP))?;
     program.insn(mov(ECX, 2))?;
     service(program, SERVICE_CPUTS)?;
     service(program, SERVICE_EXIT)?;
@@ -137,7 +118,7 @@ fn told(program: &mut Builder) -> Result<(), NoMemory>
 }
 
 /// A parent and its child write on a page that each has for itself.
-#[tactic(auto, unfolding(crate::specs::Pairs::with_items, crate::specs::Pairs::forkpair))]
+#[tactic(auto, unfolding(crate::specs::Code::with_items, crate::specs::Pairs::forkpair))]
 pub(crate) fn forkpair(alloc: Global) -> Result<Builder, NoMemory>
     ensures { IfOk result (λ program. program ≡ forkpair) }
 {
@@ -150,7 +131,7 @@ pub(crate) fn forkpair(alloc: Global) -> Result<Builder, NoMemory>
 }
 
 /// A parent and its child write on a page that they share, the parent last.
-#[tactic(auto, unfolding(crate::specs::Pairs::with_items, crate::specs::Pairs::sharepair))]
+#[tactic(auto, unfolding(crate::specs::Code::with_items, crate::specs::Pairs::sharepair))]
 pub(crate) fn sharepair(alloc: Global) -> Result<Builder, NoMemory>
     ensures { IfOk result (λ program. program ≡ sharepair) }
 {

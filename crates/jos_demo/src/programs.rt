@@ -13,6 +13,7 @@ ghost use Rattle.jos_demo.specs.Programs.{xhello, hello, program_named, file_of}
 
 use crate::code::{EAX, ECX, EDX, SERVICE_CPUTS, SERVICE_EXIT, TEXT, image, int};
 use crate::pairs::{forkpair, sharepair};
+use crate::streams::{cat, echo};
 use jos_asm::{AsmFault, Builder, CODE_MAX};
 use jos_base::{NoMemory, SYS_CPUTS, SYS_ENV_DESTROY, T_SERVICE, T_SYSCALL};
 use jos_isa::mov;
@@ -77,25 +78,36 @@ fn program_named(alloc: Global, name: &str) -> Result<Option<Builder>, NoMemory>
         Ok(Some(forkpair(alloc)?))
     } else if name == "sharepair" {
         Ok(Some(sharepair(alloc)?))
+    } else if name == "echo" {
+        Ok(Some(echo(alloc)?))
+    } else if name == "cat" {
+        Ok(Some(cat(alloc)?))
     } else {
         Ok(None)
     }
 }
 
-/// Whether this is one of the four names.
+/// Whether this is one of the six names.
 fn is_listed(name: &str) -> bool
     ensures { result ≡ (bytes_eq name.now (codes "xhello") || bytes_eq name.now (codes "hello")
-        || bytes_eq name.now (codes "forkpair") || bytes_eq name.now (codes "sharepair")) }
+        || bytes_eq name.now (codes "forkpair") || bytes_eq name.now (codes "sharepair")
+        || bytes_eq name.now (codes "echo") || bytes_eq name.now (codes "cat")) }
 {
-    name == "xhello" || name == "hello" || name == "forkpair" || name == "sharepair"
+    name == "xhello"
+        || name == "hello"
+        || name == "forkpair"
+        || name == "sharepair"
+        || name == "echo"
+        || name == "cat"
 }
 
 /// Whether a program has this name.
 pub fn is_program(name: &str) -> bool
     ensures file { result ≡ is_some (file_of name.now) }
-    // There are four programs.
+    // There are six programs.
     ensures named { result ≡ (bytes_eq name.now (codes "xhello") || bytes_eq name.now (codes "hello")
-        || bytes_eq name.now (codes "forkpair") || bytes_eq name.now (codes "sharepair")) }
+        || bytes_eq name.now (codes "forkpair") || bytes_eq name.now (codes "sharepair")
+        || bytes_eq name.now (codes "echo") || bytes_eq name.now (codes "cat")) }
 {
     is_listed(name)
 }
@@ -124,9 +136,10 @@ fn assemble(program: Builder) -> Result<Vec<u8>, NoMemory>
 
 /// The file of the program of a name, or `None` where no program has it. That no program has it takes no memory.
 ///
-/// `xhello` and `hello` print `hello` and a newline: `xhello` runs on the bare kernel, `hello` under the library, as the
-/// other two. In these a parent and its child write on one page, and each prints what it reads there then: in
-/// `forkpair` the page is each one's own, and in `sharepair` they share it, and the parent writes last.
+/// `xhello` and `hello` print `hello` and a newline: `xhello` runs on the bare kernel, `hello` under the library, as all
+/// others. In two of these a parent and its child write on one page, and each prints what it reads there then: in
+/// `forkpair` the page is each one's own, and in `sharepair` they share it, and the parent writes last. `echo` writes its
+/// words but the first, with a space between two and a newline, and `cat` what it reads.
 #[tactic(auto, unfolding(crate::specs::Programs::file_of))]
 pub fn program(alloc: Global, name: &str) -> Result<Option<Vec<u8>>, NoMemory>
     ensures exact { IfOk result (λ file. option_map (λ bytes. bytes.items) file ≡ file_of name.now) }

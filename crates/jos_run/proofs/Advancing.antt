@@ -1,6 +1,6 @@
 -- One step of a run: the turn in which it is made, and where that turn may end.
 use Rattle.std.proofs.Common.{◌≡◌, ◌∙◌, ℕ, ◌+◌, ◌<◌, ◌≤◌, ◌&&◌, Bool, true, false, List, [], ◌∷◌, ◌++◌, length}
-use Rattle.std.proofs.Common.{Option, Some, refl, sym, ap, arith}
+use Rattle.std.proofs.Common.{None, Option, Some, refl, sym, ap, arith}
 use Rattle.std.specs.Prelude.{nat_lt, unwrap_or}
 use Rattle.std.proofs.lemmas.Bool.Decides.{nat_tests}
 use Rattle.jos_base.specs.declared.environment.Status.{Status}
@@ -23,9 +23,10 @@ use Rattle.lib_os.specs.AbstractState.{AbstractState, Born}
 use Rattle.lib_os.specs.LibrarySteps.{Stands, KeepsStanding, NothingRefused, KeepsTurn, MayGiveUp}
 use Rattle.lib_os.specs.Places.{place_of}
 use Rattle.lib_os.specs.LibraryPages.{View}
-use Rattle.lib_os.specs.StandsInHandler.{CopiesOrEnds, copies, ends}
-use Rattle.lib_os.specs.Rows.{Names}
+use Rattle.lib_os.specs.StandsInHandler.{CopiesOrEnds, copies, ends, StandsBeneath, at_program, in_delivery}
+use Rattle.lib_os.specs.Rows.{EntryRow, Names}
 use Rattle.lib_os.specs.StandsFor.{StandsFor, StandsAt, StandsAtStep, IsStatusFor, WaitsOrHas, waits, has, view_of}
+use Rattle.lib_os.specs.StandsFor.{StandsAtDevice, StandsBefore, descriptor_given}
 use Rattle.lib_os.proofs.SlotsStand.{born_at}
 use Rattle.jos_run.specs.AbstractTurns.{turn_begun, may_end}
 use Rattle.jos_run.specs.LibraryRuns.{IsBetween, IsInTurn, visible_steps}
@@ -44,6 +45,23 @@ awake_running Running false h runs = refl
 awake_running Runnable false h runs = refl
 awake_running NotRunnable true h runs = absurd (let contradiction : false ≡ true = runs in cc)
 awake_running _ _ h runs = absurd h
+
+silent_device : (v : View) (k : Slot) (b : Born) (s : Service) (o : Option ℕ) → StandsAtDevice v k b s o → k.rendezvous.receiving ≡ false
+silent_device v k b s None h = absurd h
+silent_device v k b s (Some fd) h = h.is_in.silent
+
+silent_before : (so : Type 0) (v : View) (k : Slot) (b : Born) (s : Service) (done word : ℕ) → StandsBefore so v k b s done word →
+    k.rendezvous.receiving ≡ false
+silent_before so v k b (service.Read fd va len) done word h = h.0.silent
+silent_before so v k b (service.Stat fd va) done word h = h.0.silent
+silent_before so v k b (service.Write fd va len) done word h = h.0.silent
+silent_before so v k b _ done word h = absurd h
+
+silent_beneath : (row : EntryRow) (k : Slot) (b : Born) → StandsBeneath row k b → k.rendezvous.receiving ≡ false
+silent_beneath row k b (at_program h) = h.silent
+silent_beneath row k b (in_delivery (service.Read fd va len) done word at h) = h.0.silent
+silent_beneath row k b (in_delivery (service.Stat fd va) done word at h) = h.0.silent
+silent_beneath row k b (in_delivery _ done word at h) = absurd h.0
 
 silent_step : (v : View) (k : Slot) (b : Born) (s : Service) (stands : Step) → StandsAtStep v k b s stands → b.blocked ≡ false →
     k.rendezvous.receiving ≡ false
@@ -78,6 +96,23 @@ silent_step v k b (service.Dup old new) (step.DescriptorEntry at) h awake = h.0.
 silent_step v k b (service.Dup old new) step.TargetEntry h awake = h.0.silent
 silent_step v k b (service.Dup old new) (step.DroppingDescriptor at) h awake = h.0.silent
 silent_step v k b (service.Dup old new) step.MappingDescriptor h awake = h.0.silent
+silent_step v k b s step.ReadingDevice h awake = silent_device v k b s (descriptor_given s) h
+silent_step v k b s (step.BufferRegion done word) h awake = silent_before _ v k b s done word h
+silent_step v k b s (step.BufferEntry done word) h awake = silent_before _ v k b s done word h
+silent_step v k b s (step.Faulting done word) h awake = silent_before _ v k b s done word h
+silent_step v k b (service.Read fd va len) (step.Delivering done word) h awake = h.0.silent
+silent_step v k b (service.Stat fd va) (step.Delivering done word) h awake = h.0.silent
+silent_step v k b (service.Read fd va len) (step.DescriptorEntry at) h awake = h.is_in.silent
+silent_step v k b (service.Write fd va len) (step.DescriptorEntry at) h awake = h.is_in.silent
+silent_step v k b (service.Seek fd offset) (step.DescriptorEntry at) h awake = h.is_in.silent
+silent_step v k b (service.Stat fd va) (step.DescriptorEntry at) h awake = h.is_in.silent
+silent_step v k b (service.SetSize fd size) (step.DescriptorEntry at) h awake = h.is_in.silent
+silent_step v k b (service.Read fd va len) step.Getting h awake = h.is_in.silent
+silent_step v k b (service.Write fd va len) step.TakingPage h awake = h.0.silent
+silent_step v k b (service.Write fd va len) (step.Gathering done) h awake = h.0.silent
+silent_step v k b (service.Write fd va len) (step.Keeping done word left) h awake = h.is_in.silent
+silent_step v k b (service.Write fd va len) step.Printing h awake = h.is_in.silent
+silent_step v k b (service.Write fd va len) step.Releasing h awake = h.silent
 silent_step v k b _ _ h awake = absurd h
 
 silent_at : (v : View) (k : Slot) (b : Born) (p : Place) → StandsAt p v k b → b.blocked ≡ false → k.rendezvous.receiving ≡ false
@@ -86,7 +121,7 @@ silent_at v k b (place.InService s stands) h awake = silent_step v k b s stands 
 silent_at v k b (place.InHandler stands) h awake = by_way h.way
   where
     by_way : CopiesOrEnds stands v k b h.fault h.regs → k.rendezvous.receiving ≡ false
-    by_way (copies way) = way.guest.silent
+    by_way (copies way) = silent_beneath v.row (record k { registers = h.regs }) b way.beneath
     by_way (ends way) = way.silent
 
 -- it waits for no message

@@ -42,7 +42,7 @@ use Rattle.lib_os.specs.Fence.{is_resident}
 use Rattle.lib_os.specs.GuestStep as guests
 use Rattle.lib_os.specs.GuestStep.{GuestMemory, guest_memory, guest_step, born_in, ends_with}
 use Rattle.lib_os.specs.InOrder.{IsInOrder}
-use Rattle.lib_os.specs.LibraryPages.{has_copy}
+use Rattle.lib_os.specs.LibraryPages.{has_copy, has_working}
 use Rattle.lib_os.specs.LibrarySteps.{GoesOn, copies_left, hidden_left, is_to_copy, left_at}
 use Rattle.lib_os.specs.Places.{is_handlers, place_of, words_entered}
 use Rattle.lib_os.specs.Services.{service_of}
@@ -50,7 +50,7 @@ use Rattle.lib_os.specs.Rows.{Names, Rows, rows_of}
 use Rattle.lib_os.specs.StandsFor.{StandsAt, StandsFor, StandsForBorn, upcall_at, view_of, borne_in}
 use Rattle.lib_os.specs.StandsInHandler.{AreSmall, IsAtGuest, is_write}
 use Rattle.lib_os.proofs.EndsStand.{ended_stands}
-use Rattle.lib_os.proofs.FaultsStand.{esp_free, fault_copies, fault_ends, fault_handled, fault_lowers, guest_at, handed, stack_frame}
+use Rattle.lib_os.proofs.FaultsStand.{esp_free, fault_copies, fault_ends, fault_handled, fault_lowers, guest_at, guest_beneath, handed, stack_frame}
 use Rattle.lib_os.proofs.Logical.{is_plain}
 use Rattle.lib_os.proofs.Removing.{destroyed_gone}
 use Rattle.lib_os.proofs.Serving.{library_moved, words_of_none}
@@ -62,7 +62,7 @@ use Rattle.jos_run.specs.FencedMemory.{fenced_memory}
 use Rattle.jos_run.specs.GuestSteps.{quietly, goes_on, service_entered, after_event, after_instruction, guest_instruction, is_copying, is_handed_over}
 use Rattle.jos_run.proofs.GuestMemories.{Alike, IsGuestCopy, IsGuestRefusal, alike_lost, alike_refused, refusal_rests, stands_at}
 use Rattle.jos_run.proofs.GuestMemories.{quiet, reading, refusing, writing}
-use Rattle.jos_run.proofs.ServicesEntered.{entered_plain, place_entered}
+use Rattle.jos_run.proofs.ServicesEntered.{entered_holds, entered_plain, place_entered}
 
 -- ---- a program's step
 
@@ -189,8 +189,9 @@ module _ (names : Names) (n : ℕ) (k : Slot) (is_guest : place_of k ≡ place.G
           upcall = h.upcall ∙ ap upcall_at (at_program ∙ sym there);
           descriptors = h.descriptors;
           memory = h.memory;
-          library = library_moved (place_of (slot_at m.state n)) (place_of (with_regs regs)) (rows_of m.state.spaces d)
-              (ap has_copy (at_program ∙ sym there)) h.library;
+          library = library_moved (place_of (slot_at m.state n)) (place_of (with_regs regs)) (slot_at m.state n).extra (slot_at m.state n).extra
+              (rows_of m.state.spaces d) (ap has_copy (at_program ∙ sym there))
+              (ap (λ (p : Place). has_working p (slot_at m.state n).extra) (at_program ∙ sym there)) h.library;
           regions_have = h.regions_have;
           regions_only = h.regions_only;
           stack = stack_free regs.esp outside;
@@ -219,8 +220,10 @@ module _ (names : Names) (n : ℕ) (k : Slot) (is_guest : place_of k ≡ place.G
           upcall = h.upcall ∙ ap upcall_at at_program ∙ sym (ap upcall_at there);
           descriptors = h.descriptors;
           memory = h.memory;
-          library = library_moved (place_of (slot_at m.state n)) (place_of (asked_slot regs)) (rows_of m.state.spaces d)
-              (ap has_copy at_program ∙ sym (ap has_copy there)) h.library;
+          library = library_moved (place_of (slot_at m.state n)) (place_of (asked_slot regs)) (slot_at m.state n).extra (words_entered regs)
+              (rows_of m.state.spaces d) (ap has_copy at_program ∙ sym (ap has_copy there))
+              (ap (λ (p : Place). has_working p (slot_at m.state n).extra) at_program
+              ∙ sym (ap (λ (p : Place). has_working p (words_entered regs)) there ∙ entered_holds (service_of regs) (words_entered regs))) h.library;
           regions_have = h.regions_have;
           regions_only = h.regions_only;
           stack = stack_free regs.esp outside;
@@ -256,7 +259,7 @@ module _ (names : Names) (n : ℕ) (k : Slot) (is_guest : place_of k ≡ place.G
         outside : is_resident regs.esp ≡ false
         outside =
             ap is_resident stack ∙ ap (λ (slot : Slot). is_resident slot.registers.esp) (sym r.kept)
-            ∙ esp_free r.stands n it r.after.there at_program
+            ∙ esp_free r.stands n it r.after.there place.Guest at_program refl refl
 
         entered_is : with_extra (with_registers m.state n regs) n (words_entered (slot_at (with_registers m.state n regs) n).registers)
             ≡ with_slot_at m.state n (asked_slot regs)
@@ -279,14 +282,14 @@ module _ (names : Names) (n : ℕ) (k : Slot) (is_guest : place_of k ≡ place.G
 
     -- what is delivered of a page fault
     abbrev fault_state : PageFault → KernelState
-    fault_state fault = handed m.state n fault (stack_frame r.stands n it r.after.there at_program)
+    fault_state fault = handed m.state n fault (stack_frame r.stands n it r.after.there place.Guest at_program refl refl)
 
     delivered_is : (regs : Regs) (fault : PageFault) → regs ≡ k.registers →
         deliver_fault (with_registers m.state n regs) n fault ≡ record { state = fault_state fault; written = [] }
     delivered_is regs fault same =
         ap (λ (t : KernelState). deliver_fault t n fault)
         (same_set m.state n regs (same ∙ ap (λ (slot : Slot). slot.registers) (sym r.kept)))
-        ∙ ap (delivered_to m.state n fault) (fault_handled r.stands n it r.after.there at_program fault)
+        ∙ ap (delivered_to m.state n fault) (fault_handled r.stands n it r.after.there place.Guest at_program refl refl fault)
 
     -- it is marked with a page fault that ends it
     marked : (error va : ℕ) → AreSmall k.registers → IsGuestRefusal (rows_of m.state.spaces d) error va →
@@ -296,7 +299,8 @@ module _ (names : Names) (n : ℕ) (k : Slot) (is_guest : place_of k ≡ place.G
       stands = λ order.
           subst (λ (slot : Slot). StandsFor names (fault_state (record { va = va; error = error }))
           (with_born g.state n (record it { phase = faulted va slot.registers.eip }))) r.kept
-          (fault_ends r.stands n it r.after.there at_program (record { va = va; error = error })
+          (fault_ends r.stands n it r.after.there place.Guest at_program refl refl (record { va = va; error = error })
+          (guest_at r.stands n it r.after.there at_program)
           (subst (λ (slot : Slot). AreSmall slot.registers) (sym r.kept) small) refusal.inside refusal.small refusal.refusal order);
     }
 
@@ -362,13 +366,14 @@ module _ (names : Names) (n : ℕ) (k : Slot) (is_guest : place_of k ≡ place.G
           written = ap (λ (done : Trapped). done.written) told;
           stands = λ order.
               subst (λ (t : KernelState). StandsFor names t g.state) (sym state_is)
-              (fault_copies r.stands n it r.after.there at_program (copy_fault va)
-              (subst (λ (slot : Slot). AreSmall slot.registers) (sym r.kept) small) copy.inside refl copy.lost.page (subst IsInOrder state_is order));
+              (fault_copies r.stands n it r.after.there place.Guest at_program refl refl (copy_fault va)
+              (subst (λ (slot : Slot). AreSmall slot.registers) (sym r.kept) small) copy.inside refl copy.lost.page
+              (guest_beneath r.stands n it r.after.there at_program) (subst IsInOrder state_is order));
           lowers =
               subst (λ (t : KernelState). hidden_left t n < left_at (place_of k) (copies_left (rows k.directory))) (sym state_is)
               (subst (λ (left : ℕ). hidden_left (fault_state (copy_fault va)) n < left)
               (λ i. left_at (place_of (r.kept i)) (copies_left (r.rows_kept i (r.kept i).directory)))
-              (fault_lowers r.stands n it r.after.there at_program (copy_fault va) copy.inside copy.lost.page));
+              (fault_lowers r.stands n it r.after.there place.Guest at_program refl refl (copy_fault va) refl copy.inside copy.lost.page));
         }
 
     copied_so : (va : ℕ) (regs : Regs) → IsGuestCopy m.state.spaces d va →
@@ -382,7 +387,7 @@ module _ (names : Names) (n : ℕ) (k : Slot) (is_guest : place_of k ≡ place.G
     handed_so va regs same =
         ap (λ (t : KernelState). is_some (handled t n (copy_fault va)))
         (same_set m.state n regs (same ∙ ap (λ (slot : Slot). slot.registers) (sym r.kept)))
-        ∙ ap is_some (fault_handled r.stands n it r.after.there at_program (copy_fault va))
+        ∙ ap is_some (fault_handled r.stands n it r.after.there place.Guest at_program refl refl (copy_fault va))
 
   -- two steps in related memories
   after_both : (s : cpu.Stepped Running) (z : cpu.Stepped GuestMemory) → SameStep AlikeHere s z → Leaves s.event k.registers s.regs →

@@ -1,6 +1,6 @@
 -- What is looked at in the machine's system is so in the kernel's state.
 use Rattle.std.proofs.Common.{◌≡◌, ◌∙◌, ◌/◌, ℕ, Bool, false, List, refl, ap}
-use Rattle.std.specs.Prelude.{Option, Some, None, nat_eq, bit_and}
+use Rattle.std.specs.Prelude.{Option, Some, None, is_some, nat_eq, bit_and}
 use Rattle.std.specs.Option.{option_map}
 use Rattle.jos_base.specs.declared.numbers.TheConstants.{PGSIZE}
 use Rattle.jos_base.specs.Reach.{Entry}
@@ -38,7 +38,21 @@ entry_copied : (o : Option Entry) → copied_by (option_map (λ (e : Entry). e.p
 entry_copied None = refl
 entry_copied (Some e) = refl
 
+entry_there : (o : Option Entry) → is_some (option_map (λ (e : Entry). e.perm) o) ≡ is_some (option_map lasting o)
+entry_there None = refl
+entry_there (Some e) = refl
+
 module _ (machine : Parts) {system : System} (is : system ≡ machine.system) where
+  pub present_looked : (n va : ℕ) {directory : ℕ} (found : Option ℕ) →
+      found ≡ option_map (λ (e : Entry). e.perm) ((spaces_of system).entries directory (va / PGSIZE)) →
+      ((input : List ℕ) → directory ≡ (slot_at (state_of system input) n).directory) →
+      is_some found ≡ is_some (rows_of (kernel_state machine).spaces (slot_at (kernel_state machine) n).directory (page_number va))
+  unfolding rows_of
+  present_looked n va found told there =
+      ap (λ (o : Option ℕ). is_some o) told ∙ entry_there ((spaces_of system).entries _ (va / PGSIZE))
+      ∙ (λ i. is_some (rows_of (spaces_of system) (there (left_of machine.input) i) (page_number va)))
+      ∙ (λ i. let s = state_of (is i) (left_of machine.input) in is_some (rows_of s.spaces (slot_at s n).directory (page_number va)))
+
   pub copied_looked : (n va : ℕ) {directory : ℕ} (found : Option ℕ) →
       found ≡ option_map (λ (e : Entry). e.perm) ((spaces_of system).entries directory (va / PGSIZE)) →
       ((input : List ℕ) → directory ≡ (slot_at (state_of system input) n).directory) →

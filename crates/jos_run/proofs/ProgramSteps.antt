@@ -13,7 +13,7 @@ use Rattle.lib_os.specs.declared.progress.Progress.TheVariants as progress
 use Rattle.lib_os.specs.AbstractState.{AbstractState, Born, AbstractSlot, free, unborn, born, serving}
 use Rattle.lib_os.specs.InOrder.{IsInOrder}
 use Rattle.lib_os.specs.AbstractRun.{abs_step}
-use Rattle.lib_os.specs.LibrarySteps.{Stands, GoesOn, IsLibraryStep, Lowers, LowersAt, hidden_left}
+use Rattle.lib_os.specs.LibrarySteps.{Stands, GoesOn, IsLibraryStep, Lowers, hidden_left}
 use Rattle.lib_os.specs.Places.{place_of}
 use Rattle.lib_os.specs.Rows.{Names}
 use Rattle.lib_os.specs.StandsFor.{StandsFor, StandsForSlot}
@@ -81,8 +81,7 @@ module _ (s after : KernelState) (n : ℕ) (output : Output) (awake : is_awake (
   pub program_lowers : copying_at s n ≡ true → (trap : Option TrapLine) → Follows (Ok trap) (guest_instruction s n) after output →
       Lowers (Ok progress.Hidden) n s after
   program_lowers is trap told =
-      subst (λ (p : Place). LowersAt p n s after) (sym is_guest)
-      (λ a h quiet. subst (λ (t : KernelState). hidden_left t n < hidden_left s n) (sym told.0) (copied is a h).lowers)
+      λ a h quiet. subst (λ (t : KernelState). hidden_left t n < hidden_left s n) (sym told.0) (copied is a h).lowers
 
   -- ---- one in which the host failed
 

@@ -22,7 +22,6 @@ use Rattle.lib_os.specs.declared.place.Step.{Step}
 use Rattle.lib_os.specs.declared.place.Step.TheVariants as step
 use Rattle.lib_os.specs.declared.progress.Progress.{Progress}
 use Rattle.lib_os.specs.declared.progress.Progress.TheVariants as progress
-use Rattle.lib_os.specs.declared.service.Service.{Service}
 use Rattle.lib_os.specs.declared.service.Service.TheVariants as service
 use Rattle.lib_os.specs.AbstractState.{AbstractState, Born, AbstractSlot, free, unborn, born, serving, Stage, Phase, in_service, can_run}
 use Rattle.lib_os.specs.AbstractRun.{abs_step}
@@ -30,7 +29,7 @@ use Rattle.lib_os.specs.LibrarySteps.{Stands, Stays, GoesOn, KeepsStanding, Noth
 use Rattle.lib_os.specs.Places.{place_of}
 use Rattle.lib_os.specs.LibraryPages.{View}
 use Rattle.lib_os.specs.Rows.{Names}
-use Rattle.lib_os.specs.StandsFor.{StandsFor, StandsForSlot, StandsAt, StandsAtStep, IsStatusFor, WaitsOrHas, waits, has, view_of}
+use Rattle.lib_os.specs.StandsFor.{StandsFor, StandsForSlot, StandsAt, StandsAtStep, IsStatusFor, view_of}
 use Rattle.lib_os.proofs.SlotsStand.{born_at}
 use Rattle.lib_os.proofs.StatesStand.{turn_begun_stands, turn_ended_stands}
 use Rattle.jos_run.specs.AbstractTurns.{turn_begun, steps_taken, abs_run, waits_in, stands_waiting}
@@ -231,40 +230,10 @@ pub running_born : {names : Names} {s : KernelState} {a : AbstractState} → Sta
     is_running (slot_at s n).status ≡ true → (b : Born) × (a.slots n ≡ born b)
 running_born {names = names} {s = s} {a = a} h n runs = running_slot names s.spaces (slot_at s n) (a.slots n) (h.slots n) runs
 
-step_phase : (v : View) (k : Slot) (b : Born) (s : Service) (stands : Step) → StandsAtStep v k b s stands →
-    (stage : Stage) × (b.phase ≡ in_service s stage)
-step_phase v k b s step.Entered h = (_, h.phase)
-step_phase v k b (service.Wait id) (step.Trying perm) h = (_, h.is_in.phase)
-step_phase v k b (service.Wait id) (step.Pausing perm) h = (_, h.is_in.phase)
-step_phase v k b (service.Send id value va) (step.Trying perm) h = (_, h.is_in.phase)
-step_phase v k b (service.Send id value va) (step.Pausing perm) h = (_, h.is_in.phase)
-step_phase v k b (service.Send id value va) step.ReadingRegion h = (_, h.is_in.phase)
-step_phase v k b (service.Send id value va) step.ReadingEntry h = (_, h.0.is_in.phase)
-step_phase v k b (service.Receive va from) (step.Receiving id) h = (_, h.is_in.phase)
-step_phase v k b (service.Receive va from) (step.ReadingValue id) h = by_come h.1
-  where
-    by_come : WaitsOrHas k b va from → (stage : Stage) × (b.phase ≡ in_service (service.Receive va from) stage)
-    by_come (waits so) = (_, so.phase)
-    by_come (has so) = (_, so.phase)
-step_phase v k b (service.Receive va from) (step.ReadingSender id value) h = (_, h.2.phase)
-step_phase v k b (service.Receive va from) (step.ReadingPerm id value sender) h = (_, h.3.phase)
-step_phase v k b service.Fork (step.ForkRegion id region) h = (_, h.0.phase)
-step_phase v k b service.Fork (step.ForkEntry id page) h = (_, h.0.phase)
-step_phase v k b service.Fork (step.MapChild id page perm) h = (_, h.0.phase)
-step_phase v k b service.Fork (step.Remap id page) h = (_, h.0.phase)
-step_phase v k b service.Fork (step.ChildStack id) h = (_, h.phase)
-step_phase v k b service.Fork (step.ChildUpcall id) h = (_, h.phase)
-step_phase v k b service.Fork (step.ChildRuns id) h = (_, h.phase)
-step_phase v k b service.Exit (step.DescriptorEntry fd) h = (_, h.0.phase)
-step_phase v k b service.Exit (step.DroppingDescriptor fd) h = (_, h.0.phase)
-step_phase v k b service.Exit step.Ending h = (_, h.0.phase)
-step_phase v k b (service.Close fd) (step.DescriptorEntry at) h = (_, h.0.phase)
-step_phase v k b (service.Close fd) (step.DroppingDescriptor at) h = (_, h.0.phase)
-step_phase v k b (service.Dup old new) (step.DescriptorEntry at) h = (_, h.0.phase)
-step_phase v k b (service.Dup old new) step.TargetEntry h = (_, h.0.phase)
-step_phase v k b (service.Dup old new) (step.DroppingDescriptor at) h = (_, h.0.phase)
-step_phase v k b (service.Dup old new) step.MappingDescriptor h = (_, h.0.phase)
-step_phase v k b _ _ h = absurd h
+yield_step : (v : View) (k : Slot) (b : Born) (stands : Step) → StandsAtStep v k b service.Yield stands →
+    (stage : Stage) × (b.phase ≡ in_service service.Yield stage)
+yield_step v k b step.Entered h = (_, h.phase)
+yield_step v k b _ h = absurd h
 
 pausing_phase : (v : View) (k : Slot) (b : Born) (p : Place) → StandsAt p v k b → is_pausing p ≡ true → waits_in b.phase ≡ true
 pausing_phase v k b (place.InService (service.Wait id) (step.Pausing perm)) h pauses = ap (λ (x : Phase). waits_in x) h.is_in.phase
@@ -282,7 +251,7 @@ pausing_waits {s = s} h n runs pauses =
 
 yield_phase : (v : View) (k : Slot) (b : Born) (p : Place) → StandsAt p v k b → is_yield p ≡ true → yields_in b.phase ≡ true
 yield_phase v k b (place.InService service.Yield stands) h yields =
-    ap (λ (x : Phase). yields_in x) (step_phase v k b service.Yield stands h).1
+    ap (λ (x : Phase). yields_in x) (yield_step v k b stands h).1
 yield_phase v k b _ h yields = absurd (let contradiction : false ≡ true = yields in cc)
 
 pub yield_tells : {names : Names} {s : KernelState} {a : AbstractState} → StandsFor names s a → (n : ℕ) → is_running (slot_at s n).status ≡ true →

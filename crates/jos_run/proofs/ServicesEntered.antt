@@ -1,6 +1,6 @@
 -- The words that INT 0x40 leaves tell which service was asked for, and that nothing of it is done, where ESP lies on no stack of the
 -- handler of page faults.
-use Rattle.std.proofs.Common.{◌≡◌, ◌∙◌, ◌<◌, ◌≤◌, Bool, true, false, ℕ, refl, ap, arith}
+use Rattle.std.proofs.Common.{◌≡◌, ◌∙◌, ◌<◌, ◌≤◌, Bool, true, false, List, ℕ, refl, ap, arith}
 use Rattle.std.specs.Prelude.{min, nat_lt}
 use Rattle.std.proofs.lemmas.Bool.Decides.{nat_tests}
 use Rattle.jos_base.specs.declared.registers.Regs.{Regs}
@@ -9,6 +9,7 @@ use Rattle.lib_os.specs.declared.place.Place.TheVariants as place
 use Rattle.lib_os.specs.declared.place.Step.TheVariants as step
 use Rattle.lib_os.specs.declared.service.Service.{Service}
 use Rattle.lib_os.specs.declared.service.Service.TheVariants as service
+use Rattle.lib_os.specs.LibraryPages.{has_working}
 use Rattle.lib_os.specs.Places.{place_in_words, is_handlers, words_entered}
 use Rattle.lib_os.specs.Services.{is_built, service_of}
 use Rattle.lib_os.proofs.Logical.{is_plain}
@@ -39,3 +40,8 @@ place_entered regs outside =
 pub entered_plain : (s : Service) → is_plain (place.InService s step.Entered) ≡ true
 entered_plain service.Fork = refl
 entered_plain _ = refl
+
+-- nor is there a page in which a service keeps bytes
+pub entered_holds : (s : Service) (words : List ℕ) → has_working (place.InService s step.Entered) words ≡ false
+entered_holds (service.Write fd va len) words = refl
+entered_holds _ words = refl

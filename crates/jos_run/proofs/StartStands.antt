@@ -130,6 +130,10 @@ no_copy_inside : in_fence (2047 * 4096) 4096 ≡ false
 unfolding in_fence
 no_copy_inside = refl
 
+no_working_inside : in_fence (1024 * 4096) 4096 ≡ false
+unfolding in_fence
+no_working_inside = refl
+
 -- ---- the state
 
 module _ (image : Layout) (words : List (List ℕ)) (input : List ℕ) (frames first n : ℕ) (has : HasFrames frames first n)
@@ -233,7 +237,7 @@ module _ (image : Layout) (words : List (List ℕ)) (input : List ℕ) (frames f
             outside_no_page image file words lie p outside
             ∙ sym (ap (λ (t : Bool). seen_where t (option_map (page_by names u.pages) (row p))) outside)
 
-    library_pages : LibraryPages place.Guest row
+    library_pages : LibraryPages place.Guest no_extra row
     library_pages = record {
       stack = let e = handler_row image file words lie h.has.had in record {
         entry = e.entry;
@@ -247,7 +251,9 @@ module _ (image : Layout) (words : List (List ℕ)) (input : List ℕ) (frames f
         | inl consoles ↦ ap (λ (e : Entry). e.perm) consoles.1
         | inr stood ↦ absurd (false≢true (sym stood.0 ∙ is))
       ];
-      none = λ p outside no_descriptor other too. row_is p no_descriptor ∙ outside_no_row image file words lie h.has.had p outside other;
+      working = λ is. absurd (false≢true is);
+      no_working = λ is. row_is 1024 refl ∙ outside_no_row image file words lie h.has.had 1024 no_working_inside (λ same. omega (arith, same));
+      none = λ p outside no_descriptor other too working. row_is p no_descriptor ∙ outside_no_row image file words lie h.has.had p outside other;
     }
 
     -- the first two descriptors name the console, and there are no others
@@ -293,7 +299,7 @@ module _ (image : Layout) (words : List (List ℕ)) (input : List ℕ) (frames f
       upcall = sym (ap upcall_at program_place);
       descriptors = descriptors_seen;
       memory = memory_seen;
-      library = subst (λ (at : Place). LibraryPages at row) (sym program_place) library_pages;
+      library = subst (λ (at : Place). LibraryPages at no_extra row) (sym program_place) library_pages;
       regions_have = λ r is. h.has.tables r
           ∙ ap (λ (t : Bool). (r == 832) || t) (sym (tables_are image file words lie h.has.had r) ∙ is) ∙ or_true (r == 832);
       regions_only = λ r is. librarys_too (has_page_in (first_memory image file words) r) (r == region_index UTEMP) (r == 832)
@@ -384,8 +390,8 @@ module _ (image : Layout) (words : List (List ℕ)) (input : List ℕ) (frames f
 
     -- ---- the whole
 
-    pub state_stands : StandsFor names (with_spaces (base image words input frames first n has) u) (start_state image file words input)
-    state_stands = record {
+    pub state_stands : AreBytes input → StandsFor names (with_spaces (base image words input frames first n has) u) (start_state image file words input)
+    state_stands input_bytes = record {
       slots = two.slot_stands first (first + 1) regs names u born
           (two.server_stands first (first + 1) regs u no_server_row
           (λ r. h.has.tables_elsewhere first r (λ same. omega (arith, same)))) program_stands;
@@ -398,7 +404,7 @@ module _ (image : Layout) (words : List (List ℕ)) (input : List ℕ) (frames f
       free_slots = record { same = refl; within = rising-slots 2 1022 (omega arith) };
       first = refl;
       server = refl;
-      input = refl;
+      input = (refl, input_bytes);
       last = refl;
       turns = refl;
       tabled = two.are_tabled first (first + 1) regs None;
@@ -406,7 +412,7 @@ module _ (image : Layout) (words : List (List ℕ)) (input : List ℕ) (frames f
     }
 
 pub programs_begin : ProgramsBegin
-programs_begin image file words frames input s file_bytes word_bytes read fit least most is =
+programs_begin image file words frames input s file_bytes word_bytes input_bytes read fit least most is =
     let h = fits words fit in
     let has = has_frames frames least most in
     let first = reserved_frames frames in
@@ -416,14 +422,27 @@ programs_begin image file words frames input s file_bytes word_bytes read fit le
         the_names begun.begins.has.frame,
         subst (λ (k : KernelState). StandsFor (the_names begun.begins.has.frame) k (start_state image file words input)) (sym begun.state)
             (state_stands image words input frames first n has h.size file file_bytes word_bytes (read_lie file image read) begun.loaded
-            begun.begins),
+            begun.begins input_bytes),
       ),
       begun_new image words input frames first n has file s begun,
     )
 
 -- the same where the frames that the program wants are there
 pub begun_within : (image : Layout) (file : List ℕ) (words : List (List ℕ)) (frames : ℕ) (input : List ℕ) (s : KernelState) →
-    AreBytes file → AreBytes (strings_of words) → parsed file ≡ Ok image → fits_stack words ≡ true → 64 ≤ frames → frames ≤ 65536 →
+    AreBytes file → AreBytes (strings_of words) → AreBytes input → parsed file ≡ Ok image → fits_stack words ≡ true → 64 ≤ frames → frames ≤ 65536 →
     booted_within image file words frames input ≡ Some s → Stands s (start_state image file words input) × IsNew s frames
-begun_within image file words frames input s file_bytes word_bytes read fit least most is =
-    programs_begin image file words frames input s file_bytes word_bytes read fit least most (within-booted image file words frames input s is)
+begun_within image file words frames input s file_bytes word_bytes input_bytes read fit least most is =
+    programs_begin image file words frames input s file_bytes word_bytes input_bytes read fit least most
+    (within-booted image file words frames input s is)
+
+-- that it is new, whatever the input
+pub new_within : (image : Layout) (file : List ℕ) (words : List (List ℕ)) (frames : ℕ) (input : List ℕ) (s : KernelState) →
+    parsed file ≡ Ok image → fits_stack words ≡ true → 64 ≤ frames → frames ≤ 65536 → booted_within image file words frames input ≡ Some s →
+    IsNew s frames
+new_within image file words frames input s read fit least most is =
+    let h = fits words fit in
+    let has = has_frames frames least most in
+    let first = reserved_frames frames in
+    let n = frames - reserved_frames frames - 2 in
+    begun_new image words input frames first n has file s
+    (has_begun image words input frames first n has file s read (fits-some words h) h.size (within-booted image file words frames input s is))

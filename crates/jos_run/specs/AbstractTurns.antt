@@ -72,15 +72,6 @@ end_of a turns spent =
 abbrev pub is_waiting_service : Service → Bool
 is_waiting_service (service.Wait id) = true
 is_waiting_service (service.Send id value va) = true
-is_waiting_service (service.OpenFile path mode) = true
-is_waiting_service (service.Read fd va len) = true
-is_waiting_service (service.Write fd va len) = true
-is_waiting_service (service.Seek fd offset) = true
-is_waiting_service (service.Stat fd va) = true
-is_waiting_service (service.SetSize fd size) = true
-is_waiting_service (service.Remove path) = true
-is_waiting_service service.Sync = true
-is_waiting_service (service.Spawn path argv) = true
 is_waiting_service _ = false
 
 abbrev pub waits_in : Phase → Bool

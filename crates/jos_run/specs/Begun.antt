@@ -20,10 +20,10 @@ pub record IsNew (s : KernelState) (frames : ℕ) : Type 0 where
   pub frames_are : s.spaces.frames ≡ frames
   pub used : EachHasUse s.spaces
 
--- A program that is booted, from a file of bytes and with words of bytes, stands for the abstract state in which its run begins.
+-- A program that is booted, from a file of bytes, with words of bytes and an input of bytes, stands for the abstract state in which its run begins.
 abbrev pub ProgramsBegin : Type 0
 ProgramsBegin = (image : Layout) (file : List ℕ) (words : List (List ℕ)) (frames : ℕ) (input : List ℕ) (s : KernelState) →
-    AreBytes file → AreBytes (strings_of words) → parsed file ≡ Ok image → fits_stack words ≡ true → FRAMES_MIN ≤ frames → frames ≤ FRAMES_MAX →
+    AreBytes file → AreBytes (strings_of words) → AreBytes input → parsed file ≡ Ok image → fits_stack words ≡ true → FRAMES_MIN ≤ frames → frames ≤ FRAMES_MAX →
     program_booted image file words frames input ≡ Some s → Stands s (start_state image file words input) × IsNew s frames
 
 -- And in the frames that it wants, every program is booted.

@@ -1,16 +1,25 @@
 -- One step of an environment that the library serves: of its program, or of the service that it is in.
-use Rattle.std.specs.Prelude.{◌≡◌, ℕ, Bool, ◌||◌, Option, Some, None, Result, Ok, Err}
+use Rattle.std.specs.Prelude.{◌≡◌, ℕ, ◌+◌, ◌%◌, ◌^◌, Bool, true, ◌||◌, Option, Some, None, is_some, Result, Ok, Err, if◌then◌else◌}
 use Rattle.jos_host.specs.declared.host.Failed.{Failed}
 use Rattle.jos_base.specs.declared.environment.Status.{Status}
-use Rattle.jos_base.specs.declared.numbers.TheConstants.{T_PGFLT}
+use Rattle.jos_base.specs.declared.numbers.TheConstants.{FEC_PR, FEC_U, FEC_WR, T_PGFLT}
 use Rattle.jos_base.specs.Environments.{is_runnable, is_running}
 use Rattle.jos_base.specs.KernelState.{KernelState, slot_at}
+use Rattle.jos_base.specs.Reach.{Entry}
+use Rattle.jos_base.specs.Words.{page_number}
 use Rattle.jos_kernel.specs.declared.trace.TrapLine.{TrapLine}
 use Rattle.lib_os.specs.declared.place.HandlerStep.{HandlerStep}
 use Rattle.lib_os.specs.declared.place.HandlerStep.TheVariants as handler
 use Rattle.lib_os.specs.declared.place.Place.{Place}
 use Rattle.lib_os.specs.declared.place.Place.TheVariants as place
+use Rattle.lib_os.specs.declared.place.Step.{Step}
+use Rattle.lib_os.specs.declared.place.Step.TheVariants as step
 use Rattle.lib_os.specs.declared.progress.Progress.{Progress}
+use Rattle.lib_os.specs.declared.service.Service.{Service}
+use Rattle.lib_os.specs.LibrarySteps.{is_to_copy}
+use Rattle.lib_os.specs.Rows.{rows_of}
+use Rattle.lib_os.specs.StandsFor.{writes_buffer}
+use Rattle.lib_os.specs.StandsInHandler.{buffer_of}
 use Rattle.jos_run.specs.declared.steps.StepOutcome.{StepOutcome}
 use Rattle.jos_run.specs.GuestSteps.{guest_instruction}
 
@@ -29,8 +38,34 @@ raised_again s n (handler.Touching va error ip) =
     Some (record { id = (slot_at s n).id; trap = T_PGFLT; error = error; va = va; ip = ip })
 raised_again s n _ = None
 
--- A step of a program is its instruction, with the trap that this raises, if it raises one. A service raises none.
+-- the page fault of an access by the service of the environment in slot n, which stands behind its INT 0x40
+abbrev pub fault_line : KernelState → ℕ → ℕ → ℕ → TrapLine
+fault_line s n error va =
+    record { id = (slot_at s n).id; trap = T_PGFLT; error = error; va = va; ip = (slot_at s n).registers.eip }
+
+-- its error code, by whether the page is there and the access is a write
+abbrev pub access_error : Bool → Bool → ℕ
+access_error present write = FEC_U + (if present then FEC_PR else 0) + (if write then FEC_WR else 0)
+
+-- the byte of its buffer that a service stands before, of which it has moved so many
+abbrev pub next_byte : Service → ℕ → ℕ
+next_byte service done = (buffer_of service + done) % 2 ^ 32
+
+abbrev pub entry_at : KernelState → ℕ → ℕ → Option Entry
+entry_at s n va = rows_of s.spaces (slot_at s n).directory (page_number va)
+
+-- the trap that a step of a service raises: where the page into which it puts bytes waits to be copied, and where it can't move a byte
+abbrev pub raised_by : KernelState → ℕ → Service → Step → Option TrapLine
+raised_by s n service (step.Delivering done word) =
+    let va = next_byte service done in
+    if is_to_copy (entry_at s n va) then Some (fault_line s n (access_error true true) va) else None
+raised_by s n service (step.Faulting done word) =
+    let va = next_byte service done in
+    Some (fault_line s n (access_error (is_some (entry_at s n va)) (writes_buffer service)) va)
+raised_by s n service _ = None
+
+-- A step of a program is its instruction, with the trap that this raises, if it raises one; so may an access of a service.
 abbrev pub Raises : Place → ℕ → KernelState → Option TrapLine → KernelState → Type 0
 Raises place.Guest n before trap after = (after ≡ (guest_instruction before n).state) × (trap ≡ (guest_instruction before n).trap)
-Raises (place.InService service step) n before trap after = trap ≡ None
+Raises (place.InService service step) n before trap after = trap ≡ raised_by before n service step
 Raises (place.InHandler step) n before trap after = trap ≡ raised_again before n step

@@ -281,7 +281,7 @@ pub fn boot_program(
         booted_within image.now file.now (map (λ w. w.now) words.now) frames input ≡ Some (state_of system input)) }
     ensures pool { IfErr result (λ fault. fault ≡ BootFault.Pool → (input : List ℕ) →
         booted_within image.now file.now (map (λ w. w.now) words.now) frames input ≡ None) }
-    ensures stands { IfOk result (λ system. (input : List ℕ) →
+    ensures stands { IfOk result (λ system. (input : List ℕ) → AreBytes input →
         Stands (state_of system input) (start_state image.now file.now (map (λ w. w.now) words.now) input)) }
     ensures new { IfOk result (λ system. (input : List ℕ) → IsNew (state_of system input) frames) }
     ensures keeps { IfOk result Keeps }

@@ -12,7 +12,7 @@ ghost use Rattle.lib_spawn.specs.StackPage.{fits_stack};
 ghost use Rattle.jos_run.specs.Begun.{IsNew};
 ghost use Rattle.jos_run.specs.RunEnds.{AnswersFor, HasEndCause, HasRunCause, RunsFrom, given_job};
 
-use crate::boot::boot_program;
+use crate::boot::{boot_program, keep_bytes};
 use crate::library_run::LibraryRun;
 use crate::served::Served;
 use jos_cpu::Decodings;
@@ -95,6 +95,7 @@ pub fn run<H: Host>(
     ensures rest { Unchanged H.files H.input H.asked H.notes host.old host.new }
     ensures cause { HasRunCause (around H.faults host.old host.new) result }
 {
+    keep_bytes(setup.input.as_slice());
     let (turns, trace) = match take_room(alloc, setup.trace) {
         Ok(taken) => taken,
         Err(_) => return Err(BootFault::NoMemory),

@@ -5,12 +5,15 @@ ghost use Rattle.jos_run.specs.Plans.{plan_at, plan_of};
 
 use jos_base::Called;
 use lib_fd::{Close, Dup, Exit};
+use lib_file::{FileOnly, FileOnlyService};
 use lib_fork::Fork;
 use lib_mem::MemoryService;
 use lib_msg::{Receive, Send};
 use lib_os::{Service, Step};
+use lib_read::{Read, Stat};
 use lib_spawn::Wait;
 use lib_stage::{Ask, Next, Nowhere, Planned};
+use lib_write::Write;
 
 /// A service at a stage.
 #[derive(Clone, Copy)]
@@ -23,6 +26,10 @@ pub(crate) enum ServiceStage {
     Memory(MemoryService),
     Close(Close),
     Dup(Dup),
+    Read(Read),
+    Write(Write),
+    FileOnly(FileOnly),
+    Stat(Stat),
     /// The service has not this step.
     Nowhere(Nowhere),
 }
@@ -60,6 +67,26 @@ pub(crate) fn stage_of(service: Service, step: Step) -> ServiceStage
             Some(dup) => ServiceStage::Dup(dup),
             None => ServiceStage::Nowhere(Nowhere),
         },
+        Service::Read { fd, va, len } => match Read::at_step(fd, va, len, step) {
+            Some(read) => ServiceStage::Read(read),
+            None => ServiceStage::Nowhere(Nowhere),
+        },
+        Service::Write { fd, va, len } => match Write::at_step(fd, va, len, step) {
+            Some(write) => ServiceStage::Write(write),
+            None => ServiceStage::Nowhere(Nowhere),
+        },
+        Service::Seek { fd, .. } => match FileOnly::at_step(FileOnlyService::Seek, fd, step) {
+            Some(seek) => ServiceStage::FileOnly(seek),
+            None => ServiceStage::Nowhere(Nowhere),
+        },
+        Service::Stat { fd, va } => match Stat::at_step(fd, va, step) {
+            Some(stat) => ServiceStage::Stat(stat),
+            None => ServiceStage::Nowhere(Nowhere),
+        },
+        Service::SetSize { fd, .. } => match FileOnly::at_step(FileOnlyService::SetSize, fd, step) {
+            Some(set_size) => ServiceStage::FileOnly(set_size),
+            None => ServiceStage::Nowhere(Nowhere),
+        },
         _ => match MemoryService::of(service) {
             Some(memory) => ServiceStage::Memory(memory),
             None => ServiceStage::Nowhere(Nowhere),
@@ -82,6 +109,10 @@ impl Planned for ServiceStage {
             ServiceStage::Memory(memory) => memory.number(),
             ServiceStage::Close(close) => close.number(),
             ServiceStage::Dup(dup) => dup.number(),
+            ServiceStage::Read(read) => read.number(),
+            ServiceStage::Write(write) => write.number(),
+            ServiceStage::FileOnly(service) => service.number(),
+            ServiceStage::Stat(stat) => stat.number(),
             ServiceStage::Nowhere(nowhere) => nowhere.number(),
         }
     }
@@ -96,6 +127,10 @@ impl Planned for ServiceStage {
             ServiceStage::Memory(memory) => memory.ask(),
             ServiceStage::Close(close) => close.ask(),
             ServiceStage::Dup(dup) => dup.ask(),
+            ServiceStage::Read(read) => read.ask(),
+            ServiceStage::Write(write) => write.ask(),
+            ServiceStage::FileOnly(service) => service.ask(),
+            ServiceStage::Stat(stat) => stat.ask(),
             ServiceStage::Nowhere(nowhere) => nowhere.ask(),
         }
     }
@@ -110,6 +145,10 @@ impl Planned for ServiceStage {
             ServiceStage::Memory(memory) => memory.next(called),
             ServiceStage::Close(close) => close.next(called),
             ServiceStage::Dup(dup) => dup.next(called),
+            ServiceStage::Read(read) => read.next(called),
+            ServiceStage::Write(write) => write.next(called),
+            ServiceStage::FileOnly(service) => service.next(called),
+            ServiceStage::Stat(stat) => stat.next(called),
             ServiceStage::Nowhere(nowhere) => nowhere.next(called),
         }
     }

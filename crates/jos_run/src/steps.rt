@@ -1,6 +1,6 @@
 //! Steps of an environment that the library serves.
 
-ghost use Rattle.std.specs.Prelude.{◌≡◌, ◌+◌, ◌-◌, ◌<◌, ◌≤◌, ◌^◌, true, None, IfOk};
+ghost use Rattle.std.specs.Prelude.{◌≡◌, ◌+◌, ◌-◌, ◌<◌, ◌≤◌, ◌^◌, true, None, IfOk, is_some, if◌then◌else◌};
 ghost use Rattle.jos_host.specs.Told.{HasCause};
 ghost use Rattle.jos_host.specs.Frames.{Unchanged, from_to};
 ghost use Rattle.jos_base.specs.Environments.{is_live, is_runnable, is_running};
@@ -12,19 +12,20 @@ ghost use Rattle.jos_run.specs.Served.{kernel_state};
 ghost use Rattle.jos_base.specs.Words.{page_number};
 ghost use Rattle.lib_os.specs.LibrarySteps.{is_to_copy};
 ghost use Rattle.lib_os.specs.Rows.{rows_of};
-ghost use Rattle.lib_os.specs.StandsInHandler.{AreSmall};
+ghost use Rattle.lib_os.specs.StandsFor.{writes_buffer};
+ghost use Rattle.lib_os.specs.StandsInHandler.{AreSmall, buffer_of};
 ghost use Rattle.jos_run.specs.GuestSteps.{is_copying};
-ghost use Rattle.jos_run.specs.Steps.{is_awake, raised_again, step_progress};
+ghost use Rattle.jos_run.specs.Steps.{entry_at, fault_line, is_awake, raised_again, raised_by, step_progress};
 ghost use Rattle.jos_run.specs.StepsAtOnce.{came_to, MakesSteps};
 
 use crate::served::Served;
 use crate::services::stage_of;
-use jos_base::{FEC_WR, PTE_SYSCALL, Status, T_PGFLT};
+use jos_base::{FEC_PR, FEC_U, FEC_WR, PTE_SYSCALL, Status, T_PGFLT};
 use jos_cpu::{Decodings, Event, Gates, make_burst};
 use jos_host::{Failed, Host};
 use jos_kernel::TrapLine;
 use lib_fault::PageFaultHandler;
-use lib_os::{HandlerStep, PTE_COW, Place, Progress, UserOs, find_place};
+use lib_os::{HandlerStep, PTE_COW, Place, Progress, Service, Step, UserOs, find_place};
 use lib_stage::drive;
 
 /// What a step has come to, and the trap that it raised, if it raised one.
@@ -77,6 +78,23 @@ fn came_with(
         Ok(progress) => Ok(StepOutcome { progress, trap }),
         Err(failed) => Err(failed),
     }
+}
+
+/// The address of the buffer that a service is given; 0 where it is given none.
+fn buffer_of(service: Service) -> u32
+    ensures { result ≡ buffer_of service }
+{
+    match service {
+        Service::Read { va, .. } | Service::Write { va, .. } | Service::Stat { va, .. } => va,
+        _ => 0,
+    }
+}
+
+/// Whether a service that moves bytes puts them into its buffer.
+fn writes_buffer(service: Service) -> bool
+    ensures { result ≡ writes_buffer service }
+{
+    !matches!(service, Service::Write { .. })
 }
 
 impl Served {
@@ -155,6 +173,54 @@ impl Served {
         }
     }
 
+    /// Whether a page is there at an address.
+    #[tactic(auto, unfolding(lib_os::specs::Rows::rows_of))]
+    fn is_there(&self, va: u32) -> bool
+        requires { is_live (slot_at (kernel_state self.now) self.now.slot) ≡ true }
+        ensures { result ≡ is_some (entry_at (kernel_state self.now) self.now.slot va) }
+    {
+        let system = self.machine.system();
+        system.page_perm(system.space(self.slot), va).is_some()
+    }
+
+    /// The page fault of an access by the service that the environment is in.
+    fn fault_line(&self, error: u32, va: u32) -> TrapLine
+        requires { is_live (slot_at (kernel_state self.now) self.now.slot) ≡ true }
+        ensures { result ≡ fault_line (kernel_state self.now) self.now.slot error va }
+    {
+        TrapLine {
+            id: self.machine.system().environment(self.slot).id.0,
+            trap: T_PGFLT,
+            error,
+            va,
+            ip: self.registers().eip,
+        }
+    }
+
+    /// The trap that a step of a service raises, if it raises one.
+    fn raised_by(&self, service: Service, step: Step) -> Option<TrapLine>
+        requires { is_live (slot_at (kernel_state self.now) self.now.slot) ≡ true }
+        ensures { result ≡ raised_by (kernel_state self.now) self.now.slot service step }
+    {
+        match step {
+            Step::Delivering { done, .. } => {
+                let va = buffer_of(service).wrapping_add(done);
+                if self.waits_to_be_copied(va) {
+                    Some(self.fault_line(FEC_U + FEC_PR + FEC_WR, va))
+                } else {
+                    None
+                }
+            }
+            Step::Faulting { done, .. } => {
+                let va = buffer_of(service).wrapping_add(done);
+                let present = if self.is_there(va) { FEC_PR } else { 0 };
+                let write = if writes_buffer(service) { FEC_WR } else { 0 };
+                Some(self.fault_line(FEC_U + present + write, va))
+            }
+            _ => None,
+        }
+    }
+
     /// Makes instructions of the program: up to the first that raises or calls something, or that leaves the stack pointer
     /// among the library's stacks, and so many at most.
     fn run_program<H: Host>(&mut self, host: &mut H, decodings: &mut Decodings, limit: u32) -> Steps
@@ -216,16 +282,21 @@ impl Served {
         let words = self.extra();
         match find_place(&registers, &words) {
             Place::Guest => self.run_program(host, decodings, limit),
-            Place::InService { service, step } => Steps {
-                going: 0,
-                last: came_with(drive(&stage_of(service, step), self, host), None),
-            },
-            Place::InHandler { step } => {
-                let trap = self.raised_again(step);
-                let answer = drive(&PageFaultHandler { step }, self, host);
+            Place::InService { service, step } => {
+                self.keep_small();
+                let trap = self.raised_by(service, step);
+                let answer = drive(&stage_of(service, step), self, host);
                 Steps {
                     going: 0,
                     last: came_with(answer, trap),
+                }
+            }
+            Place::InHandler { step } => {
+                let trap = self.raised_again(step);
+                let handled = drive(&PageFaultHandler { step }, self, host);
+                Steps {
+                    going: 0,
+                    last: came_with(handled, trap),
                 }
             }
         }

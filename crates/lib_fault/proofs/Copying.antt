@@ -18,7 +18,7 @@ use Rattle.lib_os.specs.declared.progress.Progress.TheVariants as progress
 use Rattle.lib_os.specs.InOrder.{IsInOrder}
 use Rattle.lib_os.specs.LibrarySteps.{AbstractFollows, KeepsStanding, Stays}
 use Rattle.lib_os.specs.Places.{place_of}
-use Rattle.lib_os.specs.UserCalls.{CallStep, Got, got, gone, system, store}
+use Rattle.lib_os.specs.UserCalls.{CallStep, Got, got, gone, system, store, to_handler}
 use Rattle.lib_os.proofs.Calls.{page_made_or_refused, page_unmap_is, refusal_is_seen}
 use Rattle.lib_os.proofs.CopiesStand.{copy_page, taken_stands, unmapped_stands, over_stands}
 use Rattle.lib_os.proofs.CopiesStored.{StoresWord, stores_word, word_stored, last_stored}
@@ -30,7 +30,7 @@ use Rattle.lib_stage.specs.declared.ask.Next.TheVariants as next
 use Rattle.lib_stage.specs.Asks.{performed, got_as, told_as}
 use Rattle.lib_stage.specs.Nexts.{settled, seen_as}
 use Rattle.lib_stage.specs.ServiceSteps.{upshot_by}
-use Rattle.lib_stage.proofs.Laws.{KeepsBy, FollowsBy, FailsBy, system_gives}
+use Rattle.lib_stage.proofs.Laws.{KeepsBy, FollowsBy, FailsBy, NeverFaults, system_gives}
 use Rattle.lib_fault.specs.HandlerStages.{ask_of, handling, copy_perm, page_start, word_of_page}
 
 -- ---- a page is taken
@@ -105,6 +105,14 @@ module _ (s : KernelState) (n va index word : ℕ) (live : is_live (slot_at s n)
       let call = stores_word h.1 n va index word stands in
       let given : got (Answered 0) ≡ gone = sym (ap (λ (z : CallStep (Unit {0})). got_as (λ done. 0) z.gives) call.step) ∙ may in
       absurd (let contradiction : ◌≡◌ {A = Got Called} (got (Answered 0)) gone = given in cc)
+
+  -- the copy may always be written
+  pub storing_never : NeverFaults s (performed s n (ask_of (handler.Storing va index word)))
+  unfolding performed
+  storing_never a h faults =
+      let call = stores_word h.1 n va index word stands in
+      let given : got (Answered 0) ≡ to_handler = sym (ap (λ (z : CallStep (Unit {0})). got_as (λ done. 0) z.gives) call.step) ∙ faults in
+      let contradiction : ◌≡◌ {A = Got Called} (got (Answered 0)) to_handler = given in cc
 
 -- ---- the copy is taken away from where it was made
 

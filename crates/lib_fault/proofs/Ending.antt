@@ -1,5 +1,5 @@
--- The way to the end: the handler sets that its environment handles no more page faults, and raises the fault again as at the program's
--- instruction, so that the kernel ends it with the line of that fault.
+-- The way to the end: the handler sets that its environment handles no more page faults, and raises the fault again as at the instruction
+-- that raised it, so that the kernel ends it with the line of that fault.
 use Rattle.std.proofs.Common.{◌≡◌, ◌∙◌, ◌++◌, ℕ, Bool, true, false, List, [], ◌∷◌, Some, refl, sym, ap, subst}
 use Rattle.jos_base.specs.declared.called.Called.{Called}
 use Rattle.jos_base.specs.declared.called.Called.TheVariants.{Answered}
@@ -24,16 +24,17 @@ use Rattle.lib_os.specs.Places.{place_of}
 use Rattle.lib_os.specs.Rows.{Names, rows_of}
 use Rattle.lib_os.specs.StandsFor.{StandsFor, view_of, upcall_at, borne_in}
 use Rattle.lib_os.specs.StandsInHandler.{CopiesOrEnds, copies, ends, Ends, is_write}
-use Rattle.lib_os.specs.UserCalls.{CallStep, giving, load_byte, store_byte, user_byte, with_user_byte}
+use Rattle.lib_os.specs.UserCalls.{CallStep, Got, gone, to_handler, giving, load_byte, store_byte, user_byte, with_user_byte}
 use Rattle.lib_os.proofs.BytesRead.{users_inside}
-use Rattle.lib_os.proofs.FaultEnds.{IsRefused, access_of, access_refused, ended_by, ended_set, refused_ends, faulted_step, same_line, fault_ended}
+use Rattle.lib_os.proofs.FaultEnds.{IsRefused, access_of, access_refused, ended_by, ended_set, refused_ends, same_line, fault_ended}
 use Rattle.lib_os.proofs.Fences.{inside_number}
 use Rattle.lib_os.proofs.Handled.{IsHandled, handled_part}
-use Rattle.lib_os.proofs.Logical.{inside_programs}
+use Rattle.lib_os.proofs.Logical.{inside_programs, is_plain}
 use Rattle.lib_os.proofs.Slots.{slot_put}
+use Rattle.lib_os.proofs.StopsEnd.{stopped_step}
 use Rattle.lib_os.proofs.UpcallSet.{upcall_unset_is, unset_stands}
 use Rattle.lib_stage.specs.Asks.{at_instruction, performed, told_as, touching}
-use Rattle.lib_stage.proofs.Laws.{FailsBy, FollowsBy, KeepsBy}
+use Rattle.lib_stage.proofs.Laws.{FailsBy, FollowsBy, KeepsBy, NeverFaults}
 use Rattle.lib_fault.specs.HandlerStages.{ask_of, handling}
 
 module _ (s : KernelState) (n va error ip : ℕ) (live : is_live (slot_at s n) ≡ true) where
@@ -73,7 +74,7 @@ module _ (s : KernelState) (n va error ip : ℕ) (live : is_live (slot_at s n) �
   abbrev touching_again : HandlerStep
   touching_again = handler.Touching va error ip
 
-  -- the state at the program's instruction
+  -- the state at the instruction
   abbrev raised : KernelState
   raised = at_instruction s n ip
 
@@ -137,12 +138,14 @@ module _ (s : KernelState) (n va error ip : ℕ) (live : is_live (slot_at s n) �
       unfolding performed
       goes_there = touch_is (is_write error) no_handler refused_here
 
-      -- the program ends by that fault
+      -- the environment ends by that fault, as its program, or as a service before its access
       abbrev ended : AbstractState
       ended = ends_with a n v.b (UserFault v.at.fault.va v.at.regs.eip)
 
       ends_by : abs_step a n ≡ Some ended
-      ends_by = faulted_step a n v.b v.at.regs v.at.fault.va v.at.regs.eip v.is way.awake way.program way.phase
+      ends_by =
+          stopped_step h n v.b v.is (ap is_plain stands) (is_write v.at.fault.error) v.at.fault.va v.at.regs way.program way.awake way.inside way.refused
+          way.stopped
 
       -- with the line that the kernel writes
       written : ended.console ≡ a.console ++ line
@@ -160,7 +163,13 @@ module _ (s : KernelState) (n va error ip : ℕ) (live : is_live (slot_at s n) �
         subst (λ (z : CallStep Called). FollowsBy s n (handling touching_again) a z) (sym is)
         (gone_there h.1 (subst (λ (z : CallStep Called). IsInOrder z.state) is order))
 
-    -- where the host failed, the line is what the program's end prints
+    -- it is gone, and not in its handler
+    pub touching_never : NeverFaults s (performed s n (ask_of touching_again))
+    touching_never a h faults =
+        let given : to_handler ≡ gone = sym faults ∙ ap (λ (z : CallStep Called). z.gives) (goes_there h.1) in
+        let contradiction : ◌≡◌ {A = Got Called} to_handler gone = given in cc
+
+    -- where the host failed, the line is what the end prints
     pub touching_fails : FailsBy s n (handling touching_again) (performed s n (ask_of touching_again))
     touching_fails may a h =
         subst (λ (z : CallStep Called). (b : AbstractState) × (abs_step a n ≡ Some b) × (b.console ≡ a.console ++ z.written)) (sym (goes_there h.1))

@@ -22,9 +22,9 @@ use Rattle.lib_os.proofs.HandlerGoes.{copies_go, ends_go}
 use Rattle.lib_os.proofs.PageWords.{load_frame_word}
 use Rattle.lib_os.proofs.WindowWords.{read_at}
 use Rattle.lib_stage.specs.Asks.{performed}
-use Rattle.lib_stage.proofs.Laws.{FailsBy, KeepsBy}
+use Rattle.lib_stage.proofs.Laws.{FailsBy, KeepsBy, NeverFaults}
 use Rattle.lib_fault.specs.HandlerStages.{ask_of, frame_word, handling, refused_write}
-use Rattle.lib_fault.proofs.Loads.{Reads, load_keeps, load_fails}
+use Rattle.lib_fault.proofs.Loads.{Reads, load_keeps, load_fails, load_never}
 
 -- ---- the words of the frame
 
@@ -78,6 +78,9 @@ module _ (s : KernelState) (n : ℕ) where
     pub entered_fails : FailsBy s n (handling handler.Entered) (performed s n (ask_of handler.Entered))
     entered_fails = load_fails s n (frame_word 0) handler.Entered refl stands address_read
 
+    pub entered_never : NeverFaults s (performed s n (ask_of handler.Entered))
+    entered_never = load_never s n (frame_word 0) handler.Entered refl stands address_read
+
   -- ---- the error code
 
   module _ (va : ℕ) where
@@ -126,6 +129,9 @@ module _ (s : KernelState) (n : ℕ) where
       pub reading_error_fails : FailsBy s n (handling reading) (performed s n (ask_of reading))
       reading_error_fails = load_fails s n (frame_word 1) reading refl stands error_read
 
+      pub reading_error_never : NeverFaults s (performed s n (ask_of reading))
+      reading_error_never = load_never s n (frame_word 1) reading refl stands error_read
+
   -- ---- EIP of the program
 
   module _ (va error : ℕ) where
@@ -154,3 +160,6 @@ module _ (s : KernelState) (n : ℕ) where
 
       pub reading_ip_fails : FailsBy s n (handling reading_ip) (performed s n (ask_of reading_ip))
       reading_ip_fails = load_fails s n (frame_word 10) reading_ip refl stands ip_read
+
+      pub reading_ip_never : NeverFaults s (performed s n (ask_of reading_ip))
+      reading_ip_never = load_never s n (frame_word 10) reading_ip refl stands ip_read

@@ -1,8 +1,9 @@
 -- The parts of the law of the handler that are the same at all its steps: who goes on is there, what each step leaves, that less is left
 -- behind each hidden one, that none gives up its turn, and how many frames each takes.
-use Rattle.std.proofs.Common.{◌≡◌, ◌∙◌, ◌<◌, ◌≤◌, ℕ, Bool, true, false, List, Option, Some, None, Result, Ok, Err, refl, sym, ap, subst, arith}
+use Rattle.std.proofs.Common.{◌≡◌, ◌∙◌, ◌<◌, ◌≤◌, ℕ, Bool, true, false, List, Option, Some, None, Result, Ok, Err, refl, sym, ap, subst, arith, ◌∷◌, []}
 use Rattle.jos_base.specs.declared.called.Called.{Called}
 use Rattle.jos_base.specs.declared.memory.PageFault.{PageFault}
+use Rattle.jos_base.specs.declared.numbers.TheConstants.{SYS_ENV_SET_PGFAULT_UPCALL, SYS_PAGE_ALLOC, SYS_PAGE_MAP, SYS_PAGE_UNMAP}
 use Rattle.jos_base.specs.declared.registers.Regs.{Regs}
 use Rattle.jos_base.specs.Environments.{Slot, is_live}
 use Rattle.jos_base.specs.KernelState.{KernelState, slot_at, with_registers}
@@ -10,6 +11,7 @@ use Rattle.jos_base.specs.Reach.{Entry}
 use Rattle.jos_base.specs.SystemCalls.{handled, user_bytes, with_bytes_reached}
 use Rattle.jos_base.specs.TrapFrames.{frame_size, from_frame, words_of_bytes}
 use Rattle.jos_base.specs.Words.{page_number}
+use Rattle.lib_os.specs.declared.numbers.TheConstants.{PFTEMP}
 use Rattle.lib_os.specs.declared.place.HandlerStep.{HandlerStep}
 use Rattle.lib_os.specs.declared.place.HandlerStep.TheVariants as handler
 use Rattle.lib_os.specs.declared.place.Place.TheVariants as place
@@ -25,12 +27,16 @@ use Rattle.lib_stage.specs.Asks.{frames_of, performed}
 use Rattle.lib_stage.specs.Nexts.{is_gone}
 use Rattle.lib_stage.specs.ServiceSteps.{upshot_by}
 use Rattle.lib_stage.proofs.FramesTaken.{asks_few, takes_at}
-use Rattle.lib_stage.proofs.Laws.{is_plain, plain_leaves}
-use Rattle.lib_fault.specs.HandlerStages.{ask_of, next_of, handling, copy_perm}
+use Rattle.lib_stage.proofs.Laws.{NeverFaults, is_plain, plain_leaves, system_never}
+use Rattle.lib_fault.specs.HandlerStages.{ask_of, next_of, handling, copy_perm, page_start}
 use Rattle.lib_fault.proofs.CallsLeave.{keeps_registers, call_left, told_gives}
 use Rattle.lib_os.proofs.CopiesLeft.{inserted_entries, put_copies_less}
 use Rattle.lib_os.proofs.StepsThere.{step_is_there}
+use Rattle.lib_fault.proofs.Copying.{storing_never}
+use Rattle.lib_fault.proofs.Ending.{touching_never}
 use Rattle.lib_fault.proofs.Falling.{handler_falls}
+use Rattle.lib_fault.proofs.FrameReads.{entered_never, reading_error_never, reading_ip_never}
+use Rattle.lib_fault.proofs.PageReads.{loading_never, looking_never}
 use Rattle.lib_fault.proofs.Lowering.{copies_fall, next_lowers, is_mapping}
 use Rattle.lib_fault.proofs.Restored.{restoring_lowers}
 
@@ -130,10 +136,28 @@ module _ (s : KernelState) (n : ℕ) (live : is_live (slot_at s n) ≡ true) whe
   abbrev LowersBy : HandlerStep → Got Called → Type 0
   LowersBy at g = let did = upshot_by (handling at) n (performed s n (ask_of at)) g in Lowers (Ok did.progress) n s did.state
 
-  touching_lowers : (va error ip : ℕ) (g : Got Called) → LowersBy (handler.Touching va error ip) g
-  touching_lowers va error ip (got called) = tt
-  touching_lowers va error ip to_handler = tt
-  touching_lowers va error ip gone = tt
+  touching_lowers : (va error ip : ℕ) (g : Got Called) →
+      ((a : AbstractState) → Stands s a → g ≡ to_handler → ⊥) → LowersBy (handler.Touching va error ip) g
+  touching_lowers va error ip (got called) never = tt
+  touching_lowers va error ip to_handler never = λ a h quiet. absurd (never a h refl)
+  touching_lowers va error ip gone never = tt
+
+  -- Its accesses are allowed wherever the state stands for an abstract one.
+  never_faults : (at : HandlerStep) → keeps_registers at ≡ true → place_of (slot_at s n) ≡ place.InHandler at → NeverFaults s (performed s n (ask_of at))
+  unfolding performed
+  never_faults handler.Entered keeps stands = entered_never s n live stands
+  never_faults (handler.ReadingError va) keeps stands = reading_error_never s n va live stands
+  never_faults (handler.Looking va) keeps stands = looking_never s n va live stands
+  never_faults (handler.Taking va) keeps stands = system_never s n SYS_PAGE_ALLOC (0 ∷ PFTEMP ∷ copy_perm ∷ 0 ∷ 0 ∷ [])
+  never_faults (handler.Loading va index) keeps stands =
+      loading_never s n va index (step_is_there (slot_at s n) (handler.Loading va index) stands) live stands
+  never_faults (handler.Storing va index word) keeps stands = storing_never s n va index word live stands
+  never_faults (handler.MappingOver va) keeps stands = system_never s n SYS_PAGE_MAP (0 ∷ PFTEMP ∷ 0 ∷ page_start va ∷ copy_perm ∷ [])
+  never_faults (handler.Unmapping va) keeps stands = system_never s n SYS_PAGE_UNMAP (0 ∷ PFTEMP ∷ 0 ∷ 0 ∷ 0 ∷ [])
+  never_faults handler.Restoring keeps stands = absurd (let contradiction : false ≡ true = keeps in cc)
+  never_faults (handler.ReadingIp va error) keeps stands = reading_ip_never s n va error live stands
+  never_faults (handler.Unsetting va error ip) keeps stands = system_never s n SYS_ENV_SET_PGFAULT_UPCALL (0 ∷ 0 ∷ 0 ∷ 0 ∷ 0 ∷ [])
+  never_faults (handler.Touching va error ip) keeps stands = absurd (let contradiction : false ≡ true = keeps in cc)
 
   pub handler_lowers : (at : HandlerStep) → place_of (slot_at s n) ≡ place.InHandler at → LowersBy at (performed s n (ask_of at)).gives
   handler_lowers at stands = by_kind (keeps_registers at) refl
@@ -147,14 +171,15 @@ module _ (s : KernelState) (n : ℕ) (live : is_live (slot_at s n) ≡ true) whe
 
       by_got : keeps_registers at ≡ true → (g : Got Called) → (performed s n (ask_of at)).gives ≡ g → LowersBy at g
       by_got keeps (got called) is = going_on keeps called is
-      by_got keeps to_handler is = tt
+      by_got keeps to_handler is = λ a h quiet. absurd (never_faults at keeps stands a h is)
       by_got keeps gone is = tt
 
       by_kind : (t : Bool) → keeps_registers at ≡ t → LowersBy at (performed s n (ask_of at)).gives
       by_kind true keeps = by_got keeps (performed s n (ask_of at)).gives refl
       by_kind false sets =
           only_two (λ (x : HandlerStep). place_of (slot_at s n) ≡ place.InHandler x → LowersBy x (performed s n (ask_of x)).gives) at sets
-          (restoring_lowers s n) (λ va error ip there. touching_lowers va error ip (performed s n (ask_of (handler.Touching va error ip))).gives) stands
+          (restoring_lowers s n) (λ va error ip there. touching_lowers va error ip (performed s n (ask_of (handler.Touching va error ip))).gives
+          (touching_never s n va error ip live there)) stands
 
 -- ---- how many frames are taken
 

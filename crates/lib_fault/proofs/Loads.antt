@@ -8,13 +8,13 @@ use Rattle.lib_os.specs.declared.place.Place.TheVariants as place
 use Rattle.lib_os.specs.AbstractState.{AbstractState}
 use Rattle.lib_os.specs.InOrder.{IsInOrder}
 use Rattle.lib_os.specs.LibraryPages.{has_copy}
-use Rattle.lib_os.specs.LibrarySteps.{AbstractFollows}
+use Rattle.lib_os.specs.LibrarySteps.{AbstractFollows, Stands}
 use Rattle.lib_os.specs.Places.{place_of}
 use Rattle.lib_os.specs.Rows.{Names}
 use Rattle.lib_os.specs.StandingLaws.{IsHandlerStep}
 use Rattle.lib_os.specs.StandsFor.{StandsFor, view_of, upcall_at}
 use Rattle.lib_os.specs.StandsInHandler.{CopiesOrEnds}
-use Rattle.lib_os.specs.UserCalls.{CallStep, Got, got, gone, load}
+use Rattle.lib_os.specs.UserCalls.{CallStep, Got, got, gone, load, to_handler}
 use Rattle.lib_os.proofs.Handled.{IsHandled, handled_part, handler_slot}
 use Rattle.lib_os.proofs.HandlerGoes.{load_goes}
 use Rattle.lib_os.proofs.Loading.{loaded}
@@ -26,7 +26,7 @@ use Rattle.lib_stage.specs.declared.ask.Next.{Next}
 use Rattle.lib_stage.specs.declared.ask.Next.TheVariants as next
 use Rattle.lib_stage.specs.Asks.{got_as, told_as, performed, MayFail}
 use Rattle.lib_stage.specs.Nexts.{settled, seen_as}
-use Rattle.lib_stage.proofs.Laws.{FailsBy, FollowsBy, KeepsBy, word_read}
+use Rattle.lib_stage.proofs.Laws.{FailsBy, FollowsBy, KeepsBy, NeverFaults, word_read}
 use Rattle.lib_fault.specs.HandlerStages.{ask_of, handling, next_of}
 
 -- at two steps the handler has the same of its own
@@ -72,10 +72,18 @@ module _ (s : KernelState) (n va : ℕ) (from : HandlerStep) (asks : ask_of from
   load_keeps = subst (λ (z : CallStep Called). IsInOrder z.state → KeepsBy s n (handling from) z) (sym is_load) keeps
 
   -- the access is always allowed
+  gives_word : (a : AbstractState) → Stands s a → (word : ℕ) × ((performed s n (ask_of from)).gives ≡ got (Answered word))
+  gives_word a h =
+      let r = reads h.0 a h.1 (handled_part h.1 n from stands) in
+      (r.word, ap (λ (z : CallStep Called). z.gives) is_load ∙ ap (λ (z : CallStep ℕ). got_as (λ w. w) z.gives) r.is)
+
   pub load_fails : FailsBy s n (handling from) (performed s n (ask_of from))
   load_fails may a h =
-      let r = reads h.0 a h.1 (handled_part h.1 n from stands) in
-      let given : (performed s n (ask_of from)).gives ≡ got (Answered r.word) =
-      ap (λ (z : CallStep Called). z.gives) is_load ∙ ap (λ (z : CallStep ℕ). got_as (λ w. w) z.gives) r.is in
+      let given = gives_word a h in
       let none : (performed s n (ask_of from)).gives ≡ gone = subst (λ (x : Ask). MayFail x (performed s n (ask_of from)).gives) asks may in
-      absurd (let contradiction : ◌≡◌ {A = Got Called} gone (got (Answered r.word)) = sym none ∙ given in cc)
+      absurd (let contradiction : ◌≡◌ {A = Got Called} gone (got (Answered given.0)) = sym none ∙ given.1 in cc)
+
+  pub load_never : NeverFaults s (performed s n (ask_of from))
+  load_never a h faults =
+      let given = gives_word a h in
+      let contradiction : ◌≡◌ {A = Got Called} to_handler (got (Answered given.0)) = sym faults ∙ given.1 in cc

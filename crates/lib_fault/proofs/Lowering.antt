@@ -1,5 +1,5 @@
 -- At each hidden step of the handler less is left of what its environment may do before something is seen.
-use Rattle.std.proofs.Common.{◌≡◌, ◌∙◌, ◌<◌, ◌≤◌, ◌+◌, ◌-◌, ◌*◌, ◌==◌, ℕ, Bool, true, false, not, Ok, refl, sym, ap, subst, arith, if◌then◌else◌}
+use Rattle.std.proofs.Common.{◌≡◌, ◌∙◌, ◌<◌, ◌≤◌, ◌+◌, ◌-◌, ◌*◌, ◌==◌, ℕ, Bool, true, false, not, Ok, refl, sym, ap, arith, if◌then◌else◌}
 use Rattle.std.specs.Prelude.{nat_lt}
 use Rattle.jos_base.specs.declared.registers.Regs.{Regs}
 use Rattle.jos_base.specs.Environments.{Slot}
@@ -10,7 +10,7 @@ use Rattle.lib_os.specs.declared.place.HandlerStep.TheVariants as handler
 use Rattle.lib_os.specs.declared.place.Place.{Place}
 use Rattle.lib_os.specs.declared.place.Place.TheVariants as place
 use Rattle.lib_os.specs.AbstractState.{AbstractState}
-use Rattle.lib_os.specs.LibrarySteps.{Stands, NothingRefused, Lowers, LowersAt, copies_left, copy_steps, handler_steps_left, hidden_left, left_at, other_copies}
+use Rattle.lib_os.specs.LibrarySteps.{Stands, NothingRefused, Lowers, copies_left, copy_steps, handler_steps_left, hidden_left, left_at, other_copies}
 use Rattle.lib_os.specs.Places.{place_of, is_handlers, handler_registers}
 use Rattle.lib_os.specs.Rows.{rows_of}
 use Rattle.lib_os.specs.StandingLaws.{IsHandlerStep}
@@ -130,11 +130,9 @@ module _ (s mid : KernelState) (n : ℕ) (from : HandlerStep) (stands : place_of
   next_lowers (next.Answer word) falls copies = tt
   next_lowers (next.Answers eax edx ecx ebx) falls copies = tt
   next_lowers (next.GoOn to) falls copies = absurd falls
+  next_lowers (next.GoBack word) falls copies = absurd falls
   next_lowers (next.Show to) falls copies = tt
   next_lowers (next.Wait to) falls copies = absurd falls
-  next_lowers (next.Handle to) falls copies =
-      subst (λ (p : Place). LowersAt p n s (gone_to to)) (sym stands)
-      (λ a h quiet. less_there to falls.1 falls.0 (copies a h quiet))
-  next_lowers next.Leave falls copies =
-      subst (λ (p : Place). LowersAt p n s mid) (sym stands) (λ a h quiet. absurd (copies a h quiet))
+  next_lowers (next.Handle to) falls copies = λ a h quiet. less_there to falls.1 falls.0 (copies a h quiet)
+  next_lowers next.Leave falls copies = λ a h quiet. absurd (copies a h quiet)
   next_lowers next.Gone falls copies = tt

@@ -31,10 +31,10 @@ use Rattle.lib_os.proofs.PageWords.{load_page_word}
 use Rattle.lib_os.proofs.WindowWords.{load_table_word, read_at}
 use Rattle.lib_stage.specs.declared.ask.Next.TheVariants as next
 use Rattle.lib_stage.specs.Asks.{performed}
-use Rattle.lib_stage.proofs.Laws.{FailsBy, KeepsBy}
+use Rattle.lib_stage.proofs.Laws.{FailsBy, KeepsBy, NeverFaults}
 use Rattle.jos_base.proofs.Options.{some_is}
 use Rattle.lib_fault.specs.HandlerStages.{ask_of, handling, next_of, page_start, refused_write, waits_to_be_copied, word_of_page}
-use Rattle.lib_fault.proofs.Loads.{Reads, load_keeps, load_fails}
+use Rattle.lib_fault.proofs.Loads.{Reads, load_keeps, load_fails, load_never}
 
 module _ (s : KernelState) (n : ℕ) where
   abbrev d : ℕ
@@ -137,6 +137,9 @@ module _ (s : KernelState) (n : ℕ) where
       pub looking_fails : FailsBy s n (handling looking) (performed s n (ask_of looking))
       looking_fails = load_fails s n address looking refl stands entry_read
 
+      pub looking_never : NeverFaults s (performed s n (ask_of looking))
+      looking_never = load_never s n address looking refl stands entry_read
+
   -- ---- a word of the page
 
   module _ (va index : ℕ) where
@@ -192,3 +195,6 @@ module _ (s : KernelState) (n : ℕ) where
 
         pub loading_fails : FailsBy s n (handling loading) (performed s n (ask_of loading))
         loading_fails = load_fails s n place_of_word loading refl stands page_word_read
+
+        pub loading_never : NeverFaults s (performed s n (ask_of loading))
+        loading_never = load_never s n place_of_word loading refl stands page_word_read

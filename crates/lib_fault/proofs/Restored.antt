@@ -1,16 +1,15 @@
--- The handler has copied the page, and takes the registers of the program back from the frame: the program stands at its instruction
--- again, and nothing is seen of it.
-use Rattle.std.proofs.Common.{◌≡◌, ◌∙◌, ◌<◌, ℕ, true, Ok, refl, sym, ap, subst, arith}
+-- The handler has copied the page, and takes the registers back from the frame: the program stands at its instruction again, or a service
+-- where it puts its bytes, and nothing is seen of it.
+use Rattle.std.proofs.Common.{◌≡◌, ◌∙◌, ◌<◌, ℕ, true, Ok, refl, sym, ap, subst}
 use Rattle.jos_base.specs.declared.called.Called.{Called}
 use Rattle.jos_base.specs.declared.called.Called.TheVariants.{Answered}
 use Rattle.jos_base.specs.Environments.{is_live}
 use Rattle.jos_base.specs.KernelState.{KernelState, slot_at}
 use Rattle.lib_os.specs.declared.place.HandlerStep.TheVariants as handler
-use Rattle.lib_os.specs.declared.place.Place.{Place}
 use Rattle.lib_os.specs.declared.place.Place.TheVariants as place
 use Rattle.lib_os.specs.AbstractState.{AbstractState}
 use Rattle.lib_os.specs.InOrder.{IsInOrder}
-use Rattle.lib_os.specs.LibrarySteps.{Lowers, LowersAt, hidden_left}
+use Rattle.lib_os.specs.LibrarySteps.{Lowers, hidden_left}
 use Rattle.lib_os.specs.Places.{place_of}
 use Rattle.lib_os.specs.Rows.{Names}
 use Rattle.lib_os.specs.StandsFor.{StandsFor}
@@ -41,8 +40,7 @@ module _ (s : KernelState) (n : ℕ) (stands : place_of (slot_at s n) ≡ place.
 
     falls : hidden_left step.state n < hidden_left s n
     falls =
-        let less = restored_lowers h n stands in
-        subst (λ (z : CallStep Called). hidden_left z.state n < hidden_left s n) (sym step_is) (omega (arith, less))
+        subst (λ (z : CallStep Called). hidden_left z.state n < hidden_left s n) (sym step_is) (restored_lowers h n stands)
 
   keeps : IsInOrder step.state → KeepsBy s n (handling handler.Restoring) step
   keeps order a h quiet = follows h.1 order
@@ -57,8 +55,8 @@ module _ (s : KernelState) (n : ℕ) (stands : place_of (slot_at s n) ≡ place.
   lowers = by_got step.gives
     where
       by_got : (g : Got Called) → let did = upshot_by (handling handler.Restoring) n step g in Lowers (Ok did.progress) n s did.state
-      by_got (got called) = subst (λ (p : Place). LowersAt p n s step.state) (sym stands) (λ a h quiet. falls h.1)
-      by_got to_handler = tt
+      by_got (got called) = λ a h quiet. falls h.1
+      by_got to_handler = λ a h quiet. falls h.1
       by_got gone = tt
 
 pub restoring_keeps : (s : KernelState) (n : ℕ) → is_live (slot_at s n) ≡ true → place_of (slot_at s n) ≡ place.InHandler handler.Restoring →

@@ -29,7 +29,7 @@ use Rattle.lib_os.proofs.DescriptorLooks.{page_gives, page_told, page_word, read
 use Rattle.lib_os.proofs.DescriptorsStand.{drop_removes, dropped, dropped_answers}
 use Rattle.lib_os.proofs.GoingOn.{in_with_words}
 use Rattle.lib_os.proofs.Loading.{loaded}
-use Rattle.lib_os.proofs.Serving.{IsServed, served, step_in, printed_nothing}
+use Rattle.lib_os.proofs.Serving.{IsServed, holds_page, printed_nothing, served, step_in}
 use Rattle.lib_os.proofs.WindowWords.{read_at}
 use Rattle.lib_stage.specs.declared.ask.Next.{Next}
 use Rattle.lib_stage.specs.declared.ask.Next.TheVariants as next
@@ -62,7 +62,7 @@ module _ (s : KernelState) (n fd : ℕ) where
           step_in a n v.b (slot_at s n) (service.Close fd) entered v.is here
               ∙ close_refuses a n v.b regs fd (object_past h.1 n v.b v.is fd above),
           printed_nothing a,
-          (h.0, back_stands h.1 n v.b v.is (record regs { eax = word_of_refusal }) (ap borne_in v.place) here.silent here.awake v.outside refl refl),
+          (h.0, back_stands h.1 n v.b v.is (record regs { eax = word_of_refusal }) (ap borne_in v.place) (ap holds_page v.place) here.silent here.awake v.outside refl refl),
         )
 
   -- ---- behind a word that was read
@@ -74,7 +74,7 @@ module _ (s : KernelState) (n fd : ℕ) where
       refused a n v.b regs E_INVAL,
       step_in a n v.b (slot_at s n) (service.Close fd) entered v.is is_in ∙ close_refuses a n v.b regs fd none,
       printed_nothing a,
-      (names, read_answers h n (service.Close fd) from v refl va order is_in word_of_refusal),
+      (names, read_answers h n (service.Close fd) from v refl va order refl is_in word_of_refusal),
     )
 
   -- ---- whether the region has a table
@@ -105,7 +105,7 @@ module _ (s : KernelState) (n fd : ℕ) where
           refl,
           (
             names,
-            read_goes_on h n (service.Close fd) step.Entered v refl table_va order (step.DescriptorEntry fd) refl
+            read_goes_on h n (service.Close fd) step.Entered v refl table_va order (step.DescriptorEntry fd) refl refl
                 (in_with_words (words_at SERVICE_CLOSE (step.DescriptorEntry fd)) here, refl, below, sym (table_told s n) ∙ is),
           ),
         )
@@ -145,7 +145,7 @@ module _ (s : KernelState) (n fd : ℕ) where
             refl,
             (
               names,
-              read_goes_on h n (service.Close fd) (step.DescriptorEntry at) v refl (entry_va fd) order (step.DroppingDescriptor fd) refl
+              read_goes_on h n (service.Close fd) (step.DescriptorEntry at) v refl (entry_va fd) order (step.DroppingDescriptor fd) refl refl
                   (in_with_words (words_at SERVICE_CLOSE (step.DroppingDescriptor fd)) here, refl, below, sym told ∙ is),
             ),
           )

@@ -2,7 +2,7 @@
 use Rattle.std.proofs.Common.{◌≡◌, ◌∙◌, ◌==◌, ℕ, Bool, true, false, [], ◌∷◌, List, Ok, None, Some}
 use Rattle.std.proofs.Common.{refl, sym, ap, subst, arith, if◌then◌else◌}
 use Rattle.jos_base.specs.declared.called.Called.{Called}
-use Rattle.jos_base.specs.declared.numbers.TheConstants.{SYS_PAGE_UNMAP}
+use Rattle.jos_base.specs.declared.numbers.TheConstants.{SYS_PAGE_MAP, SYS_PAGE_UNMAP}
 use Rattle.jos_base.specs.declared.registers.Regs.{Regs}
 use Rattle.jos_base.specs.Environments.{is_live}
 use Rattle.jos_base.specs.KernelState.{KernelState, slot_at, with_extra, with_spaces}
@@ -32,7 +32,7 @@ use Rattle.lib_stage.specs.declared.ask.Next.TheVariants as next
 use Rattle.lib_stage.specs.Asks.{performed}
 use Rattle.lib_stage.specs.ServiceSteps.{Plan, ServiceHolds, upshot_by}
 use Rattle.lib_stage.proofs.FramesTaken.{takes_at}
-use Rattle.lib_stage.proofs.Laws.{Falls, FollowsBy, GoesOn as LivesBy, falling_lowers, giving_goes, law_of_call, plain_leaves, plainly, shown_keeps}
+use Rattle.lib_stage.proofs.Laws.{Falls, FollowsBy, GoesOn as LivesBy, falling_lowers, giving_goes, law_of_call, plain_leaves, plainly, shown_keeps, system_never}
 use Rattle.lib_fd.specs.declared.dup.DupStage.TheVariants as stage
 use Rattle.lib_fd.specs.DescriptorStages.{duplicating}
 
@@ -167,7 +167,8 @@ module _ (s : KernelState) (n old new : ℕ) (live : is_live (slot_at s n) ≡ t
               subst (λ (z : CallStep Called). IsInOrder z.state → FollowsBy s n mapping a z) (sym (call h.1).step) (follows h.1) order;
           fails = λ may a h. absurd (let contradiction : false ≡ true = may in cc);
           leaves = plain_leaves s n mapping refl;
-          lowers = falling_lowers s n mapping asked dup step.MappingDescriptor stands refl goes (λ called. mapping_falls (answer_of called));
+          lowers = falling_lowers s n mapping asked dup step.MappingDescriptor stands refl goes
+              (λ a h is. system_never s n SYS_PAGE_MAP _ a h is) (λ called. mapping_falls (answer_of called));
           gives_up = gives_nothing_up (Ok did.progress) (slot_at s n) (slot_at did.state n) (ap is_pausing stands);
           takes = takes_at s n mapping asked (place.InService dup step.MappingDescriptor) stands
               (λ a h. subst (λ (z : CallStep Called). TakesAtMost 0 s.spaces z.state.spaces) (sym (call h.1).step) (call h.1).takes);

@@ -34,7 +34,7 @@ use Rattle.lib_os.proofs.DescriptorLooks.{page_gives, page_told, page_word, read
 use Rattle.lib_os.proofs.DescriptorLooks.{table_va, table_word}
 use Rattle.lib_os.proofs.GoingOn.{in_with_words}
 use Rattle.lib_os.proofs.Loading.{loaded}
-use Rattle.lib_os.proofs.Serving.{IsServed, served, step_in, printed_nothing}
+use Rattle.lib_os.proofs.Serving.{IsServed, holds_page, printed_nothing, served, step_in}
 use Rattle.lib_os.proofs.Trying.{LivesOn}
 use Rattle.lib_stage.specs.declared.ask.Ask.TheVariants as ask
 use Rattle.lib_stage.specs.declared.ask.Next.{Next}
@@ -97,7 +97,7 @@ module _ (s : KernelState) (n old new : ℕ) (live : is_live (slot_at s n) ≡ t
           abstract_system.refused a n v.b regs E_INVAL,
           step_in a n v.b (slot_at s n) dup entered v.is here ∙ dup_refuses a n v.b regs old new (object_past h.1 n v.b v.is old above),
           printed_nothing a,
-          (h.0, back_stands h.1 n v.b v.is (record regs { eax = negated E_INVAL }) (ap borne_in v.place) here.silent here.awake v.outside refl refl),
+          (h.0, back_stands h.1 n v.b v.is (record regs { eax = negated E_INVAL }) (ap borne_in v.place) (ap holds_page v.place) here.silent here.awake v.outside refl refl),
         )
 
     past_holds : DESCRIPTORS ≤ old → ServiceHolds s n (begun false)
@@ -133,7 +133,7 @@ module _ (s : KernelState) (n old new : ℕ) (live : is_live (slot_at s n) ≡ t
           refl,
           (
             names,
-            read_goes_on h n dup step.Entered v refl table_va order (step.DescriptorEntry old) refl
+            read_goes_on h n dup step.Entered v refl table_va order (step.DescriptorEntry old) refl refl
                 (in_with_words (words_at SERVICE_DUP (step.DescriptorEntry old)) here, refl, below, has),
           ),
         )
@@ -142,7 +142,7 @@ module _ (s : KernelState) (n old new : ℕ) (live : is_live (slot_at s n) ≡ t
           step_in a n v.b (slot_at s n) dup entered v.is here
               ∙ dup_refuses a n v.b regs old new (object_missing h n v.b v.is old (no_table_row h n v.b v.is none old below)),
           printed_nothing a,
-          (names, read_answers h n dup step.Entered v refl table_va order here (negated E_INVAL)),
+          (names, read_answers h n dup step.Entered v refl table_va order refl here (negated E_INVAL)),
         )
 
     begun_holds : old < DESCRIPTORS → ServiceHolds s n (begun true)
@@ -203,7 +203,7 @@ module _ (s : KernelState) (n old new : ℕ) (live : is_live (slot_at s n) ≡ t
           abstract_system.answered a n v.b regs word,
           goes ∙ is,
           printed_nothing a,
-          (names, read_answers h n dup old_step v refl (entry_va old) order here word),
+          (names, read_answers h n dup old_step v refl (entry_va old) order refl here word),
         )
 
         by_numbers : (x : Entry) → row_old ≡ Some x → (small same : Bool) → nat_lt new DESCRIPTORS ≡ small → (old == new) ≡ same →
@@ -217,7 +217,7 @@ module _ (s : KernelState) (n old new : ℕ) (live : is_live (slot_at s n) ≡ t
           refl,
           (
             names,
-            read_goes_on h n dup old_step v refl (entry_va old) order step.TargetEntry refl (
+            read_goes_on h n dup old_step v refl (entry_va old) order step.TargetEntry refl refl (
               in_with_words (words_at SERVICE_DUP step.TargetEntry) here,
               record { old_below = below; new_below = grind (arith, nat_tests); other = grind (arith, nat_tests); stands = ap is_some is },
               v.at.3,
@@ -278,7 +278,7 @@ module _ (s : KernelState) (n old new : ℕ) (live : is_live (slot_at s n) ≡ t
             refl,
             (
               names,
-              read_goes_on h n dup step.TargetEntry target refl (entry_va new) order (step.DroppingDescriptor new) refl
+              read_goes_on h n dup step.TargetEntry target refl (entry_va new) order (step.DroppingDescriptor new) refl refl
                   (is_in (step.DroppingDescriptor new), refl, target.at.1, target.at.2, there),
             ),
           )
@@ -286,7 +286,7 @@ module _ (s : KernelState) (n old new : ℕ) (live : is_live (slot_at s n) ≡ t
             refl,
             (
               names,
-              read_goes_on h n dup step.TargetEntry target refl (entry_va new) order step.MappingDescriptor refl
+              read_goes_on h n dup step.TargetEntry target refl (entry_va new) order step.MappingDescriptor refl refl
                   (is_in step.MappingDescriptor, target.at.1, target.at.2, none_there row_new none),
             ),
           )

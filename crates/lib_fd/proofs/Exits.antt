@@ -83,7 +83,7 @@ module _ (s : KernelState) (n : ℕ) (stands : place_of (slot_at s n) ≡ place.
         refl,
         (
           names,
-          read_goes_on h n service.Exit step.Entered v refl table_va order step.Ending refl (
+          read_goes_on h n service.Exit step.Entered v refl table_va order step.Ending refl refl (
             in_with_words (words_at SERVICE_EXIT step.Ending) is_in,
             no_table_none h n v.b v.is (sym (table_told s n) ∙ absent),
           ),
@@ -93,7 +93,7 @@ module _ (s : KernelState) (n : ℕ) (stands : place_of (slot_at s n) ≡ place.
         refl,
         (
           names,
-          read_goes_on h n service.Exit step.Entered v refl table_va order (step.DescriptorEntry 0) refl (
+          read_goes_on h n service.Exit step.Entered v refl table_va order (step.DescriptorEntry 0) refl refl (
             in_with_words (words_at SERVICE_EXIT (step.DescriptorEntry 0)) is_in,
             omega arith,
             λ q low. absurd (omega (arith, low)),
@@ -138,7 +138,7 @@ module _ (s : KernelState) (n fd : ℕ) (stands : place_of (slot_at s n) ≡ pla
         refl,
         (
           names,
-          read_goes_on h n service.Exit (step.DescriptorEntry fd) v refl (entry_va fd) order (behind fd) refl
+          read_goes_on h n service.Exit (step.DescriptorEntry fd) v refl (entry_va fd) order (behind fd) refl refl
               (stands_behind (view_of s.spaces (slot_at s n).directory) (record (slot_at s n) { extra = words_at SERVICE_EXIT (behind fd) }) v.b fd
               below (in_with_words (words_at SERVICE_EXIT (behind fd)) is_in)
               (none_further row fd none (none_there (row (descriptor_page fd)) (sym told ∙ absent))) table),
@@ -148,7 +148,7 @@ module _ (s : KernelState) (n fd : ℕ) (stands : place_of (slot_at s n) ≡ pla
         refl,
         (
           names,
-          read_goes_on h n service.Exit (step.DescriptorEntry fd) v refl (entry_va fd) order (step.DroppingDescriptor fd) refl (
+          read_goes_on h n service.Exit (step.DescriptorEntry fd) v refl (entry_va fd) order (step.DroppingDescriptor fd) refl refl (
             in_with_words (words_at SERVICE_EXIT (step.DroppingDescriptor fd)) is_in,
             below,
             none,

@@ -15,3 +15,4 @@ mod pages;
 pub use close::{Close, CloseStage};
 pub use dup::{Dup, DupStage};
 pub use exit::{Exit, ExitStage};
+pub use pages::{ask_entry, ask_region_for, descriptor_va, is_there};

@@ -1,7 +1,7 @@
 //! What is asked of the pages of descriptors. Numbers of descriptors may come from words that hold anything, so that they are
 //! bounded here.
 
-ghost use Rattle.std.specs.Prelude.{◌≡◌, ◌<◌};
+ghost use Rattle.std.specs.Prelude.{◌≡◌, ◌%◌, ◌<◌};
 ghost use Rattle.lib_fd.specs.DescriptorStages as stages;
 
 use jos_base::{
@@ -26,8 +26,10 @@ pub(crate) fn descriptor_of(fd: u32) -> u32
 }
 
 /// Where the page of a descriptor begins.
-fn descriptor_va(fd: u32) -> u32
-    ensures { result ≡ stages.descriptor_va fd }
+pub fn descriptor_va(fd: u32) -> u32
+    ensures is { result ≡ stages.descriptor_va fd }
+    ensures begins { result % 4096 ≡ 0 }
+    ensures below { result < 0xD0020000 }
 {
     FDTABLE + PGSIZE * descriptor_of(fd)
 }
@@ -42,7 +44,7 @@ pub(crate) fn ask_region() -> Ask
 }
 
 /// The same for a descriptor that a program has given, which may be no number of one; then nothing.
-pub(crate) fn ask_region_for(fd: u32) -> Ask
+pub fn ask_region_for(fd: u32) -> Ask
     ensures { result ≡ stages.region_asked_for fd }
 {
     if fd < DESCRIPTORS {
@@ -56,7 +58,7 @@ pub(crate) fn ask_region_for(fd: u32) -> Ask
 }
 
 /// The word of a descriptor's entry.
-pub(crate) fn ask_entry(fd: u32) -> Ask
+pub fn ask_entry(fd: u32) -> Ask
     ensures { result ≡ stages.entry_asked fd }
 {
     Ask::Load {
@@ -91,7 +93,7 @@ pub(crate) fn ask_map(old: u32, new: u32) -> Ask
 }
 
 /// Whether the word of an entry says that a page, or a region's table, is there.
-pub(crate) fn is_there(word: u32) -> bool
+pub fn is_there(word: u32) -> bool
     ensures { result ≡ stages.is_there word }
 {
     word & PTE_P == PTE_P

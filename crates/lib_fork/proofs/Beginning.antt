@@ -31,7 +31,7 @@ use Rattle.lib_stage.specs.declared.ask.Ask.TheVariants as ask
 use Rattle.lib_stage.specs.Asks.{performed}
 use Rattle.lib_stage.specs.Nexts.{settled, seen_as, is_gone}
 use Rattle.lib_stage.specs.ServiceSteps.{Plan, ServiceHolds, upshot_by}
-use Rattle.lib_stage.proofs.Laws.{FailsBy, FollowsBy, GoesOn, KeepsBy, giving_goes, law_of, plain_leaves, plainly}
+use Rattle.lib_stage.proofs.Laws.{FailsBy, FollowsBy, GoesOn, KeepsBy, asked_never, giving_goes, law_of, plain_leaves, plainly}
 use Rattle.lib_fork.specs.declared.fork.ForkStage.TheVariants as stage
 use Rattle.lib_fork.specs.ForkStages.{forking, is_error}
 use Rattle.lib_fork.proofs.Falling.{fork_falls}
@@ -139,4 +139,4 @@ module _ (s : KernelState) (n : ℕ) (live : is_live (slot_at s n) ≡ true)
   entered_holds =
       law_of s n beginning service.Fork step.Entered
       (record { stands = stands; live = live; numbered = refl; plain = plainly refl; goes_on = refl; falls = fork_falls stage.Entered; few = omega arith })
-      entered_goes entered_keeps entered_fails
+      entered_goes (asked_never s n ask.Exofork refl) entered_keeps entered_fails

@@ -13,7 +13,7 @@ use Rattle.lib_os.specs.Rows.{is_cow}
 use Rattle.lib_os.specs.UserCalls.{answer_of}
 use Rattle.lib_stage.specs.declared.ask.Next.{Next}
 use Rattle.lib_stage.specs.declared.ask.Next.TheVariants as next
-use Rattle.lib_stage.proofs.Laws.{Falls}
+use Rattle.lib_stage.proofs.Laws.{Falls, most_left}
 use Rattle.lib_fork.specs.declared.fork.ForkStage.{ForkStage}
 use Rattle.lib_fork.specs.declared.fork.ForkStage.TheVariants as stage
 use Rattle.lib_fork.specs.ForkStages.{below, first_page, forking, is_error, is_there, next_of, region_of}
@@ -36,11 +36,11 @@ step_of (stage.Undoing id error) = step.Undoing id error
 abbrev steps_below : ℕ → ℕ
 steps_below page = 3 * page + page / NPTENTRIES + 4
 
-pub below_falls : (id page bound : ℕ) → steps_below page < bound → steps_left (below id page) < bound
+pub below_falls : (id page bound : ℕ) → steps_below page < bound → most_left (below id page) < bound
 below_falls id page bound less = by_tests (page % NPTENTRIES == 0) (page / NPTENTRIES == 0) refl refl
   where
     by_tests : (first least : Bool) → (page % NPTENTRIES == 0) ≡ first → (page / NPTENTRIES == 0) ≡ least →
-        steps_left (if not first then step.ForkEntry id (page - 1)
+        most_left (if not first then step.ForkEntry id (page - 1)
         else if not least then step.ForkRegion id (page / NPTENTRIES - 1) else step.ChildStack id) < bound
     by_tests false least at some =
         let inside : page % NPTENTRIES ≢ 0 = eqb-false (page % NPTENTRIES) 0 at in omega (arith, inside, less)
@@ -50,7 +50,7 @@ below_falls id page bound less = by_tests (page % NPTENTRIES == 0) (page / NPTEN
     by_tests true true at some = omega (arith, less)
 
 -- the first page of a region that has a table
-first_falls : (id region : ℕ) → steps_left (step.ForkEntry id (first_page region)) < steps_left (step.ForkRegion id region)
+first_falls : (id region : ℕ) → most_left (step.ForkEntry id (first_page region)) < steps_left (step.ForkRegion id region)
 first_falls id region = omega arith
 
 -- ---- by the answer

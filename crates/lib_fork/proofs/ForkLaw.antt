@@ -28,7 +28,7 @@ use Rattle.lib_os.proofs.UsesCalled.{system_found}
 use Rattle.lib_stage.specs.Asks.{frames_of, performed}
 use Rattle.lib_stage.specs.ServiceSteps.{Plan, upshot_by, or_nowhere, ServiceHolds}
 use Rattle.lib_stage.proofs.FramesTaken.{asks_few}
-use Rattle.lib_stage.proofs.Laws.{FailsBy, KeepsBy, falling_lowers, is_plain, knowingly, known_leaves, law_of_nowhere, plain_leaves, system_gives}
+use Rattle.lib_stage.proofs.Laws.{FailsBy, KeepsBy, asked_never, falling_lowers, is_system, is_plain, knowingly, known_leaves, law_of_nowhere, plain_leaves, system_gives}
 use Rattle.lib_fork.specs.declared.fork.ForkStage.{ForkStage}
 use Rattle.lib_fork.specs.declared.fork.ForkStage.TheVariants as stage
 use Rattle.lib_fork.specs.ForkStages.{ask_of, fork_at, forking, page_va}
@@ -39,7 +39,7 @@ use Rattle.lib_fork.proofs.Mapping.{map_child_fails, map_child_keeps}
 use Rattle.lib_fork.proofs.Readying.{child_stack_fails, child_stack_keeps, child_upcall_fails, child_upcall_keeps}
 use Rattle.lib_fork.proofs.Remaps.{remap_fails, remap_keeps, remap_takes}
 use Rattle.lib_fork.proofs.Staying.{goes_on}
-use Rattle.lib_fork.proofs.Walking.{entry_fails, entry_keeps, region_fails, region_keeps}
+use Rattle.lib_fork.proofs.Walking.{entry_holds, region_holds}
 
 abbrev pub plan : ForkStage → Plan
 plan at = forking (record { at = at })
@@ -66,14 +66,14 @@ takes_few : (s : KernelState) (n : ℕ) (at : ForkStage) → place_of (slot_at s
 takes_few s n at stands few = asks_few s n (plan at) (place.InService service.Fork (step_of at)) stands few
 
 law_of_stage : (s : KernelState) (n : ℕ) → is_live (slot_at s n) ≡ true → (at : ForkStage) →
-    place_of (slot_at s n) ≡ place.InService service.Fork (step_of at) → StepLeaves s n at → StepTakes s n at → StepKeeps s n at →
+    place_of (slot_at s n) ≡ place.InService service.Fork (step_of at) → is_system (ask_of at) ≡ true → StepLeaves s n at → StepTakes s n at → StepKeeps s n at →
     ServiceHolds s n (plan at)
-law_of_stage s n live at stands leaves takes keeps = record {
+law_of_stage s n live at stands calls leaves takes keeps = record {
   lives = (goes_on s n live at).live;
   keeps = keeps.0;
   fails = keeps.1;
   leaves = leaves;
-  lowers = falling_lowers s n (plan at) (performed s n (ask_of at)) service.Fork (step_of at) stands refl (goes_on s n live at)
+  lowers = falling_lowers s n (plan at) (performed s n (ask_of at)) service.Fork (step_of at) stands refl (goes_on s n live at) (asked_never s n (ask_of at) calls)
       (λ called. fork_falls at called);
   gives_up =
       let did = upshot_by (plan at) n (performed s n (ask_of at)) (performed s n (ask_of at)).gives in
@@ -148,33 +148,33 @@ map_child_leaves s n id page perm stands =
 -- ---- each step
 
 module _ (s : KernelState) (n : ℕ) (live : is_live (slot_at s n) ≡ true) where
-  plain_law : (at : ForkStage) → place_of (slot_at s n) ≡ place.InService service.Fork (step_of at) → is_plain (ask_of at) ≡ true →
-      Few at → StepKeeps s n at → ServiceHolds s n (plan at)
-  plain_law at stands plain few keeps = law_of_stage s n live at stands (plain_leaves s n (plan at) plain) (takes_few s n at stands few) keeps
+  plain_law : (at : ForkStage) → place_of (slot_at s n) ≡ place.InService service.Fork (step_of at) → is_system (ask_of at) ≡ true →
+      is_plain (ask_of at) ≡ true → Few at → StepKeeps s n at → ServiceHolds s n (plan at)
+  plain_law at stands calls plain few keeps = law_of_stage s n live at stands calls (plain_leaves s n (plan at) plain) (takes_few s n at stands few) keeps
 
   pub fork_holds : (at : Step) → place_of (slot_at s n) ≡ place.InService service.Fork at → ServiceHolds s n (or_nowhere forking (fork_at at))
   fork_holds step.Entered stands = entered_holds s n live stands
   fork_holds (step.ForkRegion id r) stands =
-      plain_law (stage.Region id r) stands refl (omega arith) (region_keeps s n id r stands live, region_fails s n id r stands live)
+      region_holds s n id r stands live
   fork_holds (step.ForkEntry id page) stands =
-      plain_law (stage.Entry id page) stands refl (omega arith) (entry_keeps s n id page stands live, entry_fails s n id page stands live)
+      entry_holds s n id page stands live
   fork_holds (step.MapChild id page perm) stands =
-      law_of_stage s n live (stage.MapChild id page perm) stands (map_child_leaves s n id page perm stands)
+      law_of_stage s n live (stage.MapChild id page perm) stands refl (map_child_leaves s n id page perm stands)
       (takes_few s n (stage.MapChild id page perm) stands (omega arith))
       (map_child_keeps s n id page perm live stands, map_child_fails s n id page perm live stands)
   fork_holds (step.Remap id page) stands =
-      law_of_stage s n live (stage.Remap id page) stands (plain_leaves s n (plan (stage.Remap id page)) refl) (remap_takes s n id page live stands)
+      law_of_stage s n live (stage.Remap id page) stands refl (plain_leaves s n (plan (stage.Remap id page)) refl) (remap_takes s n id page live stands)
       (remap_keeps s n id page live stands, remap_fails s n id page live stands)
   fork_holds (step.ChildStack id) stands =
-      plain_law (stage.ChildStack id) stands (ap (λ (t : Bool). t && true) (or-true (id == 0))) (omega arith)
+      plain_law (stage.ChildStack id) stands refl (ap (λ (t : Bool). t && true) (or-true (id == 0))) (omega arith)
       (child_stack_keeps s n id live stands, child_stack_fails s n id live stands)
   fork_holds (step.ChildUpcall id) stands =
-      plain_law (stage.ChildUpcall id) stands refl (omega arith) (child_upcall_keeps s n id live stands, child_upcall_fails s n id live stands)
+      plain_law (stage.ChildUpcall id) stands refl refl (omega arith) (child_upcall_keeps s n id live stands, child_upcall_fails s n id live stands)
   fork_holds (step.ChildRuns id) stands =
-      law_of_stage s n live (stage.ChildRuns id) stands (runs_leaves s n id live stands) (takes_few s n (stage.ChildRuns id) stands (omega arith))
+      law_of_stage s n live (stage.ChildRuns id) stands refl (runs_leaves s n id live stands) (takes_few s n (stage.ChildRuns id) stands (omega arith))
       (child_runs_keeps s n id live stands, child_runs_fails s n id live stands)
   fork_holds (step.Undoing id error) stands =
-      plain_law (stage.Undoing id error) stands refl (omega arith) (undoing_keeps s n id error stands, undoing_fails s n id error stands)
+      plain_law (stage.Undoing id error) stands refl refl (omega arith) (undoing_keeps s n id error stands, undoing_fails s n id error stands)
   fork_holds (step.Trying perm) stands = law_of_nowhere s n service.Fork (step.Trying perm) stands refl (λ view k b h. h)
   fork_holds (step.Pausing perm) stands = law_of_nowhere s n service.Fork (step.Pausing perm) stands refl (λ view k b h. h)
   fork_holds step.ReadingRegion stands = law_of_nowhere s n service.Fork step.ReadingRegion stands refl (λ view k b h. h)
@@ -189,3 +189,14 @@ module _ (s : KernelState) (n : ℕ) (live : is_live (slot_at s n) ≡ true) whe
   fork_holds (step.DroppingDescriptor fd) stands = law_of_nowhere s n service.Fork (step.DroppingDescriptor fd) stands refl (λ view k b h. h)
   fork_holds step.MappingDescriptor stands = law_of_nowhere s n service.Fork step.MappingDescriptor stands refl (λ view k b h. h)
   fork_holds step.Ending stands = law_of_nowhere s n service.Fork step.Ending stands refl (λ view k b h. h)
+  fork_holds step.ReadingDevice stands = law_of_nowhere s n service.Fork step.ReadingDevice stands refl (λ view k b h. h)
+  fork_holds (step.BufferRegion done word) stands = law_of_nowhere s n service.Fork (step.BufferRegion done word) stands refl (λ view k b h. h)
+  fork_holds (step.BufferEntry done word) stands = law_of_nowhere s n service.Fork (step.BufferEntry done word) stands refl (λ view k b h. h)
+  fork_holds step.TakingPage stands = law_of_nowhere s n service.Fork step.TakingPage stands refl (λ view k b h. h)
+  fork_holds (step.Gathering done) stands = law_of_nowhere s n service.Fork (step.Gathering done) stands refl (λ view k b h. h)
+  fork_holds (step.Keeping done word left) stands = law_of_nowhere s n service.Fork (step.Keeping done word left) stands refl (λ view k b h. h)
+  fork_holds step.Printing stands = law_of_nowhere s n service.Fork step.Printing stands refl (λ view k b h. h)
+  fork_holds step.Releasing stands = law_of_nowhere s n service.Fork step.Releasing stands refl (λ view k b h. h)
+  fork_holds step.Getting stands = law_of_nowhere s n service.Fork step.Getting stands refl (λ view k b h. h)
+  fork_holds (step.Delivering done word) stands = law_of_nowhere s n service.Fork (step.Delivering done word) stands refl (λ view k b h. h)
+  fork_holds (step.Faulting done word) stands = law_of_nowhere s n service.Fork (step.Faulting done word) stands refl (λ view k b h. h)

@@ -36,12 +36,11 @@ use Rattle.lib_os.proofs.StatesStand.{quiet_stands}
 use Rattle.lib_os.proofs.Touching.{touched_quiet}
 use Rattle.lib_os.proofs.WindowWords.{read_at, load_directory_word, load_table_word}
 use Rattle.lib_stage.specs.declared.ask.Next.TheVariants as next
-use Rattle.lib_stage.specs.Asks.{performed}
 use Rattle.lib_stage.specs.Nexts.{seen_as, settled}
 use Rattle.lib_stage.specs.ServiceSteps.{Plan, ServiceHolds}
-use Rattle.lib_stage.proofs.Laws.{FailsBy, KeepsBy, law_of_load, plainly}
+use Rattle.lib_stage.proofs.Laws.{law_of_load, plainly}
 use Rattle.lib_fork.specs.declared.fork.ForkStage.TheVariants as stage
-use Rattle.lib_fork.specs.ForkStages.{ask_of, below, first_page, forking, is_there, next_of, page_of, region_of}
+use Rattle.lib_fork.specs.ForkStages.{below, first_page, forking, is_there, next_of, page_of, region_of}
 use Rattle.lib_fork.proofs.Falling.{fork_falls}
 
 -- ---- numbers
@@ -193,13 +192,6 @@ module _ (s : KernelState) (n id region : ℕ) (stands : place_of (slot_at s n) 
         (record { stands = stands; live = live; numbered = refl; plain = plainly refl; goes_on = refl; falls = fork_falls (stage.Region id region); few = omega arith })
         address refl (λ names a h. (record { word = word; is = region_loads names a h }, region_follows names a h))
 
-    pub region_keeps : IsInOrder (performed s n (ask_of (stage.Region id region))).state →
-        KeepsBy s n plan (performed s n (ask_of (stage.Region id region)))
-    region_keeps = region_holds.keeps
-
-    pub region_fails : FailsBy s n plan (performed s n (ask_of (stage.Region id region)))
-    region_fails = region_holds.fails
-
 -- ---- a page
 
 module _ (s : KernelState) (n id page : ℕ) (stands : place_of (slot_at s n) ≡ place.InService service.Fork (step.ForkEntry id page)) where
@@ -312,10 +304,3 @@ module _ (s : KernelState) (n id page : ℕ) (stands : place_of (slot_at s n) �
         law_of_load s n entry_plan service.Fork at_entry
         (record { stands = stands; live = live; numbered = refl; plain = plainly refl; goes_on = refl; falls = fork_falls (stage.Entry id page); few = omega arith })
         entry_address refl (λ names a h. (record { word = found; is = entry_loads names a h }, entry_follows names a h))
-
-    pub entry_keeps : IsInOrder (performed s n (ask_of (stage.Entry id page))).state →
-        KeepsBy s n entry_plan (performed s n (ask_of (stage.Entry id page)))
-    entry_keeps = entry_holds.keeps
-
-    pub entry_fails : FailsBy s n entry_plan (performed s n (ask_of (stage.Entry id page)))
-    entry_fails = entry_holds.fails

@@ -14,7 +14,7 @@ use Rattle.lib_os.specs.LibrarySteps.{service_answered}
 use Rattle.lib_os.specs.Places.{place_of, is_handlers}
 use Rattle.lib_os.specs.Rows.{Names}
 use Rattle.lib_os.specs.StandsFor.{StandsFor, borne_in}
-use Rattle.lib_os.proofs.Serving.{printed_nothing}
+use Rattle.lib_os.proofs.Serving.{holds_page, printed_nothing}
 use Rattle.lib_os.proofs.Slots.{slot_put}
 use Rattle.lib_os.proofs.StatesStand.{status_stands}
 use Rattle.lib_mem.specs.declared.services.MemoryService.TheVariants as memory
@@ -37,7 +37,7 @@ module _ (s : KernelState) (n : ℕ) (step : Step)
         back_with a n i.b (record regs { eax = (slot_at s n).id }),
         i.goes ∙ getid_step a n i.b regs ∙ ap (λ (word : ℕ). Some (back_with a n i.b (record regs { eax = word }))) (sym id_is),
         printed_nothing a,
-        λ in_order quiet. (names, answer_stands h n i.b i.is i.unborne i.at.silent i.at.awake i.outside (slot_at s n).id),
+        λ in_order quiet. (names, answer_stands h n i.b i.is i.unborne i.holds i.at.silent i.at.awake i.outside (slot_at s n).id),
       )
 
 -- ---- yield
@@ -61,7 +61,7 @@ module _ (s : KernelState) (n : ℕ) (step : Step)
         λ in_order quiet. (
           names,
           answer_stands (status_stands h n i.b i.is i.at.awake) n i.b i.is
-              (ap (λ (k : Slot). borne_in (place_of k)) put ∙ i.unborne)
+              (ap (λ (k : Slot). borne_in (place_of k)) put ∙ i.unborne) (ap (λ (k : Slot). holds_page (place_of k)) put ∙ i.holds)
               (ap (λ (k : Slot). k.rendezvous.receiving) put ∙ i.at.silent) i.at.awake
               (ap (λ (k : Slot). is_handlers k.registers.esp) put ∙ i.outside) 0,
         ),

@@ -59,6 +59,6 @@ module _ (s : KernelState) (n va : ℕ) (step : Step) (rest : List ℕ) (live : 
           changed_stands a n (without_page i.b va)
               (removed_stands h n i.b i.is va (page_inside_programs va inside) (unmapped_removed s.spaces (slot_at s n).directory (page_number va) h.in_order.frames)
               (ap (λ (p : Place). minds_page p) at) in_order)
-              i.unborne i.at.silent i.at.awake i.outside 0,
+              i.unborne i.holds i.at.silent i.at.awake i.outside 0,
         ),
       )

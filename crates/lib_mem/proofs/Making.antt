@@ -127,14 +127,14 @@ module _ (s : KernelState) (n va flags perm : ℕ) (step : Step) (rest : List �
               changed_stands (with_name a) n (with_page i.b va (named a.next_name (has_bit flags 1)))
                   (subst (λ (w : Bool). StandsFor after.0 (with_spaces s t) (with_born (with_name a) n (with_page i.b va (named a.next_name w))))
                   entry_bits.1 after.1)
-                  i.unborne i.at.silent i.at.awake i.outside 0,
+                  i.unborne i.holds i.at.silent i.at.awake i.outside 0,
             )
         by_flag false share = (
           names,
           changed_stands a n (with_page i.b va (own zero_page (has_bit flags 1)))
               (subst (λ (w : Bool). StandsFor names (with_spaces s t) (with_born a n (with_page i.b va (own zero_page w))))
               entry_bits.1 (made_own_stands h n i.b i.is va perm (page_inside_programs va inside) made user unminded in_order share entry_bits.3))
-              i.unborne i.at.silent i.at.awake i.outside 0,
+              i.unborne i.holds i.at.silent i.at.awake i.outside 0,
         )
 
     pub some_leads : (names : Names) (a : AbstractState) → StandsFor names s a → Leads s n [] (with_spaces s t) (service_answered (with_spaces s t) n 0) a

@@ -22,7 +22,7 @@ use Rattle.lib_os.specs.LibrarySteps.{LeavesRest, KeepsUses, frames_at, is_pausi
 use Rattle.lib_os.specs.Places.{place_of}
 use Rattle.lib_os.specs.Rows.{Names}
 use Rattle.lib_os.specs.StandsFor.{StandsFor}
-use Rattle.lib_os.specs.UserCalls.{CallStep, got, system}
+use Rattle.lib_os.specs.UserCalls.{CallStep, Got, got, to_handler, system}
 use Rattle.lib_os.proofs.Calls.{cputs_writes, cputs_ends, getenvid_is, yield_is}
 use Rattle.lib_os.proofs.GoingOn.{gives_nothing_up}
 use Rattle.lib_os.proofs.Leaving.{system_left}
@@ -38,7 +38,7 @@ use Rattle.lib_stage.specs.Asks.{frames_of, performed}
 use Rattle.lib_stage.specs.Nexts.{is_gone}
 use Rattle.lib_stage.specs.ServiceSteps.{Plan, PlanHolds, ServiceHolds}
 use Rattle.lib_stage.proofs.FramesTaken.{takes_none}
-use Rattle.lib_stage.proofs.Laws.{Falls, IsAt, GoesOn, KeepsBy, FailsBy, is_plain, law_of, plainly}
+use Rattle.lib_stage.proofs.Laws.{Falls, IsAt, GoesOn, KeepsBy, FailsBy, NeverFaults, is_plain, law_of, plainly}
 use Rattle.lib_mem.specs.declared.services.MemoryService.{MemoryService}
 use Rattle.lib_mem.specs.declared.services.MemoryService.TheVariants as memory
 use Rattle.lib_mem.specs.MemoryPlans.{service_number, is_refused, perm_of_flags, ask_of, passed_on, plan_by, memory_plan}
@@ -90,10 +90,14 @@ module _ (s : KernelState) (n : ℕ) (step : Step) (live : is_live (slot_at s n)
 
   -- ---- by what the call comes to
 
+  got_no_handler : (called : Called) → ◌≡◌ {A = Got Called} (got called) to_handler → ⊥
+  got_no_handler called is = cc
+
   by_call : (m : MemoryService) (plan : Plan) → IsAt s n plan (service_in m) step → (z : CallStep Called) → performed s n plan.asks ≡ z → GoesOn s n plan z →
-      (IsInOrder z.state → KeepsBy s n plan z) → FailsBy s n plan z → ServiceHolds s n plan
-  by_call m plan at z is goes keeps fails =
+      NeverFaults s z → (IsInOrder z.state → KeepsBy s n plan z) → FailsBy s n plan z → ServiceHolds s n plan
+  by_call m plan at z is goes never keeps fails =
       law_of s n plan (service_in m) step at (subst (λ (x : CallStep Called). GoesOn s n plan x) (sym is) goes)
+      (subst (λ (x : CallStep Called). NeverFaults s x) (sym is) never)
       (subst (λ (x : CallStep Called). IsInOrder x.state → KeepsBy s n plan x) (sym is) keeps)
       (subst (λ (x : CallStep Called). FailsBy s n plan x) (sym is) fails)
 
@@ -116,6 +120,7 @@ module _ (s : KernelState) (n : ℕ) (step : Step) (live : is_live (slot_at s n)
   told_holds m asks there plain few state word written is lives kept leads =
       by_call m (passing m asks) (passes_at m asks there plain few) (telling state word written) is
       (record { live = λ called given stays. lives; registers = λ called given stays. kept })
+      (λ a h is. got_no_handler (Answered word) is)
       (λ order a h quiet. let l = leads h.0 a h.1 in (l.0, l.1, l.2, l.3 order quiet))
       (λ may a h. let l = leads h.0 a h.1 in (l.0, l.1, l.2))
 
@@ -131,6 +136,7 @@ module _ (s : KernelState) (n : ℕ) (step : Step) (live : is_live (slot_at s n)
   over_holds m asks there plain few state written is leads =
       by_call m (passing m asks) (passes_at m asks there plain few) (ending state written) is
       (record { live = λ called given stays. absurd (ended called given stays); registers = λ called given stays. absurd (ended called given stays) })
+      (λ a h is. got_no_handler Ended is)
       (λ order a h quiet. let l = leads h.0 a h.1 in (l.0, l.1, l.2, l.3 order quiet))
       (λ may a h. let l = leads h.0 a h.1 in (l.0, l.1, l.2))
 
@@ -144,6 +150,7 @@ module _ (s : KernelState) (n : ℕ) (step : Step) (live : is_live (slot_at s n)
       (record { stands = there; live = live; numbered = numbered m; plain = plainly refl; goes_on = no_pause m; falls = λ called. tt; few = omega arith })
       (telling s (slot_at s n).id []) (getenvid_is s n live none)
       (record { live = λ called given stays. live; registers = λ called given stays. refl })
+      (λ a h is. got_no_handler (Answered (slot_at s n).id) is)
       (λ order a h quiet. let l = leads h.0 a h.1 in (l.0, l.1, l.2, l.3 order quiet))
       (λ may a h. let l = leads h.0 a h.1 in (l.0, l.1, l.2))
 

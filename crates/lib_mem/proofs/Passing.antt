@@ -24,7 +24,7 @@ use Rattle.lib_os.specs.StandsFor.{StandsFor, StandsForBorn, StandsAtStep, IsIn,
 use Rattle.lib_os.specs.UserCalls.{got, CallStep}
 use Rattle.jos_base.proofs.Maps.{upd-at, upd-twice}
 use Rattle.lib_os.proofs.Answering.{back_stands}
-use Rattle.lib_os.proofs.Serving.{served, step_in}
+use Rattle.lib_os.proofs.Serving.{holds_page, served, step_in}
 use Rattle.lib_mem.specs.declared.services.MemoryService.{MemoryService}
 use Rattle.lib_mem.specs.declared.services.MemoryService.TheVariants as memory
 
@@ -63,6 +63,15 @@ bears_none (memory.PageNew va flags) t = refl
 bears_none (memory.PageDrop va) t = refl
 bears_none memory.Unknown t = refl
 
+-- nor keeps bytes in a page
+holds_none : (m : MemoryService) (t : Step) → holds_page (place.InService (service_in m) t) ≡ false
+holds_none (memory.Cputs va len) t = refl
+holds_none memory.GetId t = refl
+holds_none memory.Yield t = refl
+holds_none (memory.PageNew va flags) t = refl
+holds_none (memory.PageDrop va) t = refl
+holds_none memory.Unknown t = refl
+
 -- an environment that is in one of them
 pub record IsHere (names : Names) (s : KernelState) (a : AbstractState) (n : ℕ) (service : Service) : Type 0 where
   pub b : Born
@@ -70,6 +79,7 @@ pub record IsHere (names : Names) (s : KernelState) (a : AbstractState) (n : ℕ
   pub own : StandsForBorn names s.spaces (slot_at s n) b
   pub outside : is_handlers (slot_at s n).registers.esp ≡ false
   pub unborne : borne_in (place_of (slot_at s n)) ≡ None
+  pub holds : holds_page (place_of (slot_at s n)) ≡ false
   pub at : IsIn (slot_at s n) b service entered
   pub goes : abs_step a n ≡ library_step a n b (slot_at s n).registers service entered
 
@@ -84,6 +94,7 @@ here {s = s} {a = a} h n m step at =
       own = begun.own;
       outside = begun.outside;
       unborne = ap borne_in begun.place ∙ bears_none m step;
+      holds = ap holds_page begun.place ∙ holds_none m step;
       at = is_in;
       goes = step_in a n begun.b (slot_at s n) (service_in m) entered begun.is is_in;
     }
@@ -92,22 +103,24 @@ here {s = s} {a = a} h n m step at =
 
 -- whoever is in a service of this slot goes back to its program with an answer
 pub answer_stands : {names : Names} {s : KernelState} {a : AbstractState} → StandsFor names s a → (n : ℕ) (b : Born) → a.slots n ≡ born b →
-    borne_in (place_of (slot_at s n)) ≡ None → (slot_at s n).rendezvous.receiving ≡ false → b.blocked ≡ false → is_handlers (slot_at s n).registers.esp ≡ false → (word : ℕ) →
+    borne_in (place_of (slot_at s n)) ≡ None → holds_page (place_of (slot_at s n)) ≡ false → (slot_at s n).rendezvous.receiving ≡ false →
+    b.blocked ≡ false → is_handlers (slot_at s n).registers.esp ≡ false → (word : ℕ) →
     StandsFor names (service_answered s n word) (back_with a n b (record (slot_at s n).registers { eax = word }))
-answer_stands {s = s} h n b at unborne silent awake outside word =
-    back_stands h n b at (record (slot_at s n).registers { eax = word }) unborne silent awake outside refl refl
+answer_stands {s = s} h n b at unborne holds silent awake outside word =
+    back_stands h n b at (record (slot_at s n).registers { eax = word }) unborne holds silent awake outside refl refl
 
 born_twice : (a : AbstractState) (n : ℕ) (b c : Born) → with_born (with_born a n b) n c ≡ with_born a n c
 born_twice a n b c = λ i. record a { slots = upd-twice a.slots n (born b) (born c) i }
 
 -- the same where its own part has changed before
 pub changed_stands : {names : Names} {s : KernelState} (a : AbstractState) (n : ℕ) (b : Born) → StandsFor names s (with_born a n b) →
-    borne_in (place_of (slot_at s n)) ≡ None → (slot_at s n).rendezvous.receiving ≡ false → b.blocked ≡ false → is_handlers (slot_at s n).registers.esp ≡ false → (word : ℕ) →
+    borne_in (place_of (slot_at s n)) ≡ None → holds_page (place_of (slot_at s n)) ≡ false → (slot_at s n).rendezvous.receiving ≡ false →
+    b.blocked ≡ false → is_handlers (slot_at s n).registers.esp ≡ false → (word : ℕ) →
     StandsFor names (service_answered s n word) (back_with a n b (record (slot_at s n).registers { eax = word }))
-changed_stands {names = names} {s = s} a n b h unborne silent awake outside word =
+changed_stands {names = names} {s = s} a n b h unborne holds silent awake outside word =
     let back = record b { program = guest (record (slot_at s n).registers { eax = word }); phase = at_guest; blocked = false } in
     subst (λ (x : AbstractState). StandsFor names (service_answered s n word) x) (born_twice a n b back)
-    (answer_stands h n b (upd-at a.slots n (born b)) unborne silent awake outside word)
+    (answer_stands h n b (upd-at a.slots n (born b)) unborne holds silent awake outside word)
 
 -- ---- the call
 

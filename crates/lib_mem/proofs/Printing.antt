@@ -73,7 +73,7 @@ module _ (s : KernelState) (n va len : ℕ) (step : Step) (rest : List ℕ) (liv
           λ in_order quiet. (
             names,
             answer_stands (printed_stands (quiet_stands h (all_touched_quiet s.spaces (slot_at s n).directory va len) in_order) bytes)
-                n i.b i.is i.unborne i.at.silent i.at.awake i.outside 0,
+                n i.b i.is i.unborne i.holds i.at.silent i.at.awake i.outside 0,
           ),
         )
 

@@ -24,7 +24,7 @@ use Rattle.lib_os.proofs.Answering.{back_stands}
 use Rattle.lib_os.proofs.GoingOn.{in_with_words, words_stand}
 use Rattle.lib_os.proofs.Numbered.{named_at}
 use Rattle.lib_os.proofs.Receiving.{recv_stands}
-use Rattle.lib_os.proofs.Serving.{served, step_in, printed_nothing}
+use Rattle.lib_os.proofs.Serving.{holds_page, printed_nothing, served, step_in}
 use Rattle.lib_stage.specs.declared.ask.Next.TheVariants as next
 use Rattle.lib_stage.specs.Nexts.{seen_as, settled}
 use Rattle.lib_msg.specs.declared.receive.ReceiveStage.TheVariants as stage
@@ -99,7 +99,7 @@ module _ (s : KernelState) (n va from : ℕ)
             step_in a n v.b (slot_at s n) (service.Receive va from) entered v.is here
                 ∙ refused_step a n v.b regs va from own v.own.id (server_is h.1) off,
             printed_nothing a,
-            (h.0, back_stands h.1 n v.b v.is (record regs { eax = negated E_INVAL }) (ap borne_in v.place) here.silent here.awake v.outside refl refl),
+            (h.0, back_stands h.1 n v.b v.is (record regs { eax = negated E_INVAL }) (ap borne_in v.place) (ap holds_page v.place) here.silent here.awake v.outside refl refl),
           )
       by_test true on a h quiet =
           let v = served h.1 n (service.Receive va from) step.Entered stands in
@@ -110,7 +110,7 @@ module _ (s : KernelState) (n va from : ℕ)
             refl,
             (
               h.0,
-              words_stand h.1 n SERVICE_RECEIVE v.b v.is v.own v.outside (ap borne_in v.place) (service.Receive va from) (step.Receiving own) refl
+              words_stand h.1 n SERVICE_RECEIVE v.b v.is v.own v.outside (ap borne_in v.place) (service.Receive va from) (step.Receiving own) (ap holds_page v.place) refl
                   (named_at (slot_at s n) (service.Receive va from) step.Entered stands)
                   (record {
                     is_in = in_with_words (words_at SERVICE_RECEIVE (step.Receiving own)) here;
@@ -140,7 +140,7 @@ module _ (s : KernelState) (n va from id : ℕ)
           h.0,
           subst (λ (b : AbstractState). StandsFor h.0 (with_extra mid n (words_at SERVICE_RECEIVE (step.ReadingValue id))) b)
               (receive_waits a n v.b (slot_at s n).registers va from at.page (at.other.0) (λ e. at.other.1 (e ∙ server_is h.1)))
-              (recv_stands h.1 n v.b v.is v.outside (ap borne_in v.place) va from id (0 ∷ 0 ∷ 0 ∷ []) at
+              (recv_stands h.1 n v.b v.is v.outside (ap borne_in v.place) (ap holds_page v.place) va from id (0 ∷ 0 ∷ 0 ∷ []) at
               (named_at (slot_at s n) (service.Receive va from) (step.Receiving id) stands) mid refl),
         ),
       )

@@ -37,7 +37,7 @@ use Rattle.lib_os.proofs.Fences.{page_inside_below}
 use Rattle.lib_os.proofs.GoingOn.{in_with_words, words_stand}
 use Rattle.lib_os.proofs.Loading.{loaded}
 use Rattle.lib_os.proofs.Numbered.{named_at}
-use Rattle.lib_os.proofs.Serving.{IsServed, served, step_in, printed_nothing}
+use Rattle.lib_os.proofs.Serving.{IsServed, holds_page, printed_nothing, served, step_in}
 use Rattle.lib_os.proofs.SlotsStand.{born_at}
 use Rattle.lib_os.proofs.StatesStand.{quiet_stands}
 use Rattle.lib_os.proofs.Touching.{touched_quiet}
@@ -108,7 +108,7 @@ module _ (s : KernelState) (n id value va : ℕ)
         abstract_system.refused a n v.b regs E_INVAL,
         step_in a n v.b (slot_at s n) (service.Send id value va) entered v.is here ∙ why h.0 a h.1 v.b v.own.id,
         printed_nothing a,
-        (h.0, back_stands h.1 n v.b v.is (record regs { eax = negated E_INVAL }) (ap borne_in v.place) here.silent here.awake v.outside refl refl),
+        (h.0, back_stands h.1 n v.b v.is (record regs { eax = negated E_INVAL }) (ap borne_in v.place) (ap holds_page v.place) here.silent here.awake v.outside refl refl),
       )
 
   -- it goes on, where what is to stand there does
@@ -121,7 +121,7 @@ module _ (s : KernelState) (n id value va : ℕ)
         refl,
         (
           h.0,
-          words_stand h.1 n SERVICE_SEND v.b v.is v.own v.outside (ap borne_in v.place) (service.Send id value va) to refl
+          words_stand h.1 n SERVICE_SEND v.b v.is v.own v.outside (ap borne_in v.place) (service.Send id value va) to (ap holds_page v.place) refl
               (named_at (slot_at s n) (service.Send id value va) step.Entered stands) (there h.0 a h.1 v.b v.own.id v.at),
         ),
       )
@@ -220,7 +220,7 @@ module _ (s : KernelState) (n id value va : ℕ)
                 ∙ no_page_step a n v.b regs id value va at.some (at.other.0) (λ x. at.other.1 (x ∙ server_is h))
                 (missing v.b va at.somewhere at.inside no_page),
             printed_nothing a,
-            (names, back_stands there n v.b v.is (record regs { eax = negated E_INVAL }) (ap borne_in v.place) at.is_in.silent at.is_in.awake v.outside refl refl),
+            (names, back_stands there n v.b v.is (record regs { eax = negated E_INVAL }) (ap borne_in v.place) (ap holds_page v.place) at.is_in.silent at.is_in.awake v.outside refl refl),
           )
       by_test true present =
           let known : is_some ((loaded s n address).spaces.regions (slot_at s n).directory (va / PGSIZE / NPTENTRIES)) ≡ true =
@@ -229,7 +229,7 @@ module _ (s : KernelState) (n id value va : ℕ)
             refl,
             (
               names,
-              words_stand there n SERVICE_SEND v.b v.is (born_at there n v.b v.is) v.outside (ap borne_in v.place) (service.Send id value va) step.ReadingEntry refl
+              words_stand there n SERVICE_SEND v.b v.is (born_at there n v.b v.is) v.outside (ap borne_in v.place) (service.Send id value va) step.ReadingEntry (ap holds_page v.place) refl
                   (named_at (slot_at s n) (service.Send id value va) step.ReadingRegion stands) (
                     record {
                       is_in = in_with_words (words_at SERVICE_SEND step.ReadingEntry) at.is_in;

@@ -24,7 +24,7 @@ use Rattle.lib_os.proofs.Calls.{refusal_is_seen}
 use Rattle.lib_os.proofs.GoingOn.{in_with_words, words_stand}
 use Rattle.jos_base.proofs.Maps.{upd-at}
 use Rattle.lib_os.proofs.Numbered.{named_at}
-use Rattle.lib_os.proofs.Serving.{served, printed_nothing}
+use Rattle.lib_os.proofs.Serving.{holds_page, printed_nothing, served}
 use Rattle.lib_os.proofs.SlotsStand.{born_at}
 use Rattle.lib_os.proofs.StatesStand.{status_stands}
 use Rattle.lib_os.proofs.Tried.{HasTried, goes_on, not_yet, no_table, tried}
@@ -54,7 +54,8 @@ module _ (s : KernelState) (n id value va perm : ℕ)
           h.0,
           words_stand ran n SERVICE_SEND v.b v.is (born_at ran n v.b v.is)
               (ap (λ (x : Slot). is_handlers x.registers.esp) slot_is ∙ v.outside)
-              (ap (λ (x : Slot). borne_in (place_of x)) slot_is ∙ ap borne_in v.place) (service.Send id value va) (step.Trying perm) refl
+              (ap (λ (x : Slot). borne_in (place_of x)) slot_is ∙ ap borne_in v.place) (service.Send id value va) (step.Trying perm)
+              (ap (λ (x : Slot). holds_page (place_of x)) slot_is ∙ ap holds_page v.place) refl
               (subst (λ (x : Slot). service_of (record x.registers { eax = SERVICE_SEND }) ≡ service.Send id value va) (sym slot_is)
               (named_at (slot_at s n) (service.Send id value va) (step.Pausing perm) stands))
               (subst (λ (x : Slot). IsTrying (rows_of s.spaces x.directory) (record x { extra = w }) v.b id value va perm) (sym slot_is)
@@ -83,7 +84,7 @@ module _ (s : KernelState) (n id value va perm : ℕ)
       outcome : HasTried h.0 s mid a n sent.answer
       outcome =
           let v = served h.1 n (service.Send id value va) (step.Trying perm) stands in
-          tried h.1 n v.b v.is id value va perm (0 ∷ []) v.at small v.outside (ap borne_in v.place) mid sent.answer sent.gives refl order
+          tried h.1 n v.b v.is id value va perm (0 ∷ []) v.at small v.outside (ap borne_in v.place) (ap holds_page v.place) mid sent.answer sent.gives refl order
 
       waits : sent.answer ≡ negated E_IPC_NOT_RECV → HasTried h.0 s mid a n sent.answer →
           AbstractFollows progress.Waited n (with_extra mid n (words_at SERVICE_SEND (step.Pausing perm))) a []
@@ -98,7 +99,7 @@ module _ (s : KernelState) (n id value va perm : ℕ)
               (
                 h.0,
                 subst (λ (t : KernelState). StandsFor h.0 (with_extra t n words) a) (sym mid_is)
-                    (words_stand h.1 n SERVICE_SEND v.b v.is v.own v.outside (ap borne_in v.place) (service.Send id value va) (step.Pausing perm) refl
+                    (words_stand h.1 n SERVICE_SEND v.b v.is v.own v.outside (ap borne_in v.place) (service.Send id value va) (step.Pausing perm) (ap holds_page v.place) refl
                     (named_at (slot_at s n) (service.Send id value va) (step.Trying perm) stands)
                     (record { is_in = in_with_words words at.is_in; some = at.some; other = at.other; page = at.page })),
               ),

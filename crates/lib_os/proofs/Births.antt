@@ -8,7 +8,7 @@ use Rattle.std.proofs.lemmas.Bool.Decides.{nat_tests}
 use Rattle.std.proofs.lemmas.Option.{none-some, same_Some}
 use Rattle.jos_base.specs.Below.{some_below}
 use Rattle.jos_base.specs.declared.environment.Status.TheVariants.{Runnable}
-use Rattle.jos_base.specs.declared.numbers.TheConstants.{FIRST_ENV_ID, NENV, NPTENTRIES}
+use Rattle.jos_base.specs.declared.numbers.TheConstants.{FIRST_ENV_ID, NENV, NPTENTRIES, UTEMP}
 use Rattle.jos_base.specs.declared.registers.Regs.{Regs}
 use Rattle.jos_base.specs.Environments.{Slot, is_live as is_live_slot, is_running, no_extra}
 use Rattle.jos_base.specs.KernelState.{KernelState, slot_at, with_slot_at, with_status}
@@ -42,7 +42,7 @@ use Rattle.lib_os.proofs.Bearing.{IsBearer}
 use Rattle.lib_os.proofs.Children.{same_child, borne_moved}
 use Rattle.lib_os.proofs.EntriesStand.{RowsStand, rows_stand, rows_same}
 use Rattle.lib_os.proofs.Logical.{programs_beside}
-use Rattle.lib_os.proofs.Serving.{back_at_guest, step_in, words_of_none}
+use Rattle.lib_os.proofs.Serving.{back_at_guest, holds_page, step_in, words_of_none}
 use Rattle.lib_os.proofs.Slots.{slot_kept}
 use Rattle.lib_os.proofs.SlotsStand.{SeenAlike, born_live, ids_stand, live_stands}
 use Rattle.lib_os.proofs.StatesStand.{born_not_first, set_counts, slot_in_order, stopped_settles, tabled_set}
@@ -90,9 +90,19 @@ copy_outside = by_test (is_programs (page_number PFTEMP)) refl
     by_test true is = absurd ((programs_beside (page_number PFTEMP) is).0 refl)
     by_test false is = refl
 
--- it is no descriptor's either
+working_outside : is_programs (page_number UTEMP) ≡ false
+working_outside = by_test (is_programs (page_number UTEMP)) refl
+  where
+    by_test : (t : Bool) → is_programs (page_number UTEMP) ≡ t → t ≡ false
+    by_test true is = absurd ((programs_beside (page_number UTEMP) is).2 refl)
+    by_test false is = refl
+
+-- they are no descriptor's either
 copy_no_descriptor : is_descriptor (page_number PFTEMP) ≡ false
 copy_no_descriptor = refl
+
+working_no_descriptor : is_descriptor (page_number UTEMP) ≡ false
+working_no_descriptor = refl
 
 -- the page of each descriptor is one
 descriptor_is : (fd : ℕ) → nat_lt fd DESCRIPTORS ≡ true → is_descriptor (descriptor_page fd) ≡ true
@@ -195,13 +205,15 @@ module _ {names : Names} {s : KernelState} {a : AbstractState} (h : StandsFor na
       ∙ sym (descriptor_same names s.spaces k.directory (slot_at s m).directory fd
       (λ descriptor. v.child.handed (descriptor_page fd) descriptor refl))
 
-  library_is : LibraryPages place.Guest (rows_of s.spaces (slot_at s m).directory)
+  library_is : LibraryPages place.Guest (slot_at s m).extra (rows_of s.spaces (slot_at s m).directory)
   library_is = record {
     stack = v.child.library.stack refl;
     copy = λ is. absurd (let contradiction : false ≡ true = is in cc);
     no_copy = λ is. v.child.library.none (page_number PFTEMP) copy_outside copy_no_descriptor (λ same. omega (arith, same));
     descriptors = λ p entry descriptor there. v.own.library.descriptors p entry descriptor (sym (v.child.handed p descriptor refl) ∙ there);
-    none = λ p outside no_descriptor no_stack no_copy. v.child.library.none p outside no_descriptor no_stack;
+    working = λ is. absurd (let contradiction : false ≡ true = is in cc);
+    no_working = λ is. v.child.library.none (page_number UTEMP) working_outside working_no_descriptor (λ same. omega (arith, same));
+    none = λ p outside no_descriptor no_stack no_copy no_working. v.child.library.none p outside no_descriptor no_stack;
   }
 
   has_table : (r : ℕ) → has_page_in v.b.memory r ≡ true → is_some (s.spaces.regions (slot_at s m).directory r) ≡ true
@@ -221,7 +233,7 @@ module _ {names : Names} {s : KernelState} {a : AbstractState} (h : StandsFor na
     upcall = v.child.upcall ∙ sym (ap upcall_at child_at);
     descriptors = descriptors_are;
     memory = memory_is;
-    library = subst (λ (at : Place). LibraryPages at (rows_of s.spaces (slot_at s m).directory)) (sym child_at) library_is;
+    library = subst (λ (at : Place). LibraryPages at (slot_at s m).extra (rows_of s.spaces (slot_at s m).directory)) (sym child_at) library_is;
     regions_have = has_table;
     regions_only = v.child.tables;
     stack = ap (λ (regs : Regs). is_handlers regs.esp || not (is_resident regs.esp)) v.child.registers ∙ v.own.stack;
@@ -236,7 +248,8 @@ module _ {names : Names} {s : KernelState} {a : AbstractState} (h : StandsFor na
   }
 
   parent_stands : StandsForBorn names s.spaces parent back
-  parent_stands = back_at_guest (record k.registers { eax = id }) v.own in_fork.silent in_fork.awake v.outside refl refl
+  parent_stands =
+      back_at_guest (record k.registers { eax = id }) v.own (ap holds_page v.place) in_fork.silent in_fork.awake v.outside refl refl
 
   slots_stand : (j : ℕ) → StandsForSlot names s.spaces (slots_after j) (abstract_after j)
   slots_stand =

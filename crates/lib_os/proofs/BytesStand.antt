@@ -3,6 +3,7 @@
 use Rattle.std.proofs.Common.{◌≡◌, ◌≢◌, ◌∙◌, ◌<◌, ◌==◌, ℕ, Bool, true, false, None, List, refl, sym, ap, subst, arith, if◌then◌else◌}
 use Rattle.std.proofs.lemmas.Bool.Decides.{nat_tests}
 use Rattle.std.specs.Prelude.{Option, Some, slice_set}
+use Rattle.jos_base.specs.declared.numbers.TheConstants.{UTEMP}
 use Rattle.jos_base.specs.KernelState.{KernelState, slot_at, with_spaces}
 use Rattle.jos_base.specs.Reach.{Entry}
 use Rattle.jos_base.specs.SpacesState.{SpacesState}
@@ -133,12 +134,14 @@ module _ {names : Names} {s : KernelState} {a : AbstractState} {sp : SpacesState
         (sym (seen_own names sp d p e inside (row_kept d p ∙ he) own_page
         ∙ ap (λ (bytes : List ℕ). Some (own bytes (may_write e.perm))) bytes_put))
         (λ q ne. shown_same names names s.spaces sp d q (row_kept d q) (λ x hx own_too. own_beside q x ne hx own_too) (λ x hx shared_too. refl))
-        (library_alike (place_of (slot_at s n)) (rows_of s.spaces d) (rows_of sp d) (ap (λ (rows : Rows). rows d) st.rows) (born_at h n b at).library)
+        (library_alike (place_of (slot_at s n)) (slot_at s n).extra (rows_of s.spaces d) (rows_of sp d) (ap (λ (rows : Rows). rows d) st.rows)
+        (born_at h n b at).library)
         (record {
           have = λ r is. st.regions d r ∙ (born_at h n b at).regions_have r is;
           only = λ r is. (born_at h n b at).regions_only r (sym (st.regions d r) ∙ is);
         })
-        (kept_rows (place_of (slot_at s n)) (view_of s.spaces d) (view_of sp d) outside (ap (λ (rows : Rows). rows d) st.rows) (st.regions d))
+        (kept_rows (place_of (slot_at s n)) (view_of s.spaces d) (view_of sp d) outside (ap (λ (rows : Rows). rows d) st.rows) (st.regions d)
+        (λ x hx own_too. own_beside (page_number UTEMP) x (λ same. (programs_beside p inside).2 (sym same)) hx own_too))
 
     own_stored : StandsFor names (with_spaces s sp) (with_born a n (record b { memory = upd b.memory p after }))
     own_stored =

@@ -12,7 +12,18 @@ use Rattle.lib_os.specs.LibrarySteps.{copies_left, is_to_copy}
 use Rattle.lib_os.specs.Rows.{EntryRow, lasting, rows_of}
 use Rattle.jos_base.proofs.Puts.{put-at, put-holds}
 use Rattle.jos_base.proofs.Released.{released_entries}
-use Rattle.jos_base.proofs.Sums.{total-mono, total-less}
+use Rattle.jos_base.proofs.Sums.{total-le, total-mono, total-less}
+
+-- ---- how many there can be
+
+pub copies_below : (row : EntryRow) → copies_left row ≤ page_limit
+unfolding copies_left
+copies_below row =
+    let few = total-le page_limit 1 (λ p. bit_of (is_to_copy (row p))) (λ p. one_at_most (is_to_copy (row p))) in omega (arith, few)
+  where
+    one_at_most : (t : Bool) → bit_of t ≤ 1
+    one_at_most true = omega arith
+    one_at_most false = omega arith
 
 -- ---- entries after a change
 

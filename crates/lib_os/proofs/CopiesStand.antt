@@ -2,12 +2,12 @@
 -- for the copy, and words are stored there; it is put in the place of the page, and taken away from where it was made. Only
 -- at the page itself is anything seen of it, and there the bytes are those that stood there.
 use Rattle.std.proofs.Common.{◌≡◌, ◌≢◌, ◌∙◌, ◌<◌, ◌==◌, ◌&&◌, ◌||◌, inl, inr, ◌/◌, ℕ, suc, Bool, true, false, not}
-use Rattle.std.proofs.Common.{List, [], ◌∷◌, length, refl, sym, ap, subst, arith, if◌then◌else◌}
+use Rattle.std.proofs.Common.{List, [], ◌∷◌, length, refl, sym, ap, subst, arith}
 use Rattle.std.proofs.lemmas.Bool.Decides.{nat_tests}
 use Rattle.std.proofs.lemmas.Option.{same_Some, none-some}
-use Rattle.std.specs.Prelude.{Option, Some, None, is_some, nat_lt, slice_index}
+use Rattle.std.specs.Prelude.{Option, Some, None, is_some, slice_index}
 use Rattle.std.specs.Option.{option_map}
-use Rattle.jos_base.specs.declared.numbers.TheConstants.{FDTABLE, NPTENTRIES, PGSIZE, USTACKTOP}
+use Rattle.jos_base.specs.declared.numbers.TheConstants.{FDTABLE, NPTENTRIES, PGSIZE, USTACKTOP, UTEMP}
 use Rattle.jos_base.specs.Environments.{Slot, is_live as is_live_slot}
 use Rattle.jos_base.specs.KernelState.{KernelState, slot_at, with_slot_at, with_spaces, with_registers}
 use Rattle.jos_base.specs.Reach.{Entry}
@@ -15,7 +15,7 @@ use Rattle.jos_base.specs.SpacesState.{SpacesState, put}
 use Rattle.jos_base.specs.SystemCalls.{has_write}
 use Rattle.jos_base.specs.TrapFrames.{user_flags}
 use Rattle.jos_base.specs.Words.{page_number, upd}
-use Rattle.lib_os.specs.declared.numbers.TheConstants.{DESCRIPTORS, PFTEMP, UXSTACK}
+use Rattle.lib_os.specs.declared.numbers.TheConstants.{PFTEMP, UXSTACK}
 use Rattle.lib_os.specs.declared.place.HandlerStep.{HandlerStep}
 use Rattle.lib_os.specs.declared.place.HandlerStep.TheVariants as handler
 use Rattle.lib_os.specs.declared.place.Place.{Place}
@@ -26,11 +26,13 @@ use Rattle.lib_os.specs.InOrder.{IsInOrder}
 use Rattle.lib_os.specs.LibraryPages.{View, LibraryPages, IsOwnWritable, is_library_region, region_index}
 use Rattle.lib_os.specs.Places.{place_of, is_handlers, handler_registers}
 use Rattle.lib_os.specs.Rows.{IsPage, Names, EntryRow, Rows, rows_of, logical, logical_by, counted, page_by, page_seen, seen_where, is_programs}
-use Rattle.lib_os.specs.Rows.{descriptor_page, descriptor_perm, descriptor_seen, is_cow, is_descriptor, is_shared, name_of, shown_at}
+use Rattle.lib_os.specs.Rows.{descriptor_perm, descriptor_seen, is_cow, is_descriptor, is_shared, shown_at}
 use Rattle.lib_os.specs.Rows.{may_write, IsUsers}
 use Rattle.lib_os.specs.StandingLaws.{IsHandlerStep}
 use Rattle.lib_os.specs.StandsFor.{StandsFor, StandsForBorn, StandsAt, view_of, upcall_at, borne_in}
 use Rattle.lib_os.specs.StandsInHandler.{IsInHandler, Copies, CopiesAt, CopiesOrEnds, copies, ends, IsToCopy, IsCopiedTo, IsMappedTwice}
+use Rattle.lib_os.specs.StandsInHandler.{is_refused_by}
+use Rattle.lib_os.proofs.Beneath.{KeepsWritable, beneath_moved, same_writable}
 use Rattle.lib_os.proofs.Effects.{Made, Given, Removed}
 use Rattle.lib_os.proofs.EntriesStand.{RowsStand, PutsRow, rows_put, rows_same, rows_bytes, rows_stand, put_is, seen_own}
 use Rattle.lib_os.proofs.EntriesStand.{named_bytes, shown_same}
@@ -43,7 +45,7 @@ use Rattle.lib_os.proofs.Puts.{put-found}
 use Rattle.lib_os.proofs.Releasing.{row_entry}
 use Rattle.lib_os.proofs.Serving.{library_moved}
 use Rattle.lib_os.proofs.Slots.{upd-back}
-use Rattle.lib_os.proofs.SlotsStand.{SeenAlike, HasTables, descriptors_beside, library_put, born_live}
+use Rattle.lib_os.proofs.SlotsStand.{SeenAlike, HasTables, descriptors_beside, descriptors_off, library_put, born_live}
 use Rattle.lib_os.proofs.StatesStand.{own_moves, others_count, slot_in_order}
 use Rattle.jos_base.proofs.Maps.{upd-at}
 use Rattle.jos_base.proofs.Puts.{Elsewhere, put-at, put-other}
@@ -70,7 +72,7 @@ pub handler_moved : {names : Names} {s t : SpacesState} {k : Slot} {b : Born} (t
     is_handlers k.registers.esp ≡ true → IsHandlerStep to → k.upcall ≡ upcall_at (place.InHandler to) →
     ((p : ℕ) → page_seen names t k.directory p ≡ page_seen names s k.directory p) →
     ((fd : ℕ) → descriptor_seen names t k.directory fd ≡ descriptor_seen names s k.directory fd) →
-    LibraryPages (place.InHandler to) (rows_of t k.directory) → HasTables t k.directory b.regions →
+    LibraryPages (place.InHandler to) k.extra (rows_of t k.directory) → HasTables t k.directory b.regions →
     IsInHandler to (view_of t k.directory) (handler_slot k to) b → StandsForBorn names t (handler_slot k to) b
 handler_moved {t = t} {k = k} {b = b} to had inside there upcall memory descriptors library tables at =
     let where_it_is : place_of (handler_slot k to) ≡ place.InHandler to = handler_place k to inside there in
@@ -83,7 +85,7 @@ handler_moved {t = t} {k = k} {b = b} to had inside there upcall memory descript
       upcall = upcall ∙ sym (ap upcall_at where_it_is);
       descriptors = λ fd. had.descriptors fd ∙ sym (descriptors fd);
       memory = λ p. had.memory p ∙ sym (memory p);
-      library = subst (λ (p : Place). LibraryPages p (rows_of t k.directory)) (sym where_it_is) library;
+      library = subst (λ (p : Place). LibraryPages p k.extra (rows_of t k.directory)) (sym where_it_is) library;
       regions_have = tables.have;
       regions_only = tables.only;
       stack = ap (λ (c : Bool). c || not (is_resident (handler_registers k.registers to).esp)) (ap is_handlers (esp_kept k.registers to) ∙ inside);
@@ -91,12 +93,13 @@ handler_moved {t = t} {k = k} {b = b} to had inside there upcall memory descript
       at = subst (λ (p : Place). StandsAt p (view_of t k.directory) (handler_slot k to) b) (sym where_it_is) at;
     }
 
--- The handler copies, and goes on at another step, of which what stands is given. The frame of the fault stands as it stood.
+-- The handler copies, and goes on at another step, of which what stands is given. The frame of the fault stands as it stood, and who stands
+-- beneath may write what it might write.
 pub copying_goes : (from to : HandlerStep) (v w : View) (k : Slot) (b : Born) (at : IsInHandler from v k b) →
     Copies from v k b at.fault at.regs → w.row (page_number UXSTACK) ≡ v.row (page_number UXSTACK) →
     ((x : Entry) → v.row (page_number UXSTACK) ≡ Some x → is_shared x.perm ≡ false → w.bytes x.frame ≡ v.bytes x.frame) →
-    CopiesAt to w at.fault.va → IsInHandler to w (handler_slot k to) b
-copying_goes from to v w k b at way row bytes goes = record {
+    KeepsWritable v.row w.row → CopiesAt to w at.fault.va → IsInHandler to w (handler_slot k to) b
+copying_goes from to v w k b at way row bytes writes goes = record {
   fault = at.fault;
   regs = at.regs;
   frame = let f = at.frame in record {
@@ -110,7 +113,7 @@ copying_goes from to v w k b at way row bytes goes = record {
   flags = at.flags;
   stack = at.stack;
   way = copies (record {
-    guest = record { program = way.guest.program; phase = way.guest.phase; words = way.guest.words; silent = way.guest.silent; awake = way.guest.awake };
+    beneath = beneath_moved v.row w.row (record k { registers = at.regs }) b writes way.beneath;
     error = way.error;
     inside = way.inside;
     at = goes;
@@ -170,21 +173,12 @@ pub copy_unseen : (names : Names) (s : SpacesState) (d : ℕ) → page_seen name
 copy_unseen names s d =
     ap (λ (c : Bool). seen_where c (option_map (page_by names s.pages) (rows_of s d copy_page))) copy_outside
 
--- Descriptors are seen as they were, where the same is shown at all pages but one that is none of theirs.
-pub descriptors_off : (names after : Names) (s t : SpacesState) (d p : ℕ) → is_descriptor p ≡ false →
-    ((q : ℕ) → q ≢ p → shown_at after t d q ≡ shown_at names s d q) → (fd : ℕ) → descriptor_seen after t d fd ≡ descriptor_seen names s d fd
-descriptors_off names after s t d p none same fd = by_test (nat_lt fd DESCRIPTORS) refl
-  where
-    by_test : (c : Bool) → nat_lt fd DESCRIPTORS ≡ c →
-        (if c then name_of (shown_at after t d (descriptor_page fd)) else None) ≡ (if c then name_of (shown_at names s d (descriptor_page fd)) else None)
-    by_test true below =
-        let one : is_descriptor (descriptor_page fd) ≡ true = grind (arith, nat_tests) in
-        ap name_of (same (descriptor_page fd) (λ here. let contradiction : true ≡ false = sym one ∙ ap is_descriptor here ∙ none in cc))
-    by_test false below = refl
-
--- the stack of the handler is another page
+-- the stack of the handler is another page, and so is that in which a service keeps what it moves
 pub stack_beside : page_number UXSTACK ≢ copy_page
 stack_beside same = absurd (omega (arith, same))
+
+pub working_beside : page_number UTEMP ≢ copy_page
+working_beside same = absurd (omega (arith, same))
 
 module _ {names : Names} {s t : SpacesState} {d : ℕ} {v : Option Entry} (puts : Puts names names s t d copy_page v) where
   kept_beside : (p : ℕ) → p ≢ copy_page → rows_of t d p ≡ rows_of s d p
@@ -211,17 +205,21 @@ module _ {names : Names} {s t : SpacesState} {d : ℕ} {v : Option Entry} (puts 
   descriptors_kept = descriptors_off names names s t d copy_page copy_no_descriptor shown_kept
 
   -- those that a space has there have the bits that they had
-  bits_kept : {at : Place} → LibraryPages at (rows_of s d) → (p : ℕ) (entry : Entry) → is_descriptor p ≡ true → rows_of t d p ≡ Some entry →
+  bits_kept : {at : Place} {words : List ℕ} → LibraryPages at words (rows_of s d) → (p : ℕ) (entry : Entry) → is_descriptor p ≡ true → rows_of t d p ≡ Some entry →
       entry.perm ≡ descriptor_perm
   bits_kept before p entry is stands = before.descriptors p entry is (sym (kept_beside p (descriptor_off p is)) ∙ stands)
 
-  stack_kept : IsOwnWritable (rows_of s d) (page_number UXSTACK) → IsOwnWritable (rows_of t d) (page_number UXSTACK)
-  stack_kept h = record {
+  own_kept : (p : ℕ) → p ≢ copy_page → IsOwnWritable (rows_of s d) p → IsOwnWritable (rows_of t d) p
+  own_kept p ne h = record {
     entry = h.entry;
-    stands = kept_beside (page_number UXSTACK) stack_beside ∙ h.stands;
+    stands = kept_beside p ne ∙ h.stands;
     own_page = h.own_page;
     writes = h.writes;
   }
+
+  -- and what the program may write is as it was
+  writable_kept : KeepsWritable (rows_of s d) (rows_of t d)
+  writable_kept = same_writable (rows_of s d) (rows_of t d) (λ p inside. kept_beside p (programs_beside p inside).0)
 
 -- ---- a page is taken for the copy
 
@@ -297,17 +295,19 @@ module _ {names : Names} {s : KernelState} {a : AbstractState} {sp : SpacesState
   }
 
   -- the library's pages, with the copy
-  taken_library : LibraryPages (place.InHandler to) (rows_of sp d)
+  taken_library : LibraryPages (place.InHandler to) (slot_at s n).extra (rows_of sp d)
   taken_library =
-      let before : LibraryPages (place.InHandler (handler.Taking va)) (rows_of s.spaces d) =
-      subst (λ (p : Place). LibraryPages p (rows_of s.spaces d)) stands v.own.library in
+      let before : LibraryPages (place.InHandler (handler.Taking va)) (slot_at s n).extra (rows_of s.spaces d) =
+      subst (λ (p : Place). LibraryPages p (slot_at s n).extra (rows_of s.spaces d)) stands v.own.library in
       record {
-        stack = stack_kept taken_puts before.stack;
+        stack = own_kept taken_puts (page_number UXSTACK) stack_beside before.stack;
         copy = λ is. record { entry = new_entry; stands = row_here taken_puts; own_page = refl; writes = refl };
         no_copy = λ is. absurd (let contradiction : true ≡ false = is in cc);
         descriptors = bits_kept taken_puts before;
-        none = λ p outside no_descriptor no_stack no_copy.
-            kept_beside taken_puts p no_copy ∙ before.none p outside no_descriptor no_stack no_copy;
+        working = λ is. own_kept taken_puts (page_number UTEMP) working_beside (before.working is);
+        no_working = λ is. kept_beside taken_puts (page_number UTEMP) working_beside ∙ before.no_working is;
+        none = λ p outside no_descriptor no_stack no_copy no_working.
+            kept_beside taken_puts p no_copy ∙ before.none p outside no_descriptor no_stack no_copy no_working;
       }
 
   -- the region of the copy is one of the library's
@@ -347,7 +347,7 @@ module _ {names : Names} {s : KernelState} {a : AbstractState} {sp : SpacesState
           (descriptors_kept taken_puts) taken_library taken_tables
           (copying_goes (handler.Taking va) to (view_of s.spaces d) (view_of sp d) (slot_at s n) v.b v.at way
           (kept_beside taken_puts (page_number UXSTACK) stack_beside)
-          (λ x hx own_page. taken_puts.bytes d (page_number UXSTACK) x (λ same. stack_beside) hx) (goes way)))
+          (λ x hx own_page. taken_puts.bytes d (page_number UXSTACK) x (λ same. stack_beside) hx) (writable_kept taken_puts) (goes way)))
           (rows_same (put (logical s.spaces s.environments.slots) n copy_page (Some new_entry))
           (logical sp (upd s.environments.slots n (handler_slot (slot_at s n) to))) counts (rows_put (rows_stand h) taken_row)) in_order
         where
@@ -446,17 +446,19 @@ module _ {names : Names} {s : KernelState} {a : AbstractState} {sp : SpacesState
       not_here same too =
           none-some x (sym counted_none ∙ (λ i. logical s.spaces s.environments.slots (sym same i) (sym too i)) ∙ hx)
 
-  unmapped_library : LibraryPages (place.InHandler back) (rows_of sp space)
+  unmapped_library : LibraryPages (place.InHandler back) (slot_at s n).extra (rows_of sp space)
   unmapped_library =
-      let before : LibraryPages (place.InHandler (handler.Unmapping va)) (rows_of s.spaces space) =
-      subst (λ (p : Place). LibraryPages p (rows_of s.spaces space)) stands w.own.library in
+      let before : LibraryPages (place.InHandler (handler.Unmapping va)) (slot_at s n).extra (rows_of s.spaces space) =
+      subst (λ (p : Place). LibraryPages p (slot_at s n).extra (rows_of s.spaces space)) stands w.own.library in
       record {
-        stack = stack_kept unmapped_puts before.stack;
+        stack = own_kept unmapped_puts (page_number UXSTACK) stack_beside before.stack;
         copy = λ is. absurd (let contradiction : false ≡ true = is in cc);
         no_copy = λ is. row_here unmapped_puts;
         descriptors = bits_kept unmapped_puts before;
-        none = λ p outside no_descriptor no_stack no_copy.
-            kept_beside unmapped_puts p no_copy ∙ before.none p outside no_descriptor no_stack no_copy;
+        working = λ is. own_kept unmapped_puts (page_number UTEMP) working_beside (before.working is);
+        no_working = λ is. kept_beside unmapped_puts (page_number UTEMP) working_beside ∙ before.no_working is;
+        none = λ p outside no_descriptor no_stack no_copy no_working.
+            kept_beside unmapped_puts p no_copy ∙ before.none p outside no_descriptor no_stack no_copy no_working;
       }
 
   unmapped_tables : HasTables sp space w.b.regions
@@ -477,7 +479,7 @@ module _ {names : Names} {s : KernelState} {a : AbstractState} {sp : SpacesState
           (descriptors_kept unmapped_puts) unmapped_library unmapped_tables
           (copying_goes (handler.Unmapping va) back (view_of s.spaces space) (view_of sp space) (slot_at s n) w.b w.at way
           (kept_beside unmapped_puts (page_number UXSTACK) stack_beside)
-          (λ x hx own_page. unmapped_puts.bytes space (page_number UXSTACK) x (λ same. stack_beside) hx) tt))
+          (λ x hx own_page. unmapped_puts.bytes space (page_number UXSTACK) x (λ same. stack_beside) hx) (writable_kept unmapped_puts) tt))
           (rows_bytes sp.pages (λ m p x hx. unmapped_bytes m p x (sym (unmapped_counts m p) ∙ hx))
           (rows_same (logical s.spaces s.environments.slots)
           (logical sp (upd s.environments.slots n (handler_slot (slot_at s n) back))) unmapped_counts (rows_stand h))) in_order
@@ -551,8 +553,8 @@ module _ {names : Names} {s : KernelState} {a : AbstractState} {sp : SpacesState
   way : Copies (handler.MappingOver va) (view_of s.spaces home) (slot_at s n) u.b u.at.fault u.at.regs
   way = over_way u
 
-  library : LibraryPages (place.InHandler (handler.MappingOver va)) (rows_of s.spaces home)
-  library = subst (λ (q : Place). LibraryPages q (rows_of s.spaces home)) stands u.own.library
+  library : LibraryPages (place.InHandler (handler.MappingOver va)) (slot_at s n).extra (rows_of s.spaces home)
+  library = subst (λ (q : Place). LibraryPages q (slot_at s n).extra (rows_of s.spaces home)) stands u.own.library
 
   -- ---- the page and its copy
 
@@ -566,7 +568,7 @@ module _ {names : Names} {s : KernelState} {a : AbstractState} {sp : SpacesState
   page_inside = ap (λ (q : ℕ). is_programs (page_number q)) way.at.0 ∙ inside_programs u.at.fault.va way.inside
 
   beside : (p ≢ copy_page) × (p ≢ page_number UXSTACK)
-  beside = programs_beside p page_inside
+  beside = let off = programs_beside p page_inside in (off.0, off.1)
 
   old_counts : before n p ≡ Some old.entry
   old_counts = logical_beside s.spaces s.environments.slots n running p beside.0 (ap (λ (q : Place). is_remapped q p) stands) ∙ old.stands
@@ -651,10 +653,19 @@ module _ {names : Names} {s : KernelState} {a : AbstractState} {sp : SpacesState
   over_descriptors : (fd : ℕ) → descriptor_seen names sp home fd ≡ descriptor_seen names s.spaces home fd
   over_descriptors = descriptors_beside names names s.spaces sp home p page_inside over_shown
 
-  over_library : LibraryPages (place.InHandler next) (rows_of sp home)
+  over_library : LibraryPages (place.InHandler next) (slot_at s n).extra (rows_of sp home)
   over_library =
-      library_moved (place.InHandler (handler.MappingOver va)) (place.InHandler next) (rows_of sp home) refl
-      (library_put (place.InHandler (handler.MappingOver va)) (rows_of s.spaces home) (rows_of sp home) p page_inside over_kept library)
+      library_moved (place.InHandler (handler.MappingOver va)) (place.InHandler next) (slot_at s n).extra (slot_at s n).extra (rows_of sp home) refl refl
+      (library_put (place.InHandler (handler.MappingOver va)) (slot_at s n).extra (rows_of s.spaces home) (rows_of sp home) p page_inside over_kept library)
+
+  -- what the program might write it may write, and the page too
+  over_writable : KeepsWritable (rows_of s.spaces home) (rows_of sp home)
+  over_writable q inside writes = by_page (q == p) refl
+    where
+      by_page : (c : Bool) → (q == p) ≡ c → is_refused_by true (rows_of sp home q) ≡ false
+      by_page true test =
+          let same : q ≡ p = grind (arith, nat_tests) in ap (is_refused_by true) (ap (rows_of sp home) same ∙ row_placed given.placed)
+      by_page false test = ap (is_refused_by true) (over_kept q (grind (arith, nat_tests))) ∙ writes
 
   -- the region has its table already
   over_tables : HasTables sp home u.b.regions
@@ -767,6 +778,6 @@ module _ {names : Names} {s : KernelState} {a : AbstractState} {sp : SpacesState
       (handler_moved next u.own u.inside tt (u.own.upcall ∙ ap upcall_at stands) over_memory over_descriptors over_library over_tables
       (copying_goes (handler.MappingOver va) next (view_of s.spaces home) (view_of sp home) (slot_at s n) u.b u.at way
       (over_kept (page_number UXSTACK) (λ e. beside.1 (sym e)))
-      (λ x hx own_page. kept_bytes (page_number UXSTACK) x (λ e. beside.1 (sym e)) hx)
+      (λ x hx own_page. kept_bytes (page_number UXSTACK) x (λ e. beside.1 (sym e)) hx) over_writable
       (way.at.0, subst (λ (q : ℕ). IsMappedTwice (view_of sp home) q) way.at.0 mapped_twice)))
       (rows_same (put left n p (Some over)) after over_counts (rows_put (rows_put (rows_stand h) left_row) over_row)) in_order

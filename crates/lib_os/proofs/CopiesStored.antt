@@ -33,9 +33,10 @@ use Rattle.lib_os.specs.StandingLaws.{IsHandlerStep}
 use Rattle.lib_os.specs.StandsFor.{StandsFor, view_of, upcall_at, borne_in}
 use Rattle.lib_os.specs.StandsInHandler.{Copies, CopiesAt, CopiesOrEnds, copies, ends, IsToCopy, IsCopiedTo, page_word}
 use Rattle.lib_os.specs.UserCalls.{giving, accessing, with_user_word, store}
+use Rattle.lib_os.proofs.Beneath.{same_writable}
 use Rattle.lib_os.proofs.BytesPut.{bytes_put, put_whole, put_before, put_there, spaces_put, put_is, page_put, reached_to_write}
 use Rattle.lib_os.proofs.BytesRead.{lasting_reads, lasting_writes}
-use Rattle.lib_os.proofs.CopiesStand.{copy_page, copy_alone, copy_no_descriptor, copy_unseen, descriptors_off, stack_beside}
+use Rattle.lib_os.proofs.CopiesStand.{copy_page, copy_alone, copy_no_descriptor, copy_unseen, stack_beside}
 use Rattle.lib_os.proofs.CopiesStand.{handler_moved, copying_goes, copying_stands, counts_at}
 use Rattle.lib_os.proofs.Effects.{Quiet}
 use Rattle.lib_os.proofs.EntriesCount.{entry_counts}
@@ -45,7 +46,7 @@ use Rattle.lib_os.proofs.Handled.{IsHandled, handled_part, handler_slot, handler
 use Rattle.lib_os.proofs.Logical.{is_plain, is_remapped, counted_plain, logical_plain, logical_beside, inside_programs, programs_beside}
 use Rattle.lib_os.proofs.PageBytes.{word_bytes}
 use Rattle.lib_os.proofs.Serving.{library_moved}
-use Rattle.lib_os.proofs.SlotsStand.{SeenAlike, HasTables, library_alike, born_live}
+use Rattle.lib_os.proofs.SlotsStand.{SeenAlike, HasTables, descriptors_off, library_alike, born_live}
 use Rattle.lib_os.proofs.StatesStand.{others_count}
 use Rattle.lib_os.proofs.Touching.{touched_quiet}
 use Rattle.lib_os.proofs.StepsThere.{step_is_there}
@@ -92,8 +93,8 @@ module _ {names : Names} {s : KernelState} {a : AbstractState} {sp : SpacesState
   way : Copies from (view_of s.spaces d) (slot_at s n) v.b v.at.fault v.at.regs
   way = storing_way v
 
-  library : LibraryPages (place.InHandler from) (rows_of s.spaces d)
-  library = subst (λ (q : Place). LibraryPages q (rows_of s.spaces d)) stands v.own.library
+  library : LibraryPages (place.InHandler from) (slot_at s n).extra (rows_of s.spaces d)
+  library = subst (λ (q : Place). LibraryPages q (slot_at s n).extra (rows_of s.spaces d)) stands v.own.library
 
   -- what stands in the space counts
   own_counts : (q : ℕ) (x : Entry) → rows_of s.spaces d q ≡ Some x → before n q ≡ Some x
@@ -213,10 +214,10 @@ module _ {names : Names} {s : KernelState} {a : AbstractState} {sp : SpacesState
       whole = λ m q x hx. as_whole m q x (sym (counts_kept m q) ∙ hx);
     }
 
-    library_kept : LibraryPages (place.InHandler to) (rows_of sp d)
+    library_kept : LibraryPages (place.InHandler to) (slot_at s n).extra (rows_of sp d)
     library_kept =
-        library_moved (place.InHandler from) (place.InHandler to) (rows_of sp d) (sym copy_stays)
-        (library_alike (place.InHandler from) (rows_of s.spaces d) (rows_of sp d) (ap (λ (rows : Rows). rows d) rewritten.rows) library)
+        library_moved (place.InHandler from) (place.InHandler to) (slot_at s n).extra (slot_at s n).extra (rows_of sp d) (sym copy_stays) refl
+        (library_alike (place.InHandler from) (slot_at s n).extra (rows_of s.spaces d) (rows_of sp d) (ap (λ (rows : Rows). rows d) rewritten.rows) library)
 
     pub rewritten_stands : CopiesAt to (view_of sp (slot_at s n).directory) v.at.fault.va →
         StandsFor names (with_registers (with_spaces s sp) n (handler_registers (slot_at s n).registers to)) a
@@ -224,7 +225,8 @@ module _ {names : Names} {s : KernelState} {a : AbstractState} {sp : SpacesState
         copying_stands h n v.b v.is to (ap borne_in stands) (ap borne_in (handler_place (slot_at s n) to v.inside there)) others
         (handler_moved to v.own v.inside there (v.own.upcall ∙ ap upcall_at stands ∙ sym upcall) memory_kept descriptors_kept library_kept tables_kept
         (copying_goes from to (view_of s.spaces d) (view_of sp d) (slot_at s n) v.b v.at way (row_kept d (page_number UXSTACK))
-        (λ x hx own_page. other_bytes (page_number UXSTACK) x stack_beside hx) goes)) rows_kept in_order
+        (λ x hx own_page. other_bytes (page_number UXSTACK) x stack_beside hx)
+        (same_writable (rows_of s.spaces d) (rows_of sp d) (λ q inside. row_kept d q)) goes)) rows_kept in_order
 
 -- ---- a word
 
@@ -427,8 +429,8 @@ module _ {names : Names} {s : KernelState} {a : AbstractState} (h : StandsFor na
 
   its_copy : IsOwnWritable (rows_of s.spaces dir) copy_page
   its_copy =
-      let pages : LibraryPages (place.InHandler (handler.Storing va index word)) (rows_of s.spaces dir) =
-      subst (λ (q : Place). LibraryPages q (rows_of s.spaces dir)) stands x.own.library in
+      let pages : LibraryPages (place.InHandler (handler.Storing va index word)) (slot_at s n).extra (rows_of s.spaces dir) =
+      subst (λ (q : Place). LibraryPages q (slot_at s n).extra (rows_of s.spaces dir)) stands x.own.library in
       pages.copy refl
 
   is_user : is_page_perm its_copy.entry.perm ≡ true

@@ -39,7 +39,7 @@ use Rattle.lib_os.proofs.EntryWords.{region_told, row_entry, row_told}
 use Rattle.lib_os.proofs.GoingOn.{words_stand}
 use Rattle.lib_os.proofs.Loading.{loaded}
 use Rattle.lib_os.proofs.Numbered.{named_at, number_of}
-use Rattle.lib_os.proofs.Serving.{IsServed}
+use Rattle.lib_os.proofs.Serving.{IsServed, holds_page}
 use Rattle.lib_os.proofs.SlotsStand.{born_at}
 use Rattle.lib_os.proofs.StatesStand.{quiet_stands}
 use Rattle.lib_os.proofs.Touching.{touched_quiet}
@@ -311,19 +311,20 @@ module _ {names : Names} {s : KernelState} {a : AbstractState} (h : StandsFor na
   loaded_stands = quiet_stands h (touched_quiet s.spaces (slot_at s n).directory va Read) order
 
   pub read_goes_on : (to : Step) → borne_in (place.InService service to) ≡ None →
+      holds_page (place.InService service from) ≡ holds_page (place.InService service to) →
       StandsAtStep (view_of s.spaces (slot_at s n).directory) (record (slot_at s n) { extra = words_at (number_of service) to }) v.b service to →
       StandsFor names (with_extra (loaded s n va) n (words_at (number_of service) to)) a
-  read_goes_on to none so =
+  read_goes_on to none held so =
       words_stand loaded_stands n (number_of service) v.b v.is (born_at loaded_stands n v.b v.is) v.outside (ap borne_in v.place ∙ unborne) service to
-      none (named_at (slot_at s n) service from v.place)
+      (ap holds_page v.place ∙ held) none (named_at (slot_at s n) service from v.place)
       (subst (λ (w : View). StandsAtStep w (record (slot_at s n) { extra = words_at (number_of service) to }) v.b service to)
       (sym (loaded_view s n va (slot_at s n).directory)) so)
 
-  pub read_answers : IsIn (slot_at s n) v.b service entered → (word : ℕ) →
+  pub read_answers : holds_page (place.InService service from) ≡ false → IsIn (slot_at s n) v.b service entered → (word : ℕ) →
       StandsFor names (service_answered (loaded s n va) n word) (answered a n v.b (slot_at s n).registers word)
-  read_answers is_in word =
-      back_stands loaded_stands n v.b v.is (record (slot_at s n).registers { eax = word }) (ap borne_in v.place ∙ unborne) is_in.silent is_in.awake
-      v.outside refl refl
+  read_answers holds is_in word =
+      back_stands loaded_stands n v.b v.is (record (slot_at s n).registers { eax = word }) (ap borne_in v.place ∙ unborne)
+      (ap holds_page v.place ∙ holds) is_in.silent is_in.awake v.outside refl refl
 
 -- ---- the steps of the abstract system
 

@@ -10,7 +10,7 @@ use Rattle.std.proofs.lemmas.Bool.Decides.{nat_tests}
 use Rattle.std.proofs.lemmas.Option.{same_Some, none-some}
 use Rattle.jos_base.specs.declared.called.Called.{Called}
 use Rattle.jos_base.specs.declared.called.Called.TheVariants.{Answered}
-use Rattle.jos_base.specs.declared.numbers.TheConstants.{NPTENTRIES, SYS_PAGE_MAP, SYS_PAGE_UNMAP}
+use Rattle.jos_base.specs.declared.numbers.TheConstants.{NPTENTRIES, SYS_PAGE_MAP, SYS_PAGE_UNMAP, UTEMP}
 use Rattle.jos_base.specs.declared.registers.Regs.{Regs}
 use Rattle.jos_base.specs.Environments.{Slot, is_live, no_extra}
 use Rattle.jos_base.specs.KernelState.{KernelState, slot_at, with_extra, with_slot_at, with_spaces}
@@ -24,6 +24,7 @@ use Rattle.lib_os.specs.declared.place.Place.TheVariants as place
 use Rattle.lib_os.specs.declared.place.Step.{Step}
 use Rattle.lib_os.specs.declared.place.Step.TheVariants as step
 use Rattle.lib_os.specs.declared.service.Service.{Service}
+use Rattle.lib_os.specs.declared.service.Service.TheVariants as service
 use Rattle.lib_os.specs.AbstractState.{AbstractState, Born, Stage, born, entered, guest, at_guest, named, own, with_born}
 use Rattle.lib_os.specs.Answers.{answered, back_with}
 use Rattle.lib_os.specs.Descriptors.{object_name, with_descriptor}
@@ -52,7 +53,7 @@ use Rattle.lib_os.proofs.PagesStand.{Puts, bytes_elsewhere, counts_put, other_re
 use Rattle.lib_os.proofs.Placing.{inserted_given}
 use Rattle.lib_os.proofs.Remapping.{given_on, inserted_already, lasting_write, page_map_is}
 use Rattle.lib_os.proofs.Removing.{unmapped_removed}
-use Rattle.lib_os.proofs.Serving.{IsServed}
+use Rattle.lib_os.proofs.Serving.{IsServed, holds_page}
 use Rattle.lib_os.proofs.Slots.{slot_put, words_put}
 use Rattle.lib_os.proofs.SlotsSet.{set_twice}
 use Rattle.lib_os.proofs.SlotsStand.{HasTables, KeptAt, at_kept, born_at, born_live, descriptor_shown, kept_unminded, minds_page, unminded_plain}
@@ -68,29 +69,33 @@ own_alike : (row after : EntryRow) (p : ℕ) → after p ≡ row p → IsOwnWrit
 own_alike row after p same h = record { entry = h.entry; stands = same ∙ h.stands; own_page = h.own_page; writes = h.writes }
 
 -- A page with a descriptor's bits, or none, stands at one of the descriptors' pages: the library's other pages are as before.
-library_kept : (at : Place) (row after : EntryRow) (fd : ℕ) → fd < DESCRIPTORS → ((q : ℕ) → q ≢ descriptor_page fd → after q ≡ row q) →
-    ((x : Entry) → after (descriptor_page fd) ≡ Some x → x.perm ≡ descriptor_perm) → LibraryPages at row → LibraryPages at after
-library_kept at row after fd below same bits h =
+library_kept : (at : Place) (words : List ℕ) (row after : EntryRow) (fd : ℕ) → fd < DESCRIPTORS → ((q : ℕ) → q ≢ descriptor_page fd → after q ≡ row q) →
+    ((x : Entry) → after (descriptor_page fd) ≡ Some x → x.perm ≡ descriptor_perm) → LibraryPages at words row →
+    LibraryPages at words after
+library_kept at words row after fd below same bits h =
     let stack_same : after (page_number UXSTACK) ≡ row (page_number UXSTACK) = same _ (λ is. omega (arith, below, is)) in
     let copy_same : after (page_number PFTEMP) ≡ row (page_number PFTEMP) = same _ (λ is. omega (arith, below, is)) in
+    let working_same : after (page_number UTEMP) ≡ row (page_number UTEMP) = same _ (λ is. omega (arith, below, is)) in
     record {
       stack = own_alike row after _ stack_same h.stack;
       copy = λ is. own_alike row after _ copy_same (h.copy is);
       no_copy = λ is. copy_same ∙ h.no_copy is;
+      working = λ is. own_alike row after _ working_same (h.working is);
+      no_working = λ is. working_same ∙ h.no_working is;
       descriptors = λ q entry is stands. elim (cases_eq q (descriptor_page fd)) [
         | inl here ↦ bits entry (ap after (sym here) ∙ stands)
         | inr there ↦ h.descriptors q entry is (sym (same q there) ∙ stands)
       ];
-      none = λ q outside no_descriptor no_stack no_copy.
+      none = λ q outside no_descriptor no_stack no_copy no_working.
           same q (λ is. let contradiction : true ≡ false = sym (is_descriptors fd below) ∙ ap is_descriptor (sym is) ∙ no_descriptor in cc)
-          ∙ h.none q outside no_descriptor no_stack no_copy;
+          ∙ h.none q outside no_descriptor no_stack no_copy no_working;
     }
 
 -- The environment's own part, where what is shown differs at the page of one descriptor alone.
 descriptor_put : (names : Names) (s t : SpacesState) (k : Slot) (b : Born) (fd : ℕ) (name : Option ℕ) → fd < DESCRIPTORS →
     StandsForBorn names s k b → name ≡ name_of (shown_at names t k.directory (descriptor_page fd)) →
     ((q : ℕ) → q ≢ descriptor_page fd → shown_at names t k.directory q ≡ shown_at names s k.directory q) →
-    LibraryPages (place_of k) (rows_of t k.directory) → HasTables t k.directory b.regions →
+    LibraryPages (place_of k) k.extra (rows_of t k.directory) → HasTables t k.directory b.regions →
     KeptAt (place_of k) (view_of s k.directory) (view_of t k.directory) → StandsForBorn names t k (with_descriptor b fd name)
 descriptor_put names s t k b fd name below h here there library tables kept = record {
   id = h.id;
@@ -166,7 +171,8 @@ module _ {names : Names} {s : KernelState} {a : AbstractState} {sp : SpacesState
       mine =
           descriptor_put names s.spaces sp (slot_at s n) b fd name below own
           (name_is ∙ sym (ap (λ (e : Option Entry). name_of (option_map (page_by names sp.pages) e)) row_here)) shown_kept
-          (library_kept (place_of (slot_at s n)) (rows_of s.spaces dir) (rows_of sp dir) fd below (λ q ne. row_kept dir q (λ is too. ne too))
+          (library_kept (place_of (slot_at s n)) (slot_at s n).extra (rows_of s.spaces dir) (rows_of sp dir) fd below
+          (λ q ne. row_kept dir q (λ is too. ne too))
           (λ x is. bits x (sym row_here ∙ is)) own.library)
           (record {
             have = λ r is. tables r ∙ own.regions_have r is;
@@ -311,6 +317,11 @@ module _ {names : Names} {s : KernelState} {a : AbstractState} {sp : SpacesState
 
 -- ---- a service that has changed a page, and the words with it
 
+-- where nothing is kept in mind at the beginning, no page is kept later
+holds_none : (s : Service) → minds_page (place.InService s step.Entered) ≡ false → (at : Step) → holds_page (place.InService s at) ≡ false
+holds_none (service.Write fd va len) calm at = absurd (let contradiction : true ≡ false = calm in cc)
+holds_none _ calm at = refl
+
 -- where it was at its beginning
 module _ {names : Names} {a : AbstractState} (t : KernelState) (n : ℕ) (service : Service) (b : Born)
     (h : StandsFor names (with_extra t n (words_at (number_of service) step.Entered)) a) (at : a.slots n ≡ born b)
@@ -334,12 +345,16 @@ module _ {names : Names} {a : AbstractState} (t : KernelState) (n : ℕ) (servic
       ap borne_in (place_set t n (number_of service) service step.Entered outside named)
       ∙ plain_unborne (place.InService service step.Entered) (unminded_plain (place.InService service step.Entered) calm)
 
+  at_holds : holds_page (place_of (slot_at (with_extra t n (words_at (number_of service) step.Entered)) n)) ≡ false
+  at_holds = ap holds_page (place_set t n (number_of service) service step.Entered outside named) ∙ holds_none service calm step.Entered
+
   pub begun_goes_on : (to : Step) → borne_in (place.InService service to) ≡ None →
       StandsAtStep (view_of t.spaces (slot_at t n).directory) (record (slot_at t n) { extra = words_at (number_of service) to }) b service to →
       StandsFor names (with_extra t n (words_at (number_of service) to)) a
   begun_goes_on to unborne so =
       subst (λ (z : KernelState). StandsFor names z a) (words_put t n begun (words_at (number_of service) to))
-      (words_stand h n (number_of service) b at (born_at h n b at) still_outside at_none service to unborne still_named
+      (words_stand h n (number_of service) b at (born_at h n b at) still_outside at_none service to (at_holds ∙ sym (holds_none service calm to))
+      unborne still_named
       (subst (λ (x : Slot). StandsAtStep (view_of t.spaces x.directory) (record x { extra = words_at (number_of service) to }) b service to)
       (sym there) so))
 
@@ -348,7 +363,7 @@ module _ {names : Names} {a : AbstractState} (t : KernelState) (n : ℕ) (servic
       StandsFor names (gone_back t n regs) (back_with a n b regs)
   begun_goes_back regs silent awake stack flags =
       subst (λ (z : KernelState). StandsFor names z (back_with a n b regs)) same
-      (back_stands h n b at regs at_none (ap (λ (x : Slot). x.rendezvous.receiving) there ∙ silent) awake still_outside
+      (back_stands h n b at regs at_none at_holds (ap (λ (x : Slot). x.rendezvous.receiving) there ∙ silent) awake still_outside
       (stack ∙ sym (ap (λ (x : Slot). x.registers.esp) there)) (flags ∙ sym (ap (λ (x : Slot). x.registers.eflags) there)))
     where
       same : gone_back (with_extra t n (words_at (number_of service) step.Entered)) n regs ≡ gone_back t n regs
@@ -387,7 +402,8 @@ module _ {names : Names} {s : KernelState} {a : AbstractState} (h : StandsFor na
   -- the same state stands for it at the beginning of its service, where nothing is kept in mind
   begun_stands : StandsFor names (with_extra s n begun_words) a
   begun_stands =
-      words_stand h n (number_of service) v.b v.is v.own v.outside (ap borne_in v.place ∙ unborne) service step.Entered begun_none names_it
+      words_stand h n (number_of service) v.b v.is v.own v.outside (ap borne_in v.place ∙ unborne) service step.Entered
+      (ap holds_page v.place ∙ holds_none service calm from ∙ sym (holds_none service calm step.Entered)) begun_none names_it
       (in_with_words begun_words is_in)
 
   begun_unminded : minds_page (place_of (slot_at (with_extra s n begun_words) n)) ≡ false

@@ -1,6 +1,6 @@
--- A page fault of a program is handed to the library's handler: the frame is written to the top of the handler's stack, and the handler
--- stands at its first step. The state stands for the abstract one where the page waits to be copied, and else for that in which the
--- program is marked with its fault.
+-- A page fault of a program, or of a service that moves bytes to or from the program's memory, is handed to the library's handler: the
+-- frame is written to the top of the handler's stack, and the handler stands at its first step. The state stands for the abstract one where
+-- the page waits to be copied, or where a service stands before the access; else for that in which the program is marked with its fault.
 use Rattle.std.proofs.Common.{◌≡◌, ◌≢◌, ◌∙◌, ◌==◌, ◌||◌, ◌<◌, ◌+◌, ◌-◌, ◌*◌, ◌^◌, ℕ, zero, suc, not, Bool, true, false}
 use Rattle.std.proofs.Common.{List, [], ◌∷◌, length, refl, sym, ap, subst, arith, if◌then◌else◌}
 use Rattle.std.specs.Prelude.{Option, Some, None, Ok, get_or, nat_lt, slice_index, bit_and}
@@ -25,7 +25,9 @@ use Rattle.lib_os.specs.declared.numbers.TheConstants.{PGFAULT_UPCALL, UXSTACK}
 use Rattle.lib_os.specs.declared.place.HandlerStep.TheVariants as handler
 use Rattle.lib_os.specs.declared.place.Place.{Place}
 use Rattle.lib_os.specs.declared.place.Place.TheVariants as place
-use Rattle.lib_os.specs.AbstractState.{AbstractState, Born, Phase, born, faulted, with_born}
+use Rattle.lib_os.specs.declared.place.Step.TheVariants as step
+use Rattle.lib_os.specs.declared.service.Service.{Service}
+use Rattle.lib_os.specs.AbstractState.{AbstractState, Born, Phase, born, faulted, guest, with_born}
 use Rattle.lib_os.specs.Fence.{in_fence, is_inside, is_resident}
 use Rattle.lib_os.specs.InOrder.{IsInOrder}
 use Rattle.lib_os.specs.LibraryPages.{IsOwnWritable, HasFrame, frame_place, has_copy}
@@ -35,19 +37,20 @@ use Rattle.lib_os.specs.Rows.{EntryRow, IsPage, IsUsers, Names, Rows, descriptor
 use Rattle.lib_os.specs.Rows.{seen_where, shown_at}
 use Rattle.lib_os.specs.StandsFor.{StandsFor, StandsForBorn, StandsAt, upcall_at, view_of, borne_in}
 use Rattle.lib_os.specs.StandsInHandler.{AreSmall, CopiesOrEnds, IsAtGuest, IsToCopy, copies, ends}
+use Rattle.lib_os.specs.StandsInHandler.{IsStoppedAt, marked, StandsBeneath, at_program, is_write}
 use Rattle.lib_os.proofs.BytesRead.{IsRefusal, lasting_reads, lasting_writes, remapped}
-use Rattle.lib_os.proofs.CopiesStand.{descriptors_off}
 use Rattle.lib_os.proofs.EntriesStand.{shown_same}
 use Rattle.lib_os.proofs.EntryWords.{row_entry}
 use Rattle.lib_os.proofs.Fences.{inside_below, inside_number}
 use Rattle.lib_os.proofs.LaidStand.{Laid, bytes_laid, laid_beside, laid_others, laid_rows, overlaid_at}
 use Rattle.lib_os.proofs.Logical.{is_plain, is_remapped, plain_unborne, logical_beside}
 use Rattle.lib_os.proofs.PageBytes.{page_overlaid, words_bytes}
-use Rattle.lib_os.proofs.Serving.{library_moved}
-use Rattle.lib_os.proofs.SlotsStand.{born_at, born_live, library_alike}
+use Rattle.lib_os.proofs.Serving.{library_moved, plain_copy, plain_upcall}
+use Rattle.lib_os.proofs.SlotsStand.{born_at, born_live, descriptors_off, library_alike}
 use Rattle.lib_os.proofs.StatesStand.{own_moves, plain_alike}
 use Rattle.lib_os.proofs.Touching.{touched_quiet}
-use Rattle.lib_os.proofs.WordsTell.{outside_stack}
+use Rattle.lib_os.proofs.Working.{words_work}
+use Rattle.lib_os.proofs.WordsTell.{is_in_handler, outside_stack}
 use Rattle.jos_base.proofs.Maps.{upd-at, upd-stays}
 use Rattle.jos_base.proofs.Sums.{total-one}
 use Rattle.jos_base.proofs.Walks.{walked_below}
@@ -199,6 +202,16 @@ waits_left row va inside waits =
 
 module _ {names : Names} {s : KernelState} {a : AbstractState} (h : StandsFor names s a) (n : ℕ) (b : Born) (at : a.slots n ≡ born b)
     (stands : place_of (slot_at s n) ≡ place.Guest) where
+  pub guest_at : IsAtGuest (slot_at s n) b
+  guest_at = subst (λ (p : Place). StandsAt p (view_of s.spaces (slot_at s n).directory) (slot_at s n) b) stands (born_at h n b at).at
+
+  pub guest_beneath : StandsBeneath (rows_of s.spaces (slot_at s n).directory) (slot_at s n) b
+  guest_beneath = at_program guest_at
+
+-- ---- one whose handler does not run, and whose entries count as they stand: it is at its program, or in a service
+
+module _ {names : Names} {s : KernelState} {a : AbstractState} (h : StandsFor names s a) (n : ℕ) (b : Born) (at : a.slots n ≡ born b)
+    (there : Place) (stands : place_of (slot_at s n) ≡ there) (apart : is_in_handler there ≡ false) (counts : is_plain there ≡ true) where
   abbrev k : Slot
   k = slot_at s n
 
@@ -209,10 +222,10 @@ module _ {names : Names} {s : KernelState} {a : AbstractState} (h : StandsFor na
   own = born_at h n b at
 
   outside : is_handlers k.registers.esp ≡ false
-  outside = outside_stack k.registers k.extra place.Guest stands refl
+  outside = outside_stack k.registers k.extra there stands apart
 
   upcall_is : k.upcall ≡ PGFAULT_UPCALL
-  upcall_is = own.upcall ∙ ap upcall_at stands
+  upcall_is = own.upcall ∙ ap upcall_at stands ∙ plain_upcall there apart
 
   pub esp_free : is_resident k.registers.esp ≡ false
   esp_free = by_bits (is_handlers k.registers.esp) (is_resident k.registers.esp) outside own.stack
@@ -221,9 +234,6 @@ module _ {names : Names} {s : KernelState} {a : AbstractState} (h : StandsFor na
       by_bits t false off on = refl
       by_bits true true off on = off
       by_bits false true off on = absurd (false≢true on)
-
-  pub guest_at : IsAtGuest k b
-  guest_at = subst (λ (p : Place). StandsAt p (view_of s.spaces d) k b) stands own.at
 
   -- the frame of memory in which the stack's page stands
   abbrev pub stack_frame : ℕ
@@ -257,7 +267,7 @@ module _ {names : Names} {s : KernelState} {a : AbstractState} (h : StandsFor na
     slot_is = upd-at s.environments.slots n (entered_slot k)
 
     plain : is_plain (place_of k) ≡ true
-    plain = ap is_plain stands
+    plain = ap is_plain stands ∙ counts
 
     row_kept : rows_of sp d ≡ rows_of s.spaces d
     row_kept = ap (λ (rows : Rows). rows d) laid.rows
@@ -316,24 +326,24 @@ module _ {names : Names} {s : KernelState} {a : AbstractState} (h : StandsFor na
         (way : CopiesOrEnds handler.Entered (view_of sp d) (entered_slot k) (record b { phase = phase }) fault k.registers) where
       mine : StandsForBorn names sp (entered_slot k) (record b { phase = phase })
       mine =
-          let there : place_of (entered_slot k) ≡ place.InHandler handler.Entered = entered_place k in
+          let entered : place_of (entered_slot k) ≡ place.InHandler handler.Entered = entered_place k in
           record {
             id = own.id;
             id_small = own.id_small;
             parent = own.parent;
             env_type = own.env_type;
             runs = own.runs;
-            upcall = upcall_is ∙ sym (ap upcall_at there);
+            upcall = upcall_is ∙ sym (ap upcall_at entered);
             descriptors = λ fd. own.descriptors fd ∙ sym (descriptors_kept fd);
             memory = λ q. own.memory q ∙ sym (seen_kept q);
-            library = library_alike (place_of (entered_slot k)) (rows_of s.spaces d) (rows_of sp d) row_kept
-                (library_moved (place_of k) (place_of (entered_slot k)) (rows_of s.spaces d) (ap has_copy stands ∙ sym (ap has_copy there))
-                own.library);
+            library = library_alike (place_of (entered_slot k)) k.extra (rows_of s.spaces d) (rows_of sp d) row_kept
+                (library_moved (place_of k) (place_of (entered_slot k)) k.extra k.extra (rows_of s.spaces d)
+                (ap has_copy stands ∙ plain_copy there apart ∙ sym (ap has_copy entered)) (words_work k (entered_slot k).registers) own.library);
             regions_have = λ r is. laid.regions d r ∙ own.regions_have r is;
             regions_only = λ r is. own.regions_only r (sym (laid.regions d r) ∙ is);
             stack = refl;
             flags = own.flags;
-            at = subst (λ (p : Place). StandsAt p (view_of sp d) (entered_slot k) (record b { phase = phase })) (sym there) (record {
+            at = subst (λ (p : Place). StandsAt p (view_of sp d) (entered_slot k) (record b { phase = phase })) (sym entered) (record {
               fault = fault;
               regs = k.registers;
               frame = frame_there;
@@ -356,40 +366,52 @@ module _ {names : Names} {s : KernelState} {a : AbstractState} (h : StandsFor na
           (plain_alike (place_of k) (place_of (entered_slot k)) plain (ap is_plain (entered_place k))))
           (record { frames = in_order.frames; spaces = in_order.spaces })) in_order
 
+    same : with_born a n b ≡ a
+    same = λ i. record a { slots = λ q. upd-stays a.slots n (born b) (sym at) q i }
+
     -- the page waits to be copied
     pub fault_copies : AreSmall k.registers → is_inside fault.va ≡ true → fault.error ≡ FEC_U + FEC_PR + FEC_WR →
-        IsToCopy (rows_of s.spaces d) fault.va → IsInOrder after → StandsFor names after a
-    fault_copies small inside error waits in_order =
+        IsToCopy (rows_of s.spaces d) fault.va → StandsBeneath (rows_of s.spaces d) k b → IsInOrder after → StandsFor names after a
+    fault_copies small inside error waits beneath in_order =
         let below = inside_below fault.va inside in
         subst (λ (x : AbstractState). StandsFor names after x) same
         (handed_stands small (omega (arith, below)) (omega (arith, error)) b.phase (copies (record {
-          guest = record {
-            program = guest_at.program;
-            phase = guest_at.phase;
-            words = guest_at.words;
-            silent = guest_at.silent;
-            awake = guest_at.awake;
-          };
+          beneath = subst (λ (row : EntryRow). StandsBeneath row k b) (sym row_kept) beneath;
           error = error;
           inside = inside;
           at = subst (λ (row : EntryRow). IsToCopy row fault.va) (sym row_kept) waits;
         })) in_order)
-      where
-        same : with_born a n b ≡ a
-        same = λ i. record a { slots = λ q. upd-stays a.slots n (born b) (sym at) q i }
 
-    -- or it has refused the access, and the program is marked
-    pub fault_ends : AreSmall k.registers → is_inside fault.va ≡ true → fault.error < 2 ^ 32 → IsRefusal (rows_of s.spaces d) fault →
+    -- or it has refused the access, before which a service stands
+    pub fault_stops : AreSmall k.registers → is_inside fault.va ≡ true → fault.error < 2 ^ 32 → IsRefusal (rows_of s.spaces d) fault →
+        b.program ≡ guest k.registers → k.rendezvous.receiving ≡ false → b.blocked ≡ false →
+        IsStoppedAt (is_write fault.error) (rows_of s.spaces d) b fault.va k.registers.eip → IsInOrder after → StandsFor names after a
+    fault_stops small inside error refusal program silent awake stopped in_order =
+        let below = inside_below fault.va inside in
+        let refused : IsRefusal (rows_of sp d) fault = subst (λ (row : EntryRow). IsRefusal row fault) (sym row_kept) refusal in
+        subst (λ (x : AbstractState). StandsFor names after x) same
+        (handed_stands small (omega (arith, below)) error b.phase (ends (record {
+          program = program;
+          stopped = subst (λ (row : EntryRow). IsStoppedAt (is_write fault.error) row b fault.va k.registers.eip) (sym row_kept) stopped;
+          silent = silent;
+          awake = awake;
+          inside = inside;
+          refused = refused.refused;
+          present = refused.present;
+          at = tt;
+        })) in_order)
+
+    -- or that of the program, which is marked
+    pub fault_ends : IsAtGuest k b → AreSmall k.registers → is_inside fault.va ≡ true → fault.error < 2 ^ 32 → IsRefusal (rows_of s.spaces d) fault →
         IsInOrder after → StandsFor names after (with_born a n (record b { phase = faulted fault.va k.registers.eip }))
-    fault_ends small inside error refusal in_order =
+    fault_ends guest_is small inside error refusal in_order =
         let below = inside_below fault.va inside in
         let refused : IsRefusal (rows_of sp d) fault = subst (λ (row : EntryRow). IsRefusal row fault) (sym row_kept) refusal in
         handed_stands small (omega (arith, below)) error (faulted fault.va k.registers.eip) (ends (record {
-          program = guest_at.program;
-          phase = refl;
-          words = guest_at.words;
-          silent = guest_at.silent;
-          awake = guest_at.awake;
+          program = guest_is.program;
+          stopped = marked refl;
+          silent = guest_is.silent;
+          awake = guest_is.awake;
           inside = inside;
           refused = refused.refused;
           present = refused.present;
@@ -403,14 +425,40 @@ module _ {names : Names} {s : KernelState} {a : AbstractState} (h : StandsFor na
     pub entered_at : place_of (slot_at after n) ≡ place.InHandler handler.Entered
     entered_at = ap (λ (x : Slot). place_of x) slot_is ∙ entered_place k
 
-    -- and the steps that are hidden are fewer, where this page does
-    pub fault_lowers : is_inside fault.va ≡ true → IsToCopy (rows_of s.spaces d) fault.va → hidden_left after n < hidden_left s n
-    fault_lowers inside waits =
-        let some = waits_left (rows_of s.spaces d) fault.va inside waits in
-        let copies = copies_left (rows_of s.spaces d) in
-        let was : hidden_left s n ≡ copy_steps * copies = ap (λ (p : Place). left_at p copies) stands in
-        let is : hidden_left after n ≡ 2055 + copy_steps * (copies - 1) =
+    -- ---- and the steps that are hidden are fewer
+
+    abbrev waiting : ℕ
+    waiting = copies_left (rows_of s.spaces d)
+
+    was_left : hidden_left s n ≡ left_at there waiting
+    was_left = ap (λ (p : Place). left_at p waiting) stands
+
+    is_left : hidden_left after n ≡ 2065 + copy_steps * (waiting - 1)
+    is_left =
         ap (λ (x : Slot). left_at (place_of x) (copies_left (rows_of sp x.directory))) slot_is
         ∙ ap (λ (p : Place). left_at p (copies_left (rows_of sp d))) (entered_place k)
-        ∙ ap (left_at (place.InHandler handler.Entered)) fault_copies_left in
+        ∙ ap (left_at (place.InHandler handler.Entered)) fault_copies_left
+
+    -- where this page waits no more then, at the program
+    pub fault_lowers : there ≡ place.Guest → is_inside fault.va ≡ true → IsToCopy (rows_of s.spaces d) fault.va → hidden_left after n < hidden_left s n
+    fault_lowers guest_is inside waits =
+        let some = waits_left (rows_of s.spaces d) fault.va inside waits in
+        let was : hidden_left s n ≡ copy_steps * waiting = was_left ∙ ap (λ (p : Place). left_at p waiting) guest_is in
+        let is = is_left in
         omega (arith, some, was, is)
+
+    -- and at a service that puts bytes
+    pub delivery_lowers : (call : Service) (done word : ℕ) → there ≡ place.InService call (step.Delivering done word) → is_inside fault.va ≡ true →
+        IsToCopy (rows_of s.spaces d) fault.va → hidden_left after n < hidden_left s n
+    delivery_lowers call done word served inside waits =
+        let some = waits_left (rows_of s.spaces d) fault.va inside waits in
+        let was : hidden_left s n ≡ 5 + copy_steps * waiting = was_left ∙ ap (λ (p : Place). left_at p waiting) served in
+        let is = is_left in
+        omega (arith, some, was, is)
+
+    -- and where the fault ends the environment in a service
+    pub stop_lowers : (call : Service) (done word : ℕ) → there ≡ place.InService call (step.Faulting done word) → hidden_left after n < hidden_left s n
+    stop_lowers call done word served =
+        let was : hidden_left s n ≡ 2070 + copy_steps * waiting = was_left ∙ ap (λ (p : Place). left_at p waiting) served in
+        let is = is_left in
+        omega (arith, was, is)

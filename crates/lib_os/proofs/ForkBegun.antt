@@ -23,7 +23,7 @@ use Rattle.lib_os.specs.AbstractFork.{begun_in, fork}
 use Rattle.lib_os.specs.AbstractState.{AbstractState, AbstractSlot, Born, unborn, born, bearing, in_service, is_live, with_slot}
 use Rattle.lib_os.specs.Answers.{at_stage}
 use Rattle.lib_os.specs.InOrder.{IsInOrder, AreFree}
-use Rattle.lib_os.specs.LibraryPages.{region_index}
+use Rattle.lib_os.specs.LibraryPages.{has_working, region_index}
 use Rattle.lib_os.specs.Places.{place_of, words_at}
 use Rattle.lib_os.specs.Rows.{Names, EntryRow, rows_of, counted, logical, logical_by, is_descriptor, is_programs}
 use Rattle.lib_os.specs.StandsFor.{StandsFor, StandsForSlot, StandsForBorn, StandsForUnborn, StandsAt, IsTabled, AreSlots, IsBorne}
@@ -262,8 +262,9 @@ module _ {names : Names} {s : KernelState} {a : AbstractState} (h : StandsFor na
         upcall = own.upcall ∙ plain_upcall (place_of (slot_at s n)) plain ∙ sym (plain_upcall (place_of parent) plain_after);
         descriptors = own.descriptors;
         memory = own.memory;
-        library = library_moved (place_of (slot_at s n)) (place_of parent) (rows_of sp (slot_at s n).directory)
-            (plain_copy (place_of (slot_at s n)) plain ∙ sym (plain_copy (place_of parent) plain_after)) own.library;
+        library = library_moved (place_of (slot_at s n)) (place_of parent) (slot_at s n).extra parent.extra (rows_of sp (slot_at s n).directory)
+            (plain_copy (place_of (slot_at s n)) plain ∙ sym (plain_copy (place_of parent) plain_after))
+            (ap (λ (p : Place). has_working p (slot_at s n).extra) stands ∙ sym (ap (λ (p : Place). has_working p parent.extra) there)) own.library;
         regions_have = own.regions_have;
         regions_only = own.regions_only;
         stack = own.stack;

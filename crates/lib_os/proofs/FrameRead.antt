@@ -1,5 +1,5 @@
 -- The registers are taken back from the frame of a page fault: they are those with which the fault was raised, and the environment stands
--- at its program again, with the same state of the abstract system.
+-- at its program again, or where a service puts its bytes, with the same state of the abstract system.
 use Rattle.std.proofs.Common.{◌≡◌, ◌∙◌, ◌||◌, ◌<◌, ◌+◌, ◌-◌, ◌*◌, ◌%◌, ◌^◌, ℕ, suc, not, Bool, true, false}
 use Rattle.std.proofs.Common.{List, [], ◌∷◌, length, refl, sym, ap, subst, arith}
 use Rattle.std.specs.Prelude.{Result, Ok, get_or, nat_lt, slice_index}
@@ -26,18 +26,20 @@ use Rattle.lib_os.specs.declared.place.Place.TheVariants as place
 use Rattle.lib_os.specs.AbstractState.{AbstractState, Born, born}
 use Rattle.lib_os.specs.Fence.{is_resident}
 use Rattle.lib_os.specs.InOrder.{IsInOrder}
-use Rattle.lib_os.specs.LibraryPages.{HasFrame, frame_place, has_copy}
+use Rattle.lib_os.specs.LibraryPages.{HasFrame, View, frame_place, has_copy}
 use Rattle.lib_os.specs.LibrarySteps.{copies_left, copy_steps, hidden_left, left_at}
 use Rattle.lib_os.specs.Places.{is_handlers, place_of}
-use Rattle.lib_os.specs.Rows.{Names, Rows, rows_of}
+use Rattle.lib_os.specs.Rows.{EntryRow, Names, Rows, rows_of}
 use Rattle.lib_os.specs.StandsFor.{StandsFor, StandsForBorn, StandsAt, upcall_at, view_of, borne_in}
-use Rattle.lib_os.specs.StandsInHandler.{Copies, CopiesOrEnds, IsAtGuest, copies, ends}
+use Rattle.lib_os.specs.StandsInHandler.{Copies, CopiesOrEnds, StandsBeneath, copies, ends}
 use Rattle.lib_os.specs.UserCalls.{giving, restored, restore_frame}
 use Rattle.lib_os.proofs.FaultsStand.{frame_long, stack_page, stack_reached}
 use Rattle.lib_os.proofs.Handled.{IsHandled, handled_part}
 use Rattle.lib_os.proofs.Children.{bears_none}
 use Rattle.lib_os.proofs.Logical.{is_plain}
-use Rattle.lib_os.proofs.Serving.{library_moved, words_of_none}
+use Rattle.lib_os.proofs.Beneath.{StandsAgain, stands_again}
+use Rattle.lib_os.proofs.Serving.{library_moved}
+use Rattle.lib_os.proofs.Working.{words_work}
 use Rattle.lib_os.proofs.SlotsStand.{born_at}
 use Rattle.lib_os.proofs.StatesStand.{plain_alike, quiet_stands, slot_replaced, slot_was_in_order}
 use Rattle.lib_os.proofs.Effects.{Quiet}
@@ -110,7 +112,7 @@ module _ {names : Names} {s : KernelState} {a : AbstractState} (h : StandsFor na
       ∙ bytes_read_is (read_byte (records_of s.environments) s.spaces d) frame_place (frame_bytes fault regs) (omega (arith, long))
       (λ i lt. frame_byte (records_of s.environments) i (omega (arith, long, lt)))
 
--- ---- the environment stands at its program again
+-- ---- the environment stands where it stood
 
 -- ESP lies not on the handler's stack
 free_outside : (esp : ℕ) → is_resident esp ≡ false → is_handlers esp ≡ false
@@ -152,8 +154,21 @@ module _ {names : Names} {s : KernelState} {a : AbstractState} (h : StandsFor na
   abbrev back : Slot
   back = record k { registers = regs_before }
 
-  pub back_place : place_of back ≡ place.Guest
-  back_place = words_of_none regs_before k.extra (free_outside regs_before.esp v.at.stack) way.guest.words
+  -- where it stands again
+  pub again : (w : View) → w.row ≡ rows_of s.spaces k.directory → StandsAgain w back v.b
+  again w same =
+      stands_again w back v.b (free_outside regs_before.esp v.at.stack)
+      (subst (λ (row : EntryRow). StandsBeneath row back v.b) (sym same) way.beneath)
+
+  abbrev first : StandsAgain (view_of s.spaces k.directory) back v.b
+  first = again (view_of s.spaces k.directory) refl
+
+  -- the place
+  abbrev pub place_again : Place
+  place_again = first.at
+
+  pub back_place : place_of back ≡ place_again
+  back_place = first.stands
 
   abbrev sp : SpacesState
   sp = all_touched s.spaces k.directory frame_place frame_size
@@ -164,8 +179,8 @@ module _ {names : Names} {s : KernelState} {a : AbstractState} (h : StandsFor na
   pub restored_stands : IsInOrder (taken_from_frame s n regs_before) → StandsFor names (taken_from_frame s n regs_before) a
   restored_stands in_order =
       slot_replaced reached n v.b v.is back refl (record { id = refl; env_type = refl; calm = λ runs. runs })
-      (plain_alike (place_of k) (place_of back) (ap is_plain stands) (ap is_plain back_place))
-      (bears_none (ap borne_in stands) (ap borne_in back_place)) mine
+      (plain_alike (place_of k) (place_of back) (ap is_plain stands) (ap is_plain back_place ∙ first.plain))
+      (bears_none (ap borne_in stands) (ap borne_in back_place ∙ first.unborne)) mine
     where
       reached : StandsFor names (with_spaces s sp) a
       reached = quiet_stands h quiet (slot_was_in_order (with_spaces s sp) n back refl refl in_order)
@@ -173,22 +188,23 @@ module _ {names : Names} {s : KernelState} {a : AbstractState} (h : StandsFor na
       mine : StandsForBorn names sp back v.b
       mine =
           let own = born_at reached n v.b v.is in
+          let it = again (view_of sp k.directory) (ap (λ (rows : Rows). rows k.directory) quiet.rows) in
           record {
             id = own.id;
             id_small = own.id_small;
             parent = own.parent;
             env_type = own.env_type;
             runs = own.runs;
-            upcall = own.upcall ∙ ap upcall_at stands ∙ sym (ap upcall_at back_place);
+            upcall = own.upcall ∙ ap upcall_at stands ∙ sym (ap upcall_at it.stands ∙ it.upcall);
             descriptors = own.descriptors;
             memory = own.memory;
-            library = library_moved (place_of k) (place_of back) (rows_of sp k.directory) (ap has_copy stands ∙ sym (ap has_copy back_place))
-                own.library;
+            library = library_moved (place_of k) (place_of back) k.extra k.extra (rows_of sp k.directory)
+                (ap has_copy stands ∙ sym (ap has_copy it.stands ∙ it.no_copy)) (words_work k regs_before) own.library;
             regions_have = own.regions_have;
             regions_only = own.regions_only;
             stack = by_bit (is_handlers regs_before.esp) (is_resident regs_before.esp) v.at.stack;
             flags = v.at.flags;
-            at = subst (λ (p : Place). StandsAt p (view_of sp k.directory) back v.b) (sym back_place) guest;
+            at = subst (λ (p : Place). StandsAt p (view_of sp k.directory) back v.b) (sym it.stands) it.is_there;
           }
         where
           by_bit : (t u : Bool) → u ≡ false → (t || not u) ≡ true
@@ -196,28 +212,20 @@ module _ {names : Names} {s : KernelState} {a : AbstractState} (h : StandsFor na
           by_bit false true free = sym free
           by_bit false false free = refl
 
-          guest : IsAtGuest back v.b
-          guest = record {
-            program = way.guest.program;
-            phase = way.guest.phase;
-            words = way.guest.words;
-            silent = way.guest.silent;
-            awake = way.guest.awake;
-          }
-
   slot_is : slot_at (taken_from_frame s n regs_before) n ≡ back
   slot_is = upd-at s.environments.slots n back
 
-  pub restored_place : place_of (slot_at (taken_from_frame s n regs_before) n) ≡ place.Guest
+  pub restored_place : place_of (slot_at (taken_from_frame s n regs_before) n) ≡ place_again
   restored_place = ap (λ (x : Slot). place_of x) slot_is ∙ back_place
 
-  -- fewer steps are left, by one
-  pub restored_lowers : hidden_left s n ≡ 1 + hidden_left (taken_from_frame s n regs_before) n
+  -- fewer steps are left
+  pub restored_lowers : hidden_left (taken_from_frame s n regs_before) n < hidden_left s n
   restored_lowers =
       let copies = copies_left (rows_of s.spaces k.directory) in
-      let was : hidden_left s n ≡ 1 + copy_steps * copies = ap (λ (p : Place). left_at p copies) stands in
-      let is : hidden_left (taken_from_frame s n regs_before) n ≡ copy_steps * copies =
+      let was : hidden_left s n ≡ 11 + copy_steps * copies = ap (λ (p : Place). left_at p copies) stands in
+      let is : hidden_left (taken_from_frame s n regs_before) n ≡ left_at place_again copies =
       ap (λ (x : Slot). left_at (place_of x) (copies_left (rows_of sp x.directory))) slot_is
       ∙ ap (λ (p : Place). left_at p (copies_left (rows_of sp k.directory))) back_place
-      ∙ ap (λ (rows : Rows). copy_steps * copies_left (rows k.directory)) quiet.rows in
-      omega (arith, was, is)
+      ∙ ap (λ (rows : Rows). left_at place_again (copies_left (rows k.directory))) quiet.rows in
+      let less = first.fewer copies in
+      omega (arith, was, is, less)

@@ -6,7 +6,7 @@ use Rattle.std.specs.Prelude.{nat_le, nat_lt}
 use Rattle.std.specs.Option.{option_map}
 use Rattle.std.proofs.lemmas.Bool.Decides.{nat_tests}
 use Rattle.std.proofs.lemmas.Bool.{eqb-true, eqb-false}
-use Rattle.jos_base.specs.declared.numbers.TheConstants.{NENV, NPTENTRIES, PGSIZE}
+use Rattle.jos_base.specs.declared.numbers.TheConstants.{NENV, NPTENTRIES, PGSIZE, UTEMP}
 use Rattle.jos_base.specs.declared.registers.Regs.{Regs}
 use Rattle.jos_base.specs.Environments.{Slot}
 use Rattle.jos_base.specs.KernelState.{KernelState, slot_at, with_extra, with_slot_at, with_spaces}
@@ -24,7 +24,7 @@ use Rattle.lib_os.specs.AbstractMemory.{has_page_in}
 use Rattle.lib_os.specs.AbstractState.{AbstractState, Born}
 use Rattle.lib_os.specs.Fence.{in_fence}
 use Rattle.lib_os.specs.InOrder.{IsInOrder}
-use Rattle.lib_os.specs.LibraryPages.{has_copy, is_library_region}
+use Rattle.lib_os.specs.LibraryPages.{has_copy, has_working, is_library_region}
 use Rattle.lib_os.specs.Places.{place_of, words_at}
 use Rattle.lib_os.specs.Rows.{Names, EntryRow, counted, lasting, rows_of, logical, page_seen, is_descriptor, is_programs}
 use Rattle.lib_os.specs.StandsFor.{StandsFor, StandsForBorn, StandsAt, StandsAtStep, IsBearing, view_of, upcall_at}
@@ -103,6 +103,17 @@ passed_from step.TargetEntry p = every p
 passed_from (step.DroppingDescriptor fd) p = every p
 passed_from step.MappingDescriptor p = every p
 passed_from step.Ending p = every p
+passed_from step.ReadingDevice p = every p
+passed_from (step.BufferRegion done word) p = every p
+passed_from (step.BufferEntry done word) p = every p
+passed_from step.TakingPage p = every p
+passed_from (step.Gathering done) p = every p
+passed_from (step.Keeping done word left) p = every p
+passed_from step.Printing p = every p
+passed_from step.Releasing p = every p
+passed_from step.Getting p = every p
+passed_from (step.Delivering done word) p = every p
+passed_from (step.Faulting done word) p = every p
 
 stack_kept : is_programs (page_number UXSTACK) ≡ false
 unfolding in_fence
@@ -316,8 +327,10 @@ module _ (k : Slot) (at next : Step) (stands : place_of k ≡ place.InService se
     upcall = own.upcall ∙ ap upcall_at stands ∙ sym (ap upcall_at moved_place);
     descriptors = own.descriptors;
     memory = own.memory;
-    library = library_moved (place_of k) (place_of (moved k next)) (rows_of s k.directory)
-        (ap has_copy stands ∙ sym (ap has_copy moved_place)) own.library;
+    library = library_moved (place_of k) (place_of (moved k next)) k.extra (moved k next).extra (rows_of s k.directory)
+        (ap has_copy stands ∙ sym (ap has_copy moved_place))
+        (ap (λ (p : Place). has_working p k.extra) stands ∙ sym (ap (λ (p : Place). has_working p (moved k next).extra) moved_place))
+        own.library;
     regions_have = own.regions_have;
     regions_only = own.regions_only;
     stack = own.stack;
@@ -333,6 +346,9 @@ module _ (k : Slot) (at next : Step) (stands : place_of k ≡ place.InService se
       copy : rows_of s k.directory (page_number PFTEMP) ≡ None
       copy = own.library.no_copy (ap has_copy stands)
 
+      working : rows_of s k.directory (page_number UTEMP) ≡ None
+      working = own.library.no_working (ap (λ (q : Place). has_working q k.extra) stands)
+
       by_tests : (c t : Bool) → is_programs p ≡ c → is_descriptor p ≡ t → c || t ≡ true
       by_tests true t inside descriptor = refl
       by_tests false true outside descriptor = refl
@@ -343,9 +359,13 @@ module _ (k : Slot) (at next : Step) (stands : place_of k ≡ place.InService se
 
           by_copy : (c : Bool) → (p == page_number PFTEMP) ≡ c → false ≡ true
           by_copy true here = nowhere (ap (rows_of s k.directory) (eqb-true p (page_number PFTEMP) here) ∙ copy)
-          by_copy false other =
-              nowhere (own.library.none p outside no_descriptor (λ same. let too : p ≡ page_number UXSTACK = same in omega (arith, lower, too))
-              (eqb-false p (page_number PFTEMP) other))
+          by_copy false other = by_working (p == page_number UTEMP) refl
+            where
+              by_working : (c : Bool) → (p == page_number UTEMP) ≡ c → false ≡ true
+              by_working true here = nowhere (ap (rows_of s k.directory) (eqb-true p (page_number UTEMP) here) ∙ working)
+              by_working false beside =
+                  nowhere (own.library.none p outside no_descriptor (λ same. let too : p ≡ page_number UXSTACK = same in omega (arith, lower, too))
+                  (eqb-false p (page_number PFTEMP) other) (eqb-false p (page_number UTEMP) beside))
 
 -- a child is what it is by its parent's registers and space
 pub child_still : {names : Names} {s : SpacesState} {parent : Slot} {b : Born} {at : Step} {k : Slot} (after : Slot) →

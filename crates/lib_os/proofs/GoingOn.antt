@@ -1,6 +1,6 @@
 -- A service's step that does not answer: the words that tell how far it is are set, and its environment stands at another
 -- step of the same service. And what comes of a step that is none of the service's.
-use Rattle.std.proofs.Common.{◌≡◌, ◌∙◌, ◌<◌, ℕ, true, false, List, [], None, Result, Ok, Err, refl, sym, ap, subst}
+use Rattle.std.proofs.Common.{◌≡◌, ◌∙◌, ℕ, true, false, List, [], None, Result, Ok, Err, refl, sym, ap, subst}
 use Rattle.jos_base.specs.declared.called.Called.{Called}
 use Rattle.jos_base.specs.declared.environment.Status.TheVariants.{Runnable}
 use Rattle.jos_base.specs.declared.registers.Regs.{Regs}
@@ -15,14 +15,14 @@ use Rattle.lib_os.specs.declared.progress.Progress.{Progress}
 use Rattle.lib_os.specs.declared.progress.Progress.TheVariants as progress
 use Rattle.lib_os.specs.declared.service.Service.{Service}
 use Rattle.lib_os.specs.AbstractState.{AbstractState, Born, born, Stage}
-use Rattle.lib_os.specs.LibrarySteps.{IsLibraryStep, Lowers, LowersAt, GivesUp, NothingRefused, steps_left, left_at, copies_left, hidden_left, is_pausing}
+use Rattle.lib_os.specs.LibrarySteps.{IsLibraryStep, Lowers, GivesUp, NothingRefused, is_pausing}
 use Rattle.lib_os.specs.Places.{place_of, words_at, is_handlers}
 use Rattle.lib_os.specs.Services.{service_of}
 use Rattle.lib_os.specs.Rows.{Names, rows_of}
 use Rattle.lib_os.specs.StandsFor.{StandsFor, StandsForBorn, StandsAt, StandsAtStep, IsIn, view_of, borne_in}
 use Rattle.lib_os.specs.UserCalls.{CallStep, IsCallStep, Output, Prints}
 use Rattle.lib_os.proofs.Numbered.{number_of, named_at}
-use Rattle.lib_os.proofs.Serving.{plain_upcall, plain_copy, library_moved}
+use Rattle.lib_os.proofs.Serving.{plain_upcall, plain_copy, plain_working, holds_page, library_moved}
 use Rattle.lib_os.proofs.Children.{bears_none}
 use Rattle.lib_os.proofs.Logical.{unborne_plain}
 use Rattle.lib_os.proofs.StatesStand.{plain_alike, slot_replaced}
@@ -62,10 +62,11 @@ in_with_words words h = record { program = h.program; phase = h.phase; silent = 
 
 pub words_stand : {names : Names} {s : KernelState} {a : AbstractState} → StandsFor names s a → (n number : ℕ) (b : Born) →
     a.slots n ≡ born b → StandsForBorn names s.spaces (slot_at s n) b → is_handlers (slot_at s n).registers.esp ≡ false →
-    borne_in (place_of (slot_at s n)) ≡ None → (service : Service) (at : Step) → borne_in (place.InService service at) ≡ None → service_of (record (slot_at s n).registers { eax = number }) ≡ service →
+    borne_in (place_of (slot_at s n)) ≡ None → (service : Service) (at : Step) →
+    holds_page (place_of (slot_at s n)) ≡ holds_page (place.InService service at) → borne_in (place.InService service at) ≡ None → service_of (record (slot_at s n).registers { eax = number }) ≡ service →
     StandsAtStep (view_of s.spaces (slot_at s n).directory) (record (slot_at s n) { extra = words_at number at }) b service at →
     StandsFor names (with_extra s n (words_at number at)) a
-words_stand {s = s} h n number b is own outside unborne service at unborne_after names_it so =
+words_stand {s = s} h n number b is own outside unborne service at held unborne_after names_it so =
     let k : Slot = record (slot_at s n) { extra = words_at number at } in
     let there : place_of k ≡ place.InService service at =
     place_at (slot_at s n).registers number at outside ∙ ap (λ (x : Service). place.InService x at) names_it in
@@ -82,8 +83,10 @@ words_stand {s = s} h n number b is own outside unborne service at unborne_after
       upcall = own.upcall ∙ plain_upcall (place_of (slot_at s n)) plain ∙ sym (plain_upcall (place_of k) plain_after);
       descriptors = own.descriptors;
       memory = own.memory;
-      library = library_moved (place_of (slot_at s n)) (place_of k) (rows_of s.spaces k.directory)
-          (plain_copy (place_of (slot_at s n)) plain ∙ sym (plain_copy (place_of k) plain_after)) own.library;
+      library = library_moved (place_of (slot_at s n)) (place_of k) (slot_at s n).extra k.extra (rows_of s.spaces k.directory)
+          (plain_copy (place_of (slot_at s n)) plain ∙ sym (plain_copy (place_of k) plain_after))
+          (plain_working (place_of (slot_at s n)) (slot_at s n).extra plain ∙ held ∙ sym (ap holds_page there)
+          ∙ sym (plain_working (place_of k) k.extra plain_after)) own.library;
       regions_have = own.regions_have;
       regions_only = own.regions_only;
       stack = own.stack;
@@ -103,14 +106,6 @@ pub never : (s mid after : KernelState) (n : ℕ) (call : CallStep Called) (call
     IsCallStep call (Ok called) mid output → ((names : Names) (a : AbstractState) → StandsFor names s a → ⊥) →
     IsLibraryStep (Ok p) n s after output
 never s mid after n call called output p is none = (call.written, is.2, λ a h quiet. absurd (none h.0 a h.1))
-
-pub lowered : (before after : KernelState) (n : ℕ) (service : Service) (from to : Step) →
-    place_of (slot_at before n) ≡ place.InService service from → place_of (slot_at after n) ≡ place.InService service to →
-    steps_left to < steps_left from → Lowers (Ok progress.Hidden) n before after
-lowered before after n service from to was is less =
-    subst (λ (p : Place). LowersAt p n before after) (sym was)
-    (subst (λ (p : Place). left_at p (copies_left (rows_of after.spaces (slot_at after n).directory)) < hidden_left before n) (sym is)
-    (subst (λ (p : Place). steps_left to < left_at p (copies_left (rows_of before.spaces (slot_at before n).directory))) (sym was) less))
 
 pub pauses : (before after : KernelState) (n : ℕ) (service : Service) (perm : ℕ) → is_pausing (place.InService service (step.Pausing perm)) ≡ true →
     place_of (slot_at after n) ≡ place.InService service (step.Pausing perm) → Lowers (Ok progress.Waited) n before after

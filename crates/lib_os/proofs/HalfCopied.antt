@@ -34,7 +34,7 @@ use Rattle.lib_os.specs.Rows.{AreBytes, IsPage, counted, is_descriptor, is_progr
 use Rattle.lib_os.specs.Services.{named_service, service_of}
 use Rattle.lib_os.specs.StandingLaws.{IsHalfCopied, SomeCopyStands}
 use Rattle.lib_os.specs.StandsFor.{view_of, borne_in, HasChildren, IsBorne, StandsForUnborn}
-use Rattle.lib_os.specs.StandsInHandler.{copies, IsCopiedTo, IsToCopy}
+use Rattle.lib_os.specs.StandsInHandler.{at_program, copies, IsCopiedTo, IsToCopy}
 use Rattle.lib_os.proofs.Listed.{Spaces, EntryFits, SpacesFit, StateFits, EnvironmentFits, Pair, spaces_of, listed, own_fits, copied_fits}
 use Rattle.lib_os.proofs.Listed.{server_slot, server_fits, running_slot, born_in, environment_fits, the_names, state_of, abstract_of}
 use Rattle.lib_os.proofs.Listed.{listed_stands, found, no_pair, each_listed, SlotFits}
@@ -217,6 +217,7 @@ first_fits = record {
   stack_page = record { entry = own_entry 31; stands = refl; own_page = refl; writes = refl };
   copy = λ has. absurd (let contradiction : false ≡ true = has in cc);
   no_copy = λ none. refl;
+  no_working = refl;
   stack = refl;
   flags = refl;
   stands = (record { program = refl; phase = refl; silent = refl; awake = refl }, omega arith);
@@ -268,6 +269,7 @@ second_fits = record {
   stack_page = record { entry = own_entry 32; stands = refl; own_page = refl; writes = refl };
   copy = λ has. record { entry = own_entry 33; stands = refl; own_page = refl; writes = refl };
   no_copy = λ none. absurd (let contradiction : true ≡ false = none in cc);
+  no_working = refl;
   stack = refl;
   flags = refl;
   stands = record {
@@ -278,7 +280,7 @@ second_fits = record {
     flags = refl;
     stack = refl;
     way = copies (record {
-      guest = record { program = refl; phase = refl; words = refl; silent = refl; awake = refl };
+      beneath = at_program (record { program = refl; phase = refl; words = refl; silent = refl; awake = refl });
       error = refl;
       inside = refl;
       at = (refl, to_copy, is_copied);

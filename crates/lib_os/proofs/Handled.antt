@@ -22,6 +22,7 @@ use Rattle.lib_os.proofs.Children.{bears_none}
 use Rattle.lib_os.proofs.Logical.{is_plain}
 use Rattle.lib_os.proofs.Serving.{library_moved}
 use Rattle.lib_os.proofs.StatesStand.{plain_alike, slot_replaced}
+use Rattle.lib_os.proofs.Working.{words_work}
 use Rattle.lib_os.proofs.WordsTell.{handler_at, handler_runs, is_in_handler}
 
 -- ---- where it stands
@@ -111,7 +112,8 @@ handler_own {s = s} {k = k} {b = b} to own inside there upcall copy at =
       upcall = upcall ∙ sym (ap upcall_at where_it_is);
       descriptors = own.descriptors;
       memory = own.memory;
-      library = library_moved (place_of k) (place_of (handler_slot k to)) (rows_of s k.directory) (copy ∙ sym (ap has_copy where_it_is)) own.library;
+      library = library_moved (place_of k) (place_of (handler_slot k to)) k.extra k.extra (rows_of s k.directory)
+          (copy ∙ sym (ap has_copy where_it_is)) (words_work k (handler_registers k.registers to)) own.library;
       regions_have = own.regions_have;
       regions_only = own.regions_only;
       stack = ap (λ (c : Bool). c || not (is_resident (handler_registers k.registers to).esp)) (ap is_handlers (esp_kept k.registers to) ∙ inside);

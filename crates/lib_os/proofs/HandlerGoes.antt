@@ -31,13 +31,7 @@ use Rattle.lib_os.proofs.Touching.{touched_quiet}
 pub copies_go : {from to : HandlerStep} {v : View} {k : Slot} {b : Born} {fault : PageFault} {regs : Regs} → Copies from v k b fault regs →
     CopiesAt to v fault.va → Copies to v (handler_slot k to) b fault regs
 copies_go way at = record {
-  guest = record {
-    program = way.guest.program;
-    phase = way.guest.phase;
-    words = way.guest.words;
-    silent = way.guest.silent;
-    awake = way.guest.awake;
-  };
+  beneath = way.beneath;
   error = way.error;
   inside = way.inside;
   at = at;
@@ -47,8 +41,7 @@ pub ends_go : {from to : HandlerStep} {v : View} {k : Slot} {b : Born} {fault : 
     EndsAt to fault regs → Ends to v (handler_slot k to) b fault regs
 ends_go way at = record {
   program = way.program;
-  phase = way.phase;
-  words = way.words;
+  stopped = way.stopped;
   silent = way.silent;
   awake = way.awake;
   inside = way.inside;

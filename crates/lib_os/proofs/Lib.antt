@@ -27,6 +27,8 @@ pub mod Bearing
 pub mod GoesDown
 pub mod PassedOn
 pub mod Births
+pub mod Working
+pub mod Beneath
 pub mod Handled
 pub mod EntriesCount
 pub mod BytesStand
@@ -89,4 +91,15 @@ pub mod UsesCalled
 pub mod DiskBytes
 mod AbstractExamples
 pub mod DescriptorLooks
+pub mod StopsEnd
 pub mod DescriptorsStand
+pub mod PageTaken
+pub mod PageGiven
+pub mod BufferLooks
+pub mod BytesKept
+pub mod BytesPrinted
+pub mod DeviceLooks
+pub mod BufferAccesses
+pub mod BytesGathered
+pub mod BytesDelivered
+pub mod BytesRefused

@@ -9,7 +9,7 @@ use Rattle.std.proofs.lemmas.Bool.Decides.{nat_tests}
 use Rattle.std.proofs.lemmas.Option.{none-some, same_Some}
 use Rattle.jos_base.specs.declared.environment.EnvType.TheVariants.{User, FileServer}
 use Rattle.jos_base.specs.declared.environment.Status.TheVariants.{Runnable, NotRunnable}
-use Rattle.jos_base.specs.declared.numbers.TheConstants.{FIRST_ENV_ID, NENV, NPTENTRIES, UTEXT}
+use Rattle.jos_base.specs.declared.numbers.TheConstants.{FIRST_ENV_ID, NENV, NPTENTRIES, UTEMP, UTEXT}
 use Rattle.jos_base.specs.declared.registers.Regs.{Regs}
 use Rattle.jos_base.specs.Counting.{frame_limit, page_limit}
 use Rattle.jos_base.specs.Environments.{Slot, free_slot, is_live, is_running}
@@ -23,9 +23,9 @@ use Rattle.fs_layout.specs.FileTree.{a_directory, no_more}
 use Rattle.lib_os.specs.declared.numbers.TheConstants.{DESCRIPTORS, PFTEMP, PGFAULT_UPCALL, UXSTACK}
 use Rattle.lib_os.specs.declared.place.Place.{Place}
 use Rattle.lib_os.specs.AbstractState.{AbstractState, Born, AbstractSlot, free, unborn, born, serving, Phase, guest, idle, terminal}
-use Rattle.lib_os.specs.Fence.{is_resident}
+use Rattle.lib_os.specs.Fence.{in_fence, is_resident}
 use Rattle.lib_os.specs.InOrder.{HasOneUse}
-use Rattle.lib_os.specs.LibraryPages.{LibraryPages, IsOwnWritable, has_copy, is_library_region, region_index}
+use Rattle.lib_os.specs.LibraryPages.{LibraryPages, IsOwnWritable, has_copy, has_working, is_library_region, region_index}
 use Rattle.lib_os.specs.Places.{place_of, place_in_words, is_handlers}
 use Rattle.lib_os.specs.Rows.{Names, EntryRow, lasting, rows_of, counted, logical, page_seen, is_programs, is_shared, IsUsers, Agree, AgreeWhereShared, IsPage}
 use Rattle.lib_os.specs.Rows.{descriptor_page, descriptor_seen, is_descriptor, name_of, page_by, shown_at}
@@ -349,7 +349,7 @@ module _ (l : Spaces) (pairs : List (ℕ × Pair)) (owner : ℕ → ℕ) (fit : 
     free_slots = record { same = refl; within = tt };
     first = fit.first;
     server = refl;
-    input = refl;
+    input = (refl, λ i. omega arith);
     last = refl;
     turns = refl;
     tabled = record {
@@ -450,6 +450,10 @@ none_unknown l d known p outside no_stack no_copy = by_entry (found_two l.rows d
             is_programs p || (p == page_number UXSTACK) || (p == page_number PFTEMP) ≡ false
         unknown a b c = rw (a, b, c) refl
 
+working_outside : is_programs (page_number UTEMP) ≡ false
+unfolding in_fence
+working_outside = refl
+
 -- so no descriptor's page stands there
 no_descriptor : (l : Spaces) (d : ℕ) → AllListed IsKnown (listed l.rows [] d) → (p : ℕ) → is_descriptor p ≡ true →
     rows_of (spaces_of l) d p ≡ None
@@ -498,6 +502,7 @@ pub record EnvironmentFits (l : Spaces) (id d : ℕ) (registers program : Regs) 
   pub stack_page : IsOwnWritable (rows_of (spaces_of l) d) (page_number UXSTACK)
   pub copy : has_copy at ≡ true → IsOwnWritable (rows_of (spaces_of l) d) (page_number PFTEMP)
   pub no_copy : has_copy at ≡ false → rows_of (spaces_of l) d (page_number PFTEMP) ≡ None
+  pub no_working : has_working at words ≡ false
   pub stack : is_handlers registers.esp || not (is_resident registers.esp) ≡ true
   pub flags : registers.eflags ≡ user_flags registers.eflags
   pub stands : StandsAt at (view_of (spaces_of l) d) (running_slot id d registers words) (born_in l id d program phase)
@@ -514,12 +519,14 @@ environment_stands l id d registers program words phase at h = record {
   upcall = sym h.upcall ∙ sym (ap upcall_at h.place_is);
   descriptors = none_open l d h.known;
   memory = λ p. refl;
-  library = subst (λ (x : Place). LibraryPages x (rows_of (spaces_of l) d)) (sym h.place_is) (record {
+  library = subst (λ (x : Place). LibraryPages x words (rows_of (spaces_of l) d)) (sym h.place_is) (record {
     stack = h.stack_page;
     copy = h.copy;
     no_copy = h.no_copy;
     descriptors = λ p entry descriptor is. absurd (none-some entry (sym (no_descriptor l d h.known p descriptor) ∙ is));
-    none = λ p outside closed no_stack no_copy. none_unknown l d h.known p outside no_stack no_copy;
+    working = λ is. absurd (false≢true (sym h.no_working ∙ is));
+    no_working = λ is. none_unknown l d h.known (page_number UTEMP) working_outside (λ same. omega (arith, same)) (λ same. omega (arith, same));
+    none = λ p outside closed no_stack no_copy no_working. none_unknown l d h.known p outside no_stack no_copy;
   });
   regions_have = λ r is. has_region l d r h.table is;
   regions_only = known_region l d h.regions;

@@ -15,7 +15,7 @@ use Rattle.lib_os.specs.declared.user_os.Stop.{Stop}
 use Rattle.lib_os.specs.declared.user_os.Stop.TheVariants as stop
 use Rattle.lib_os.specs.AbstractState.{AbstractState}
 use Rattle.lib_os.specs.InOrder.{IsInOrder}
-use Rattle.lib_os.specs.LibrarySteps.{IsLibraryStep, IsStopped, Lowers}
+use Rattle.lib_os.specs.LibrarySteps.{IsStopped}
 use Rattle.lib_os.specs.Rows.{Names}
 use Rattle.lib_os.specs.StandsFor.{StandsFor}
 use Rattle.lib_os.specs.UserCalls.{CallStep, Got, got, to_handler, gone, giving, accessing, faulting, user_word, load, IsStep, HasStopCause, Output, Prints}
@@ -77,38 +77,6 @@ not_got w g is = (
   λ other. absurd (let contradiction : to_handler ≡ got w = sym other ∙ is in cc),
   λ other. absurd (let contradiction : gone ≡ got w = sym other ∙ is in cc),
 )
-
-pub stopped_step : (s mid : KernelState) (n va : ℕ) (e : Stop) (result : Result Progress Failed) (output : Output) →
-    ((names : Names) (a : AbstractState) → StandsFor names s a → GivesWord s n va) →
-    IsStep (load s n va) (Err e) mid output → IsStopped e result → IsLibraryStep result n s mid output
-stopped_step s mid n va stop.Failed (Err failed) output gives call is = (
-  (load s n va).written,
-  call.1,
-  λ a h. let w = gives h.0 a h.1 in
-      absurd ((not_got w.word (load s n va).gives (ap (λ (z : CallStep ℕ). z.gives) w.is)).1 call.0),
-)
-stopped_step s mid n va stop.Failed (Ok p) output gives call is = absurd is
-stopped_step s mid n va stop.Upcall (Ok p) output gives call is = (
-  (load s n va).written,
-  call.2,
-  λ a h quiet. let w = gives h.0 a h.1 in
-      absurd ((not_got w.word (load s n va).gives (ap (λ (z : CallStep ℕ). z.gives) w.is)).0 call.0),
-)
-stopped_step s mid n va stop.Upcall (Err failed) output gives call is = absurd is
-stopped_step s mid n va stop.Ended (Ok p) output gives call is = (
-  (load s n va).written,
-  call.2,
-  λ a h quiet. let w = gives h.0 a h.1 in
-      absurd ((not_got w.word (load s n va).gives (ap (λ (z : CallStep ℕ). z.gives) w.is)).1 call.0),
-)
-stopped_step s mid n va stop.Ended (Err failed) output gives call is = absurd is
-
-pub stopped_lowers : (e : Stop) (result : Result Progress Failed) (n : ℕ) (before after : KernelState) → IsStopped e result →
-    Lowers result n before after
-stopped_lowers e (Err failed) n before after is = tt
-stopped_lowers stop.Failed (Ok p) n before after is = absurd is
-stopped_lowers stop.Upcall (Ok p) n before after is = subst (λ (q : Progress). Lowers (Ok q) n before after) (sym is) tt
-stopped_lowers stop.Ended (Ok p) n before after is = subst (λ (q : Progress). Lowers (Ok q) n before after) (sym is) tt
 
 pub stopped_cause : (e : Stop) (result : Result Progress Failed) (faults : Around ℕ) → IsStopped e result →
     HasStopCause {X = ℕ} faults (Err e) → HasCause faults.before faults.after result

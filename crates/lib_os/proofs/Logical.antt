@@ -4,7 +4,7 @@ use Rattle.std.proofs.lemmas.Bool.Decides.{nat_tests}
 use Rattle.std.specs.Prelude.{Option, Some, None, is_none}
 use Rattle.std.specs.Option.{option_map}
 use Rattle.std.proofs.lemmas.Option.{none-some, same_Some}
-use Rattle.jos_base.specs.declared.numbers.TheConstants.{PGSIZE}
+use Rattle.jos_base.specs.declared.numbers.TheConstants.{PGSIZE, UTEMP}
 use Rattle.jos_base.specs.Environments.{Slot, is_live}
 use Rattle.jos_base.specs.Reach.{Entry}
 use Rattle.jos_base.specs.SpacesState.{SpacesState}
@@ -32,11 +32,12 @@ both true false h = absurd (let contradiction : false ≡ true = h in cc)
 both false b h = absurd (let contradiction : false ≡ true = h in cc)
 
 -- the library keeps no page among them
-pub programs_beside : (p : ℕ) → is_programs p ≡ true → (p ≢ page_number PFTEMP) × (p ≢ page_number UXSTACK)
+pub programs_beside : (p : ℕ) → is_programs p ≡ true → (p ≢ page_number PFTEMP) × (p ≢ page_number UXSTACK) × (p ≢ page_number UTEMP)
 unfolding in_fence
 programs_beside p inside = (
   (λ same. let h : in_fence (page_number PFTEMP * PGSIZE) PGSIZE ≡ true = subst (λ (q : ℕ). is_programs q ≡ true) same inside in no_copy h),
   (λ same. let h : in_fence (page_number UXSTACK * PGSIZE) PGSIZE ≡ true = subst (λ (q : ℕ). is_programs q ≡ true) same inside in no_stack h),
+  (λ same. let h : in_fence (page_number UTEMP * PGSIZE) PGSIZE ≡ true = subst (λ (q : ℕ). is_programs q ≡ true) same inside in no_working h),
 )
   where
     no_copy : in_fence (page_number PFTEMP * PGSIZE) PGSIZE ≡ true → ⊥
@@ -44,6 +45,9 @@ programs_beside p inside = (
 
     no_stack : in_fence (page_number UXSTACK * PGSIZE) PGSIZE ≡ true → ⊥
     no_stack h = let contradiction : false ≡ true = h in cc
+
+    no_working : in_fence (page_number UTEMP * PGSIZE) PGSIZE ≡ true → ⊥
+    no_working h = let contradiction : false ≡ true = h in cc
 
 -- nor is one of them a descriptor's
 pub programs_no_descriptor : (p : ℕ) → is_programs p ≡ true → is_descriptor p ≡ false
@@ -124,6 +128,17 @@ fork_plain step.TargetEntry row plain p = refl
 fork_plain (step.DroppingDescriptor fd) row plain p = refl
 fork_plain step.MappingDescriptor row plain p = refl
 fork_plain step.Ending row plain p = refl
+fork_plain step.ReadingDevice row plain p = refl
+fork_plain (step.BufferRegion done word) row plain p = refl
+fork_plain (step.BufferEntry done word) row plain p = refl
+fork_plain step.TakingPage row plain p = refl
+fork_plain (step.Gathering done) row plain p = refl
+fork_plain (step.Keeping done word left) row plain p = refl
+fork_plain step.Printing row plain p = refl
+fork_plain step.Releasing row plain p = refl
+fork_plain step.Getting row plain p = refl
+fork_plain (step.Delivering done word) row plain p = refl
+fork_plain (step.Faulting done word) row plain p = refl
 
 service_plain : (s : Service) (at : Step) (row : EntryRow) → is_plain (place.InService s at) ≡ true → (p : ℕ) →
     counted (place.InService s at) row p ≡ row p
@@ -186,6 +201,17 @@ fork_unremapped step.TargetEntry p plain = refl
 fork_unremapped (step.DroppingDescriptor fd) p plain = refl
 fork_unremapped step.MappingDescriptor p plain = refl
 fork_unremapped step.Ending p plain = refl
+fork_unremapped step.ReadingDevice p plain = refl
+fork_unremapped (step.BufferRegion done word) p plain = refl
+fork_unremapped (step.BufferEntry done word) p plain = refl
+fork_unremapped step.TakingPage p plain = refl
+fork_unremapped (step.Gathering done) p plain = refl
+fork_unremapped (step.Keeping done word left) p plain = refl
+fork_unremapped step.Printing p plain = refl
+fork_unremapped step.Releasing p plain = refl
+fork_unremapped step.Getting p plain = refl
+fork_unremapped (step.Delivering done word) p plain = refl
+fork_unremapped (step.Faulting done word) p plain = refl
 
 pub plain_unremapped : (at : Place) (p : ℕ) → is_plain at ≡ true → is_remapped at p ≡ false
 plain_unremapped place.Guest p plain = refl
@@ -266,6 +292,17 @@ fork_elsewhere step.TargetEntry row p other = refl
 fork_elsewhere (step.DroppingDescriptor fd) row p other = refl
 fork_elsewhere step.MappingDescriptor row p other = refl
 fork_elsewhere step.Ending row p other = refl
+fork_elsewhere step.ReadingDevice row p other = refl
+fork_elsewhere (step.BufferRegion done word) row p other = refl
+fork_elsewhere (step.BufferEntry done word) row p other = refl
+fork_elsewhere step.TakingPage row p other = refl
+fork_elsewhere (step.Gathering done) row p other = refl
+fork_elsewhere (step.Keeping done word left) row p other = refl
+fork_elsewhere step.Printing row p other = refl
+fork_elsewhere step.Releasing row p other = refl
+fork_elsewhere step.Getting row p other = refl
+fork_elsewhere (step.Delivering done word) row p other = refl
+fork_elsewhere (step.Faulting done word) row p other = refl
 
 service_elsewhere : (s : Service) (at : Step) (row : EntryRow) (p : ℕ) → is_remapped (place.InService s at) p ≡ false →
     counted (place.InService s at) row p ≡ row p
@@ -385,6 +422,17 @@ fork_some step.TargetEntry row p x is = itself (row p) x is
 fork_some (step.DroppingDescriptor fd) row p x is = itself (row p) x is
 fork_some step.MappingDescriptor row p x is = itself (row p) x is
 fork_some step.Ending row p x is = itself (row p) x is
+fork_some step.ReadingDevice row p x is = itself (row p) x is
+fork_some (step.BufferRegion done word) row p x is = itself (row p) x is
+fork_some (step.BufferEntry done word) row p x is = itself (row p) x is
+fork_some step.TakingPage row p x is = itself (row p) x is
+fork_some (step.Gathering done) row p x is = itself (row p) x is
+fork_some (step.Keeping done word left) row p x is = itself (row p) x is
+fork_some step.Printing row p x is = itself (row p) x is
+fork_some step.Releasing row p x is = itself (row p) x is
+fork_some step.Getting row p x is = itself (row p) x is
+fork_some (step.Delivering done word) row p x is = itself (row p) x is
+fork_some (step.Faulting done word) row p x is = itself (row p) x is
 
 service_some : (s : Service) (at : Step) (row : EntryRow) (p : ℕ) (x : Entry) → counted (place.InService s at) row p ≡ Some x → StandsAs (row p) x
 unfolding counted

@@ -28,7 +28,7 @@ use Rattle.lib_os.specs.Answers.{refused, back_with}
 use Rattle.lib_os.specs.Fence.{is_page_inside}
 use Rattle.lib_os.specs.InOrder.{IsInOrder}
 use Rattle.lib_os.specs.LibraryCall.{library_step}
-use Rattle.lib_os.specs.LibraryPages.{has_copy}
+use Rattle.lib_os.specs.LibraryPages.{has_copy, has_working}
 use Rattle.lib_os.specs.LibrarySteps.{gone_back}
 use Rattle.lib_os.specs.Places.{place_in_words, handler_step_in, place_of, words_at, is_handlers}
 use Rattle.lib_os.specs.Services.{service_of}
@@ -42,7 +42,7 @@ use Rattle.lib_os.proofs.EntriesStand.{seen_by}
 use Rattle.lib_os.proofs.Logical.{is_plain, unborne_plain, page_inside_programs}
 use Rattle.lib_os.proofs.PagesStand.{given_stands}
 use Rattle.lib_os.proofs.Sends.{received_in, with_message}
-use Rattle.lib_os.proofs.Serving.{service_step, step_in, plain_upcall, plain_copy, library_moved}
+use Rattle.lib_os.proofs.Serving.{service_step, step_in, holds_page, plain_upcall, plain_copy, plain_working, library_moved}
 use Rattle.lib_os.proofs.SlotsStand.{minds_page, born_at, born_live}
 use Rattle.lib_os.proofs.StatesStand.{slot_changed, slot_was_in_order, stopped_settles}
 use Rattle.lib_os.proofs.Waiters.{IsTaken}
@@ -82,10 +82,10 @@ waiting_place k va from id outside names_it =
     place_at k.registers 9 (step.ReadingValue id) outside ∙ ap (λ (x : Service). place.InService x (step.ReadingValue id)) names_it
 
 waiting_own : {names : Names} {s : SpacesState} {k : Slot} {b : Born} (va from id : ℕ) → StandsForBorn names s k b →
-    is_handlers k.registers.esp ≡ false → IsAboutToWait k b va from id → service_of (record k.registers { eax = 9 }) ≡ service.Receive va from →
+    is_handlers k.registers.esp ≡ false → holds_page (place_of k) ≡ false → IsAboutToWait k b va from id → service_of (record k.registers { eax = 9 }) ≡ service.Receive va from →
     StandsForBorn names s (waiting_in_slot k va from id)
     (record b { phase = in_service (service.Receive va from) receiving; blocked = true })
-waiting_own {s = s} {k = k} {b = b} va from id own_part outside about names_it =
+waiting_own {s = s} {k = k} {b = b} va from id own_part outside holds about names_it =
     let j : Slot = waiting_in_slot k va from id in
     let c : Born = record b { phase = in_service (service.Receive va from) receiving; blocked = true } in
     let at : place_of j ≡ place.InService (service.Receive va from) (step.ReadingValue id) =
@@ -109,7 +109,8 @@ waiting_own {s = s} {k = k} {b = b} va from id own_part outside about names_it =
       upcall = own_part.upcall ∙ plain_upcall (place_of k) plain ∙ sym (ap upcall_at at);
       descriptors = own_part.descriptors;
       memory = own_part.memory;
-      library = library_moved (place_of k) (place_of j) (rows_of s k.directory) (plain_copy (place_of k) plain ∙ sym (ap has_copy at)) own_part.library;
+      library = library_moved (place_of k) (place_of j) k.extra j.extra (rows_of s k.directory) (plain_copy (place_of k) plain ∙ sym (ap has_copy at))
+          (plain_working (place_of k) k.extra plain ∙ holds ∙ sym (ap (λ (p : Place). has_working p j.extra) at)) own_part.library;
       regions_have = own_part.regions_have;
       regions_only = own_part.regions_only;
       stack = own_part.stack;
@@ -118,7 +119,8 @@ waiting_own {s = s} {k = k} {b = b} va from id own_part outside about names_it =
     }
 
 pub waits_stand : {names : Names} {s : KernelState} {a : AbstractState} → StandsFor names s a → (n : ℕ) (b : Born) →
-    a.slots n ≡ born b → is_handlers (slot_at s n).registers.esp ≡ false → borne_in (place_of (slot_at s n)) ≡ None → (va from id : ℕ) → IsAboutToWait (slot_at s n) b va from id →
+    a.slots n ≡ born b → is_handlers (slot_at s n).registers.esp ≡ false → borne_in (place_of (slot_at s n)) ≡ None →
+    holds_page (place_of (slot_at s n)) ≡ false → (va from id : ℕ) → IsAboutToWait (slot_at s n) b va from id →
     service_of (record (slot_at s n).registers { eax = 9 }) ≡ service.Receive va from →
     StandsFor names
     (with_slot_at s n (record (slot_at s n) {
@@ -127,7 +129,7 @@ pub waits_stand : {names : Names} {s : KernelState} {a : AbstractState} → Stan
       extra = words_at 9 (step.ReadingValue id);
     }))
     (receive a n b (slot_at s n).registers va from)
-waits_stand {names = names} {s = s} {a = a} h n b is outside unborne va from id about names_it =
+waits_stand {names = names} {s = s} {a = a} h n b is outside unborne holds va from id about names_it =
     let c : Born = record b { phase = in_service (service.Receive va from) receiving; blocked = true } in
     let first : server_id a ≡ 0x1000 = ap slot_id h.first in
     subst (λ (x : AbstractState). StandsFor names (with_slot_at s n (waiting_in_slot (slot_at s n) va from id)) x)
@@ -136,7 +138,7 @@ waits_stand {names = names} {s = s} {a = a} h n b is outside unborne va from id 
     (stopped_settles (slot_at s n) (waiting_in_slot (slot_at s n) va from id) refl refl refl)
     (unborne_plain (place_of (slot_at s n)) (handler_runs (slot_at s n).registers (slot_at s n).extra ∙ outside) unborne)
     (ap is_plain (waiting_place (slot_at s n) va from id outside names_it))
-    (waiting_own va from id (born_at h n b is) outside about names_it))
+    (waiting_own va from id (born_at h n b is) outside holds about names_it))
 
 -- its step
 pub receive_step : (a : AbstractState) (n : ℕ) (b : Born) (k : Slot) (va from id : ℕ) → a.slots n ≡ born b →
@@ -185,7 +187,8 @@ told_own {s = s} {k = k} {c = c} {d = d} sender taken id value perm kind own_par
       upcall = own_part.upcall ∙ sym (ap upcall_at (told_at k id value perm));
       descriptors = own_part.descriptors;
       memory = own_part.memory;
-      library = library_moved (place_of k) (place_of j) (rows_of s k.directory) (sym (ap has_copy (told_at k id value perm))) own_part.library;
+      library = library_moved (place_of k) (place_of j) k.extra j.extra (rows_of s k.directory) (sym (ap has_copy (told_at k id value perm)))
+          (sym (ap (λ (p : Place). has_working p k.extra) (told_at k id value perm))) own_part.library;
       regions_have = own_part.regions_have;
       regions_only = own_part.regions_only;
       stack = own_part.stack;
@@ -324,7 +327,7 @@ module _ {names : Names} {s : KernelState} {a : AbstractState} {sp : SpacesState
 
 module _ {names : Names} {s : KernelState} {a : AbstractState} (h : StandsFor names s a) (n : ℕ) (b : Born) (at : a.slots n ≡ born b)
     (outside : is_handlers (slot_at s n).registers.esp ≡ false) (unborne : borne_in (place_of (slot_at s n)) ≡ None)
-    (va from : ℕ) (r : HasReceived (slot_at s n) b va from) where
+    (holds : holds_page (place_of (slot_at s n)) ≡ false) (va from : ℕ) (r : HasReceived (slot_at s n) b va from) where
   -- its step
   pub answer_step : abs_step a n ≡ Some (received_answer a n b r.regs r.message)
   unfolding library_step
@@ -349,4 +352,4 @@ module _ {names : Names} {s : KernelState} {a : AbstractState} (h : StandsFor na
       (received_answer a n b r.regs r.message)
   answers_with =
       subst (λ (regs : Regs). StandsFor names (gone_back s n told_regs) (back_with a n b regs)) told_is
-      (back_stands h n b at told_regs unborne r.silent r.awake outside refl refl)
+      (back_stands h n b at told_regs unborne holds r.silent r.awake outside refl refl)

@@ -6,7 +6,7 @@ use Rattle.std.proofs.Common.{refl, sym, ap, subst, arith}
 use Rattle.std.specs.Prelude.{Option, Some, None, is_some, nat_lt, if◌then◌else◌}
 use Rattle.std.specs.List.{Contains}
 use Rattle.std.specs.Option.{option_map}
-use Rattle.jos_base.specs.declared.numbers.TheConstants.{FDTABLE, FIRST_ENV_ID, NENV, NPTENTRIES}
+use Rattle.jos_base.specs.declared.numbers.TheConstants.{FDTABLE, FIRST_ENV_ID, NENV, NPTENTRIES, UTEMP}
 use Rattle.jos_base.specs.Counting.{total, page_limit}
 use Rattle.jos_base.specs.Environments.{Slot, bit_of, free_slot, is_live}
 use Rattle.jos_base.specs.KernelState.{KernelState, slot_at}
@@ -21,7 +21,7 @@ use Rattle.lib_os.specs.AbstractMemory.{has_page_in}
 use Rattle.lib_os.specs.InOrder.{HasOneUse}
 use Rattle.lib_os.specs.Need.{NeedIsReached, HasUse, in_list, in_entry, as_directory, as_table, EachHasUse, pool_of, need}
 use Rattle.lib_os.specs.Need.{slot_need, born_need, parent_need}
-use Rattle.lib_os.specs.LibraryPages.{is_library_region, IsOwnWritable, has_copy}
+use Rattle.lib_os.specs.LibraryPages.{is_library_region, IsOwnWritable, has_copy, has_working}
 use Rattle.lib_os.specs.Need.{server_need, count_below, is_own, someone, born_passes, has_object_of, has_page_of, is_page_of}
 use Rattle.lib_os.specs.Places.{place_of}
 use Rattle.lib_os.specs.Rows.{Names, EntryRow, IsNamed, rows_of, lasting, is_shared, may_write, page_by, page_seen, seen_where, is_programs}
@@ -114,7 +114,7 @@ descriptor_unowned false o perm = refl
 descriptor_unowned true None perm = refl
 descriptor_unowned true (Some e) perm = ap (λ (q : ℕ). bit_of (is_some (if is_shared q then None else Some e.frame))) (perm e refl)
 
--- ---- the library's pages: the stack of its handler of page faults, and the copy that this makes
+-- ---- the library's pages: the stack of its handler of page faults, the copy that this makes, and the page in which a service keeps bytes
 
 abbrev is_stack : ℕ → ℕ
 is_stack p = is_at (Some (page_number UXSTACK)) (0 + p)
@@ -122,41 +122,51 @@ is_stack p = is_at (Some (page_number UXSTACK)) (0 + p)
 abbrev is_copy : ℕ → ℕ
 is_copy p = is_at (Some (page_number PFTEMP)) (0 + p)
 
-two_beside : total page_limit (λ p. is_stack p + is_copy p) ≤ 2
-two_beside =
-    let sum = total-sum page_limit is_stack is_copy in
+abbrev is_working : ℕ → ℕ
+is_working p = is_at (Some (page_number UTEMP)) (0 + p)
+
+abbrev is_librarys : ℕ → ℕ
+is_librarys p = is_stack p + (is_copy p + is_working p)
+
+three_beside : total page_limit is_librarys ≤ 3
+three_beside =
+    let sum = total-sum page_limit is_stack (λ p. is_copy p + is_working p) in
+    let rest = total-sum page_limit is_copy is_working in
     let stack = at_most_once page_limit 0 (Some (page_number UXSTACK)) in
     let copy = at_most_once page_limit 0 (Some (page_number PFTEMP)) in
-    omega (arith, sum, stack, copy)
+    let working = at_most_once page_limit 0 (Some (page_number UTEMP)) in
+    omega (arith, sum, rest, stack, copy, working)
 
 page_wanted : (names : Names) (s : SpacesState) (k : Slot) (b : Born) → StandsForBorn names s k b → (p : ℕ) →
-    bit_of (is_some (page_of s k p)) ≤ bit_of (is_own (page_seen names s k.directory p)) + (is_stack p + is_copy p)
+    bit_of (is_some (page_of s k p)) ≤ bit_of (is_own (page_seen names s k.directory p)) + is_librarys p
 page_wanted names s k b h p = by_inside (is_programs p) refl
   where
     nothing : (t : Bool) → rows_of s k.directory p ≡ None → bit_of (is_some (where_so t (own_frame (rows_of s k.directory p)))) ≡ 0
     nothing false none = refl
     nothing true none = ap (λ (o : Option Entry). bit_of (is_some (own_frame o))) none
 
-    by_page : (c d : Bool) → (page_number UXSTACK == 0 + p) ≡ c → (page_number PFTEMP == 0 + p) ≡ d → is_programs p ≡ false →
-        bit_of (is_some (page_of s k p)) ≤ bit_of c + bit_of d
-    by_page true d stack copy outside = let one = bit_small (is_some (page_of s k p)) in omega (arith, one)
-    by_page false true stack copy outside = let one = bit_small (is_some (page_of s k p)) in omega (arith, one)
-    by_page false false stack copy outside = by_descriptor (is_descriptor p) refl
+    by_page : (c d e : Bool) → (page_number UXSTACK == 0 + p) ≡ c → (page_number PFTEMP == 0 + p) ≡ d → (page_number UTEMP == 0 + p) ≡ e →
+        is_programs p ≡ false → bit_of (is_some (page_of s k p)) ≤ bit_of c + (bit_of d + bit_of e)
+    by_page true d e stack copy working outside = let one = bit_small (is_some (page_of s k p)) in omega (arith, one)
+    by_page false true e stack copy working outside = let one = bit_small (is_some (page_of s k p)) in omega (arith, one)
+    by_page false false true stack copy working outside = let one = bit_small (is_some (page_of s k p)) in omega (arith, one)
+    by_page false false false stack copy working outside = by_descriptor (is_descriptor p) refl
       where
         by_descriptor : (t : Bool) → is_descriptor p ≡ t → bit_of (is_some (page_of s k p)) ≤ 0
         by_descriptor true descriptor =
             let zeros = descriptor_unowned (is_live k) (rows_of s k.directory p) (λ e is. h.library.descriptors p e descriptor is) in
             omega (arith, zeros)
         by_descriptor false no_descriptor =
-            let none = h.library.none p outside no_descriptor (grind (arith, nat_tests)) (grind (arith, nat_tests)) in
+            let none =
+            h.library.none p outside no_descriptor (grind (arith, nat_tests, stack)) (grind (arith, nat_tests, copy)) (grind (arith, nat_tests, working)) in
             let zeros = nothing (is_live k) none in
             omega (arith, zeros)
 
     by_inside : (inside : Bool) → is_programs p ≡ inside → bit_of (is_some (page_of s k p))
-        ≤ bit_of (is_own (seen_where inside (option_map (page_by names s.pages) (rows_of s k.directory p)))) + (is_stack p + is_copy p)
+        ≤ bit_of (is_own (seen_where inside (option_map (page_by names s.pages) (rows_of s k.directory p)))) + is_librarys p
     by_inside true is = let mine = so_of_page names s.pages (is_live k) (rows_of s k.directory p) in omega (arith, mine)
     by_inside false is =
-        let beside = by_page (page_number UXSTACK == 0 + p) (page_number PFTEMP == 0 + p) refl refl is in
+        let beside = by_page (page_number UXSTACK == 0 + p) (page_number PFTEMP == 0 + p) (page_number UTEMP == 0 + p) refl refl refl is in
         omega (arith, beside)
 
 abbrev slot_frames : SpacesState → Slot → ℕ
@@ -176,11 +186,11 @@ born_frames names s k b h =
     let tables = total-mono region_limit (λ r. bit_of (is_some (table_of s k r))) (λ r. bit_of (b.regions r || is_library_region r))
     (λ r lt. so_of_region (is_live k) (s.regions k.directory r) (b.regions r || is_library_region r) (h.regions_only r)) in
     let pages = total-mono page_limit (λ p. bit_of (is_some (page_of s k p)))
-    (λ p. bit_of (is_own (b.memory p)) + (is_stack p + is_copy p))
-    (λ p lt. subst (λ (x : Option Page). bit_of (is_some (page_of s k p)) ≤ bit_of (is_own x) + (is_stack p + is_copy p))
+    (λ p. bit_of (is_own (b.memory p)) + is_librarys p)
+    (λ p lt. subst (λ (x : Option Page). bit_of (is_some (page_of s k p)) ≤ bit_of (is_own x) + is_librarys p)
     (sym (h.memory p)) (page_wanted names s k b h p)) in
-    let sum = total-sum page_limit (λ p. bit_of (is_own (b.memory p))) (λ p. is_stack p + is_copy p) in
-    let beside = two_beside in
+    let sum = total-sum page_limit (λ p. bit_of (is_own (b.memory p))) is_librarys in
+    let beside = three_beside in
     omega (arith, one, tables, pages, sum, beside)
 
 -- the server wants more than it has
@@ -241,7 +251,7 @@ module _ (names : Names) (s : SpacesState) (parent : Slot) (parent_is : Abstract
   child_nothing true p none = ap (λ (o : Option Entry). bit_of (is_some (own_frame o))) none
 
   child_page : StandsForBorn names s parent c.b → (p : ℕ) →
-      bit_of (is_some (page_of s k p)) ≤ bit_of (is_own (c.b.memory p)) + (is_stack p + is_copy p)
+      bit_of (is_some (page_of s k p)) ≤ bit_of (is_own (c.b.memory p)) + is_librarys p
   child_page h p = by_inside (is_programs p) refl
     where
       by_handed : is_descriptor p ≡ true → (t : Bool) → is_passed c.step p ≡ t → bit_of (is_some (page_of s k p)) ≡ 0
@@ -269,7 +279,7 @@ module _ (names : Names) (s : SpacesState) (parent : Slot) (parent_is : Abstract
           let none = child_nothing (is_live k) p (c.rest p (first_holds (is_programs p) (is_descriptor p) inside) off) in omega (arith, none)
 
       by_inside : (inside : Bool) → is_programs p ≡ inside →
-          bit_of (is_some (page_of s k p)) ≤ bit_of (is_own (c.b.memory p)) + (is_stack p + is_copy p)
+          bit_of (is_some (page_of s k p)) ≤ bit_of (is_own (c.b.memory p)) + is_librarys p
       by_inside true is = let mine = by_passed is (is_passed c.step p) refl in omega (arith, mine)
       by_inside false is = let beside = by_stack (page_number UXSTACK == 0 + p) refl is in omega (arith, beside)
 
@@ -291,9 +301,9 @@ module _ (names : Names) (s : SpacesState) (parent : Slot) (parent_is : Abstract
       let tables = total-mono region_limit (λ r. bit_of (is_some (table_of s k r))) (λ r. bit_of (c.b.regions r || is_library_region r))
       (λ r lt. so_of_region (is_live k) (s.regions k.directory r) (c.b.regions r || is_library_region r) (child_region frames h r)) in
       let pages = total-mono page_limit (λ p. bit_of (is_some (page_of s k p)))
-      (λ p. bit_of (is_own (c.b.memory p)) + (is_stack p + is_copy p)) (λ p lt. child_page h p) in
-      let sum = total-sum page_limit (λ p. bit_of (is_own (c.b.memory p))) (λ p. is_stack p + is_copy p) in
-      let beside = two_beside in
+      (λ p. bit_of (is_own (c.b.memory p)) + is_librarys p) (λ p lt. child_page h p) in
+      let sum = total-sum page_limit (λ p. bit_of (is_own (c.b.memory p))) is_librarys in
+      let beside = three_beside in
       omega (arith, one, tables, pages, sum, beside)
 
 wanted_frames : (names : Names) (s : KernelState) (a : AbstractState) → StandsFor names s a → (n : ℕ) (slot : AbstractSlot) →
@@ -469,6 +479,10 @@ module _ (names : Names) (s : KernelState) (a : AbstractState) (h : StandsFor na
       no_copy true has same = own_alone row p (page_number PFTEMP) e (k.library.copy has) same stands shared
       no_copy false has same = none-some e (sym (k.library.no_copy has) ∙ sym (ap row same) ∙ stands)
 
+      no_working : (c : Bool) → has_working (place_of (slot n)) (slot n).extra ≡ c → p ≢ page_number UTEMP
+      no_working true has same = own_alone row p (page_number UTEMP) e (k.library.working has) same stands shared
+      no_working false has same = none-some e (sym (k.library.no_working has) ∙ sym (ap row same) ∙ stands)
+
       by_inside : (inside : Bool) → is_programs p ≡ inside → Has b (names.name e.frame)
       by_inside true inside =
           page_had b p (names.name e.frame) (has_write e.perm) within (k.memory p ∙ seen_shared n p e inside stands shared)
@@ -479,7 +493,7 @@ module _ (names : Names) (s : KernelState) (a : AbstractState) (h : StandsFor na
           by_descriptor false no_descriptor = absurd (none-some e (sym
               (k.library.none p outside no_descriptor
               (λ same. own_alone row p (page_number UXSTACK) e k.library.stack same stands shared)
-              (no_copy (has_copy (place_of (slot n))) refl)) ∙ stands))
+              (no_copy (has_copy (place_of (slot n))) refl) (no_working (has_working (place_of (slot n)) (slot n).extra) refl)) ∙ stands))
 
   -- and in a child's it is one that its parent has
   of_child : (n p : ℕ) (e : Entry) → is_live (slot n) ≡ true → p < page_limit → rows_of s.spaces (slot n).directory p ≡ Some e →

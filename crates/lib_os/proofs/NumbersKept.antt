@@ -1,6 +1,6 @@
 -- A step of the library does not raise the number of hidden steps that another environment may still make: that stands where it stood, and
 -- no page of its space waits to be copied that did not wait before.
-use Rattle.std.proofs.Common.{◌≡◌, ◌≢◌, ◌∙◌, ◌%◌, ◌==◌, ◌||◌, ◌≤◌, inl, inr, ℕ, Bool, true, false, not, List, [], ◌∷◌, refl, sym, ap, subst, arith}
+use Rattle.std.proofs.Common.{◌≡◌, ◌≢◌, ◌∙◌, ◌+◌, ◌*◌, ◌%◌, ◌==◌, ◌||◌, ◌≤◌, inl, inr, ℕ, Bool, true, false, not, List, [], ◌∷◌, refl, sym, ap, subst, arith}
 use Rattle.std.proofs.Common.{if◌then◌else◌}
 use Rattle.std.specs.Prelude.{nat_lt}
 use Rattle.std.proofs.lemmas.Nat.{and_assoc}
@@ -17,7 +17,7 @@ use Rattle.lib_os.specs.declared.place.Step.TheVariants as step
 use Rattle.lib_os.specs.declared.service.Service.TheVariants as service
 use Rattle.lib_os.specs.AbstractState.{AbstractState, Born, born, unborn, is_live as is_live_abstract, AbstractSlot}
 use Rattle.lib_os.specs.InOrder.{IsInOrder}
-use Rattle.lib_os.specs.LibrarySteps.{Stands, KeepsPlaces, KeepsNumbers, copies_left, left_at, hidden_left, other_copies}
+use Rattle.lib_os.specs.LibrarySteps.{Stands, KeepsPlaces, KeepsNumbers, copies_left, copy_steps, counts_copies, left_at, hidden_left, other_copies, steps_left}
 use Rattle.lib_os.specs.Places.{place_of}
 use Rattle.lib_os.specs.Rows.{IsUsers, rows_of, is_cow, is_shared}
 use Rattle.jos_base.specs.SystemCalls.{has_write}
@@ -51,7 +51,11 @@ fewer_others (handler.Touching va error ip) few many h = omega (arith, h)
 -- where no more pages wait, no more steps are left
 fewer_left : (at : Place) (few many : ℕ) → few ≤ many → left_at at few ≤ left_at at many
 fewer_left place.Guest few many h = omega (arith, h)
-fewer_left (place.InService s at) few many h = omega arith
+fewer_left (place.InService s at) few many h = by_step (counts_copies at)
+  where
+    by_step : (t : Bool) → steps_left at + (if t then copy_steps * few else 0) ≤ steps_left at + (if t then copy_steps * many else 0)
+    by_step true = omega (arith, h)
+    by_step false = omega arith
 fewer_left (place.InHandler at) few many h = let others = fewer_others at few many h in omega (arith, others)
 
 stays_lower : (s after : KernelState) (m : ℕ) → StaysThere (slot_at s m) (slot_at after m) →

@@ -121,7 +121,7 @@ module _ {names after : Names} {s : KernelState} {a : AbstractState} {sp : Space
       mine = page_put names after s.spaces sp (slot_at s n) b p page regions (born_at h n b at) inside here
           (λ q ne. shown_same names after s.spaces sp dir q (row_kept dir q (λ same too. ne too))
           (λ x hx own_page. puts.bytes dir q x (λ same too. ne too) hx) (λ x hx shared_page. puts.named_so dir q x hx shared_page))
-          (library_put (place_of (slot_at s n)) (rows_of s.spaces dir) (rows_of sp dir) p inside
+          (library_put (place_of (slot_at s n)) (slot_at s n).extra (rows_of s.spaces dir) (rows_of sp dir) p inside
           (λ q ne. row_kept dir q (λ same too. ne too)) (born_at h n b at).library)
           tables (kept_unminded (place_of (slot_at s n)) (view_of s.spaces dir) (view_of sp dir) unminded)
 

@@ -191,7 +191,7 @@ module _ {names : Names} {s : KernelState} {a : AbstractState} {sp : SpacesState
     upcall = v.own.upcall;
     descriptors = λ fd. v.own.descriptors fd ∙ sym (descriptors_beside names names s.spaces sp d page inside shown_kept fd);
     memory = λ p. v.own.memory p ∙ sym (memory_kept p);
-    library = library_put (place_of parent) (rows_of s.spaces d) (rows_of sp d) page inside row_kept v.own.library;
+    library = library_put (place_of parent) parent.extra (rows_of s.spaces d) (rows_of sp d) page inside row_kept v.own.library;
     regions_have = λ r is. table_is r ∙ v.own.regions_have r is;
     regions_only = λ r is. v.own.regions_only r (sym (table_is r) ∙ is);
     stack = v.own.stack;

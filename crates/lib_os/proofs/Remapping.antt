@@ -116,8 +116,8 @@ module _ {names : Names} {s : KernelState} {a : AbstractState} (h : StandsFor na
   puts_over =
       let v = handled_part h n (handler.MappingOver va) stands in
       let way = over_way v in
-      let library : LibraryPages (place.InHandler (handler.MappingOver va)) (rows_of s.spaces d) =
-      subst (λ (q : Place). LibraryPages q (rows_of s.spaces d)) stands v.own.library in
+      let library : LibraryPages (place.InHandler (handler.MappingOver va)) (slot_at s n).extra (rows_of s.spaces d) =
+      subst (λ (q : Place). LibraryPages q (slot_at s n).extra (rows_of s.spaces d)) stands v.own.library in
       let it : IsOwnWritable (rows_of s.spaces d) copy_page = library.copy refl in
       let raw = row_entry s.spaces d copy_page it.entry it.stands in
       let writes : has_write raw.0.perm ≡ true =

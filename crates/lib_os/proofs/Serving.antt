@@ -16,7 +16,8 @@ use Rattle.lib_os.specs.declared.progress.Progress.TheVariants as progress
 use Rattle.lib_os.specs.AbstractState.{AbstractState, Born, AbstractSlot, free, unborn, born, serving, Stage, guest, at_guest, in_service}
 use Rattle.lib_os.specs.AbstractRun.{abs_step}
 use Rattle.lib_os.specs.Fence.{is_resident}
-use Rattle.lib_os.specs.LibraryPages.{LibraryPages, has_copy}
+use Rattle.lib_os.specs.declared.service.Service.TheVariants as service
+use Rattle.lib_os.specs.LibraryPages.{LibraryPages, has_copy, has_working, keeps_page}
 use Rattle.lib_os.specs.declared.numbers.TheConstants.{PGFAULT_UPCALL}
 use Rattle.jos_base.specs.TrapFrames.{user_flags}
 use Rattle.lib_os.specs.LibraryCall.{library_step}
@@ -101,23 +102,37 @@ plain_copy place.Guest plain = refl
 plain_copy (place.InService s step) plain = refl
 plain_copy (place.InHandler step) plain = absurd (false≢true (sym plain))
 
--- the library's pages are the same at each place at which there is a copy, and at each at which there is none
-pub library_moved : (at after : Place) (row : EntryRow) → has_copy at ≡ has_copy after → LibraryPages at row → LibraryPages after row
-library_moved at after row same h = record {
+-- a service that keeps bytes in a page has one
+abbrev pub holds_page : Place → Bool
+holds_page (place.InService (service.Write fd va len) at) = keeps_page at
+holds_page _ = false
+
+pub plain_working : (at : Place) (words : List ℕ) → is_in_handler at ≡ false → has_working at words ≡ holds_page at
+plain_working place.Guest words plain = refl
+plain_working (place.InService (service.Write fd va len) step) words plain = refl
+plain_working (place.InService _ step) words plain = refl
+plain_working (place.InHandler step) words plain = absurd (false≢true (sym plain))
+
+-- the library's pages are the same at each place at which there is a copy, and at each at which there is none, and so with the page of a service
+pub library_moved : (at after : Place) (words words_after : List ℕ) (row : EntryRow) → has_copy at ≡ has_copy after →
+    has_working at words ≡ has_working after words_after → LibraryPages at words row → LibraryPages after words_after row
+library_moved at after words words_after row same held h = record {
   stack = h.stack;
   copy = λ is. h.copy (same ∙ is);
   no_copy = λ is. h.no_copy (same ∙ is);
   descriptors = h.descriptors;
+  working = λ is. h.working (held ∙ is);
+  no_working = λ is. h.no_working (held ∙ is);
   none = h.none;
 }
 
 -- the environment's own part, when it is back at its program
 pub back_at_guest : {names : Names} {s : SpacesState} {k : Slot} {b : Born} (regs : Regs) → StandsForBorn names s k b →
-    k.rendezvous.receiving ≡ false → b.blocked ≡ false → is_handlers k.registers.esp ≡ false → regs.esp ≡ k.registers.esp →
+    holds_page (place_of k) ≡ false → k.rendezvous.receiving ≡ false → b.blocked ≡ false → is_handlers k.registers.esp ≡ false → regs.esp ≡ k.registers.esp →
     regs.eflags ≡ k.registers.eflags →
     StandsForBorn names s (record k { registers = regs; extra = no_extra })
     (record b { program = guest regs; phase = at_guest; blocked = false })
-back_at_guest {s = s} {k = k} {b = b} regs own silent awake outside stack flags =
+back_at_guest {s = s} {k = k} {b = b} regs own holds silent awake outside stack flags =
     let back : Slot = record k { registers = regs; extra = no_extra } in
     let after : Born = record b { program = guest regs; phase = at_guest; blocked = false } in
     let there : place_of back ≡ place.Guest = words_of_none regs no_extra (ap is_handlers stack ∙ outside) refl in
@@ -131,8 +146,9 @@ back_at_guest {s = s} {k = k} {b = b} regs own silent awake outside stack flags 
       upcall = own.upcall ∙ plain_upcall (place_of k) plain ∙ sym (ap upcall_at there);
       descriptors = own.descriptors;
       memory = own.memory;
-      library = library_moved (place_of k) (place_of back) (rows_of s k.directory)
-          (plain_copy (place_of k) plain ∙ sym (ap has_copy there)) own.library;
+      library = library_moved (place_of k) (place_of back) k.extra no_extra (rows_of s k.directory)
+          (plain_copy (place_of k) plain ∙ sym (ap has_copy there))
+          (plain_working (place_of k) k.extra plain ∙ holds ∙ sym (ap (λ (p : Place). has_working p no_extra) there)) own.library;
       regions_have = own.regions_have;
       regions_only = own.regions_only;
       stack = ap (λ (esp : ℕ). is_handlers esp || not (is_resident esp)) stack ∙ own.stack;

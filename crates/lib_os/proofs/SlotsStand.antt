@@ -1,7 +1,7 @@
 -- A slot of the kernel's goes on standing for one of the abstract system while nothing that is seen of it changes: where it
 -- stands in a service or in its handler, its pages, and whether it is live.
-use Rattle.std.proofs.Common.{◌≡◌, ◌≢◌, ◌∙◌, ◌||◌, ℕ, ◌/◌, Bool, true, false, not, List, refl, sym, ap, subst, arith, if◌then◌else◌}
-use Rattle.std.specs.Prelude.{Option, Some, None, is_none, is_some, nat_lt}
+use Rattle.std.proofs.Common.{◌≡◌, ◌≢◌, ◌∙◌, ◌||◌, ℕ, ◌+◌, ◌-◌, ◌/◌, Bool, true, false, not, List, refl, sym, ap, subst, arith, if◌then◌else◌}
+use Rattle.std.specs.Prelude.{Option, Some, None, is_none, is_some, length, nat_lt, slice_index}
 use Rattle.std.proofs.lemmas.Bool.Decides.{nat_tests}
 use Rattle.std.specs.Option.{option_map}
 use Rattle.jos_base.specs.declared.environment.Status.{Status}
@@ -21,7 +21,7 @@ use Rattle.lib_os.specs.declared.place.Step.{Step}
 use Rattle.lib_os.specs.declared.place.Step.TheVariants as step
 use Rattle.lib_os.specs.declared.service.Service.{Service}
 use Rattle.lib_os.specs.declared.service.Service.TheVariants as service
-use Rattle.jos_base.specs.declared.numbers.TheConstants.{FDTABLE, NPTENTRIES}
+use Rattle.jos_base.specs.declared.numbers.TheConstants.{FDTABLE, NPTENTRIES, UTEMP}
 use Rattle.jos_base.specs.Words.{page_number, upd}
 use Rattle.lib_os.specs.declared.numbers.TheConstants.{DESCRIPTORS, PFTEMP}
 use Rattle.lib_os.specs.AbstractState.{AbstractState, Born, Page, own, named, AbstractSlot, free, unborn, born, serving}
@@ -32,7 +32,11 @@ use Rattle.lib_os.specs.Rows.{Names, EntryRow, rows_of, page_by, page_seen, seen
 use Rattle.lib_os.specs.Rows.{descriptor_page, descriptor_seen, is_descriptor, name_of, shown_at}
 use Rattle.lib_os.specs.StandsInHandler.{IsAtGuest, IsToCopy, IsCopiedTo, HasWord, IsMappedTwice, CopiesAt}
 use Rattle.lib_os.specs.StandsInHandler.{CopiesOrEnds, copies, ends, IsInHandler, is_refused_by, is_write}
+use Rattle.lib_os.specs.StandsInHandler.{IsDelivering, StandsDelivering, StandsPutting, buffer_of, next_page, IsGiven, WantsMore}
+use Rattle.lib_os.specs.StandsInHandler.{StandsBeneath, at_program, in_delivery, IsStoppedAt, marked, reading, telling, writing}
 use Rattle.lib_os.specs.StandsFor.{StandsFor, StandsForSlot, StandsForBorn, StandsAt, StandsAtStep, view_of, IsStatusFor, MaySend}
+use Rattle.lib_os.specs.StandsFor.{IsLookingUp, StandsAtDevice, StandsBefore, HasTaken, IsTaking, IsKeeping, IsPrinting}
+use Rattle.lib_os.specs.StandsFor.{descriptor_given, refuses_next}
 use Rattle.lib_os.specs.StandsFor.{borne_in, IsMapping, IsRemapping, IsDuplicating, IsOpen, NoneIsOpenBelow}
 use Rattle.lib_os.specs.StandsFor.{IsIn, IsTrying, IsWaiting, IsLooking, IsAboutToWait, IsReceiving, HasReceived, WaitsOrHas, waits, has}
 use Rattle.lib_os.proofs.Logical.{is_plain, programs_beside, programs_no_descriptor}
@@ -41,8 +45,8 @@ use Rattle.jos_base.proofs.Maps.{upd-all}
 
 -- ---- what is kept in mind
 
--- A step at which send keeps in mind what page stands at an address, or that its region has a table; or exit, close or dup which
--- descriptors are open.
+-- A step at which send keeps in mind what page stands at an address, or that its region has a table; exit, close or dup which
+-- descriptors are open; or a service on what a descriptor names that, and the pages of its buffer.
 abbrev pub minds_page_at : Service → Step → Bool
 minds_page_at (service.Send id value va) (step.Trying perm) = true
 minds_page_at (service.Send id value va) (step.Pausing perm) = true
@@ -56,6 +60,11 @@ minds_page_at (service.Dup old new) (step.DescriptorEntry at) = true
 minds_page_at (service.Dup old new) step.TargetEntry = true
 minds_page_at (service.Dup old new) (step.DroppingDescriptor at) = true
 minds_page_at (service.Dup old new) step.MappingDescriptor = true
+minds_page_at (service.Read fd va len) at = true
+minds_page_at (service.Write fd va len) at = true
+minds_page_at (service.Seek fd offset) at = true
+minds_page_at (service.Stat fd va) at = true
+minds_page_at (service.SetSize fd size) at = true
 minds_page_at _ _ = false
 
 -- or a step of fork that bears a child, or one of the handler, which keeps its stack and its copy in mind
@@ -72,6 +81,13 @@ KeepsRow minds row after = minds ≡ true → after ≡ row
 abbrev pub KeepsTables : Bool → (ℕ → Bool) → (ℕ → Bool) → Type 0
 KeepsTables minds tables after = minds ≡ true → (r : ℕ) → tables r ≡ true → after r ≡ true
 
+-- a page at UTEMP has the same bytes
+abbrev pub SameTaken : View → View → Type 0
+SameTaken v w = (x : Entry) → v.row (page_number UTEMP) ≡ Some x → is_shared x.perm ≡ false → w.bytes x.frame ≡ v.bytes x.frame
+
+abbrev pub KeepsPage : Bool → View → View → Type 0
+KeepsPage minds v w = minds ≡ true → SameTaken v w
+
 -- the same entries, and the same bytes of pages of one's own
 pub record ViewAlike (v w : View) : Type 0 where
   pub row : w.row ≡ v.row
@@ -82,6 +98,7 @@ abbrev pub KeptAt : Place → View → View → Type 0
 KeptAt place.Guest v w = Unit {0}
 KeptAt (place.InService s stands) v w =
     KeepsRow (minds_page (place.InService s stands)) v.row w.row × KeepsTables (minds_page (place.InService s stands)) v.tables w.tables
+    × KeepsPage (minds_page (place.InService s stands)) v w
 KeptAt (place.InHandler stands) v w = ViewAlike v w
 
 -- there its entries count as they stand
@@ -101,19 +118,22 @@ kept_unminded place.Guest v w none = tt
 kept_unminded (place.InService s stands) v w none = (
   (λ is. absurd (let contradiction : true ≡ false = sym is ∙ none in cc)),
   (λ is r table. absurd (let contradiction : true ≡ false = sym is ∙ none in cc)),
+  (λ is. absurd (let contradiction : true ≡ false = sym is ∙ none in cc)),
 )
 kept_unminded (place.InHandler stands) v w none = absurd (let contradiction : true ≡ false = none in cc)
 
 -- where the entries and the tables are the same, and the handler does not run
-pub kept_rows : (stands : Place) (v w : View) → is_in_handler stands ≡ false → w.row ≡ v.row → ((r : ℕ) → w.tables r ≡ v.tables r) → KeptAt stands v w
-kept_rows place.Guest v w outside row tables = tt
-kept_rows (place.InService s stands) v w outside row tables = ((λ is. row), (λ is r table. tables r ∙ table))
-kept_rows (place.InHandler stands) v w outside row tables = absurd (let contradiction : true ≡ false = outside in cc)
+pub kept_rows : (stands : Place) (v w : View) → is_in_handler stands ≡ false → w.row ≡ v.row → ((r : ℕ) → w.tables r ≡ v.tables r) →
+    SameTaken v w → KeptAt stands v w
+kept_rows place.Guest v w outside row tables taken = tt
+kept_rows (place.InService s stands) v w outside row tables taken = ((λ is. row), (λ is r table. tables r ∙ table), (λ is. taken))
+kept_rows (place.InHandler stands) v w outside row tables taken = absurd (let contradiction : true ≡ false = outside in cc)
 
 -- where all is alike
 pub kept_alike : (stands : Place) (v w : View) → ViewAlike v w → ((r : ℕ) → w.tables r ≡ v.tables r) → KeptAt stands v w
 kept_alike place.Guest v w same tables = tt
-kept_alike (place.InService s stands) v w same tables = ((λ is. same.row), (λ is r table. tables r ∙ table))
+kept_alike (place.InService s stands) v w same tables =
+    ((λ is. same.row), (λ is r table. tables r ∙ table), (λ is. same.bytes (page_number UTEMP)))
 kept_alike (place.InHandler stands) v w same tables = same
 
 -- ---- where it stands in its handler
@@ -254,57 +274,214 @@ module _ (v w : View) (k : Slot) (b : Born) (status : Status) (runs : ℕ) (memo
   duplicating_kept : (old new : ℕ) → w.row ≡ v.row → IsDuplicating v.row old new → IsDuplicating w.row old new
   duplicating_kept old new row h = subst (λ (r : EntryRow). IsDuplicating r old new) (sym row) h
 
+  looking_up_kept : (s : Service) (at fd : ℕ) → ((r : ℕ) → v.tables r ≡ true → w.tables r ≡ true) → IsLookingUp v k b s at fd →
+      IsLookingUp w kernel_slot environment s at fd
+  looking_up_kept s at fd tables h =
+      record { is_in = in_kept _ _ h.is_in; same = h.same; below = h.below; table = tables (region_index FDTABLE) h.table }
+
+  device_kept : (s : Service) (o : Option ℕ) → w.row ≡ v.row → StandsAtDevice v k b s o → StandsAtDevice w kernel_slot environment s o
+  device_kept s None row h = absurd h
+  device_kept s (Some fd) row h = record { is_in = in_kept _ _ h.is_in; below = h.below; stands = open_kept fd row h.stands }
+
+  given_kept : (fd va len : ℕ) → w.row ≡ v.row → IsGiven v.row fd va len → IsGiven w.row fd va len
+  given_kept fd va len row h = subst (λ (r : EntryRow). IsGiven r fd va len) (sym row) h
+
+  wants_kept : (fd va len : ℕ) (bytes : List ℕ) → w.row ≡ v.row → WantsMore v.row b fd va len bytes → WantsMore w.row environment fd va len bytes
+  wants_kept fd va len bytes row h = record { phase = h.phase; given = given_kept fd va len row h.given; fewer = h.fewer }
+
+  taken_kept : (bytes : List ℕ) (n : ℕ) → w.row ≡ v.row → SameTaken v w → HasTaken v bytes n → HasTaken w bytes n
+  taken_kept bytes n row page h = record {
+    entry = h.entry;
+    stands = ap (λ (r : EntryRow). r (page_number UTEMP)) row ∙ h.stands;
+    own_page = h.own_page;
+    same = λ i lt. ap (λ (l : List ℕ). slice_index l i) (page h.entry h.stands h.own_page) ∙ h.same i lt;
+  }
+
+  taking_kept : (fd va len done : ℕ) → w.row ≡ v.row → SameTaken v w → IsTaking v k b fd va len done →
+      IsTaking w kernel_slot environment fd va len done
+  taking_kept fd va len done row page h = record {
+    bytes = h.bytes;
+    program = h.program;
+    wants = wants_kept fd va len h.bytes row h.wants;
+    many = h.many;
+    kept = taken_kept h.bytes done row page h.kept;
+    silent = h.silent;
+    awake = h.awake;
+  }
+
+  keeping_kept : (fd va len done word left : ℕ) → w.row ≡ v.row → SameTaken v w → IsKeeping v k b fd va len done word left →
+      IsKeeping w kernel_slot environment fd va len done word left
+  keeping_kept fd va len done word left row page h = record {
+    bytes = h.bytes;
+    is_in = in_kept _ _ h.is_in;
+    given = given_kept fd va len row h.given;
+    many = h.many;
+    few = h.few;
+    some = h.some;
+    last = h.last;
+    word_is = h.word_is;
+    small = h.small;
+    allowed = ap (λ (r : EntryRow). refuses_next r (service.Write fd va len) (done + left - 1)) row ∙ h.allowed;
+    kept = taken_kept h.bytes done row page h.kept;
+  }
+
+  printing_kept : (fd va len : ℕ) → w.row ≡ v.row → SameTaken v w → IsPrinting v k b fd va len → IsPrinting w kernel_slot environment fd va len
+  printing_kept fd va len row page h = record {
+    bytes = h.bytes;
+    is_in = in_kept _ _ h.is_in;
+    given = given_kept fd va len row h.given;
+    many = h.many;
+    kept = taken_kept h.bytes (length h.bytes) row page h.kept;
+  }
+
+  delivering_kept : (s : Service) (at : ℕ) (bytes : List ℕ) (answer : ℕ) → IsDelivering k b s at bytes answer →
+      IsDelivering kernel_slot environment s at bytes answer
+  delivering_kept s at bytes answer h = record {
+    program = h.program;
+    phase = h.phase;
+    silent = h.silent;
+    awake = h.awake;
+    some = h.some;
+    inside = h.inside;
+    small = h.small;
+  }
+
+  delivery_kept : (s : Service) (done word : ℕ) → StandsDelivering s done word k b → StandsDelivering s done word kernel_slot environment
+  delivery_kept (service.Read fd va len) done word h = delivering_kept _ _ _ _ h
+  delivery_kept (service.Stat fd va) done word h = delivering_kept _ _ _ _ h
+  delivery_kept _ done word h = absurd h
+
+  putting_kept : (s : Service) (done word : ℕ) → w.row ≡ v.row → StandsPutting v.row s done word k b →
+      StandsPutting w.row s done word kernel_slot environment
+  putting_kept s done word row h =
+      (delivery_kept s done word h.0, subst (λ (r : EntryRow). is_refused_by true (r (next_page s done)) ≡ false) (sym row) h.1)
+
+  before_kept : {so so_after : Type 0} → (so → so_after) → (s : Service) (done word : ℕ) → w.row ≡ v.row → SameTaken v w →
+      StandsBefore so v k b s done word → StandsBefore so_after w kernel_slot environment s done word
+  before_kept so_too (service.Read fd va len) done word row page h = (delivering_kept _ _ _ _ h.0, so_too h.1)
+  before_kept so_too (service.Stat fd va) done word row page h = (delivering_kept _ _ _ _ h.0, so_too h.1)
+  before_kept so_too (service.Write fd va len) done word row page h = (taking_kept fd va len done row page h.0, so_too h.1)
+  before_kept so_too _ done word row page h = absurd h
+
+  -- who stands before a byte of a buffer keeps it in mind
+  before_minds : (so : Type 0) (s : Service) (at : Step) (done word : ℕ) → StandsBefore so v k b s done word →
+      minds_page (place.InService s at) ≡ true
+  before_minds so (service.Read fd va len) at done word h = refl
+  before_minds so (service.Stat fd va) at done word h = refl
+  before_minds so (service.Write fd va len) at done word h = refl
+  before_minds so _ at done word h = absurd h
+
+  device_minds : (s : Service) (at : Step) → StandsAtDevice v k b s (descriptor_given s) → minds_page (place.InService s at) ≡ true
+  device_minds (service.Read fd va len) at h = refl
+  device_minds (service.Write fd va len) at h = refl
+  device_minds (service.Seek fd offset) at h = refl
+  device_minds (service.Stat fd va) at h = refl
+  device_minds (service.SetSize fd size) at h = refl
+  device_minds _ at h = absurd h
+
   step_kept : (s : Service) (stands : Step) → KeepsRow (minds_page (place.InService s stands)) v.row w.row →
-      KeepsTables (minds_page (place.InService s stands)) v.tables w.tables → StandsAtStep v k b s stands →
-      StandsAtStep w kernel_slot environment s stands
-  step_kept s step.Entered row tables h = in_kept _ _ h
-  step_kept (service.Wait id) (step.Trying perm) row tables h = waiting_kept id h
-  step_kept (service.Wait id) (step.Pausing perm) row tables h = waiting_kept id h
-  step_kept (service.Send id value va) (step.Trying perm) row tables h = trying_kept id value va perm (row refl) h
-  step_kept (service.Send id value va) (step.Pausing perm) row tables h = trying_kept id value va perm (row refl) h
-  step_kept (service.Send id value va) step.ReadingRegion row tables h = looking_kept id value va h
-  step_kept (service.Send id value va) step.ReadingEntry row tables h = (looking_kept id value va h.0, tables refl (page_number va / NPTENTRIES) h.1)
-  step_kept (service.Receive va from) (step.Receiving id) row tables h = about_kept va from id h
-  step_kept (service.Receive va from) (step.ReadingValue id) row tables h = (h.0, waits_kept va from h.1)
-  step_kept (service.Receive va from) (step.ReadingSender id value) row tables h = (h.0, h.1, received_kept va from h.2)
-  step_kept (service.Receive va from) (step.ReadingPerm id value sender) row tables h = (h.0, h.1, h.2, received_kept va from h.3)
-  step_kept service.Fork (step.ForkRegion id region) row tables h = (in_kept _ _ h.0, h.1)
-  step_kept service.Fork (step.ForkEntry id page) row tables h = (in_kept _ _ h.0, h.1, tables refl (page / NPTENTRIES) h.2)
-  step_kept service.Fork (step.MapChild id page perm) row tables h = (in_kept _ _ h.0, mapping_kept page perm (row refl) h.1)
-  step_kept service.Fork (step.Remap id page) row tables h = (in_kept _ _ h.0, remapping_kept page (row refl) h.1)
-  step_kept service.Fork (step.ChildStack id) row tables h = in_kept _ _ h
-  step_kept service.Fork (step.ChildUpcall id) row tables h = in_kept _ _ h
-  step_kept service.Fork (step.ChildRuns id) row tables h = in_kept _ _ h
-  step_kept service.Exit (step.DescriptorEntry fd) row tables h =
+      KeepsTables (minds_page (place.InService s stands)) v.tables w.tables → KeepsPage (minds_page (place.InService s stands)) v w →
+      StandsAtStep v k b s stands → StandsAtStep w kernel_slot environment s stands
+  step_kept s step.Entered row tables taken h = in_kept _ _ h
+  step_kept s step.ReadingDevice row tables taken h = device_kept s (descriptor_given s) (row (device_minds s step.ReadingDevice h)) h
+  step_kept s (step.BufferRegion done word) row tables taken h =
+      let minds = before_minds _ s (step.BufferRegion done word) done word h in
+      before_kept (λ so. so) s done word (row minds) (taken minds) h
+  step_kept s (step.BufferEntry done word) row tables taken h =
+      let minds = before_minds _ s (step.BufferEntry done word) done word h in
+      before_kept (λ so. tables minds (region_index (buffer_of s + done)) so) s done word (row minds) (taken minds) h
+  step_kept s (step.Faulting done word) row tables taken h =
+      let minds = before_minds _ s (step.Faulting done word) done word h in
+      before_kept (λ so. ap (λ (r : EntryRow). refuses_next r s done) (row minds) ∙ so) s done word (row minds) (taken minds) h
+  step_kept (service.Read fd va len) (step.Delivering done word) row tables taken h = putting_kept (service.Read fd va len) done word (row refl) h
+  step_kept (service.Stat fd va) (step.Delivering done word) row tables taken h = putting_kept (service.Stat fd va) done word (row refl) h
+  step_kept (service.Read fd va len) (step.DescriptorEntry at) row tables taken h = looking_up_kept _ at fd (tables refl) h
+  step_kept (service.Write fd va len) (step.DescriptorEntry at) row tables taken h = looking_up_kept _ at fd (tables refl) h
+  step_kept (service.Seek fd offset) (step.DescriptorEntry at) row tables taken h = looking_up_kept _ at fd (tables refl) h
+  step_kept (service.Stat fd va) (step.DescriptorEntry at) row tables taken h = looking_up_kept _ at fd (tables refl) h
+  step_kept (service.SetSize fd size) (step.DescriptorEntry at) row tables taken h = looking_up_kept _ at fd (tables refl) h
+  step_kept (service.Read fd va len) step.Getting row tables taken h =
+      record { is_in = in_kept _ _ h.is_in; given = given_kept fd va len (row refl) h.given; some = h.some }
+  step_kept (service.Write fd va len) step.TakingPage row tables taken h = (in_kept _ _ h.0, given_kept fd va len (row refl) h.1, h.2)
+  step_kept (service.Write fd va len) (step.Gathering done) row tables taken h = (
+    taking_kept fd va len done (row refl) (taken refl) h.0,
+    ap (λ (r : EntryRow). refuses_next r (service.Write fd va len) done) (row refl) ∙ h.1,
+  )
+  step_kept (service.Write fd va len) (step.Keeping done word left) row tables taken h =
+      keeping_kept fd va len done word left (row refl) (taken refl) h
+  step_kept (service.Write fd va len) step.Printing row tables taken h = printing_kept fd va len (row refl) (taken refl) h
+  step_kept (service.Write fd va len) step.Releasing row tables taken h =
+      record { program = h.program; phase = h.phase; silent = h.silent; awake = h.awake }
+  step_kept (service.Wait id) (step.Trying perm) row tables taken h = waiting_kept id h
+  step_kept (service.Wait id) (step.Pausing perm) row tables taken h = waiting_kept id h
+  step_kept (service.Send id value va) (step.Trying perm) row tables taken h = trying_kept id value va perm (row refl) h
+  step_kept (service.Send id value va) (step.Pausing perm) row tables taken h = trying_kept id value va perm (row refl) h
+  step_kept (service.Send id value va) step.ReadingRegion row tables taken h = looking_kept id value va h
+  step_kept (service.Send id value va) step.ReadingEntry row tables taken h = (looking_kept id value va h.0, tables refl (page_number va / NPTENTRIES) h.1)
+  step_kept (service.Receive va from) (step.Receiving id) row tables taken h = about_kept va from id h
+  step_kept (service.Receive va from) (step.ReadingValue id) row tables taken h = (h.0, waits_kept va from h.1)
+  step_kept (service.Receive va from) (step.ReadingSender id value) row tables taken h = (h.0, h.1, received_kept va from h.2)
+  step_kept (service.Receive va from) (step.ReadingPerm id value sender) row tables taken h = (h.0, h.1, h.2, received_kept va from h.3)
+  step_kept service.Fork (step.ForkRegion id region) row tables taken h = (in_kept _ _ h.0, h.1)
+  step_kept service.Fork (step.ForkEntry id page) row tables taken h = (in_kept _ _ h.0, h.1, tables refl (page / NPTENTRIES) h.2)
+  step_kept service.Fork (step.MapChild id page perm) row tables taken h = (in_kept _ _ h.0, mapping_kept page perm (row refl) h.1)
+  step_kept service.Fork (step.Remap id page) row tables taken h = (in_kept _ _ h.0, remapping_kept page (row refl) h.1)
+  step_kept service.Fork (step.ChildStack id) row tables taken h = in_kept _ _ h
+  step_kept service.Fork (step.ChildUpcall id) row tables taken h = in_kept _ _ h
+  step_kept service.Fork (step.ChildRuns id) row tables taken h = in_kept _ _ h
+  step_kept service.Exit (step.DescriptorEntry fd) row tables taken h =
       (in_kept _ _ h.0, h.1, none_kept fd (row refl) h.2, tables refl (region_index FDTABLE) h.3)
-  step_kept service.Exit (step.DroppingDescriptor fd) row tables h =
+  step_kept service.Exit (step.DroppingDescriptor fd) row tables taken h =
       (in_kept _ _ h.0, h.1, none_kept fd (row refl) h.2, tables refl (region_index FDTABLE) h.3, open_kept fd (row refl) h.4)
-  step_kept service.Exit step.Ending row tables h = (in_kept _ _ h.0, none_kept DESCRIPTORS (row refl) h.1)
-  step_kept (service.Close fd) (step.DescriptorEntry at) row tables h =
+  step_kept service.Exit step.Ending row tables taken h = (in_kept _ _ h.0, none_kept DESCRIPTORS (row refl) h.1)
+  step_kept (service.Close fd) (step.DescriptorEntry at) row tables taken h =
       (in_kept _ _ h.0, h.1, h.2, tables refl (region_index FDTABLE) h.3)
-  step_kept (service.Close fd) (step.DroppingDescriptor at) row tables h = (in_kept _ _ h.0, h.1, h.2, open_kept fd (row refl) h.3)
-  step_kept (service.Dup old new) (step.DescriptorEntry at) row tables h =
+  step_kept (service.Close fd) (step.DroppingDescriptor at) row tables taken h = (in_kept _ _ h.0, h.1, h.2, open_kept fd (row refl) h.3)
+  step_kept (service.Dup old new) (step.DescriptorEntry at) row tables taken h =
       (in_kept _ _ h.0, h.1, h.2, tables refl (region_index FDTABLE) h.3)
-  step_kept (service.Dup old new) step.TargetEntry row tables h =
+  step_kept (service.Dup old new) step.TargetEntry row tables taken h =
       (in_kept _ _ h.0, duplicating_kept old new (row refl) h.1, tables refl (region_index FDTABLE) h.2)
-  step_kept (service.Dup old new) (step.DroppingDescriptor at) row tables h =
+  step_kept (service.Dup old new) (step.DroppingDescriptor at) row tables taken h =
       (in_kept _ _ h.0, h.1, duplicating_kept old new (row refl) h.2, tables refl (region_index FDTABLE) h.3, open_kept new (row refl) h.4)
-  step_kept (service.Dup old new) step.MappingDescriptor row tables h =
+  step_kept (service.Dup old new) step.MappingDescriptor row tables taken h =
       (in_kept _ _ h.0, duplicating_kept old new (row refl) h.1, tables refl (region_index FDTABLE) h.2, ap (λ (r : EntryRow). r (descriptor_page new)) (row refl) ∙ h.3)
-  step_kept _ _ row tables h = absurd h
+  step_kept _ _ row tables taken h = absurd h
+
+  beneath_kept : (regs : Regs) → w.row ≡ v.row → StandsBeneath v.row (record k { registers = regs }) b →
+      StandsBeneath w.row (record kernel_slot { registers = regs }) environment
+  beneath_kept regs row (at_program h) =
+      at_program (record { program = h.program; phase = h.phase; words = h.words; silent = h.silent; awake = h.awake })
+  beneath_kept regs row (in_delivery s done word at h) = in_delivery s done word at (
+    beneath_delivery s done word h.0,
+    subst (λ (r : EntryRow). is_refused_by true (r (next_page s done)) ≡ false) (sym row) h.1,
+  )
+    where
+      beneath_delivery : (s : Service) (done word : ℕ) → StandsDelivering s done word (record k { registers = regs }) b →
+          StandsDelivering s done word (record kernel_slot { registers = regs }) environment
+      beneath_delivery (service.Read fd va len) done word h =
+          record { program = h.program; phase = h.phase; silent = h.silent; awake = h.awake; some = h.some; inside = h.inside; small = h.small }
+      beneath_delivery (service.Stat fd va) done word h =
+          record { program = h.program; phase = h.phase; silent = h.silent; awake = h.awake; some = h.some; inside = h.inside; small = h.small }
+      beneath_delivery _ done word h = absurd h
+
+  stopped_kept : (write : Bool) (va ip : ℕ) → w.row ≡ v.row → IsStoppedAt write v.row b va ip → IsStoppedAt write w.row environment va ip
+  stopped_kept write va ip row (marked phase) = marked phase
+  stopped_kept write va ip row (reading fd buffer len bytes answer writes phase some) = reading fd buffer len bytes answer writes phase some
+  stopped_kept write va ip row (telling fd buffer bytes answer writes phase some) = telling fd buffer bytes answer writes phase some
+  stopped_kept write va ip row (writing fd buffer len bytes reads wants there) =
+      writing fd buffer len bytes reads (wants_kept fd buffer len bytes row wants) there
 
   way_kept : ViewAlike v w → (h : HandlerStep) (fault : PageFault) (regs : Regs) → CopiesOrEnds h v k b fault regs →
       CopiesOrEnds h w kernel_slot environment fault regs
   way_kept same h fault regs (copies way) = copies (record {
-    guest = record { program = way.guest.program; phase = way.guest.phase; words = way.guest.words; silent = way.guest.silent; awake = way.guest.awake };
+    beneath = beneath_kept regs same.row way.beneath;
     error = way.error;
     inside = way.inside;
     at = copies_kept v w same h fault.va way.at;
   })
   way_kept same h fault regs (ends way) = ends (record {
     program = way.program;
-    phase = way.phase;
-    words = way.words;
+    stopped = stopped_kept (is_write fault.error) fault.va regs.eip same.row way.stopped;
     silent = way.silent;
     awake = way.awake;
     inside = way.inside;
@@ -326,34 +503,37 @@ module _ (v w : View) (k : Slot) (b : Born) (status : Status) (runs : ℕ) (memo
 
   pub at_kept : (stands : Place) → KeptAt stands v w → StandsAt stands v k b → StandsAt stands w kernel_slot environment
   at_kept place.Guest kept h = guest_kept h
-  at_kept (place.InService s stands) kept h = step_kept s stands kept.0 kept.1 h
+  at_kept (place.InService s stands) kept h = step_kept s stands kept.0 kept.1 kept.2 h
   at_kept (place.InHandler stands) kept h = handler_kept kept stands h
 
 -- ---- the library's pages
 
 -- by the same row
-pub library_alike : (at : Place) (row after : EntryRow) → after ≡ row → LibraryPages at row → LibraryPages at after
-library_alike at row after same h = subst (λ (r : EntryRow). LibraryPages at r) (sym same) h
+pub library_alike : (at : Place) (words : List ℕ) (row after : EntryRow) → after ≡ row → LibraryPages at words row → LibraryPages at words after
+library_alike at words row after same h = subst (λ (r : EntryRow). LibraryPages at words r) (sym same) h
 
 own_alike : (row after : EntryRow) (p : ℕ) → after p ≡ row p → IsOwnWritable row p → IsOwnWritable after p
 own_alike row after p same h = record { entry = h.entry; stands = same ∙ h.stands; own_page = h.own_page; writes = h.writes }
 
 -- A page that a program may have can be another.
-pub library_put : (at : Place) (row after : EntryRow) (p : ℕ) → is_programs p ≡ true → ((q : ℕ) → q ≢ p → after q ≡ row q) →
-    LibraryPages at row → LibraryPages at after
-library_put at row after p inside same h =
+pub library_put : (at : Place) (words : List ℕ) (row after : EntryRow) (p : ℕ) → is_programs p ≡ true → ((q : ℕ) → q ≢ p → after q ≡ row q) →
+    LibraryPages at words row → LibraryPages at words after
+library_put at words row after p inside same h =
     let beside = programs_beside p inside in
     let copy_same : after (page_number PFTEMP) ≡ row (page_number PFTEMP) = same _ (λ e. beside.0 (sym e)) in
+    let working_same : after (page_number UTEMP) ≡ row (page_number UTEMP) = same _ (λ e. beside.2 (sym e)) in
     record {
       stack = own_alike row after _ (same _ (λ e. beside.1 (sym e))) h.stack;
       copy = λ is. own_alike row after _ copy_same (h.copy is);
       no_copy = λ is. copy_same ∙ h.no_copy is;
+      working = λ is. own_alike row after _ working_same (h.working is);
+      no_working = λ is. working_same ∙ h.no_working is;
       descriptors = λ q entry is stands.
           h.descriptors q entry is
           (sym (same q (λ e. absurd (let contradiction : true ≡ false = sym is ∙ ap is_descriptor e ∙ programs_no_descriptor p inside in cc))) ∙ stands);
-      none = λ q outside no_descriptor no_stack no_copy.
+      none = λ q outside no_descriptor no_stack no_copy no_working.
           same q (λ e. absurd (let contradiction : false ≡ true = sym outside ∙ ap is_programs e ∙ inside in cc))
-          ∙ h.none q outside no_descriptor no_stack no_copy;
+          ∙ h.none q outside no_descriptor no_stack no_copy no_working;
     }
 
 -- ---- what is seen of a space
@@ -409,22 +589,22 @@ pub descriptor_alike : {names after : Names} {s t : SpacesState} {d : ℕ} → S
 descriptor_alike {names = names} {after = after} {s = s} {t = t} {d = d} h fd =
     descriptor_shown names after s t d fd (shown_alike h (descriptor_page fd))
 
--- no page that a program may have is that of one of the descriptors
-pub descriptor_beside : (p fd : ℕ) → is_programs p ≡ true → nat_lt fd DESCRIPTORS ≡ true → descriptor_page fd ≢ p
-descriptor_beside p fd inside below same =
-    let none : is_descriptor p ≡ false = programs_no_descriptor p inside in
-    let one : is_descriptor (descriptor_page fd) ≡ true = grind (arith, nat_tests) in
-    let contradiction : true ≡ false = sym one ∙ ap is_descriptor same ∙ none in cc
-
--- where what is shown differs at one page of a program's alone
-pub descriptors_beside : (names after : Names) (s t : SpacesState) (d p : ℕ) → is_programs p ≡ true →
+-- all of them, where what is shown differs at one page alone that is none of theirs
+pub descriptors_off : (names after : Names) (s t : SpacesState) (d p : ℕ) → is_descriptor p ≡ false →
     ((q : ℕ) → q ≢ p → shown_at after t d q ≡ shown_at names s d q) → (fd : ℕ) → descriptor_seen after t d fd ≡ descriptor_seen names s d fd
-descriptors_beside names after s t d p inside there fd = by_test (nat_lt fd DESCRIPTORS) refl
+descriptors_off names after s t d p none there fd = by_test (nat_lt fd DESCRIPTORS) refl
   where
     by_test : (c : Bool) → nat_lt fd DESCRIPTORS ≡ c →
         (if c then name_of (shown_at after t d (descriptor_page fd)) else None) ≡ (if c then name_of (shown_at names s d (descriptor_page fd)) else None)
-    by_test true below = ap name_of (there (descriptor_page fd) (descriptor_beside p fd inside below))
+    by_test true below =
+        let one : is_descriptor (descriptor_page fd) ≡ true = grind (arith, nat_tests) in
+        ap name_of (there (descriptor_page fd) (λ here. let contradiction : true ≡ false = sym one ∙ ap is_descriptor here ∙ none in cc))
     by_test false below = refl
+
+-- as a page of a program's is
+pub descriptors_beside : (names after : Names) (s t : SpacesState) (d p : ℕ) → is_programs p ≡ true →
+    ((q : ℕ) → q ≢ p → shown_at after t d q ≡ shown_at names s d q) → (fd : ℕ) → descriptor_seen after t d fd ≡ descriptor_seen names s d fd
+descriptors_beside names after s t d p inside there fd = descriptors_off names after s t d p (programs_no_descriptor p inside) there fd
 
 pub born_stands : {names after : Names} {s t : SpacesState} (k : Slot) (b : Born) → SeenAlike names after s t k.directory →
     StandsForBorn names s k b → StandsForBorn after t k b
@@ -437,7 +617,7 @@ born_stands {names = names} {after = after} {s = s} {t = t} k b same h = record 
   upcall = h.upcall;
   descriptors = λ fd. h.descriptors fd ∙ sym (descriptor_alike same fd);
   memory = λ p. h.memory p ∙ sym (seen_alike same p);
-  library = library_alike (place_of k) (rows_of s k.directory) (rows_of t k.directory) same.rows h.library;
+  library = library_alike (place_of k) k.extra (rows_of s k.directory) (rows_of t k.directory) same.rows h.library;
   regions_have = λ r has_it. same.regions r ∙ h.regions_have r has_it;
   regions_only = λ r table. h.regions_only r (sym (same.regions r) ∙ table);
   stack = h.stack;
@@ -546,7 +726,7 @@ pub record HasTables (s : SpacesState) (d : ℕ) (regions : ℕ → Bool) : Type
 pub page_put : (names after : Names) (s t : SpacesState) (k : Slot) (b : Born) (p : ℕ) (page : Option Page) (regions : ℕ → Bool) →
     StandsForBorn names s k b → is_programs p ≡ true → page ≡ page_seen after t k.directory p →
     ((q : ℕ) → q ≢ p → shown_at after t k.directory q ≡ shown_at names s k.directory q) →
-    LibraryPages (place_of k) (rows_of t k.directory) → HasTables t k.directory regions →
+    LibraryPages (place_of k) k.extra (rows_of t k.directory) → HasTables t k.directory regions →
     KeptAt (place_of k) (view_of s k.directory) (view_of t k.directory) →
     StandsForBorn after t k (record b { memory = upd b.memory p page; regions = regions })
 page_put names after s t k b p page regions h inside here there library tables kept = record {

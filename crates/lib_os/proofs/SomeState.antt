@@ -68,6 +68,7 @@ program_fits = record {
   stack_page = record { entry = record { frame = 25; perm = 7 }; stands = refl; own_page = refl; writes = refl };
   copy = λ has. absurd (let contradiction : false ≡ true = has in cc);
   no_copy = λ none. refl;
+  no_working = refl;
   stack = refl;
   flags = refl;
   stands = record { program = refl; phase = refl; words = refl; silent = refl; awake = refl };

@@ -28,6 +28,7 @@ use Rattle.lib_os.proofs.Serving.{library_moved}
 use Rattle.lib_os.proofs.Slots.{registers_put, slot_put}
 use Rattle.lib_os.proofs.SlotsSet.{set_twice}
 use Rattle.lib_os.proofs.StatesStand.{plain_alike, slot_replaced}
+use Rattle.lib_os.proofs.Working.{words_work}
 
 -- ---- the call
 
@@ -88,8 +89,7 @@ module _ {names : Names} {s : KernelState} {a : AbstractState} (h : StandsFor na
     ends_there : Ends to view after v.b v.at.fault v.at.regs
     ends_there = record {
       program = way.program;
-      phase = way.phase;
-      words = way.words;
+      stopped = way.stopped;
       silent = way.silent;
       awake = way.awake;
       inside = way.inside;
@@ -119,8 +119,8 @@ module _ {names : Names} {s : KernelState} {a : AbstractState} (h : StandsFor na
       upcall = sym (ap upcall_at there);
       descriptors = v.own.descriptors;
       memory = v.own.memory;
-      library = library_moved (place_of k) (place_of after) (rows_of s.spaces k.directory)
-          (ap has_copy stands ∙ sym (ap has_copy there)) v.own.library;
+      library = library_moved (place_of k) (place_of after) k.extra k.extra (rows_of s.spaces k.directory)
+          (ap has_copy stands ∙ sym (ap has_copy there)) (words_work k (handler_registers k.registers to)) v.own.library;
       regions_have = v.own.regions_have;
       regions_only = v.own.regions_only;
       stack = ap (λ (c : Bool). c || not (is_resident (handler_registers k.registers to).esp)) (ap is_handlers (esp_kept k.registers to) ∙ v.inside);

@@ -20,10 +20,11 @@ use Rattle.lib_os.specs.AbstractState.{AbstractState, Born, born, Phase, entered
 use Rattle.lib_os.specs.AbstractMessages.{Receiver, waiting_at, waiting_in, takes, sent, sent_to_waiting}
 use Rattle.lib_os.specs.LibraryPages.{View}
 use Rattle.lib_os.specs.Places.{place_of}
-use Rattle.lib_os.specs.Rows.{Names}
+use Rattle.lib_os.specs.Rows.{EntryRow, Names}
 use Rattle.lib_os.specs.StandsFor.{StandsFor, StandsAt, StandsAtStep, view_of, IsIn, IsReceiving, HasReceived, IsBearing}
-use Rattle.lib_os.specs.StandsFor.{WaitsOrHas, waits, has, destination_of}
-use Rattle.lib_os.specs.StandsInHandler.{CopiesOrEnds, copies, ends}
+use Rattle.lib_os.specs.StandsFor.{WaitsOrHas, waits, has, destination_of, StandsAtDevice, StandsBefore, IsTaking, descriptor_given}
+use Rattle.lib_os.specs.StandsInHandler.{CopiesOrEnds, copies, ends, StandsDelivering, StandsBeneath, at_program, in_delivery}
+use Rattle.lib_os.specs.StandsInHandler.{IsStoppedAt, marked, reading, telling, writing}
 use Rattle.lib_os.proofs.SlotsStand.{born_at}
 
 -- ---- at each place
@@ -54,9 +55,47 @@ bearing_silent id h = record { silent = h.silent; nowhere = ap (λ (p : Phase). 
 has_come : {k : Slot} {c : Born} {va from : ℕ} → HasReceived k c va from → WaitsNot k c
 has_come h = record { silent = h.silent; nowhere = ap (λ (p : Phase). waiting_in p) h.phase }
 
+-- it moves bytes
+delivers : {k : Slot} {c : Born} (s : Service) (done word : ℕ) → StandsDelivering s done word k c → WaitsNot k c
+delivers (service.Read fd va len) done word h = record { silent = h.silent; nowhere = ap (λ (p : Phase). waiting_in p) h.phase }
+delivers (service.Stat fd va) done word h = record { silent = h.silent; nowhere = ap (λ (p : Phase). waiting_in p) h.phase }
+delivers _ done word h = absurd h
+
+takes_bytes : {v : View} {k : Slot} {c : Born} (fd va len done : ℕ) → IsTaking v k c fd va len done → WaitsNot k c
+takes_bytes fd va len done h = record { silent = h.silent; nowhere = ap (λ (p : Phase). waiting_in p) h.wants.phase }
+
+before_byte : (so : Type 0) (v : View) {k : Slot} {c : Born} (s : Service) (done word : ℕ) → StandsBefore so v k c s done word → WaitsNot k c
+before_byte so v (service.Read fd va len) done word h = delivers (service.Read fd va len) done word h.0
+before_byte so v (service.Stat fd va) done word h = delivers (service.Stat fd va) done word h.0
+before_byte so v (service.Write fd va len) done word h = takes_bytes fd va len done h.0
+before_byte so v _ done word h = absurd h
+
+at_device : (v : View) {k : Slot} {c : Born} (s : Service) (o : Option ℕ) → StandsAtDevice v k c s o → WaitsNot k c
+at_device v s None h = absurd h
+at_device v s (Some fd) h = in_silence s h.is_in
+
 at_step : (v : View) (k : Slot) (c : Born) (s : Service) (stands : Step) → StandsAtStep v k c s stands →
     WaitsNot k c ⊎ Waits (place.InService s stands) k c
 at_step v k c s step.Entered h = inl (in_silence s h)
+at_step v k c s step.ReadingDevice h = inl (at_device v s (descriptor_given s) h)
+at_step v k c s (step.BufferRegion done word) h = inl (before_byte _ v s done word h)
+at_step v k c s (step.BufferEntry done word) h = inl (before_byte _ v s done word h)
+at_step v k c s (step.Faulting done word) h = inl (before_byte _ v s done word h)
+at_step v k c (service.Read fd va len) (step.Delivering done word) h = inl (delivers (service.Read fd va len) done word h.0)
+at_step v k c (service.Stat fd va) (step.Delivering done word) h = inl (delivers (service.Stat fd va) done word h.0)
+at_step v k c (service.Read fd va len) (step.DescriptorEntry at) h = inl (in_silence _ h.is_in)
+at_step v k c (service.Write fd va len) (step.DescriptorEntry at) h = inl (in_silence _ h.is_in)
+at_step v k c (service.Seek fd offset) (step.DescriptorEntry at) h = inl (in_silence _ h.is_in)
+at_step v k c (service.Stat fd va) (step.DescriptorEntry at) h = inl (in_silence _ h.is_in)
+at_step v k c (service.SetSize fd size) (step.DescriptorEntry at) h = inl (in_silence _ h.is_in)
+at_step v k c (service.Read fd va len) step.Getting h = inl (in_silence _ h.is_in)
+at_step v k c (service.Write fd va len) step.TakingPage h = inl (in_silence _ h.0)
+at_step v k c (service.Write fd va len) (step.Gathering done) h = inl (takes_bytes fd va len done h.0)
+at_step v k c (service.Write fd va len) (step.Keeping done word left) h =
+    inl (record { silent = h.is_in.silent; nowhere = ap (λ (p : Phase). waiting_in p) h.is_in.phase })
+at_step v k c (service.Write fd va len) step.Printing h =
+    inl (record { silent = h.is_in.silent; nowhere = ap (λ (p : Phase). waiting_in p) h.is_in.phase })
+at_step v k c (service.Write fd va len) step.Releasing h = inl (record { silent = h.silent; nowhere = ap (λ (p : Phase). waiting_in p) h.phase })
 at_step v k c (service.Wait id) (step.Trying perm) h = inl (in_silence _ h.is_in)
 at_step v k c (service.Wait id) (step.Pausing perm) h = inl (in_silence _ h.is_in)
 at_step v k c (service.Send id value va) (step.Trying perm) h = inl (in_silence _ h.is_in)
@@ -90,10 +129,20 @@ at_step v k c (service.Dup old new) step.MappingDescriptor h = inl (in_silence _
 at_step v k c _ _ h = absurd h
 
 -- its page is copied, or it is on the way to its end
+beneath_handler : {row : EntryRow} {k : Slot} {c : Born} → StandsBeneath row k c → WaitsNot k c
+beneath_handler (at_program h) = record { silent = h.silent; nowhere = ap (λ (p : Phase). waiting_in p) h.phase }
+beneath_handler (in_delivery s done word at h) = delivers s done word h.0
+
+stopped_nowhere : {write : Bool} {row : EntryRow} {c : Born} {va ip : ℕ} → IsStoppedAt write row c va ip → waiting_in c.phase ≡ None
+stopped_nowhere (marked phase) = ap (λ (p : Phase). waiting_in p) phase
+stopped_nowhere (reading fd buffer len bytes answer writes phase some) = ap (λ (p : Phase). waiting_in p) phase
+stopped_nowhere (telling fd buffer bytes answer writes phase some) = ap (λ (p : Phase). waiting_in p) phase
+stopped_nowhere (writing fd buffer len bytes reads wants there) = ap (λ (p : Phase). waiting_in p) wants.phase
+
 in_handler : (stands : HandlerStep) (v : View) {k : Slot} {c : Born} (fault : PageFault) (regs : Regs) →
     CopiesOrEnds stands v k c fault regs → WaitsNot k c
-in_handler stands v fault regs (copies way) = record { silent = way.guest.silent; nowhere = ap (λ (p : Phase). waiting_in p) way.guest.phase }
-in_handler stands v fault regs (ends way) = record { silent = way.silent; nowhere = ap (λ (p : Phase). waiting_in p) way.phase }
+in_handler stands v fault regs (copies way) = let off = beneath_handler way.beneath in record { silent = off.silent; nowhere = off.nowhere }
+in_handler stands v fault regs (ends way) = record { silent = way.silent; nowhere = stopped_nowhere way.stopped }
 
 pub waits_or_not : (p : Place) (v : View) (k : Slot) (c : Born) → StandsAt p v k c → WaitsNot k c ⊎ Waits p k c
 waits_or_not place.Guest v k c h = inl (record { silent = h.silent; nowhere = ap (λ (p : Phase). waiting_in p) h.phase })

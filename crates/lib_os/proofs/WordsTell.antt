@@ -46,6 +46,17 @@ place_at regs number at outside =
     by_step (step.DroppingDescriptor fd) some back = rw (outside, some, back) refl
     by_step step.MappingDescriptor some back = rw (outside, some, back) refl
     by_step step.Ending some back = rw (outside, some, back) refl
+    by_step step.ReadingDevice some back = rw (outside, some, back) refl
+    by_step (step.BufferRegion done word) some back = rw (outside, some, back) refl
+    by_step (step.BufferEntry done word) some back = rw (outside, some, back) refl
+    by_step step.TakingPage some back = rw (outside, some, back) refl
+    by_step (step.Gathering done) some back = rw (outside, some, back) refl
+    by_step (step.Keeping done word left) some back = rw (outside, some, back) refl
+    by_step step.Printing some back = rw (outside, some, back) refl
+    by_step step.Releasing some back = rw (outside, some, back) refl
+    by_step step.Getting some back = rw (outside, some, back) refl
+    by_step (step.Delivering done word) some back = rw (outside, some, back) refl
+    by_step (step.Faulting done word) some back = rw (outside, some, back) refl
 
 -- ---- the handler's registers
 
@@ -73,7 +84,7 @@ handler_at regs words (handler.Touching va error ip) there small = rw there refl
 
 -- ---- who runs, by the place
 
-by_esp : (esp : Bool) (words : Bool) (inside : HandlerStep) (call : Service) (at : Step) (P : Place → Type 0) →
+pub by_esp : (esp : Bool) (words : Bool) (inside : HandlerStep) (call : Service) (at : Step) (P : Place → Type 0) →
     (esp ≡ false → words ≡ true → P place.Guest) → (esp ≡ false → words ≡ false → P (place.InService call at)) → (esp ≡ true → P (place.InHandler inside)) →
     P (if esp then place.InHandler inside else if words then place.Guest else place.InService call at)
 by_esp true words inside call at P guest_is service_is handler_is = handler_is refl

@@ -145,9 +145,13 @@ abbrev pub set_size_step : AbstractState → ℕ → Born → Regs → Service �
 set_size_step a n b regs service fd size entered = set_size_begun a n b regs service size (object_of a b fd)
 set_size_step a n b regs service fd size stage = after_asking a n b regs service 0 stage
 
+-- what stat tells of the console
+abbrev pub terminal_stat : List ℕ
+terminal_stat = stat_bytes (codes "<cons>") 0 FTYPE_REG
+
 abbrev pub stat_object : AbstractState → ℕ → Born → Regs → Service → ℕ → Object → Option AbstractState
 stat_object a n b regs service va (file f) = ask a n b service (act (stat_file f.way) None)
-stat_object a n b regs service va terminal = Some (handed_back a n b regs service va (stat_bytes (codes "<cons>") 0 FTYPE_REG) 0)
+stat_object a n b regs service va terminal = Some (handed_back a n b regs service va terminal_stat 0)
 stat_object a n b regs service va (read_end pipe) =
     Some (handed_back a n b regs service va (stat_bytes (codes "<pipe>") (length (a.pipes pipe)) FTYPE_REG) 0)
 stat_object a n b regs service va (write_end pipe) =

@@ -1,7 +1,7 @@
 -- What a slot's environment has in memory, as the library sees it: the pages that it keeps beside those of the program, and the
 -- frame of a page fault on the stack of its handler.
 -- (MIT 6.828, inc/memlayout.h, and lib/pfentry.S.)
-use Rattle.std.specs.Prelude.{◌≡◌, ◌≢◌, ◌<◌, ℕ, ◌+◌, ◌-◌, ◌/◌, ◌==◌, ◌||◌, Bool, true, false, List, None, Some}
+use Rattle.std.specs.Prelude.{◌≡◌, ◌≢◌, ◌<◌, ℕ, ◌+◌, ◌-◌, ◌/◌, ◌==◌, ◌&&◌, ◌||◌, Bool, true, false, List, None, Some}
 use Rattle.std.specs.Prelude.{slice_index}
 use Rattle.jos_base.specs.declared.memory.PageFault.{PageFault}
 use Rattle.jos_base.specs.declared.numbers.TheConstants.{FDTABLE, NPTENTRIES, PGSIZE, USTACKTOP, UTEMP, UXSTACKTOP}
@@ -10,10 +10,14 @@ use Rattle.jos_base.specs.Reach.{Entry}
 use Rattle.jos_base.specs.SystemCalls.{has_write}
 use Rattle.jos_base.specs.TrapFrames.{frame_bytes, frame_size}
 use Rattle.jos_base.specs.Words.{page_number}
-use Rattle.lib_os.specs.declared.numbers.TheConstants.{PFTEMP, UXSTACK}
+use Rattle.lib_os.specs.declared.numbers.TheConstants.{PFTEMP, SERVICE_WRITE, UXSTACK}
 use Rattle.lib_os.specs.declared.place.HandlerStep.TheVariants as handler
 use Rattle.lib_os.specs.declared.place.Place.{Place}
 use Rattle.lib_os.specs.declared.place.Place.TheVariants as place
+use Rattle.lib_os.specs.declared.place.Step.{Step}
+use Rattle.lib_os.specs.declared.place.Step.TheVariants as step
+use Rattle.lib_os.specs.declared.service.Service.TheVariants as service
+use Rattle.lib_os.specs.Places.{service_word, step_in}
 use Rattle.lib_os.specs.Rows.{EntryRow, descriptor_perm, is_descriptor, is_programs, is_shared}
 
 -- ---- regions
@@ -51,14 +55,38 @@ has_copy (place.InHandler (handler.MappingOver va)) = true
 has_copy (place.InHandler (handler.Unmapping va)) = true
 has_copy _ = false
 
--- Beside the pages that a program may have there are those of its descriptors, the stack of the handler of page faults, and, while it
--- copies, the copy.
-pub record LibraryPages (at : Place) (row : EntryRow) : Type 0 where
+-- write has a page at UTEMP in which it keeps the bytes of its buffer, from when it has taken it until it gives it back
+abbrev pub keeps_page : Step → Bool
+keeps_page (step.BufferRegion done word) = true
+keeps_page (step.BufferEntry done word) = true
+keeps_page (step.Gathering done) = true
+keeps_page (step.Keeping done word left) = true
+keeps_page step.Printing = true
+keeps_page step.Releasing = true
+keeps_page (step.Faulting done word) = true
+keeps_page _ = false
+
+-- the same beneath the handler of page faults, by the words that are kept for the service
+abbrev pub keeps_page_beneath : List ℕ → Bool
+keeps_page_beneath words = (service_word words == SERVICE_WRITE + 1) && keeps_page (step_in words)
+
+-- there is such a page
+abbrev pub has_working : Place → List ℕ → Bool
+has_working (place.InService (service.Write fd va len) at) words = keeps_page at
+has_working (place.InHandler at) words = keeps_page_beneath words
+has_working _ words = false
+
+-- Beside the pages that a program may have there are those of its descriptors, the stack of the handler of page faults, while that
+-- copies, the copy, and the page in which a service keeps what it moves.
+pub record LibraryPages (at : Place) (words : List ℕ) (row : EntryRow) : Type 0 where
   pub stack : IsOwnWritable row (page_number UXSTACK)
   pub copy : has_copy at ≡ true → IsOwnWritable row (page_number PFTEMP)
   pub no_copy : has_copy at ≡ false → row (page_number PFTEMP) ≡ None
   pub descriptors : (p : ℕ) (entry : Entry) → is_descriptor p ≡ true → row p ≡ Some entry → entry.perm ≡ descriptor_perm
-  pub none : (p : ℕ) → is_programs p ≡ false → is_descriptor p ≡ false → p ≢ page_number UXSTACK → p ≢ page_number PFTEMP → row p ≡ None
+  pub working : has_working at words ≡ true → IsOwnWritable row (page_number UTEMP)
+  pub no_working : has_working at words ≡ false → row (page_number UTEMP) ≡ None
+  pub none : (p : ℕ) → is_programs p ≡ false → is_descriptor p ≡ false → p ≢ page_number UXSTACK → p ≢ page_number PFTEMP →
+      p ≢ page_number UTEMP → row p ≡ None
 
 -- ---- the frame of a page fault
 

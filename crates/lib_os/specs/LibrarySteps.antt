@@ -102,7 +102,7 @@ frames_asked number =
 
 -- How many frames a step may take from the list, by where its environment stands: fork takes one for the child's directory, one for a
 -- table of the child's with each page that it maps there, and two for the child's stack; the handler takes two for a page and its table;
--- page_new takes as many, and a message that is tried one, for a table of the page that goes with it. A page that is mapped over another
+-- write and page_new take as many, and a message that is tried one, for a table of the page that goes with it. A page that is mapped over another
 -- takes none, since its table is there; a step of a program takes none, and so does each other step.
 abbrev pub frames_at : Place → ℕ
 frames_at (place.InService (service.PageNew va flags) at) = 2
@@ -111,6 +111,7 @@ frames_at (place.InService (service.Wait id) (step.Trying perm)) = 1
 frames_at (place.InService service.Fork step.Entered) = 1
 frames_at (place.InService service.Fork (step.MapChild id page perm)) = 1
 frames_at (place.InService service.Fork (step.ChildStack id)) = 2
+frames_at (place.InService (service.Write fd va len) step.TakingPage) = 2
 frames_at (place.InHandler (handler.Taking va)) = 2
 frames_at _ = 0
 
@@ -142,10 +143,19 @@ KeepsUses n before after =
 
 -- ---- the number that falls
 
--- How many hidden steps a service may still make, at most, from a step on. (fork makes three for each page that is there, at most,
--- and one for each region; exit looks at each descriptor.)
+-- more than the steps in which a page is copied, with that of the fault
+abbrev pub copy_steps : ℕ
+copy_steps = 2070
+
+-- and more than those of all pages
+abbrev pub most_copy_steps : ℕ
+most_copy_steps = copy_steps * page_limit
+
+-- How many hidden steps a service may still make, at most, from a step on, beside those in which pages are copied. (fork makes three for
+-- each page that is there, at most, and one for each region; exit looks at each descriptor; and one that has moved bytes to or from the
+-- program's memory may go on there with any number of pages that wait to be copied.)
 abbrev pub steps_left : Step → ℕ
-steps_left step.Entered = 40
+steps_left step.Entered = most_copy_steps + 2120
 steps_left step.ReadingRegion = 9
 steps_left step.ReadingEntry = 8
 steps_left (step.Pausing perm) = 7
@@ -162,30 +172,45 @@ steps_left (step.ChildStack id) = 3
 steps_left (step.ChildUpcall id) = 2
 steps_left (step.ChildRuns id) = 1
 steps_left (step.Undoing id error) = 1
-steps_left (step.DescriptorEntry fd) = (DESCRIPTORS - fd % DESCRIPTORS) + 4
+steps_left (step.DescriptorEntry fd) = most_copy_steps + 2080 + (DESCRIPTORS - fd % DESCRIPTORS)
 steps_left step.TargetEntry = 4
 steps_left (step.DroppingDescriptor fd) = 3
 steps_left step.MappingDescriptor = 2
 steps_left step.Ending = 1
+steps_left step.ReadingDevice = most_copy_steps + 2074
+steps_left step.TakingPage = most_copy_steps + 2073
+steps_left (step.Keeping done word left) = most_copy_steps + 2073 + left
+steps_left (step.BufferRegion done word) = most_copy_steps + 2072
+steps_left (step.BufferEntry done word) = most_copy_steps + 2071
+steps_left (step.Gathering done) = 4
+steps_left step.Printing = 3
+steps_left step.Getting = 3
+steps_left (step.Delivering done word) = 5
+steps_left (step.Faulting done word) = 2070
+steps_left step.Releasing = 1
 
--- The same of the handler of page faults, for one fault: a page is loaded and stored word by word.
+-- those behind which pages are copied: read and stat put their bytes into the program's memory, an access raises the fault that ends the
+-- environment, and the program goes on
+abbrev pub counts_copies : Step → Bool
+counts_copies (step.Delivering done word) = true
+counts_copies (step.Faulting done word) = true
+counts_copies step.Releasing = true
+counts_copies _ = false
+
+-- The same of the handler of page faults, for one fault, with those of a service beneath it: a page is loaded and stored word by word.
 abbrev pub handler_steps_left : HandlerStep → ℕ
-handler_steps_left handler.Entered = 2055
-handler_steps_left (handler.ReadingError va) = 2054
-handler_steps_left (handler.Looking va) = 2053
-handler_steps_left (handler.Taking va) = 2052
-handler_steps_left (handler.Loading va index) = 2 * (PAGE_WORDS - index) + 3
-handler_steps_left (handler.Storing va index word) = 2 * (PAGE_WORDS - index) + 2
-handler_steps_left (handler.MappingOver va) = 3
-handler_steps_left (handler.Unmapping va) = 2
-handler_steps_left handler.Restoring = 1
+handler_steps_left handler.Entered = 2065
+handler_steps_left (handler.ReadingError va) = 2064
+handler_steps_left (handler.Looking va) = 2063
+handler_steps_left (handler.Taking va) = 2062
+handler_steps_left (handler.Loading va index) = 2 * (PAGE_WORDS - index) + 13
+handler_steps_left (handler.Storing va index word) = 2 * (PAGE_WORDS - index) + 12
+handler_steps_left (handler.MappingOver va) = 13
+handler_steps_left (handler.Unmapping va) = 12
+handler_steps_left handler.Restoring = 11
 handler_steps_left (handler.ReadingIp va error) = 3
 handler_steps_left (handler.Unsetting va error ip) = 2
 handler_steps_left (handler.Touching va error ip) = 1
-
--- more than the steps in which a page is copied, with that of the fault
-abbrev pub copy_steps : ℕ
-copy_steps = 2060
 
 abbrev pub is_to_copy : Option Entry → Bool
 is_to_copy None = false
@@ -203,23 +228,21 @@ other_copies _ copies = copies - 1
 
 abbrev pub left_at : Place → ℕ → ℕ
 left_at place.Guest copies = copy_steps * copies
-left_at (place.InService s step) copies = steps_left step
+left_at (place.InService s step) copies = steps_left step + (if counts_copies step then copy_steps * copies else 0)
 left_at (place.InHandler step) copies = handler_steps_left step + copy_steps * other_copies step copies
 
 -- How many hidden steps the environment in slot n may still make, at most, before one that is seen.
 abbrev pub hidden_left : KernelState → ℕ → ℕ
 hidden_left s n = left_at (place_of (slot_at s n)) (copies_left (rows_of s.spaces (slot_at s n).directory))
 
--- A hidden step lowers the number: that of a service whatever the state stands for, that of a program and of the handler where
--- it stands for an abstract one and nothing was refused.
-abbrev pub LowersAt : Place → ℕ → KernelState → KernelState → Type 0
-LowersAt (place.InService s step) n before after = hidden_left after n < hidden_left before n
-LowersAt _ n before after =
+-- A hidden step lowers the number, where the state stands for an abstract one and nothing was refused.
+abbrev pub LowersNumber : ℕ → KernelState → KernelState → Type 0
+LowersNumber n before after =
     (a : AbstractState) → Stands before a → NothingRefused before after → hidden_left after n < hidden_left before n
 
 -- One that waits is followed by one that gives up the turn.
 abbrev pub Lowers : Result Progress Failed → ℕ → KernelState → KernelState → Type 0
-Lowers (Ok progress.Hidden) n before after = LowersAt (place_of (slot_at before n)) n before after
+Lowers (Ok progress.Hidden) n before after = LowersNumber n before after
 Lowers (Ok progress.Waited) n before after = is_pausing (place_of (slot_at after n)) ≡ true
 Lowers _ n before after = Unit {0}
 
@@ -260,12 +283,13 @@ Leaves (Err _) n before after = Unit {0}
 
 -- ---- calls
 
--- What a step comes to when a load gave it nothing. A load at a window never does.
+-- What a step comes to when an access gave it nothing: the handler of page faults goes on, which nobody sees, or the environment is gone.
 abbrev pub IsStopped : Stop → Result Progress Failed → Type 0
 IsStopped stop.Failed (Err failed) = Unit {0}
 IsStopped stop.Failed (Ok done) = ⊥
+IsStopped stop.Upcall (Ok done) = done ≡ progress.Hidden
+IsStopped stop.Ended (Ok done) = done ≡ progress.Ended
 IsStopped _ (Err failed) = ⊥
-IsStopped _ (Ok done) = done ≡ progress.Ended
 
 -- One call was made, for the same environment.
 pub record MakesOneCall (slot calls : Around ℕ) : Type 0 where

@@ -25,6 +25,9 @@ use Rattle.lib_os.specs.declared.numbers.TheConstants.{STEP_READING_SENDER, STEP
 use Rattle.lib_os.specs.declared.numbers.TheConstants.{STEP_FORK_ENTRY, STEP_MAP_CHILD, STEP_REMAP, STEP_CHILD_STACK}
 use Rattle.lib_os.specs.declared.numbers.TheConstants.{STEP_CHILD_UPCALL, STEP_CHILD_RUNS, STEP_UNDOING, STEP_DESCRIPTOR_ENTRY}
 use Rattle.lib_os.specs.declared.numbers.TheConstants.{STEP_TARGET_ENTRY, STEP_DROPPING_DESCRIPTOR, STEP_MAPPING_DESCRIPTOR, STEP_ENDING}
+use Rattle.lib_os.specs.declared.numbers.TheConstants.{STEP_READING_DEVICE, STEP_BUFFER_REGION, STEP_BUFFER_ENTRY, STEP_TAKING_PAGE}
+use Rattle.lib_os.specs.declared.numbers.TheConstants.{STEP_GATHERING, STEP_KEEPING, STEP_PRINTING, STEP_RELEASING, STEP_GETTING}
+use Rattle.lib_os.specs.declared.numbers.TheConstants.{STEP_DELIVERING, STEP_FAULTING}
 use Rattle.lib_os.specs.Services.{service_of}
 
 -- ---- places
@@ -69,6 +72,17 @@ step_in words =
     else if n == STEP_DROPPING_DESCRIPTOR then step.DroppingDescriptor (first_word words)
     else if n == STEP_MAPPING_DESCRIPTOR then step.MappingDescriptor
     else if n == STEP_ENDING then step.Ending
+    else if n == STEP_READING_DEVICE then step.ReadingDevice
+    else if n == STEP_BUFFER_REGION then step.BufferRegion (first_word words) (second_word words)
+    else if n == STEP_BUFFER_ENTRY then step.BufferEntry (first_word words) (second_word words)
+    else if n == STEP_TAKING_PAGE then step.TakingPage
+    else if n == STEP_GATHERING then step.Gathering (first_word words)
+    else if n == STEP_KEEPING then step.Keeping (first_word words) (second_word words) (third_word words)
+    else if n == STEP_PRINTING then step.Printing
+    else if n == STEP_RELEASING then step.Releasing
+    else if n == STEP_GETTING then step.Getting
+    else if n == STEP_DELIVERING then step.Delivering (first_word words) (second_word words)
+    else if n == STEP_FAULTING then step.Faulting (first_word words) (second_word words)
     else step.Undoing (first_word words) (second_word words)
 
 -- ESP lies on the stack of the handler of page faults
@@ -129,6 +143,17 @@ words_at number step.TargetEntry = place_words number STEP_TARGET_ENTRY 0 0 0
 words_at number (step.DroppingDescriptor fd) = place_words number STEP_DROPPING_DESCRIPTOR fd 0 0
 words_at number step.MappingDescriptor = place_words number STEP_MAPPING_DESCRIPTOR 0 0 0
 words_at number step.Ending = place_words number STEP_ENDING 0 0 0
+words_at number step.ReadingDevice = place_words number STEP_READING_DEVICE 0 0 0
+words_at number (step.BufferRegion done word) = place_words number STEP_BUFFER_REGION done word 0
+words_at number (step.BufferEntry done word) = place_words number STEP_BUFFER_ENTRY done word 0
+words_at number step.TakingPage = place_words number STEP_TAKING_PAGE 0 0 0
+words_at number (step.Gathering done) = place_words number STEP_GATHERING done 0 0
+words_at number (step.Keeping done word left) = place_words number STEP_KEEPING done word left
+words_at number step.Printing = place_words number STEP_PRINTING 0 0 0
+words_at number step.Releasing = place_words number STEP_RELEASING 0 0 0
+words_at number step.Getting = place_words number STEP_GETTING 0 0 0
+words_at number (step.Delivering done word) = place_words number STEP_DELIVERING done word 0
+words_at number (step.Faulting done word) = place_words number STEP_FAULTING done word 0
 
 -- the words with which a program's INT 0x40 leaves it; all numbers that name no service are kept as one
 abbrev pub words_entered : Regs → List ℕ

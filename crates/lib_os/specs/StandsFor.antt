@@ -2,12 +2,14 @@
 -- with its registers, its place in a service and its pages; one of each frame, with the entries that name it; and one of
 -- what is there once. Nothing here speaks of steps. (That the library keeps this is what its steps promise, in
 -- `LibrarySteps.antt`. As far as services are built: what a descriptor names is the console, and there are no files.)
-use Rattle.std.specs.Prelude.{◌≡◌, ◌≢◌, ◌<◌, ◌≤◌, ℕ, ◌+◌, ◌*◌, ◌/◌, ◌%◌, ◌^◌, ◌==◌, ◌||◌, nat_le, nat_lt, not, Bool, true, false, is_some, List, [], ◌∷◌, Option, Some, None}
-use Rattle.std.specs.Prelude.{if◌then◌else◌}
+use Rattle.std.specs.Prelude.{◌≡◌, ◌≢◌, ◌<◌, ◌≤◌, ℕ, ◌+◌, ◌-◌, ◌*◌, ◌/◌, ◌%◌, ◌^◌, ◌==◌, ◌||◌, nat_le, nat_lt, not, Bool, true, false}
+use Rattle.std.specs.Prelude.{is_some, List, [], ◌∷◌, Option, Some, None}
+use Rattle.std.specs.Prelude.{length, take, drop, slice_index, if◌then◌else◌}
+use Rattle.std.specs.Int.{w32, to_le_bytes}
 use Rattle.jos_base.specs.declared.environment.EnvType.TheVariants.{User, FileServer}
 use Rattle.jos_base.specs.declared.environment.Status.{Status}
 use Rattle.jos_base.specs.declared.environment.Status.TheVariants.{Runnable, Running, NotRunnable}
-use Rattle.jos_base.specs.declared.numbers.TheConstants.{FDTABLE, FIRST_ENV_ID, NENV, NPTENTRIES, USTACKTOP, UTOP}
+use Rattle.jos_base.specs.declared.numbers.TheConstants.{FDTABLE, FIRST_ENV_ID, NENV, NPTENTRIES, USTACKTOP, UTEMP, UTOP}
 use Rattle.jos_base.specs.declared.registers.Regs.{Regs}
 use Rattle.jos_base.specs.Environments.{Slot, free_slot, no_extra, is_live, is_running}
 use Rattle.jos_base.specs.KernelState.{KernelState, slot_at}
@@ -26,7 +28,7 @@ use Rattle.lib_os.specs.declared.place.Step.TheVariants as step
 use Rattle.lib_os.specs.declared.service.Service.{Service}
 use Rattle.lib_os.specs.declared.service.Service.TheVariants as service
 use Rattle.lib_os.specs.AbstractState.{AbstractState, Born, AbstractSlot, free, unborn, born, serving, idle}
-use Rattle.lib_os.specs.AbstractState.{Stage, bearing, entered, receiving, received, Message, guest, in_service}
+use Rattle.lib_os.specs.AbstractState.{Stage, bearing, entered, gathering, receiving, received, Message, guest, at_guest, in_service}
 use Rattle.lib_os.specs.AbstractMemory.{has_page_in}
 use Rattle.lib_os.specs.AbstractMessages.{is_page_or_none}
 use Rattle.lib_os.specs.Fence.{is_page_inside, is_resident}
@@ -35,8 +37,9 @@ use Rattle.lib_os.specs.LibraryPages.{View, IsOwnWritable, LibraryPages, is_libr
 use Rattle.lib_os.specs.Places.{place_of, is_handlers}
 use Rattle.lib_os.specs.Rows.{EntryRow, Names, rows_of, page_seen, logical, is_programs, is_shared, may_write, cow_perm}
 use Rattle.lib_os.specs.Rows.{descriptor_page, descriptor_seen, is_descriptor}
-use Rattle.lib_os.specs.Rows.{AgreeWhereShared, AreNamed, AreUsers, IsUsers, AreWhole}
-use Rattle.lib_os.specs.StandsInHandler.{IsAtGuest, IsInHandler}
+use Rattle.lib_os.specs.Rows.{AgreeWhereShared, AreBytes, AreNamed, AreUsers, IsUsers, AreWhole}
+use Rattle.lib_os.specs.StandsInHandler.{IsAtGuest, IsInHandler, IsGiven, WantsMore, StandsDelivering, StandsPutting, buffer_of, wanted_of}
+use Rattle.lib_os.specs.StandsInHandler.{is_refused_by, next_page}
 
 -- ---- an environment at its place
 
@@ -157,6 +160,105 @@ pub record IsDuplicating (row : EntryRow) (old new : ℕ) : Type 0 where
   pub other : old ≢ new
   pub stands : IsOpen row old
 
+-- ---- what a descriptor names
+
+-- the descriptor of which a service wants to know what it names
+abbrev pub descriptor_given : Service → Option ℕ
+descriptor_given (service.Read fd va len) = Some fd
+descriptor_given (service.Write fd va len) = Some fd
+descriptor_given (service.Seek fd offset) = Some fd
+descriptor_given (service.Stat fd va) = Some fd
+descriptor_given (service.SetSize fd size) = Some fd
+descriptor_given _ = None
+
+-- it is about to read the entry of its page
+pub record IsLookingUp (v : View) (k : Slot) (b : Born) (s : Service) (at fd : ℕ) : Type 0 where
+  pub is_in : IsIn k b s entered
+  pub same : at ≡ fd
+  pub below : fd < DESCRIPTORS
+  pub table : HasTable v
+
+-- it is open, and the service is about to read what it names
+pub record IsReadingDevice (v : View) (k : Slot) (b : Born) (s : Service) (fd : ℕ) : Type 0 where
+  pub is_in : IsIn k b s entered
+  pub below : fd < DESCRIPTORS
+  pub stands : IsOpen v.row fd
+
+abbrev pub StandsAtDevice : View → Slot → Born → Service → Option ℕ → Type 0
+StandsAtDevice v k b s (Some fd) = IsReadingDevice v k b s fd
+StandsAtDevice v k b s None = ⊥
+
+-- ---- bytes that are moved
+
+-- as it moves bytes, their pages are written or read
+abbrev pub writes_buffer : Service → Bool
+writes_buffer (service.Write fd va len) = false
+writes_buffer _ = true
+
+-- the page of the next byte refuses it
+abbrev pub refuses_next : EntryRow → Service → ℕ → Bool
+refuses_next row s done = is_refused_by (writes_buffer s) (row (next_page s done))
+
+-- The page at UTEMP has the first n of these bytes.
+pub record HasTaken (v : View) (bytes : List ℕ) (n : ℕ) : Type 0 where
+  pub entry : Entry
+  pub stands : v.row (page_number UTEMP) ≡ Some entry
+  pub own_page : is_shared entry.perm ≡ false
+  pub same : (i : ℕ) → i < n → slice_index (v.bytes entry.frame) i ≡ slice_index bytes i
+
+-- write has taken so many bytes, which its page has, and wants more
+pub record IsTaking (v : View) (k : Slot) (b : Born) (fd va len done : ℕ) : Type 0 where
+  pub bytes : List ℕ
+  pub program : b.program ≡ guest k.registers
+  pub wants : WantsMore v.row b fd va len bytes
+  pub many : length bytes ≡ done
+  pub kept : HasTaken v bytes done
+  pub silent : k.rendezvous.receiving ≡ false
+  pub awake : b.blocked ≡ false
+
+-- it has loaded the last so many of the bytes that it has taken, and its page has those before
+pub record IsKeeping (v : View) (k : Slot) (b : Born) (fd va len done word left : ℕ) : Type 0 where
+  pub bytes : List ℕ
+  pub is_in : IsIn k b (service.Write fd va len) (gathering bytes)
+  pub given : IsGiven v.row fd va len
+  pub many : length bytes ≡ done + left
+  pub few : length bytes ≤ wanted_of len
+  pub some : 0 < left
+  pub last : left ≤ 4
+  pub word_is : take left (to_le_bytes w32 word) ≡ drop done bytes
+  pub small : AreBytes bytes
+  -- the page of the last of them did not refuse it
+  pub allowed : refuses_next v.row (service.Write fd va len) (done + left - 1) ≡ false
+  pub kept : HasTaken v bytes done
+
+-- its page has all bytes
+pub record IsPrinting (v : View) (k : Slot) (b : Born) (fd va len : ℕ) : Type 0 where
+  pub bytes : List ℕ
+  pub is_in : IsIn k b (service.Write fd va len) (gathering bytes)
+  pub given : IsGiven v.row fd va len
+  pub many : length bytes ≡ wanted_of len
+  pub kept : HasTaken v bytes (length bytes)
+
+-- they are printed, and the program goes on with the answer
+pub record HasPrinted (k : Slot) (b : Born) (len : ℕ) : Type 0 where
+  pub program : b.program ≡ guest (record k.registers { eax = wanted_of len })
+  pub phase : b.phase ≡ at_guest
+  pub silent : k.rendezvous.receiving ≡ false
+  pub awake : b.blocked ≡ false
+
+-- read is about to take a byte of the console
+pub record IsGetting (row : EntryRow) (k : Slot) (b : Born) (fd va len : ℕ) : Type 0 where
+  pub is_in : IsIn k b (service.Read fd va len) entered
+  pub given : IsGiven row fd va len
+  pub some : 0 < len
+
+-- a service that stands before the next byte of its buffer, of which it has moved so many; and this is so
+abbrev pub StandsBefore : Type 0 → View → Slot → Born → Service → ℕ → ℕ → Type 0
+StandsBefore so v k b (service.Read fd va len) done word = StandsDelivering (service.Read fd va len) done word k b × so
+StandsBefore so v k b (service.Stat fd va) done word = StandsDelivering (service.Stat fd va) done word k b × so
+StandsBefore so v k b (service.Write fd va len) done word = IsTaking v k b fd va len done × so
+StandsBefore so v k b _ done word = ⊥
+
 -- ---- fork
 
 -- it bears the child with this id
@@ -190,6 +292,25 @@ pub record IsRemapping (row : EntryRow) (page : ℕ) : Type 0 where
 -- at each step of a service what is so; ⊥ for a step that the service has not
 abbrev pub StandsAtStep : View → Slot → Born → Service → Step → Type 0
 StandsAtStep v k b s step.Entered = IsIn k b s entered
+StandsAtStep v k b s step.ReadingDevice = StandsAtDevice v k b s (descriptor_given s)
+StandsAtStep v k b s (step.BufferRegion done word) = StandsBefore (Unit {0}) v k b s done word
+StandsAtStep v k b s (step.BufferEntry done word) = StandsBefore (v.tables (region_index (buffer_of s + done)) ≡ true) v k b s done word
+StandsAtStep v k b s (step.Faulting done word) = StandsBefore (refuses_next v.row s done ≡ true) v k b s done word
+StandsAtStep v k b (service.Read fd va len) (step.Delivering done word) = StandsPutting v.row (service.Read fd va len) done word k b
+StandsAtStep v k b (service.Stat fd va) (step.Delivering done word) = StandsPutting v.row (service.Stat fd va) done word k b
+StandsAtStep v k b (service.Read fd va len) (step.DescriptorEntry at) = IsLookingUp v k b (service.Read fd va len) at fd
+StandsAtStep v k b (service.Write fd va len) (step.DescriptorEntry at) = IsLookingUp v k b (service.Write fd va len) at fd
+StandsAtStep v k b (service.Seek fd offset) (step.DescriptorEntry at) = IsLookingUp v k b (service.Seek fd offset) at fd
+StandsAtStep v k b (service.Stat fd va) (step.DescriptorEntry at) = IsLookingUp v k b (service.Stat fd va) at fd
+StandsAtStep v k b (service.SetSize fd size) (step.DescriptorEntry at) = IsLookingUp v k b (service.SetSize fd size) at fd
+StandsAtStep v k b (service.Read fd va len) step.Getting = IsGetting v.row k b fd va len
+StandsAtStep v k b (service.Write fd va len) step.TakingPage =
+    IsIn k b (service.Write fd va len) entered × IsGiven v.row fd va len × (0 < len)
+StandsAtStep v k b (service.Write fd va len) (step.Gathering done) =
+    IsTaking v k b fd va len done × (refuses_next v.row (service.Write fd va len) done ≡ false)
+StandsAtStep v k b (service.Write fd va len) (step.Keeping done word left) = IsKeeping v k b fd va len done word left
+StandsAtStep v k b (service.Write fd va len) step.Printing = IsPrinting v k b fd va len
+StandsAtStep v k b (service.Write fd va len) step.Releasing = HasPrinted k b len
 StandsAtStep v k b (service.Wait id) (step.Trying perm) = IsWaiting k b id
 StandsAtStep v k b (service.Wait id) (step.Pausing perm) = IsWaiting k b id
 StandsAtStep v k b (service.Send id value va) (step.Trying perm) = IsTrying v.row k b id value va perm
@@ -261,7 +382,7 @@ pub record StandsForBorn (names : Names) (s : SpacesState) (k : Slot) (b : Born)
   pub upcall : k.upcall ≡ upcall_at (place_of k)
   pub descriptors : (fd : ℕ) → b.descriptors fd ≡ descriptor_seen names s k.directory fd
   pub memory : (p : ℕ) → b.memory p ≡ page_seen names s k.directory p
-  pub library : LibraryPages (place_of k) (rows_of s k.directory)
+  pub library : LibraryPages (place_of k) k.extra (rows_of s k.directory)
   pub regions_have : (r : ℕ) → b.regions r ≡ true → is_some (s.regions k.directory r) ≡ true
   pub regions_only : (r : ℕ) → is_some (s.regions k.directory r) ≡ true → b.regions r || is_library_region r ≡ true
   pub stack : is_handlers k.registers.esp || not (is_resident k.registers.esp) ≡ true
@@ -395,7 +516,7 @@ pub record StandsFor (names : Names) (s : KernelState) (a : AbstractState) : Typ
   pub free_slots : AreFreeSlots s.environments.free_slots a.free_slots
   pub first : a.slots 0 ≡ serving FIRST_ENV_ID
   pub server : a.server ≡ idle
-  pub input : s.input ≡ a.input
+  pub input : (s.input ≡ a.input) × AreBytes a.input
   pub last : s.last ≡ a.last
   pub turns : s.turns ≡ a.turns
   pub tabled : IsTabled s.environments.slots s.last

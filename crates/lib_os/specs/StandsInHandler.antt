@@ -1,10 +1,10 @@
--- An environment at its program, and one whose page fault is in the hands of the library's handler: either its page is copied, and
--- then the instruction is made again, or the program has raised a fault that ends it.
+-- An environment at its program, one in a service that moves bytes to or from the program's memory, and one whose page fault is in the
+-- hands of the library's handler: either its page is copied, and then the instruction, or the service's access, is made again, or the
+-- fault ends it.
 -- (MIT 6.828, lib/fork.c: pgfault.)
 use Rattle.std.specs.Prelude.{◌≡◌, ◌<◌, ◌^◌, ℕ, ◌+◌, ◌*◌, ◌&&◌, not, Bool, true, false, is_some, get_or, Option, None, Some}
-use Rattle.std.specs.Prelude.{slice_index}
+use Rattle.std.specs.Prelude.{List, [], ◌∷◌, drop, length, min, slice_index}
 use Rattle.std.specs.Int.{w32, from_le_bytes}
-use Rattle.std.specs.Prelude.{List, [], ◌∷◌}
 use Rattle.jos_base.specs.declared.memory.PageFault.{PageFault}
 use Rattle.jos_base.specs.declared.numbers.TheConstants.{FEC_PR, FEC_U, FEC_WR, PGSIZE, UTRAPFRAME_WORDS}
 use Rattle.jos_base.specs.declared.registers.Regs.{Regs}
@@ -13,13 +13,19 @@ use Rattle.jos_base.specs.Reach.{Entry}
 use Rattle.jos_base.specs.SystemCalls.{has_write}
 use Rattle.jos_base.specs.TrapFrames.{frame_words, user_flags}
 use Rattle.jos_base.specs.Words.{page_number, has_bit}
-use Rattle.lib_os.specs.declared.numbers.TheConstants.{PFTEMP}
+use Rattle.lib_os.specs.declared.numbers.TheConstants.{DESCRIPTORS, PFTEMP, TRANSFER_MAX}
 use Rattle.lib_os.specs.declared.place.HandlerStep.{HandlerStep}
 use Rattle.lib_os.specs.declared.place.HandlerStep.TheVariants as handler
-use Rattle.lib_os.specs.AbstractState.{Born, guest, at_guest, faulted}
-use Rattle.lib_os.specs.Fence.{is_inside, is_resident}
+use Rattle.lib_os.specs.declared.place.Place.TheVariants as place
+use Rattle.lib_os.specs.declared.place.Step.TheVariants as step
+use Rattle.lib_os.specs.declared.service.Service.{Service}
+use Rattle.lib_os.specs.declared.service.Service.TheVariants as service
+use Rattle.lib_os.specs.AbstractState.{Born, guest, at_guest, faulted, in_service, Stage, delivering, entered, gathering}
+use Rattle.lib_os.specs.Fence.{is_buffer, is_inside, is_resident}
+use Rattle.lib_os.specs.FileServices.{terminal_stat}
 use Rattle.lib_os.specs.LibraryPages.{View, HasFrame}
-use Rattle.lib_os.specs.Rows.{EntryRow, is_shared, is_cow}
+use Rattle.lib_os.specs.Places.{place_of}
+use Rattle.lib_os.specs.Rows.{EntryRow, is_shared, is_cow, descriptor_page, AreBytes}
 
 -- ---- registers
 
@@ -45,6 +51,79 @@ pub record IsAtGuest (k : Slot) (b : Born) : Type 0 where
   pub words : k.extra ≡ no_extra
   pub silent : k.rendezvous.receiving ≡ false
   pub awake : b.blocked ≡ false
+
+-- ---- accesses that are refused
+
+-- the fault was raised by a write
+abbrev pub is_write : ℕ → Bool
+is_write error = has_bit error FEC_WR
+
+-- An entry refuses a read, or a write, and its page is not one that waits to be copied.
+abbrev pub is_refused_by : Bool → Option Entry → Bool
+is_refused_by write None = true
+is_refused_by write (Some entry) = write && not (has_write entry.perm) && not (is_cow entry.perm)
+
+-- ---- in a service that moves bytes
+
+-- Bytes are still to be put at an address, and this is the answer then.
+pub record IsDelivering (k : Slot) (b : Born) (s : Service) (at : ℕ) (bytes : List ℕ) (answer : ℕ) : Type 0 where
+  pub program : b.program ≡ guest k.registers
+  pub phase : b.phase ≡ in_service s (delivering at bytes answer)
+  pub silent : k.rendezvous.receiving ≡ false
+  pub awake : b.blocked ≡ false
+  pub some : 0 < length bytes
+  pub inside : is_buffer at (length bytes) ≡ true
+  pub small : AreBytes bytes
+
+-- read has the byte that it has taken, and stat what it tells of the console
+abbrev pub StandsDelivering : Service → ℕ → ℕ → Slot → Born → Type 0
+StandsDelivering (service.Read fd va len) done word k b = IsDelivering k b (service.Read fd va len) (va + done) (word ∷ []) 1
+StandsDelivering (service.Stat fd va) done word k b = IsDelivering k b (service.Stat fd va) (va + done) (drop done terminal_stat) 0
+StandsDelivering _ done word k b = ⊥
+
+-- the address of the buffer that a service is given
+abbrev pub buffer_of : Service → ℕ
+buffer_of (service.Read fd va len) = va
+buffer_of (service.Write fd va len) = va
+buffer_of (service.Stat fd va) = va
+buffer_of _ = 0
+
+-- the page of the byte behind so many
+abbrev pub next_page : Service → ℕ → ℕ
+next_page s done = page_number (buffer_of s + done)
+
+-- and the page of the next byte may be written, where it stands or as a copy of it
+abbrev pub StandsPutting : EntryRow → Service → ℕ → ℕ → Slot → Born → Type 0
+StandsPutting row s done word k b = StandsDelivering s done word k b × (is_refused_by true (row (next_page s done)) ≡ false)
+
+-- how many bytes are moved at most
+abbrev pub wanted_of : ℕ → ℕ
+wanted_of len = min len TRANSFER_MAX
+
+-- the stage of write with the bytes that it has taken
+abbrev pub stage_with : List ℕ → Stage
+stage_with [] = entered
+stage_with (byte ∷ rest) = gathering (byte ∷ rest)
+
+-- read and write are given a descriptor that is open, and a buffer in the fence
+pub record IsGiven (row : EntryRow) (fd va len : ℕ) : Type 0 where
+  pub below : fd < DESCRIPTORS
+  pub stands : is_some (row (descriptor_page fd)) ≡ true
+  pub buffer : is_buffer va (wanted_of len) ≡ true
+
+-- write has taken these bytes, and wants more
+pub record WantsMore (row : EntryRow) (b : Born) (fd va len : ℕ) (bytes : List ℕ) : Type 0 where
+  pub phase : b.phase ≡ in_service (service.Write fd va len) (stage_with bytes)
+  pub given : IsGiven row fd va len
+  pub fewer : length bytes < wanted_of len
+
+-- ---- what stands beneath the handler, where it copies a page
+
+-- The program makes its instruction again, or a service puts its bytes again.
+pub data StandsBeneath (row : EntryRow) (k : Slot) (b : Born) : Type 0 where
+  at_program : IsAtGuest k b → StandsBeneath row k b
+  in_delivery : (s : Service) (done word : ℕ) → place_of k ≡ place.InService s (step.Delivering done word) →
+      StandsPutting row s done word k b → StandsBeneath row k b
 
 -- ---- a page is copied
 
@@ -101,23 +180,14 @@ CopiesAt (handler.Unmapping found) v va = (found ≡ va) × IsMappedTwice v va
 CopiesAt handler.Restoring v va = Unit {0}
 CopiesAt _ v va = ⊥
 
--- The handler copies the page for the program, which makes its instruction again then.
+-- The handler copies the page for who stands beneath it.
 pub record Copies (h : HandlerStep) (v : View) (k : Slot) (b : Born) (fault : PageFault) (regs : Regs) : Type 0 where
-  pub guest : IsAtGuest (record k { registers = regs }) b
+  pub beneath : StandsBeneath v.row (record k { registers = regs }) b
   pub error : fault.error ≡ FEC_U + FEC_PR + FEC_WR
   pub inside : is_inside fault.va ≡ true
   pub at : CopiesAt h v fault.va
 
--- ---- the program has raised a fault that ends it
-
--- the fault was raised by a write
-abbrev pub is_write : ℕ → Bool
-is_write error = has_bit error FEC_WR
-
--- An entry refuses a read, or a write, and its page is not one that waits to be copied.
-abbrev pub is_refused_by : Bool → Option Entry → Bool
-is_refused_by write None = true
-is_refused_by write (Some entry) = write && not (has_write entry.perm) && not (is_cow entry.perm)
+-- ---- a fault that ends the environment
 
 -- what is so at each step on the way to the end; ⊥ for the steps of the other way
 abbrev pub EndsAt : HandlerStep → PageFault → Regs → Type 0
@@ -129,11 +199,21 @@ EndsAt (handler.Unsetting va error ip) fault regs = (va ≡ fault.va) × (error 
 EndsAt (handler.Touching va error ip) fault regs = (va ≡ fault.va) × (error ≡ fault.error) × (ip ≡ regs.eip)
 EndsAt _ fault regs = ⊥
 
--- The program is marked with the fault.
+-- The program is marked with the fault of an access at an address by the instruction at another, or a service stands before its access
+-- to the byte at the address, which would be a write or not.
+pub data IsStoppedAt (write : Bool) (row : EntryRow) (b : Born) (va ip : ℕ) : Type 0 where
+  marked : b.phase ≡ faulted va ip → IsStoppedAt write row b va ip
+  reading : (fd buffer len : ℕ) (bytes : List ℕ) (answer : ℕ) → write ≡ true →
+      b.phase ≡ in_service (service.Read fd buffer len) (delivering va bytes answer) → 0 < length bytes → IsStoppedAt write row b va ip
+  telling : (fd buffer : ℕ) (bytes : List ℕ) (answer : ℕ) → write ≡ true →
+      b.phase ≡ in_service (service.Stat fd buffer) (delivering va bytes answer) → 0 < length bytes → IsStoppedAt write row b va ip
+  writing : (fd buffer len : ℕ) (bytes : List ℕ) → write ≡ false → WantsMore row b fd buffer len bytes → va ≡ buffer + length bytes →
+      IsStoppedAt write row b va ip
+
+-- The environment ends by the fault.
 pub record Ends (h : HandlerStep) (v : View) (k : Slot) (b : Born) (fault : PageFault) (regs : Regs) : Type 0 where
   pub program : b.program ≡ guest regs
-  pub phase : b.phase ≡ faulted fault.va regs.eip
-  pub words : k.extra ≡ no_extra
+  pub stopped : IsStoppedAt (is_write fault.error) v.row b fault.va regs.eip
   pub silent : k.rendezvous.receiving ≡ false
   pub awake : b.blocked ≡ false
   pub inside : is_inside fault.va ≡ true

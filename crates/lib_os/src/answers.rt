@@ -54,7 +54,7 @@ pub fn answer_of(called: Called) -> u32
     }
 }
 
-/// What a step comes to when a load at a window gave it nothing.
+/// What a step comes to when an access gave it nothing: the handler of page faults goes on, or the environment is gone.
 ///
 /// # Errors
 /// The host failed.
@@ -63,7 +63,8 @@ pub fn stopped(stop: Stop) -> Result<Progress, Failed>
 {
     match stop {
         Stop::Failed => Err(Failed),
-        Stop::Upcall | Stop::Ended => Ok(Progress::Ended),
+        Stop::Upcall => Ok(Progress::Hidden),
+        Stop::Ended => Ok(Progress::Ended),
     }
 }
 

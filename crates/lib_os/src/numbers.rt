@@ -206,6 +206,39 @@ pub const STEP_MAPPING_DESCRIPTOR: u32 = 20;
 /// The number of exit's step that ends the environment.
 pub const STEP_ENDING: u32 = 21;
 
+/// It is about to read what its descriptor names.
+pub const STEP_READING_DEVICE: u32 = 22;
+
+/// It is about to read whether the region of the next byte of its buffer has a table.
+pub const STEP_BUFFER_REGION: u32 = 23;
+
+/// It is about to read the entry of that byte's page.
+pub const STEP_BUFFER_ENTRY: u32 = 24;
+
+/// It is about to take the page in which it keeps what it moves.
+pub const STEP_TAKING_PAGE: u32 = 25;
+
+/// It is about to load the next bytes of its buffer.
+pub const STEP_GATHERING: u32 = 26;
+
+/// It is about to put what it has loaded into the page that it took.
+pub const STEP_KEEPING: u32 = 27;
+
+/// It is about to print the bytes that it has taken.
+pub const STEP_PRINTING: u32 = 28;
+
+/// It has answered to all who see it, and is about to give its page back.
+pub const STEP_RELEASING: u32 = 29;
+
+/// It is about to take a byte of the console.
+pub const STEP_GETTING: u32 = 30;
+
+/// It is about to put the next bytes into its buffer.
+pub const STEP_DELIVERING: u32 = 31;
+
+/// The next byte of its buffer can't be moved, and it is about to raise the fault by which the environment ends.
+pub const STEP_FAULTING: u32 = 32;
+
 // ---- how far the handler of page faults is, as the EIP of its environment. Nothing is fetched there: no page stands below the
 // exception stack, and that the handler runs is told by ESP.
 

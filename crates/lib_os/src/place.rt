@@ -8,12 +8,14 @@ ghost use Rattle.lib_os.specs.Places as places;
 use crate::numbers::{
     HANDLER_LOADING, HANDLER_LOOKING, HANDLER_MAPPING_OVER, HANDLER_READING_ERROR,
     HANDLER_READING_IP, HANDLER_RESTORING, HANDLER_STORING, HANDLER_TAKING, HANDLER_TOUCHING,
-    HANDLER_UNMAPPING, HANDLER_UNSETTING, PAGE_WORDS, PGFAULT_UPCALL, STEP_CHILD_RUNS,
-    STEP_CHILD_STACK, STEP_CHILD_UPCALL, STEP_DESCRIPTOR_ENTRY, STEP_DROPPING_DESCRIPTOR,
-    STEP_ENDING, STEP_ENTERED, STEP_FORK_ENTRY, STEP_FORK_REGION, STEP_MAP_CHILD,
-    STEP_MAPPING_DESCRIPTOR, STEP_PAUSING, STEP_READING_ENTRY, STEP_READING_PERM,
-    STEP_READING_REGION, STEP_READING_SENDER, STEP_READING_VALUE, STEP_RECEIVING, STEP_REMAP,
-    STEP_TARGET_ENTRY, STEP_TRYING, STEP_UNDOING, UXSTACK,
+    HANDLER_UNMAPPING, HANDLER_UNSETTING, PAGE_WORDS, PGFAULT_UPCALL, STEP_BUFFER_ENTRY,
+    STEP_BUFFER_REGION, STEP_CHILD_RUNS, STEP_CHILD_STACK, STEP_CHILD_UPCALL, STEP_DELIVERING,
+    STEP_DESCRIPTOR_ENTRY, STEP_DROPPING_DESCRIPTOR, STEP_ENDING, STEP_ENTERED, STEP_FAULTING,
+    STEP_FORK_ENTRY, STEP_FORK_REGION, STEP_GATHERING, STEP_GETTING, STEP_KEEPING, STEP_MAP_CHILD,
+    STEP_MAPPING_DESCRIPTOR, STEP_PAUSING, STEP_PRINTING, STEP_READING_DEVICE, STEP_READING_ENTRY,
+    STEP_READING_PERM, STEP_READING_REGION, STEP_READING_SENDER, STEP_READING_VALUE,
+    STEP_RECEIVING, STEP_RELEASING, STEP_REMAP, STEP_TAKING_PAGE, STEP_TARGET_ENTRY, STEP_TRYING,
+    STEP_UNDOING, UXSTACK,
 };
 use crate::service::{Service, service_of};
 use jos_base::{Extra, Regs, UXSTACKTOP};
@@ -65,6 +67,29 @@ pub enum Step {
     MappingDescriptor,
     /// exit: no descriptor is open, and the environment is about to end.
     Ending,
+    /// read, write, seek, stat and set_size: it is about to read what its descriptor names.
+    ReadingDevice,
+    /// read, write and stat, which have moved so many bytes of their buffer: it is about to read whether the region of the next has a
+    /// table. read has the byte that it has taken.
+    BufferRegion { done: u32, word: u32 },
+    /// read, write and stat: it is about to read the entry of the next byte's page.
+    BufferEntry { done: u32, word: u32 },
+    /// write: it is about to take a page for the bytes of its buffer.
+    TakingPage,
+    /// write: it is about to load the next bytes.
+    Gathering { done: u32 },
+    /// write: it has loaded these bytes of a word, the next to be kept lowest, and is about to put them, or the next of them, into its page.
+    Keeping { done: u32, word: u32, left: u32 },
+    /// write: its page has all bytes, and it is about to print them.
+    Printing,
+    /// write: the bytes are printed, and it is about to give its page back.
+    Releasing,
+    /// read: it is about to take a byte of the console.
+    Getting,
+    /// read and stat: it is about to put the next bytes into the buffer.
+    Delivering { done: u32, word: u32 },
+    /// read, write and stat: the next byte of the buffer can't be moved, and it is about to raise the fault by which the environment ends.
+    Faulting { done: u32, word: u32 },
 }
 
 /// How far the handler of page faults is, with what it has found out: the address of the fault, its error code, the address of
@@ -228,6 +253,33 @@ fn find_step(words: &Extra) -> Step
         STEP_DROPPING_DESCRIPTOR => Step::DroppingDescriptor { fd: first },
         STEP_MAPPING_DESCRIPTOR => Step::MappingDescriptor,
         STEP_ENDING => Step::Ending,
+        STEP_READING_DEVICE => Step::ReadingDevice,
+        STEP_BUFFER_REGION => Step::BufferRegion {
+            done: first,
+            word: second,
+        },
+        STEP_BUFFER_ENTRY => Step::BufferEntry {
+            done: first,
+            word: second,
+        },
+        STEP_TAKING_PAGE => Step::TakingPage,
+        STEP_GATHERING => Step::Gathering { done: first },
+        STEP_KEEPING => Step::Keeping {
+            done: first,
+            word: second,
+            left: third,
+        },
+        STEP_PRINTING => Step::Printing,
+        STEP_RELEASING => Step::Releasing,
+        STEP_GETTING => Step::Getting,
+        STEP_DELIVERING => Step::Delivering {
+            done: first,
+            word: second,
+        },
+        STEP_FAULTING => Step::Faulting {
+            done: first,
+            word: second,
+        },
         _ => Step::Undoing {
             id: first,
             error: second,
@@ -287,6 +339,17 @@ pub fn words_at(number: u32, step: Step) -> Extra
         Step::DroppingDescriptor { fd } => (STEP_DROPPING_DESCRIPTOR, fd, 0, 0),
         Step::MappingDescriptor => (STEP_MAPPING_DESCRIPTOR, 0, 0, 0),
         Step::Ending => (STEP_ENDING, 0, 0, 0),
+        Step::ReadingDevice => (STEP_READING_DEVICE, 0, 0, 0),
+        Step::BufferRegion { done, word } => (STEP_BUFFER_REGION, done, word, 0),
+        Step::BufferEntry { done, word } => (STEP_BUFFER_ENTRY, done, word, 0),
+        Step::TakingPage => (STEP_TAKING_PAGE, 0, 0, 0),
+        Step::Gathering { done } => (STEP_GATHERING, done, 0, 0),
+        Step::Keeping { done, word, left } => (STEP_KEEPING, done, word, left),
+        Step::Printing => (STEP_PRINTING, 0, 0, 0),
+        Step::Releasing => (STEP_RELEASING, 0, 0, 0),
+        Step::Getting => (STEP_GETTING, 0, 0, 0),
+        Step::Delivering { done, word } => (STEP_DELIVERING, done, word, 0),
+        Step::Faulting { done, word } => (STEP_FAULTING, done, word, 0),
     };
     Extra([number + 1, place, first, second, third, 0, 0, 0, 0, 0, 0, 0])
 }

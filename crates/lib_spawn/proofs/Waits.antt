@@ -33,7 +33,7 @@ use Rattle.lib_os.proofs.GoingOn.{in_with_words, words_stand}
 use Rattle.jos_base.proofs.Maps.{upd-at}
 use Rattle.lib_os.proofs.Numbered.{named_at}
 use Rattle.lib_os.proofs.Sends.{found_some, found_none, nobody_named, never_taken}
-use Rattle.lib_os.proofs.Serving.{IsServed, served, step_in, printed_nothing}
+use Rattle.lib_os.proofs.Serving.{IsServed, holds_page, printed_nothing, served, step_in}
 use Rattle.lib_os.proofs.SlotsStand.{born_at}
 use Rattle.lib_os.proofs.StatesStand.{status_stands}
 use Rattle.lib_os.proofs.Trying.{IsAnswered, try_send_answered, there_stands}
@@ -98,7 +98,7 @@ module _ (s : KernelState) (n id : ℕ) (stands : place_of (slot_at s n) ≡ pla
             abstract_system.refused a n v.b regs E_INVAL,
             step_in a n v.b (slot_at s n) (service.Wait id) entered v.is here ∙ refused_step a n v.b regs id (by_own v.b v.own.id why),
             printed_nothing a,
-            (h.0, back_stands h.1 n v.b v.is (record regs { eax = negated E_INVAL }) (ap borne_in v.place) here.silent here.awake v.outside refl refl),
+            (h.0, back_stands h.1 n v.b v.is (record regs { eax = negated E_INVAL }) (ap borne_in v.place) (ap holds_page v.place) here.silent here.awake v.outside refl refl),
           )
         where
           by_own : (b : Born) → own ≡ b.id → (id ≡ 0) ⊎ (id ≡ own) → (id ≡ 0) ⊎ (id ≡ b.id)
@@ -112,7 +112,7 @@ module _ (s : KernelState) (n id : ℕ) (stands : place_of (slot_at s n) ≡ pla
             refl,
             (
               h.0,
-              words_stand h.1 n SERVICE_WAIT v.b v.is v.own v.outside (ap borne_in v.place) (service.Wait id) (step.Trying 0) refl (named_at (slot_at s n) (service.Wait id) step.Entered stands)
+              words_stand h.1 n SERVICE_WAIT v.b v.is v.own v.outside (ap borne_in v.place) (service.Wait id) (step.Trying 0) (ap holds_page v.place) refl (named_at (slot_at s n) (service.Wait id) step.Entered stands)
                   (record { is_in = in_with_words (words_at SERVICE_WAIT (step.Trying 0)) here; some = some; other = λ e. other (e ∙ sym v.own.id) }),
             ),
           )
@@ -196,7 +196,7 @@ module _ (s : KernelState) (n id perm : ℕ) (stands : place_of (slot_at s n) �
             abstract_system.answered a n v.b regs 0,
             step_in a n v.b (slot_at s n) (service.Wait id) entered v.is at.is_in ∙ over_step a n v.b regs id at.some at.other gone,
             printed_nothing a,
-            (h.0, back_stands h.1 n v.b v.is (record regs { eax = 0 }) (ap borne_in v.place) at.is_in.silent at.is_in.awake v.outside refl refl),
+            (h.0, back_stands h.1 n v.b v.is (record regs { eax = 0 }) (ap borne_in v.place) (ap holds_page v.place) at.is_in.silent at.is_in.awake v.outside refl refl),
           )
       by_test false is (lives_on other as_before there) =
           let words = words_at SERVICE_WAIT (step.Pausing perm) in
@@ -205,7 +205,7 @@ module _ (s : KernelState) (n id perm : ℕ) (stands : place_of (slot_at s n) �
               refl,
               (
                 h.0,
-                words_stand h.1 n SERVICE_WAIT v.b v.is v.own v.outside (ap borne_in v.place) (service.Wait id) (step.Pausing perm) refl
+                words_stand h.1 n SERVICE_WAIT v.b v.is v.own v.outside (ap borne_in v.place) (service.Wait id) (step.Pausing perm) (ap holds_page v.place) refl
                     (named_at (slot_at s n) (service.Wait id) (step.Trying perm) stands)
                     (record { is_in = in_with_words words at.is_in; some = at.some; other = at.other }),
               ),
@@ -232,7 +232,8 @@ module _ (s : KernelState) (n id perm : ℕ) (stands : place_of (slot_at s n) �
           h.0,
           words_stand ran n SERVICE_WAIT v.b v.is (born_at ran n v.b v.is)
               (ap (λ (x : Slot). is_handlers x.registers.esp) slot_is ∙ v.outside)
-              (ap (λ (x : Slot). borne_in (place_of x)) slot_is ∙ ap borne_in v.place) (service.Wait id) (step.Trying perm) refl
+              (ap (λ (x : Slot). borne_in (place_of x)) slot_is ∙ ap borne_in v.place) (service.Wait id) (step.Trying perm)
+              (ap (λ (x : Slot). holds_page (place_of x)) slot_is ∙ ap holds_page v.place) refl
               (subst (λ (x : Slot). service_of (record x.registers { eax = SERVICE_WAIT }) ≡ service.Wait id) (sym slot_is)
               (named_at (slot_at s n) (service.Wait id) (step.Pausing perm) stands))
               (subst (λ (x : Slot). IsWaiting (record x { extra = w }) v.b id) (sym slot_is)

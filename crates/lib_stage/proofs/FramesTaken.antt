@@ -40,6 +40,7 @@ settled_takes : (s mid : KernelState) (n number k : ℕ) (x : Next) → TakesAtM
 settled_takes s mid n number k (next.Answer word) h = h
 settled_takes s mid n number k (next.Answers eax edx ecx ebx) h = h
 settled_takes s mid n number k (next.GoOn at) h = h
+settled_takes s mid n number k (next.GoBack word) h = h
 settled_takes s mid n number k (next.Show at) h = h
 settled_takes s mid n number k (next.Wait at) h = h
 settled_takes s mid n number k (next.Handle at) h = h

@@ -1,7 +1,7 @@
 -- The parts of a service's law that are the same for all services: by what it asks, and by where it goes on.
-use Rattle.std.proofs.Common.{◌≡◌, ◌∙◌, ◌+◌, ◌-◌, ◌^◌, ◌<◌, ◌++◌, ◌&&◌, ℕ, Bool, true, false, not, List, [], length, Ok, Some, None, refl, sym, ap, subst}
+use Rattle.std.proofs.Common.{◌≡◌, ◌∙◌, ◌+◌, ◌-◌, ◌*◌, ◌^◌, ◌<◌, ◌++◌, ◌&&◌, ℕ, Bool, true, false, not, List, [], length, Ok, Some, None, refl, sym, ap, subst}
 use Rattle.std.specs.Prelude.{min}
-use Rattle.std.proofs.Common.{◌≤◌, arith}
+use Rattle.std.proofs.Common.{◌≤◌, arith, if◌then◌else◌}
 use Rattle.std.proofs.lemmas.Bool.{and_parts}
 use Rattle.jos_host.specs.Frames.{from_to}
 use Rattle.jos_base.specs.declared.called.Called.{Called}
@@ -22,14 +22,16 @@ use Rattle.lib_os.specs.AbstractRun.{abs_step}
 use Rattle.lib_os.specs.AbstractState.{AbstractState, Born}
 use Rattle.lib_os.specs.InOrder.{IsInOrder}
 use Rattle.lib_os.specs.Need.{EachHasUse}
-use Rattle.lib_os.specs.LibrarySteps.{Stands, AbstractFollows, KeepsStanding, KeepsUses, Leaves, LeavesRest, Lowers, LowersAt, is_pausing}
-use Rattle.lib_os.specs.LibrarySteps.{steps_left, copies_left, left_at, hidden_left, frames_asked, frames_at}
+use Rattle.lib_os.specs.LibrarySteps.{Stands, AbstractFollows, KeepsStanding, KeepsUses, Leaves, LeavesRest, Lowers, counts_copies, is_pausing}
+use Rattle.lib_os.specs.LibrarySteps.{copy_steps, most_copy_steps, steps_left, copies_left, left_at, hidden_left, frames_asked, frames_at}
 use Rattle.lib_os.specs.LibraryPages.{View}
 use Rattle.lib_os.specs.Places.{place_of, words_at, handler_registers}
-use Rattle.lib_os.specs.Rows.{Names, rows_of}
+use Rattle.lib_os.specs.Rows.{EntryRow, Names, rows_of}
+use Rattle.jos_base.specs.Counting.{page_limit}
 use Rattle.lib_os.specs.StandsFor.{StandsFor, StandsAtStep, view_of}
 use Rattle.lib_os.specs.UserCalls.{CallStep, Got, got, to_handler, gone, giving, load, asking, system, Output}
 use Rattle.lib_os.proofs.Calls.{yield_is}
+use Rattle.lib_os.proofs.CopiesLeft.{copies_below}
 use Rattle.lib_os.proofs.GoingOn.{went_to, gave_up, gives_nothing_up}
 use Rattle.lib_os.proofs.Leaving.{Left, load_left, load_byte_left, store_left, store_byte_left, exchange_left, restore_left}
 use Rattle.lib_os.proofs.Leaving.{system_left, wakes}
@@ -161,6 +163,7 @@ settled_leaves s mid n number (next.Answer word) h = answers s mid _ n word prog
 settled_leaves s mid n number (next.Answers eax edx ecx ebx) h =
     goes_back s mid _ n (record (slot_at mid n).registers { eax = eax; edx = edx; ecx = ecx; ebx = ebx }) progress.Finished h refl
 settled_leaves s mid n number (next.GoOn at) h = goes_on s mid _ n (words_at number at) progress.Hidden h refl
+settled_leaves s mid n number (next.GoBack word) h = answers s mid _ n word progress.Hidden h refl
 settled_leaves s mid n number (next.Show at) h = goes_on s mid _ n (words_at number at) progress.Visible h refl
 settled_leaves s mid n number (next.Wait at) h = goes_on s mid _ n (words_at number at) progress.Waited h refl
 settled_leaves s mid n number (next.Handle at) h =
@@ -175,7 +178,7 @@ known_leaves s n plan plain = by_got (performed s n plan.asks).gives
   where
     by_got : (g : Got Called) → let did = upshot_by plan n (performed s n plan.asks) g in Leaves (Ok did.progress) n s did.state
     by_got (got called) = settled_leaves s _ n plan.number (plan.next called) (known_behind s n plan.asks plain)
-    by_got to_handler = stays s _ n progress.Ended (known_behind s n plan.asks plain)
+    by_got to_handler = stays s _ n progress.Hidden (known_behind s n plan.asks plain)
     by_got gone = stays s _ n progress.Ended (known_behind s n plan.asks plain)
 
 pub plain_leaves : (s : KernelState) (n : ℕ) (plan : Plan) → is_plain plan.asks ≡ true →
@@ -190,27 +193,63 @@ pub record GoesOn (s : KernelState) (n : ℕ) (plan : Plan) (step : CallStep Cal
   pub registers : (called : Called) → step.gives ≡ got called → is_gone (plan.next called) ≡ false →
       (slot_at step.state n).registers ≡ (slot_at s n).registers
 
+-- how many hidden steps there may be from a step on, with those in which pages are copied
+abbrev pub most_left : Step → ℕ
+most_left at = steps_left at + (if counts_copies at then most_copy_steps else 0)
+
 -- the number falls, or the service gives up its turn by its next step; no service goes on as the handler of page faults does
 abbrev pub Falls : Service → Step → Next → Type 0
-Falls service from (next.GoOn to) = steps_left to < steps_left from
+Falls service from (next.GoOn to) = most_left to < steps_left from
+Falls service from (next.GoBack word) = ⊥
 Falls service from (next.Wait to) = is_pausing (place.InService service to) ≡ true
 Falls service from (next.Handle to) = ⊥
 Falls service from next.Leave = ⊥
 Falls service from _ = Unit {0}
 
--- the number of a service is that of its step, whatever pages wait to be copied
+-- at most as many pages wait to be copied as there are
+left_most : (service : Service) (at : Step) (row : EntryRow) → left_at (place.InService service at) (copies_left row) ≤ most_left at
+left_most service at row = by_counting (counts_copies at) (copies_below row)
+  where
+    by_counting : (c : Bool) → copies_left row ≤ page_limit →
+        steps_left at + (if c then copy_steps * copies_left row else 0) ≤ steps_left at + (if c then most_copy_steps else 0)
+    by_counting true few = omega (arith, few)
+    by_counting false few = omega (arith)
+
+-- what is left at a step, beside what is copied
+left_least : (service : Service) (at : Step) (copies : ℕ) → steps_left at ≤ left_at (place.InService service at) copies
+left_least service at copies = by_counting (counts_copies at)
+  where
+    by_counting : (c : Bool) → steps_left at ≤ steps_left at + (if c then copy_steps * copies else 0)
+    by_counting true = omega (arith)
+    by_counting false = omega (arith)
+
+-- a service that goes on at a step has a lower number, whatever pages wait to be copied
 service_lowers : (s after : KernelState) (n : ℕ) (service : Service) (from to : Step) → place_of (slot_at s n) ≡ place.InService service from →
-    place_of (slot_at after n) ≡ place.InService service to → steps_left to < steps_left from → Lowers (Ok progress.Hidden) n s after
-service_lowers s after n service from to was is less =
-    subst (λ (p : Place). LowersAt p n s after) (sym was)
-    (subst (λ (p : Place). left_at p (copies_left (rows_of after.spaces (slot_at after n).directory)) < hidden_left s n) (sym is)
-    (subst (λ (p : Place). steps_left to < left_at p (copies_left (rows_of s.spaces (slot_at s n).directory))) (sym was) less))
+    place_of (slot_at after n) ≡ place.InService service to → most_left to < steps_left from → Lowers (Ok progress.Hidden) n s after
+service_lowers s after n service from to was is less a h quiet =
+    let most = left_most service to (rows_of after.spaces (slot_at after n).directory) in
+    let least = left_least service from (copies_left (rows_of s.spaces (slot_at s n).directory)) in
+    let there : hidden_left after n ≡ left_at (place.InService service to) (copies_left (rows_of after.spaces (slot_at after n).directory)) =
+    ap (λ (p : Place). left_at p (copies_left (rows_of after.spaces (slot_at after n).directory))) is in
+    let here : hidden_left s n ≡ left_at (place.InService service from) (copies_left (rows_of s.spaces (slot_at s n).directory)) =
+    ap (λ (p : Place). left_at p (copies_left (rows_of s.spaces (slot_at s n).directory))) was in
+    by_numbers (left_at (place.InService service to) (copies_left (rows_of after.spaces (slot_at after n).directory)))
+    (left_at (place.InService service from) (copies_left (rows_of s.spaces (slot_at s n).directory))) (most_left to) (steps_left from)
+    (hidden_left after n) (hidden_left s n) most less least there here
+  where
+    by_numbers : (left before most steps after_is before_is : ℕ) → left ≤ most → most < steps → steps ≤ before → after_is ≡ left →
+        before_is ≡ before → after_is < before_is
+    by_numbers left before most steps after_is before_is few less enough there here = omega (arith, few, less, enough, there, here)
+
+-- an access of it never faults where the state stands for an abstract one
+abbrev pub NeverFaults : KernelState → CallStep Called → Type 0
+NeverFaults s step = (a : AbstractState) → Stands s a → step.gives ≡ to_handler → ⊥
 
 pub falling_lowers : (s : KernelState) (n : ℕ) (plan : Plan) (step : CallStep Called) (service : Service) (from : Step) →
-    place_of (slot_at s n) ≡ place.InService service from → plan.number ≡ number_of service → GoesOn s n plan step →
+    place_of (slot_at s n) ≡ place.InService service from → plan.number ≡ number_of service → GoesOn s n plan step → NeverFaults s step →
     ((called : Called) → Falls service from (plan.next called)) →
     let did = upshot_by plan n step step.gives in Lowers (Ok did.progress) n s did.state
-falling_lowers s n plan step service from stands numbered goes falls = by_got step.gives refl
+falling_lowers s n plan step service from stands numbered goes never falls = by_got step.gives refl
   where
     there : (to : Step) → (slot_at step.state n).registers ≡ (slot_at s n).registers →
         place_of (slot_at (settled plan.number (next.GoOn to) step.state n) n) ≡ place.InService service to
@@ -224,6 +263,7 @@ falling_lowers s n plan step service from stands numbered goes falls = by_got st
     by_next (next.Answers eax edx ecx ebx) kept falls = tt
     by_next (next.GoOn to) kept falls =
         service_lowers s (settled plan.number (next.GoOn to) step.state n) n service from to stands (there to (kept refl)) falls
+    by_next (next.GoBack word) kept falls = absurd falls
     by_next (next.Show to) kept falls = tt
     by_next (next.Wait to) kept falls = ap is_pausing (there to (kept refl)) ∙ falls
     by_next (next.Handle to) kept falls = absurd falls
@@ -233,7 +273,7 @@ falling_lowers s n plan step service from stands numbered goes falls = by_got st
     by_got : (g : Got Called) → step.gives ≡ g →
         let did = upshot_by plan n step g in Lowers (Ok did.progress) n s did.state
     by_got (got called) is = by_next (plan.next called) (goes.registers called is) (falls called)
-    by_got to_handler is = tt
+    by_got to_handler is = λ a h quiet. absurd (never a h is)
     by_got gone is = tt
 
 -- ---- the law, by its parts
@@ -249,7 +289,33 @@ abbrev pub FailsBy : KernelState → ℕ → Plan → CallStep Called → Type 0
 FailsBy s n plan step = MayFail plan.asks step.gives → (a : AbstractState) → Stands s a →
     (b : AbstractState) × (abs_step a n ≡ Some b) × (b.console ≡ a.console ++ step.written)
 
--- a stage of a service, at which it stands and from which it goes on lower, and does not give up its turn, nor takes more frames than it may
+-- a stage of a service, at which it stands and does not give up its turn, nor takes more frames than it may
+pub record StandsThere (s : KernelState) (n : ℕ) (plan : Plan) (service : Service) (from : Step) : Type 0 where
+  pub stands : place_of (slot_at s n) ≡ place.InService service from
+  pub plain : IsPlain s n plan.asks
+  pub goes_on : is_pausing (place.InService service from) ≡ false
+  pub few : frames_of plan.asks ≤ frames_at (place.InService service from)
+
+-- its law, where it is known that who goes on is there, and that a hidden step lowers the number
+pub law_with : (s : KernelState) (n : ℕ) (plan : Plan) (service : Service) (from : Step) → StandsThere s n plan service from →
+    ((called : Called) → (performed s n plan.asks).gives ≡ got called → is_gone (plan.next called) ≡ false →
+    is_live (slot_at (performed s n plan.asks).state n) ≡ true) →
+    (IsInOrder (performed s n plan.asks).state → KeepsBy s n plan (performed s n plan.asks)) → FailsBy s n plan (performed s n plan.asks) →
+    (let did = upshot_by plan n (performed s n plan.asks) (performed s n plan.asks).gives in Lowers (Ok did.progress) n s did.state) →
+    ServiceHolds s n plan
+law_with s n plan service from at lives keeps fails lowers = record {
+  lives = lives;
+  keeps = keeps;
+  fails = fails;
+  leaves = known_leaves s n plan at.plain;
+  lowers = lowers;
+  gives_up =
+      let did = upshot_by plan n (performed s n plan.asks) (performed s n plan.asks).gives in
+      gives_nothing_up (Ok did.progress) (slot_at s n) (slot_at did.state n) (ap is_pausing at.stands ∙ at.goes_on);
+  takes = asks_few s n plan (place.InService service from) at.stands at.few;
+}
+
+-- and from which it goes on lower
 pub record IsAt (s : KernelState) (n : ℕ) (plan : Plan) (service : Service) (from : Step) : Type 0 where
   pub stands : place_of (slot_at s n) ≡ place.InService service from
   pub live : is_live (slot_at s n) ≡ true
@@ -259,26 +325,45 @@ pub record IsAt (s : KernelState) (n : ℕ) (plan : Plan) (service : Service) (f
   pub falls : (called : Called) → Falls service from (plan.next called)
   pub few : frames_of plan.asks ≤ frames_at (place.InService service from)
 
+pub stands_there : {s : KernelState} {n : ℕ} {plan : Plan} {service : Service} {from : Step} → IsAt s n plan service from →
+    StandsThere s n plan service from
+stands_there at = record { stands = at.stands; plain = at.plain; goes_on = at.goes_on; few = at.few }
+
 pub law_of : (s : KernelState) (n : ℕ) (plan : Plan) (service : Service) (from : Step) → IsAt s n plan service from →
-    GoesOn s n plan (performed s n plan.asks) → (IsInOrder (performed s n plan.asks).state → KeepsBy s n plan (performed s n plan.asks)) →
+    GoesOn s n plan (performed s n plan.asks) → NeverFaults s (performed s n plan.asks) →
+    (IsInOrder (performed s n plan.asks).state → KeepsBy s n plan (performed s n plan.asks)) →
     FailsBy s n plan (performed s n plan.asks) → ServiceHolds s n plan
-law_of s n plan service from at goes keeps fails = record {
-  lives = goes.live;
-  keeps = keeps;
-  fails = fails;
-  leaves = known_leaves s n plan at.plain;
-  lowers = falling_lowers s n plan (performed s n plan.asks) service from at.stands at.numbered goes at.falls;
-  gives_up =
-      let did = upshot_by plan n (performed s n plan.asks) (performed s n plan.asks).gives in
-      gives_nothing_up (Ok did.progress) (slot_at s n) (slot_at did.state n) (ap is_pausing at.stands ∙ at.goes_on);
-  takes = asks_few s n plan (place.InService service from) at.stands at.few;
-}
+law_of s n plan service from at goes never keeps fails =
+    law_with s n plan service from (stands_there at) goes.live keeps fails
+    (falling_lowers s n plan (performed s n plan.asks) service from at.stands at.numbered goes never at.falls)
 
 -- ---- a call that is known, and prints nothing
 
 -- the environment lives on with its registers
 pub giving_goes : (s : KernelState) (n : ℕ) (plan : Plan) (step : CallStep Called) → LivesOn step n (slot_at s n).registers → GoesOn s n plan step
 giving_goes s n plan step on = record { live = λ called is stays. on.live; registers = λ called is stays. on.registers }
+
+-- a system call always gives something
+pub system_gives : (s : KernelState) (n number : ℕ) (args : List ℕ) → (called : Called) × ((system s n number args).gives ≡ got called)
+unfolding system
+system_gives s n number args = ((system_call (with_registers s n (asking (slot_at s n).registers number args)) n).called, refl)
+
+pub system_never : (s : KernelState) (n number : ℕ) (args : List ℕ) → NeverFaults s (system s n number args)
+system_never s n number args a h is =
+    let gives = system_gives s n number args in
+    let contradiction : ◌≡◌ {A = Got Called} to_handler (got gives.0) = sym is ∙ gives.1 in cc
+
+-- nor does any other system call fault
+abbrev pub is_system : Ask → Bool
+is_system (ask.System number args) = true
+is_system ask.Exofork = true
+is_system _ = false
+
+pub asked_never : (s : KernelState) (n : ℕ) (a : Ask) → is_system a ≡ true → NeverFaults s (performed s n a)
+unfolding performed
+asked_never s n (ask.System number args) is = system_never s n number args
+asked_never s n ask.Exofork is = system_never s n SYS_EXOFORK (as_given (slot_at s n).registers)
+asked_never s n _ is = absurd (let contradiction : false ≡ true = is in cc)
 
 pub law_of_call : (s : KernelState) (n : ℕ) (plan : Plan) (service : Service) (from : Step) → IsAt s n plan service from →
     (number : ℕ) (args : List ℕ) → plan.asks ≡ ask.System number args → may_print number ≡ false →
@@ -289,6 +374,7 @@ law_of_call s n plan service from at number args asks silent on keeps =
     let is : performed s n plan.asks ≡ system s n number args = ap (λ (x : Ask). performed s n x) asks in
     law_of s n plan service from at
     (subst (λ (z : CallStep Called). GoesOn s n plan z) (sym is) (giving_goes s n plan (system s n number args) on))
+    (subst (λ (z : CallStep Called). NeverFaults s z) (sym is) (system_never s n number args))
     (subst (λ (z : CallStep Called). IsInOrder z.state → KeepsBy s n plan z) (sym is) keeps)
     (λ may a h. absurd (let contradiction : true ≡ false = sym (subst (λ (x : Ask). MayFail x (performed s n plan.asks).gives) asks may) ∙ silent in cc))
 
@@ -299,11 +385,6 @@ pub answered_keeps : (s : KernelState) (n : ℕ) (plan : Plan) (step : CallStep 
 answered_keeps s n plan step it keeps order =
     subst (λ (g : Got Called). let did = upshot_by plan n step g in KeepsStanding did.progress n s did.state did.written) (sym it.gives)
     (subst (λ (written : List ℕ). let x = plan.next (Answered it.answer) in KeepsStanding (seen_as x) n s (settled plan.number x step.state n) written) (sym it.written) (keeps order))
-
--- a system call always gives something
-pub system_gives : (s : KernelState) (n number : ℕ) (args : List ℕ) → (called : Called) × ((system s n number args).gives ≡ got called)
-unfolding system
-system_gives s n number args = ((system_call (with_registers s n (asking (slot_at s n).registers number args)) n).called, refl)
 
 -- a system call after which the service shows its step and goes on, whatever is answered
 pub shown_keeps : (s : KernelState) (n number : ℕ) (args : List ℕ) (plan : Plan) (to : Step) → LivesOn (system s n number args) n (slot_at s n).registers →
@@ -319,11 +400,12 @@ shown_keeps s n number args plan to on shows keeps =
 -- ---- a system call that prints nothing, behind which the environment is gone
 
 gone_lowers : (s : KernelState) (n number : ℕ) (asks : Ask) (step : CallStep Called) (g : Got Called) →
+    ((a : AbstractState) → Stands s a → g ≡ to_handler → ⊥) →
     let did = upshot_by (record { number = number; asks = asks; next = λ called. next.Gone }) n step g in
     Lowers (Ok did.progress) n s did.state
-gone_lowers s n number asks step (got called) = tt
-gone_lowers s n number asks step to_handler = tt
-gone_lowers s n number asks step gone = tt
+gone_lowers s n number asks step (got called) never = tt
+gone_lowers s n number asks step to_handler never = λ a h quiet. absurd (never a h refl)
+gone_lowers s n number asks step gone never = tt
 
 module _ (s : KernelState) (n : ℕ) (service : Service) (from : Step) (stands : place_of (slot_at s n) ≡ place.InService service from)
     (goes_on : is_pausing (place.InService service from) ≡ false) (number call : ℕ) (args : List ℕ)
@@ -340,7 +422,7 @@ module _ (s : KernelState) (n : ℕ) (service : Service) (from : Step) (stands :
         keeps = keeps;
         fails = λ may a h. absurd (let contradiction : true ≡ false = sym may ∙ silent in cc);
         leaves = plain_leaves s n ending plain;
-        lowers = gone_lowers s n number ending.asks (performed s n ending.asks) (performed s n ending.asks).gives;
+        lowers = gone_lowers s n number ending.asks (performed s n ending.asks) (performed s n ending.asks).gives (system_never s n call args);
         gives_up = gives_nothing_up (Ok did.progress) (slot_at s n) (slot_at did.state n) (ap is_pausing stands ∙ goes_on);
         takes = asks_few s n ending (place.InService service from) stands (omega (arith, none));
       }
@@ -362,7 +444,8 @@ module _ (s : KernelState) (n : ℕ) (service : Service) (at : Step) (stands : p
         keeps = λ order a h quiet. absurd (nobody h.0 a h.1);
         fails = λ may a h. absurd (nobody h.0 a h.1);
         leaves = plain_leaves s n nowhere refl;
-        lowers = gone_lowers s n SERVICES nowhere.asks (performed s n nowhere.asks) (performed s n nowhere.asks).gives;
+        lowers = gone_lowers s n SERVICES nowhere.asks (performed s n nowhere.asks) (performed s n nowhere.asks).gives
+            (λ a h is. nobody h.0 a h.1);
         gives_up = gives_nothing_up (Ok did.progress) (slot_at s n) (slot_at did.state n) (ap is_pausing stands ∙ goes_on);
         takes = asks_few s n nowhere (place.InService service at) stands (omega arith);
       }
@@ -403,6 +486,9 @@ unfolding performed
 law_of_load s n plan service from at va asks gives =
     law_of s n plan service from at
     (subst (λ (z : CallStep Called). GoesOn s n plan z) (sym is) (load_goes s n plan va at.live))
+    (λ a h handled. let w = (gives h.0 a h.1).0 in
+    let given : (performed s n plan.asks).gives ≡ got (Answered w.word) = ap (λ (z : CallStep Called). z.gives) is ∙ ap (λ (z : CallStep ℕ). got_as (λ w. w) z.gives) w.is in
+    absurd (let contradiction : ◌≡◌ {A = Got Called} to_handler (got (Answered w.word)) = sym handled ∙ given in cc))
     (subst (λ (z : CallStep Called). IsInOrder z.state → KeepsBy s n plan z) (sym is) keeps)
     (λ may a h. let w = (gives h.0 a h.1).0 in
     let given : (performed s n plan.asks).gives ≡ got (Answered w.word) = ap (λ (z : CallStep Called). z.gives) is ∙ ap (λ (z : CallStep ℕ). got_as (λ w. w) z.gives) w.is in
@@ -445,7 +531,7 @@ module _ (s : KernelState) (n : ℕ) (service : Service) (from to : Step) (numbe
   others =
       own_stay s n ran (own_stay s n s (same_stay s n) (record (slot_at s n) { status = Runnable })) (record (slot_at ran n) { extra = words_at number to })
 
-  pub law_of_pause : steps_left to < steps_left from → KeepsStanding progress.Hidden n s after [] →
+  pub law_of_pause : most_left to < steps_left from → KeepsStanding progress.Hidden n s after [] →
       ServiceHolds s n pause
   unfolding performed
   law_of_pause falls keeps =
@@ -463,7 +549,7 @@ module _ (s : KernelState) (n : ℕ) (service : Service) (from to : Step) (numbe
         };
         lowers = falling_lowers s n pause call service from stands numbered
             (record { live = λ called is stays. ap (λ (k : Slot). is_live k) slot_is; registers = λ called is stays. ap (λ (k : Slot). k.registers) slot_is })
-            (λ called. falls);
+            (λ a h is. absurd (let contradiction : ◌≡◌ {A = Got Called} to_handler (got (Answered 0)) = sym is in cc)) (λ called. falls);
         gives_up = gave_up s ran after n n n (words_at number to) refl refl refl refl;
         takes = takes_none s n pause call refl;
       })

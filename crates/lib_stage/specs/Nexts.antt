@@ -12,6 +12,7 @@ abbrev pub seen_as : Next → Progress
 seen_as (next.Answer word) = progress.Finished
 seen_as (next.Answers eax edx ecx ebx) = progress.Finished
 seen_as (next.GoOn step) = progress.Hidden
+seen_as (next.GoBack word) = progress.Hidden
 seen_as (next.Show step) = progress.Visible
 seen_as (next.Wait step) = progress.Waited
 seen_as (next.Handle step) = progress.Hidden
@@ -28,6 +29,7 @@ settled number (next.Answer word) s n = service_answered s n word
 settled number (next.Answers eax edx ecx ebx) s n =
     gone_back s n (record (slot_at s n).registers { eax = eax; edx = edx; ecx = ecx; ebx = ebx })
 settled number (next.GoOn step) s n = with_extra s n (words_at number step)
+settled number (next.GoBack word) s n = service_answered s n word
 settled number (next.Show step) s n = with_extra s n (words_at number step)
 settled number (next.Wait step) s n = with_extra s n (words_at number step)
 settled number (next.Handle step) s n = with_registers s n (handler_registers (slot_at s n).registers step)

@@ -32,14 +32,14 @@ pub record Upshot : Type 0 where
   pub progress : Progress
   pub written : List ℕ
 
--- An access that faults has left the environment to its handler, or destroyed it.
+-- An access that faults has left the environment to its handler, which nobody sees, or destroyed it.
 abbrev pub upshot_by : Plan → ℕ → CallStep Called → Got Called → Upshot
 upshot_by plan n step (got called) = record {
   state = settled plan.number (plan.next called) step.state n;
   progress = seen_as (plan.next called);
   written = step.written;
 }
-upshot_by plan n step to_handler = record { state = step.state; progress = progress.Ended; written = step.written }
+upshot_by plan n step to_handler = record { state = step.state; progress = progress.Hidden; written = step.written }
 upshot_by plan n step gone = record { state = step.state; progress = progress.Ended; written = step.written }
 
 abbrev pub service_step : KernelState → ℕ → Plan → Upshot

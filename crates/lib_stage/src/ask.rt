@@ -40,6 +40,8 @@ pub enum Next {
     },
     /// Nothing that anybody sees: it goes on at a step.
     GoOn(Step),
+    /// Nothing that anybody sees: it is over, with the word that its last seen step has answered.
+    GoBack(u32),
     /// It has made a step of the abstract system, and goes on at a step.
     Show(Step),
     /// Nothing that anybody sees: it waits for another environment, and gives up its turn by its next step.

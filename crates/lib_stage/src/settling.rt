@@ -44,6 +44,10 @@ pub fn settle<O: UserOs>(os: &mut O, number: u32, next: Next) -> Progress
             go_on(os, number, step);
             Progress::Hidden
         }
+        Next::GoBack(word) => {
+            answer(os, word);
+            Progress::Hidden
+        }
         Next::Show(step) => {
             go_on(os, number, step);
             Progress::Visible

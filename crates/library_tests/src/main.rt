@@ -8,6 +8,7 @@
 //! |---|---|
 //! | `service REGISTERS` | the service that a program with these registers asks for |
 //! | `trying NUMBER PERM REGISTERS` | its place, where it is about to try the service of that number |
+//! | `kept WORDS\| REGISTERS` | its place, where it keeps these words for the library, and whether they are those of that place |
 //! | `guest REGISTERS` | its place, where it is in no service |
 //! | `page VA`, `buffer VA LEN` | whether a program may have a page there, or give a buffer there |
 //! | `resident ESP` | whether a stack pointer belongs to the library's own parts |
@@ -18,7 +19,7 @@
 
 use jos_base::{EXTRA_WORDS, Extra};
 use lib_os::{
-    SERVICES, Step, find_place, is_buffer, is_page_inside, is_resident, service_of, words_at,
+    Place, SERVICES, Step, find_place, is_buffer, is_page_inside, is_resident, service_of, words_at,
 };
 use lib_spawn::{fits_stack, stack_contents, stack_pointer, stack_size};
 use std::alloc::{AllocError, Global};
@@ -33,6 +34,19 @@ fn trying(alloc: Global, given: &str) -> Result<String, AllocError> {
     let words = words_at(number.min(SERVICES), Step::Trying { perm });
     let place = find_place(&given_registers(given), &words);
     format!(in alloc; "{place:?}")
+}
+
+/// The place of a program that keeps words for the library; in a service also whether they are the words of its step there.
+fn kept(alloc: Global, given: &str) -> Result<String, AllocError> {
+    let (words, registers) = given.split_once('|').unwrap_or((given, ""));
+    let words = Extra(twelve_numbers(words));
+    let place = find_place(&given_registers(registers), &words);
+    let Place::InService { step, .. } = place else {
+        return format!(in alloc; "{place:?}");
+    };
+    let Extra([number, ..]) = words;
+    let same = words_at(number.saturating_sub(1).min(SERVICES), step) == words;
+    format!(in alloc; "{place:?} {same}")
 }
 
 /// Adds bytes.
@@ -71,6 +85,7 @@ fn answer(alloc: Global, line: &str) -> Result<String, AllocError> {
         "fits" => tell_holds(alloc, fits_stack(&program_words(alloc, given)?)),
         "stack" => stack(alloc, given),
         "trying" => trying(alloc, given),
+        "kept" => kept(alloc, given),
         "service" => {
             let service = service_of(&given_registers(given));
             format!(in alloc; "{service:?}")

@@ -7,6 +7,7 @@
 //! | Case | What is told |
 //! |---|---|
 //! | `steps CODE CODE EAX EDX ECX EBX COUNT` | what comes of so many steps of a program with two words of code |
+//! | `console CODE CODE EAX EDX ECX EBX COUNT BYTE` | the same, where its first descriptor is open on the console, of which the byte is the input; it is asked in the lines that follow |
 //! | `frames` | how many frames a run of a program with one page wants |
 //! | `boot FRAMES WORDS` | how it begins in so many frames |
 //! | `first` | nothing: an environment begins, with a page of zeros at `UTEMP` |
@@ -27,7 +28,7 @@ mod telling;
 
 use crate::beginning::{boot, first, frames, with_disk};
 use crate::calls::ServedBench;
-use crate::stepping::steps;
+use crate::stepping::{on_console, steps};
 use jos_base::EnvType;
 use std::alloc::{AllocError, Global};
 use test_cases::tell_lines;
@@ -41,6 +42,7 @@ fn answer(
     let (case, given) = line.split_once(' ').unwrap_or((line, ""));
     match case {
         "steps" => steps(alloc, given),
+        "console" => on_console(alloc, bench, given),
         "frames" => frames(alloc),
         "boot" => boot(alloc, bench, given),
         "first" => first(alloc, bench),

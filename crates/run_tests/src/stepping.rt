@@ -2,17 +2,18 @@
 
 use crate::calls::ServedBench;
 use jos_base::{
-    EnvId, EnvType, FRAMES_MIN, PTE_P, PTE_U, PTE_W, Perm, Regs, Status, USTACKTOP, UTEXT,
+    EnvId, EnvType, FDTABLE, FRAMES_MIN, PTE_P, PTE_U, PTE_W, Perm, Regs, SYS_PAGE_ALLOC, Status,
+    USTACKTOP, UTEXT,
 };
 use jos_host::MemHost;
 use jos_run::Served;
 use jos_sys::{Input, System};
-use lib_os::UserOs;
+use lib_os::{DEVICE_CONSOLE, PTE_SHARE, UserOs};
 use std::alloc::{AllocError, Global};
 use test_cases::twelve_numbers;
 
-/// The system with the server, and an environment in slot 1 with a page at `UTEXT`, which it may read and write.
-fn environment(alloc: Global) -> Option<Served> {
+/// The system with the server, and an environment in slot 1 with a page at `UTEXT`, which it may read and write; and the console's input.
+fn environment(alloc: Global, input: Vec<u8>) -> Option<Served> {
     let Ok(mut system) = System::new(alloc, FRAMES_MIN) else {
         return None;
     };
@@ -25,14 +26,37 @@ fn environment(alloc: Global) -> Option<Served> {
     };
     system.set_status(slot, Status::Runnable);
     system.allocate(slot, UTEXT, Perm(PTE_P + PTE_W + PTE_U))?;
-    Some(Served::new(system, Input::new(Vec::new(alloc))))
+    Some(Served::new(system, Input::new(input)))
+}
+
+/// Opens its first descriptor, on the console; false where it can't.
+fn open_console(served: &mut Served, host: &mut MemHost) -> bool {
+    served.serve(1);
+    if !served.is_live() {
+        return false;
+    }
+    let perm = PTE_P + PTE_W + PTE_U + PTE_SHARE;
+    let taken = served.system(host, SYS_PAGE_ALLOC, [0, FDTABLE, perm, 0, 0]);
+    if taken.is_err() || !served.is_live() {
+        return false;
+    }
+    served.store(host, FDTABLE, DEVICE_CONSOLE).is_ok()
 }
 
 /// Such an environment with two words of code, which stands before the first of them.
-fn program(alloc: Global, code: [u32; 2], registers: Regs) -> Option<ServedBench> {
-    let mut served = environment(alloc)?;
-    served.serve(1);
+fn program(
+    alloc: Global,
+    code: [u32; 2],
+    registers: Regs,
+    input: Option<Vec<u8>>,
+) -> Option<ServedBench> {
+    let has_console = input.is_some();
+    let mut served = environment(alloc, input.unwrap_or(Vec::new(alloc)))?;
     let mut host = MemHost::new(alloc, Vec::new(alloc), Vec::new(alloc), Vec::new(alloc));
+    if has_console && !open_console(&mut served, &mut host) {
+        return None;
+    }
+    served.serve(1);
     if !served.is_live() {
         return None;
     }
@@ -47,10 +71,9 @@ fn program(alloc: Global, code: [u32; 2], registers: Regs) -> Option<ServedBench
     Some(ServedBench::new(alloc, served, 1))
 }
 
-/// What comes of so many steps of a program.
-pub(crate) fn steps(alloc: Global, given: &str) -> Result<String, AllocError> {
-    let [first, second, eax, edx, ecx, ebx, count, ..] = twelve_numbers(given);
-    let registers = Regs {
+/// The registers with which it stands there.
+fn registers_with(eax: u32, edx: u32, ecx: u32, ebx: u32) -> Regs {
+    Regs {
         eax,
         ecx,
         edx,
@@ -61,9 +84,35 @@ pub(crate) fn steps(alloc: Global, given: &str) -> Result<String, AllocError> {
         edi: 0,
         eip: UTEXT,
         eflags: 0x202,
-    };
-    match program(alloc, [first, second], registers) {
+    }
+}
+
+/// What comes of so many steps of a program.
+pub(crate) fn steps(alloc: Global, given: &str) -> Result<String, AllocError> {
+    let [first, second, eax, edx, ecx, ebx, count, ..] = twelve_numbers(given);
+    let registers = registers_with(eax, edx, ecx, ebx);
+    match program(alloc, [first, second], registers, None) {
         Some(mut bench) => bench.go(alloc, count),
+        None => String::from_str(alloc, "no program"),
+    }
+}
+
+/// The same of one with a descriptor of the console and a byte of input, which is asked in the lines that follow.
+pub(crate) fn on_console(
+    alloc: Global,
+    asked: &mut Option<ServedBench>,
+    given: &str,
+) -> Result<String, AllocError> {
+    let [first, second, eax, edx, ecx, ebx, count, byte, ..] = twelve_numbers(given);
+    let registers = registers_with(eax, edx, ecx, ebx);
+    let mut input = Vec::new(alloc);
+    input.push((byte % 256) as u8)?;
+    match program(alloc, [first, second], registers, Some(input)) {
+        Some(mut bench) => {
+            let told = bench.go(alloc, count)?;
+            *asked = Some(bench);
+            Ok(told)
+        }
         None => String::from_str(alloc, "no program"),
     }
 }

@@ -8,7 +8,9 @@ use crate::given::{given_bytes, tell_bytes};
 use fs_cache::{Flushed, flush_step};
 use fs_jobs::Job;
 use fs_layout::BLKSIZE;
-use fs_tree::{Acted, REQUEST, begin, tree_step, with_state};
+use fs_places::with_state;
+use fs_runs::begin;
+use fs_tree::{Acted, REQUEST, tree_step};
 use jos_base::{
     EnvId, EnvType, FRAMES_MAX, FRAMES_MIN, PGSIZE, PTE_P, PTE_U, PTE_W, Perm, SYS_PAGE_ALLOC,
     Status,

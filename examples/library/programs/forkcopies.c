@@ -18,7 +18,7 @@ static uint32_t before(uint32_t page, uint32_t place)
     return page << 16 | place;
 }
 
-static void write(uint32_t page, uint32_t mark)
+static void mark_page(uint32_t page, uint32_t mark)
 {
     for (uint32_t k = 0; k < PLACES; k++)
         data[page][places[k]] |= mark;
@@ -63,7 +63,7 @@ void umain(int argc, char **argv)
     }
     if (child == 0) {
         for (uint32_t page = 0; page < PAGES; page++)
-            write(page, 0xC0000000);
+            mark_page(page, 0xC0000000);
         local |= 0xC0000000;
         receive(0, 0, &message);
         show("child", &local);
@@ -71,7 +71,7 @@ void umain(int argc, char **argv)
     }
     local |= 0xA0000000;
     for (uint32_t page = PAGES; page > 0; page--)
-        write(page - 1, 0xA0000000);
+        mark_page(page - 1, 0xA0000000);
     send(child, 0, 0);
     wait(child);
     show("parent", &local);

@@ -24,6 +24,11 @@ enum {
     SERVICE_send = 8,
     SERVICE_receive = 9,
     SERVICE_close = 11,
+    SERVICE_read = 12,
+    SERVICE_write = 13,
+    SERVICE_seek = 14,
+    SERVICE_stat = 15,
+    SERVICE_set_size = 16,
     SERVICE_dup = 19,
 };
 
@@ -81,5 +86,26 @@ int receive(uint32_t va, uint32_t from, struct message *message);
 
 int close(uint32_t fd);
 int dup(uint32_t old_fd, uint32_t new_fd); /* new_fd, which is closed first where it is open */
+
+/* ---- files.c: what a descriptor names, which is the console so far. */
+
+/* the most bytes of one read and of one write: of more, only so many are taken */
+#define TRANSFER_MAX 4096
+
+int read(uint32_t fd, uint32_t va, uint32_t len);  /* how many bytes were read: one of the console, and 0 at its end */
+int write(uint32_t fd, uint32_t va, uint32_t len); /* how many bytes were written */
+
+/* what stat tells: a name with zeros behind, a size in bytes, and 1 for a directory */
+struct stat {
+    char name[128];
+    uint32_t size;
+    uint32_t is_directory;
+};
+
+int stat(uint32_t fd, uint32_t va);
+
+/* what is no file has neither place nor size that could be set */
+int seek(uint32_t fd, uint32_t offset);
+int set_size(uint32_t fd, uint32_t size);
 
 #endif

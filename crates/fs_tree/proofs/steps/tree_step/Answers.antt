@@ -5,7 +5,7 @@ use Rattle.fs_jobs.specs.declared.place.TreeState.{TreeState}
 use Rattle.fs_tree.specs.declared.steps.Acted.TheVariants.{Answer}
 use Rattle.fs_tree.specs.declared.steps.Done.{Done}
 use Rattle.fs_tree.specs.TreeMakes.{DoesWhereTold}
-use Rattle.fs_tree.specs.TreePlaces.{registers_with, words_with}
+use Rattle.fs_places.specs.TreePlaces.{registers_with, words_with}
 use Rattle.fs_runs.specs.TreePlans.{ask_at, next_at}
 use Rattle.fs_tree.specs.TreeSteps.{StepsWhereTold, job_in}
 use Rattle.fs_tree.proofs.TiesLaw.{known_state, step_answers, step_goes_on, step_going, step_lacks}

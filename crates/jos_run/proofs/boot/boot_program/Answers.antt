@@ -2,7 +2,7 @@ use Rattle.std.proofs.Common.{◌∙◌, arith, map}
 use Rattle.jos_kernel.proofs.ImagesRead.{read_lie}
 use Rattle.jos_sys.specs.System.{state_of}
 use Rattle.jos_run.proofs.Booted.{booted-less, booted-enough, booted-server, booted-no_server}
-use Rattle.jos_run.proofs.StartStands.{begun_within}
+use Rattle.jos_run.proofs.StartStands.{begun_within, new_within}
 use Rattle.jos_run.proofs.boot.boot_program.Goals as goal
 
 pub returns-then-frames-boot_frames-clause-pool : goal.returns-then-frames-boot_frames-clause-pool
@@ -40,13 +40,12 @@ returns-clause-booted c = λ input.
     ∙ c.start_program.ensures.booted c.if-not-start_program.false input
 
 pub returns-clause-stands : goal.returns-clause-stands
-returns-clause-stands c = λ input. (let begins = begun_within c.args.image.now c.args.file.now (map (λ w. w.now) c.args.words.now)
+returns-clause-stands c = λ input bytes. (let begins = begun_within c.args.image.now c.args.file.now (map (λ w. w.now) c.args.words.now)
     c.args.frames input (state_of c.start_program.new.system input)
-    (λ i. (c.type_inv.file i).fits) (c.start_program.ensures.bytes c.if-not-start_program.false)
+    (λ i. (c.type_inv.file i).fits) (c.start_program.ensures.bytes c.if-not-start_program.false) bytes
     c.requires.read c.requires.fits c.requires.least c.requires.most (returns-clause-booted c input) in begins.0)
 
 pub returns-clause-new : goal.returns-clause-new
-returns-clause-new c = λ input. (let begins = begun_within c.args.image.now c.args.file.now (map (λ w. w.now) c.args.words.now) c.args.frames
-    input (state_of c.start_program.new.system input)
-    (λ i. (c.type_inv.file i).fits) (c.start_program.ensures.bytes c.if-not-start_program.false)
-    c.requires.read c.requires.fits c.requires.least c.requires.most (returns-clause-booted c input) in begins.1)
+returns-clause-new c = λ input. new_within c.args.image.now c.args.file.now (map (λ w. w.now) c.args.words.now) c.args.frames
+    input (state_of c.start_program.new.system input) c.requires.read c.requires.fits c.requires.least c.requires.most
+    (returns-clause-booted c input)

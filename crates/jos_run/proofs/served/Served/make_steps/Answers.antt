@@ -1,4 +1,4 @@
-use Rattle.std.proofs.Common.{◌≡◌, ◌∙◌, ℕ, None, refl, sym, subst, arith}
+use Rattle.std.proofs.Common.{◌≡◌, ◌∙◌, ℕ, sym, subst}
 use Rattle.jos_host.specs.Frames.{around}
 use Rattle.jos_base.specs.KernelState.{slot_at}
 use Rattle.lib_os.specs.declared.place.Place.{Place}
@@ -17,16 +17,16 @@ pub run_program-requires-clause-at : goal.run_program-requires-clause-at
 run_program-requires-clause-at g c =
     rw (← c.registers-registers.ensures, ← c.extra-words.ensures) (sym c.find_place.ensures ∙ c.in-Guest.is)
 
-pub drive-requires-clause-holds : goal.drive-requires-clause-holds
-drive-requires-clause-holds g c =
+pub drive-answer-requires-clause-holds : goal.drive-answer-requires-clause-holds
+drive-answer-requires-clause-holds g c =
     let slot = slot_at (kernel_state c.args.self.now) c.args.self.now.slot in
     let is : place_of slot ≡ place.InService c.in-InService.service c.in-InService.step =
     rw (← c.registers-registers.ensures, ← c.extra-words.ensures) (sym c.find_place.ensures ∙ c.in-InService.is) in
     rw c.stage_of.ensures (services_hold (kernel_state c.args.self.now) c.args.self.now.slot c.requires.live c.requires.awake
-    (rw (← c.registers-registers.ensures) (omega arith)) c.in-InService.step c.in-InService.service is)
+    c.keep_small.ensures c.in-InService.step c.in-InService.service is)
 
-pub drive-answer-requires-clause-holds : goal.drive-answer-requires-clause-holds
-drive-answer-requires-clause-holds g c =
+pub drive-handled-requires-clause-holds : goal.drive-handled-requires-clause-holds
+drive-handled-requires-clause-holds g c =
     let slot = slot_at (kernel_state c.args.self.now) c.args.self.now.slot in
     let is : place_of slot ≡ place.InHandler c.in-InHandler.step =
     rw (← c.registers-registers.ensures, ← c.extra-words.ensures) (sym c.find_place.ensures ∙ c.in-InHandler.is) in
@@ -36,30 +36,30 @@ pub returns-in-InService-clause-made : goal.returns-in-InService-clause-made
 returns-in-InService-clause-made g c =
     let n = c.args.self.now.slot in
     let s = kernel_state c.args.self.now in
-    let after = kernel_state c.drive.new.os in
-    let output = printed (around g.H.Host.console c.args.host.now c.drive.new.host) c.args.self.now.written c.drive.new.os.written in
+    let after = kernel_state c.drive-answer.new.os in
+    let output = printed (around g.H.Host.console c.args.host.now c.drive-answer.new.host) c.args.self.now.written c.drive-answer.new.os.written in
     let is : place_of (slot_at s n) ≡ place.InService c.in-InService.service c.in-InService.step =
     rw (← c.registers-registers.ensures, ← c.extra-words.ensures) (sym c.find_place.ensures ∙ c.in-InService.is) in
-    let same : c.drive.new.os.slot ≡ n = c.drive.ensures.one.same in
-    library_made s after n output c.drive.result None (subst (λ (p : Place). Raises p n s None after) (sym is) refl)
+    let same : c.drive-answer.new.os.slot ≡ n = c.drive-answer.ensures.one.same in
+    library_made s after n output c.drive-answer.result c.raised_by-trap.result (subst (λ (p : Place). Raises p n s c.raised_by-trap.result after) (sym is) c.raised_by-trap.ensures)
     c.came_with.result c.came_with.ensures.answer c.came_with.ensures.trap
-    c.drive.ensures.step c.drive.ensures.leaves c.drive.ensures.lowers
-    (subst (λ (m : ℕ). GivesUp c.drive.result (slot_at s n) (slot_at after m)) same c.drive.ensures.gives_up)
-    c.drive.ensures.by_place
+    c.drive-answer.ensures.step c.drive-answer.ensures.leaves c.drive-answer.ensures.lowers
+    (subst (λ (m : ℕ). GivesUp c.drive-answer.result (slot_at s n) (slot_at after m)) same c.drive-answer.ensures.gives_up)
+    c.drive-answer.ensures.by_place
 
 pub returns-in-InHandler-clause-made : goal.returns-in-InHandler-clause-made
 returns-in-InHandler-clause-made g c =
     let n = c.args.self.now.slot in
     let s = kernel_state c.args.self.now in
-    let after = kernel_state c.drive-answer.new.os in
-    let output = printed (around g.H.Host.console c.args.host.now c.drive-answer.new.host) c.args.self.now.written c.drive-answer.new.os.written in
+    let after = kernel_state c.drive-handled.new.os in
+    let output = printed (around g.H.Host.console c.args.host.now c.drive-handled.new.host) c.args.self.now.written c.drive-handled.new.os.written in
     let is : place_of (slot_at s n) ≡ place.InHandler c.in-InHandler.step =
     rw (← c.registers-registers.ensures, ← c.extra-words.ensures) (sym c.find_place.ensures ∙ c.in-InHandler.is) in
-    let same : c.drive-answer.new.os.slot ≡ n = c.drive-answer.ensures.one.same in
-    library_made s after n output c.drive-answer.result c.raised_again-trap.result
+    let same : c.drive-handled.new.os.slot ≡ n = c.drive-handled.ensures.one.same in
+    library_made s after n output c.drive-handled.result c.raised_again-trap.result
     (subst (λ (p : Place). Raises p n s c.raised_again-trap.result after) (sym is) c.raised_again-trap.ensures)
     c.came_with-in-InHandler.result c.came_with-in-InHandler.ensures.answer c.came_with-in-InHandler.ensures.trap
-    c.drive-answer.ensures.step c.drive-answer.ensures.leaves
-    c.drive-answer.ensures.lowers
-    (subst (λ (m : ℕ). GivesUp c.drive-answer.result (slot_at s n) (slot_at after m)) same c.drive-answer.ensures.gives_up)
-    c.drive-answer.ensures.by_place
+    c.drive-handled.ensures.step c.drive-handled.ensures.leaves
+    c.drive-handled.ensures.lowers
+    (subst (λ (m : ℕ). GivesUp c.drive-handled.result (slot_at s n) (slot_at after m)) same c.drive-handled.ensures.gives_up)
+    c.drive-handled.ensures.by_place

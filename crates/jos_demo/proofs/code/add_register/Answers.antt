@@ -1,0 +1,5 @@
+use Rattle.jos_demo.proofs.Instructions.{lawful_add_register}
+use Rattle.jos_demo.proofs.code.add_register.Goals as goal
+
+pub returns-clause-lawful : goal.returns-clause-lawful
+returns-clause-lawful c = lawful_add_register c.args.to c.args.from c.requires.to c.requires.from

@@ -1,0 +1,154 @@
+-- What stands beneath the handler of page faults while it copies a page, where entries change that the library has for itself, or those of
+-- pages that may be written then; and what is so of a service that its fault is about to end.
+use Rattle.std.proofs.Common.{◌≡◌, ◌<◌, ◌+◌, ◌*◌, ◌∙◌, ℕ, Bool, true, false, refl, sym, ap, List, [], ◌∷◌, length, arith, None}
+use Rattle.std.specs.Prelude.{drop}
+use Rattle.jos_base.specs.Environments.{Slot}
+use Rattle.lib_os.specs.declared.numbers.TheConstants.{PGFAULT_UPCALL}
+use Rattle.lib_os.specs.declared.place.Place.{Place}
+use Rattle.lib_os.specs.declared.place.Place.TheVariants as place
+use Rattle.lib_os.specs.declared.place.Step.{Step}
+use Rattle.lib_os.specs.declared.place.Step.TheVariants as step
+use Rattle.lib_os.specs.declared.service.Service.{Service}
+use Rattle.lib_os.specs.declared.service.Service.TheVariants as service
+use Rattle.lib_os.specs.AbstractState.{Born, guest}
+use Rattle.lib_os.specs.Fence.{is_inside}
+use Rattle.lib_os.specs.FileServices.{terminal_stat}
+use Rattle.lib_os.specs.LibraryPages.{View, has_copy}
+use Rattle.lib_os.specs.LibrarySteps.{left_at, copy_steps}
+use Rattle.lib_os.specs.Places.{is_handlers, place_of}
+use Rattle.lib_os.specs.Rows.{EntryRow, is_programs}
+use Rattle.lib_os.specs.StandsFor.{StandsAt, StandsBefore, borne_in, upcall_at, writes_buffer}
+use Rattle.lib_os.specs.StandsInHandler.{IsDelivering, StandsBeneath, StandsDelivering, StandsPutting, at_program, in_delivery, is_refused_by, next_page}
+use Rattle.lib_os.specs.StandsInHandler.{IsStoppedAt, buffer_of, reading, telling, wanted_of, writing}
+use Rattle.lib_os.proofs.Fences.{buffer_each}
+use Rattle.lib_os.proofs.Logical.{inside_programs, is_plain}
+use Rattle.lib_os.proofs.Serving.{words_of_none}
+
+-- ---- the page of the next byte
+
+-- the byte that is put next lies where a program may touch it
+delivers_inside : (k : Slot) (b : Born) (s : Service) (at : ℕ) (bytes : List ℕ) (answer : ℕ) → IsDelivering k b s at bytes answer → is_inside at ≡ true
+delivers_inside k b s at bytes answer h = let some = h.some in buffer_each at (length bytes) at h.inside (omega arith) (omega (arith, some))
+
+pub next_programs : (s : Service) (done word : ℕ) (k : Slot) (b : Born) → StandsDelivering s done word k b → is_programs (next_page s done) ≡ true
+next_programs (service.Read fd va len) done word k b h = inside_programs (va + done) (delivers_inside k b _ (va + done) _ _ h)
+next_programs (service.Stat fd va) done word k b h = inside_programs (va + done) (delivers_inside k b _ (va + done) _ _ h)
+next_programs _ done word k b h = absurd h
+
+-- Pages of a program's that may be written, where they stand or as copies, may be written after.
+abbrev pub KeepsWritable : EntryRow → EntryRow → Type 0
+KeepsWritable row after = (p : ℕ) → is_programs p ≡ true → is_refused_by true (row p) ≡ false → is_refused_by true (after p) ≡ false
+
+pub same_writable : (row after : EntryRow) → ((p : ℕ) → is_programs p ≡ true → after p ≡ row p) → KeepsWritable row after
+same_writable row after same p inside writes = ap (is_refused_by true) (same p inside) ∙ writes
+
+pub beneath_moved : (row after : EntryRow) (k : Slot) (b : Born) → KeepsWritable row after → StandsBeneath row k b → StandsBeneath after k b
+beneath_moved row after k b kept (at_program h) = at_program h
+beneath_moved row after k b kept (in_delivery s done word at h) =
+    in_delivery s done word at (h.0, kept (next_page s done) (next_programs s done word k b h.0) h.1)
+
+-- ---- where it stands again
+
+-- The registers are those with which the fault was raised, and the environment stands where it stood.
+pub record StandsAgain (v : View) (k : Slot) (b : Born) : Type 0 where
+  pub at : Place
+  pub stands : place_of k ≡ at
+  pub is_there : StandsAt at v k b
+  pub plain : is_plain at ≡ true
+  pub unborne : borne_in at ≡ None
+  pub upcall : upcall_at at ≡ PGFAULT_UPCALL
+  pub no_copy : has_copy at ≡ false
+  pub fewer : (copies : ℕ) → left_at at copies < 11 + copy_steps * copies
+
+pub stands_again : (v : View) (k : Slot) (b : Born) → is_handlers k.registers.esp ≡ false → StandsBeneath v.row k b → StandsAgain v k b
+stands_again v k b outside (at_program h) = record {
+  at = place.Guest;
+  stands = words_of_none k.registers k.extra outside h.words;
+  is_there = h;
+  plain = refl;
+  unborne = refl;
+  upcall = refl;
+  no_copy = refl;
+  fewer = λ copies. omega arith;
+}
+stands_again v k b outside (in_delivery (service.Read fd va len) done word at h) = record {
+  at = place.InService (service.Read fd va len) (step.Delivering done word);
+  stands = at;
+  is_there = h;
+  plain = refl;
+  unborne = refl;
+  upcall = refl;
+  no_copy = refl;
+  fewer = λ copies. omega arith;
+}
+stands_again v k b outside (in_delivery (service.Stat fd va) done word at h) = record {
+  at = place.InService (service.Stat fd va) (step.Delivering done word);
+  stands = at;
+  is_there = h;
+  plain = refl;
+  unborne = refl;
+  upcall = refl;
+  no_copy = refl;
+  fewer = λ copies. omega arith;
+}
+stands_again v k b outside (in_delivery _ done word at h) = absurd h.0
+
+-- ---- a service that stands before a byte of its buffer, which its page refuses
+
+-- It is about to end by its access at an address.
+pub record IsStopping (write : Bool) (row : EntryRow) (k : Slot) (b : Born) (va : ℕ) : Type 0 where
+  pub program : b.program ≡ guest k.registers
+  pub silent : k.rendezvous.receiving ≡ false
+  pub awake : b.blocked ≡ false
+  pub inside : is_inside va ≡ true
+  pub stopped : (ip : ℕ) → IsStoppedAt write row b va ip
+
+pub stops_before : (so : Type 0) (v : View) (k : Slot) (b : Born) (s : Service) (done word : ℕ) → StandsBefore so v k b s done word →
+    IsStopping (writes_buffer s) v.row k b (buffer_of s + done)
+stops_before so v k b (service.Read fd va len) done word (h, known) = record {
+  program = h.program;
+  silent = h.silent;
+  awake = h.awake;
+  inside = delivers_inside k b _ (va + done) _ _ h;
+  stopped = λ ip. reading fd va len (word ∷ []) 1 refl h.phase h.some;
+}
+stops_before so v k b (service.Stat fd va) done word (h, known) = record {
+  program = h.program;
+  silent = h.silent;
+  awake = h.awake;
+  inside = delivers_inside k b _ (va + done) _ _ h;
+  stopped = λ ip. telling fd va (drop done terminal_stat) 0 refl h.phase h.some;
+}
+stops_before so v k b (service.Write fd va len) done word (h, known) = record {
+  program = h.program;
+  silent = h.silent;
+  awake = h.awake;
+  inside =
+      let many = h.many in
+      let fewer = h.wants.fewer in
+      buffer_each va (wanted_of len) (va + done) h.wants.given.buffer (omega arith) (omega (arith, many, fewer));
+  stopped = λ ip. writing fd va len h.bytes refl h.wants (ap (λ (n : ℕ). va + n) (sym h.many));
+}
+stops_before so v k b _ done word h = absurd h
+
+-- it bears no child there, so that entries count as they stand
+pub before_plain : (so : Type 0) (v : View) (k : Slot) (b : Born) (s : Service) (done word : ℕ) (at : Step) → StandsBefore so v k b s done word →
+    is_plain (place.InService s at) ≡ true
+before_plain so v k b (service.Read fd va len) done word at h = refl
+before_plain so v k b (service.Stat fd va) done word at h = refl
+before_plain so v k b (service.Write fd va len) done word at h = refl
+before_plain so v k b _ done word at h = absurd h
+
+-- and what is known there beside
+pub before_so : {so : Type 0} (v : View) (k : Slot) (b : Born) (s : Service) (done word : ℕ) → StandsBefore so v k b s done word → so
+before_so v k b (service.Read fd va len) done word h = h.1
+before_so v k b (service.Stat fd va) done word h = h.1
+before_so v k b (service.Write fd va len) done word h = h.1
+before_so v k b _ done word h = absurd h
+
+-- the same of one that puts bytes
+pub putting_plain : (row : EntryRow) (k : Slot) (b : Born) (s : Service) (done word : ℕ) (at : Step) → StandsPutting row s done word k b →
+    is_plain (place.InService s at) ≡ true
+putting_plain row k b (service.Read fd va len) done word at h = refl
+putting_plain row k b (service.Stat fd va) done word at h = refl
+putting_plain row k b _ done word at h = absurd h.0

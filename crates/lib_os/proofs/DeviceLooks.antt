@@ -1,0 +1,309 @@
+-- How a service finds what its descriptor names: whether the region of descriptors' pages has a table, whether the descriptor is open, and
+-- then the word of its page, which is that of the console. Where the descriptor is not open the service refuses in the abstract system too.
+use Rattle.std.proofs.Common.{◌≡◌, ◌∙◌, ◌+◌, ◌<◌, ◌≤◌, ℕ, Bool, true, false, Option, Some, None}
+use Rattle.std.proofs.Common.{List, [], refl, sym, ap, subst, arith}
+use Rattle.std.specs.Prelude.{is_some}
+use Rattle.std.specs.Option.{option_map}
+use Rattle.std.proofs.lemmas.Option.{same_Some, none-some}
+use Rattle.jos_base.specs.declared.numbers.TheConstants.{E_INVAL}
+use Rattle.jos_base.specs.declared.registers.Regs.{Regs}
+use Rattle.jos_base.specs.Environments.{Slot}
+use Rattle.jos_base.specs.KernelState.{KernelState, slot_at, with_extra}
+use Rattle.jos_base.specs.Reach.{Entry}
+use Rattle.jos_base.specs.Words.{negated, page_number, page_offset}
+use Rattle.jos_base.proofs.Options.{some_is}
+use Rattle.lib_os.specs.declared.numbers.TheConstants.{DESCRIPTORS, DEVICE_CONSOLE, FD_DEVICE}
+use Rattle.lib_os.specs.declared.place.Place.TheVariants as place
+use Rattle.lib_os.specs.declared.place.Step.{Step}
+use Rattle.lib_os.specs.declared.place.Step.TheVariants as step
+use Rattle.lib_os.specs.declared.progress.Progress.TheVariants as progress
+use Rattle.lib_os.specs.declared.service.Service.{Service}
+use Rattle.lib_os.specs.declared.service.Service.TheVariants as service
+use Rattle.lib_os.specs.AbstractState.{AbstractState, Born, Object, born, entered, file, terminal, read_end, write_end}
+use Rattle.lib_os.specs.Answers.{answered, refused}
+use Rattle.lib_os.specs.DescriptorPages.{HasObject, device_of}
+use Rattle.lib_os.specs.Descriptors.{object_name, object_of}
+use Rattle.lib_os.specs.InOrder.{IsInOrder}
+use Rattle.lib_os.specs.LibraryCall.{library_step}
+use Rattle.lib_os.specs.LibraryPages.{View, keeps_page}
+use Rattle.lib_os.specs.LibrarySteps.{GoesOn, KeepsStanding, service_answered}
+use Rattle.lib_os.specs.Places.{place_of, words_at}
+use Rattle.lib_os.specs.Rows.{EntryRow, IsNamed, IsUsers, Names, ShowsBy, descriptor_page, is_shared, logical, rows_of}
+use Rattle.lib_os.specs.StandsFor.{IsIn, IsLookingUp, IsReadingDevice, StandsAtDevice, StandsAtStep, StandsFor}
+use Rattle.lib_os.specs.StandsFor.{borne_in, descriptor_given, view_of}
+use Rattle.lib_os.specs.StandsInHandler as stands
+use Rattle.lib_os.specs.UserCalls.{load}
+use Rattle.lib_os.proofs.Answering.{back_stands}
+use Rattle.lib_os.proofs.BufferLooks.{tells_page}
+use Rattle.lib_os.proofs.DescriptorLooks.{descriptor_begins, descriptor_user, descriptor_va, entry_bits, entry_va, is_descriptors}
+use Rattle.lib_os.proofs.DescriptorLooks.{no_table_row, none_there, object_is, object_missing, object_past, page_gives, page_told, page_word}
+use Rattle.lib_os.proofs.DescriptorLooks.{read_answers, read_goes_on}
+use Rattle.lib_os.proofs.DescriptorLooks.{table_told, table_va, table_word}
+use Rattle.lib_os.proofs.GoingOn.{in_with_words}
+use Rattle.lib_os.proofs.Loading.{loaded}
+use Rattle.lib_os.proofs.Logical.{logical_beside, unborne_unremapped}
+use Rattle.lib_os.proofs.Numbered.{number_of}
+use Rattle.lib_os.proofs.PageWords.{load_page_word}
+use Rattle.lib_os.proofs.Serving.{IsServed, holds_page, printed_nothing, served, step_in}
+use Rattle.lib_os.proofs.SlotsStand.{born_at, born_live}
+use Rattle.lib_os.proofs.WindowWords.{read_at}
+
+-- ---- the page of a descriptor that is open
+
+-- where the word stands that tells what it names
+abbrev pub device_va : ℕ → ℕ
+device_va fd = descriptor_va fd + FD_DEVICE
+
+-- as far as objects are built, each is the console
+object_only : (object : Object) (bytes : List ℕ) → HasObject object bytes → (object ≡ terminal) × (device_of bytes ≡ DEVICE_CONSOLE)
+object_only terminal bytes is = (refl, is)
+object_only (file f) bytes is = absurd is
+object_only (read_end pipe) bytes is = absurd is
+object_only (write_end pipe) bytes is = absurd is
+
+module _ {names : Names} {s : KernelState} {a : AbstractState} (h : StandsFor names s a) (n : ℕ) (b : Born) (at : a.slots n ≡ born b)
+    (unborne : borne_in (place_of (slot_at s n)) ≡ None) (fd : ℕ) (below : fd < DESCRIPTORS) where
+  abbrev row : EntryRow
+  row = rows_of s.spaces (slot_at s n).directory
+
+  module _ (x : Entry) (is : row (descriptor_page fd) ≡ Some x) where
+    shared_page : is_shared x.perm ≡ true
+    shared_page = ap is_shared (entry_bits h n b at fd x below is)
+
+    user : IsUsers x.perm
+    user = subst (λ (perm : ℕ). IsUsers perm) (sym (entry_bits h n b at fd x below is)) descriptor_user
+
+    counts : logical s.spaces s.environments.slots n (descriptor_page fd) ≡ Some x
+    counts =
+        logical_beside s.spaces s.environments.slots n (born_live (born_at h n b at)) (descriptor_page fd)
+        (λ same. absurd (omega (arith, same, below))) (unborne_unremapped (place_of (slot_at s n)) (descriptor_page fd) unborne)
+        ∙ is
+
+    named_so : IsNamed names s.spaces.pages a.shared a.objects a.next_name (descriptor_page fd) x.frame
+    named_so = h.named n (descriptor_page fd) x counts shared_page
+
+    shows : HasObject (a.objects (names.name x.frame)) (s.spaces.pages x.frame)
+    shows =
+        subst (λ (c : Bool). ShowsBy c (a.shared (names.name x.frame)) (a.objects (names.name x.frame)) (s.spaces.pages x.frame))
+        (named_so.kind ∙ is_descriptors fd below) named_so.shows
+
+    -- it names the console
+    pub terminal_seen : object_of a b fd ≡ Some terminal
+    terminal_seen =
+        ap (option_map a.objects) (object_is h n b at fd x below is)
+        ∙ ap (λ (o : Object). Some o) ((object_only (a.objects (names.name x.frame)) (s.spaces.pages x.frame) shows).0)
+
+    -- and its word says so
+    pub terminal_given : load s n (device_va fd) ≡ read_at s n (device_va fd) DEVICE_CONSOLE
+    terminal_given =
+        let begins = descriptor_begins fd below in
+        let none : device_va fd ≡ descriptor_va fd = omega arith in
+        let number : page_number (device_va fd) ≡ descriptor_page fd = ap page_number none ∙ begins.1 in
+        let offset : page_offset (device_va fd) ≡ 0 = omega arith in
+        load_page_word s n (device_va fd) x (omega arith) (ap row number ∙ is) user.page h.in_order.frames
+        ∙ ap (λ (o : ℕ). read_at s n (device_va fd) (stands.page_word (s.spaces.pages x.frame) o)) offset
+        ∙ ap (read_at s n (device_va fd)) ((object_only (a.objects (names.name x.frame)) (s.spaces.pages x.frame) shows).1)
+
+-- ---- the services that want to know what a descriptor names
+
+-- none of them keeps a page before it knows it
+pub holds_none : (s : Service) (at : Step) → keeps_page at ≡ false → holds_page (place.InService s at) ≡ false
+holds_none (service.Write fd va len) at none = none
+holds_none _ at none = refl
+
+-- none bears a child
+given_unborne : (s : Service) (fd : ℕ) → descriptor_given s ≡ Some fd → (at : Step) → borne_in (place.InService s at) ≡ None
+given_unborne service.Fork fd given at = absurd (none-some fd given)
+given_unborne _ fd given at = refl
+
+-- each looks its descriptor up
+module _ (v : View) (k : Slot) (b : Born) (at fd : ℕ) where
+  looks_up : (s : Service) → descriptor_given s ≡ Some fd → IsLookingUp v k b s at fd → StandsAtStep v k b s (step.DescriptorEntry at)
+  looks_up (service.Read other va len) given h =
+      subst (λ (f : ℕ). IsLookingUp v k b (service.Read other va len) at f) (sym (same_Some other fd given)) h
+  looks_up (service.Write other va len) given h =
+      subst (λ (f : ℕ). IsLookingUp v k b (service.Write other va len) at f) (sym (same_Some other fd given)) h
+  looks_up (service.Seek other offset) given h =
+      subst (λ (f : ℕ). IsLookingUp v k b (service.Seek other offset) at f) (sym (same_Some other fd given)) h
+  looks_up (service.Stat other va) given h =
+      subst (λ (f : ℕ). IsLookingUp v k b (service.Stat other va) at f) (sym (same_Some other fd given)) h
+  looks_up (service.SetSize other size) given h =
+      subst (λ (f : ℕ). IsLookingUp v k b (service.SetSize other size) at f) (sym (same_Some other fd given)) h
+  looks_up _ given h = absurd (none-some fd given)
+
+  looked_up : (s : Service) → descriptor_given s ≡ Some fd → StandsAtStep v k b s (step.DescriptorEntry at) → IsLookingUp v k b s at fd
+  looked_up (service.Read other va len) given h =
+      subst (λ (f : ℕ). IsLookingUp v k b (service.Read other va len) at f) (same_Some other fd given) h
+  looked_up (service.Write other va len) given h =
+      subst (λ (f : ℕ). IsLookingUp v k b (service.Write other va len) at f) (same_Some other fd given) h
+  looked_up (service.Seek other offset) given h =
+      subst (λ (f : ℕ). IsLookingUp v k b (service.Seek other offset) at f) (same_Some other fd given) h
+  looked_up (service.Stat other va) given h =
+      subst (λ (f : ℕ). IsLookingUp v k b (service.Stat other va) at f) (same_Some other fd given) h
+  looked_up (service.SetSize other size) given h =
+      subst (λ (f : ℕ). IsLookingUp v k b (service.SetSize other size) at f) (same_Some other fd given) h
+  looked_up _ given h = absurd (none-some fd given)
+
+nothing_named : (a : AbstractState) (b : Born) (other fd : ℕ) → Some other ≡ Some fd → object_name b fd ≡ None → object_of a b other ≡ None
+nothing_named a b other fd same none = ap (λ (f : ℕ). object_of a b f) (same_Some other fd same) ∙ ap (option_map a.objects) none
+
+-- Where it is not open they refuse.
+pub no_object_refuses : (a : AbstractState) (n : ℕ) (b : Born) (regs : Regs) (s : Service) (fd : ℕ) → descriptor_given s ≡ Some fd →
+    object_name b fd ≡ None → library_step a n b regs s entered ≡ Some (refused a n b regs E_INVAL)
+unfolding library_step
+no_object_refuses a n b regs (service.Read other va len) fd given none =
+    let nothing = nothing_named a b other fd given none in rw nothing refl
+no_object_refuses a n b regs (service.Write other va len) fd given none =
+    let nothing = nothing_named a b other fd given none in rw nothing refl
+no_object_refuses a n b regs (service.Seek other offset) fd given none =
+    let nothing = nothing_named a b other fd given none in rw nothing refl
+no_object_refuses a n b regs (service.Stat other va) fd given none =
+    let nothing = nothing_named a b other fd given none in rw nothing refl
+no_object_refuses a n b regs (service.SetSize other size) fd given none =
+    let nothing = nothing_named a b other fd given none in rw nothing refl
+no_object_refuses a n b regs _ fd given none = absurd (none-some fd given)
+
+-- ---- behind a load a service answers what the abstract system answers
+
+pub look_answers : {names : Names} {s : KernelState} {a : AbstractState} → StandsFor names s a → (n : ℕ) (service : Service) (from : Step) →
+    (v : IsServed names s a n service from) → borne_in (place.InService service from) ≡ None → holds_page (place.InService service from) ≡ false →
+    (va : ℕ) → IsInOrder (loaded s n va) → IsIn (slot_at s n) v.b service entered → (word : ℕ) →
+    library_step a n v.b (slot_at s n).registers service entered ≡ Some (answered a n v.b (slot_at s n).registers word) →
+    GoesOn n (service_answered (loaded s n va) n word) a []
+look_answers {names = names} {s = s} {a = a} h n service from v unborne none va order is_in word is = (
+  answered a n v.b (slot_at s n).registers word,
+  step_in a n v.b (slot_at s n) service entered v.is is_in ∙ is,
+  printed_nothing a,
+  (names, read_answers h n service from v unborne va order none is_in word),
+)
+
+-- ---- its steps
+
+module _ (s : KernelState) (n : ℕ) (service : Service) (fd : ℕ) (given : descriptor_given service ≡ Some fd) where
+  abbrev space : View
+  space = view_of s.spaces (slot_at s n).directory
+
+  unborne_at : (at : Step) → borne_in (place.InService service at) ≡ None
+  unborne_at at = given_unborne service fd given at
+
+  -- ---- a number that is none of a descriptor, and whether the region has a table
+
+  module _ (stands : place_of (slot_at s n) ≡ place.InService service step.Entered) where
+    pub past_keeps : DESCRIPTORS ≤ fd → KeepsStanding progress.Finished n s (service_answered s n (negated E_INVAL)) []
+    past_keeps above a h quiet =
+        let v = served h.1 n service step.Entered stands in
+        let here : IsIn (slot_at s n) v.b service entered = v.at in
+        let regs = (slot_at s n).registers in (
+          refused a n v.b regs E_INVAL,
+          step_in a n v.b (slot_at s n) service entered v.is here
+              ∙ no_object_refuses a n v.b regs service fd given (object_past h.1 n v.b v.is fd above),
+          printed_nothing a,
+          (
+            h.0,
+            back_stands h.1 n v.b v.is (record regs { eax = negated E_INVAL }) (ap borne_in v.place ∙ unborne_at step.Entered)
+                (ap holds_page v.place ∙ holds_none service step.Entered refl) here.silent here.awake v.outside refl refl,
+          ),
+        )
+
+    module _ (below : fd < DESCRIPTORS) {names : Names} {a : AbstractState} (h : StandsFor names s a) (order : IsInOrder (loaded s n table_va)) where
+      abbrev at_entry : IsServed names s a n service step.Entered
+      at_entry = served h n service step.Entered stands
+
+      pub table_missing : tells_page (table_word s n) ≡ false → GoesOn n (service_answered (loaded s n table_va) n (negated E_INVAL)) a []
+      table_missing told =
+          let none = sym (table_told s n) ∙ told in
+          look_answers h n service step.Entered at_entry (unborne_at step.Entered) (holds_none service step.Entered refl) table_va order at_entry.at
+          (negated E_INVAL)
+          (no_object_refuses a n at_entry.b (slot_at s n).registers service fd given
+          (object_missing h n at_entry.b at_entry.is fd (no_table_row h n at_entry.b at_entry.is none fd below)))
+
+      pub table_found : tells_page (table_word s n) ≡ true →
+          StandsFor names (with_extra (loaded s n table_va) n (words_at (number_of service) (step.DescriptorEntry fd))) a
+      table_found told =
+          read_goes_on h n service step.Entered at_entry (unborne_at step.Entered) table_va order (step.DescriptorEntry fd)
+          (unborne_at (step.DescriptorEntry fd))
+          (holds_none service step.Entered refl ∙ sym (holds_none service (step.DescriptorEntry fd) refl))
+          (looks_up space (record (slot_at s n) { extra = words_at (number_of service) (step.DescriptorEntry fd) }) at_entry.b fd fd service given
+          (record {
+            is_in = in_with_words (words_at (number_of service) (step.DescriptorEntry fd)) at_entry.at;
+            same = refl;
+            below = below;
+            table = sym (table_told s n) ∙ told;
+          }))
+
+  -- ---- whether the descriptor is open
+
+  module _ (at : ℕ) (stands : place_of (slot_at s n) ≡ place.InService service (step.DescriptorEntry at)) {names : Names} {a : AbstractState}
+      (h : StandsFor names s a) where
+    abbrev at_page : IsServed names s a n service (step.DescriptorEntry at)
+    at_page = served h n service (step.DescriptorEntry at) stands
+
+    looking : IsLookingUp space (slot_at s n) at_page.b service at fd
+    looking = looked_up space (slot_at s n) at_page.b at fd service given at_page.at
+
+    pub entry_gives : load s n (entry_va fd) ≡ read_at s n (entry_va fd) (page_word s n fd)
+    entry_gives = page_gives h n fd looking.below looking.table
+
+    module _ (order : IsInOrder (loaded s n (entry_va fd))) where
+      told_open : tells_page (page_word s n fd) ≡ is_some (space.row (descriptor_page fd))
+      told_open = page_told h n at_page.b at_page.is fd looking.below
+
+      pub entry_missing : tells_page (page_word s n fd) ≡ false → GoesOn n (service_answered (loaded s n (entry_va fd)) n (negated E_INVAL)) a []
+      entry_missing told =
+          look_answers h n service (step.DescriptorEntry at) at_page (unborne_at (step.DescriptorEntry at))
+          (holds_none service (step.DescriptorEntry at) refl) (entry_va fd) order looking.is_in (negated E_INVAL)
+          (no_object_refuses a n at_page.b (slot_at s n).registers service fd given
+          (object_missing h n at_page.b at_page.is fd (none_there (space.row (descriptor_page fd)) (sym told_open ∙ told))))
+
+      pub entry_found : tells_page (page_word s n fd) ≡ true →
+          StandsFor names (with_extra (loaded s n (entry_va fd)) n (words_at (number_of service) step.ReadingDevice)) a
+      entry_found told =
+          read_goes_on h n service (step.DescriptorEntry at) at_page (unborne_at (step.DescriptorEntry at)) (entry_va fd) order step.ReadingDevice
+          (unborne_at step.ReadingDevice)
+          (holds_none service (step.DescriptorEntry at) refl ∙ sym (holds_none service step.ReadingDevice refl))
+          (subst
+          (λ (o : Option ℕ). StandsAtDevice space (record (slot_at s n) { extra = words_at (number_of service) step.ReadingDevice }) at_page.b service o)
+          (sym given) (record {
+            is_in = in_with_words (words_at (number_of service) step.ReadingDevice) looking.is_in;
+            below = looking.below;
+            stands = sym told_open ∙ told;
+          }))
+
+  -- ---- what it names
+
+  module _ (stands : place_of (slot_at s n) ≡ place.InService service step.ReadingDevice) {names : Names} {a : AbstractState}
+      (h : StandsFor names s a) where
+    abbrev pub at_device : IsServed names s a n service step.ReadingDevice
+    at_device = served h n service step.ReadingDevice stands
+
+    pub reading_device : IsReadingDevice space (slot_at s n) at_device.b service fd
+    reading_device = subst (λ (o : Option ℕ). StandsAtDevice space (slot_at s n) at_device.b service o) given at_device.at
+
+    open_entry : (x : Entry) × (space.row (descriptor_page fd) ≡ Some x)
+    open_entry = some_is (space.row (descriptor_page fd)) reading_device.stands
+
+    pub device_object : object_of a at_device.b fd ≡ Some terminal
+    device_object =
+        terminal_seen h n at_device.b at_device.is (ap borne_in stands ∙ unborne_at step.ReadingDevice) fd reading_device.below
+        open_entry.0 open_entry.1
+
+    pub device_gives : load s n (device_va fd) ≡ read_at s n (device_va fd) DEVICE_CONSOLE
+    device_gives =
+        terminal_given h n at_device.b at_device.is (ap borne_in stands ∙ unborne_at step.ReadingDevice) fd reading_device.below
+        open_entry.0 open_entry.1
+
+    -- Behind it the service may answer what the abstract system answers of the console.
+    pub device_answers : IsInOrder (loaded s n (device_va fd)) → (word : ℕ) →
+        library_step a n at_device.b (slot_at s n).registers service entered ≡ Some (answered a n at_device.b (slot_at s n).registers word) →
+        GoesOn n (service_answered (loaded s n (device_va fd)) n word) a []
+    device_answers order word is =
+        look_answers h n service step.ReadingDevice at_device (unborne_at step.ReadingDevice) (holds_none service step.ReadingDevice refl)
+        (device_va fd) order reading_device.is_in word is
+
+    -- or go on
+    pub device_goes_on : IsInOrder (loaded s n (device_va fd)) → (to : Step) → keeps_page to ≡ false →
+        StandsAtStep space (record (slot_at s n) { extra = words_at (number_of service) to }) at_device.b service to →
+        StandsFor names (with_extra (loaded s n (device_va fd)) n (words_at (number_of service) to)) a
+    device_goes_on order to plain so =
+        read_goes_on h n service step.ReadingDevice at_device (unborne_at step.ReadingDevice) (device_va fd) order to (unborne_at to)
+        (holds_none service step.ReadingDevice refl ∙ sym (holds_none service to plain)) so

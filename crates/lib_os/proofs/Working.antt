@@ -1,0 +1,79 @@
+-- Whether a service keeps a page at UTEMP is told by the words that are kept for it, wherever its environment stands: at the service, and
+-- in the handler of page faults above it.
+use Rattle.std.proofs.Common.{◌≡◌, ◌≢◌, ◌∙◌, ◌==◌, ◌&&◌, ◌+◌, ◌-◌, ℕ, Bool, true, false, List, refl, sym, ap, arith, if◌then◌else◌}
+use Rattle.std.proofs.lemmas.Bool.Decides.{nat_tests}
+use Rattle.jos_base.specs.declared.registers.Regs.{Regs}
+use Rattle.jos_base.specs.Environments.{Slot}
+use Rattle.lib_os.specs.declared.numbers.TheConstants.{SERVICE_WRITE}
+use Rattle.lib_os.specs.declared.place.Place.TheVariants as place
+use Rattle.lib_os.specs.declared.place.Step.{Step}
+use Rattle.lib_os.specs.declared.service.Service.{Service}
+use Rattle.lib_os.specs.declared.service.Service.TheVariants as service
+use Rattle.lib_os.specs.LibraryPages.{has_working, keeps_page, keeps_page_beneath}
+use Rattle.lib_os.specs.Places.{place_in_words, place_of, service_word, step_in}
+use Rattle.lib_os.specs.Services.{is_built, named_service, service_of}
+use Rattle.lib_os.proofs.Numbered.{number_of, numbered}
+use Rattle.lib_os.proofs.WordsTell.{by_esp}
+
+-- a service keeps one by its number and its step
+by_number : (s : Service) (at : Step) (words : List ℕ) →
+    has_working (place.InService s at) words ≡ ((number_of s == SERVICE_WRITE) && keeps_page at)
+by_number service.Exit at words = refl
+by_number (service.Cputs va len) at words = refl
+by_number service.GetId at words = refl
+by_number service.Yield at words = refl
+by_number service.Fork at words = refl
+by_number (service.Wait id) at words = refl
+by_number (service.PageNew va flags) at words = refl
+by_number (service.PageDrop va) at words = refl
+by_number (service.Send id value va) at words = refl
+by_number (service.Receive va from) at words = refl
+by_number (service.OpenFile path mode) at words = refl
+by_number (service.Close fd) at words = refl
+by_number (service.Read fd va len) at words = refl
+by_number (service.Write fd va len) at words = refl
+by_number (service.Seek fd offset) at words = refl
+by_number (service.Stat fd va) at words = refl
+by_number (service.SetSize fd size) at words = refl
+by_number (service.Remove path) at words = refl
+by_number service.Sync at words = refl
+by_number (service.Dup old new) at words = refl
+by_number service.Pipe at words = refl
+by_number (service.Spawn path argv) at words = refl
+by_number service.Unknown at words = refl
+
+-- and that of write names no other service
+named_write : (r : Regs) → (number_of (service_of r) == SERVICE_WRITE) ≡ (r.eax == SERVICE_WRITE)
+unfolding service_of
+named_write r = by_test (is_built r.eax) refl
+  where
+    by_test : (t : Bool) → is_built r.eax ≡ t →
+        (number_of (if t then named_service r else service.Unknown) == SERVICE_WRITE) ≡ (r.eax == SERVICE_WRITE)
+    by_test true built = ap (λ (n : ℕ). n == SERVICE_WRITE) (numbered r built)
+    by_test false none =
+        let other : r.eax ≢ SERVICE_WRITE = λ same. let contradiction : true ≡ false = sym (ap is_built same) ∙ none in cc in
+        let off : (r.eax == SERVICE_WRITE) ≡ false = grind (arith, nat_tests, other) in
+        sym off
+
+pub working_is : (regs : Regs) (words : List ℕ) → has_working (place_in_words regs words) words ≡ keeps_page_beneath words
+unfolding place_in_words
+working_is regs words =
+    by_esp _ (service_word words == 0) _ _ _ (λ p. has_working p words ≡ keeps_page_beneath words) (λ esp none. at_guest none)
+    (λ esp some. in_service some) (λ esp. refl)
+  where
+    at_guest : (service_word words == 0) ≡ true → false ≡ ((service_word words == SERVICE_WRITE + 1) && keeps_page (step_in words))
+    at_guest none =
+        let off : (service_word words == SERVICE_WRITE + 1) ≡ false = grind (arith, nat_tests) in
+        sym (ap (λ (t : Bool). t && keeps_page (step_in words)) off)
+
+    in_service : (service_word words == 0) ≡ false →
+        has_working (place.InService (service_of (record regs { eax = service_word words - 1 })) (step_in words)) words
+        ≡ ((service_word words == SERVICE_WRITE + 1) && keeps_page (step_in words))
+    in_service some =
+        let same : (service_word words - 1 == SERVICE_WRITE) ≡ (service_word words == SERVICE_WRITE + 1) = grind (arith, nat_tests) in
+        by_number (service_of (record regs { eax = service_word words - 1 })) (step_in words) words
+        ∙ ap (λ (t : Bool). t && keeps_page (step_in words)) (named_write (record regs { eax = service_word words - 1 }) ∙ same)
+
+-- So it is the same whatever the registers.
+pub words_work : (k : Slot) (regs : Regs) → has_working (place_of k) k.extra ≡ has_working (place_of (record k { registers = regs })) k.extra
+words_work k regs = working_is k.registers k.extra ∙ sym (working_is regs k.extra)

@@ -1,0 +1,4 @@
+pub mod TerminalBytes
+pub mod Delivery
+pub mod StatLaw
+pub mod ReadLaw

@@ -1,0 +1,292 @@
+-- The law of stat on the console: up to what its descriptor names each of its stages is a part of one step of the abstract system, in which
+-- it finds what it tells; then each time it puts bytes is a step of its own.
+use Rattle.std.proofs.Common.{◌≡◌, ◌∙◌, ◌+◌, ◌++◌, ◌%◌, ◌^◌, ◌==◌, ℕ, Bool, true, false, not, [], Some, Ok}
+use Rattle.std.proofs.Common.{refl, sym, ap, arith, if◌then◌else◌}
+use Rattle.std.specs.Prelude.{drop, nat_le}
+use Rattle.jos_base.specs.declared.called.Called.{Called}
+use Rattle.jos_base.specs.declared.memory.Access.TheVariants.{Read, Write}
+use Rattle.jos_base.specs.declared.numbers.TheConstants.{E_INVAL, E_NOT_SUPP, PGSIZE}
+use Rattle.jos_base.specs.declared.registers.Regs.{Regs}
+use Rattle.jos_base.specs.Environments.{Slot, is_live}
+use Rattle.jos_base.specs.KernelState.{KernelState, slot_at, with_extra}
+use Rattle.jos_base.specs.Messages.{Rendezvous}
+use Rattle.jos_base.specs.UserMemory.{is_allowed}
+use Rattle.jos_base.specs.Words.{negated}
+use Rattle.fs_layout.specs.FileActs.{stat_bytes}
+use Rattle.lib_os.specs.declared.numbers.TheConstants.{DEVICE_CONSOLE, SERVICE_STAT, STAT_SIZE}
+use Rattle.lib_os.specs.declared.place.Place.TheVariants as place
+use Rattle.lib_os.specs.declared.place.Step.{Step}
+use Rattle.lib_os.specs.declared.place.Step.TheVariants as step
+use Rattle.lib_os.specs.declared.service.Service.{Service}
+use Rattle.lib_os.specs.declared.service.Service.TheVariants as service
+use Rattle.lib_os.specs.AbstractState.{AbstractState, Born, guest, delivering, entered, in_service, terminal}
+use Rattle.lib_os.specs.Answers.{at_stage, refused}
+use Rattle.lib_os.specs.Descriptors.{object_of}
+use Rattle.lib_os.specs.Fence.{is_buffer}
+use Rattle.lib_os.specs.FileServices.{terminal_stat}
+use Rattle.lib_os.specs.InOrder.{IsInOrder}
+use Rattle.lib_os.specs.LibraryCall.{library_step}
+use Rattle.lib_os.specs.LibraryPages.{View}
+use Rattle.lib_os.specs.LibrarySteps.{Lowers}
+use Rattle.lib_os.specs.Places.{place_of, words_at}
+use Rattle.lib_os.specs.Rows.{Names}
+use Rattle.lib_os.specs.StandsFor.{StandsAtStep, StandsFor, borne_in}
+use Rattle.lib_os.specs.StandsInHandler.{AreSmall, IsDelivering}
+use Rattle.lib_os.specs.UserCalls.{CallStep}
+use Rattle.lib_os.proofs.BufferAccesses.{stage_stands}
+use Rattle.lib_os.proofs.BytesDelivered.{stat_answers, stat_behind, stat_byte_put, stat_console, stat_delivered, stat_goes_on, stat_looks}
+use Rattle.lib_os.proofs.BytesDelivered.{stat_putting, stat_step, stat_word_put, terminal_byte, terminal_word}
+use Rattle.lib_os.proofs.BytesRefused.{stat_lost_after, stat_lost_byte, stat_lost_lowers, stat_lost_stands, stat_lost_word}
+use Rattle.lib_os.proofs.DeviceLooks.{at_device, device_answers, device_object, device_va, reading_device}
+use Rattle.lib_os.proofs.Loading.{loaded}
+use Rattle.lib_os.proofs.Numbered.{named_at}
+use Rattle.lib_os.proofs.Serving.{IsServed, holds_page, printed_nothing, served, step_in}
+use Rattle.lib_os.proofs.StatesStand.{quiet_stands}
+use Rattle.lib_os.proofs.Touching.{touched_quiet}
+use Rattle.lib_stage.specs.declared.ask.Ask.TheVariants as ask
+use Rattle.lib_stage.specs.declared.ask.Next.{Next}
+use Rattle.lib_stage.specs.declared.ask.Next.TheVariants as next
+use Rattle.lib_stage.specs.Asks.{performed, told_as}
+use Rattle.lib_stage.specs.Nexts.{seen_as, settled}
+use Rattle.lib_stage.specs.ServiceSteps.{ServiceHolds, nowhere, or_nowhere}
+use Rattle.lib_stage.proofs.Laws.{Falls, law_of_nowhere, plainly}
+use Rattle.lib_file.specs.Finding.{device_asked}
+use Rattle.lib_file.proofs.BufferLaw.{buffer_entry_holds, buffer_region_holds}
+use Rattle.lib_file.proofs.FaultingLaw.{stat_faulting_holds}
+use Rattle.lib_file.proofs.Finds.{Follows, device_holds, entry_holds, region_holds, staged}
+use Rattle.lib_read.specs.ReadStages.{next_va}
+use Rattle.lib_read.specs.StatStages.{delivery_asked, moved, next_of_delivery, next_of_device, stat_at, telling}
+use Rattle.lib_read.proofs.Delivery.{PutOrLost, byte_lives, delivery_holds, lost, put, word_lives}
+use Rattle.lib_read.proofs.TerminalBytes.{terminal_length, terminal_small}
+
+-- ---- its step in the abstract system, by its buffer
+
+module _ (a : AbstractState) (n : ℕ) (b : Born) (regs : Regs) (fd va : ℕ) (is : object_of a b fd ≡ Some terminal) where
+  stat_refuses : is_buffer va STAT_SIZE ≡ false → library_step a n b regs (service.Stat fd va) entered ≡ Some (refused a n b regs E_INVAL)
+  unfolding library_step
+  stat_refuses outside = rw (is, outside) refl
+
+  stat_finds : is_buffer va STAT_SIZE ≡ true →
+      library_step a n b regs (service.Stat fd va) entered ≡ Some (at_stage a n b (service.Stat fd va) (delivering va terminal_stat 0))
+  unfolding library_step stat_bytes
+  stat_finds inside = rw (is, inside) refl
+
+module _ (s : KernelState) (n fd va : ℕ) (live : is_live (slot_at s n) ≡ true) (small : AreSmall (slot_at s n).registers) where
+  abbrev stat : Service
+  stat = service.Stat fd va
+
+  -- ---- what its descriptor names
+
+  module _ (stands : place_of (slot_at s n) ≡ place.InService (service.Stat fd va) step.ReadingDevice) where
+    device_falls : (word : ℕ) → Falls stat step.ReadingDevice (next_of_device va word)
+    device_falls word = by_tests (word == DEVICE_CONSOLE) (is_buffer va STAT_SIZE)
+      where
+        by_tests : (console inside : Bool) → Falls stat step.ReadingDevice
+            (if not console then next.Answer (negated E_NOT_SUPP)
+            else if not inside then next.Answer (negated E_INVAL) else next.Show (step.BufferRegion 0 0))
+        by_tests false inside = tt
+        by_tests true false = tt
+        by_tests true true = tt
+
+    module _ (names : Names) (a : AbstractState) (h : StandsFor names s a) (order : IsInOrder (loaded s n (device_va fd))) where
+      abbrev v : IsServed names s a n (service.Stat fd va) step.ReadingDevice
+      v = at_device s n stat fd refl stands h
+
+      abbrev after : KernelState
+      after = loaded s n (device_va fd)
+
+      seen : object_of a v.b fd ≡ Some terminal
+      seen = device_object s n stat fd refl stands h
+
+      none_behind : va + 0 ≡ va
+      none_behind = omega arith
+
+      -- it has all bytes before it
+      begins : (k : Slot) → k.registers ≡ (slot_at s n).registers → k.rendezvous ≡ (slot_at s n).rendezvous → is_buffer va STAT_SIZE ≡ true →
+          IsDelivering k (record v.b { phase = in_service stat (delivering va terminal_stat 0) }) stat (va + 0) (drop 0 terminal_stat) 0
+      begins k same silent inside =
+          let it = (reading_device s n stat fd refl stands h).is_in in
+          let all = terminal_length in
+          record {
+            program = it.program ∙ ap guest (sym same);
+            phase = ap (λ (q : ℕ). in_service stat (delivering q terminal_stat 0)) (sym none_behind);
+            silent = ap (λ (r : Rendezvous). r.receiving) silent ∙ it.silent;
+            awake = it.awake;
+            some = omega (arith, all);
+            inside = (λ i. is_buffer (none_behind i) (all i)) ∙ inside;
+            small = terminal_small;
+          }
+
+      looks : is_buffer va STAT_SIZE ≡ true → StandsFor names (with_extra after n (words_at SERVICE_STAT (step.BufferRegion 0 0)))
+          (at_stage a n v.b stat (delivering va terminal_stat 0))
+      looks inside =
+          stage_stands (quiet_stands h (touched_quiet s.spaces (slot_at s n).directory (device_va fd) Read) order) n SERVICE_STAT v.b v.is v.outside
+          (ap borne_in stands) stat (step.BufferRegion 0 0) (delivering va terminal_stat 0) (ap holds_page stands) refl
+          (named_at (slot_at s n) stat step.ReadingDevice stands)
+          (begins (record (slot_at s n) { extra = words_at SERVICE_STAT (step.BufferRegion 0 0) }) refl refl inside, tt)
+
+      device_follows : Follows after n stat a (next_of_device va DEVICE_CONSOLE)
+      device_follows = by_test (is_buffer va STAT_SIZE) refl
+        where
+          by_test : (t : Bool) → is_buffer va STAT_SIZE ≡ t →
+              Follows after n stat a (if not t then next.Answer (negated E_INVAL) else next.Show (step.BufferRegion 0 0))
+          by_test false outside =
+              device_answers s n stat fd refl stands h order (negated E_INVAL)
+              (stat_refuses a n v.b (slot_at s n).registers fd va seen outside)
+          by_test true inside = (
+            at_stage a n v.b stat (delivering va terminal_stat 0),
+            step_in a n v.b (slot_at s n) stat entered v.is (reading_device s n stat fd refl stands h).is_in
+                ∙ stat_finds a n v.b (slot_at s n).registers fd va seen inside,
+            printed_nothing a,
+            (names, looks inside),
+          )
+
+    device_told : ServiceHolds s n (staged stat (device_asked fd) (next_of_device va))
+    device_told = device_holds s n stat fd refl live stands (next_of_device va) device_falls device_follows
+
+  -- ---- it puts bytes
+
+  module _ (done word : ℕ) (stands : place_of (slot_at s n) ≡ place.InService (service.Stat fd va) (step.Delivering done word)) where
+    shows : (called : Called) (after : KernelState) →
+        Lowers (Ok (seen_as (next_of_delivery va done))) n s (settled SERVICE_STAT (next_of_delivery va done) after n)
+    shows called after = by_tests (nat_le STAT_SIZE behind) (next_va va behind % PGSIZE == 0)
+      where
+        behind : ℕ
+        behind = (done + moved va done) % 2 ^ 32
+
+        by_tests : (past page : Bool) →
+            let x = if past then next.Answer 0 else if page then next.Show (step.BufferRegion behind 0) else next.Show (step.Delivering behind 0) in
+            Lowers (Ok (seen_as x)) n s (settled SERVICE_STAT x after n)
+        by_tests true page = tt
+        by_tests false true = tt
+        by_tests false false = tt
+
+    module _ (names : Names) (a : AbstractState) (h : StandsFor names s a) where
+      abbrev w : IsServed names s a n (service.Stat fd va) (step.Delivering done word)
+      w = served h n (service.Stat fd va) (step.Delivering done word) stands
+
+      -- what it is in the abstract system
+      put_follows : (on : is_allowed s.spaces (slot_at s n).directory (next_va va done) Write ≡ true) →
+          Follows (stat_putting h n fd va done word w on) n stat a (next_of_delivery va done)
+      put_follows on = by_past (nat_le STAT_SIZE behind) refl
+        where
+          behind : ℕ
+          behind = stat_behind h n fd va done word w
+
+          goes : (x : Next) → Type 0
+          goes x = Follows (stat_putting h n fd va done word w on) n stat a x
+
+          same : (stat_delivered h n fd va done word w).console ≡ a.console ++ []
+          same = stat_console h n fd va done word w on ∙ printed_nothing a
+
+          by_page : nat_le STAT_SIZE behind ≡ false → (t : Bool) → (next_va va behind % PGSIZE == 0) ≡ t →
+              goes (if t then next.Show (step.BufferRegion behind 0) else next.Show (step.Delivering behind 0))
+          by_page more true test =
+              (stat_delivered h n fd va done word w, stat_step h n fd va done word w, same, (names, stat_looks h n fd va done word w on more))
+          by_page more false test =
+              (stat_delivered h n fd va done word w, stat_step h n fd va done word w, same, (names, stat_goes_on h n fd va done word w on more test))
+
+          by_past : (t : Bool) → nat_le STAT_SIZE behind ≡ t →
+              goes (if t then next.Answer 0 else if next_va va behind % PGSIZE == 0 then next.Show (step.BufferRegion behind 0)
+              else next.Show (step.Delivering behind 0))
+          by_past true past =
+              (stat_delivered h n fd va done word w, stat_step h n fd va done word w, same, (names, stat_answers h n fd va done word w on past))
+          by_past false more = by_page more (next_va va behind % PGSIZE == 0) refl
+
+      -- a word, or a byte
+      word_comes : (moved va done == 4) ≡ true →
+          PutOrLost s n (staged stat (ask.Store (next_va va done) (terminal_word done)) (λ x. next_of_delivery va done)) names a
+      unfolding performed
+      word_comes test = by_allowed (is_allowed s.spaces (slot_at s n).directory (next_va va done) Write) refl
+        where
+          by_allowed : (t : Bool) → is_allowed s.spaces (slot_at s n).directory (next_va va done) Write ≡ t →
+              PutOrLost s n (staged stat (ask.Store (next_va va done) (terminal_word done)) (λ x. next_of_delivery va done)) names a
+          by_allowed true on = put (record {
+            after = stat_putting h n fd va done word w on;
+            is = ap (λ (z : CallStep (Unit {0})). told_as (λ x. 0) z) (stat_word_put h n fd va done word w on test);
+            goes = put_follows on;
+          })
+          by_allowed false off = lost (record {
+            after = stat_lost_after h n fd va done word w off;
+            is = ap (λ (z : CallStep (Unit {0})). told_as (λ x. 0) z) (stat_lost_word h n fd va done word w off (terminal_word done));
+            stands = stat_lost_stands h n fd va done word w off small;
+            lower = stat_lost_lowers h n fd va done word w off;
+          })
+
+      byte_comes : (moved va done == 4) ≡ false →
+          PutOrLost s n (staged stat (ask.StoreByte (next_va va done) (terminal_byte done)) (λ x. next_of_delivery va done)) names a
+      unfolding performed
+      byte_comes test = by_allowed (is_allowed s.spaces (slot_at s n).directory (next_va va done) Write) refl
+        where
+          by_allowed : (t : Bool) → is_allowed s.spaces (slot_at s n).directory (next_va va done) Write ≡ t →
+              PutOrLost s n (staged stat (ask.StoreByte (next_va va done) (terminal_byte done)) (λ x. next_of_delivery va done)) names a
+          by_allowed true on = put (record {
+            after = stat_putting h n fd va done word w on;
+            is = ap (λ (z : CallStep (Unit {0})). told_as (λ x. 0) z) (stat_byte_put h n fd va done word w on test);
+            goes = put_follows on;
+          })
+          by_allowed false off = lost (record {
+            after = stat_lost_after h n fd va done word w off;
+            is = ap (λ (z : CallStep (Unit {0})). told_as (λ x. 0) z) (stat_lost_byte h n fd va done word w off (terminal_byte done));
+            stands = stat_lost_stands h n fd va done word w off small;
+            lower = stat_lost_lowers h n fd va done word w off;
+          })
+
+    delivering_holds : ServiceHolds s n (staged stat (delivery_asked va done) (λ x. next_of_delivery va done))
+    delivering_holds = by_test (moved va done == 4) refl
+      where
+        by_test : (t : Bool) → (moved va done == 4) ≡ t →
+            ServiceHolds s n (staged stat (if t then ask.Store (next_va va done) (terminal_word done)
+            else ask.StoreByte (next_va va done) (terminal_byte done)) (λ x. next_of_delivery va done))
+        by_test true test =
+            delivery_holds s n (staged stat (ask.Store (next_va va done) (terminal_word done)) (λ x. next_of_delivery va done)) stat
+            (step.Delivering done word) (record { stands = stands; plain = plainly refl; goes_on = refl; few = omega arith })
+            (λ called. word_lives s n live (next_va va done) called (terminal_word done)) (λ may. may) shows
+            (λ names a h. word_comes names a h test)
+        by_test false test =
+            delivery_holds s n (staged stat (ask.StoreByte (next_va va done) (terminal_byte done)) (λ x. next_of_delivery va done)) stat
+            (step.Delivering done word) (record { stands = stands; plain = plainly refl; goes_on = refl; few = omega arith })
+            (λ called. byte_lives s n live (next_va va done) called (terminal_byte done)) (λ may. may) shows
+            (λ names a h. byte_comes names a h test)
+
+  -- ---- each step
+
+  no_step : (at : Step) → place_of (slot_at s n) ≡ place.InService stat at →
+      ((view : View) (k : Slot) (b : Born) → StandsAtStep view k b stat at → ⊥) → ServiceHolds s n nowhere
+  no_step at stands none = law_of_nowhere s n stat at stands refl none
+
+  pub stat_holds : (at : Step) → place_of (slot_at s n) ≡ place.InService (service.Stat fd va) at →
+      ServiceHolds s n (or_nowhere telling (stat_at fd va at))
+  stat_holds step.Entered stands = region_holds s n stat fd refl live stands
+  stat_holds (step.DescriptorEntry at) stands = entry_holds s n stat fd refl live at stands
+  stat_holds step.ReadingDevice stands = device_told stands
+  stat_holds (step.BufferRegion done word) stands = buffer_region_holds s n stat fd refl live done word 0 tt stands
+  stat_holds (step.BufferEntry done word) stands = buffer_entry_holds s n stat fd refl live done word 0 tt stands
+  stat_holds (step.Delivering done word) stands = delivering_holds done word stands
+  stat_holds (step.Faulting done word) stands = stat_faulting_holds s n small done word fd va stands 0
+  stat_holds (step.Trying perm) stands = no_step (step.Trying perm) stands (λ view k b h. h)
+  stat_holds (step.Pausing perm) stands = no_step (step.Pausing perm) stands (λ view k b h. h)
+  stat_holds step.ReadingRegion stands = no_step step.ReadingRegion stands (λ view k b h. h)
+  stat_holds step.ReadingEntry stands = no_step step.ReadingEntry stands (λ view k b h. h)
+  stat_holds (step.Receiving id) stands = no_step (step.Receiving id) stands (λ view k b h. h)
+  stat_holds (step.ReadingValue id) stands = no_step (step.ReadingValue id) stands (λ view k b h. h)
+  stat_holds (step.ReadingSender id value) stands = no_step (step.ReadingSender id value) stands (λ view k b h. h)
+  stat_holds (step.ReadingPerm id value sender) stands = no_step (step.ReadingPerm id value sender) stands (λ view k b h. h)
+  stat_holds (step.ForkRegion child region) stands = no_step (step.ForkRegion child region) stands (λ view k b h. h)
+  stat_holds (step.ForkEntry child page) stands = no_step (step.ForkEntry child page) stands (λ view k b h. h)
+  stat_holds (step.MapChild child page perm) stands = no_step (step.MapChild child page perm) stands (λ view k b h. h)
+  stat_holds (step.Remap child page) stands = no_step (step.Remap child page) stands (λ view k b h. h)
+  stat_holds (step.ChildStack child) stands = no_step (step.ChildStack child) stands (λ view k b h. h)
+  stat_holds (step.ChildUpcall child) stands = no_step (step.ChildUpcall child) stands (λ view k b h. h)
+  stat_holds (step.ChildRuns child) stands = no_step (step.ChildRuns child) stands (λ view k b h. h)
+  stat_holds (step.Undoing child error) stands = no_step (step.Undoing child error) stands (λ view k b h. h)
+  stat_holds step.TargetEntry stands = no_step step.TargetEntry stands (λ view k b h. h)
+  stat_holds (step.DroppingDescriptor at) stands = no_step (step.DroppingDescriptor at) stands (λ view k b h. h)
+  stat_holds step.MappingDescriptor stands = no_step step.MappingDescriptor stands (λ view k b h. h)
+  stat_holds step.Ending stands = no_step step.Ending stands (λ view k b h. h)
+  stat_holds step.TakingPage stands = no_step step.TakingPage stands (λ view k b h. h)
+  stat_holds (step.Gathering done) stands = no_step (step.Gathering done) stands (λ view k b h. h)
+  stat_holds (step.Keeping done word left) stands = no_step (step.Keeping done word left) stands (λ view k b h. h)
+  stat_holds step.Printing stands = no_step step.Printing stands (λ view k b h. h)
+  stat_holds step.Releasing stands = no_step step.Releasing stands (λ view k b h. h)
+  stat_holds step.Getting stands = no_step step.Getting stands (λ view k b h. h)

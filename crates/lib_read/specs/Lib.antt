@@ -1,0 +1,2 @@
+pub mod ReadStages
+pub mod StatStages

@@ -1,0 +1,108 @@
+-- stat: what it asks at each stage, and what it does next by the reply. What it tells of the console is a name with zeros behind it, a size
+-- of 0 and a kind of 0.
+-- (MIT 6.828, lab 5: lib/fd.c, fstat, and lib/console.c, devcons_stat.)
+use Rattle.std.specs.Prelude.{ℕ, ◌+◌, ◌-◌, ◌%◌, ◌^◌, ◌==◌, not, nat_le, [], ◌∷◌, Option, Some, None, slice_index, if◌then◌else◌}
+use Rattle.std.specs.Int.{w32, from_le_bytes}
+use Rattle.std.specs.Option.{option_map}
+use Rattle.jos_base.specs.declared.numbers.TheConstants.{E_INVAL, E_NOT_SUPP, PGSIZE}
+use Rattle.jos_base.specs.Words.{negated}
+use Rattle.lib_os.specs.declared.numbers.TheConstants.{DEVICE_CONSOLE, SERVICE_STAT, STAT_SIZE}
+use Rattle.lib_os.specs.declared.place.Step.{Step}
+use Rattle.lib_os.specs.declared.place.Step.TheVariants as step
+use Rattle.lib_os.specs.Answers.{moved_at_once}
+use Rattle.lib_os.specs.Fence.{is_buffer}
+use Rattle.lib_os.specs.FileServices.{terminal_stat}
+use Rattle.lib_os.specs.UserCalls.{answer_of}
+use Rattle.lib_stage.specs.declared.ask.Ask.{Ask}
+use Rattle.lib_stage.specs.declared.ask.Ask.TheVariants as ask
+use Rattle.lib_stage.specs.declared.ask.Next.{Next}
+use Rattle.lib_stage.specs.declared.ask.Next.TheVariants as next
+use Rattle.lib_stage.specs.ServiceSteps.{Plan}
+use Rattle.lib_fd.specs.DescriptorStages as descriptor
+use Rattle.lib_fd.specs.DescriptorStages.{is_there, region_asked_for}
+use Rattle.lib_file.specs.Buffers.{entry_asked, is_writable, region_asked}
+use Rattle.lib_file.specs.Finding.{device_asked, next_of_entry, next_of_region}
+use Rattle.lib_read.specs.declared.stat.Stat.{Stat}
+use Rattle.lib_read.specs.declared.stat.StatStage.{StatStage}
+use Rattle.lib_read.specs.declared.stat.StatStage.TheVariants as stage
+use Rattle.lib_read.specs.ReadStages.{next_va}
+
+-- the stage of stat that is kept as a step, if it is one of stat's
+abbrev pub stage_at : Step → Option StatStage
+stage_at step.Entered = Some stage.Entered
+stage_at (step.DescriptorEntry fd) = Some stage.Entry
+stage_at step.ReadingDevice = Some stage.Device
+stage_at (step.BufferRegion done word) = Some (stage.BufferRegion done)
+stage_at (step.BufferEntry done word) = Some (stage.BufferEntry done)
+stage_at (step.Delivering done word) = Some (stage.Delivering done)
+stage_at (step.Faulting done word) = Some (stage.Faulting done)
+stage_at _ = None
+
+abbrev pub stat_at : ℕ → ℕ → Step → Option Stat
+stat_at fd va step = option_map (λ at. record { fd = fd; va = va; at = at }) (stage_at step)
+
+-- ---- what it asks
+
+abbrev pub terminal_byte : ℕ → ℕ
+terminal_byte at = slice_index terminal_stat (at % 2 ^ 32)
+
+-- the word that begins with this byte
+abbrev pub terminal_word : ℕ → ℕ
+terminal_word at =
+    from_le_bytes w32 (terminal_byte at ∷ terminal_byte (at + 1) ∷ terminal_byte (at + 2) ∷ terminal_byte (at + 3) ∷ [])
+
+-- how many bytes are put at once
+abbrev pub moved : ℕ → ℕ → ℕ
+moved va done = moved_at_once (next_va va done) (STAT_SIZE - done)
+
+abbrev pub delivery_asked : ℕ → ℕ → Ask
+delivery_asked va done =
+    if moved va done == 4 then ask.Store (next_va va done) (terminal_word done)
+    else ask.StoreByte (next_va va done) (terminal_byte done)
+
+abbrev pub ask_of : ℕ → ℕ → StatStage → Ask
+ask_of fd va stage.Entered = region_asked_for fd
+ask_of fd va stage.Entry = descriptor.entry_asked fd
+ask_of fd va stage.Device = device_asked fd
+ask_of fd va (stage.BufferRegion done) = region_asked (next_va va done)
+ask_of fd va (stage.BufferEntry done) = entry_asked (next_va va done)
+ask_of fd va (stage.Delivering done) = delivery_asked va done
+ask_of fd va (stage.Faulting done) = ask.StoreByte (next_va va done) 0
+
+-- ---- what it does next
+
+-- at the next page it looks at that
+abbrev pub next_behind : ℕ → ℕ → Next
+next_behind va done =
+    if nat_le STAT_SIZE done then next.Answer 0
+    else if next_va va done % PGSIZE == 0 then next.Show (step.BufferRegion done 0)
+    else next.Show (step.Delivering done 0)
+
+abbrev pub next_of_delivery : ℕ → ℕ → Next
+next_of_delivery va done = next_behind va ((done + moved va done) % 2 ^ 32)
+
+abbrev pub next_of_device : ℕ → ℕ → Next
+next_of_device va device =
+    if not (device == DEVICE_CONSOLE) then next.Answer (negated E_NOT_SUPP)
+    else if not (is_buffer va STAT_SIZE) then next.Answer (negated E_INVAL)
+    else next.Show (step.BufferRegion 0 0)
+
+abbrev pub next_of : ℕ → ℕ → StatStage → ℕ → Next
+next_of fd va stage.Entered word = next_of_region fd word
+next_of fd va stage.Entry word = next_of_entry word
+next_of fd va stage.Device word = next_of_device va word
+next_of fd va (stage.BufferRegion done) word =
+    if not (is_there word) then next.GoOn (step.Faulting done 0) else next.GoOn (step.BufferEntry done 0)
+next_of fd va (stage.BufferEntry done) word =
+    if not (is_writable word) then next.GoOn (step.Faulting done 0) else next.GoOn (step.Delivering done 0)
+next_of fd va (stage.Delivering done) word = next_of_delivery va done
+next_of fd va (stage.Faulting done) word = next.Gone
+
+-- ---- the plan
+
+abbrev pub telling : Stat → Plan
+telling it = record {
+  number = SERVICE_STAT;
+  asks = ask_of it.fd it.va it.at;
+  next = λ called. next_of it.fd it.va it.at (answer_of called);
+}

@@ -1,0 +1,5 @@
+pub mod BeginLaw
+pub mod GatherLaw
+pub mod KeepLaw
+pub mod PrintLaw
+pub mod WriteLaw
