@@ -10,7 +10,7 @@ use Rattle.jos_base.specs.declared.numbers.TheConstants.{NPTENTRIES, PGSIZE, PTE
 use Rattle.jos_base.specs.Counting.{page_limit}
 use Rattle.jos_base.specs.Environments.{records_of}
 use Rattle.jos_base.specs.KernelState.{KernelState, slot_at, with_spaces}
-use Rattle.jos_base.specs.Reach.{Entry, allows, reach_entry}
+use Rattle.jos_base.specs.Reach.{Entry, reach_entry}
 use Rattle.jos_base.specs.SpacesState.{SpacesState, put, with_page_bytes}
 use Rattle.jos_base.specs.UserMemory.{access_bits, byte_at, byte_or_zero, entry_marked, reach_in, touched, touched_by, with_bits, with_page_bits}
 use Rattle.jos_base.specs.Windows.{walked}

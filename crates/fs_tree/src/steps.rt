@@ -44,42 +44,6 @@ enum Done {
     NoPage,
 }
 
-/// The byte at an address.
-fn load_byte<O: UserOs, H: Host>(os: &mut O, host: &mut H, va: u32) -> Result<u32, Stop>
-    requires live { is_live (slot_at (O.state os.old) (O.slot os.old)) ≡ true }
-    requires few { O.calls os.old < 2 ^ 32 - 1 }
-    ensures step { makes.IsLoaded va (O.state os.old) (O.slot os.old) result (O.state os.new) (output H.console O.written (from_to host.old host.new) (from_to os.old os.new)) }
-    ensures in_order { IsInOrder (O.state os.new) }
-    ensures slot { O.slot os.new ≡ O.slot os.old }
-    ensures disk { O.disk os.new ≡ O.disk os.old }
-    ensures calls { O.calls os.new ≡ O.calls os.old + 1 }
-    ensures rest { Unchanged H.files H.input H.asked H.notes host.old host.new }
-    ensures cause { HasStopCause (around H.faults host.old host.new) result }
-{
-    match os.load_byte(host, va) {
-        Ok(byte) => Ok(byte as u32),
-        Err(stop) => Err(stop),
-    }
-}
-
-/// Puts the lowest byte of a word at an address.
-fn store_byte<O: UserOs, H: Host>(os: &mut O, host: &mut H, va: u32, word: u32) -> Result<u32, Stop>
-    requires live { is_live (slot_at (O.state os.old) (O.slot os.old)) ≡ true }
-    requires few { O.calls os.old < 2 ^ 32 - 1 }
-    ensures step { makes.IsByteStored va word (O.state os.old) (O.slot os.old) result (O.state os.new) (output H.console O.written (from_to host.old host.new) (from_to os.old os.new)) }
-    ensures in_order { IsInOrder (O.state os.new) }
-    ensures slot { O.slot os.new ≡ O.slot os.old }
-    ensures disk { O.disk os.new ≡ O.disk os.old }
-    ensures calls { O.calls os.new ≡ O.calls os.old + 1 }
-    ensures rest { Unchanged H.files H.input H.asked H.notes host.old host.new }
-    ensures cause { HasStopCause (around H.faults host.old host.new) result }
-{
-    match os.store_byte(host, va, (word % 256) as u8) {
-        Ok(()) => Ok(0),
-        Err(stop) => Err(stop),
-    }
-}
-
 /// Makes the access that is asked, at an address. Words lie at multiples of four.
 fn access<O: UserOs, H: Host>(os: &mut O, host: &mut H, ask: TreeAsk, va: u32) -> Result<u32, Stop>
     requires live { is_live (slot_at (O.state os.old) (O.slot os.old)) ≡ true }
@@ -94,14 +58,20 @@ fn access<O: UserOs, H: Host>(os: &mut O, host: &mut H, ask: TreeAsk, va: u32) -
 {
     match ask {
         TreeAsk::Load { .. } => os.load(host, va - va % 4),
-        TreeAsk::LoadByte { .. } => load_byte(os, host, va),
+        TreeAsk::LoadByte { .. } | TreeAsk::Request { .. } => match os.load_byte(host, va) {
+            Ok(byte) => Ok(byte as u32),
+            Err(stop) => Err(stop),
+        },
         TreeAsk::Store { word, .. } => match os.store(host, va - va % 4, word) {
             Ok(()) => Ok(0),
             Err(stop) => Err(stop),
         },
-        TreeAsk::StoreByte { byte, .. } => store_byte(os, host, va, byte),
-        TreeAsk::Request { .. } => load_byte(os, host, va),
-        TreeAsk::HandBack { byte, .. } => store_byte(os, host, va, byte),
+        TreeAsk::StoreByte { byte: word, .. } | TreeAsk::HandBack { byte: word, .. } => {
+            match os.store_byte(host, va, (word % 256) as u8) {
+                Ok(()) => Ok(0),
+                Err(stop) => Err(stop),
+            }
+        }
     }
 }
 
@@ -132,8 +102,7 @@ fn make_at_block<O: UserOs, H: Host>(
             Ok(word) => Ok(Done::Word(word)),
             Err(Stop::Failed) => Err(Failed),
             // The block has its page.
-            Err(Stop::Upcall) => Ok(Done::Going),
-            Err(Stop::Ended) => Ok(Done::Going),
+            Err(Stop::Upcall | Stop::Ended) => Ok(Done::Going),
         },
         Ok(Cached::Going) => Ok(Done::Going),
         Ok(Cached::NoPage) => Ok(Done::NoPage),
@@ -167,8 +136,7 @@ fn make_at_request<O: UserOs, H: Host>(
         Ok(word) => Ok(Done::Word(word)),
         Err(Stop::Failed) => Err(Failed),
         // The page is there.
-        Err(Stop::Upcall) => Ok(Done::Going),
-        Err(Stop::Ended) => Ok(Done::Going),
+        Err(Stop::Upcall | Stop::Ended) => Ok(Done::Going),
     }
 }
 
@@ -189,12 +157,13 @@ fn make<O: UserOs, H: Host>(os: &mut O, host: &mut H, ask: TreeAsk) -> Result<Do
     ensures cause { HasCause (H.faults host.old) (H.faults host.new) result }
 {
     match ask {
-        TreeAsk::Load { at } => make_at_block(os, host, ask, at),
-        TreeAsk::LoadByte { at } => make_at_block(os, host, ask, at),
-        TreeAsk::Store { at, .. } => make_at_block(os, host, ask, at),
-        TreeAsk::StoreByte { at, .. } => make_at_block(os, host, ask, at),
-        TreeAsk::Request { at } => make_at_request(os, host, ask, at),
-        TreeAsk::HandBack { at, .. } => make_at_request(os, host, ask, at),
+        TreeAsk::Load { at }
+        | TreeAsk::LoadByte { at }
+        | TreeAsk::Store { at, .. }
+        | TreeAsk::StoreByte { at, .. } => make_at_block(os, host, ask, at),
+        TreeAsk::Request { at } | TreeAsk::HandBack { at, .. } => {
+            make_at_request(os, host, ask, at)
+        }
     }
 }
 

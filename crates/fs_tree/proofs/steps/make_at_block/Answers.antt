@@ -63,24 +63,6 @@ returns-in-Err-Upcall-clause-told g c =
     ready_stopped c.args.ask c.args.at called c.requires.place mid told c.access.ensures.in_order va made.0 made.1
     (around g.H.Host.files c.args.host.now c.access.new.host) c.in-Err-Upcall.field-0 call
 
-pub returns-in-Err-Ended-clause-told : goal.returns-in-Err-Ended-clause-told
-returns-in-Err-Ended-clause-told g c =
-    let s = g.O.UserOs.state c.args.os.now in
-    let n = g.O.UserOs.slot c.args.os.now in
-    let called = caller s n (g.O.UserOs.disk c.args.os.now) in
-    let block = c.args.at / BLKSIZE % CACHE_BLOCKS in
-    let files = around g.H.Host.files c.args.host.now c.block_step.new.host in
-    let ready = g.O.UserOs.state c.block_step.new.os in
-    let printed = output g.H.Host.console g.O.UserOs.written (from_to c.args.host.now c.block_step.new.host) (from_to c.args.os.now c.block_step.new.os) in
-    let va = c.in-Ok-Ready.va in
-    let made = subst (λ (x : Cached). IsBlockStep block called (Ok x) files ready printed) c.in-Ok-Ready.field-0-is c.in-Ok-Ready.ensures.made in
-    let mid = g.O.UserOs.state c.access.new.os in
-    let told = output g.H.Host.console g.O.UserOs.written (from_to c.block_step.new.host c.access.new.host) (from_to c.block_step.new.os c.access.new.os) in
-    let call = subst (λ (k : KernelState). IsAccess c.args.ask (va + c.args.at % BLKSIZE) k n (Err c.in-Err-Ended.field-0) mid told) made.2
-    (subst (λ (m : ℕ). IsAccess c.args.ask (va + c.args.at % BLKSIZE) ready m (Err c.in-Err-Ended.field-0) mid told) c.block_step.ensures.slot c.in-Err-Ended.ensures.step) in
-    ready_stopped c.args.ask c.args.at called c.requires.place mid told c.access.ensures.in_order va made.0 made.1
-    (around g.H.Host.files c.args.host.now c.access.new.host) c.in-Err-Ended.field-0 call
-
 pub returns-in-Ok-Going-clause-told : goal.returns-in-Ok-Going-clause-told
 returns-in-Ok-Going-clause-told g c =
     let s = g.O.UserOs.state c.args.os.now in

@@ -35,13 +35,3 @@ returns-in-Err-Upcall-clause-told g c =
     let mid = g.O.UserOs.state c.access.new.os in
     let told = output g.H.Host.console g.O.UserOs.written (from_to c.args.host.now c.access.new.host) (from_to c.args.os.now c.access.new.os) in
     request_stopped c.args.ask c.args.at called c.requires.place mid told c.access.ensures.in_order files c.in-Err-Upcall.field-0 c.in-Err-Upcall.ensures.step
-
-pub returns-in-Err-Ended-clause-told : goal.returns-in-Err-Ended-clause-told
-returns-in-Err-Ended-clause-told g c =
-    let s = g.O.UserOs.state c.args.os.now in
-    let n = g.O.UserOs.slot c.args.os.now in
-    let called = caller s n (g.O.UserOs.disk c.args.os.now) in
-    let files = around g.H.Host.files c.args.host.now c.access.new.host in
-    let mid = g.O.UserOs.state c.access.new.os in
-    let told = output g.H.Host.console g.O.UserOs.written (from_to c.args.host.now c.access.new.host) (from_to c.args.os.now c.access.new.os) in
-    request_stopped c.args.ask c.args.at called c.requires.place mid told c.access.ensures.in_order files c.in-Err-Ended.field-0 c.in-Err-Ended.ensures.step
