@@ -12,9 +12,13 @@ if ! command -v valgrind >/dev/null; then
 fi
 . "$(dirname -- "$0")/jos.sh"
 
-# counted COMMAND STEPS NAME: the machine instructions of a run of so many steps
+# counted COMMAND STEPS NAME: the machine instructions of a run of so many steps; `run` has its program from a disk
 counted() {
-    valgrind --tool=callgrind --callgrind-out-file=/dev/null "$program" "$1" --steps "$2" "$folder/$3" 2>&1 >/dev/null </dev/null |
+    case $1 in
+        exo) set -- "$1" "$2" "$folder/$3" ;;
+        run) set -- "$1" "$2" "$folder/disk" "$3" ;;
+    esac
+    valgrind --tool=callgrind --callgrind-out-file=/dev/null "$program" "$1" --steps "$2" "$3" ${4+"$4"} 2>&1 >/dev/null </dev/null |
         awk '/Collected :/ { print $4 }'
 }
 
@@ -32,6 +36,7 @@ for name in $loops $programs; do
         *" $name "*) image "$name" ;;
         *) compile "$name" -O2 || exit 1 ;;
     esac
+    "$program" mkfs "$folder/disk" 64 "$folder/$name" 2>/dev/null || exit 1
     echo "$name $(a_step exo "$name") $(a_step run "$name")" |
         awk '{ printf "%-9s exo %6.1f, run %6.1f machine instructions a step: %.2f times\n", $1, $2, $3, $3 / $2 }'
 done

@@ -179,8 +179,15 @@ def compare(seed, folder):
     return compared(seed, folder, model, notes, ["exo", *options, *names], console_input)
 
 
+def make_disk(folder, content):
+    """Makes a disk that has this image, under its own name."""
+    (folder / "image").write_bytes(content)
+    blocks = 8 + len(content) // 4096
+    subprocess.run([PROGRAM, "mkfs", folder / "disk", str(blocks), folder / "image"], capture_output=True, check=True)
+
+
 def compare_library(seed, folder):
-    """The same of a program under the library."""
+    """The same of a program under the library, which stands on a disk."""
     chance = random.Random(seed)
     forks = chance.random() < 0.6
     program = (ForkProgram if forks else LibraryProgram)(chance)
@@ -191,14 +198,15 @@ def compare_library(seed, folder):
     console_input = bytes(chance.choice([4, 0, 10, 255, *range(32, 127)]) for _ in range(chance.choice([0, 1, 2, 5, 20])))
     if forks and program.fills_table:
         frames, steps, schedule = frames + 5000, 5000000, schedule + [1000]
-    words = [folder / "image", *given]
-    words[0].write_bytes(content)
+    words = ["image", *given]
+    make_disk(folder, content)
     (folder / "schedule").write_text(" ".join(map(str, schedule)))
     model = Run(content, [str(each).encode() for each in words], frames, console_input, schedule, steps, traps)
     try:
         notes = model.notes(model.run())
     except Unmodelled:
         return "left out"
+    words.insert(0, folder / "disk")
     options = ["--frames", frames, "--steps", steps, "--trace", traps, "--schedule", folder / "schedule"]
     return compared(seed, folder, model, notes, ["run", *options, "--", *words], console_input)
 

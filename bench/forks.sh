@@ -32,6 +32,8 @@ gcc -m32 -march=i386 -O1 -std=gnu11 -ffreestanding -nostdlib -fno-pic -no-pie -s
     "$library/entry.S" "$library/service.c" "$here/bench/forks.c" || exit 1
 echo 1000000000 >"$folder/endless"
 for loop in $loops; do image "$loop"; done
+# shellcheck disable=SC2086 # the loops are words
+(cd "$folder" && "$program" mkfs disk 64 forks start $loops) 2>/dev/null || exit 1
 TIMEFORMAT='%U %S'
 
 # measure NAME NOTE WORD ..: a run by these words, whose note is of this pattern. Its name, steps and seconds go to `measured`.
@@ -55,7 +57,7 @@ measure() {
 timed() {
     local name=$1 copies=$2
     shift 2
-    measure "$name" "done steps * refused 0 upcalls $copies" run --frames 4096 --schedule "$folder/endless" -- "$folder/forks" "$@"
+    measure "$name" "done steps * refused 0 upcalls $copies" run --frames 4096 --schedule "$folder/endless" -- "$folder/disk" forks "$@"
 }
 
 # counted NAME COPIES WORD ..: the machine instructions go to `counted`
@@ -63,7 +65,7 @@ counted() {
     local name=$1
     shift 2
     valgrind --tool=callgrind --callgrind-out-file=/dev/null "$program" run --frames 4096 --schedule "$folder/endless" \
-        -- "$folder/forks" "$@" 2>&1 >/dev/null </dev/null | awk -v name="$name" '/Collected :/ { print name, $4 }' >>"$folder/counted"
+        -- "$folder/disk" forks "$@" 2>&1 >/dev/null </dev/null | awk -v name="$name" '/Collected :/ { print name, $4 }' >>"$folder/counted"
 }
 
 # forks timed|counted CHILDREN PAGES: the runs of so many children, and those that copy so many pages. A number of children always
@@ -88,15 +90,15 @@ forks() {
 
 for ((round = 0; round < count; round++)); do
     forks timed 500 1024
-    measure none 'done steps * refused 0 upcalls 0' run -- "$folder/forks" 0000 1 0 0 0
-    measure thousand 'done steps * refused 0 upcalls 0' run -- "$folder/forks" 1000 1 0 0 0
+    measure none 'done steps * refused 0 upcalls 0' run -- "$folder/disk" forks 0000 1 0 0 0
+    measure thousand 'done steps * refused 0 upcalls 0' run -- "$folder/disk" forks 1000 1 0 0 0
 
     # `start` ends at once, under `run` by trap 13
     measure exo-start 'done steps *' exo "$folder/start"
-    measure run-start 'done steps *' run "$folder/start"
+    measure run-start 'done steps *' run "$folder/disk" start
     for loop in $loops; do
         measure "exo-$loop" "budget steps $steps *" exo --steps "$steps" "$folder/$loop"
-        measure "run-$loop" "budget steps $steps *" run --steps "$steps" "$folder/$loop"
+        measure "run-$loop" "budget steps $steps *" run --steps "$steps" "$folder/disk" "$loop"
     done
 done
 : >"$folder/counted"

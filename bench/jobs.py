@@ -57,7 +57,7 @@ def put_act(script, act, data, is_open, answer, handed):
             return
         found = block_acts.led_to(data, act[1])
         is_file = found[0] == "a_record" and not block_acts.is_directory(data, found[1])
-        script.job("find", 0 if is_file else answer)
+        script.job("find", found[1] if is_file else answer)
         if is_file and not is_open(found[2]):
             script.job(f"remove {found[1]:x}", answer)
         return

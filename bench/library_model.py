@@ -3,6 +3,8 @@
 
     python3 bench/library_model.py [--frames N] [--steps N] [--schedule FILE] [--trace N] [--] IMAGE [WORD..]
 
+IMAGE is a file, which stands on no disk here, and the program's first word.
+
 It is written after docs/library.md, and shares nothing with the code: the fence, the services 0 to 9, 11 to 16 and 19, each with
 its refusals and its steps, the handler of page faults, which copies a page that waits for that or ends the program, and turns.
 The processor is that of processor.py, and the frames are those of model.py. It takes the words of the command, and the console's

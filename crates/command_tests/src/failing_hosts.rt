@@ -1,6 +1,6 @@
 //! Hosts of which a call fails.
 
-use crate::hosts::{ask, holds, host_of, len_of, same_bytes, same_status};
+use crate::hosts::{ask, disk_with, holds, host_of, len_of, same_bytes, same_status};
 use crate::images::{HI, PRINTS};
 use jos_cli::Outcome;
 use jos_host::MemHost;
@@ -59,20 +59,13 @@ fn a_run_and_a_written_program_tell_the_call_that_fails(rt: HostRuntime) -> Resu
     Ok(())
 }
 
-/// A disk of 16 blocks with one file.
-fn small_disk(alloc: Global) -> Result<Vec<u8>, AllocError> {
-    let mut host = host_of(alloc, &[("a/hello.txt", b"hi\n")], &[])?;
-    let _ = ask(alloc, &["mkfs", "d", "16", "a/hello.txt"], &mut host);
-    Vec::from_slice(alloc, host.file("d").unwrap_or(b""))
-}
-
 /// Ends the test where the command did not end with a host fault exactly where a call failed, or the file `a` changed.
 fn same_fault(rt: &impl Abort, status: u8, host: &MemHost, case: &str) {
     same_status(rt, status, if host.faults() == 0 { 0 } else { 7 }, case);
     same_bytes(rt, host.file("a").unwrap_or(b""), b"1", case);
 }
 
-/// Answers these words over a host with the small disk `s`, where this call fails.
+/// Answers these words over a host with the disk `s`, where this call fails.
 fn check_disk(
     rt: &impl Abort,
     alloc: Global,
@@ -89,7 +82,7 @@ fn check_disk(
 
 #[test]
 fn a_disk_command_tells_each_call_that_fails(rt: HostRuntime) -> Result<(), Fail> {
-    let disk = small_disk(rt.alloc())?;
+    let disk = disk_with(rt.alloc(), "hello.txt", b"hi\n")?;
     for call in 0..12 {
         check_disk(&rt, rt.alloc(), call, &["mkfs", "d", "16", "a"], &disk)?;
         check_disk(&rt, rt.alloc(), call, &["cat", "s", "hello.txt"], &disk)?;
@@ -105,18 +98,25 @@ fn turns_cut_off(outcome: &Outcome) -> Option<usize> {
     }
 }
 
-fn check_turns(rt: &impl Abort, alloc: Global, call: u64, turns: usize) -> Result<(), AllocError> {
-    let mut host = host_of(alloc, &[("h", &PRINTS)], &[call])?;
-    let outcome = ask(alloc, &["run", "h"], &mut host);
+fn check_turns(
+    rt: &impl Abort,
+    alloc: Global,
+    disk: &[u8],
+    call: u64,
+    turns: usize,
+) -> Result<(), AllocError> {
+    let mut host = host_of(alloc, &[("d", disk)], &[call])?;
+    let outcome = ask(alloc, &["run", "d", "h"], &mut host);
     holds(rt, turns_cut_off(&outcome) == Some(turns), "turns");
     Ok(())
 }
 
-// The calls are the file's size and its bytes, the input, the letter and the note.
+// The calls are the disk's size and its bytes in two pieces, the input, the letter and the note.
 #[test]
 fn a_call_that_fails_in_a_run_leaves_its_turns(rt: HostRuntime) -> Result<(), Fail> {
-    for (call, turns) in [(0, 0), (1, 0), (2, 0), (3, 1), (4, 1)] {
-        check_turns(&rt, rt.alloc(), call, turns)?;
+    let disk = disk_with(rt.alloc(), "h", &PRINTS)?;
+    for (call, turns) in [(0, 0), (1, 0), (2, 0), (3, 0), (4, 1), (5, 1)] {
+        check_turns(&rt, rt.alloc(), &disk, call, turns)?;
     }
     Ok(())
 }

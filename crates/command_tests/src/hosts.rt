@@ -40,6 +40,13 @@ pub(crate) fn ask(alloc: Global, words: &[&str], host: &mut MemHost) -> Outcome 
     top(alloc, words, host)
 }
 
+/// A disk of 16 blocks with this file.
+pub(crate) fn disk_with(alloc: Global, name: &str, bytes: &[u8]) -> Result<Vec<u8>, AllocError> {
+    let mut host = host_of(alloc, &[(name, bytes)], &[])?;
+    let _ = ask(alloc, &["mkfs", "d", "16", name], &mut host);
+    Vec::from_slice(alloc, host.file("d").unwrap_or(b""))
+}
+
 /// How many bytes a file has; 0 where there is none.
 pub(crate) fn len_of(host: &MemHost, name: &str) -> usize {
     host.file(name).unwrap_or(b"").len()

@@ -1,6 +1,6 @@
 //! What only an outcome tells: turns, the first refusal, and the places of words.
 
-use crate::hosts::{ask, holds, host_of};
+use crate::hosts::{ask, disk_with, holds, host_of};
 use crate::images::{FILLS, HI, JUMPS};
 use jos_cli::{Outcome, Refusal, Turn};
 use std::alloc::{AllocError, Global};
@@ -51,23 +51,25 @@ fn is_refused_once(outcome: &Outcome) -> bool {
 
 #[test]
 fn a_page_that_is_wanted_from_no_frames_is_told(rt: HostRuntime) -> Result<(), Fail> {
-    let mut host = host_of(rt.alloc(), &[("h", &FILLS), ("s", b"100000")], &[])?;
-    let words = ["run", "--frames=258", "--schedule=s", "h"];
+    let disk = disk_with(rt.alloc(), "h", &FILLS)?;
+    let mut host = host_of(rt.alloc(), &[("d", disk.as_slice()), ("s", b"100000")], &[])?;
+    let words = ["run", "--frames=258", "--schedule=s", "d", "h"];
     let outcome = ask(rt.alloc(), &words, &mut host);
     holds(&rt, is_refused_once(&outcome), "fills");
     Ok(())
 }
 
-// Words over the image `h` and the file `b`, which is cut off, and the place of the word that is named.
+// Words over the image `h`, the file `b`, which is cut off, and the disk `d` with both, and the place of the word that is named.
 #[rattlefmt::skip]
-static PLACES: [(&[&str], usize); 8] = [
+static PLACES: [(&[&str], usize); 9] = [
     (&["exo", "b"], 1),
     (&["exo", "h", "b"], 2),
     (&["exo", "--steps=7", "h", "--", "b"], 4),
     (&["exo", "absent"], 1),
     (&["exo", "h", "--schedule", "absent"], 3),
     (&["exo", "h", "--schedule=absent"], 2),
-    (&["run", "--", "b", "h"], 2),
+    (&["run", "--", "absent", "b"], 2),
+    (&["run", "d", "--", "b", "h"], 3),
     (&["mkfs", "d", "16", "h", "absent"], 4),
 ];
 
@@ -87,6 +89,7 @@ fn check_place(
     place: usize,
 ) -> Result<(), AllocError> {
     let mut host = host_of(alloc, &[("h", &HI), ("b", &HI[..40])], &[])?;
+    let _ = ask(alloc, &["mkfs", "d", "16", "h", "b"], &mut host);
     let outcome = ask(alloc, words, &mut host);
     let case = format!(in alloc; "{words:?}")?;
     holds(rt, place_of(&outcome) == Some(place), &case);

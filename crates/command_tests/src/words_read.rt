@@ -43,6 +43,7 @@ fn add_command(line: &mut String, command: &CommandWords) -> Result<(), AllocErr
             add_number(line, " steps ", run.steps)?;
             add_word(line, " schedule ", run.schedule)?;
             add_number(line, " trace ", run.trace)?;
+            add_word(line, " ", Some(run.disk))?;
             for word in &run.words {
                 add_word(line, " ", Some(*word))?;
             }
@@ -99,13 +100,14 @@ exo|--steps|0|a => exo steps 0@2 a@3
 exo|--steps|00000000000000000017|a => exo steps 17@2 a@3
 exo|--trace|7|a|--frames=3|--steps=2 => exo frames 3@4 steps 2@5 trace 7@2 a@3
 exo|--steps=99999999999999999999|a => exo steps 99999999999999999999@1 a@2
-run|i => run i@1
-run|i|a|i||help => run i@1 a@2 i@3 @4 help@5
-run|--frames|5|--steps=7|--schedule|s|--trace=2|i|a => run frames 5@2 steps 7@3 schedule s@5 trace 2@6 i@7 a@8
-run|i|--steps=7|a|--trace|2 => run steps 7@2 trace 2@5 i@1 a@3
-run|i|--|-x|--steps=7|-- => run i@1 -x@3 --steps=7@4 --@5
-run|--|-i|a => run -i@2 a@3
-run|i|1|2|3|4|5|6|7|8|9|a|b|c|d|e|f|g => run i@1 1@2 2@3 3@4 4@5 5@6 6@7 7@8 8@9 9@10 a@11 b@12 c@13 d@14 e@15 f@16 g@17
+run|d => Usage
+run|d|p => run d@1 p@2
+run|d|p|d||help => run d@1 p@2 d@3 @4 help@5
+run|--frames|5|--steps=7|--schedule|s|--trace=2|d|p => run frames 5@2 steps 7@3 schedule s@5 trace 2@6 d@7 p@8
+run|d|--steps=7|p|--trace|2 => run steps 7@2 trace 2@5 d@1 p@3
+run|d|--|-x|--steps=7|-- => run d@1 -x@3 --steps=7@4 --@5
+run|--|-d|p => run -d@2 p@3
+run|d|1|2|3|4|5|6|7|8|9|a|b|c|d|e|f|g => run d@1 1@2 2@3 3@4 4@5 5@6 6@7 7@8 8@9 9@10 a@11 b@12 c@13 d@14 e@15 f@16 g@17
 demo|xhello|h => demo xhello@1 h@2
 demo|--|-n|-- => demo -n@2 --@3
 demo|a|--|b => demo a@1 b@3

@@ -1,5 +1,5 @@
 -- Every act on files stores in the blocks what it does to the tree, given the laws of the single changes.
-use Rattle.std.proofs.Common.{◌≡◌, ◌∙◌, ◌==◌, ℕ, Bool, false, List, Option, Some, refl, sym, ap, subst}
+use Rattle.std.proofs.Common.{◌≡◌, ◌∙◌, ◌⊎◌, ◌==◌, ℕ, Bool, false, List, Option, Some, refl, sym, ap, subst}
 use Rattle.std.specs.Prelude.{option_map, take}
 use Rattle.std.specs.List.{list_any}
 use Rattle.jos_base.specs.declared.numbers.TheConstants.{E_NOT_FOUND, E_BAD_PATH}
@@ -15,9 +15,9 @@ use Rattle.fs_layout.specs.DiskImage.{has_indirect}
 use Rattle.fs_layout.proofs.FileTrees.{records_from-listed}
 use Rattle.fs_acts.specs.BlockActs.{written, place_at, Led, too_long, astray, no_record, a_record, led_to, turned_down}
 use Rattle.fs_acts.specs.BlockActs.{size_plan, write_plan, read_plan, create_plan, open_led, plan_of, puts_of}
-use Rattle.fs_acts.specs.BlockLaws.{LeadsAlike, HasString, BlockActsAreActs, ChangesKeepDisks}
+use Rattle.fs_acts.specs.BlockLaws.{LeadsAlike, Stays, HasString, IsRemoved, BlockActsAreActs, PlacesStay, ChangesKeepDisks}
 use Rattle.fs_acts.proofs.ComposedSteps.{ChangesAreActs, left_by, written-in_turn, passes-last, passes-take}
-use Rattle.fs_acts.proofs.ComposedFiles.{Does, does-nothing, does-either, size-does, write-does, read-does, of-file-does, stat-does}
+use Rattle.fs_acts.proofs.ComposedFiles.{DoesBut, Does, does-nothing, does-either, size-does, write-does, read-does, of-file-does, stat-does}
 use Rattle.fs_acts.proofs.ComposedPaths.{remove-does, opens-there}
 use Rattle.fs_acts.proofs.ComposedNames.{IsMissing, missing-name}
 use Rattle.fs_acts.proofs.ComposedCreates.{create-does}
@@ -62,7 +62,7 @@ opens-led laws size byte mode path (a_record place way) looked sound nul found a
 -- ---- each act
 
 pub act-does : ChangesAreActs → (size : ℕ) (byte : ℕ → ℕ) (is_open : List ℕ → Bool) (act : FileAct) → IsDiskImage size byte → HasString act →
-    Does size byte (plan_of is_open byte act) (file_act is_open (file_system_of byte) act)
+    DoesBut (IsRemoved byte act) size byte (plan_of is_open byte act) (file_act is_open (file_system_of byte) act)
 unfolding plan_of file_act open_act read_act write_act set_size_act stat_act remove_act
 act-does laws size byte is_open (open_path path mode) sound string =
     opens-led laws size byte mode path (led_to byte path) (look_up (file_system_of byte) path) sound string refl (laws.paths size byte sound path)
@@ -96,6 +96,14 @@ acts-are-acts laws size byte is_open act sound string =
             tree = ap file_system_of after ∙ does.tree;
           };
     }
+
+pub places-stay : ChangesAreActs → PlacesStay
+places-stay laws size byte is_open act sound string way place leads =
+    let does = act-does laws size byte is_open act sound string in
+    let changes = (plan_of is_open byte act).changes in
+    subst
+    (λ (b : ℕ → ℕ). Stays byte b way place ⊎ (IsRemoved byte act way place × ((plan_of is_open byte act).answer ≡ 0)))
+    (sym (written-in_turn changes byte)) (does.stay way place leads)
 
 pub changes-keep-disks : ChangesAreActs → ChangesKeepDisks
 changes-keep-disks laws size byte is_open act k sound string =

@@ -1,5 +1,5 @@
 -- The acts on an open file: what they store in the blocks is what they do to the tree.
-use Rattle.std.proofs.Common.{◌≡◌, ◌∙◌, ◌+◌, ◌-◌, ◌≤◌, ℕ, Bool, true, false, List, [], ◌∷◌, ◌++◌}
+use Rattle.std.proofs.Common.{◌≡◌, ◌∙◌, ◌⊎◌, inl, ◌+◌, ◌-◌, ◌≤◌, ℕ, Bool, true, false, List, [], ◌∷◌, ◌++◌}
 use Rattle.std.proofs.Common.{length, Option, Some, None, refl, sym, ap, subst, arith, min}
 use Rattle.std.specs.Prelude.{◌||◌, nat_lt, nat_le, max, take, drop, option_map, if◌then◌else◌}
 use Rattle.std.proofs.lemmas.Bool.Decides.{nat_tests}
@@ -17,7 +17,7 @@ use Rattle.fs_layout.proofs.FileBytes.{length-overwritten, length-resized}
 use Rattle.fs_layout.proofs.DiskSound.{disks-sound}
 use Rattle.fs_acts.specs.BlockActs.{Change, Planned, planned, turned_down, planned_if_it_fits, fits, size_plan, blocks_grown, write_some}
 use Rattle.fs_acts.specs.BlockActs.{write_plan, read_plan, stat_plan, of_file, overwrite, growth, resizing, place_at, place_from}
-use Rattle.fs_acts.specs.BlockLaws.{Holds}
+use Rattle.fs_acts.specs.BlockLaws.{Holds, Stays}
 use Rattle.fs_acts.proofs.ComposedTrees.{in_use-with_node}
 use Rattle.fs_acts.proofs.ComposedBytes.{overwritten-resized, values-part}
 use Rattle.fs_acts.proofs.ComposedSteps.{ChangesAreActs, left_by, Passes, Turns, turned, turns-one, turns-append}
@@ -26,29 +26,44 @@ use Rattle.fs_acts.proofs.ComposedSizes.{renamed, grows, resizes, or-needed}
 
 -- ---- a plan and an act
 
--- A plan does an act: it answers the same, and its changes, between which the disk has no fault, give the act's files.
-pub record Does (size : ℕ) (byte : ℕ → ℕ) (plan : Planned) (acted : Acted) : Type 0 where
+-- A plan does an act: it answers the same, and its changes, between which the disk has no fault, give the act's files. All
+-- records stand where they stood, but for those that are told, and these only where 0 is answered.
+pub record DoesBut (Told : List ℕ → ℕ → Type 0) (size : ℕ) (byte : ℕ → ℕ) (plan : Planned) (acted : Acted) : Type 0 where
   pub answer : plan.answer ≡ acted.answer
   pub bytes : plan.bytes ≡ acted.bytes
   pub passes : Passes size byte plan.changes
   pub tree : file_system_of (left_by plan.changes byte) ≡ acted.files
+  pub stay : (way : List ℕ) (place : ℕ) → place_at byte way ≡ Some place →
+      Stays byte (left_by plan.changes byte) way place ⊎ (Told way place × (plan.answer ≡ 0))
+
+-- and where none is told
+abbrev pub Does : ℕ → (ℕ → ℕ) → Planned → Acted → Type 0
+Does size byte plan acted = DoesBut (λ way place. ⊥) size byte plan acted
 
 -- nothing is stored
-pub does-nothing : (size : ℕ) (byte : ℕ → ℕ) (answer : ℕ) → IsDiskImage size byte →
-    Does size byte (planned [] answer) (done (file_system_of byte) answer)
+pub does-nothing : {Told : List ℕ → ℕ → Type 0} (size : ℕ) (byte : ℕ → ℕ) (answer : ℕ) → IsDiskImage size byte →
+    DoesBut Told size byte (planned [] answer) (done (file_system_of byte) answer)
 unfolding Passes left_by
-does-nothing size byte answer sound = record { answer = refl; bytes = refl; passes = sound; tree = refl }
+does-nothing size byte answer sound =
+    record { answer = refl; bytes = refl; passes = sound; tree = refl; stay = λ way place leads. inl (leads, refl) }
 
 -- another node is put at a way
 pub does-turns : {size : ℕ} {byte : ℕ → ℕ} {way : List ℕ} {place : ℕ} {changes : List Change} {node : Node} (answer : ℕ) →
     Turns size byte way place changes node →
     Does size byte (planned changes answer) (done (with_node (file_system_of byte) way node) answer)
-does-turns answer turns = record { answer = refl; bytes = refl; passes = turns.passes; tree = turns.tree }
+does-turns answer turns =
+    record {
+      answer = refl;
+      bytes = refl;
+      passes = turns.passes;
+      tree = turns.tree;
+      stay = λ at end leads. inl (turns.all_stay at end leads);
+    }
 
 -- both choose alike
-pub does-either : (size : ℕ) (byte : ℕ → ℕ) (b : Bool) (one two : Planned) (first second : Acted) →
-    (b ≡ true → Does size byte one first) → (b ≡ false → Does size byte two second) →
-    Does size byte (if b then one else two) (if b then first else second)
+pub does-either : {Told : List ℕ → ℕ → Type 0} (size : ℕ) (byte : ℕ → ℕ) (b : Bool) (one two : Planned) (first second : Acted) →
+    (b ≡ true → DoesBut Told size byte one first) → (b ≡ false → DoesBut Told size byte two second) →
+    DoesBut Told size byte (if b then one else two) (if b then first else second)
 does-either size byte true one two first second so other = so refl
 does-either size byte false one two first second so other = other refl
 
@@ -261,7 +276,13 @@ read-does laws size byte way place bytes indirect at n holds =
     let most : ℕ = min n BLKSIZE in
     let read : values_below (min most (size_of byte place - at)) (λ k. file_byte byte place (at + k)) ≡ take most (drop at bytes) =
     sym (values-part (file_byte byte place) (size_of byte place) at most) ∙ ap (λ (l : List ℕ). take most (drop at l)) (sym is.all) in
-    record { answer = ap length read; bytes = read; passes = holds.sound; tree = refl }
+    record {
+      answer = ap length read;
+      bytes = read;
+      passes = holds.sound;
+      tree = refl;
+      stay = λ other end leads. inl (leads, refl);
+    }
 
 -- ---- the file at a way
 
@@ -341,4 +362,5 @@ stat-does laws size byte way sound = by_name (named_at (file_system_of byte) way
           bytes = λ i. stat_bytes (sym name i) (sym is.long i) FTYPE_REG;
           passes = sound;
           tree = refl;
+          stay = λ at end leads. inl (leads, refl);
         }))

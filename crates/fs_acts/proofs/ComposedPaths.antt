@@ -1,5 +1,5 @@
 -- A file that is removed, and one that is opened: what is stored in the blocks is what is done to the tree.
-use Rattle.std.proofs.Common.{◌≡◌, ◌∙◌, ◌+◌, ◌≤◌, ◌&&◌, ℕ, Bool, true, false, List, [], ◌∷◌, ◌++◌, length, Some}
+use Rattle.std.proofs.Common.{◌≡◌, ◌∙◌, inl, inr, ◌+◌, ◌≤◌, ◌&&◌, ℕ, Bool, true, false, List, [], ◌∷◌, ◌++◌, length, Some}
 use Rattle.std.proofs.Common.{refl, sym, ap, subst, arith}
 use Rattle.std.specs.Prelude.{◌||◌, if◌then◌else◌}
 use Rattle.jos_base.specs.declared.numbers.TheConstants.{E_INVAL, E_NOT_FOUND, E_BAD_PATH, E_FILE_EXISTS}
@@ -12,13 +12,14 @@ use Rattle.fs_layout.specs.DiskImage.{block_count, has_indirect, is_directory_at
 use Rattle.fs_layout.specs.DiskFiles.{IsDiskImage, file_system_of, file_bytes, free_blocks, node_of, records_at}
 use Rattle.fs_acts.specs.BlockActs.{Change, planned, turned_down, size_plan, resizing, empty_it, written, place_at, Led, too_long}
 use Rattle.fs_acts.specs.BlockActs.{astray, no_record, a_record, led_to, remove_led, open_record}
-use Rattle.fs_acts.specs.BlockLaws.{Holds, LeadsAlike}
+use Rattle.fs_acts.specs.BlockLaws.{Holds, Stays, LeadsAlike}
 use Rattle.fs_acts.proofs.ComposedTrees.{without-with_node}
 use Rattle.fs_acts.proofs.ComposedBytes.{resized-shorter}
-use Rattle.fs_acts.proofs.ComposedSteps.{ChangesAreActs, left_by, left_by-append, Passes, passes-append, Turns, turned}
+use Rattle.fs_acts.proofs.Undamaged.{some-same}
+use Rattle.fs_acts.proofs.ComposedSteps.{ChangesAreActs, left_by, left_by-append, Passes, passes-append, stays-on, Turns, turned}
 use Rattle.fs_acts.proofs.ComposedRecords.{file-is, file-at}
 use Rattle.fs_acts.proofs.ComposedSizes.{renamed, resizes}
-use Rattle.fs_acts.proofs.ComposedFiles.{Does, does-nothing, does-either, size-does, not-root}
+use Rattle.fs_acts.proofs.ComposedFiles.{DoesBut, Does, does-nothing, does-either, size-does, not-root}
 
 -- ---- removal
 
@@ -36,13 +37,14 @@ unfolding left_by
 emptied-left byte change = refl
 
 -- the blocks are given back, and the record becomes empty
-removes : ChangesAreActs → (size : ℕ) (byte : ℕ → ℕ) (way : List ℕ) (place : ℕ) (bytes : List ℕ) (indirect : Bool) →
-    Holds size byte way place (a_file bytes indirect) →
-    Does size byte (planned (resizing byte place 0 ++ empty_it place ∷ []) 0) (done (without_node (file_system_of byte) way) 0)
-removes laws size byte [] place bytes indirect holds =
+removes : ChangesAreActs → {Told : List ℕ → ℕ → Type 0} (size : ℕ) (byte : ℕ → ℕ) (way : List ℕ) (place : ℕ) (bytes : List ℕ)
+    (indirect : Bool) → Holds size byte way place (a_file bytes indirect) →
+    ((at : List ℕ) (end : ℕ) → place_at byte at ≡ Some end → at ≡ way → Told at end) →
+    DoesBut Told size byte (planned (resizing byte place 0 ++ empty_it place ∷ []) 0) (done (without_node (file_system_of byte) way) 0)
+removes laws size byte [] place bytes indirect holds told =
     let is = file-is laws size byte [] place bytes indirect holds in
     absurd (not-root size byte place holds.sound holds.stands is.kind)
-removes laws size byte (first ∷ way) place bytes indirect holds =
+removes laws size byte (first ∷ way) place bytes indirect holds told =
     let s : FileSystem = file_system_of byte in
     let changes : List Change = resizing byte place 0 in
     let now : ℕ → ℕ = left_by changes byte in
@@ -59,46 +61,74 @@ removes laws size byte (first ∷ way) place bytes indirect holds =
       bytes = refl;
       passes =
           passes-append size byte changes (empty_it place ∷ []) turns.passes
-          (emptied-passes size now (empty_it place) ((turned turns).sound) last.sound);
+          (emptied-passes size now (empty_it place) ((turned turns).sound) last.gives.sound);
       tree =
           ap file_system_of after
-          ∙ last.tree
+          ∙ last.gives.tree
           ∙ ap (λ (t : FileSystem). without_node t (first ∷ way)) turns.tree
           ∙ without-with_node s first way (a_file [] false);
+      stay = λ at end leads.
+          let here = turns.all_stay at end leads in
+          elim (last.others_stay at end here.0) [
+            | inl stays ↦ inl (subst (λ (b : ℕ → ℕ). Stays byte b at end) (sym after)
+                (stays-on byte now (written (empty_it place now) now) at end here stays))
+            | inr same ↦ inr (told at end leads same, refl)
+          ];
     }
 
 -- where a path leads to a record
-removes-there : ChangesAreActs → (size : ℕ) (byte : ℕ → ℕ) (is_open : List ℕ → Bool) (place : ℕ) (way : List ℕ) → IsDiskImage size byte →
-    place_at byte way ≡ Some place → (directory : Bool) → is_directory_at byte place ≡ directory →
-    Does size byte (if directory || is_open way then turned_down E_INVAL else planned (resizing byte place 0 ++ empty_it place ∷ []) 0)
+removes-there : ChangesAreActs → {Told : List ℕ → ℕ → Type 0} (size : ℕ) (byte : ℕ → ℕ) (is_open : List ℕ → Bool) (place : ℕ)
+    (way : List ℕ) → IsDiskImage size byte → place_at byte way ≡ Some place → (directory : Bool) → is_directory_at byte place ≡ directory →
+    ((at : List ℕ) (end : ℕ) → place_at byte at ≡ Some end → at ≡ way → Told at end) →
+    DoesBut Told size byte (if directory || is_open way then turned_down E_INVAL else planned (resizing byte place 0 ++ empty_it place ∷ []) 0)
     (remove_looked is_open (file_system_of byte)
     (there way (if directory then a_directory (records_at (block_count byte) byte place) (has_indirect byte place)
     else a_file (file_bytes byte place) (has_indirect byte place))))
-removes-there laws size byte is_open place way sound stands true kind = does-nothing size byte (negated E_INVAL) sound
-removes-there laws size byte is_open place way sound stands false kind =
+removes-there laws size byte is_open place way sound stands true kind told = does-nothing size byte (negated E_INVAL) sound
+removes-there laws size byte is_open place way sound stands false kind told =
     does-either size byte (is_open way) (turned_down E_INVAL) (planned (resizing byte place 0 ++ empty_it place ∷ []) 0)
     (refused (file_system_of byte) E_INVAL) (done (without_node (file_system_of byte) way) 0)
     (λ open_. does-nothing size byte (negated E_INVAL) sound)
     (λ closed.
-    removes laws size byte way place (file_bytes byte place) (has_indirect byte place) (file-at laws size byte way place sound stands kind))
+    removes laws size byte way place (file_bytes byte place) (has_indirect byte place) (file-at laws size byte way place sound stands kind)
+    told)
 
 removes-led : ChangesAreActs → (size : ℕ) (byte : ℕ → ℕ) (is_open : List ℕ → Bool) (led : Led) (looked : Looked) → IsDiskImage size byte →
-    LeadsAlike byte led looked → Does size byte (remove_led is_open byte led) (remove_looked is_open (file_system_of byte) looked)
+    LeadsAlike byte led looked →
+    DoesBut (λ at end. led ≡ a_record end at) size byte (remove_led is_open byte led) (remove_looked is_open (file_system_of byte) looked)
 removes-led laws size byte is_open too_long looked sound alike =
-    subst (λ (l : Looked). Does size byte (turned_down E_BAD_PATH) (remove_looked is_open (file_system_of byte) l)) (sym alike)
+    subst
+    (λ (l : Looked).
+    DoesBut (λ at end. too_long ≡ a_record end at) size byte (turned_down E_BAD_PATH) (remove_looked is_open (file_system_of byte) l))
+    (sym alike)
     (does-nothing size byte (negated E_BAD_PATH) sound)
 removes-led laws size byte is_open astray looked sound alike =
-    subst (λ (l : Looked). Does size byte (turned_down E_NOT_FOUND) (remove_looked is_open (file_system_of byte) l)) (sym alike)
+    subst
+    (λ (l : Looked).
+    DoesBut (λ at end. astray ≡ a_record end at) size byte (turned_down E_NOT_FOUND) (remove_looked is_open (file_system_of byte) l))
+    (sym alike)
     (does-nothing size byte (negated E_NOT_FOUND) sound)
 removes-led laws size byte is_open (no_record place name) looked sound alike =
-    subst (λ (l : Looked). Does size byte (turned_down E_NOT_FOUND) (remove_looked is_open (file_system_of byte) l)) (sym alike.2)
+    subst
+    (λ (l : Looked).
+    DoesBut (λ at end. no_record place name ≡ a_record end at) size byte (turned_down E_NOT_FOUND)
+    (remove_looked is_open (file_system_of byte) l))
+    (sym alike.2)
     (does-nothing size byte (negated E_NOT_FOUND) sound)
 removes-led laws size byte is_open (a_record place way) looked sound alike =
-    subst (λ (l : Looked). Does size byte (remove_led is_open byte (a_record place way)) (remove_looked is_open (file_system_of byte) l))
-    (sym alike.1) (removes-there laws size byte is_open place way sound alike.0 (is_directory_at byte place) refl)
+    subst
+    (λ (l : Looked).
+    DoesBut (λ at end. a_record place way ≡ a_record end at) size byte (remove_led is_open byte (a_record place way))
+    (remove_looked is_open (file_system_of byte) l))
+    (sym alike.1)
+    (removes-there laws size byte is_open place way sound alike.0 (is_directory_at byte place) refl
+    (λ at end leads same.
+    let goes : place ≡ end = some-same place end (sym alike.0 ∙ ap (λ (w : List ℕ). place_at byte w) (sym same) ∙ leads) in
+    λ k. a_record (goes k) (sym same k)))
 
 pub remove-does : ChangesAreActs → (size : ℕ) (byte : ℕ → ℕ) (is_open : List ℕ → Bool) (path : List ℕ) → IsDiskImage size byte →
-    Does size byte (remove_led is_open byte (led_to byte path)) (remove_looked is_open (file_system_of byte) (look_up (file_system_of byte) path))
+    DoesBut (λ at end. led_to byte path ≡ a_record end at) size byte (remove_led is_open byte (led_to byte path))
+    (remove_looked is_open (file_system_of byte) (look_up (file_system_of byte) path))
 remove-does laws size byte is_open path sound =
     removes-led laws size byte is_open (led_to byte path) (look_up (file_system_of byte) path) sound (laws.paths size byte sound path)
 

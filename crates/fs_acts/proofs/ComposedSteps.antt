@@ -3,10 +3,10 @@ use Rattle.std.proofs.Common.{◌≡◌, ◌∙◌, ◌+◌, ℕ, zero, suc, Lis
 use Rattle.std.proofs.Common.{refl, sym, ap, subst, arith}
 use Rattle.std.specs.Prelude.{take}
 use Rattle.fs_layout.specs.FileTree.{Node, FileSystem, node_at, with_node, tree_blocks, blocks_in_use}
-use Rattle.fs_layout.specs.DiskImage.{block_count}
+use Rattle.fs_layout.specs.DiskImage.{block_count, is_directory_at}
 use Rattle.fs_layout.specs.DiskFiles.{IsDiskImage, file_system_of, free_blocks}
 use Rattle.fs_acts.specs.BlockActs.{Put, written, Change, puts_in_turn, place_at}
-use Rattle.fs_acts.specs.BlockLaws.{Holds, Becomes, DisksAreCounted, BlocksAreCounted, WaysLeadToRecords, WaysLeadToNames}
+use Rattle.fs_acts.specs.BlockLaws.{Holds, Stays, Becomes, DisksAreCounted, BlocksAreCounted, WaysLeadToRecords, WaysLeadToNames}
 use Rattle.fs_acts.specs.BlockLaws.{PathsLeadAlike, OverwritesAreActs, CutsAreActs, FillsAreActs, TakenIndirectIsMarked}
 use Rattle.fs_acts.specs.BlockLaws.{GivenIndirectIsUnmarked, TakenBlocksAreZeros, TakenBlocksAreEmptyRecords, GivenBlocksAreLost}
 use Rattle.fs_acts.specs.BlockLaws.{MadeRecordsAreFiles, EmptyFilesAreRemoved}
@@ -80,12 +80,26 @@ passes-take size byte (suc k) (change ∷ rest) all = passes-take size (written 
 
 -- ---- the node that changes put
 
+-- all records stand where they stood
+abbrev pub AllStay : (ℕ → ℕ) → (ℕ → ℕ) → Type 0
+AllStay byte other = (way : List ℕ) (place : ℕ) → place_at byte way ≡ Some place → Stays byte other way place
+
+-- also on a third disk
+pub stays-on : (byte mid other : ℕ → ℕ) (way : List ℕ) (place : ℕ) → Stays byte mid way place → Stays mid other way place →
+    Stays byte other way place
+stays-on byte mid other way place one two = (two.0, two.1 ∙ one.1)
+
+pub stay-same : (byte other : ℕ → ℕ) → other ≡ byte → AllStay byte other
+stay-same byte other same way place leads =
+    (ap (λ (b : ℕ → ℕ). place_at b way) same ∙ leads, ap (λ (b : ℕ → ℕ). is_directory_at b place) same)
+
 -- After the changes the record stands where it stood and has another node, and no other has.
 pub record Turns (size : ℕ) (byte : ℕ → ℕ) (way : List ℕ) (place : ℕ) (changes : List Change) (node : Node) : Type 0 where
   pub passes : Passes size byte changes
   pub stands : place_at (left_by changes byte) way ≡ Some place
   pub is : node_at (file_system_of (left_by changes byte)) way ≡ Some node
   pub tree : file_system_of (left_by changes byte) ≡ with_node (file_system_of byte) way node
+  pub all_stay : AllStay byte (left_by changes byte)
 
 -- so the next changes find it
 pub turned : {size : ℕ} {byte : ℕ → ℕ} {way : List ℕ} {place : ℕ} {changes : List Change} {node : Node} →
@@ -105,6 +119,7 @@ turns-one size byte way place old new change holds becomes =
           ap (λ (s : FileSystem). node_at s way) becomes.gives.tree
           ∙ node_at-with_node (file_system_of byte) way old new holds.is;
       tree = becomes.gives.tree;
+      all_stay = becomes.all_stay;
     }
 
 -- changes after others
@@ -122,6 +137,10 @@ turns-append size byte way place mid new first rest one two =
           ∙ two.tree
           ∙ ap (λ (s : FileSystem). with_node s way new) one.tree
           ∙ with_node-twice (file_system_of byte) way mid new;
+      all_stay = λ at end leads.
+          let here = one.all_stay at end leads in
+          subst (λ (b : ℕ → ℕ). Stays byte b at end) (sym after)
+          (stays-on byte (left_by first byte) (left_by rest (left_by first byte)) at end here (two.all_stay at end here.0));
     }
 
 -- a change without puts
@@ -136,6 +155,7 @@ turns-idle size byte way place node change holds none same =
       stands = ap (λ (b : ℕ → ℕ). place_at b way) after ∙ holds.stands;
       is = ap (λ (b : ℕ → ℕ). node_at (file_system_of b) way) after ∙ holds.is;
       tree = ap file_system_of after ∙ sym same;
+      all_stay = stay-same byte (written (change byte) byte) after;
     }
 
 -- no change
@@ -143,7 +163,13 @@ pub turns-none : (size : ℕ) (byte : ℕ → ℕ) (way : List ℕ) (place : ℕ
     with_node (file_system_of byte) way node ≡ file_system_of byte → Turns size byte way place [] node
 unfolding left_by Passes
 turns-none size byte way place node holds same =
-    record { passes = holds.sound; stands = holds.stands; is = holds.is; tree = sym same }
+    record {
+      passes = holds.sound;
+      stands = holds.stands;
+      is = holds.is;
+      tree = sym same;
+      all_stay = stay-same byte byte refl;
+    }
 
 -- ---- blocks
 

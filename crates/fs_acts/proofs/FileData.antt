@@ -228,6 +228,7 @@ nothing-put size byte way place bytes new indirect holds same = record {
             ∙ ap (λ l. with_node (file_system_of byte) way (a_file l indirect)) same;
       };
   stays = refl;
+  all_stay = λ at end leads. (leads, refl);
 }
 
 -- the law

@@ -24,6 +24,7 @@ use Rattle.fs_acts.proofs.WalkCounts.{times-split}
 use Rattle.fs_acts.proofs.Undamaged.{way-reached}
 use Rattle.fs_acts.proofs.DiskCounts.{image-counted}
 use Rattle.fs_acts.proofs.Disks.{disk-blocks}
+use Rattle.fs_acts.proofs.Staying.{file-stays}
 use Rattle.fs_acts.proofs.OneSlot.{NowIs}
 use Rattle.fs_acts.proofs.OneRecord.{Changed, touched-in, first-unnamed, changed-gives}
 
@@ -280,11 +281,13 @@ file-gives size byte other way place bytes new indirect holds changed same short
     let same_byte =
     mark-byte size byte other way place NoneLoose holds.sound holds.stands changed (λ is. is) (8192 + block / 8) inside.0 inside.1 in
     ap (λ b. bit_of (bit_at b (block % 8) == 1) + 0) (sym same_byte))
-    (λ count d was.
-    file-now byte other place (λ block. 0) (λ block. 0) (a_file new indirect) it.kind other_kind
-    (good-numbers byte other place count other_kind short stands.good same)
-    (λ block. ap (λ n. n + 0) (times-numbers byte other place stands.good same block))
-    (λ k. a_file (is k) ((sym (mark-same byte other place same) ∙ it.mark) k)) d)
+    (λ count d was. (
+      file-now byte other place (λ block. 0) (λ block. 0) (a_file new indirect) it.kind other_kind
+          (good-numbers byte other place count other_kind short stands.good same)
+          (λ block. ap (λ n. n + 0) (times-numbers byte other place stands.good same block))
+          (λ k. a_file (is k) ((sym (mark-same byte other place same) ∙ it.mark) k)) d,
+      file-stays byte other place it.kind other_kind,
+    ))
   where
     below-most : (block blocks : ℕ) → block < blocks → blocks ≤ 16384 → block ≤ 16384
     below-most block blocks a b = omega arith

@@ -22,6 +22,7 @@ use Rattle.fs_acts.proofs.Fields.{same-directory}
 use Rattle.fs_acts.proofs.Named.{own-one, own-both, own-indirect, times-own}
 use Rattle.fs_acts.proofs.Records.{own-good, SameBlocks}
 use Rattle.fs_acts.proofs.OneWay.{way-is, way-times}
+use Rattle.fs_acts.proofs.Staying.{file-stays}
 use Rattle.fs_acts.proofs.OneRecord.{changed-gives_on}
 use Rattle.fs_acts.proofs.AtEnd.{AtEnd, at-end, held-node, data-first, Elsewhere, own-stay, bytes-stay, map-block, InMap, off-mark, mark-beyond}
 use Rattle.fs_acts.proofs.BlockPuts.{below_or_past, Beyond, WordPut, word-put, BytePut, byte-put}
@@ -364,6 +365,7 @@ gave-gives size byte other way place bytes indirect holds file facts =
     let end = at-end size byte way place d counted onward in
     let less = given.less in
     let own = own-stay byte other d place (InNumbers byte place) end given.elsewhere (number-free byte d place end) in
+    let now =
     file-now d byte other place no_block (this_block (block_number_at byte place last)) new file.kind (less-kind less)
     (less-good less count) (less-own less)
     (let long = held-length byte place bytes file.is in
@@ -371,7 +373,8 @@ gave-gives size byte other way place bytes indirect holds file facts =
     less-bytes less own ∙ ap (take (BLKSIZE * last)) (sym file.is)
     ∙ ap (λ n. take (BLKSIZE * (blocks_of n - 1)) bytes) (sym long) in
     let has : has_indirect other place ≡ indirect = sym (less-has less) ∙ sym file.mark in
-    λ k. a_file (now k) (has k)))
+    λ k. a_file (now k) (has k)) in
+    (now, file-stays byte other place file.kind (less-kind less)))
   where
     owned : (q : ℕ) → InNumbers byte place (q / BLKSIZE) → (0 < own_times byte place (q / BLKSIZE)) ⊎ InMap byte (q / BLKSIZE)
     owned q (inl map) = inr map

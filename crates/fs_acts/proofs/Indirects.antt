@@ -22,11 +22,12 @@ use Rattle.fs_acts.specs.BlockLaws.{IsGoodRecord, AreGood, IsCounted, own_times,
 use Rattle.fs_acts.specs.BlockLaws.{GivenIndirectIsUnmarked}
 use Rattle.fs_acts.proofs.Fields.{same-word, same-label, same-directory}
 use Rattle.fs_acts.proofs.Named.{own-one, own-indirect, times-own}
-use Rattle.fs_acts.proofs.Records.{own-good, directory-node, file-node, SameBlocks, slot-same}
+use Rattle.fs_acts.proofs.Records.{own-good, no-slot, directory-node, file-node, SameBlocks, slot-same}
 use Rattle.fs_acts.proofs.OneWay.{way-is, way-times, none-before}
 use Rattle.fs_acts.proofs.OneSlot.{NowIs}
 use Rattle.fs_acts.proofs.OneRecord.{AreLoose, changed-gives_on}
-use Rattle.fs_acts.proofs.Refitted.{SlotsGo, go-good, go-times, go-list}
+use Rattle.fs_acts.proofs.Staying.{AllFrom, all-from}
+use Rattle.fs_acts.proofs.Refitted.{SlotsGo, go-stay, go-good, go-times, go-list}
 use Rattle.fs_acts.proofs.AtEnd.{AtEnd, at-end, held-node, data-first, Elsewhere, own-stay, below-alike, bytes-stay, front-label}
 use Rattle.fs_acts.proofs.AtEnd.{map-block, InMap, off-mark, mark-beyond}
 use Rattle.fs_acts.proofs.BlockPuts.{below_or_past, WordPut, word-put, BytePut, byte-put}
@@ -213,33 +214,38 @@ pub set-now : (byte other : ℕ → ℕ) (depth place : ℕ) (Told : ℕ → Typ
     ((block : ℕ) → bit_of (has_indirect other place && (indirect_of other place == block)) + loss block
     ≡ bit_of (has_indirect byte place && (indirect_of byte place == block)) + gain block) →
     node ≡ node_of (records_at depth byte) byte place →
-    NowIs depth byte other place gain loss (marked node (has_indirect other place))
+    NowIs depth byte other place gain loss (marked node (has_indirect other place)) × AllFrom byte other place
 unfolding AreGood times_named
 set-now byte other zero place Told gain loss node end set count free indirect is =
-    let own = own-stay byte other zero place Told end set.elsewhere (own-free zero byte place Told free) in
-    record {
-      good = (
-        set-good set count (end.good).0,
-        λ directory.
-            sym (set-slots set) ∙ (end.good).1 (same-directory byte other place (set-kind set) ∙ directory),
-      );
-      times = set-own set gain loss indirect;
-      node =
-          set-node zero set own (λ directory. no-records byte other place)
-          ∙ ap (λ n. marked n (has_indirect other place)) (sym is);
-    }
+    let own = own-stay byte other zero place Told end set.elsewhere (own-free zero byte place Told free) in (
+      record {
+        good = (
+          set-good set count (end.good).0,
+          λ directory.
+              sym (set-slots set) ∙ (end.good).1 (same-directory byte other place (set-kind set) ∙ directory),
+        );
+        times = set-own set gain loss indirect;
+        node =
+            set-node zero set own (λ directory. no-records byte other place)
+            ∙ ap (λ n. marked n (has_indirect other place)) (sym is);
+      },
+      all-from byte other place (sym (same-directory byte other place (set-kind set)))
+          (λ i named way at leads. absurd (no-slot byte place i end.good named)),
+    )
 set-now byte other (suc depth) place Told gain loss node end set count free indirect is =
     let own = own-stay byte other (suc depth) place Told end set.elsewhere (own-free (suc depth) byte place Told free) in
     let go = set-go set own in
-    let below = below-alike byte other depth place Told end set.elsewhere count free own in
-    record {
-      good = go-good depth byte other place end.good go (set-good set count (own-good (suc depth) byte place end.good)) below;
-      times = go-times depth byte other place gain loss go below (set-own set gain loss indirect);
-      node =
-          set-node (suc depth) set own
-          (λ directory. same-records depth byte other place (set-slots set) (go-list depth byte other place go directory below))
-          ∙ ap (λ n. marked n (has_indirect other place)) (sym is);
-    }
+    let below = below-alike byte other depth place Told end set.elsewhere count free own in (
+      record {
+        good = go-good depth byte other place end.good go (set-good set count (own-good (suc depth) byte place end.good)) below;
+        times = go-times depth byte other place gain loss go below (set-own set gain loss indirect);
+        node =
+            set-node (suc depth) set own
+            (λ directory. same-records depth byte other place (set-slots set) (go-list depth byte other place go directory below))
+            ∙ ap (λ n. marked n (has_indirect other place)) (sym is);
+      },
+      go-stay depth byte other place go below,
+    )
 
 -- ---- the puts
 
@@ -385,6 +391,7 @@ same-give size byte way place node mark holds has =
         tree = sym (ap (with_node (file_system_of byte) way) same ∙ put-again (file_system_of byte) way node holds.is);
       };
       stays = refl;
+      all_stay = λ at end goes. (goes, refl);
     }
 
 end-indirect : (size : ℕ) (byte : ℕ → ℕ) (way : List ℕ) (place : ℕ) (node : Node) → Holds size byte way place node →

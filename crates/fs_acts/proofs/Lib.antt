@@ -4,6 +4,7 @@ pub mod BlockPuts
 pub mod Trees
 pub mod Fields
 pub mod Named
+pub mod Staying
 pub mod Records
 pub mod Ways
 pub mod WayNames

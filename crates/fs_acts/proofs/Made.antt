@@ -25,6 +25,7 @@ use Rattle.fs_acts.proofs.Disks.{disk-blocks}
 use Rattle.fs_acts.proofs.FileRecords.{file-good, file-times, node-same}
 use Rattle.fs_acts.proofs.SlotNames.{name-stands, empty-unlike}
 use Rattle.fs_acts.proofs.SlotSet.{SetTo}
+use Rattle.fs_acts.proofs.OneRecord.{now-all}
 use Rattle.fs_acts.proofs.SlotGives.{SlotOnly, slot-gives}
 use Rattle.fs_acts.proofs.Removed.{no-own}
 use Rattle.fs_acts.proofs.MadePuts.{made, made-is, made-name, made-left, made-word}
@@ -267,20 +268,22 @@ makes-acts size byte way place list indirect holds i name within empty good unli
     let inside : i < slot_count byte place = subst (λ n. i < n) (sym slots.0) within in
     let other : ℕ → ℕ = made byte (slot_place byte place i) name in
     let gives =
-    slot-gives size byte other way place i (Some (new_file name)) holds.sound holds.stands it.is inside (made-only byte place i name)
+    slot-gives size byte other way place i (Some (new_file name)) (λ at. ⊥) holds.sound holds.stands it.is inside
+    (made-only byte place i name)
     (λ depth end.
     made-to depth byte place i list name good inside empty
     (λ j below filled.
     let entry = slots.1 j below filled in
     not-listed list name j (record { name = name_of byte (slot_place byte place j); node = entry.0 }) unlisted
-    (subst (λ n. j < n) slots.0 below) entry.1)) in
+    (subst (λ n. j < n) slots.0 below) entry.1))
+    (λ named at end leads. let clash : true ≡ false = sym empty ∙ named.filled in cc) in
     let node : with_record (node_of (records_at (block_count byte) byte) byte place) i (Some (new_file name))
     ≡ a_directory (records_from (slice_set list i (Some (new_file name)))) indirect =
     ap (λ (n : Node). with_record n i (Some (new_file name)))
     (sym (held-is size byte way place (a_directory (records_from list) indirect) holds))
     ∙ with-listed list indirect i (Some (new_file name)) in
     let whole : NowHas size byte other way (a_directory (records_from (slice_set list i (Some (new_file name)))) indirect) =
-    subst (λ (n : Node). NowHas size byte other way n) node gives in
+    subst (λ (n : Node). NowHas size byte other way n) node (now-all size byte other way _ gives) in
     subst
     (λ (d : ℕ → ℕ).
     NowHas size byte d way (a_directory (records_from (slice_set list i (Some (new_file name)))) indirect))

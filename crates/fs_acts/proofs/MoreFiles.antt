@@ -11,6 +11,7 @@ use Rattle.fs_acts.specs.BlockLaws.{Holds, NowHas, own_times, TakenBlocksAreZero
 use Rattle.fs_acts.proofs.Fields.{same-directory}
 use Rattle.fs_acts.proofs.Named.{own-indirect}
 use Rattle.fs_acts.proofs.OneWay.{IsWay, way-is, way-times}
+use Rattle.fs_acts.proofs.Staying.{file-stays}
 use Rattle.fs_acts.proofs.OneRecord.{changed-gives_on}
 use Rattle.fs_acts.proofs.AtEnd.{AtEnd, at-end, held-node, own-stay}
 use Rattle.fs_acts.proofs.BlockPuts.{word-put}
@@ -64,8 +65,9 @@ took-gives size byte other way place block grown bytes indirect holds file free 
     let more = given.more in
     let own =
     own-stay byte other d place (InMore byte place block) end given.elsewhere (more-free byte d place block end (above d onward) free) in
-    file-now d byte other place (this_block block) no_block new file.kind
-    (sym (same-directory byte other place (put-kind more.put)) ∙ file.kind)
+    let kind = sym (same-directory byte other place (put-kind more.put)) ∙ file.kind in
+    let now =
+    file-now d byte other place (this_block block) no_block new file.kind kind
     (more-good more count) (more-own more)
     (let long = held-length byte place bytes file.is in
     let all : take grown bytes ≡ bytes = take_all grown bytes (omega (arith, long, whole, grows)) in
@@ -74,7 +76,8 @@ took-gives size byte other way place block grown bytes indirect holds file free 
     ∙ ap (λ b. b ++ replicate (grown - BLKSIZE * last) 0) (sym file.is ∙ sym all)
     ∙ ap (λ n. take grown bytes ++ replicate (grown - n) 0) (sym (long ∙ whole)) in
     let has : has_indirect other place ≡ indirect = sym (more-has more) ∙ sym file.mark in
-    λ k. a_file (now k) (has k)))
+    λ k. a_file (now k) (has k)) in
+    (now, file-stays byte other place file.kind kind))
 
 pub whole-size : (size : ℕ) → size % 4096 ≡ 0 → size ≡ 4096 * ((size + 4095) / 4096)
 whole-size size whole = omega arith

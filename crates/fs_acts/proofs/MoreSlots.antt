@@ -20,7 +20,8 @@ use Rattle.fs_acts.proofs.OneSlot.{NowIs}
 use Rattle.fs_acts.proofs.OneRecord.{changed-gives_on}
 use Rattle.fs_acts.proofs.Records.{own-good, slot-good, directory-node, file-node, SameBlocks, slot-same, records-alike}
 use Rattle.fs_acts.proofs.Ways.{tree-list}
-use Rattle.fs_acts.proofs.Refitted.{SlotsGo, BelowAlike, go-good, go-times, go-list}
+use Rattle.fs_acts.proofs.Staying.{AllFrom}
+use Rattle.fs_acts.proofs.Refitted.{SlotsGo, BelowAlike, go-stay, go-good, go-times, go-list}
 use Rattle.fs_acts.proofs.AtEnd.{AtEnd, at-end, held-node, Elsewhere, block-stays, own-stay}
 use Rattle.fs_acts.proofs.BlockPuts.{word-put}
 use Rattle.fs_acts.proofs.Marks.{used-marks, this_block, no_block}
@@ -167,6 +168,7 @@ wide-now : (byte other : ℕ → ℕ) (depth place last block size : ℕ) (list 
     IsList byte (suc depth) place list indirect →
     NowIs (suc depth) byte other place (this_block block) no_block
     (a_directory (records_from (list ++ replicate BLKFILES None)) indirect)
+    × AllFrom byte other place
 wide-now byte other depth place last block size list indirect end above wide count elsewhere is =
     let more = wide.more in
     let free = more.free in
@@ -182,15 +184,17 @@ wide-now byte other depth place last block size list indirect end above wide cou
     ∙ ap records_from
     (sym (go-list depth byte other place go is.kind below)
     ∙ ap (λ (l : List (Option NamedNode)). l ++ replicate (slot_count other place - slot_count byte place) None) (sym was.0)
-    ∙ ap (λ n. list ++ replicate n None) sixteen) in
-    record {
-      good = go-good depth byte other place end.good go (more-good more count) below;
-      times = go-times depth byte other place (this_block block) no_block go below (more-own more);
-      node =
-          directory-node (records_at (suc depth) other) other place
-          (sym (same-directory byte other place (put-kind more.put)) ∙ is.kind)
-          ∙ (λ k. a_directory (records k) ((sym (more-has more) ∙ sym is.mark) k));
-    }
+    ∙ ap (λ n. list ++ replicate n None) sixteen) in (
+      record {
+        good = go-good depth byte other place end.good go (more-good more count) below;
+        times = go-times depth byte other place (this_block block) no_block go below (more-own more);
+        node =
+            directory-node (records_at (suc depth) other) other place
+            (sym (same-directory byte other place (put-kind more.put)) ∙ is.kind)
+            ∙ (λ k. a_directory (records k) ((sym (more-has more) ∙ sym is.mark) k));
+      },
+      go-stay depth byte other place go below,
+    )
 
 -- ---- the law
 
@@ -224,6 +228,7 @@ wide-gives size byte other way place block grown list indirect holds free whole 
     by_depth : (d : ℕ) → 0 < d → AtEnd byte d place → Above byte d place → Wide byte other place (blocks_needed byte place) block grown →
         block_count byte ≡ block_count other → Elsewhere byte other place (InMore byte place block) → IsList byte d place list indirect →
         NowIs d byte other place (this_block block) no_block (a_directory (records_from (list ++ replicate BLKFILES None)) indirect)
+        × AllFrom byte other place
     by_depth zero some end above wide count elsewhere is = absurd (omega (arith, some))
     by_depth (suc d) some end above wide count elsewhere is =
         wide-now byte other d place (blocks_needed byte place) block grown list indirect end above wide count elsewhere is

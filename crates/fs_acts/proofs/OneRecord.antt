@@ -1,7 +1,7 @@
 -- What a change in one record makes of a disk: where the record's own part is right, and the bitmap's bits go with the blocks
 -- that it gains and loses, there is no fault, and the tree has another node at the record's way.
 use Rattle.std.proofs.Common.{◌≡◌, ◌∙◌, ◌⊎◌, inl, inr, ℕ, ◌+◌, ◌*◌, ◌/◌, ◌<◌, ◌≤◌, ◌==◌, ◌&&◌, zero, suc, Bool, true, false, not}
-use Rattle.std.proofs.Common.{List, [], ◌∷◌, Some, None, refl, sym, ap, subst, arith}
+use Rattle.std.proofs.Common.{List, [], ◌∷◌, ◌++◌, Some, None, refl, sym, ap, subst, arith}
 use Rattle.std.specs.Prelude.{nat_le, nat_lt, if◌then◌else◌}
 use Rattle.std.proofs.lemmas.Bool.{cases_eq, and_parts}
 use Rattle.std.proofs.lemmas.Bool.Decides.{nat_tests}
@@ -9,24 +9,25 @@ use Rattle.jos_base.specs.Counting.{total}
 use Rattle.jos_base.specs.Environments.{bit_of}
 use Rattle.jos_base.proofs.Sums.{total-same}
 use Rattle.fs_layout.specs.declared.numbers.TheConstants.{BLKSIZE, RECORDSIZE, FS_MAGIC}
-use Rattle.fs_layout.specs.FileTree.{Node, node_changed, with_record, replaced}
+use Rattle.fs_layout.specs.FileTree.{Node, node_changed, with_record, with_node, replaced}
 use Rattle.fs_layout.specs.DiskImage.{TooShort, Magic, BlockCount, RootKind, Test, demand, in_turn, super_tests, none_named, root_place}
 use Rattle.fs_layout.specs.DiskImage.{block_count, magic_of, is_good_count, is_data_block, first_data_block, is_marked_free}
-use Rattle.fs_layout.specs.DiskImage.{is_directory_at, is_empty_record, slot_count, slot_place}
+use Rattle.fs_layout.specs.DiskImage.{is_directory_at, slot_place}
 use Rattle.fs_layout.specs.DiskFiles.{IsDiskImage, file_system_of, root_of, node_of, records_at, named_blocks, is_unnamed, unnamed_blocks}
 use Rattle.fs_acts.specs.BlockActs.{is_named_slot, place_from, place_at}
-use Rattle.fs_acts.specs.BlockLaws.{AreGood, own_times, times_named, times_on_disk, IsCounted, NowHas}
+use Rattle.fs_acts.specs.BlockLaws.{AreGood, own_times, times_named, times_on_disk, IsCounted, Gives, NowHas}
 use Rattle.fs_acts.proofs.Stored.{same-word}
 use Rattle.fs_acts.proofs.Fields.{SameLabel, same-directory, same-slot}
 use Rattle.fs_acts.proofs.Named.{IsNamed, is-named, times-own, times-slot, named-data}
-use Rattle.fs_acts.proofs.Records.{no-slot, slot-good, SameDirectory, same-slots}
+use Rattle.fs_acts.proofs.Records.{no-slot, slot-good, SameDirectory, named-there}
+use Rattle.fs_acts.proofs.Staying.{StaysFrom, AllFrom, AllBut, slot-stays, all-but}
 use Rattle.fs_acts.proofs.Ways.{record-slot}
 use Rattle.fs_acts.proofs.Undamaged.{way-goes, some-same}
 use Rattle.fs_acts.proofs.TreeBlocks.{data-below}
 use Rattle.fs_acts.proofs.FreeCounted.{first-within}
 use Rattle.fs_acts.proofs.DiskCounts.{super-met, image-counted, counted-image, names-counted}
 use Rattle.fs_acts.proofs.OneWay.{IsWay, way-good}
-use Rattle.fs_acts.proofs.OneSlot.{In, Apart, OneSlot, own-slot, slot-apart, slot-once, slot-loose, slot-label}
+use Rattle.fs_acts.proofs.OneSlot.{In, Apart, OneSlot, own-slot, other-alike, slot-apart, slot-once, slot-loose, slot-label}
 use Rattle.fs_acts.proofs.OneSlot.{slot-same_directory, NowIs, slot-becomes}
 
 -- ---- where bytes may be others
@@ -75,23 +76,6 @@ touched-in (i ∷ way) (suc depth) byte here place Loose q good leads touched =
 
 -- ---- along the way
 
--- a slot that has a name on the one disk has one on the other
-named-there : (byte other : ℕ → ℕ) (here i : ℕ) → SameDirectory byte other here → IsNamed byte here i → is_named_slot other here i ≡ true
-named-there byte other here i same named =
-    let is : is_directory_at other here ≡ true = sym (same-directory byte other here same.fields.kind) ∙ named.is in
-    let within : i < slot_count other here = subst (λ n. i < n) (same-slots byte other here same.fields) named.within in
-    let filled : is_empty_record other (slot_place other here i) ≡ false =
-    ap (λ p. other p == 0) (sym (same-slot byte other here same.good same.fields i named.within))
-    ∙ ap (λ b. b == 0) (sym ((same.labels i named.is named.within).first)) ∙ named.filled in
-    all-three (is_directory_at other here) (nat_lt i (slot_count other here)) (is_empty_record other (slot_place other here i)) is
-    (below i (slot_count other here) within) filled
-  where
-    all-three : (a b e : Bool) → a ≡ true → b ≡ true → e ≡ false → (a && b && not e) ≡ true
-    all-three a b e is_ within_ filled_ = (λ k. is_ k && within_ k && not (filled_ k))
-
-    below : (n m : ℕ) → n < m → nat_lt n m ≡ true
-    below n m lt = grind (arith, nat_tests)
-
 -- the way goes on from there
 goes-on : (other : ℕ → ℕ) (i : ℕ) (way : List ℕ) (here place : ℕ) → is_named_slot other here i ≡ true →
     place_from other way (slot_place other here i) ≡ Some place → place_from other (i ∷ way) here ≡ Some place
@@ -99,22 +83,55 @@ unfolding place_from
 goes-on other i way here place named rest =
     ap (λ (b : Bool). if b then place_from other way (slot_place other here i) else None) named ∙ rest
 
-pub way-becomes : (way : List ℕ) (depth : ℕ) (byte other : ℕ → ℕ) (here place : ℕ) (Loose : ℕ → Type 0) (gain loss : ℕ → ℕ) (new : Node) →
-    Changed byte other place Loose → block_count byte ≡ block_count other → AreGood depth byte here →
+-- a way that begins with another one
+abbrev pub Behind : List ℕ → (List ℕ → Type 0) → List ℕ → Type 0
+Behind way Told at = (rest : List ℕ) × (at ≡ way ++ rest) × Told rest
+
+-- What stays in a slot stays in the directory, and so do all other slots.
+slot-all : {depth : ℕ} {byte other : ℕ → ℕ} {here i : ℕ} {Loose : ℕ → Type 0} (way : List ℕ) (Told : List ℕ → Type 0) →
+    OneSlot depth byte other here i Loose → SameDirectory byte other here → AllBut (Behind way Told) byte other (slot_place byte here i) →
+    AllBut (Behind (i ∷ way) Told) byte other here
+slot-all {depth} {byte} {other} {here} {i} way Told one alike stay =
+    all-but byte other here (Behind (i ∷ way) Told) (sym (same-directory byte other here alike.fields.kind))
+    (λ j named at place leads. elim (cases_eq j i) [
+      | inl e ↦
+          subst (λ k. StaysFrom byte other here (k ∷ at) place ⊎ Behind (i ∷ way) Told (k ∷ at)) (sym e)
+          (elim (stay at place (subst (λ k. place_from byte at (slot_place byte here k) ≡ Some place) e leads)) [
+            | inl stays ↦
+                inl
+                (slot-stays byte other here i at place (named-there byte other here i alike one.named)
+                (same-slot byte other here alike.good alike.fields i one.named.within) stays)
+            | inr told ↦ inr (told.0, ap (λ (l : List ℕ). i ∷ l) told.1, told.2)
+          ])
+      | inr ne ↦
+          inl
+          (slot-stays byte other here j at place (named-there byte other here j alike named)
+          (same-slot byte other here alike.good alike.fields j named.within) ((other-alike one j named ne).stay at place leads))
+    ])
+
+-- at the way's end
+end-all : (byte other : ℕ → ℕ) (here place : ℕ) (Told : List ℕ → Type 0) → here ≡ place → AllBut Told byte other place →
+    AllBut (Behind [] Told) byte other here
+end-all byte other here place Told same stay =
+    subst (λ p. AllBut (Behind [] Told) byte other p) (sym same)
+    (λ at end leads. elim (stay at end leads) [ inl stays ↦ inl stays | inr told ↦ inr (at, refl, told) ])
+
+pub way-becomes : (way : List ℕ) (depth : ℕ) (byte other : ℕ → ℕ) (here place : ℕ) (Loose : ℕ → Type 0) (gain loss : ℕ → ℕ) (new : Node)
+    (Told : List ℕ → Type 0) → Changed byte other place Loose → block_count byte ≡ block_count other → AreGood depth byte here →
     ((block : ℕ) → times_named depth byte here block ≤ 1) → ((block : ℕ) → Loose block → times_named depth byte here block ≡ 0) →
     Apart depth byte here Loose → place_from byte way here ≡ Some place →
-    ((d : ℕ) → IsWay byte depth here way place d → NowIs d byte other place gain loss new) →
+    ((d : ℕ) → IsWay byte depth here way place d → NowIs d byte other place gain loss new × AllBut Told byte other place) →
     NowIs depth byte other here gain loss (replaced way new (node_of (records_at depth byte) byte here)) × SameLabel byte other here
-    × (place_from other way here ≡ Some place)
+    × (place_from other way here ≡ Some place) × AllBut (Behind way Told) byte other here
 unfolding place_from replaced IsWay
-way-becomes [] depth byte other here place Loose gain loss new changed count good once loose apart leads ends =
+way-becomes [] depth byte other here place Loose gain loss new Told changed count good once loose apart leads ends =
     let same = some-same here place leads in
-    let now = subst (λ p. NowIs depth byte other p gain loss new × SameLabel byte other p) (sym same)
-    (ends depth (same, refl), changed.label) in
-    (now.0, now.1, leads)
-way-becomes (i ∷ way) zero byte other here place Loose gain loss new changed count good once loose apart leads ends =
+    let end = ends depth (same, refl) in
+    let now = subst (λ p. NowIs depth byte other p gain loss new × SameLabel byte other p) (sym same) (end.0, changed.label) in
+    (now.0, now.1, leads, end-all byte other here place Told same end.1)
+way-becomes (i ∷ way) zero byte other here place Loose gain loss new Told changed count good once loose apart leads ends =
     let goes = way-goes byte i way here place leads in absurd (no-slot byte here i good (is-named byte here i goes.0))
-way-becomes (i ∷ way) (suc depth) byte other here place Loose gain loss new changed count good once loose apart leads ends =
+way-becomes (i ∷ way) (suc depth) byte other here place Loose gain loss new Told changed count good once loose apart leads ends =
     let goes = way-goes byte i way here place leads in
     let named = is-named byte here i goes.0 in
     let next : ℕ = slot_place byte here i in
@@ -133,7 +150,7 @@ way-becomes (i ∷ way) (suc depth) byte other here place Loose gain loss new ch
       ];
     } in
     let rest =
-    way-becomes way depth byte other next place Loose gain loss new changed count below (slot-once one) (slot-loose one)
+    way-becomes way depth byte other next place Loose gain loss new Told changed count below (slot-once one) (slot-loose one)
     (slot-apart one) goes.1 (λ d onward. ends d (named, onward)) in
     let here_node : Node = node_of (records_at (suc depth) byte) byte here in
     let put = ap (λ r. with_record here_node i (node_changed (replaced way new) r)) (record-slot depth byte here i named) in
@@ -143,6 +160,7 @@ way-becomes (i ∷ way) (suc depth) byte other here place Loose gain loss new ch
       slot-label one,
       goes-on other i way here place (named-there byte other here i alike named)
           (subst (λ p. place_from other way p ≡ Some place) at rest.2),
+      slot-all way Told one alike rest.3,
     )
 
 -- ---- the super block
@@ -257,15 +275,30 @@ and-neither : (d a b c e : Bool) → bit_of a + bit_of b ≡ bit_of c + bit_of e
 and-neither true a b c e h = neither a b ∙ ap (λ n. n == 0) h ∙ sym (neither c e)
 and-neither false a b c e h = refl
 
+-- what the disk has become, where not all ways lead on from the record as they did
+pub record NowBut (size : ℕ) (byte other : ℕ → ℕ) (way : List ℕ) (new : Node) (Told : List ℕ → Type 0) : Type 0 where
+  pub gives : Gives size other (with_node (file_system_of byte) way new)
+  pub stays : place_at other way ≡ place_at byte way
+  pub others : AllBut (Behind way Told) byte other root_place
+
+-- all do, where none is told
+pub now-all : (size : ℕ) (byte other : ℕ → ℕ) (way : List ℕ) (new : Node) → NowBut size byte other way new (λ at. ⊥) →
+    NowHas size byte other way new
+now-all size byte other way new now = record {
+  gives = now.gives;
+  stays = now.stays;
+  all_stay = λ at place leads. elim (now.others at place leads) [ inl stays ↦ stays | inr told ↦ absurd told.2 ];
+}
+
 -- The law of all changes in one record.
-pub changed-gives_on : (size : ℕ) (byte other : ℕ → ℕ) (way : List ℕ) (place : ℕ) (Loose : ℕ → Type 0) (gain loss : ℕ → ℕ) (new : Node) →
-    IsDiskImage size byte → place_at byte way ≡ Some place → Changed byte other place Loose → AreLoose byte Loose →
+pub changed-but : (size : ℕ) (byte other : ℕ → ℕ) (way : List ℕ) (place : ℕ) (Loose : ℕ → Type 0) (gain loss : ℕ → ℕ) (new : Node)
+    (Told : List ℕ → Type 0) → IsDiskImage size byte → place_at byte way ≡ Some place → Changed byte other place Loose → AreLoose byte Loose →
     MarksGo byte other gain loss →
     (block_count byte ≡ block_count other → (d : ℕ) → IsWay byte (block_count byte) root_place way place d →
-    NowIs d byte other place gain loss new) →
-    NowHas size byte other way new
+    NowIs d byte other place gain loss new × AllBut Told byte other place) →
+    NowBut size byte other way new Told
 unfolding file_system_of unnamed_blocks
-changed-gives_on size byte other way place Loose gain loss new image leads changed loose marks ends =
+changed-but size byte other way place Loose gain loss new Told image leads changed loose marks ends =
     let counted = image-counted size byte image in
     let depth : ℕ = block_count byte in
     let same : (q : ℕ) → 4096 ≤ q → q < 4104 → byte q ≡ other q =
@@ -277,7 +310,7 @@ changed-gives_on size byte other way place Loose gain loss new image leads chang
     same-word byte other 4100 (same 4100 (omega arith) (omega arith)) (same 4101 (omega arith) (omega arith))
     (same 4102 (omega arith) (omega arith)) (same 4103 (omega arith) (omega arith)) in
     let now =
-    way-becomes way depth byte other root_place place Loose gain loss new changed count counted.records counted.once
+    way-becomes way depth byte other root_place place Loose gain loss new Told changed count counted.records counted.once
     (λ block is. (loose block is).0) (root-apart size byte Loose counted loose) leads (ends count) in
     let times : (block : ℕ) → times_on_disk other block + loss block ≡ times_on_disk byte block + gain block =
     λ block. ap (λ d. times_named d other root_place block + loss block) (sym count) ∙ now.0.times block in
@@ -329,12 +362,27 @@ changed-gives_on size byte other way place Loose gain loss new image leads chang
     record {
       gives = record { sound = sound; tree = λ k. record { root = root k; blocks = sym count k; unnamed = unnamed_all k } };
       stays = now.2 ∙ sym leads;
+      others = now.3;
     }
+
+-- the same, where all do
+pub changed-gives_on : (size : ℕ) (byte other : ℕ → ℕ) (way : List ℕ) (place : ℕ) (Loose : ℕ → Type 0) (gain loss : ℕ → ℕ) (new : Node) →
+    IsDiskImage size byte → place_at byte way ≡ Some place → Changed byte other place Loose → AreLoose byte Loose →
+    MarksGo byte other gain loss →
+    (block_count byte ≡ block_count other → (d : ℕ) → IsWay byte (block_count byte) root_place way place d →
+    NowIs d byte other place gain loss new × AllFrom byte other place) →
+    NowHas size byte other way new
+changed-gives_on size byte other way place Loose gain loss new image leads changed loose marks ends =
+    now-all size byte other way new
+    (changed-but size byte other way place Loose gain loss new (λ at. ⊥) image leads changed loose marks
+    (λ count d onward. let end = ends count d onward in (end.0, λ at last goes. inl (end.1 at last goes))))
 
 -- the same, where all that is known of the depth is that it suffices
 pub changed-gives : (size : ℕ) (byte other : ℕ → ℕ) (way : List ℕ) (place : ℕ) (Loose : ℕ → Type 0) (gain loss : ℕ → ℕ) (new : Node) →
     IsDiskImage size byte → place_at byte way ≡ Some place → Changed byte other place Loose → AreLoose byte Loose →
-    MarksGo byte other gain loss → (block_count byte ≡ block_count other → (d : ℕ) → AreGood d byte place → NowIs d byte other place gain loss new) →
+    MarksGo byte other gain loss →
+    (block_count byte ≡ block_count other → (d : ℕ) → AreGood d byte place →
+    NowIs d byte other place gain loss new × AllFrom byte other place) →
     NowHas size byte other way new
 changed-gives size byte other way place Loose gain loss new image leads changed loose marks ends =
     changed-gives_on size byte other way place Loose gain loss new image leads changed loose marks

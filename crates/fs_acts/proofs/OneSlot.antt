@@ -200,7 +200,7 @@ other-blocks {depth} {byte} {other} {here} {i} {Loose} one j named ne block mine
     ])
 
 -- another slot, with all that stands below it
-other-alike : {depth : ℕ} {byte other : ℕ → ℕ} {here i : ℕ} {Loose : ℕ → Type 0} → OneSlot depth byte other here i Loose →
+pub other-alike : {depth : ℕ} {byte other : ℕ → ℕ} {here i : ℕ} {Loose : ℕ → Type 0} → OneSlot depth byte other here i Loose →
     (j : ℕ) → IsNamed byte here j → j ≢ i → Alike depth byte other (slot_place byte here j)
 other-alike {depth} {byte} {other} {here} one j named ne =
     records-alike depth byte other (slot_place byte here j) one.count (slot-good depth byte here j one.good named).1

@@ -13,11 +13,13 @@ use Rattle.fs_layout.specs.DiskImage.{slot_count, slot_place, has_taken_name}
 use Rattle.fs_layout.specs.DiskFiles.{file_byte, file_bytes, node_of, named_of, records_at}
 use Rattle.fs_layout.specs.LayoutLaws.{Same}
 use Rattle.jos_base.proofs.Below.{values-same, some_below-same}
+use Rattle.fs_acts.specs.BlockActs.{is_named_slot}
 use Rattle.fs_acts.specs.BlockLaws.{IsGoodRecord, IsGoodSlot, AreGood, own_times, times_named, RecordsAreTheirBlocks}
 use Rattle.fs_acts.proofs.Fields.{same-part, SameLabel, SameFields, same-label, same-fields, same-number, same-slot, same-directory}
 use Rattle.fs_acts.proofs.Fields.{good-same, own_times-same}
 use Rattle.fs_acts.proofs.Named.{IsNamed, is-named, named-is, own-one, own-indirect, slots, times_below, times-own, times-slot}
 use Rattle.fs_acts.proofs.Named.{below-slot}
+use Rattle.fs_acts.proofs.Staying.{AllFrom, slot-stays, all-from}
 
 -- ---- the record itself
 
@@ -128,6 +130,18 @@ named-back byte other place i same named =
           ∙ ap (λ p. other p == 0) (same-slot byte other place same.good same.fields i within) ∙ named.filled;
     }
 
+pub named-there : (byte other : ℕ → ℕ) (place i : ℕ) → SameDirectory byte other place → IsNamed byte place i →
+    is_named_slot other place i ≡ true
+named-there byte other place i same named =
+    named-is other place i
+    (record {
+      is = sym (same-directory byte other place same.fields.kind) ∙ named.is;
+      within = subst (λ n. i < n) (same-slots byte other place same.fields) named.within;
+      filled =
+          ap (λ p. is_empty_record other p) (sym (same-slot byte other place same.good same.fields i named.within))
+          ∙ ap (λ b. b == 0) (sym ((same.labels i named.is named.within).first)) ∙ named.filled;
+    })
+
 -- has a good kind and a good name on the other, which is its own
 taken-same : (byte other : ℕ → ℕ) (place i : ℕ) → SameDirectory byte other place → IsNamed byte place i →
     has_taken_name byte place i ≡ has_taken_name other place i
@@ -231,6 +245,7 @@ pub record Alike (depth : ℕ) (byte other : ℕ → ℕ) (place : ℕ) : Type 0
   pub good : AreGood depth other place
   pub times : (block : ℕ) → times_named depth byte place block ≡ times_named depth other place block
   pub node : node_of (records_at depth byte) byte place ≡ node_of (records_at depth other) other place
+  pub stay : AllFrom byte other place
 
 abbrev pub SameNamed : ℕ → (ℕ → ℕ) → (ℕ → ℕ) → ℕ → Type 0
 SameNamed depth byte other place =
@@ -288,6 +303,9 @@ zero-alike byte other place count good same blocks =
       node =
           node-alike byte other place (records_at zero byte) (records_at zero other) fields (λ is. refl)
           (λ is. file_bytes-same byte other place good.0 fields (blocks-alike zero byte other place blocks));
+      stay =
+          all-from byte other place (sym (same-directory byte other place fields.kind))
+          (λ i named way at leads. absurd (no-slot byte place i good named));
     }
 
 -- with more
@@ -316,6 +334,11 @@ deep-alike depth byte other place good same blocks below = record {
       (λ filled. (below i (record { is = is; within = within; filled = filled })).node)))
       ∙ directory-records depth byte other place same is)
       (λ is. file_bytes-same byte other place same.good same.fields blocks);
+  stay =
+      all-from byte other place (sym (same-directory byte other place same.fields.kind))
+      (λ i named way at leads.
+      slot-stays byte other place i way at (named-there byte other place i same named)
+      (same-slot byte other place same.good same.fields i named.within) ((below i named).stay way at leads));
 }
 
 pub records-alike : (depth : ℕ) (byte other : ℕ → ℕ) (place : ℕ) → block_count byte ≡ block_count other → AreGood depth byte place →

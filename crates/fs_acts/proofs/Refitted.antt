@@ -10,10 +10,12 @@ use Rattle.fs_layout.specs.DiskImage.{kind_at, name_of, is_good_kind, is_good_na
 use Rattle.fs_layout.specs.DiskImage.{is_empty_record, slot_count, slot_place, has_taken_name}
 use Rattle.fs_layout.specs.DiskFiles.{named_of, node_of, records_at}
 use Rattle.jos_base.proofs.Below.{length-values, get_or-values, is-values, some_below-same}
+use Rattle.fs_acts.specs.BlockActs.{is_named_slot}
 use Rattle.fs_acts.specs.BlockLaws.{IsGoodRecord, IsGoodSlot, AreGood, own_times, times_named}
 use Rattle.fs_acts.proofs.Fields.{SameLabel}
 use Rattle.fs_acts.proofs.Named.{IsNamed, is-named, named-is, slots, times_below}
 use Rattle.fs_acts.proofs.Records.{Alike, times-alike, named-alike}
+use Rattle.fs_acts.proofs.Staying.{AllFrom, slot-stays, all-from}
 use Rattle.fs_acts.proofs.Ways.{tree-list}
 
 -- ---- sums and lists that go on with nothing
@@ -117,6 +119,26 @@ go-slot byte other place i go named good =
 -- all below it is as it was
 abbrev pub BelowAlike : ℕ → (ℕ → ℕ) → (ℕ → ℕ) → ℕ → Type 0
 BelowAlike depth byte other place = (i : ℕ) → IsNamed byte place i → Alike depth byte other (slot_place byte place i)
+
+-- so all ways lead where they led
+go-there : (byte other : ℕ → ℕ) (place i : ℕ) → SlotsGo byte other place → IsNamed byte place i → is_named_slot other place i ≡ true
+go-there byte other place i go named =
+    let more = go.more in
+    let within = named.within in
+    named-is other place i
+    (record {
+      is = sym go.directory ∙ named.is;
+      within = omega (arith, more, within);
+      filled = sym (same-empty byte other place i go named.is named.within) ∙ named.filled;
+    })
+
+pub go-stay : (depth : ℕ) (byte other : ℕ → ℕ) (place : ℕ) → SlotsGo byte other place → BelowAlike depth byte other place →
+    AllFrom byte other place
+go-stay depth byte other place go below =
+    all-from byte other place (sym go.directory)
+    (λ i named way at leads.
+    slot-stays byte other place i way at (go-there byte other place i go named) (go.places i named.within)
+    ((below i named).stay way at leads))
 
 pub go-good : (depth : ℕ) (byte other : ℕ → ℕ) (place : ℕ) → AreGood (suc depth) byte place → SlotsGo byte other place →
     IsGoodRecord other place → BelowAlike depth byte other place → AreGood (suc depth) other place

@@ -7,12 +7,12 @@ use Rattle.jos_base.specs.Counting.{total}
 use Rattle.jos_base.specs.Environments.{bit_of}
 use Rattle.fs_layout.specs.declared.numbers.TheConstants.{BLKSIZE}
 use Rattle.fs_layout.specs.FileTree.{Node, NamedNode, FileSystem, root_record, record_at, with_record, node_changed, named_from}
-use Rattle.fs_layout.specs.FileTree.{replaced, emptied, without_node}
+use Rattle.fs_layout.specs.FileTree.{replaced, emptied}
 use Rattle.fs_layout.specs.DiskImage.{block_count, root_place, size_of, has_indirect, indirect_of, block_number_at}
-use Rattle.fs_layout.specs.DiskImage.{is_empty_record, slot_place, name_of}
+use Rattle.fs_layout.specs.DiskImage.{is_empty_record, is_directory_at, slot_place, name_of}
 use Rattle.fs_layout.specs.DiskFiles.{IsDiskImage, file_system_of, node_of, records_at}
 use Rattle.fs_acts.specs.BlockActs.{put_byte, stored, written, place_from, place_at, empty_it}
-use Rattle.fs_acts.specs.BlockLaws.{own_times, times_named, Gives, EmptyFilesAreRemoved}
+use Rattle.fs_acts.specs.BlockLaws.{own_times, times_named, NowLacks, EmptyFilesAreRemoved}
 use Rattle.fs_acts.proofs.Stored.{stored-byte, stored-left}
 use Rattle.fs_acts.proofs.Trees.{node-found}
 use Rattle.fs_acts.proofs.Named.{IsNamed, is-named, named-is, below-named}
@@ -153,35 +153,48 @@ slot-only byte here i q = elim (cases_eq q (slot_place byte here i)) [
 
 -- ---- the law
 
+-- no way leads on from a file
+last-there : (byte : ℕ → ℕ) (place i : ℕ) → is_directory_at byte place ≡ false → (at : List ℕ) (end : ℕ) →
+    place_from byte at place ≡ Some end → i ∷ at ≡ i ∷ []
+last-there byte place i kind [] end leads = refl
+last-there byte place i kind (next ∷ at) end leads =
+    let goes = way-goes byte next at place end leads in
+    clash (is_directory_at byte place) (is-named byte place next goes.0).is kind
+
 removed-at : (size : ℕ) (byte : ℕ → ℕ) (above : List ℕ) (here i : ℕ) → IsDiskImage size byte → place_at byte above ≡ Some here →
     IsNamed byte here i → IsFile byte (slot_place byte here i) [] false →
-    Gives size (stored (put_byte (slot_place byte here i) 0) byte) (without_node (file_system_of byte) (above ++ i ∷ []))
+    NowLacks size byte (stored (put_byte (slot_place byte here i) 0) byte) (above ++ i ∷ [])
 removed-at size byte above here i image leads named it =
     let files : FileSystem = file_system_of byte in
     let place : ℕ = slot_place byte here i in
     let node : Node = node_of (records_at (block_count byte) byte) byte here in
     let none : size_of byte place ≡ 0 = sym (length-file byte place) ∙ ap (λ (l : List ℕ). length l) it.bytes_are in
     let gives =
-    slot-gives size byte (stored (put_byte place 0) byte) above here i None image leads named.is named.within (slot-only byte here i)
+    slot-gives size byte (stored (put_byte place 0) byte) above here i None (λ at. at ≡ i ∷ []) image leads named.is named.within
+    (slot-only byte here i)
     (λ depth end.
     emptied-to depth byte here i named
     (λ block. file-times depth byte place block it.kind ∙ no-own byte place block none it.mark)
-    (λ j is. filled-name byte (slot_place byte here j) is.filled)) in
+    (λ j is. filled-name byte (slot_place byte here j) is.filled))
+    (λ is. last-there byte place i it.kind) in
     let found = node-found (named_from above (root_record files)) node (holds-node size byte above here image leads).is in
     let tree : replaced above (with_record node i None) files.root ≡ emptied (above ++ i ∷ []) files.root =
     subst (λ (n : Node). replaced above (with_record n i None) files.root ≡ emptied (above ++ i ∷ []) files.root) found.1.1
     (replaced-emptied above i (root_record files) found.0 found.1.0) in
-    record { sound = gives.gives.sound; tree = gives.gives.tree ∙ ap (λ (n : Node). record files { root = n }) tree }
+    record {
+      gives = record { sound = gives.gives.sound; tree = gives.gives.tree ∙ ap (λ (n : Node). record files { root = n }) tree };
+      others_stay = λ at end goes. elim (gives.others at end goes) [
+        | inl stays ↦ inl stays
+        | inr told ↦ inr (told.1 ∙ ap (λ (l : List ℕ). above ++ l) told.2)
+      ];
+    }
 
 pub empties-removed : EmptyFilesAreRemoved
 unfolding empty_it written
 empties-removed size byte first way place holds =
     let parent = way-above way byte first root_place place holds.stands in
     let it = file-at size byte (first ∷ way) place [] false holds in
-    subst (λ (p : ℕ). Gives size (stored (put_byte p 0) byte) (without_node (file_system_of byte) (first ∷ way))) parent.at
-    (subst
-    (λ (w : List ℕ).
-    Gives size (stored (put_byte (slot_place byte parent.directory parent.i) 0) byte) (without_node (file_system_of byte) w))
-    parent.whole
+    subst (λ (p : ℕ). NowLacks size byte (stored (put_byte p 0) byte) (first ∷ way)) parent.at
+    (subst (λ (w : List ℕ). NowLacks size byte (stored (put_byte (slot_place byte parent.directory parent.i) 0) byte) w) parent.whole
     (removed-at size byte parent.above parent.directory parent.i holds.sound parent.leads parent.named
     (subst (λ (p : ℕ). IsFile byte p [] false) (sym parent.at) it)))

@@ -1,6 +1,6 @@
 -- What a disk becomes where one slot of a directory gets another record.
 use Rattle.std.proofs.Common.{◌≡◌, ◌∙◌, ◌⊎◌, inl, inr, ℕ, ◌+◌, ◌/◌, ◌%◌, ◌<◌, ◌≤◌, ◌==◌, zero, suc, true}
-use Rattle.std.proofs.Common.{List, Option, Some, sym, ap, subst, arith}
+use Rattle.std.proofs.Common.{List, ◌∷◌, Option, Some, sym, ap, subst, arith}
 use Rattle.std.specs.Prelude.{option_map}
 use Rattle.std.specs.Int.{bit_at}
 use Rattle.jos_base.specs.Environments.{bit_of}
@@ -8,17 +8,19 @@ use Rattle.fs_layout.specs.declared.numbers.TheConstants.{RECORDSIZE}
 use Rattle.fs_layout.specs.FileTree.{Node, NamedNode, with_record}
 use Rattle.fs_layout.specs.DiskImage.{block_count, is_directory_at, slot_count, slot_place}
 use Rattle.fs_layout.specs.DiskFiles.{IsDiskImage, node_of, records_at}
-use Rattle.fs_acts.specs.BlockActs.{place_at}
-use Rattle.fs_acts.specs.BlockLaws.{AreGood, NowHas, Holds}
+use Rattle.fs_acts.specs.BlockActs.{place_from, place_at}
+use Rattle.fs_acts.specs.BlockLaws.{AreGood, Holds}
 use Rattle.fs_acts.proofs.Fields.{same-label}
+use Rattle.fs_acts.proofs.Named.{IsNamed}
 use Rattle.fs_acts.proofs.Ways.{ways-lead}
 use Rattle.fs_acts.proofs.DiskCounts.{image-counted}
 use Rattle.fs_acts.proofs.Disks.{disk-blocks}
 use Rattle.fs_acts.proofs.OneSlot.{own-slot, NowIs}
-use Rattle.fs_acts.proofs.OneRecord.{Changed, MarksGo, changed-gives_on}
+use Rattle.fs_acts.proofs.OneRecord.{Changed, MarksGo, NowBut, changed-but}
+use Rattle.fs_acts.proofs.Staying.{AllBut}
 use Rattle.fs_acts.proofs.FileRecords.{NoneLoose, Stands, stands-at, mark-byte, mark-low}
 use Rattle.fs_acts.proofs.AtEnd.{AtEnd, at-end, held-node}
-use Rattle.fs_acts.proofs.SlotSet.{SetTo, set-now}
+use Rattle.fs_acts.proofs.SlotSet.{SlotSet, set-stay, SetTo, set-now}
 
 -- the bitmap is as it was
 marks-stay : (size : ℕ) (byte other : ℕ → ℕ) (way : List ℕ) (place : ℕ) → IsDiskImage size byte → place_at byte way ≡ Some place →
@@ -70,15 +72,16 @@ last-none : (byte : ℕ → ℕ) (here : ℕ) → AreGood zero byte here → is_
 unfolding AreGood
 last-none byte here good is = good.1 is
 
-pub slot-gives : (size : ℕ) (byte other : ℕ → ℕ) (way : List ℕ) (here i : ℕ) (entry : Option NamedNode) → IsDiskImage size byte →
-    place_at byte way ≡ Some here → is_directory_at byte here ≡ true → i < slot_count byte here → SlotOnly byte other here i →
+pub slot-gives : (size : ℕ) (byte other : ℕ → ℕ) (way : List ℕ) (here i : ℕ) (entry : Option NamedNode) (Told : List ℕ → Type 0) →
+    IsDiskImage size byte → place_at byte way ≡ Some here → is_directory_at byte here ≡ true → i < slot_count byte here → SlotOnly byte other here i →
     ((depth : ℕ) → AtEnd byte (suc depth) here → SetTo depth byte other here i entry) →
-    NowHas size byte other way (with_record (node_of (records_at (block_count byte) byte) byte here) i entry)
-slot-gives size byte other way here i entry image leads is within only to =
+    (IsNamed byte here i → (at : List ℕ) (place : ℕ) → place_from byte at (slot_place byte here i) ≡ Some place → Told (i ∷ at)) →
+    NowBut size byte other way (with_record (node_of (records_at (block_count byte) byte) byte here) i entry) Told
+slot-gives size byte other way here i entry Told image leads is within only to told =
     let counted = image-counted size byte image in
     let node : Node = node_of (records_at (block_count byte) byte) byte here in
     let changed = slot-changed byte other here i (stands-at size byte image way here leads) within only in
-    changed-gives_on size byte other way here NoneLoose (λ block. 0) (λ block. 0) (with_record node i entry) image leads changed
+    changed-but size byte other way here NoneLoose (λ block. 0) (λ block. 0) (with_record node i entry) Told image leads changed
     (λ block loose. absurd loose) (marks-stay size byte other way here image leads changed)
     (λ count depth onward.
     now depth count (at-end size byte way here depth counted onward)
@@ -88,8 +91,12 @@ slot-gives size byte other way here i entry image leads is within only to =
         node_of (records_at (block_count byte) byte) byte here ≡ node_of (records_at depth byte) byte here →
         NowIs depth byte other here (λ block. 0) (λ block. 0)
         (with_record (node_of (records_at (block_count byte) byte) byte here) i entry)
+        × AllBut Told byte other here
     now zero count end same =
         let none = last-none byte here end.good is in absurd (omega (arith, within, none))
     now (suc depth) count end same =
-        subst (λ (n : Node). NowIs (suc depth) byte other here (λ block. 0) (λ block. 0) (with_record n i entry)) (sym same)
-        (set-now (record { end = end; count = count; is = is; within = within; elsewhere = only }) (to depth end))
+        let set : SlotSet depth byte other here i = record { end = end; count = count; is = is; within = within; elsewhere = only } in (
+          subst (λ (n : Node). NowIs (suc depth) byte other here (λ block. 0) (λ block. 0) (with_record n i entry)) (sym same)
+              (set-now set (to depth end)),
+          set-stay set Told told,
+        )

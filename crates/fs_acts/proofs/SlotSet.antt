@@ -1,7 +1,7 @@
 -- A directory in which one slot gets another record, that of a file without blocks or an empty one, in the place of one
 -- that named no block either.
 use Rattle.std.proofs.Common.{◌≡◌, ◌≢◌, ◌∙◌, ◌⊎◌, inl, inr, ℕ, ◌+◌, ◌*◌, ◌/◌, ◌%◌, ◌<◌, ◌≤◌, ◌==◌, suc, Bool, true, false, not}
-use Rattle.std.proofs.Common.{List, Option, Some, refl, sym, ap, subst, arith}
+use Rattle.std.proofs.Common.{List, ◌∷◌, Option, Some, refl, sym, ap, subst, arith}
 use Rattle.std.specs.Prelude.{bytes_eq, slice_set, if◌then◌else◌}
 use Rattle.std.proofs.lemmas.Bool.{cases_eq}
 use Rattle.jos_base.specs.Counting.{total}
@@ -16,9 +16,11 @@ use Rattle.fs_layout.specs.DiskFiles.{node_of, named_of, records_at}
 use Rattle.fs_layout.specs.LayoutLaws.{Same}
 use Rattle.fs_layout.proofs.FileTrees.{records_from-listed}
 use Rattle.jos_base.proofs.Below.{some_below-at, some_below-none}
+use Rattle.fs_acts.specs.BlockActs.{is_named_slot, place_from}
 use Rattle.fs_acts.specs.BlockLaws.{AreGood, IsGoodSlot, own_times, times_named}
 use Rattle.fs_acts.proofs.Fields.{SameLabel, SameFields, same-label, same-fields, same-slot, same-directory, good-same, own_times-same}
-use Rattle.fs_acts.proofs.Named.{IsNamed, is-named, own-two, own-both, slots, times_below, times-own, times-slot, below-slot}
+use Rattle.fs_acts.proofs.Staying.{AllBut, slot-stays, all-but}
+use Rattle.fs_acts.proofs.Named.{IsNamed, is-named, named-is, own-two, own-both, slots, times_below, times-own, times-slot, below-slot}
 use Rattle.fs_acts.proofs.Records.{own-good, slot-good, directory-node, same-slots, Alike, records-alike}
 use Rattle.fs_acts.proofs.Ways.{tree-list}
 use Rattle.fs_acts.proofs.OneSlot.{block-of, slot-block, slot-number, same-place, own-slot, set-values, NowIs}
@@ -109,6 +111,37 @@ set-places : {depth : ℕ} {byte other : ℕ → ℕ} {here i : ℕ} → SlotSet
     slot_place byte here j ≡ slot_place other here j
 set-places {depth} {byte} {other} {here} set j within =
     same-slot byte other here (own-good (suc depth) byte here set.end.good) (set-fields set) j within
+
+-- All ways lead where they led, but for those through the slot.
+set-there : {depth : ℕ} {byte other : ℕ → ℕ} {here i : ℕ} → SlotSet depth byte other here i → (j : ℕ) → IsNamed byte here j → j ≢ i →
+    is_named_slot other here j ≡ true
+set-there {depth} {byte} {other} {here} set j named ne =
+    let fields = set-fields set in
+    let label = same-label byte other (slot_place byte here j) (other-slot set j named.within ne) in
+    named-is other here j
+    (record {
+      is = sym (same-directory byte other here fields.kind) ∙ set.is;
+      within = subst (λ n. j < n) (same-slots byte other here fields) named.within;
+      filled =
+          ap (λ p. is_empty_record other p) (sym (set-places set j named.within)) ∙ ap (λ b. b == 0) (sym label.first) ∙ named.filled;
+    })
+
+pub set-stay : {depth : ℕ} {byte other : ℕ → ℕ} {here i : ℕ} → SlotSet depth byte other here i → (Told : List ℕ → Type 0) →
+    (IsNamed byte here i → (way : List ℕ) (place : ℕ) → place_from byte way (slot_place byte here i) ≡ Some place → Told (i ∷ way)) →
+    AllBut Told byte other here
+set-stay {depth} {byte} {other} {here} {i} set Told this =
+    all-but byte other here Told (sym (same-directory byte other here (set-fields set).kind))
+    (λ j named way at leads. elim (cases_eq j i) [
+      | inl e ↦
+          inr
+          (subst (λ k. Told (k ∷ way)) (sym e)
+          (this (subst (IsNamed byte here) e named) way at
+          (subst (λ k. place_from byte way (slot_place byte here k) ≡ Some at) e leads)))
+      | inr ne ↦
+          inl
+          (slot-stays byte other here j way at (set-there set j named ne) (set-places set j named.within)
+          ((other-alike set j named ne).stay way at leads))
+    ])
 
 -- ---- what is set
 

@@ -181,10 +181,20 @@ pub record Holds (size : ℕ) (byte : ℕ → ℕ) (way : List ℕ) (place : ℕ
   pub stands : place_at byte way ≡ Some place
   pub is : node_at (file_system_of byte) way ≡ Some node
 
--- Another disk has another node at a way, and the record there stands where it stood.
+-- What a way leads to stands on another disk where it stood, and is a directory there exactly where it was one.
+abbrev pub Stays : (ℕ → ℕ) → (ℕ → ℕ) → List ℕ → ℕ → Type 0
+Stays byte other way place = (place_at other way ≡ Some place) × (is_directory_at other place ≡ is_directory_at byte place)
+
+-- Another disk has another node at a way, and all records stand where they stood.
 pub record NowHas (size : ℕ) (byte other : ℕ → ℕ) (way : List ℕ) (node : Node) : Type 0 where
   pub gives : Gives size other (with_node (file_system_of byte) way node)
   pub stays : place_at other way ≡ place_at byte way
+  pub all_stay : (at : List ℕ) (place : ℕ) → place_at byte at ≡ Some place → Stays byte other at place
+
+-- Another disk has no node at a way any more, and all other records stand where they stood.
+pub record NowLacks (size : ℕ) (byte other : ℕ → ℕ) (way : List ℕ) : Type 0 where
+  pub gives : Gives size other (without_node (file_system_of byte) way)
+  pub others_stay : (at : List ℕ) (place : ℕ) → place_at byte at ≡ Some place → Stays byte other at place ⊎ (at ≡ way)
 
 -- a change puts another node at a way
 abbrev pub Becomes : ℕ → (ℕ → ℕ) → List ℕ → Change → Node → Type 0
@@ -261,7 +271,7 @@ MadeRecordsAreFiles = (size : ℕ) (byte : ℕ → ℕ) (way : List ℕ) (place 
 abbrev pub EmptyFilesAreRemoved : Type 0
 EmptyFilesAreRemoved = (size : ℕ) (byte : ℕ → ℕ) (first : ℕ) (way : List ℕ) (place : ℕ) →
     Holds size byte (first ∷ way) place (a_file [] false) →
-    Gives size (written (empty_it place byte) byte) (without_node (file_system_of byte) (first ∷ way))
+    NowLacks size byte (written (empty_it place byte) byte) (first ∷ way)
 
 -- ---- acts
 
@@ -284,6 +294,23 @@ pub record IsAct (size : ℕ) (is_open : List ℕ → Bool) (byte : ℕ → ℕ)
 abbrev pub BlockActsAreActs : Type 0
 BlockActsAreActs = (size : ℕ) (byte : ℕ → ℕ) (is_open : List ℕ → Bool) (act : FileAct) →
     IsDiskImage size byte → HasString act → IsAct size is_open byte act
+
+-- the file that an act removes
+abbrev pub IsRemoved : (ℕ → ℕ) → FileAct → List ℕ → ℕ → Type 0
+IsRemoved byte (open_path path mode) way place = ⊥
+IsRemoved byte (read_file at from n) way place = ⊥
+IsRemoved byte (write_file at from bytes) way place = ⊥
+IsRemoved byte (set_file_size at size) way place = ⊥
+IsRemoved byte (stat_file at) way place = ⊥
+IsRemoved byte (remove_path path) way place = led_to byte path ≡ a_record place way
+IsRemoved byte sync_files way place = ⊥
+
+-- No act moves a record: what a way leads to stands where it stood, but for the file that is removed, where the act answers 0.
+abbrev pub PlacesStay : Type 0
+PlacesStay = (size : ℕ) (byte : ℕ → ℕ) (is_open : List ℕ → Bool) (act : FileAct) → IsDiskImage size byte → HasString act →
+    (way : List ℕ) (place : ℕ) → place_at byte way ≡ Some place →
+    Stays byte (written (puts_of is_open byte act) byte) way place
+    ⊎ (IsRemoved byte act way place × ((plan_of is_open byte act).answer ≡ 0))
 
 -- Between two changes the disk has no fault.
 abbrev pub ChangesKeepDisks : Type 0

@@ -7,7 +7,7 @@ ghost use Rattle.fs_acts.specs.BlockLaws.{RecordsAreTheirBlocks, BlocksDecide, W
 ghost use Rattle.fs_acts.specs.BlockLaws.{PlacesHaveOneWay, TakenIndirectIsMarked, GivenBlocksAreLost};
 ghost use Rattle.fs_acts.specs.BlockLaws.{GivenIndirectIsUnmarked, TakenBlocksAreZeros, TakenBlocksAreEmptyRecords};
 ghost use Rattle.fs_acts.specs.BlockLaws.{WaysLeadToNames, BlockActsAreActs, ChangesKeepDisks, ActsGoOn};
-ghost use Rattle.fs_acts.specs.BlockLaws.{PutsStayWithin, FaultsAreTheirBlocks};
+ghost use Rattle.fs_acts.specs.BlockLaws.{PlacesStay, PutsStayWithin, FaultsAreTheirBlocks};
 
 /// A disk has no fault exactly where each of its records is good, and each block is named once at most and then in
 /// use.
@@ -122,6 +122,12 @@ pub fn ways_lead_to_names()
 /// bytes, and leaves a disk without a fault that has the files of the act.
 pub fn block_acts_are_acts()
     ensures { BlockActsAreActs }
+{}
+
+/// No act moves a record: what a way leads to stands where it stood, and is a directory where it was one, but for the file
+/// that is removed.
+pub fn places_stay()
+    ensures { PlacesStay }
 {}
 
 /// Between two changes of an act the disk has no fault.

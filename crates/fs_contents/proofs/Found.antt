@@ -1,9 +1,10 @@
 -- What is told of the record that a path names.
-use Rattle.std.proofs.Common.{◌≡◌, ◌≢◌, ◌∙◌, ◌==◌, ℕ, true, false, List, [], map, Result, Ok, Err, sym, ap, arith}
+use Rattle.std.proofs.Common.{◌≡◌, ◌≢◌, ◌∙◌, ◌==◌, ◌≤◌, ℕ, true, false, List, [], length, map, Result, Ok, Err, sym, ap, subst, arith}
 use Rattle.std.specs.Prelude.{slice_index}
 use Rattle.std.proofs.lemmas.Bool.Decides.{nat_tests}
 use Rattle.jos_base.specs.declared.errno.Errno.{Errno}
 use Rattle.jos_base.specs.declared.errno.Errno.TheVariants.{Invalid}
+use Rattle.fs_layout.specs.declared.numbers.TheConstants.{MAXFILESIZE}
 use Rattle.fs_layout.specs.declared.records.FileEntry.{FileEntry}
 use Rattle.fs_layout.specs.FileTree.{Node, a_file, a_directory}
 use Rattle.fs_layout.specs.DiskImage.{kind_at, is_directory_at, has_indirect, slot_count}
@@ -11,7 +12,7 @@ use Rattle.fs_layout.specs.DiskFiles.{file_bytes, records_at}
 use Rattle.fs_layout.specs.DiskLaws.{IsReadable}
 use Rattle.fs_contents.specs.Contents.{Told, told_of_entry, directory_found, file_found}
 use Rattle.fs_contents.specs.Walks.{LeadsOn, entries_below}
-use Rattle.fs_contents.proofs.Records.{own-readable, directory-told}
+use Rattle.fs_contents.proofs.Records.{own-readable, directory-told, file-size}
 use Rattle.fs_contents.proofs.Ways.{leads-here, directory-node, file-node}
 
 -- what is found can be read
@@ -59,6 +60,12 @@ pub file-read : (byte : ℕ → ℕ) (found : Result Node Errno) (place : ℕ) (
     is_directory_at byte place ≡ false → bytes ≡ file_bytes byte place → file_found found ≡ Ok bytes
 file-read byte found place bytes leads is read =
     ap file_found (found-file byte found place leads is) ∙ ap (λ (b : List ℕ). Ok b) (sym read)
+
+-- and has no more bytes than a file may have
+pub file-short : (byte : ℕ → ℕ) (found : Result Node Errno) (place : ℕ) (bytes : List ℕ) → LeadsOn byte found [] place → bytes ≡ file_bytes byte place →
+    length bytes ≤ MAXFILESIZE
+file-short byte found place bytes leads read =
+    subst (λ (n : ℕ). n ≤ MAXFILESIZE) (sym (ap length read ∙ file-size byte place)) (found-readable byte found place leads).short
 
 -- ---- its kind, which is read of the disk and told of the image
 

@@ -74,7 +74,7 @@ entry-name : (byte : ℕ → ℕ) (place : ℕ) → before_first (λ b. b == 0) 
 unfolding bytes_from name_of
 entry-name byte place = ap (before_first (λ b. b == 0)) (range-values place 128 byte)
 
-file-size : (byte : ℕ → ℕ) (place : ℕ) → length (file_bytes byte place) ≡ size_of byte place
+pub file-size : (byte : ℕ → ℕ) (place : ℕ) → length (file_bytes byte place) ≡ size_of byte place
 unfolding file_bytes
 file-size byte place = length-values (size_of byte place) (file_byte byte place)
 

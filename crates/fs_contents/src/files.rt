@@ -1,6 +1,7 @@
 //! The records of a directory, and the bytes of a file.
 
-ghost use Rattle.std.specs.Prelude.{◌≡◌, Ok, map, length, slice_index, MatchResult};
+ghost use Rattle.std.specs.Prelude.{◌≡◌, ◌≤◌, Ok, IfOk, map, length, slice_index, MatchResult};
+ghost use Rattle.fs_layout.specs.declared.numbers.TheConstants.{MAXFILESIZE};
 ghost use Rattle.fs_layout.specs.DiskFiles.{IsDiskImage, file_system_of};
 ghost use Rattle.fs_contents.specs.Contents.{told_of_entry, listed_at, read_at, IsReadFault};
 
@@ -31,9 +32,11 @@ pub fn list(alloc: Global, image: &[u8], path: &[u8]) -> Result<Vec<FileEntry>, 
 /// The bytes of the file that a path names. A path is refused as by `list`, and with `Invalid` where it names a directory.
 pub fn read_file(alloc: Global, image: &[u8], path: &[u8]) -> Result<Vec<u8>, ReadFault>
     requires { IsDiskImage (length image.now) (slice_index image.now) }
-    ensures { MatchResult result
+    ensures read { MatchResult result
         (λ bytes. read_at (file_system_of (slice_index image.now)) path.now ≡ Ok bytes.items)
         (IsReadFault (read_at (file_system_of (slice_index image.now)) path.now)) }
+    // No file of a disk is longer.
+    ensures short { IfOk result (λ bytes. length bytes.items ≤ MAXFILESIZE) }
 {
     let place = place_of(image, path)?;
     if kind_at(&MemoryDisk::new(image), place) == FTYPE_DIR {

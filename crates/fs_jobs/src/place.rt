@@ -8,7 +8,7 @@ pub enum Job {
     Open {
         mode: u32,
     },
-    /// Where a path leads, for a removal.
+    /// Where a path leads, for one who opens or removes a file: the place of the file's record is told.
     Find,
     /// The file of the record at this place is removed.
     Remove {

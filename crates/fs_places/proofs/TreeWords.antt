@@ -204,16 +204,16 @@ four_left (_ ∷ _ ∷ _ ∷ _ ∷ _ ∷ _ ∷ _ ∷ _ ∷ _ ∷ _ ∷ _ ∷ _ �
 
 -- the words as the code puts them
 pub words_put : (words j p : List ℕ) (t : TreeState) → length words ≡ 12 → j ≡ job_words t.job → p ≡ place_words t.place →
-    (8 * word p 0 + word j 0) ∷ word j 1 ∷ word j 2 ∷ word j 3 ∷ t.count ∷ word p 1 ∷ word p 2 ∷ word p 3
+    0 ∷ word j 1 ∷ word j 2 ∷ word j 3 ∷ t.count ∷ word p 1 ∷ word p 2 ∷ word p 3
     ∷ four_words (word words 8) (word words 9) (word words 10) (word words 11) ≡ words_with words t
 unfolding words_with
 words_put words j p t twelve is_job is_place =
-    (λ i. (8 * word (is_place i) 0 + word (is_job i) 0) ∷ word (is_job i) 1 ∷ word (is_job i) 2 ∷ word (is_job i) 3 ∷ t.count
+    (λ i. 0 ∷ word (is_job i) 1 ∷ word (is_job i) 2 ∷ word (is_job i) 3 ∷ t.count
     ∷ word (is_place i) 1 ∷ word (is_place i) 2 ∷ word (is_place i) 3 ∷ sym (four_left words twelve) i)
 
 -- ---- what is read
 
--- The state lies in these five registers and the first eight words.
+-- The state lies in these six registers and the first eight words.
 pub record AreAlike (regs others : Regs) (words more : List ℕ) : Type 0 where
   pub first : take 8 words ≡ take 8 more
   pub eax : regs.eax ≡ others.eax
@@ -221,6 +221,7 @@ pub record AreAlike (regs others : Regs) (words more : List ℕ) : Type 0 where
   pub ecx : regs.ecx ≡ others.ecx
   pub edx : regs.edx ≡ others.edx
   pub ebp : regs.ebp ≡ others.ebp
+  pub edi : regs.edi ≡ others.edi
 
 -- a word below the eighth is the same of the first eight
 word_taken : (words : List ℕ) (n k : ℕ) → k < n → word (take n words) k ≡ word words k
@@ -239,6 +240,6 @@ unfolding state_in
 state_alike regs others words more alike =
     let same = word_alike words more alike.first in
     (λ i. state_of
-    (same 0 (omega arith) i ∷ same 1 (omega arith) i ∷ same 2 (omega arith) i ∷ same 3 (omega arith) i ∷ same 4 (omega arith) i
+    (alike.edi i ∷ same 1 (omega arith) i ∷ same 2 (omega arith) i ∷ same 3 (omega arith) i ∷ same 4 (omega arith) i
     ∷ same 5 (omega arith) i ∷ same 6 (omega arith) i ∷ same 7 (omega arith) i
     ∷ alike.eax i ∷ alike.ebx i ∷ alike.ecx i ∷ alike.edx i ∷ alike.ebp i ∷ []))

@@ -1,6 +1,7 @@
--- Where a job stands, as it is spelled in thirteen words: the first eight of those that its environment keeps for the library, and the
--- registers EAX, EBX, ECX, EDX and EBP. The first word has the numbers of the place and of the job, the next three are the job's, then come
--- the number of blocks and eight words of the place. (The form is this system's own.)
+-- Where a job stands, as it is spelled in thirteen words: the register EDI, seven of the words that its environment keeps for the library, from
+-- the second on, and the registers EAX, EBX, ECX, EDX and EBP. EDI has the numbers of the place and of the job, the next three are the job's, then
+-- come the number of blocks and eight words of the place. The first of the words that are kept is 0, as it is of one who is in no service. (The form
+-- is this system's own.)
 use Rattle.std.specs.Prelude.{ℕ, ◌+◌, ◌-◌, ◌*◌, ◌/◌, ◌%◌, ◌==◌, ◌++◌, nat_lt, true, false, List, [], ◌∷◌, get_or, take, drop, if◌then◌else◌}
 use Rattle.jos_base.specs.declared.registers.Regs.{Regs}
 use Rattle.fs_jobs.specs.declared.place.Change.{Change}
@@ -243,7 +244,7 @@ state_of w = record {
 
 abbrev pub thirteen : Regs → List ℕ → List ℕ
 thirteen regs w =
-    word w 0 ∷ word w 1 ∷ word w 2 ∷ word w 3 ∷ word w 4 ∷ word w 5 ∷ word w 6 ∷ word w 7
+    regs.edi ∷ word w 1 ∷ word w 2 ∷ word w 3 ∷ word w 4 ∷ word w 5 ∷ word w 6 ∷ word w 7
     ∷ regs.eax ∷ regs.ebx ∷ regs.ecx ∷ regs.edx ∷ regs.ebp ∷ []
 
 -- the state in which the job of an environment stands
@@ -258,7 +259,8 @@ registers_with regs t = record regs {
   ecx = word (words_of t) 10;
   edx = word (words_of t) 11;
   ebp = word (words_of t) 12;
+  edi = word (words_of t) 0;
 }
 
 unfoldable pub words_with : List ℕ → TreeState → List ℕ
-words_with words t = take 8 (words_of t) ++ drop 8 words
+words_with words t = 0 ∷ take 7 (drop 1 (words_of t)) ++ drop 8 words

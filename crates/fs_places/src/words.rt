@@ -1,4 +1,4 @@
-//! Where a job stands, as it is spelled in words: the first eight of those that the environment keeps for the library, and five registers.
+//! Where a job stands, as it is spelled in words: seven of those that the environment keeps for the library, and six registers.
 
 ghost use Rattle.std.specs.Prelude.{◌≡◌, ◌<◌};
 ghost use Rattle.fs_places.specs.TreePlaces as places;
@@ -470,7 +470,8 @@ fn place_in(words: [u32; 9]) -> TreePlace
 pub fn find_state(registers: &Regs, extra: &Extra) -> TreeState
     ensures { result ≡ places.state_in registers.now extra.now.0 }
 {
-    let [number, first, second, third, count, a, b, c, _, _, _, _] = extra.0;
+    let [_, first, second, third, count, a, b, c, _, _, _, _] = extra.0;
+    let number = registers.edi;
     TreeState {
         job: job_in([number % 8, first, second, third]),
         count,
@@ -503,24 +504,11 @@ pub fn with_state(registers: Regs, extra: &Extra, state: TreeState) -> (Regs, Ex
         ecx,
         edx,
         ebp,
+        edi: 8 * place + job,
         ..registers
     };
-    let number = 8 * place + job;
     (
         registers,
-        Extra([
-            number,
-            first,
-            second,
-            third,
-            state.count,
-            a,
-            b,
-            c,
-            i,
-            j,
-            k,
-            l,
-        ]),
+        Extra([0, first, second, third, state.count, a, b, c, i, j, k, l]),
     )
 }

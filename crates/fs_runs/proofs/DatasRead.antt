@@ -22,7 +22,8 @@ use Rattle.fs_runs.specs.TreePlans.{next_at}
 use Rattle.fs_runs.specs.TreeRuns.{Memory}
 use Rattle.fs_jobs.specs.TreeTests.{low_byte}
 use Rattle.fs_runs.proofs.Pieces.{BytesAreRead, EndsWith, HasBytes, NumbersAreFound, NumbersAreRead, at_file}
-use Rattle.fs_runs.proofs.DatasRuns.{bounded-file, ends_behind, ends_here, ends_on, handed, handed-at, handed-more, handed-none, handed-small, is-place, low-byte}
+use Rattle.fs_runs.proofs.DatasRuns.{bounded-file, ends_behind, ends_here, ends_on, handed, handed-at, handed-more}
+use Rattle.fs_runs.proofs.DatasRuns.{handed-none, handed-past, handed-small, is-place, low-byte}
 use Rattle.fs_runs.proofs.DatasBytes.{ComesTo, bounded-indirect, data-block, data-bounded, in-blocks, indirect-bounded, number-comes, same-block, with_indirect}
 
 -- the byte that is read, and how many are
@@ -195,7 +196,7 @@ plan-at byte home at n k less = sym (get_or-values (total_read n (size_of byte h
 abbrev IsRead : ℕ → ℕ → ℕ → ℕ → Changed → Memory → ℕ → Type 0
 IsRead count home at n c m place = let plan = read_plan m.disk place at n in
     0 < length plan.bytes →
-    (page : ℕ → ℕ) × ((k : ℕ) → k < length plan.bytes → page k ≡ slice_index plan.bytes k)
+    (page : ℕ → ℕ) × ((k : ℕ) → k < length plan.bytes → page k ≡ slice_index plan.bytes k) × ((k : ℕ) → length plan.bytes ≤ k → page k ≡ m.page k)
     × EndsWith count plan.answer (record m { page = page }) (at_file (job.Read home at n) count c (file.Number (at / BLKSIZE) (wanted.Reading 0))) m
 
 reads-whole : NumbersAreRead → NumbersAreFound → (count home at n : ℕ) (c : Changed) (m : Memory) → HasBytes count (job.Read home at n) c m →
@@ -226,6 +227,7 @@ reads-whole reads finds count home at n c m has some =
       λ k less.
           let within : k < total = omega (arith, less, long) in
           handed-at m.page (value m.disk h at) total k within ∙ plan-at m.disk h at n k (omega (arith, within, sized)),
+      λ k past. handed-past m.page (value m.disk h at) total k (omega (arith, past, long)),
       subst (λ (a : ℕ). EndsWith count a (read_to m h at total) (at_file j count c (file.Number i (wanted.Reading 0))) m) (sym answers) ends,
     )
 

@@ -74,6 +74,13 @@ handed-at page v (suc n) k less = elim (below_or_last k n less) [
   | inr last ↦ ap (upd (handed page v n) n (v n)) last ∙ upd-at (handed page v n) n (v n) ∙ ap v (sym last)
 ]
 
+-- and the rest of it
+pub handed-past : (page v : ℕ → ℕ) (n k : ℕ) → n ≤ k → handed page v n k ≡ page k
+unfolding handed
+handed-past page v zero k past = refl
+handed-past page v (suc n) k past =
+    upd-other (handed page v n) n (v n) k (λ e. omega (arith, e, past)) ∙ handed-past page v n k (omega (arith, past))
+
 pub handed-small : (page v : ℕ → ℕ) (n : ℕ) → ((q : ℕ) → page q < 256) → ((k : ℕ) → v k < 256) → (q : ℕ) → handed page v n q < 256
 unfolding handed
 handed-small page v zero small each q = small q

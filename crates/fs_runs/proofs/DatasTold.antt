@@ -29,7 +29,8 @@ use Rattle.fs_runs.specs.TreePlans.{next_at}
 use Rattle.fs_runs.specs.TreeRuns.{AreSmall, Memory}
 use Rattle.fs_jobs.specs.TreeTests.{low_byte}
 use Rattle.fs_runs.proofs.Pieces.{EndsWith, LiesOn, StatsAreTold, at_file}
-use Rattle.fs_runs.proofs.DatasRuns.{bounded-file, ends_behind, ends_here, handed, handed-at, handed-more, handed-none, is-place, low-byte}
+use Rattle.fs_runs.proofs.DatasRuns.{bounded-file, ends_behind, ends_here, handed, handed-at, handed-more, handed-none}
+use Rattle.fs_runs.proofs.DatasRuns.{handed-past, is-place, low-byte}
 
 -- ---- what is told
 
@@ -284,6 +285,7 @@ stats_are_told count home c m lies small job_is changed_is at_home no_directory 
       λ k less.
           let within : k < 136 = omega (arith, long, less) in
           handed-at m.page (told byte c.home) 136 k within ∙ ap (λ h. told byte h k) at_home ∙ stat-at byte home k small.0 file_kind within,
+      λ k past. handed-past m.page (told byte c.home) 136 k (omega (arith, long, past)),
       subst (λ (n : Memory). EndsWith count 0 (told_to m c.home 136) (at_file j count c (file.StatByte 0 false)) n) begins
           (subst (λ (s : TreeState). EndsWith count 0 (told_to m c.home 136) s (told_to m c.home 0)) named run),
     )

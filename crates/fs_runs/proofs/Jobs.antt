@@ -1,5 +1,5 @@
 -- Each job ends, and does what its act does.
-use Rattle.std.proofs.Common.{◌≡◌, ◌∙◌, ◌^◌, ◌<◌, ℕ, Bool, true, false, List, [], ◌∷◌, ◌++◌}
+use Rattle.std.proofs.Common.{◌≡◌, ◌∙◌, ◌^◌, ◌<◌, ℕ, Bool, true, false, List, [], ◌∷◌}
 use Rattle.std.proofs.Common.{Option, Some, None, refl, sym, ap, subst, arith}
 use Rattle.std.specs.Prelude.{◌||◌, ◌&&◌, nat_lt, if◌then◌else◌}
 use Rattle.std.proofs.lemmas.Bool.Decides.{nat_tests}
@@ -9,15 +9,15 @@ use Rattle.fs_layout.specs.declared.numbers.TheConstants.{O_CREAT, O_EXCL, O_TRU
 use Rattle.fs_layout.specs.FileTree.{FileAct, open_path, read_file, remove_path, set_file_size, stat_file, write_file}
 use Rattle.fs_layout.specs.FileActs.{is_good_path, names_in}
 use Rattle.fs_layout.specs.DiskImage.{is_directory_at, root_place, slot_place}
-use Rattle.fs_acts.specs.BlockActs.{Led, Planned, a_record, astray, create_plan, empty_it, led_by, led_from_above, led_in, led_to}
-use Rattle.fs_acts.specs.BlockActs.{no_record, open_led, plan_of, planned, read_plan, remove_led, resizing, size_plan, slot_named}
+use Rattle.fs_acts.specs.BlockActs.{Led, Planned, a_record, astray, create_plan, led_by, led_from_above, led_in, led_to}
+use Rattle.fs_acts.specs.BlockActs.{no_record, open_led, plan_of, planned, read_plan, remove_led, size_plan, slot_named}
 use Rattle.fs_acts.specs.BlockActs.{stat_plan, too_long, turned_down, write_plan}
 use Rattle.fs_jobs.specs.declared.place.Job.{Job}
 use Rattle.fs_jobs.specs.declared.place.Job.TheVariants as job
 use Rattle.fs_jobs.specs.declared.place.WalkPlace.TheVariants as walk
 use Rattle.fs_jobs.specs.declared.asks.TreeNext.TheVariants.{GoOn}
 use Rattle.fs_jobs.specs.TreeBounds.{is_bounded_job, is_place}
-use Rattle.fs_runs.specs.TreeRuns.{FindsAreLooks, HasPath, IsJobOf, IsOnItsWay, IsSound, JobsAreActs, Memory, begun_with, bytes_given}
+use Rattle.fs_runs.specs.TreeRuns.{FindsAreLooks, HasPath, IsJobOf, IsOnItsWay, IsSound, JobsAreActs, Memory, begun_with, bytes_given, found_place}
 use Rattle.fs_runs.specs.TreeRuns.{opens, reads, removes, sizes, stats, writes}
 use Rattle.fs_walks.specs.WalkPlans.{begun}
 use Rattle.fs_runs.proofs.Leads.{Leads, leads_on, leads_to_end}
@@ -208,15 +208,11 @@ job-acts pieces count is_open m sound act j (stats way home stands) =
 pub jobs_are_acts : Pieces → JobsAreActs
 jobs_are_acts pieces count is_open act j m sound is = job-acts pieces count is_open m sound act j is
 
--- ---- looking up for a removal
-
--- what is removed where it is a directory, and where not
-abbrev remove_where : (ℕ → ℕ) → ℕ → Bool → Planned
-remove_where byte place b = if b || false then turned_down E_INVAL else planned (resizing byte place 0 ++ empty_it place ∷ []) 0
+-- ---- looking up
 
 find-led : Pieces → (count : ℕ) (path : List ℕ) (m : Memory) → IsSound count m → HasPath m.page path → is_good_path path ≡ true →
     (led : Led) → led_to m.disk path ≡ led →
-    EndsWith count (remove_led (λ way. false) m.disk led).answer m (at_walk job.Find count (walk.Component 0 root_place)) m
+    EndsWith count (found_place m.disk led) m (at_walk job.Find count (walk.Component 0 root_place)) m
 find-led pieces count path m sound has_path good too_long e = good-leads m.disk path good e
 find-led pieces count path m sound has_path good astray e = pieces.walks_stray count job.Find m path sound has_path finding e
 find-led pieces count path m sound has_path good (no_record directory name) e =
@@ -228,30 +224,27 @@ find-led pieces count path m sound has_path good (a_record place way) e =
   where
     by : (b : Bool) → is_directory_at m.disk place ≡ b → Found count way place m →
         Leads count (at_walk job.Find count (walk.FoundKind place)) m (at_walk job.Find count (walk.Component 0 root_place)) m →
-        EndsWith count (remove_led (λ way. false) m.disk (a_record place way)).answer m (at_walk job.Find count (walk.Component 0 root_place)) m
+        EndsWith count (found_place m.disk (a_record place way)) m (at_walk job.Find count (walk.Component 0 root_place)) m
     by true is found run =
         let ends = found-directory pieces count job.Find way place m found refl is in
-        let told : (remove_led (λ way. false) m.disk (a_record place way)).answer ≡ negated E_INVAL =
-        ap (λ (b : Bool). (remove_where m.disk place b).answer) is in
+        let told : found_place m.disk (a_record place way) ≡ negated E_INVAL = ap (λ (b : Bool). if b then negated E_INVAL else place) is in
         subst (λ (a : ℕ). EndsWith count a m (at_walk job.Find count (walk.Component 0 root_place)) m) (sym told)
         (leads_to_end (at_walk job.Find count (walk.Component 0 root_place)) m run ends.0 ends.1)
     by false is found run =
-        let ends = found-answers pieces count job.Find way place m 0 found refl is refl in
-        let told : (remove_led (λ way. false) m.disk (a_record place way)).answer ≡ 0 =
-        ap (λ (b : Bool). (remove_where m.disk place b).answer) is in
+        let ends = found-answers pieces count job.Find way place m place found refl is refl in
+        let told : found_place m.disk (a_record place way) ≡ place = ap (λ (b : Bool). if b then negated E_INVAL else place) is in
         subst (λ (a : ℕ). EndsWith count a m (at_walk job.Find count (walk.Component 0 root_place)) m) (sym told)
         (leads_to_end (at_walk job.Find count (walk.Component 0 root_place)) m run ends.0 ends.1)
 
 pub finds_are_looks : Pieces → FindsAreLooks
-unfolding plan_of
 finds_are_looks pieces count path m sound has_path = by (is_good_path path) refl
   where
-    by : (b : Bool) → is_good_path path ≡ b → EndsWith count (remove_led (λ way. false) m.disk (led_to m.disk path)).answer m
+    by : (b : Bool) → is_good_path path ≡ b → EndsWith count (found_place m.disk (led_to m.disk path)) m
         (at_walk job.Find 0 (walk.Path 0 0)) m
     by true good =
         let ends = find-led pieces count path m sound has_path good (led_to m.disk path) refl in
         leads_to_end (at_walk job.Find 0 (walk.Path 0 0)) m (follows pieces count job.Find path m sound has_path finding good) ends.0 ends.1
     by false bad =
-        subst (λ (led : Led). EndsWith count (remove_led (λ way. false) m.disk led).answer m (at_walk job.Find 0 (walk.Path 0 0)) m)
+        subst (λ (led : Led). EndsWith count (found_place m.disk led) m (at_walk job.Find 0 (walk.Path 0 0)) m)
         (sym (bad-leads m.disk path bad))
         ((pieces.paths_are_read count job.Find path m sound.small has_path finding).1 bad)

@@ -151,6 +151,7 @@ size-acts pieces count way home end m found regular =
           ends = leads_to_end (at_indirect j count home end m.disk) m (free.0 fit) ends.0 ends.1;
           disk = refl;
           bytes = λ k below. absurd (omega (arith, below));
+          rest = λ k past. refl;
         })
         (λ lacks. acts-none count (negated E_NO_DISK) m (at_indirect j count home end m.disk) (free.1 lacks)))
 
@@ -226,6 +227,7 @@ read-acts pieces count way home at n m found regular low = by (read == 0) refl
               (size-ends pieces count j way home m 0 found bounded regular (ap (λ (b : Bool). if b then Answer 0 else GoOn next) none));
           disk = refl;
           bytes = λ k below. absurd (omega (arith, below, zero_long));
+          rest = λ k past. refl;
         }
     by false some =
         let positive : 0 < length plan.bytes = subst (λ (k : ℕ). 0 < k) (sym long) (not-zero read some) in
@@ -236,9 +238,10 @@ read-acts pieces count way home at n m found regular low = by (read == 0) refl
           ends =
               leads_to_end (at_kind j count home) m
               (size-goes pieces count j way home m next found bounded regular (ap (λ (b : Bool). if b then Answer 0 else GoOn next) some))
-              told.2.0 told.2.1;
+              told.3.0 told.3.1;
           disk = refl;
           bytes = told.1;
+          rest = told.2;
         }
       where
         not-zero : (n : ℕ) → (n == 0) ≡ false → 0 < n
@@ -262,9 +265,10 @@ stat-acts pieces count way home m found regular =
           leads_to_end (at_kind j count home) m
           (size-goes pieces count j way home m (at_file j count (changed home (size_of m.disk home) 0 0)
           (file.StatByte 0 false)) found small regular refl)
-          told.2.0 told.2.1;
+          told.3.0 told.3.1;
       disk = refl;
       bytes = told.1;
+      rest = told.2;
     }
 
 -- ---- bytes that are written
@@ -371,6 +375,7 @@ write-acts pieces count way home at n m found regular low few = by (n == 0) refl
           ends = leads_to_end state m run ends.0 ends.1;
           disk = refl;
           bytes = λ k below. absurd (omega (arith, below));
+          rest = λ k past. refl;
         }
       where
         is-le : (n k : ℕ) → nat_le n k ≡ true → n ≤ k
@@ -430,6 +435,7 @@ write-acts pieces count way home at n m found regular low few = by (n == 0) refl
               ends = leads_to_end grown m lead ends.0 ends.1;
               disk = sym (left_by-append (growth m.disk home end) (overwrite home at new ∷ []) m.disk);
               bytes = λ k below. absurd (omega (arith, below));
+              rest = λ k past. refl;
             }
           where
             never : {A : Type 0} → false ≡ true → A
@@ -499,4 +505,5 @@ remove-acts pieces count way home m found regular =
           (size-goes pieces count j way home m (before j count home 0 (size_of m.disk home) 0) found bounded regular refl) ends.0 ends.1;
       disk = sym (left_by-append (resizing m.disk home 0) (empty_it home ∷ []) m.disk);
       bytes = λ k below. absurd (omega (arith, below));
+      rest = λ k past. refl;
     }

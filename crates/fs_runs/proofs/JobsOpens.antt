@@ -122,6 +122,7 @@ truncated pieces count way home m found regular =
       ends = resized-ends pieces count way home 0 m found regular (omega arith) (omega arith) 0 0 refl refl;
       disk = refl;
       bytes = λ k below. absurd (omega (arith, below));
+      rest = λ k past. refl;
     })
     (λ lacks. never (none-wanted (blocks_taken (size_of m.disk home) (has_indirect m.disk home)) (free_blocks m.disk)) lacks)
   where
@@ -236,6 +237,7 @@ creates-in-room pieces count path name directory from slot m state makes within 
       ends = leads_to_end state m run ends.0 ends.1;
       disk = refl;
       bytes = λ k below. absurd (omega (arith, below));
+      rest = λ k past. refl;
     }
   where
     never : {A : Type 0} → false ≡ true → A
@@ -354,6 +356,7 @@ creates-behind pieces count path name directory from m state makes short lead =
           ends = leads_to_end state m (leads_on state m lead (free.0 fit)) ends.0 ends.1;
           disk = sym (left_by-append (growth m.disk directory end) (make_record directory slot name ∷ []) m.disk);
           bytes = λ k below. absurd (omega (arith, below));
+          rest = λ k past. refl;
         }
 
 pub creates-file : Pieces → (count : ℕ) (path name : List ℕ) (directory from : ℕ) (m : Memory) (state : TreeState) → IsSound count m →

@@ -38,16 +38,24 @@ pub record Acts (count : ℕ) (plan : Planned) (m : Memory) (state : TreeState) 
   pub ends : EndsWith count plan.answer after state now
   pub disk : after.disk ≡ left_by plan.changes m.disk
   pub bytes : (k : ℕ) → k < length plan.bytes → after.page k ≡ slice_index plan.bytes k
+  pub rest : (k : ℕ) → length plan.bytes ≤ k → after.page k ≡ m.page k
 
 pub acts-behind : {count : ℕ} {plan : Planned} {m mid : Memory} {to : TreeState} (state : TreeState) (now : Memory) → Leads count to mid state now →
     Acts count plan m to mid → Acts count plan m state now
 acts-behind state now run acts =
-    record { after = acts.after; ends = leads_to_end state now run acts.ends.0 acts.ends.1; disk = acts.disk; bytes = acts.bytes }
+    record {
+      after = acts.after;
+      ends = leads_to_end state now run acts.ends.0 acts.ends.1;
+      disk = acts.disk;
+      bytes = acts.bytes;
+      rest = acts.rest;
+    }
 
 -- nothing is stored
 pub acts-none : (count answer : ℕ) (m : Memory) (state : TreeState) → EndsWith count answer m state m → Acts count (planned [] answer) m state m
 unfolding left_by
-acts-none count answer m state ends = record { after = m; ends = ends; disk = refl; bytes = λ k below. absurd (omega (arith, below)) }
+acts-none count answer m state ends =
+    record { after = m; ends = ends; disk = refl; bytes = λ k below. absurd (omega (arith, below)); rest = λ k past. refl }
 
 pub acts-either : {count : ℕ} {m now : Memory} {state : TreeState} (b : Bool) (one two : Planned) → (b ≡ true → Acts count one m state now) →
     (b ≡ false → Acts count two m state now) → Acts count (if b then one else two) m state now
@@ -68,6 +76,7 @@ on-its-way count is_open act m state acts =
             answer_is = refl;
             disk = acts.disk ∙ sym (written-in_turn (plan_of is_open m.disk act).changes m.disk);
             bytes = acts.bytes;
+            rest = acts.rest;
           };
     }
 

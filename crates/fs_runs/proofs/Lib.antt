@@ -40,3 +40,4 @@ pub mod JobsOpens
 pub mod Jobs
 pub mod JobsWhole
 pub mod Ways
+pub mod OpensFound

@@ -259,18 +259,18 @@ BytesAreWritten = (count : ℕ) (home at n : ℕ) (c : Changed) (m : Memory) →
     HasBytes count j c m → c.home ≡ home → BytesLieApart c m.disk → 0 < n → at + n ≤ c.size → n + 8 ≤ 4096 →
     EndsWith count n (with_disk m (written (overwrite home at (bytes_given m.page n) m.disk) m.disk)) (at_file j count c (file.Number (at / BLKSIZE) (wanted.Writing 0))) m
 
--- what is read is handed back
+-- what is read is handed back, and the rest of the page stays
 abbrev pub BytesAreRead : Type 0
 BytesAreRead = (count : ℕ) (home at n : ℕ) (c : Changed) (m : Memory) → let j = job.Read home at n in let plan = read_plan m.disk home at n in
     HasBytes count j c m → c.home ≡ home → 0 < length plan.bytes →
-    (page : ℕ → ℕ) × ((k : ℕ) → k < length plan.bytes → page k ≡ slice_index plan.bytes k)
+    (page : ℕ → ℕ) × ((k : ℕ) → k < length plan.bytes → page k ≡ slice_index plan.bytes k) × ((k : ℕ) → length plan.bytes ≤ k → page k ≡ m.page k)
     × EndsWith count plan.answer (record m { page = page }) (at_file j count c (file.Number (at / BLKSIZE) (wanted.Reading 0))) m
 
 abbrev pub StatsAreTold : Type 0
 StatsAreTold = (count : ℕ) (home : ℕ) (c : Changed) (m : Memory) → let j = job.Stat home in let plan = stat_plan m.disk home in
     LiesOn count home → AreSmall m → is_bounded_job j ≡ true → is_bounded_changed c ≡ true → c.home ≡ home → is_directory_at m.disk home ≡ false →
     kind_at m.disk home ≡ FTYPE_REG → count ≤ 16384 →
-    (page : ℕ → ℕ) × ((k : ℕ) → k < length plan.bytes → page k ≡ slice_index plan.bytes k)
+    (page : ℕ → ℕ) × ((k : ℕ) → k < length plan.bytes → page k ≡ slice_index plan.bytes k) × ((k : ℕ) → length plan.bytes ≤ k → page k ≡ m.page k)
     × EndsWith count 0 (record m { page = page }) (at_file j count c (file.StatByte 0 false)) m
 
 -- the name of a path becomes that of a record

@@ -1,12 +1,12 @@
 -- What is left of a run, behind its next step.
-use Rattle.std.proofs.Common.{◌≡◌, ◌∙◌, ℕ, suc, Bool, true, false, List, refl, sym, ap, subst}
+use Rattle.std.proofs.Common.{◌≡◌, ◌∙◌, ℕ, suc, Bool, true, false, refl, sym, ap, subst}
 use Rattle.std.proofs.lemmas.Bool.{false≢true}
-use Rattle.fs_layout.specs.FileTree.{FileAct}
 use Rattle.fs_jobs.specs.declared.place.TreeState.{TreeState}
 use Rattle.fs_jobs.specs.declared.asks.TreeNext.{TreeNext}
 use Rattle.fs_jobs.specs.declared.asks.TreeNext.TheVariants.{Answer, GoOn}
 use Rattle.fs_runs.specs.TreePlans.{ask_at, next_at}
-use Rattle.fs_runs.specs.TreeRuns.{Ends, HasActed, IsOnItsWay, Memory, StaysOnItsWay, WaysGoOn, at_once, later, memory_after, reply_of}
+use Rattle.fs_runs.specs.TreeRuns.{Ends, HasActed, IsRunning, Memory, RunsGoOn, StaysRunning, WaysGoOn}
+use Rattle.fs_runs.specs.TreeRuns.{at_once, later, memory_after, reply_of}
 
 is_answer : TreeNext → Bool
 is_answer (Answer word) = true
@@ -23,26 +23,38 @@ same_next t a b one other = let is : ◌≡◌ {A = TreeNext} (GoOn a) (GoOn b) 
 same_answer : (t : TreeNext) (a b : ℕ) → t ≡ Answer a → t ≡ Answer b → a ≡ b
 same_answer t a b one other = let is : ◌≡◌ {A = TreeNext} (Answer a) (Answer b) = sym one ∙ other in let it : ◌≡◌ {A = ℕ} a b = cc in it
 
-by_end : (count : ℕ) (is_open : List ℕ → Bool) (act : FileAct) (before : Memory) (state : TreeState) (m : Memory) (left answer : ℕ) (after : Memory)
-    (ends : Ends count answer after left state m) (acted : HasActed is_open act before answer after) →
-    StaysOnItsWay count is_open act before state m (record { left = left; answer = answer; after = after; ends = ends; acted = acted })
-by_end count is_open act before state m left answer after (at_once s n bounded inside tells leaves) acted = (
+by_end : (count : ℕ) (state : TreeState) (m : Memory) (left answer : ℕ) (after : Memory) (ends : Ends count answer after left state m) →
+    StaysRunning count answer after state m (record { left = left; ends = ends })
+by_end count state m left answer after (at_once s n bounded inside tells leaves) = (
   bounded,
   inside,
   (λ next goes. clash (next_at state (reply_of (ask_at state) m)) next answer goes tells),
-  (λ other is.
-      subst (λ (w : ℕ). HasActed is_open act before w (memory_after (ask_at state) m)) (same_answer (next_at state (reply_of (ask_at state) m)) answer other tells is)
-      (subst (λ (z : Memory). HasActed is_open act before answer z) (sym leaves) acted)),
+  (λ word is. (same_answer (next_at state (reply_of (ask_at state) m)) word answer is tells, leaves)),
 )
-by_end count is_open act before state m left answer after (later n s next k bounded inside goes rest) acted = (
+by_end count state m left answer after (later n s next k bounded inside goes rest) = (
   bounded,
   inside,
   (λ other is.
-      subst (λ (z : TreeState). (further : IsOnItsWay count is_open act before z (memory_after (ask_at state) m)) × (suc further.left ≡ suc n))
-      (same_next (next_at state (reply_of (ask_at state) m)) next other goes is)
-      (record { left = n; answer = answer; after = after; ends = rest; acted = acted }, refl)),
-  (λ other is. clash (next_at state (reply_of (ask_at state) m)) next other goes is),
+      subst (λ (z : TreeState). (further : IsRunning count answer after z (memory_after (ask_at state) m)) × (suc further.left ≡ suc n))
+      (same_next (next_at state (reply_of (ask_at state) m)) next other goes is) (record { left = n; ends = rest }, refl)),
+  (λ word is. clash (next_at state (reply_of (ask_at state) m)) next word goes is),
 )
 
+pub runs_go_on : RunsGoOn
+runs_go_on count answer after state m run = by_end count state m run.left answer after run.ends
+
+-- and so does one that is on its way
 pub ways_go_on : WaysGoOn
-ways_go_on count is_open act before state m way = by_end count is_open act before state m way.left way.answer way.after way.ends way.acted
+ways_go_on count is_open act before state m way =
+    let run : IsRunning count way.answer way.after state m = record { left = way.left; ends = way.ends } in
+    let stays = runs_go_on count way.answer way.after state m run in (
+      stays.0,
+      stays.1,
+      (λ next goes.
+          let further = stays.2 next goes in
+          (record { left = further.0.left; answer = way.answer; after = way.after; ends = further.0.ends; acted = way.acted }, further.1)),
+      (λ word is.
+          let ended = stays.3 word is in
+          subst (λ (w : ℕ). HasActed is_open act before w (memory_after (ask_at state) m)) (sym ended.0)
+          (subst (λ (z : Memory). HasActed is_open act before way.answer z) (sym ended.1) way.acted)),
+    )

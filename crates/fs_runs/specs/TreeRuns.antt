@@ -1,15 +1,17 @@
 -- A job as it runs by itself: what it reads and stores at each step, and that its run ends with an answer, over a disk and a page of
 -- the request. No kernel and no cache are in this.
-use Rattle.std.specs.Prelude.{◌≡◌, ◌<◌, ◌≤◌, ℕ, ◌+◌, ◌*◌, ◌%◌, ◌^◌, suc, true, false, List, length, slice_index, ◌==◌, Bool, Some}
+use Rattle.std.specs.Prelude.{◌≡◌, ◌<◌, ◌≤◌, ℕ, ◌+◌, ◌*◌, ◌%◌, ◌^◌, suc, true, false, List, length, slice_index, ◌==◌, Bool, Some, if◌then◌else◌}
 use Rattle.std.specs.List.{list_any}
-use Rattle.jos_base.specs.declared.numbers.TheConstants.{PGSIZE}
+use Rattle.jos_base.specs.declared.numbers.TheConstants.{E_BAD_PATH, E_INVAL, E_NOT_FOUND, PGSIZE}
 use Rattle.jos_base.specs.Below.{values_below}
-use Rattle.jos_base.specs.Words.{upd, word_at}
+use Rattle.jos_base.specs.Words.{negated, upd, word_at}
 use Rattle.fs_layout.specs.declared.numbers.TheConstants.{BLKSIZE}
 use Rattle.fs_layout.specs.DiskImage.{block_count, is_directory_at}
-use Rattle.fs_layout.specs.DiskFiles.{IsDiskImage}
+use Rattle.fs_layout.specs.DiskFiles.{IsDiskImage, file_system_of}
+use Rattle.fs_layout.specs.FileActs.{file_named}
 use Rattle.fs_layout.specs.FileTree.{FileAct, open_path, read_file, remove_path, set_file_size, stat_file, write_file}
-use Rattle.fs_acts.specs.BlockActs.{a_record, led_to, place_at, plan_of, put_byte, put_word, puts_of, stored, written}
+use Rattle.fs_acts.specs.BlockActs.{Led, a_record, astray, led_to, no_record, place_at, plan_of, put_byte, put_word, puts_of}
+use Rattle.fs_acts.specs.BlockActs.{stored, too_long, written}
 use Rattle.fs_jobs.specs.declared.place.Job.{Job}
 use Rattle.fs_jobs.specs.declared.place.Job.TheVariants as job
 use Rattle.fs_jobs.specs.declared.place.TreePlace.TheVariants.{Walking}
@@ -103,12 +105,13 @@ pub record IsSound (count : ℕ) (m : Memory) : Type 0 where
   pub count_is : block_count m.disk ≡ count
   pub small : AreSmall m
 
--- What a job has done when it ends: its answer is the act's, what it has stored is what the act stores, and what it hands back stands at the
--- begin of the page.
+-- What a job has done when it ends: its answer is the act's, what it has stored is what the act stores, what it hands back stands at the
+-- begin of the page, and the rest of the page is as it was.
 pub record HasActed (is_open : List ℕ → Bool) (act : FileAct) (before : Memory) (answer : ℕ) (after : Memory) : Type 0 where
   pub answer_is : answer ≡ (plan_of is_open before.disk act).answer
   pub disk : after.disk ≡ written (puts_of is_open before.disk act) before.disk
   pub bytes : (k : ℕ) → k < length (plan_of is_open before.disk act).bytes → after.page k ≡ slice_index (plan_of is_open before.disk act).bytes k
+  pub rest : (k : ℕ) → length (plan_of is_open before.disk act).bytes ≤ k → after.page k ≡ before.page k
 
 -- From here what is left of a job ends as the act does that began over another memory.
 pub record IsOnItsWay (count : ℕ) (is_open : List ℕ → Bool) (act : FileAct) (before : Memory) (state : TreeState) (m : Memory) : Type 0 where
@@ -123,10 +126,25 @@ abbrev pub JobsAreActs : Type 0
 JobsAreActs = (count : ℕ) (is_open : List ℕ → Bool) (act : FileAct) (j : Job) (m : Memory) → IsSound count m → IsJobOf is_open m act j →
     IsOnItsWay count is_open act m (begun_with j) m
 
--- Where a path leads, for a removal: the errors of the act, or 0 where there is a file.
+-- where a path leads, for one who opens or removes a file: the place of the file's record, or the error
+abbrev pub found_place : (ℕ → ℕ) → Led → ℕ
+found_place byte too_long = negated E_BAD_PATH
+found_place byte astray = negated E_NOT_FOUND
+found_place byte (no_record directory name) = negated E_NOT_FOUND
+found_place byte (a_record place way) = if is_directory_at byte place then negated E_INVAL else place
+
+-- A path that is looked up answers where the record stands, and changes nothing.
 abbrev pub FindsAreLooks : Type 0
 FindsAreLooks = (count : ℕ) (path : List ℕ) (m : Memory) → IsSound count m → HasPath m.page path →
-    (n : ℕ) × Ends count (plan_of (λ way. false) m.disk (remove_path path)).answer m n (begun_with job.Find) m
+    (n : ℕ) × Ends count (found_place m.disk (led_to m.disk path)) m n (begun_with job.Find) m
+
+-- Over a disk without a fault an open that answers 0 leaves a disk on which its path leads to a file, and the tree of this disk names the same.
+abbrev pub OpensAreFound : Type 0
+OpensAreFound = (count : ℕ) (is_open : List ℕ → Bool) (path : List ℕ) (mode : ℕ) (m : Memory) → IsSound count m → HasPath m.page path →
+    (plan_of is_open m.disk (open_path path mode)).answer ≡ 0 →
+    let after = written (puts_of is_open m.disk (open_path path mode)) m.disk in
+    (home : ℕ) × (way : List ℕ) × (led_to after path ≡ a_record home way) × (is_directory_at after home ≡ false)
+    × (file_named (file_system_of after) path ≡ Some way)
 
 -- A job that is on its way makes a lawful step: its numbers are small, and what it asks lies inside. Where it goes on it is still on its way,
 -- with one step fewer to come; where it answers, it has acted.
@@ -141,3 +159,21 @@ StaysOnItsWay count is_open act before state m way =
 abbrev pub WaysGoOn : Type 0
 WaysGoOn = (count : ℕ) (is_open : List ℕ → Bool) (act : FileAct) (before : Memory) (state : TreeState) (m : Memory)
     (way : IsOnItsWay count is_open act before state m) → StaysOnItsWay count is_open act before state m way
+
+-- From here a job ends with this answer, and leaves this.
+pub record IsRunning (count answer : ℕ) (after : Memory) (state : TreeState) (m : Memory) : Type 0 where
+  pub left : ℕ
+  pub ends : Ends count answer after left state m
+
+-- Such a job makes a lawful step too. Where it goes on it still runs towards this end, with one step fewer to come; where it answers, this is
+-- the answer, and what it was to leave is what stands there.
+abbrev pub StaysRunning : (count answer : ℕ) (after : Memory) (state : TreeState) (m : Memory) → IsRunning count answer after state m → Type 0
+StaysRunning count answer after state m run =
+    (is_bounded state ≡ true) × IsInside count (ask_at state)
+    × ((next : TreeState) → next_at state (reply_of (ask_at state) m) ≡ GoOn next →
+    (further : IsRunning count answer after next (memory_after (ask_at state) m)) × (suc further.left ≡ run.left))
+    × ((word : ℕ) → next_at state (reply_of (ask_at state) m) ≡ Answer word → (word ≡ answer) × (memory_after (ask_at state) m ≡ after))
+
+abbrev pub RunsGoOn : Type 0
+RunsGoOn = (count answer : ℕ) (after : Memory) (state : TreeState) (m : Memory) (run : IsRunning count answer after state m) →
+    StaysRunning count answer after state m run

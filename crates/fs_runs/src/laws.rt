@@ -1,21 +1,32 @@
 //! What the run of a job is. Nothing here is to be run: each clause is a theorem.
 
-ghost use Rattle.fs_runs.specs.TreeRuns.{FindsAreLooks, JobsAreActs, WaysGoOn};
+ghost use Rattle.fs_runs.specs.TreeRuns.{FindsAreLooks, JobsAreActs, OpensAreFound, RunsGoOn, WaysGoOn};
 
-/// Each job's run ends, its answer is the act's, what it has stored is exactly what the act stores, and what it hands back stands in the
-/// page.
+/// Each job's run ends, its answer is the act's, what it has stored is exactly what the act stores, what it hands back stands at the begin
+/// of the page, and the rest of the page is as it was.
 #[tactic(auto, using(crate::proofs::JobsWhole::all_jobs_are_acts))]
 pub fn jobs_are_acts()
     ensures { JobsAreActs }
 {}
 
-/// Where a path leads, for a removal: the act's error, or 0 where there is a file.
+/// Where a path leads, for one who opens or removes a file: the place of the file's record, or the act's error. Nothing is stored.
 #[tactic(auto, using(crate::proofs::JobsWhole::all_finds_are_looks))]
 pub fn finds_are_looks()
     ensures { FindsAreLooks }
 {}
 
+/// Behind an open that answers 0 its path leads to a file, on the disk and in its tree.
+pub fn opens_are_found()
+    ensures { OpensAreFound }
+{}
+
 /// A job that is on its way makes a lawful step, behind which it is on its way with one step fewer to come, or has acted.
 pub fn ways_go_on()
     ensures { WaysGoOn }
+{}
+
+/// A job that runs towards an answer makes a lawful step, behind which it runs towards the same with one step fewer to come, or has
+/// answered it.
+pub fn runs_go_on()
+    ensures { RunsGoOn }
 {}

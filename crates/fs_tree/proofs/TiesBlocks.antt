@@ -26,7 +26,7 @@ use Rattle.fs_cache.specs.CacheStands.{CacheAt, CacheStands, CacheView, IsBlockE
 use Rattle.fs_cache.specs.CacheSteps.{cache_state, row_in}
 use Rattle.fs_cache.proofs.Loads.{number_of, row_below, row_past}
 use Rattle.fs_cache.proofs.MovesBearing.{bears}
-use Rattle.fs_tree.specs.declared.steps.TheConstants.{REQUEST}
+use Rattle.lib_os.specs.declared.numbers.TheConstants.{REQUEST}
 use Rattle.fs_tree.specs.TreeSteps.{HasRequest, TreeAt, request_bytes}
 use Rattle.fs_tree.proofs.TiesPages.{HasAccessed, PageAccessed, user_byte_there}
 

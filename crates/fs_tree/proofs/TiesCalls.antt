@@ -1,4 +1,4 @@
--- The calls of the cache leave the page of the request: its entry stays, its frame keeps its bytes, and no block gets the frame.
+-- The calls of the cache leave the page of the request: its entry stays, its frame keeps its bytes, and no block gets the frame. They print nothing.
 use Rattle.std.proofs.Common.{◌≡◌, ◌≢◌, ◌∙◌, ◌+◌, ◌*◌, ◌/◌, ◌%◌, ◌==◌, ◌<◌, ◌≤◌, inl, inr, ℕ, Bool, true, false, List, [], ◌∷◌, length}
 use Rattle.std.proofs.Common.{Option, Some, None, Result, Ok, Err, refl, sym, ap, subst, arith, if◌then◌else◌}
 use Rattle.std.proofs.lemmas.Bool.{cases_eq, cases_lt}
@@ -29,9 +29,10 @@ use Rattle.lib_os.specs.declared.numbers.TheConstants.{CACHE_BLOCKS, UVPD}
 use Rattle.lib_os.specs.BlockCache.{block_address, block_row, own_addresses}
 use Rattle.lib_os.specs.InOrder.{AreFree, HasOneUse}
 use Rattle.lib_os.specs.Rows.{IsPage}
-use Rattle.lib_os.specs.UserCalls.{CallStep, IsCallStep, IsReadBy, IsSentBy, IsStep, Output, block_put, load, may_read_block, may_write_block, system}
+use Rattle.lib_os.specs.UserCalls.{CallStep, IsCallStep, IsReadBy, IsSentBy, IsStep, Output, Prints, block_put, load, may_read_block, may_write_block}
+use Rattle.lib_os.specs.UserCalls.{system}
 use Rattle.lib_os.proofs.Calls.{comes_to, made_step, page_asked, page_made_or_refused, page_unmap_is}
-use Rattle.lib_os.proofs.Loading.{loaded_state}
+use Rattle.lib_os.proofs.Loading.{loaded_quiet, loaded_state}
 use Rattle.lib_os.proofs.Releasing.{AreWithin, released_named}
 use Rattle.lib_os.proofs.Remapping.{given_on, page_map_is}
 use Rattle.fs_cache.specs.declared.plan.CacheAsk.TheVariants as asked
@@ -237,11 +238,15 @@ module _ (s : SpacesState) (h : HasOneUse s) (d p q : ℕ) (e : Entry) (low : p 
 
 -- ---- in the kernel's state
 
--- the caller is as before, and the page of the request too
+-- the environments are as before, and the page of the request too
 pub record RequestKept (s mid : KernelState) (n : ℕ) : Type 0 where
   pub request : HasRequest mid n
   pub bytes : request_bytes mid n ≡ request_bytes s n
-  pub slot : slot_at mid n ≡ slot_at s n
+  pub environments : mid.environments ≡ s.environments
+
+-- the same, and nothing is printed
+abbrev pub IsKeptQuietly : KernelState → KernelState → ℕ → Output → Type 0
+IsKeptQuietly s mid n output = RequestKept s mid n × Prints output []
 
 entry_writes : (e : Entry) → IsBlockEntry e → has_write e.perm ≡ true
 entry_writes e is = ap (λ (perm : ℕ). has_write perm) is.bits ∙ by_bits is.used is.written
@@ -279,13 +284,13 @@ module _ (s : KernelState) (n : ℕ) (h : HasRequest s n) where
   e = h.entry
 
   itself : RequestKept s s n
-  itself = record { request = h; bytes = refl; slot = refl }
+  itself = record { request = h; bytes = refl; environments = refl }
 
   by_refusal : RequestKept s (with_refusal s) n
   by_refusal = record {
     request = record { entry = h.entry; stands = h.stands; bits = h.bits; whole = h.whole; apart = h.apart };
     bytes = refl;
-    slot = refl;
+    environments = refl;
   }
 
   by_spaces : (t : SpacesState) → PageKept s.spaces t d e → RequestKept s (with_spaces s t) n
@@ -297,16 +302,18 @@ module _ (s : KernelState) (n : ℕ) (h : HasRequest s n) where
         whole = subst (λ (x : List ℕ). IsPage x) (sym kept.bytes) h.whole;
         apart = kept.apart;
       } in
-      record { request = request; bytes = request_same s (with_spaces s t) n h request kept.bytes; slot = refl }
+      record { request = request; bytes = request_same s (with_spaces s t) n h request kept.bytes; environments = refl }
 
   -- loads
   load_kept : (va word : ℕ) (mid : KernelState) (output : Output) → page_limit ≤ page_number va → IsStep (load s n va) (Ok word) mid output →
-      RequestKept s mid n
+      IsKeptQuietly s mid n output
   load_kept va word mid output above call =
       let t = touched s.spaces d va Read in
-      let same = window_untouched s.spaces d va above in
-      subst (λ (k : KernelState). RequestKept s k n) (sym (loaded_state s mid n va word output call))
-      (by_spaces t (kept_same s.spaces t d e h.stands h.apart (λ i. same.1 i e.frame) same.0))
+      let same = window_untouched s.spaces d va above in (
+        subst (λ (k : KernelState). RequestKept s k n) (sym (loaded_state s mid n va word output call))
+            (by_spaces t (kept_same s.spaces t d e h.stands h.apart (λ i. same.1 i e.frame) same.0)),
+        loaded_quiet s mid n va word output call,
+      )
 
   -- an access to a block's page
   access_kept : (b : ℕ) (x : Entry) (bytes : List ℕ) (mid : KernelState) → b < CACHE_BLOCKS → row_in s n b ≡ Some x →
@@ -349,6 +356,11 @@ module _ (s : KernelState) (n : ℕ) (h : HasRequest s n) where
 
 -- ---- what is asked
 
+-- a call that asks for frames prints nothing
+made_quiet : (s : KernelState) (o : Option SpacesState) → (made_step s o).written ≡ []
+made_quiet s None = refl
+made_quiet s (Some t) = refl
+
 -- the windows lie above the pages
 window_above : (more : ℕ) → page_limit ≤ page_number (UVPD + more)
 unfolding page_limit
@@ -372,14 +384,17 @@ module _ (c : Caller) (server : IsServer c.state c.slot) (h : HasRequest c.state
   abbrev Kept : Type 0
   Kept = RequestKept s mid n
 
-  pub region_asked : (b : ℕ) → IsReply (ask_region b) c files (Ok word) mid output → Kept
+  abbrev KeptQuietly : Type 0
+  KeptQuietly = IsKeptQuietly s mid n output
+
+  pub region_asked : (b : ℕ) → IsReply (ask_region b) c files (Ok word) mid output → KeptQuietly
   region_asked b reply =
       load_kept s n h (UVPD + 4 * (page_of b / NPTENTRIES)) word mid output (window_above (4 * (page_of b / NPTENTRIES))) reply
 
-  pub entry_asked : (b : ℕ) → IsReply (ask_entry b) c files (Ok word) mid output → Kept
+  pub entry_asked : (b : ℕ) → IsReply (ask_entry b) c files (Ok word) mid output → KeptQuietly
   entry_asked b reply = load_kept s n h (UVPT + 4 * page_of b) word mid output (table_above (4 * page_of b)) reply
 
-  pub page_asked_of : (b : ℕ) → b < CACHE_BLOCKS → IsReply (ask_page b) c files (Ok word) mid output → Kept
+  pub page_asked_of : (b : ℕ) → b < CACHE_BLOCKS → IsReply (ask_page b) c files (Ok word) mid output → KeptQuietly
   page_asked_of b below reply =
       let tail : List ℕ = 0 ∷ 0 ∷ [] in
       let step : CallStep Called = page_asked s n (block_address b) page_perm tail server.live (address_is b below) refl in
@@ -387,20 +402,22 @@ module _ (c : Caller) (server : IsServer c.state c.slot) (h : HasRequest c.state
       subst (λ (q : ℕ). IsCallStep (system s n SYS_PAGE_ALLOC (0 ∷ block_address q ∷ page_perm ∷ tail)) (Ok reply.0) mid output) (block_is b below) reply.2 in
       elim (page_made_or_refused s n (block_address b) page_perm tail server.live (address_is b below) refl) [
         | inl made ↦
-            let came = comes_to step (Answered 0) reply.0 (with_spaces s made.spaces) mid [] output made.step call in
-            subst (λ (k : KernelState). RequestKept s k n) (sym came.1)
-            (taking_kept s n h server.in_order.frames b below made.spaces page_perm made.frame
-            (ap (λ (p : ℕ). allocated s.spaces dir p page_perm) (sym (own_number b)) ∙ made.is))
+            let came = comes_to step (Answered 0) reply.0 (with_spaces s made.spaces) mid [] output made.step call in (
+              subst (λ (k : KernelState). RequestKept s k n) (sym came.1)
+                  (taking_kept s n h server.in_order.frames b below made.spaces page_perm made.frame
+                  (ap (λ (p : ℕ). allocated s.spaces dir p page_perm) (sym (own_number b)) ∙ made.is)),
+              came.2,
+            )
         | inr refused ↦
             let came = comes_to step (Answered (negated E_NO_MEM)) reply.0 (with_refusal s) mid [] output refused.step call in
-            subst (λ (k : KernelState). RequestKept s k n) (sym came.1) (by_refusal s n h)
+            (subst (λ (k : KernelState). RequestKept s k n) (sym came.1) (by_refusal s n h), came.2)
       ]
 
   module _ (from to : ℕ) (x : Entry) (stands : row_in s n from ≡ Some x) (is : IsBlockEntry x) where
     abbrev given : Entry
     given = record { frame = x.frame; perm = page_perm }
 
-    pub map_asked : from < CACHE_BLOCKS → to < CACHE_BLOCKS → IsReply (ask_map from to) c files (Ok word) mid output → Kept
+    pub map_asked : from < CACHE_BLOCKS → to < CACHE_BLOCKS → IsReply (ask_map from to) c files (Ok word) mid output → KeptQuietly
     map_asked from_below to_below reply =
         let called : Called = reply.0 in
         let call : IsCallStep (system s n SYS_PAGE_MAP (0 ∷ block_address from ∷ 0 ∷ block_address to ∷ page_perm ∷ [])) (Ok called) mid output =
@@ -417,10 +434,13 @@ module _ (c : Caller) (server : IsServer c.state c.slot) (h : HasRequest c.state
         let whole = step ∙ ap (λ (p : ℕ). made_step s (inserted s.spaces dir p given)) (own_number to) in
         let state : mid ≡ (made_step s (inserted s.spaces dir (number_of to) given)).state =
         call.1 ∙ ap (λ (z : CallStep Called). z.state) whole in
-        subst (λ (k : KernelState). RequestKept s k n) (sym state)
-        (insertion_kept s n h server.in_order.frames to to_below given (h.apart from x stands) (inserted s.spaces dir (number_of to) given) refl)
+        let written = ap (λ (z : CallStep Called). z.written) whole ∙ made_quiet s (inserted s.spaces dir (number_of to) given) in (
+          subst (λ (k : KernelState). RequestKept s k n) (sym state)
+              (insertion_kept s n h server.in_order.frames to to_below given (h.apart from x stands) (inserted s.spaces dir (number_of to) given) refl),
+          subst (λ (bytes : List ℕ). Prints output bytes) written call.2,
+        )
 
-  pub unmap_asked : (b : ℕ) → b < CACHE_BLOCKS → IsReply (ask_unmap b) c files (Ok word) mid output → Kept
+  pub unmap_asked : (b : ℕ) → b < CACHE_BLOCKS → IsReply (ask_unmap b) c files (Ok word) mid output → KeptQuietly
   unmap_asked b below reply =
       let tail : List ℕ = 0 ∷ 0 ∷ 0 ∷ [] in
       let called : Called = reply.0 in
@@ -428,8 +448,10 @@ module _ (c : Caller) (server : IsServer c.state c.slot) (h : HasRequest c.state
       subst (λ (q : ℕ). IsCallStep (system s n SYS_PAGE_UNMAP (0 ∷ block_address q ∷ tail)) (Ok called) mid output) (block_is b below) reply.2 in
       let step = page_unmap_is s n server.live (block_address b) tail (address_is b below) in
       let state : mid ≡ with_spaces s (unmapped s.spaces dir (number_of b)) =
-      call.1 ∙ ap (λ (z : CallStep Called). z.state) step ∙ ap (λ (p : ℕ). with_spaces s (unmapped s.spaces dir p)) (own_number b) in
-      subst (λ (k : KernelState). RequestKept s k n) (sym state) (removal_kept s n h server.in_order.frames b below)
+      call.1 ∙ ap (λ (z : CallStep Called). z.state) step ∙ ap (λ (p : ℕ). with_spaces s (unmapped s.spaces dir p)) (own_number b) in (
+        subst (λ (k : KernelState). RequestKept s k n) (sym state) (removal_kept s n h server.in_order.frames b below),
+        subst (λ (z : CallStep Called). Prints output z.written) step call.2,
+      )
 
   module _ (b : ℕ) (below : b < CACHE_BLOCKS) (x : Entry) (stands : row_in s n b ≡ Some x) (is : IsBlockEntry x) where
     entry_there : s.spaces.entries dir (number_of b) ≡ Some x
@@ -453,12 +475,12 @@ module _ (c : Caller) (server : IsServer c.state c.slot) (h : HasRequest c.state
         access_kept s n h b x (s.spaces.pages x.frame) mid below stands
         (accessed_to_read s n (number_of b) x (number_below b below) entry_there is (block_address b) (own_number b) mid call.1)
 
-    pub read_asked : IsReply (asked.ReadBlock (block_of b)) c files (Ok word) mid output → Kept
+    pub read_asked : IsReply (asked.ReadBlock (block_of b)) c files (Ok word) mid output → KeptQuietly
     read_asked reply =
-        read_by (may_read_block (of_block c b))
-        (subst (λ (k : ℕ). IsReply (asked.ReadBlock k) c files (Ok word) mid output) (block_is b below) reply).0
+        let call = subst (λ (k : ℕ). IsReply (asked.ReadBlock k) c files (Ok word) mid output) (block_is b below) reply in
+        (read_by (may_read_block (of_block c b)) call.0, call.1)
 
-    pub sent_asked : IsReply (asked.WriteBlock (block_of b)) c files (Ok word) mid output → Kept
+    pub sent_asked : IsReply (asked.WriteBlock (block_of b)) c files (Ok word) mid output → KeptQuietly
     sent_asked reply =
-        sent_by (may_write_block (of_block c b))
-        (subst (λ (k : ℕ). IsReply (asked.WriteBlock k) c files (Ok word) mid output) (block_is b below) reply).0
+        let call = subst (λ (k : ℕ). IsReply (asked.WriteBlock k) c files (Ok word) mid output) (block_is b below) reply in
+        (sent_by (may_write_block (of_block c b)) call.0, call.1)

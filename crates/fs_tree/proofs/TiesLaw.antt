@@ -1,6 +1,8 @@
 -- From a call that a job's step makes to what the step tells.
-use Rattle.std.proofs.Common.{◌≡◌, ◌∙◌, ◌+◌, ◌-◌, ◌*◌, ◌/◌, ◌%◌, ◌<◌, ◌≤◌, ◌^◌, ℕ, true, false, List, [], ◌∷◌, Option, Some, None, Result, Ok, Err}
+use Rattle.std.proofs.Common.{◌≡◌, ◌∙◌, ◌+◌, ◌-◌, ◌*◌, ◌/◌, ◌%◌, ◌<◌, ◌≤◌, ◌^◌, ℕ, true, false, List, [], ◌∷◌, ◌++◌, Option, Some, None, Result, Ok, Err}
 use Rattle.std.proofs.Common.{refl, sym, ap, subst, arith}
+use Rattle.std.specs.Prelude.{min}
+use Rattle.std.specs.Option.{option_map}
 use Rattle.std.specs.Int.{w32, to_le_bytes}
 use Rattle.jos_host.specs.Files.{Files}
 use Rattle.jos_host.specs.Frames.{Around, from_to}
@@ -9,6 +11,7 @@ use Rattle.jos_base.specs.declared.memory.Access.TheVariants.{Read, Write}
 use Rattle.jos_base.specs.declared.memory.PageFault.{PageFault}
 use Rattle.jos_base.specs.declared.numbers.TheConstants.{E_NO_MEM, PGSIZE}
 use Rattle.jos_base.specs.declared.registers.Regs.{Regs}
+use Rattle.jos_base.specs.Environments.{Environments, is_live}
 use Rattle.jos_base.specs.KernelState.{KernelState, slot_at, with_extra, with_registers}
 use Rattle.jos_base.specs.Reach.{FrameOffset}
 use Rattle.jos_base.specs.SystemCalls.{handled}
@@ -20,12 +23,19 @@ use Rattle.lib_os.specs.declared.user_os.Stop.{Stop}
 use Rattle.lib_os.specs.BlockCache.{block_address}
 use Rattle.lib_os.specs.Disk.{Disk, DiskFile, disk_in}
 use Rattle.lib_os.specs.InOrder.{IsInOrder}
-use Rattle.lib_os.specs.UserCalls.{CallStep, IsStep, Output, accessing, faulting, giving, gone, got, to_handler, load, load_byte, store, store_byte}
+use Rattle.lib_os.specs.UserCalls.{CallStep, IsStep, Output, Prints, accessing, faulting, giving, gone, got, to_handler, load, load_byte, store, store_byte}
 use Rattle.lib_os.specs.UserCalls.{user_byte, user_word, with_bytes_put, with_user_byte}
 use Rattle.lib_os.proofs.BytesPut.{put_is}
+use Rattle.lib_os.proofs.SlotsSet.{set_live}
 use Rattle.fs_cache.specs.declared.place.CachePlace.TheVariants as cached_place
+use Rattle.fs_cache.specs.declared.place.CacheState.{CacheState}
+use Rattle.fs_cache.specs.declared.plan.Told.{Told}
 use Rattle.fs_cache.specs.declared.steps.Cached.TheVariants as cached
-use Rattle.fs_cache.specs.CacheSteps.{Caller, FetchTold, IsBlockStep, KeepsCacheWhereDone, cache_state}
+use Rattle.fs_cache.specs.CachePlaces.{with_state}
+use Rattle.fs_cache.specs.CachePlans.{ask_at as asked_at, next_at as cache_next}
+use Rattle.fs_cache.specs.CacheSteps.{Caller, FetchTold, HasGone, IsBlockStep, KeepsCacheWhereDone, as_cached, by_word, cache_state, fetch_state, stopped}
+use Rattle.fs_cache.proofs.CacheBegins.{own_ask}
+use Rattle.fs_cache.proofs.Callers.{caller_stays}
 use Rattle.fs_jobs.specs.declared.asks.TreeAsk.{TreeAsk}
 use Rattle.fs_jobs.specs.declared.asks.TreeAsk.TheVariants as ask
 use Rattle.fs_jobs.specs.declared.asks.TreeNext.TheVariants.{Answer, GoOn}
@@ -34,72 +44,103 @@ use Rattle.fs_tree.specs.declared.steps.Acted.{Acted}
 use Rattle.fs_tree.specs.declared.steps.Acted.TheVariants as acted
 use Rattle.fs_tree.specs.declared.steps.Done.{Done}
 use Rattle.fs_tree.specs.declared.steps.Done.TheVariants as done
-use Rattle.fs_tree.specs.declared.steps.TheConstants.{REQUEST}
+use Rattle.lib_os.specs.declared.numbers.TheConstants.{REQUEST}
 use Rattle.fs_jobs.specs.TreeBounds.{is_bounded}
-use Rattle.fs_tree.specs.TreeMakes.{DoesWhereTold, HasDone, IsAccess, IsOfDisk, IsOfRequest, IsStored, going, no_page, word}
+use Rattle.fs_tree.specs.TreeMakes.{DoesWhereTold, HasDone, IsAccess, IsOfDisk, IsOfRequest, IsStored, LeavesWhereInside, going, no_page, word}
 use Rattle.fs_places.specs.TreePlaces.{registers_with, state_in, words_with}
 use Rattle.fs_runs.specs.TreePlans.{ask_at, next_at}
 use Rattle.fs_runs.specs.TreeRuns.{IsInside, memory_after, reply_of}
-use Rattle.fs_tree.specs.TreeSteps.{IsLawful, IsWaiting, StepsWhereTold, TreeAt, answers, goes, job_in, lacks, memory_in, waits}
+use Rattle.fs_tree.specs.TreeSteps.{IsLawful, IsWaiting, KeepsRest, QuietWhereTold, RestWhereTold, StepsWhereTold, TreeAt, answers, goes, job_in, lacks, memory_in, waits}
 use Rattle.fs_jobs.specs.TreeTests.{low_byte}
 use Rattle.fs_tree.proofs.TiesMemory.{HasMade, load_byte_made, load_made, store_byte_made, store_made}
 use Rattle.fs_tree.proofs.TiesRequest.{hand_back_made, request_made}
-use Rattle.fs_tree.proofs.TiesSteps.{step_waits}
-use Rattle.fs_tree.proofs.TiesWords.{state_set}
+use Rattle.fs_tree.proofs.TiesSteps.{step_leaves, step_waits}
+use Rattle.fs_tree.proofs.TiesWords.{rest_same, rest_set, state_set}
 
--- ---- the slot behind an access
+-- ---- what an access leaves that gives its word
 
--- It stays, whatever state the access was made in.
+-- The environments stay, whatever state the access was made in, and nothing is printed.
 module _ {X : Type 0} (s : KernelState) (n va : ℕ) (access : Access) (then_does : KernelState → CallStep X)
-    (keeps : (after : KernelState) → slot_at (then_does after).state n ≡ slot_at after n) (x : X) where
+    (keeps : (after : KernelState) → (then_does after).state.environments ≡ after.environments) (quiet : (after : KernelState) → (then_does after).written ≡ [])
+    (x : X) where
   by_handler : (fault : PageFault) (o : Option KernelState) → (faulting {X = X} s n fault o).gives ≡ got x → ⊥
   by_handler fault (Some after) e = let contradiction : to_handler ≡ got x = e in cc
   by_handler fault None e = let contradiction : gone ≡ got x = e in cc
 
-  accessing_slot : (r : Result FrameOffset PageFault) → (accessing s n va access then_does r).gives ≡ got x →
-      slot_at (accessing s n va access then_does r).state n ≡ slot_at s n
-  accessing_slot (Ok location) gives = keeps _
-  accessing_slot (Err fault) gives = absurd (by_handler fault (handled s n fault) gives)
+  accessing_leaves : (r : Result FrameOffset PageFault) → (accessing s n va access then_does r).gives ≡ got x →
+      ((accessing s n va access then_does r).state.environments ≡ s.environments) × ((accessing s n va access then_does r).written ≡ [])
+  accessing_leaves (Ok location) gives = (keeps _, quiet _)
+  accessing_leaves (Err fault) gives = absurd (by_handler fault (handled s n fault) gives)
 
-put_slot : (s : KernelState) (n va : ℕ) (bytes : List ℕ) → slot_at (with_bytes_put s n va bytes) n ≡ slot_at s n
-put_slot s n va bytes = ap (λ (k : KernelState). slot_at k n) (put_is s n va bytes)
+put_leaves : (s : KernelState) (n va : ℕ) (bytes : List ℕ) → (with_bytes_put s n va bytes).environments ≡ s.environments
+put_leaves s n va bytes = ap (λ (k : KernelState). k.environments) (put_is s n va bytes)
 
 module _ (s mid : KernelState) (n va : ℕ) (output : Output) where
-  word_slot : (w : ℕ) → IsStep (load s n va) (Ok w) mid output → slot_at mid n ≡ slot_at s n
+  abbrev Leaves : Type 0
+  Leaves = (mid.environments ≡ s.environments) × Prints output []
+
+  leaves_by : {X : Type 0} (step : CallStep X) → (step.state.environments ≡ s.environments) × (step.written ≡ []) → mid ≡ step.state →
+      Prints output step.written → Leaves
+  leaves_by step left is printed =
+      (ap (λ (k : KernelState). k.environments) is ∙ left.0, subst (λ (bytes : List ℕ). Prints output bytes) left.1 printed)
+
+  word_loads : (w : ℕ) → IsStep (load s n va) (Ok w) mid output → Leaves
   unfolding load
-  word_slot w call =
-      ap (λ (k : KernelState). slot_at k n) call.1
-      ∙ accessing_slot s n va Read (λ after. giving after (user_word after n va)) (λ after. refl) w
-      (reach_in s.spaces (slot_at s n).directory va Read) call.0
+  word_loads w call =
+      leaves_by (load s n va)
+      (accessing_leaves s n va Read (λ after. giving after (user_word after n va)) (λ after. refl) (λ after. refl) w
+      (reach_in s.spaces (slot_at s n).directory va Read) call.0) call.1 call.2
 
-  byte_slot : (w : ℕ) → IsStep (load_byte s n va) (Ok w) mid output → slot_at mid n ≡ slot_at s n
+  byte_loads : (w : ℕ) → IsStep (load_byte s n va) (Ok w) mid output → Leaves
   unfolding load_byte
-  byte_slot w call =
-      ap (λ (k : KernelState). slot_at k n) call.1
-      ∙ accessing_slot s n va Read (λ after. giving after (user_byte after n va)) (λ after. refl) w
-      (reach_in s.spaces (slot_at s n).directory va Read) call.0
+  byte_loads w call =
+      leaves_by (load_byte s n va)
+      (accessing_leaves s n va Read (λ after. giving after (user_byte after n va)) (λ after. refl) (λ after. refl) w
+      (reach_in s.spaces (slot_at s n).directory va Read) call.0) call.1 call.2
 
-  word_put_slot : (value : ℕ) → IsStep (store s n va value) (Ok tt) mid output → slot_at mid n ≡ slot_at s n
+  word_stores : (value : ℕ) → IsStep (store s n va value) (Ok tt) mid output → Leaves
   unfolding store
-  word_put_slot value call =
-      ap (λ (k : KernelState). slot_at k n) call.1
-      ∙ accessing_slot {X = Unit {0}} s n va Write (λ after. giving (with_bytes_put after n va (to_le_bytes w32 value)) tt)
-      (λ after. put_slot after n va (to_le_bytes w32 value)) tt (reach_in s.spaces (slot_at s n).directory va Write) call.0
+  word_stores value call =
+      leaves_by (store s n va value)
+      (accessing_leaves {X = Unit {0}} s n va Write (λ after. giving (with_bytes_put after n va (to_le_bytes w32 value)) tt)
+      (λ after. put_leaves after n va (to_le_bytes w32 value)) (λ after. refl) tt (reach_in s.spaces (slot_at s n).directory va Write) call.0) call.1 call.2
 
-  byte_put_slot : (value : ℕ) → IsStep (store_byte s n va value) (Ok tt) mid output → slot_at mid n ≡ slot_at s n
+  byte_stores : (value : ℕ) → IsStep (store_byte s n va value) (Ok tt) mid output → Leaves
   unfolding store_byte
-  byte_put_slot value call =
-      ap (λ (k : KernelState). slot_at k n) call.1
-      ∙ accessing_slot {X = Unit {0}} s n va Write (λ after. giving (with_user_byte after n va value) tt)
-      (λ after. put_slot after n va (value ∷ [])) tt (reach_in s.spaces (slot_at s n).directory va Write) call.0
+  byte_stores value call =
+      leaves_by (store_byte s n va value)
+      (accessing_leaves {X = Unit {0}} s n va Write (λ after. giving (with_user_byte after n va value) tt)
+      (λ after. put_leaves after n va (value ∷ [])) (λ after. refl) tt (reach_in s.spaces (slot_at s n).directory va Write) call.0) call.1 call.2
+
+access_leaves : (a : TreeAsk) (s mid : KernelState) (n va w : ℕ) (output : Output) → IsAccess a va s n (Ok w) mid output →
+    (mid.environments ≡ s.environments) × Prints output []
+access_leaves (ask.Load at) s mid n va w output call = word_loads s mid n (va - va % 4) output w call
+access_leaves (ask.LoadByte at) s mid n va w output call = byte_loads s mid n va output w call
+access_leaves (ask.Store at value) s mid n va w output call = word_stores s mid n (va - va % 4) output value call.1
+access_leaves (ask.StoreByte at value) s mid n va w output call = byte_stores s mid n va output (low_byte value) call.1
+access_leaves (ask.Request at) s mid n va w output call = byte_loads s mid n va output w call
+access_leaves (ask.HandBack at value) s mid n va w output call = byte_stores s mid n va output (low_byte value) call.1
 
 pub access_slot : (a : TreeAsk) (s mid : KernelState) (n va w : ℕ) (output : Output) → IsAccess a va s n (Ok w) mid output → slot_at mid n ≡ slot_at s n
-access_slot (ask.Load at) s mid n va w output call = word_slot s mid n (va - va % 4) output w call
-access_slot (ask.LoadByte at) s mid n va w output call = byte_slot s mid n va output w call
-access_slot (ask.Store at value) s mid n va w output call = word_put_slot s mid n (va - va % 4) output value call.1
-access_slot (ask.StoreByte at value) s mid n va w output call = byte_put_slot s mid n va output (low_byte value) call.1
-access_slot (ask.Request at) s mid n va w output call = byte_slot s mid n va output w call
-access_slot (ask.HandBack at value) s mid n va w output call = byte_put_slot s mid n va output (low_byte value) call.1
+access_slot a s mid n va w output call = ap (λ (e : Environments). e.slots n) (access_leaves a s mid n va w output call).0
+
+pub access_rest : (a : TreeAsk) (s mid : KernelState) (n va w : ℕ) (output : Output) → IsAccess a va s n (Ok w) mid output →
+    Prints output [] × KeepsRest s mid n
+access_rest a s mid n va w output call =
+    let left = access_leaves a s mid n va w output call in (left.1, rest_same s mid n left.0)
+
+-- Where nothing was printed before, nothing was in all.
+pub quiet_from : (output : Output) (console : Option (List ℕ)) (count : ℕ) → output.console.before ≡ console → output.count.before ≡ count →
+    Prints output [] → Prints (record { console = from_to console output.console.after; count = from_to count output.count.after }) []
+quiet_from output console count same stays p = record {
+  gains = p.gains ∙ ap (option_map (λ (bytes : List ℕ). bytes ++ [])) same;
+  counted = p.counted ∙ ap (λ (k : ℕ). min (k + 0) (2 ^ 64 - 1)) stays;
+}
+
+-- Nor behind what leaves the count.
+pub quiet_still : (output : Output) (count : ℕ) → count ≡ output.count.after → Prints output [] →
+    Prints (record { console = output.console; count = from_to output.count.before count }) []
+quiet_still output count stays p = record { gains = p.gains; counted = stays ∙ p.counted }
 
 -- ---- an access that is lawful
 
@@ -215,6 +256,11 @@ module _ (a : TreeAsk) (at : ℕ) (c : Caller) (is : IsOfDisk a at) (mid : Kerne
   ready_stopped files why call before told h inside =
       let d = disk_in before c.disk in absurd (not_made d c.state mid c.slot a why (ready_made d h inside (Err why) call))
 
+  pub ready_leaves : (files : Option Files) (why : Stop) (whole : Output) → IsAccess a (va + at % BLKSIZE) c.state c.slot (Err why) mid output →
+      LeavesWhereInside a (Ok done.Going) c.disk c.slot (from_to c.state mid) files whole
+  ready_leaves files why whole call before told h inside =
+      let d = disk_in before c.disk in absurd (not_made d c.state mid c.slot a why (ready_made d h inside (Err why) call))
+
 -- of the page of the request
 module _ (a : TreeAsk) (at : ℕ) (c : Caller) (is : IsOfRequest a at) (mid : KernelState) (output : Output) (in_order : IsInOrder mid)
     (files : Around (Option Files)) where
@@ -227,11 +273,18 @@ module _ (a : TreeAsk) (at : ℕ) (c : Caller) (is : IsOfRequest a at) (mid : Ke
         word_done d c.state mid c.slot a w (page_made d c.state mid c.slot h output in_order (Ok w) a at (REQUEST + at % PGSIZE) is inside refl call),
       )
 
+  never_stopped : (d : Disk) → TreeAt d c.state c.slot → IsInside d.count a → (why : Stop) →
+      IsAccess a (REQUEST + at % PGSIZE) c.state c.slot (Err why) mid output → ⊥
+  never_stopped d h inside why call =
+      not_made d c.state mid c.slot a why (page_made d c.state mid c.slot h output in_order (Err why) a at (REQUEST + at % PGSIZE) is inside refl call)
+
   pub request_stopped : (why : Stop) →
       IsAccess a (REQUEST + at % PGSIZE) c.state c.slot (Err why) mid output → DoesWhereTold a (Ok done.Going) c.disk c.slot (from_to c.state mid) files
-  request_stopped why call before told h inside =
-      let d = disk_in before c.disk in
-      absurd (not_made d c.state mid c.slot a why (page_made d c.state mid c.slot h output in_order (Err why) a at (REQUEST + at % PGSIZE) is inside refl call))
+  request_stopped why call before told h inside = absurd (never_stopped (disk_in before c.disk) h inside why call)
+
+  pub request_leaves : (why : Stop) → IsAccess a (REQUEST + at % PGSIZE) c.state c.slot (Err why) mid output →
+      LeavesWhereInside a (Ok done.Going) c.disk c.slot (from_to c.state mid) files.before output
+  request_leaves why call before told h inside = absurd (never_stopped (disk_in before c.disk) h inside why call)
 
 -- the cache has made a step
 module _ (a : TreeAsk) (block : ℕ) (c : Caller) (below : block < CACHE_BLOCKS) (files : Around (Option Files)) (after : KernelState)
@@ -250,6 +303,22 @@ module _ (a : TreeAsk) (block : ℕ) (c : Caller) (below : block < CACHE_BLOCKS)
   cache_lacks made keeps tells before is h inside =
       let waited = step_waits c block below before h made.0 output files after is made.2 keeps in
       (waited.0, waited.1, no_page waited.2 (tells before is h.cache).0)
+
+  pub cache_leaves : (step : Told) (x : Done) → HasGone (fetch_state c.state c.slot block) c files step after output →
+      LeavesWhereInside a (Ok x) c.disk c.slot (from_to c.state after) files.before output
+  cache_leaves step x stepped before is h inside = step_leaves c block below before h step output files after is stepped
+
+-- where it had no page for the block, its environment lives
+pub lacking_lives : (block : ℕ) (c : Caller) (files : Around (Option Files)) (step : Told) (after : KernelState) (output : Output) →
+    is_live (slot_at c.state c.slot) ≡ true → cached.NoPage ≡ as_cached step → HasGone (fetch_state c.state c.slot block) c files step after output →
+    is_live (slot_at after c.slot) ≡ true
+lacking_lives block c files step after output live none (by_word w mid reply behind tells is) =
+    let state : CacheState = fetch_state c.state c.slot block in
+    let stays = caller_stays (asked_at state) c files.before w mid output (own_ask state.place state.hand) live reply in
+    ap (λ (k : KernelState). is_live (slot_at k c.slot)) is
+    ∙ set_live mid c.slot (record (slot_at mid c.slot) { extra = with_state (slot_at mid c.slot).extra (cache_next state w).state }) stays.live
+lacking_lives block c files step after output live none (stopped why other reply behind tells) =
+    absurd (let contradiction : cached.NoPage ≡ cached.Going = none ∙ ap (λ (x : Told). as_cached x) tells in cc)
 
 -- ---- what the step tells
 
@@ -283,6 +352,19 @@ module _ (disk : DiskFile) (n : ℕ) (s mid : KernelState) (files : Around (Opti
         came.1,
         subst (λ (b : TreeAsk). HasDone (disk_in before disk) (disk_in came.0 disk) s mid n b x) asks came.2,
       )
+
+  -- what it prints, and what it leaves
+  module _ (x : Done) (output : Output) (leaves : LeavesWhereInside a (Ok x) disk n (from_to s mid) files.before output) (acts : Acted) where
+    pub step_prints : (after : KernelState) → QuietWhereTold (Ok acts) disk n (from_to s after) files.before output
+    step_prints after before is h lawful = (leaves before is h (inside before lawful)).0
+
+    pub step_leaves_rest : RestWhereTold (Ok acts) disk n (from_to s mid) files.before
+    step_leaves_rest before is h lawful = (leaves before is h (inside before lawful)).1
+
+    pub set_leaves_rest : (next : TreeState) (after : KernelState) →
+        after ≡ with_extra (with_registers mid n (registers_with (slot_at mid n).registers next)) n (words_with (slot_at mid n).extra next) →
+        RestWhereTold (Ok acts) disk n (from_to s after) files.before
+    set_leaves_rest next after set before is h lawful = rest_set s mid n (leaves before is h (inside before lawful)).1 next after set
 
   pub step_going : DoesWhereTold a (Ok done.Going) disk n (from_to s mid) files → StepsWhereTold (Ok acted.Going) disk n (from_to s mid) files
   step_going does before is h lawful =

@@ -30,7 +30,7 @@ use Rattle.fs_cache.specs.CacheSteps.{cache_state, row_in}
 use Rattle.fs_cache.proofs.Loads.{number_of, row_below, row_past}
 use Rattle.fs_jobs.specs.declared.asks.TreeAsk.{TreeAsk}
 use Rattle.fs_jobs.specs.declared.asks.TreeAsk.TheVariants as ask
-use Rattle.fs_tree.specs.declared.steps.TheConstants.{REQUEST}
+use Rattle.lib_os.specs.declared.numbers.TheConstants.{REQUEST}
 use Rattle.fs_runs.specs.TreeRuns.{memory_after, reply_of}
 use Rattle.fs_tree.specs.TreeSteps.{HasRequest, TreeAt, disk_bytes, memory_in, request_bytes}
 use Rattle.fs_jobs.specs.TreeTests.{low_byte}

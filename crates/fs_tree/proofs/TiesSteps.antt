@@ -1,11 +1,11 @@
--- A step of the cache towards a block, as a job sees it: its memory, and where it stands, are as before.
-use Rattle.std.proofs.Common.{◌≡◌, ◌≢◌, ◌∙◌, ◌/◌, ◌%◌, ◌<◌, ℕ, Bool, true, false, List, length, Option, Some, None, Ok, Err}
+-- A step of the cache towards a block, as a job sees it: its memory, and where it stands, are as before. Nothing is printed, and the rest of the slots stays.
+use Rattle.std.proofs.Common.{◌≡◌, ◌≢◌, ◌∙◌, ◌/◌, ◌%◌, ◌<◌, ℕ, Bool, true, false, List, [], length, Option, Some, None, Ok, Err}
 use Rattle.std.proofs.Common.{refl, sym, ap, subst, arith, if◌then◌else◌}
 use Rattle.std.proofs.lemmas.Bool.Decides.{nat_tests}
 use Rattle.std.specs.Prelude.{is_some, nat_lt, slice_index}
 use Rattle.jos_host.specs.Files.{Files}
 use Rattle.jos_host.specs.Frames.{Around, from_to}
-use Rattle.jos_base.specs.Environments.{Slot}
+use Rattle.jos_base.specs.Environments.{Environments, Slot}
 use Rattle.jos_base.specs.KernelState.{KernelState, slot_at}
 use Rattle.jos_base.specs.Reach.{Entry}
 use Rattle.jos_base.proofs.Options.{some_is}
@@ -15,7 +15,7 @@ use Rattle.lib_os.specs.declared.user_os.Stop.{Stop}
 use Rattle.lib_os.specs.declared.user_os.Stop.TheVariants as stop
 use Rattle.lib_os.specs.BlockCache.{CachedBlocks, KeepsValues, block_value}
 use Rattle.lib_os.specs.Disk.{Disk, disk_in}
-use Rattle.lib_os.specs.UserCalls.{Output}
+use Rattle.lib_os.specs.UserCalls.{Output, Prints}
 use Rattle.lib_os.proofs.Slots.{slot_put}
 use Rattle.fs_cache.specs.declared.place.CachePlace.{CachePlace}
 use Rattle.fs_cache.specs.declared.place.CachePlace.TheVariants as at
@@ -33,9 +33,9 @@ use Rattle.fs_cache.proofs.Interfaces.{IsServer, view_in}
 use Rattle.fs_cache.proofs.Loads.{loads_give}
 use Rattle.fs_cache.proofs.Views.{IsFetching}
 use Rattle.fs_places.specs.TreePlaces.{state_in}
-use Rattle.fs_tree.specs.TreeSteps.{HasRequest, IsWaiting, TreeAt, disk_bytes, job_in, request_bytes}
-use Rattle.fs_tree.proofs.TiesCalls.{RequestKept, entry_asked, map_asked, page_asked_of, read_asked, region_asked, sent_asked, unmap_asked}
-use Rattle.fs_tree.proofs.TiesWords.{request_bytes_set, request_set}
+use Rattle.fs_tree.specs.TreeSteps.{HasRequest, IsWaiting, KeepsRest, TreeAt, disk_bytes, job_in, request_bytes}
+use Rattle.fs_tree.proofs.TiesCalls.{IsKeptQuietly, RequestKept, entry_asked, map_asked, page_asked_of, read_asked, region_asked, sent_asked, unmap_asked}
+use Rattle.fs_tree.proofs.TiesWords.{request_bytes_set, request_set, rest_same, rest_words}
 use Rattle.fs_places.proofs.TreeWords.{state_alike}
 
 -- ---- the call
@@ -80,7 +80,7 @@ module _ (d : Disk) (c : Caller) (server : IsServer c.state c.slot) (files : Opt
 
   module _ (h : HasRequest c.state c.slot) (word : ℕ) where
     abbrev Kept : Type 0
-    Kept = RequestKept c.state mid c.slot
+    Kept = IsKeptQuietly c.state mid c.slot output
 
     -- the page of a block is read from the disk, or sent there
     read_kept : (place : CachePlace) (hand b : ℕ) → CacheStands d (view_in c.state c.slot) place hand → b < CACHE_BLOCKS →
@@ -125,26 +125,29 @@ module _ (d : Disk) (c : Caller) (server : IsServer c.state c.slot) (files : Opt
 
 -- ---- the words that are set behind it
 
--- the page of the request and the job are as before
+-- the page of the request and the job are as before, and the rest of the slots
 record JobKept (s after : KernelState) (n : ℕ) : Type 0 where
   request : HasRequest after n
   bytes : request_bytes after n ≡ request_bytes s n
   job : job_in after n ≡ job_in s n
+  rest : KeepsRest s after n
 
 words_behind : (s mid : KernelState) (n : ℕ) (next : CacheState) → length (slot_at s n).extra ≡ 12 → RequestKept s mid n →
     JobKept s (gone_on mid n next) n
 words_behind s mid n next twelve kept =
     let words : List ℕ = with_state (slot_at mid n).extra next in
     let slot : Slot = record (slot_at mid n) { extra = words } in
-    let long : length (slot_at mid n).extra ≡ 12 = ap (λ (x : Slot). length x.extra) kept.slot ∙ twelve in
+    let there : slot_at mid n ≡ slot_at s n = ap (λ (e : Environments). e.slots n) kept.environments in
+    let long : length (slot_at mid n).extra ≡ 12 = ap (λ (x : Slot). length x.extra) there ∙ twelve in
     record {
       request = request_set mid n slot refl kept.request;
       bytes = request_bytes_set mid n slot refl kept.request ∙ kept.bytes;
       job =
           ap (λ (x : Slot). state_in x.registers x.extra) (slot_put mid n slot)
           ∙ state_alike (slot_at mid n).registers (slot_at mid n).registers words (slot_at mid n).extra
-          (record { first = first_eight (slot_at mid n).extra long next; eax = refl; ebx = refl; ecx = refl; edx = refl; ebp = refl })
-          ∙ ap (λ (x : Slot). state_in x.registers x.extra) kept.slot;
+          (record { first = first_eight (slot_at mid n).extra long next; eax = refl; ebx = refl; ecx = refl; edx = refl; ebp = refl; edi = refl })
+          ∙ ap (λ (x : Slot). state_in x.registers x.extra) there;
+      rest = rest_words s mid n (rest_same s mid n kept.environments) words;
     }
 
 -- ---- the step
@@ -184,21 +187,33 @@ module _ (c : Caller) (block : ℕ) (below : block < CACHE_BLOCKS) (before : Fil
   server = server_of d c.state c.slot h.cache
 
   job_kept : (behind : Option Files) (after : KernelState) →
-      HasGone (fetch_state c.state c.slot block) c (from_to (Some before) behind) tells after output → JobKept c.state after c.slot
+      HasGone (fetch_state c.state c.slot block) c (from_to (Some before) behind) tells after output →
+      JobKept c.state after c.slot × Prints output []
   job_kept behind after (by_word word mid reply files tells_is is) =
-      let kept = call_kept d c server (Some before) mid output h.request word place hand stands goes reply in
-      subst (λ (k : KernelState). JobKept c.state k c.slot) (sym is)
-      (words_behind c.state mid c.slot (next_by place hand word).state h.cache.words kept)
+      let kept = call_kept d c server (Some before) mid output h.request word place hand stands goes reply in (
+        subst (λ (k : KernelState). JobKept c.state k c.slot) (sym is)
+            (words_behind c.state mid c.slot (next_by place hand word).state h.cache.words kept.0),
+        kept.1,
+      )
   job_kept behind after (stopped why other reply files tells_is) =
       absurd (not_stopped d c server (Some before) after output place hand why stands goes other reply)
+
+  job_told : (files : Around (Option Files)) (after : KernelState) → files.before ≡ Some before →
+      HasGone (fetch_state c.state c.slot block) c files tells after output → JobKept c.state after c.slot × Prints output []
+  job_told files after is gone =
+      job_kept files.after after
+      (subst (λ (f : Option Files). HasGone (fetch_state c.state c.slot block) c (from_to f files.after) tells after output) is gone)
+
+  pub step_leaves : (files : Around (Option Files)) (after : KernelState) → files.before ≡ Some before →
+      HasGone (fetch_state c.state c.slot block) c files tells after output → Prints output [] × KeepsRest c.state after c.slot
+  step_leaves files after is gone = let job = job_told files after is gone in (job.1, job.0.rest)
 
   pub step_waits : (files : Around (Option Files)) (after : KernelState) → files.before ≡ Some before →
       HasGone (fetch_state c.state c.slot block) c files tells after output → KeepsCache c.disk c.slot (from_to c.state after) files →
       (now : Files) × (files.after ≡ Some now) × IsWaiting d (disk_in now c.disk) c.state after c.slot
   step_waits files after is gone keeps =
       let kept = keeps before is h.cache in
-      let job = job_kept files.after after
-      (subst (λ (f : Option Files). HasGone (fetch_state c.state c.slot block) c (from_to f files.after) tells after output) is gone) in
+      let job = (job_told files after is gone).0 in
       let e = disk_in kept.0 c.disk in
       let same = values_same d e (cached_in c.state c.slot) (cached_in after c.slot) refl kept.3 in (
         kept.0,

@@ -1,25 +1,25 @@
 -- Where a job's words are set, or the cache's, the page of the request stays and holds what it held; and the job's words are not those
--- of the cache.
+-- of the cache. The rest of the slots stays.
 use Rattle.std.proofs.Common.{◌≡◌, ◌∙◌, ◌+◌, ◌%◌, ℕ, true, List, length, get_or, drop, Some}
 use Rattle.std.proofs.Common.{refl, sym, ap, subst}
 use Rattle.std.proofs.lemmas.List.{get_or-drop}
 use Rattle.jos_base.specs.declared.environment.EnvType.{EnvType}
 use Rattle.jos_base.specs.declared.registers.Regs.{Regs}
-use Rattle.jos_base.specs.Environments.{Slot, is_live}
+use Rattle.jos_base.specs.Environments.{Environments, Slot, is_live}
 use Rattle.jos_base.specs.KernelState.{KernelState, slot_at, with_extra, with_registers, with_slot_at}
 use Rattle.lib_os.specs.declared.numbers.TheConstants.{CACHE_BLOCKS}
 use Rattle.lib_os.specs.BlockCache.{block_row, own_addresses}
 use Rattle.lib_os.specs.Disk.{Disk}
 use Rattle.lib_os.specs.InOrder.{IsInOrder}
 use Rattle.lib_os.specs.UserCalls.{is_file_server}
-use Rattle.lib_os.proofs.Slots.{slot_put}
+use Rattle.lib_os.proofs.Slots.{slot_kept, slot_put}
 use Rattle.lib_os.proofs.SlotsSet.{both_set}
 use Rattle.fs_cache.specs.declared.place.CacheState.{CacheState}
 use Rattle.fs_cache.specs.CachePlaces.{place_in, state_in as cache_in}
 use Rattle.fs_cache.specs.CacheStands.{CacheAt, CacheStands, cache_view, cached_at, cached_in}
 use Rattle.fs_jobs.specs.declared.place.TreeState.{TreeState}
 use Rattle.fs_places.specs.TreePlaces.{registers_with, state_in, words_with}
-use Rattle.fs_tree.specs.TreeSteps.{HasRequest, TreeAt, disk_bytes, job_in, memory_in, request_bytes}
+use Rattle.fs_tree.specs.TreeSteps.{HasRequest, KeepsRest, TreeAt, disk_bytes, job_in, job_registers, memory_in, request_bytes, with_job_of}
 use Rattle.fs_tree.proofs.TiesBlocks.{request_number, request_same}
 use Rattle.fs_places.proofs.TreeWords.{last_four, length_with, state_told}
 
@@ -117,3 +117,44 @@ module _ (d : Disk) (s : KernelState) (n : ℕ) (state : TreeState) (h : TreeAt 
   state_set after in_order is =
       let whole : after ≡ with_slot_at s n slot = is ∙ both_set s n regs words in
       subst (λ (k : KernelState). HasSet d s k n state) (sym whole) (slot_set (subst (λ (k : KernelState). IsInOrder k) whole in_order))
+
+-- ---- the rest of the slots
+
+-- it stays where no slot changes,
+pub rest_same : (s mid : KernelState) (n : ℕ) → mid.environments ≡ s.environments → KeepsRest s mid n
+rest_same s mid n same =
+    let there : slot_at mid n ≡ slot_at s n = ap (λ (e : Environments). e.slots n) same in
+    record {
+      slot = there ∙ ap (λ (x : Slot). with_job_of (slot_at s n) x) (sym there);
+      others = λ m other. ap (λ (e : Environments). e.slots m) same;
+    }
+
+module _ (s mid : KernelState) (n : ℕ) (kept : KeepsRest s mid n) where
+  rest_put : (slot : Slot) → slot ≡ with_job_of (slot_at s n) slot → KeepsRest s (with_slot_at mid n slot) n
+  rest_put slot is = record {
+    slot = slot_put mid n slot ∙ is ∙ ap (λ (x : Slot). with_job_of (slot_at s n) x) (sym (slot_put mid n slot));
+    others = λ m other. slot_kept mid n slot m other ∙ kept.others m other;
+  }
+
+  -- where the words of the cache are set,
+  pub rest_words : (words : List ℕ) → KeepsRest s (with_extra mid n words) n
+  rest_words words = rest_put (record (slot_at mid n) { extra = words }) (λ i. record (kept.slot i) { extra = words })
+
+  registers_over : (own other more : Regs) (state : TreeState) →
+      registers_with (job_registers own other) state ≡ job_registers own (registers_with more state)
+  unfolding registers_with
+  registers_over own other more state = refl
+
+  -- and where those of the job are
+  pub rest_set : (state : TreeState) (after : KernelState) →
+      after ≡ with_extra (with_registers mid n (registers_with (slot_at mid n).registers state)) n (words_with (slot_at mid n).extra state) →
+      KeepsRest s after n
+  rest_set state after is =
+      let regs : Regs = registers_with (slot_at mid n).registers state in
+      let words : List ℕ = words_with (slot_at mid n).extra state in
+      let own : Regs = (slot_at s n).registers in
+      subst (λ (k : KernelState). KeepsRest s k n) (sym (is ∙ both_set mid n regs words))
+      (rest_put (record (slot_at mid n) { registers = regs; extra = words })
+      ((λ i. record (kept.slot i) { registers = registers_with (kept.slot i).registers state; extra = words })
+      ∙ ap (λ (r : Regs). record (slot_at s n) { registers = r; extra = words })
+      (registers_over own (slot_at mid n).registers (slot_at mid n).registers state)))

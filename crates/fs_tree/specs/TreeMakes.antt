@@ -1,20 +1,21 @@
 -- What a job asks, done over the block cache: an access to a byte or a word of a block that has its page, or of the page of the request; or
 -- the cache makes a step.
-use Rattle.std.specs.Prelude.{◌≡◌, ◌<◌, ℕ, ◌-◌, ◌%◌, ◌^◌, Option, Some, Result, Ok, Err}
+use Rattle.std.specs.Prelude.{◌≡◌, ◌<◌, ℕ, ◌-◌, ◌%◌, ◌^◌, true, [], Option, Some, Result, Ok, Err}
 use Rattle.jos_host.specs.declared.host.Failed.{Failed}
 use Rattle.jos_host.specs.Files.{Files}
 use Rattle.jos_host.specs.Frames.{Around}
+use Rattle.jos_base.specs.Environments.{is_live}
 use Rattle.jos_base.specs.KernelState.{KernelState, slot_at}
 use Rattle.lib_os.specs.declared.user_os.Stop.{Stop}
 use Rattle.lib_os.specs.Disk.{Disk, DiskFile, disk_in}
 use Rattle.lib_os.specs.UserCalls as call
-use Rattle.lib_os.specs.UserCalls.{CallStep, IsStep, Output}
+use Rattle.lib_os.specs.UserCalls.{CallStep, IsStep, Output, Prints}
 use Rattle.fs_jobs.specs.declared.asks.TreeAsk.{TreeAsk}
 use Rattle.fs_jobs.specs.declared.asks.TreeAsk.TheVariants as ask
 use Rattle.fs_tree.specs.declared.steps.Done.{Done}
 use Rattle.fs_tree.specs.declared.steps.Done.TheVariants as done
 use Rattle.fs_runs.specs.TreeRuns.{IsInside}
-use Rattle.fs_tree.specs.TreeSteps.{IsWaiting, TreeAt, memory_in}
+use Rattle.fs_tree.specs.TreeSteps.{IsWaiting, KeepsRest, TreeAt, memory_in}
 use Rattle.fs_runs.specs.TreeRuns.{memory_after, reply_of}
 use Rattle.fs_jobs.specs.TreeTests.{low_byte}
 
@@ -69,7 +70,16 @@ DoesWhereTold a (Ok told) disk n states files =
     (after : Files) × (files.after ≡ Some after) × HasDone (disk_in before disk) (disk_in after disk) states.before states.after n a told
 DoesWhereTold a (Err _) disk n states files = Unit {0}
 
--- Where a word came, the environment is as it was, but for its space.
+-- Where the host tells its files, all stands, and what is asked lies within the disk and its page, nothing is printed, and the rest of the slots
+-- stays.
+abbrev pub LeavesWhereInside : TreeAsk → Result Done Failed → DiskFile → ℕ → Around KernelState → Option Files → Output → Type 0
+LeavesWhereInside a (Ok told) disk n states files output =
+    (before : Files) → files ≡ Some before → TreeAt (disk_in before disk) states.before n → IsInside disk.blocks a →
+    Prints output [] × KeepsRest states.before states.after n
+LeavesWhereInside a (Err _) disk n states files output = Unit {0}
+
+-- Where a word came, the environment is as it was, but for its space. Where no page was to be had, it lives.
 abbrev pub KeepsSlot : Result Done Failed → ℕ → Around KernelState → Type 0
 KeepsSlot (Ok (done.Word w)) n states = slot_at states.after n ≡ slot_at states.before n
+KeepsSlot (Ok done.NoPage) n states = is_live (slot_at states.after n) ≡ true
 KeepsSlot _ n states = Unit {0}

@@ -1,10 +1,12 @@
 -- A step of a job in the environment that serves files: the block that it wants comes nearer, or the job makes its step over what the cache
 -- has of the disk.
-use Rattle.std.specs.Prelude.{◌≡◌, ◌≢◌, ◌<◌, ◌≤◌, ℕ, ◌+◌, ◌/◌, ◌^◌, ◌-◌, nat_lt, true, Option, Some, Result, Ok, Err, if◌then◌else◌}
+use Rattle.std.specs.Prelude.{◌≡◌, ◌≢◌, ◌<◌, ◌≤◌, ℕ, ◌+◌, ◌/◌, ◌^◌, ◌-◌, nat_lt, true, [], Option, Some, Result, Ok, Err, if◌then◌else◌}
 use Rattle.jos_host.specs.declared.host.Failed.{Failed}
 use Rattle.jos_host.specs.Files.{Files}
 use Rattle.jos_host.specs.Frames.{Around}
 use Rattle.jos_base.specs.declared.numbers.TheConstants.{E_NO_MEM, PGSIZE}
+use Rattle.jos_base.specs.declared.registers.Regs.{Regs}
+use Rattle.jos_base.specs.Environments.{Slot, is_live}
 use Rattle.jos_base.specs.KernelState.{KernelState, slot_at}
 use Rattle.jos_base.specs.Reach.{Entry}
 use Rattle.jos_base.specs.Words.{negated, page_number}
@@ -12,14 +14,14 @@ use Rattle.fs_layout.specs.declared.numbers.TheConstants.{BLKSIZE, MAXBLOCKS}
 use Rattle.lib_os.specs.BlockCache.{CachedBlocks, block_value}
 use Rattle.lib_os.specs.Disk.{Disk, DiskFile, byte_in_blocks, disk_in}
 use Rattle.lib_os.specs.Rows.{IsPage}
-use Rattle.lib_os.specs.UserCalls.{user_byte}
+use Rattle.lib_os.specs.UserCalls.{Output, Prints, user_byte}
 use Rattle.fs_cache.specs.CacheStands.{CacheAt, IsBlockEntry, cached_in}
 use Rattle.fs_cache.specs.CacheSteps.{row_in}
 use Rattle.fs_jobs.specs.declared.asks.TreeNext.TheVariants.{Answer, GoOn}
 use Rattle.fs_jobs.specs.declared.place.TreeState.{TreeState}
 use Rattle.fs_tree.specs.declared.steps.Acted.{Acted}
 use Rattle.fs_tree.specs.declared.steps.Acted.TheVariants as acted
-use Rattle.fs_tree.specs.declared.steps.TheConstants.{REQUEST}
+use Rattle.lib_os.specs.declared.numbers.TheConstants.{REQUEST}
 use Rattle.fs_jobs.specs.TreeBounds.{is_bounded}
 use Rattle.fs_places.specs.TreePlaces.{state_in}
 use Rattle.fs_runs.specs.TreePlans.{ask_at, next_at}
@@ -63,6 +65,19 @@ pub record IsLawful (d : Disk) (s : KernelState) (n : ℕ) : Type 0 where
   pub bounded : is_bounded (job_in s n) ≡ true
   pub inside : IsInside d.count (ask_at (job_in s n))
 
+-- a slot with the words of the job and of the cache from another
+abbrev pub job_registers : Regs → Regs → Regs
+job_registers own other =
+    record own { eax = other.eax; ebx = other.ebx; ecx = other.ecx; edx = other.edx; ebp = other.ebp; edi = other.edi }
+
+abbrev pub with_job_of : Slot → Slot → Slot
+with_job_of own other = record own { registers = job_registers own.registers other.registers; extra = other.extra }
+
+-- All of the slot is as it was, but for the words of the job and of the cache, and so is every other slot.
+pub record KeepsRest (s after : KernelState) (n : ℕ) : Type 0 where
+  pub slot : slot_at after n ≡ with_job_of (slot_at s n) (slot_at after n)
+  pub others : (m : ℕ) → m ≢ n → slot_at after m ≡ slot_at s m
+
 -- the cache has made a step, and the job sees what it saw
 pub record IsWaiting (d e : Disk) (s after : KernelState) (n : ℕ) : Type 0 where
   pub stands : TreeAt e after n
@@ -91,3 +106,21 @@ StepsWhereTold (Ok told) disk n states files =
     (before : Files) → files.before ≡ Some before → TreeAt (disk_in before disk) states.before n → IsLawful (disk_in before disk) states.before n →
     (after : Files) × (files.after ≡ Some after) × HasStepped (disk_in before disk) (disk_in after disk) states.before states.after n told
 StepsWhereTold (Err _) disk n states files = Unit {0}
+
+-- Where the host tells its files, the job's next step is lawful, and all stands, nothing is printed.
+abbrev pub QuietWhereTold : Result Acted Failed → DiskFile → ℕ → Around KernelState → Option Files → Output → Type 0
+QuietWhereTold (Ok told) disk n states files output =
+    (before : Files) → files ≡ Some before → TreeAt (disk_in before disk) states.before n → IsLawful (disk_in before disk) states.before n → Prints output []
+QuietWhereTold (Err _) disk n states files output = Unit {0}
+
+-- the same, of the rest of its slot, and of the other slots
+abbrev pub RestWhereTold : Result Acted Failed → DiskFile → ℕ → Around KernelState → Option Files → Type 0
+RestWhereTold (Ok told) disk n states files =
+    (before : Files) → files ≡ Some before → TreeAt (disk_in before disk) states.before n → IsLawful (disk_in before disk) states.before n →
+    KeepsRest states.before states.after n
+RestWhereTold (Err _) disk n states files = Unit {0}
+
+-- Where the job is answered, its environment lives.
+abbrev pub LivesWhereAnswered : Result Acted Failed → Slot → Type 0
+LivesWhereAnswered (Ok (acted.Answer word)) slot = is_live slot ≡ true
+LivesWhereAnswered _ slot = Unit {0}

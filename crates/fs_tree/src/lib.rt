@@ -7,4 +7,4 @@
 
 mod steps;
 
-pub use steps::{Acted, REQUEST, tree_step};
+pub use steps::{Acted, tree_step};

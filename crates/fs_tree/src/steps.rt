@@ -1,16 +1,16 @@
 //! Steps of a job, each of which is one call.
 
-ghost use Rattle.std.specs.Prelude.{◌≡◌, ◌+◌, ◌-◌, ◌*◌, ◌/◌, ◌%◌, ◌<◌, ◌^◌, true, OnOk};
+ghost use Rattle.std.specs.Prelude.{◌≡◌, ◌+◌, ◌-◌, ◌*◌, ◌/◌, ◌%◌, ◌<◌, ◌^◌, true, [], OnOk};
 ghost use Rattle.jos_host.specs.Told.{HasCause};
 ghost use Rattle.jos_host.specs.Frames.{Unchanged, around, from_to};
 ghost use Rattle.jos_base.specs.Environments.{is_live};
 ghost use Rattle.jos_base.specs.KernelState.{slot_at, with_extra, with_registers};
 ghost use Rattle.lib_os.specs.Disk.{HasBlocks};
 ghost use Rattle.lib_os.specs.InOrder.{IsInOrder};
-ghost use Rattle.lib_os.specs.UserCalls.{HasStopCause, output};
+ghost use Rattle.lib_os.specs.UserCalls.{HasStopCause, Prints, output};
 ghost use Rattle.fs_tree.specs.TreeMakes as makes;
 ghost use Rattle.fs_places.specs.TreePlaces as places;
-ghost use Rattle.fs_tree.specs.TreeSteps.{StepsWhereTold};
+ghost use Rattle.fs_tree.specs.TreeSteps.{LivesWhereAnswered, QuietWhereTold, RestWhereTold, StepsWhereTold};
 
 use fs_cache::{Cached, block_step};
 use fs_jobs::{TreeAsk, TreeNext, TreeState, is_bounded, negated};
@@ -19,10 +19,7 @@ use fs_places::{find_state, with_state};
 use fs_runs::{ask_at, next_at};
 use jos_base::{E_INVAL, E_NO_MEM, PGSIZE, SYS_GETENVID};
 use jos_host::{Failed, Host};
-use lib_os::{CACHE_BLOCKS, Stop, UserOs};
-
-/// Where the page of the request lies. (MIT 6.828, lab 5: fs/serv.c)
-pub const REQUEST: u32 = 0x0fff_f000;
+use lib_os::{CACHE_BLOCKS, REQUEST, Stop, UserOs};
 
 /// What comes of a step.
 #[derive(Clone, Copy, Debug, PartialEq, Eq)]
@@ -87,6 +84,7 @@ fn make_at_block<O: UserOs, H: Host>(
     requires whole { HasBlocks (H.files host.old) (O.disk os.old) }
     requires place { makes.IsOfDisk ask at }
     ensures told { makes.DoesWhereTold ask result (O.disk os.old) (O.slot os.old) (around O.state os.old os.new) (around H.files host.old host.new) }
+    ensures leaves { makes.LeavesWhereInside ask result (O.disk os.old) (O.slot os.old) (around O.state os.old os.new) (H.files host.old) (output H.console O.written (from_to host.old host.new) (from_to os.old os.new)) }
     ensures kept { makes.KeepsSlot result (O.slot os.old) (around O.state os.old os.new) }
     ensures whole { OnOk result (HasBlocks (H.files host.new) (O.disk os.new)) }
     ensures in_order { IsInOrder (O.state os.old) → IsInOrder (O.state os.new) }
@@ -122,6 +120,7 @@ fn make_at_request<O: UserOs, H: Host>(
     requires whole { HasBlocks (H.files host.old) (O.disk os.old) }
     requires place { makes.IsOfRequest ask at }
     ensures told { makes.DoesWhereTold ask result (O.disk os.old) (O.slot os.old) (around O.state os.old os.new) (around H.files host.old host.new) }
+    ensures leaves { makes.LeavesWhereInside ask result (O.disk os.old) (O.slot os.old) (around O.state os.old os.new) (H.files host.old) (output H.console O.written (from_to host.old host.new) (from_to os.old os.new)) }
     ensures kept { makes.KeepsSlot result (O.slot os.old) (around O.state os.old os.new) }
     ensures whole { OnOk result (HasBlocks (H.files host.new) (O.disk os.new)) }
     ensures in_order { IsInOrder (O.state os.new) }
@@ -146,6 +145,7 @@ fn make<O: UserOs, H: Host>(os: &mut O, host: &mut H, ask: TreeAsk) -> Result<Do
     requires few { O.calls os.old < 2 ^ 32 - 1 }
     requires whole { HasBlocks (H.files host.old) (O.disk os.old) }
     ensures told { makes.DoesWhereTold ask result (O.disk os.old) (O.slot os.old) (around O.state os.old os.new) (around H.files host.old host.new) }
+    ensures leaves { makes.LeavesWhereInside ask result (O.disk os.old) (O.slot os.old) (around O.state os.old os.new) (H.files host.old) (output H.console O.written (from_to host.old host.new) (from_to os.old os.new)) }
     ensures kept { makes.KeepsSlot result (O.slot os.old) (around O.state os.old os.new) }
     ensures whole { OnOk result (HasBlocks (H.files host.new) (O.disk os.new)) }
     ensures in_order { IsInOrder (O.state os.old) → IsInOrder (O.state os.new) }
@@ -175,6 +175,7 @@ fn go_on<O: UserOs>(os: &mut O, state: TreeState)
     ensures slot { O.slot os.new ≡ O.slot os.old }
     ensures disk { O.disk os.new ≡ O.disk os.old }
     ensures calls { O.calls os.new ≡ O.calls os.old }
+    ensures written { O.written os.new ≡ O.written os.old }
 {
     let registers = os.registers();
     let extra = os.extra();
@@ -188,6 +189,8 @@ fn refuse<O: UserOs, H: Host>(os: &mut O, host: &mut H) -> Result<Acted, Failed>
     requires live { is_live (slot_at (O.state os.old) (O.slot os.old)) ≡ true }
     requires few { O.calls os.old < 2 ^ 32 - 1 }
     ensures files { H.files host.new ≡ H.files host.old }
+    ensures quiet { Prints (output H.console O.written (from_to host.old host.new) (from_to os.old os.new)) [] }
+    ensures lives { LivesWhereAnswered result (slot_at (O.state os.new) (O.slot os.new)) }
     ensures in_order { IsInOrder (O.state os.new) }
     ensures slot { O.slot os.new ≡ O.slot os.old }
     ensures disk { O.disk os.new ≡ O.disk os.old }
@@ -211,6 +214,9 @@ pub fn tree_step<O: UserOs, H: Host>(os: &mut O, host: &mut H) -> Result<Acted, 
     requires few { O.calls os.old < 2 ^ 32 - 1 }
     requires whole { HasBlocks (H.files host.old) (O.disk os.old) }
     ensures told { StepsWhereTold result (O.disk os.old) (O.slot os.old) (around O.state os.old os.new) (around H.files host.old host.new) }
+    ensures quiet { QuietWhereTold result (O.disk os.old) (O.slot os.old) (around O.state os.old os.new) (H.files host.old) (output H.console O.written (from_to host.old host.new) (from_to os.old os.new)) }
+    ensures rest { RestWhereTold result (O.disk os.old) (O.slot os.old) (around O.state os.old os.new) (H.files host.old) }
+    ensures lives { LivesWhereAnswered result (slot_at (O.state os.new) (O.slot os.old)) }
     ensures whole { OnOk result (HasBlocks (H.files host.new) (O.disk os.new)) }
     ensures in_order { IsInOrder (O.state os.old) → IsInOrder (O.state os.new) }
     ensures slot { O.slot os.new ≡ O.slot os.old }

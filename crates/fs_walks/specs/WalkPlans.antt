@@ -113,11 +113,11 @@ begun state (job.Create directory slot from) = begun_at state directory
 begun state (job.SetSize home size) = begun_at state home
 begun state (job.Stat home) = begun_at state home
 
--- a file is opened, or found
+-- a file is opened, or found: then its record's place is told
 abbrev pub opened : TreeState → Job → ℕ → TreeNext
 opened state (job.Open mode) home =
     if has_bit mode O_TRUNC then change_on state (job.SetSize home 0) (changed_to home 0 0) file.SizeNow else Answer 0
-opened state _ home = Answer 0
+opened state _ home = Answer home
 
 abbrev pub first_empty : Seek → Seek
 first_empty seek = if seek.empty == NONE then record seek { empty = seek.slot } else seek

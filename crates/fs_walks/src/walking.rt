@@ -203,7 +203,7 @@ fn begun(state: TreeState) -> TreeNext
     }
 }
 
-/// A file is opened, or found.
+/// A file is opened, or found: then its record's place is told.
 fn opened(state: TreeState, home: u32) -> TreeNext
     ensures { result ≡ walks.opened state state.job home }
 {
@@ -216,7 +216,7 @@ fn opened(state: TreeState, home: u32) -> TreeNext
                 TreeNext::Answer(0)
             }
         }
-        _ => TreeNext::Answer(0),
+        _ => TreeNext::Answer(home),
     }
 }
 

@@ -10,8 +10,8 @@ use Rattle.std.proofs.Common.{append_assoc}
 use Rattle.jos_words.specs.Arguments.{Word}
 use Rattle.jos_words.specs.Commands.{Command, exo, run, demo, mkfs, ls, cat}
 use Rattle.fs_image.specs.DiskHeld.{IsReadInPieces}
-use Rattle.jos_cli.specs.Found.{sources_of_exo, sources_of_run}
-use Rattle.jos_cli.specs.FilesAsked.{AsksFor, AsksAll, AsksFiles, read_calls, write_calls, files_calls, source_calls, mkfs_calls}
+use Rattle.jos_cli.specs.Found.{sources_of_exo}
+use Rattle.jos_cli.specs.FilesAsked.{AsksFor, AsksAll, AsksFiles, read_calls, schedule_calls, write_calls, files_calls, source_calls, mkfs_calls}
 use Rattle.jos_cli.specs.FilesAsked.{note_calls, AsksNotes, AsksSomeNotes, AsksNote}
 
 -- none is made
@@ -85,7 +85,7 @@ reads_none name (Some asked) new same = (0, same ∙ ap (λ l. Some l) (sym (app
 pub asks_no_more : (command : Option Command) (old new : Option (List Asked)) → new ≡ old → AsksFiles command (from_to old new)
 asks_no_more None old new same = same
 asks_no_more (Some (exo e)) old new same = asks_none (source_calls (sources_of_exo e)) old new same
-asks_no_more (Some (run r)) old new same = asks_none (source_calls (sources_of_run r)) old new same
+asks_no_more (Some (run r)) old new same = inl (asks_none (schedule_calls r.schedule) old new same)
 asks_no_more (Some (demo d)) old new same = asks_none (write_calls d.file.text) old new same
 asks_no_more (Some (mkfs m)) old new same = asks_none (mkfs_calls m) old new same
 asks_no_more (Some (ls l)) old new same = reads_none l.disk.text old new same

@@ -20,8 +20,8 @@ use Rattle.jos_kernel.specs.Boot.{Loadable, booted}
 use Rattle.jos_kernel.specs.ExoRun.{Ran, exo_run, run_from_boot}
 use Rattle.jos_cli.specs.declared.outcome.Outcome.{Outcome}
 use Rattle.jos_cli.specs.declared.outcome.Outcome.TheVariants as outcome
-use Rattle.jos_cli.specs.Limits.{numbers_of_exo, limit_of_words, limit_of_run, frames_of, budget_of, trace_of}
-use Rattle.jos_cli.specs.Found.{FileAt, file_at, Found, found_in, run_found_in}
+use Rattle.jos_cli.specs.Limits.{numbers_of_exo, limit_of_words, frames_of, budget_of, trace_of}
+use Rattle.jos_cli.specs.Found.{FileAt, file_at, Found, found_in, RunFound, run_found_in}
 use Rattle.jos_cli.specs.Answer.{Judged, schedule_of, images_of, Gathered, gathered, Expected, expected_if, expected_of_run, expected_of_images, expected_of_exo}
 use Rattle.jos_cli.specs.Answer.{made, expected_of_writing}
 use Rattle.jos_cli.specs.Making.{named_files, made_unless, disk_made, expected_of_mkfs}
@@ -31,11 +31,13 @@ use Rattle.jos_cli.specs.Kinds.{Kind, kind_of, Answers}
 use Rattle.jos_run.specs.RunEnds.{Job, CanBegin}
 use Rattle.jos_cli.specs.declared.outcome.Which.{Which}
 use Rattle.jos_cli.specs.declared.outcome.Which.TheVariants as which
-use Rattle.jos_cli.specs.RunAnswers.{job_of, RunsAs, AnswersRun}
+use Rattle.jos_cli.specs.RunAnswers.{GatheredProgram, gathered_program, job_of, RunsAs, AnswersRun}
 use Rattle.jos_cli.specs.Outcomes.{AnswersCommand, HasOutcomeCause, HasRunCauseOf, HasCommandCause, CanRun, CanRunProgram, IsRunCase, CanMake, CanList, CanPrint, IsMadeCase}
 use Rattle.jos_cli.specs.Stages.{AreFilesAt}
+use Rattle.jos_cli.proofs.Finding.{run_found_is}
 use Rattle.jos_cli.proofs.InputRead.{within_limit}
 use Rattle.jos_cli.proofs.Gathering.{all_read}
+use Rattle.jos_cli.proofs.ProgramsRead as programs
 use Rattle.jos_cli.proofs.RunAnswered.{program_runs}
 use Rattle.jos_cli.proofs.NamedRead.{named_are, files_named}
 
@@ -126,14 +128,16 @@ program_case p faults (outcome.NotThere errno) console h can cause calm = absurd
 program_case p faults (outcome.BadMake fault) console h can cause calm = absurd h
 
 -- what is answered where a program can be run
-runs_program : (r : Run) (found : Found) (input : List ℕ) (kind : Kind) (console : Around (Option (List ℕ))) (can : CanRunProgram r found input) →
+runs_program : (r : Run) (found : RunFound) (input : List ℕ) (kind : Kind) (console : Around (Option (List ℕ))) (can : CanRunProgram r found input) →
     AnswersRun r found input kind console → (p : Job) × CanBegin p × RunsAs p kind console
 runs_program r found input kind console can h =
     let schedule = is_ok (schedule_of found.schedule) can.schedule in
-    let read : Gathered = record { schedule = schedule.0; images = can.image ∷ []; input = input } in (
+    let read : GatheredProgram = record { schedule = schedule.0; program = can.image; input = input } in
+    let all : gathered_program r found input ≡ Ok read =
+    programs.all_read r found input can.words schedule.0 schedule.1 can.image can.read input (within_limit input can.short) in (
       job_of r read,
       can.frames,
-      program_runs r found input kind console read (reads (limit_of_run r) found input schedule.0 (can.image ∷ []) can.words schedule.1 can.read can.short) h,
+      program_runs r found input kind console read all h,
     )
 
 -- a program is run where it can be
@@ -145,7 +149,7 @@ is_run_program told told_input command faults own console h cause files input r 
     (subst (λ (o : Option (List ℕ)). AnswersCommand (Some files) o command own console) i
     (subst (λ (o : Option Files). AnswersCommand o told_input command own console) f h)) in
     let same = subst (λ (x : List ℕ). AnswersRun r (run_found_in files r) x (kind_of own) console) answers.3
-    (subst (λ (x : Found). AnswersRun r x answers.1 (kind_of own) console) answers.2 answers.4) in
+    (subst (λ (x : RunFound). AnswersRun r x answers.1 (kind_of own) console) (run_found_is files r answers.0 answers.2) answers.4) in
     let runs = runs_program r (run_found_in files r) input (kind_of own) console can same in
     program_case runs.0 faults own console runs.2 runs.1 (subst (λ (o : Option Command). HasCommandCause o faults own) c cause) calm
 

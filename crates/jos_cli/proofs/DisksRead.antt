@@ -1,5 +1,5 @@
 -- A disk that was read, and what is told of it.
-use Rattle.std.proofs.Common.{◌≡◌, ◌≢◌, ℕ, ◌+◌, ◌<◌, ◌≤◌, map, get_or, nat_lt, Bool, true, false, cond, List, [], ◌∷◌, ◌++◌, length, take, Option, Some, None, Result, Ok, Err}
+use Rattle.std.proofs.Common.{◌≡◌, ℕ, ◌+◌, ◌<◌, ◌≤◌, map, get_or, nat_lt, Bool, true, false, cond, List, [], ◌∷◌, ◌++◌, length, take, Option, Some, None, Result, Ok, Err}
 use Rattle.std.proofs.Common.{refl, sym, ap, subst, ◌∙◌, append_assoc, arith}
 use Rattle.std.proofs.lemmas.List.{append-nil, take_all}
 use Rattle.std.proofs.lemmas.Bool.Decides.{nat_tests}
@@ -19,7 +19,6 @@ use Rattle.fs_layout.specs.declared.records.FileEntry.{FileEntry}
 use Rattle.jos_cli.proofs.WordsRead.{one_more}
 use Rattle.jos_cli.specs.Found.{FileAt, file_at, IsFileAt}
 use Rattle.jos_cli.specs.declared.outcome.Outcome.{Outcome}
-use Rattle.jos_cli.specs.declared.outcome.Outcome.TheVariants.{Usage}
 use Rattle.jos_cli.specs.Answer.{Judged, absent, Expected}
 use Rattle.jos_cli.specs.Disks.{held_at, checked, disk_of, path_of, record_line, listing}
 use Rattle.jos_cli.specs.Disks.{expected_of_listing, expected_of_bytes, expected_of_ls, expected_of_cat}
@@ -27,8 +26,9 @@ use Rattle.jos_cli.specs.Kinds.{kind_of, Answers}
 use Rattle.jos_cli.specs.Outcomes.{HasOutcomeCause}
 use Rattle.jos_cli.specs.Outside.{Outside, outside}
 use Rattle.jos_cli.specs.Effects.{DoesCommand, ReadsDisk, PrintsAnswer}
-use Rattle.jos_cli.specs.Stages.{RefusesBy}
+use Rattle.jos_cli.specs.Stages.{RefusesBy, IsUnreadOnDisk}
 use Rattle.jos_cli.proofs.Judging.{refuses, goes_on}
+use Rattle.jos_cli.proofs.Leaving.{unread_on_disk_no_usage}
 
 -- ---- the disk
 
@@ -109,9 +109,9 @@ nothing_listed = refl
 -- the disk was read, and checked then
 pub read_and_checked : {H X : Type 0} (host : Ghosts H) (name : List ℕ) (a b : H) (result : Result X Outcome) → Unchanged host.files host.input host.console host.notes a b →
     IsReadInPieces name (around host.asked a b) → host.faults b ≡ host.faults a → ((faults : ℕ) → IfErr result (HasOutcomeCause (from_to faults faults))) →
-    IfErr result (λ o. o ≢ Usage) → ReadsDisk name (result_err result) (outside host a b)
-read_and_checked host name a b (Ok x) rest asked calm cause no_usage = record {
-  usage = tt;
+    IfErr result IsUnreadOnDisk → ReadsDisk name (result_err result) (outside host a b)
+read_and_checked host name a b (Ok x) rest asked calm cause unread = record {
+  unread = tt;
   files = rest.first;
   input = rest.second;
   console = rest.third;
@@ -119,8 +119,8 @@ read_and_checked host name a b (Ok x) rest asked calm cause no_usage = record {
   asked = asked;
   cause = calm;
 }
-read_and_checked host name a b (Err o) rest asked calm cause no_usage = record {
-  usage = no_usage;
+read_and_checked host name a b (Err o) rest asked calm cause unread = record {
+  unread = unread;
   files = rest.first;
   input = rest.second;
   console = rest.third;
@@ -129,13 +129,27 @@ read_and_checked host name a b (Err o) rest asked calm cause no_usage = record {
   cause = subst (λ (n : ℕ). HasOutcomeCause (from_to n (host.faults b)) o) calm (cause (host.faults b));
 }
 
+-- the disk was read, and something was looked for on it then
+pub read_and_looked : {H X : Type 0} (host : Ghosts H) (name : List ℕ) (a b : H) (result : Result X Outcome) → ReadsDisk name None (outside host a b) →
+    ((faults : ℕ) → IfErr result (HasOutcomeCause (from_to faults faults))) → IfErr result IsUnreadOnDisk → ReadsDisk name (result_err result) (outside host a b)
+read_and_looked host name a b (Ok x) h cause unread = h
+read_and_looked host name a b (Err o) h cause unread = record {
+  unread = unread;
+  files = h.files;
+  input = h.input;
+  console = h.console;
+  notes = h.notes;
+  asked = h.asked;
+  cause = subst (λ (n : ℕ). HasOutcomeCause (from_to n (host.faults b)) o) h.cause (cause (host.faults b));
+}
+
 -- the disk is not read
 module _ (o : Outcome) (seen : Outside) (file : FileAt) where
   pub ls_unread : (l : Ls) → IsFileAt seen.files.before l.disk file → RefusesBy (disk_of file) (kind_of o) → ReadsDisk l.disk.text (Some o) seen → DoesCommand (Some (ls l)) o seen
   unfolding expected_of_ls
   ls_unread l is refusal h = record {
     answer = (file, is, refuses (disk_of file) (expected_of_listing (path_of l.path)) (kind_of o) seen.console refusal h.console);
-    usage = h.usage;
+    usage = unread_on_disk_no_usage o h.unread;
     files = h.files;
     disk = tt;
     input = h.input;
@@ -148,7 +162,7 @@ module _ (o : Outcome) (seen : Outside) (file : FileAt) where
   unfolding expected_of_cat
   cat_unread c is refusal h = record {
     answer = (file, is, refuses (disk_of file) (expected_of_bytes c.path.text) (kind_of o) seen.console refusal h.console);
-    usage = h.usage;
+    usage = unread_on_disk_no_usage o h.unread;
     files = h.files;
     disk = tt;
     input = h.input;

@@ -5,27 +5,29 @@ use Rattle.jos_host.specs.Asked.{Asked, and_noted}
 use Rattle.jos_host.specs.Told.{HasCause}
 use Rattle.jos_host.specs.Frames.{Unchanged, from_to, around}
 use Rattle.jos_host.specs.declared.host.Host.{Ghosts}
+use mathlib.Core.Logic.{inl, inr}
 use Rattle.jos_words.specs.Arguments.{Word}
+use Rattle.fs_image.specs.DiskHeld.{IsReadInPieces}
 use Rattle.jos_words.specs.Commands.{Command, Exo, Run, exo, run}
 use Rattle.jos_kernel.specs.declared.kernel.BootFault.{BootFault}
 use Rattle.jos_run.specs.declared.programs.RunEnd.{RunEnd}
 use Rattle.jos_cli.specs.declared.outcome.Which.{Which}
 use Rattle.jos_cli.specs.declared.outcome.Outcome.{Outcome}
 use Rattle.jos_cli.specs.declared.outcome.Outcome.TheVariants as outcome
-use Rattle.jos_cli.specs.Limits.{numbers_of_exo, limit_of_words, limit_of_run}
-use Rattle.jos_cli.specs.Found.{sources_of_exo, sources_of_run, Found, IsFound, IsInput}
+use Rattle.jos_cli.specs.Limits.{numbers_of_exo, limit_of_words}
+use Rattle.jos_cli.specs.Found.{sources_of_exo, Found, IsFound, RunFound, IsRunFound, IsInput}
 use Rattle.jos_cli.specs.Answer.{Gathered, gathered, expected_of_images}
 use Rattle.jos_cli.specs.Kinds.{kind_of, Answers}
-use Rattle.jos_cli.specs.RunAnswers.{job_of, RunsAs}
+use Rattle.jos_cli.specs.RunAnswers.{GatheredProgram, gathered_program, job_of, RunsAs}
 use Rattle.jos_cli.specs.Outcomes.{IsUsageCase, HasOutcomeCause, HasRunCauseOf, LeavesInputBy}
-use Rattle.jos_cli.specs.FilesAsked.{AsksFor, AsksAll, read_calls, files_calls, source_calls, AsksSomeNotes, AsksNote}
+use Rattle.jos_cli.specs.FilesAsked.{AsksFor, AsksAll, AsksScheduleAndDisk, read_calls, schedule_calls, files_calls, source_calls, AsksSomeNotes, AsksNote}
 use Rattle.jos_cli.specs.Stages.{RefusesBy, IsOfWords, outcome_of_run}
 use Rattle.jos_cli.specs.Outside.{Outside, outside}
-use Rattle.jos_cli.specs.Effects.{DoesCommand, ReadsFiles, Gathers, WritesNotes}
+use Rattle.jos_cli.specs.Effects.{DoesCommand, ReadsFiles, Gathers, ReadsDisk, GathersProgram, WritesNotes}
 use Rattle.jos_cli.proofs.Asking.{asks_no_more, asks_none, asks_first, asks_then, asks_both, asks_all, asks_nothing, asks_file, asks_part, asks_part_whole}
 use Rattle.jos_cli.proofs.Asking.{notes_none, notes_done, notes_then, notes_then_last}
 use Rattle.jos_cli.proofs.Judging.{exo_refused, exo_goes_on}
-use Rattle.jos_cli.proofs.Leaving.{left_no_memory, left_words, left_unread, left_ran, unread_no_usage, ran_no_usage}
+use Rattle.jos_cli.proofs.Leaving.{left_no_memory, left_words, left_unread, left_unread_on_disk, left_ran, unread_no_usage, unread_on_disk_no_usage, ran_no_usage}
 use Rattle.jos_cli.proofs.RunAnswered.{run_refused, run_goes_on}
 use Rattle.jos_cli.proofs.FilesWritten.{keeps_files, no_disk}
 use Rattle.jos_cli.proofs.Tops.{run_cause, command_cause, at_no_memory}
@@ -166,12 +168,80 @@ module _ {H : Type 0} (host : Ghosts H) {calls : List Asked} {a b c : H} (h : Re
     cause = cause_after o (host.faults a) (host.faults b) (host.faults c) h.cause then.cause;
   }
 
+-- ---- a schedule, a disk and then the input
+
+module _ (schedule : Option Word) (disk : List ℕ) where
+  -- nothing is read
+  pub program_limit_passed : {H : Type 0} (host : Ghosts H) (a : H) (which : Which) → IsOfWords which →
+      GathersProgram schedule disk (Some (outcome.Limit which)) (outside host a a)
+  program_limit_passed host a which h = record {
+    usage = λ e. cc;
+    files = refl;
+    input = left_words which (host.input a) (host.input a) h refl;
+    console = refl;
+    notes = refl;
+    asked = inl (asks_none (schedule_calls schedule) (host.asked a) (host.asked a) refl);
+    cause = refl;
+  }
+
+  -- no disk is read
+  pub no_disk_read : {o : Outcome} {seen : Outside} → ReadsFiles (schedule_calls schedule) (Some o) seen → GathersProgram schedule disk (Some o) seen
+  no_disk_read {o = o} {seen = seen} h = record {
+    usage = unread_no_usage o h.unread;
+    files = h.files;
+    input = left_unread o seen.input.before seen.input.after h.unread h.input;
+    console = h.console;
+    notes = h.notes;
+    asked = inl h.asked;
+    cause = h.cause;
+  }
+
+  module _ {H : Type 0} (host : Ghosts H) {a b c : H} (h : ReadsFiles (schedule_calls schedule) None (outside host a b)) where
+    -- no input is read
+    pub disk_refused : (o : Outcome) → ReadsDisk disk (Some o) (outside host b c) → GathersProgram schedule disk (Some o) (outside host a c)
+    disk_refused o then = record {
+      usage = unread_on_disk_no_usage o then.unread;
+      files = then.files ∙ h.files;
+      input = left_unread_on_disk o (host.input a) (host.input c) then.unread (then.input ∙ h.input);
+      console = then.console ∙ h.console;
+      notes = then.notes ∙ h.notes;
+      asked = inr (host.asked b, h.asked, then.asked);
+      cause = cause_after o (host.faults a) (host.faults b) (host.faults c) h.cause then.cause;
+    }
+
+    module _ {d : H} (then : ReadsDisk disk None (outside host b c)) where
+      disk_asked : host.asked d ≡ host.asked c → AsksScheduleAndDisk schedule disk (around host.asked a d)
+      disk_asked same =
+          inr (host.asked b, h.asked, subst (λ (log : Option (List Asked)). IsReadInPieces disk (from_to (host.asked b) log)) (sym same) then.asked)
+
+      pub program_and_input : Gathers [] None (outside host c d) → GathersProgram schedule disk None (outside host a d)
+      program_and_input last = record {
+        usage = tt;
+        files = last.files ∙ then.files ∙ h.files;
+        input = last.input ∙ ap (option_map (λ bytes. [])) (then.input ∙ h.input);
+        console = last.console ∙ then.console ∙ h.console;
+        notes = last.notes ∙ then.notes ∙ h.notes;
+        asked = disk_asked last.asked;
+        cause = last.cause ∙ then.cause ∙ h.cause;
+      }
+
+      pub program_input_refused : (o : Outcome) → Gathers [] (Some o) (outside host c d) → GathersProgram schedule disk (Some o) (outside host a d)
+      program_input_refused o last = record {
+        usage = last.usage;
+        files = last.files ∙ then.files ∙ h.files;
+        input = subst (λ (input : Option (List ℕ)). LeavesInputBy (kind_of o) (from_to input (host.input d))) (then.input ∙ h.input) last.input;
+        console = last.console ∙ then.console ∙ h.console;
+        notes = last.notes ∙ then.notes ∙ h.notes;
+        asked = disk_asked last.asked;
+        cause = cause_after o (host.faults a) (host.faults c) (host.faults d) (then.cause ∙ h.cause) last.cause;
+      }
+
 -- ---- `exo` and `run`
 
-module _ (o : Outcome) (seen : Outside) (found : Found) (input : List ℕ) (i : IsInput seen.input.before input) where
-  pub exo_unread : (e : Exo) → IsFound seen.files.before (sources_of_exo e) found → RefusesBy (gathered (limit_of_words e) found input) (kind_of o) →
+module _ (o : Outcome) (seen : Outside) (input : List ℕ) (i : IsInput seen.input.before input) where
+  pub exo_unread : (found : Found) (e : Exo) → IsFound seen.files.before (sources_of_exo e) found → RefusesBy (gathered (limit_of_words e) found input) (kind_of o) →
       Gathers (source_calls (sources_of_exo e)) (Some o) seen → DoesCommand (Some (exo e)) o seen
-  exo_unread e f refusal h = record {
+  exo_unread found e f refusal h = record {
     answer = (found, input, f, i, exo_refused e found input (kind_of o) seen.console refusal h.console);
     usage = h.usage;
     files = h.files;
@@ -182,9 +252,9 @@ module _ (o : Outcome) (seen : Outside) (found : Found) (input : List ℕ) (i : 
     cause = h.cause;
   }
 
-  pub run_unread : (r : Run) → IsFound seen.files.before (sources_of_run r) found → RefusesBy (gathered (limit_of_run r) found input) (kind_of o) →
-      Gathers (source_calls (sources_of_run r)) (Some o) seen → DoesCommand (Some (run r)) o seen
-  run_unread r f refusal h = record {
+  pub run_unread : (found : RunFound) (r : Run) → IsRunFound seen.files.before r found → RefusesBy (gathered_program r found input) (kind_of o) →
+      GathersProgram r.schedule r.disk.text (Some o) seen → DoesCommand (Some (run r)) o seen
+  run_unread found r f refusal h = record {
     answer = (found, input, f, i, run_refused r found input (kind_of o) seen.console seen.faults refusal h.cause h.console);
     usage = h.usage;
     files = h.files;
@@ -196,8 +266,8 @@ module _ (o : Outcome) (seen : Outside) (found : Found) (input : List ℕ) (i : 
   }
 
 -- what was read is run
-module _ {H : Type 0} (host : Ghosts H) (a b c : H) (found : Found) (input : List ℕ) (i : IsInput (host.input a) input) (read : Gathered)
-    (ran : Result RunEnd BootFault) (rest : Unchanged host.files host.input host.asked host.notes b c) where
+module _ {H : Type 0} (host : Ghosts H) (a b c : H) (input : List ℕ) (i : IsInput (host.input a) input) (ran : Result RunEnd BootFault)
+    (rest : Unchanged host.files host.input host.asked host.notes b c) where
   left : (new : Option (List ℕ)) → new ≡ option_map (λ bytes. []) (host.input a) → host.input c ≡ new →
       LeavesInputBy (kind_of (outcome_of_run ran)) (from_to (host.input a) (host.input c))
   left new taken same = left_ran ran (host.input a) (host.input c) (same ∙ taken)
@@ -206,11 +276,11 @@ module _ {H : Type 0} (host : Ghosts H) (a b c : H) (found : Found) (input : Lis
   asked_by calls h =
       subst (λ (log : Option (List Asked)). AsksFor calls (from_to (host.asked a) log)) (sym rest.third) (asks_all calls (host.asked a) (host.asked b) h)
 
-  pub exo_ran : (e : Exo) → IsFound (host.files a) (sources_of_exo e) found → gathered (limit_of_words e) found input ≡ Ok read →
+  pub exo_ran : (found : Found) (read : Gathered) (e : Exo) → IsFound (host.files a) (sources_of_exo e) found → gathered (limit_of_words e) found input ≡ Ok read →
       Gathers (source_calls (sources_of_exo e)) None (outside host a b) →
       Answers (expected_of_images (numbers_of_exo e) read) (outcome_of_run ran) (around host.console b c) →
       HasOutcomeCause (around host.faults b c) (outcome_of_run ran) → DoesCommand (Some (exo e)) (outcome_of_run ran) (outside host a c)
-  exo_ran e f judged h told cause = record {
+  exo_ran found read e f judged h told cause = record {
     answer = (
       found,
       input,
@@ -228,11 +298,10 @@ module _ {H : Type 0} (host : Ghosts H) (a b c : H) (found : Found) (input : Lis
     cause = cause_after (outcome_of_run ran) (host.faults a) (host.faults b) (host.faults c) h.cause cause;
   }
 
-  pub run_ran : (r : Run) → IsFound (host.files a) (sources_of_run r) found → gathered (limit_of_run r) found input ≡ Ok read →
-      Gathers (source_calls (sources_of_run r)) None (outside host a b) →
-      RunsAs (job_of r read) (kind_of (outcome_of_run ran)) (around host.console b c) →
+  pub run_ran : (found : RunFound) (read : GatheredProgram) (r : Run) → IsRunFound (host.files a) r found → gathered_program r found input ≡ Ok read →
+      GathersProgram r.schedule r.disk.text None (outside host a b) → RunsAs (job_of r read) (kind_of (outcome_of_run ran)) (around host.console b c) →
       HasRunCauseOf (around host.faults b c) (kind_of (outcome_of_run ran)) → DoesCommand (Some (run r)) (outcome_of_run ran) (outside host a c)
-  run_ran r f judged h told cause = record {
+  run_ran found read r f judged h told cause = record {
     answer = (
       found,
       input,
@@ -246,7 +315,7 @@ module _ {H : Type 0} (host : Ghosts H) (a b c : H) (found : Found) (input : Lis
     disk = tt;
     input = left (host.input b) h.input rest.second;
     notes = rest.fourth ∙ h.notes;
-    asked = asked_by (source_calls (sources_of_run r)) h.asked;
+    asked = subst (λ (log : Option (List Asked)). AsksScheduleAndDisk r.schedule r.disk.text (from_to (host.asked a) log)) (sym rest.third) h.asked;
     cause = subst (λ (n : ℕ). HasRunCauseOf (from_to n (host.faults c)) (kind_of (outcome_of_run ran))) h.cause cause;
   }
 

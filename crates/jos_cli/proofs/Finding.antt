@@ -3,8 +3,9 @@ use Rattle.std.proofs.Common.{◌≡◌, ℕ, List, [], ◌∷◌, Option, Some,
 use Rattle.std.specs.Option.{option_map}
 use Rattle.jos_host.specs.Files.{Files}
 use Rattle.jos_words.specs.Arguments.{Word}
-use Rattle.jos_cli.specs.Found.{FileAt, file_at, IsFileAt, AreFound, Sources, Found, IsFound, IsInput}
-use Rattle.jos_cli.specs.Stages.{IsScheduleAt, AreFilesAt}
+use Rattle.jos_words.specs.Commands.{Run}
+use Rattle.jos_cli.specs.Found.{FileAt, file_at, IsFileAt, IsScheduleAt, AreFound, Sources, Found, IsFound, RunFound, run_found_in, IsRunFound, IsInput}
+use Rattle.jos_cli.specs.Stages.{AreFilesAt}
 
 pub some_file : (told : Option Files) (word : Word) → (file : FileAt) × IsFileAt told word file
 some_file (Some files) word = (file_at files word, refl)
@@ -36,7 +37,7 @@ are_found None (word ∷ words) (file ∷ found) h = λ i. h.0 i ∷ are_found N
 pub some_are_found : (told : Option Files) (words : List Word) → (found : List FileAt) × AreFound told words found
 some_are_found told words = let found = some_files told words in (found.0, are_found told words found.0 found.1)
 
--- ---- the files of a run
+-- ---- the files of `exo`
 
 schedule_is : (files : Files) (word : Option Word) (found : Option FileAt) → IsScheduleAt (Some files) word found → found ≡ option_map (file_at files) word
 schedule_is files None None h = refl
@@ -61,3 +62,13 @@ pub some_found : (told : Option Files) (sources : Sources) → (found : Found) �
 some_found told sources =
     let s = some_schedule told sources.schedule in let i = some_files told sources.images in
     (record { schedule = s.0; images = i.0 }, all_found told sources s.0 i.0 s.1 i.1)
+
+-- ---- the files of `run`
+
+pub run_found_is : (files : Files) (r : Run) (found : RunFound) → IsRunFound (Some files) r found → found ≡ run_found_in files r
+run_found_is files r found h = λ k. record { schedule = schedule_is files r.schedule found.schedule h.schedule k; disk = h.disk k }
+
+pub some_run_found : (told : Option Files) (r : Run) → (found : RunFound) × IsRunFound told r found
+some_run_found told r =
+    let s = some_schedule told r.schedule in let d = some_file told r.disk in
+    (record { schedule = s.0; disk = d.0 }, record { schedule = s.1; disk = d.1 })

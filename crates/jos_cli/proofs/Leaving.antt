@@ -8,6 +8,7 @@ use Rattle.jos_words.specs.Commands.{Command, exo, run, demo, mkfs, ls, cat}
 use Rattle.jos_kernel.specs.declared.kernel.BootFault.{BootFault}
 use Rattle.jos_kernel.specs.declared.kernel.BootFault.TheVariants as boot_fault
 use Rattle.jos_kernel.specs.declared.report.Stopped.{Stopped}
+use Rattle.fs_image.specs.Answers.{fault_of}
 use Rattle.jos_run.specs.declared.programs.RunEnd.{RunEnd}
 use Rattle.jos_run.specs.declared.programs.RunEnd.TheVariants as end
 use Rattle.jos_cli.specs.declared.outcome.Which.{Which}
@@ -18,7 +19,7 @@ use Rattle.jos_cli.specs.Answer.{Answer, usage, absent, limit, bad_schedule, bad
 use Rattle.jos_cli.specs.Kinds.{Kind, answered, cut_off, no_memory, kind_of}
 use Rattle.jos_cli.specs.Outcomes.{left_by, LeavesInputBy, LeavesInput, IsMemoryCase}
 use Rattle.jos_cli.specs.InputTaken.{HasLost}
-use Rattle.jos_cli.specs.Stages.{outcome_of_run, IsOfWords, IsUnread}
+use Rattle.jos_cli.specs.Stages.{outcome_of_run, IsOfWords, IsUnread, IsUnreadOnDisk}
 
 -- all was taken
 pub some_left : (old new : Option (List ℕ)) → new ≡ option_map (λ bytes. []) old → HasLost old new
@@ -72,6 +73,24 @@ left_unread (outcome.Made bytes) old new h e = absurd h
 left_unread (outcome.BadDisk fault) old new h e = absurd h
 left_unread (outcome.NotThere errno) old new h e = absurd h
 left_unread (outcome.BadMake fault) old new h e = absurd h
+
+-- where a disk was not read
+pub left_unread_on_disk : (o : Outcome) (old new : Option (List ℕ)) → IsUnreadOnDisk o → new ≡ old → LeavesInputBy (kind_of o) (from_to old new)
+left_unread_on_disk (outcome.Absent word) old new h e = kept (absent word) old new e (λ input. refl)
+left_unread_on_disk (outcome.BadDisk fault) old new h e = kept (bad_disk (fault_of fault)) old new e (λ input. refl)
+left_unread_on_disk (outcome.NotThere errno) old new h e = kept (not_there errno) old new e (λ input. refl)
+left_unread_on_disk (outcome.BadImage word fault) old new h e = kept (bad_image word fault) old new e (λ input. refl)
+left_unread_on_disk (outcome.HostFault stopped) old new h e = none_left old new e
+left_unread_on_disk outcome.NoMemory old new h e = none_left old new e
+left_unread_on_disk (outcome.Ran report trace) old new h e = absurd h
+left_unread_on_disk outcome.Usage old new h e = absurd h
+left_unread_on_disk (outcome.Limit which) old new h e = absurd h
+left_unread_on_disk (outcome.BadSchedule fault) old new h e = absurd h
+left_unread_on_disk (outcome.Made bytes) old new h e = absurd h
+left_unread_on_disk (outcome.BadMake fault) old new h e = absurd h
+
+pub unread_on_disk_no_usage : (o : Outcome) → IsUnreadOnDisk o → o ≢ outcome.Usage
+unread_on_disk_no_usage o h e = subst IsUnreadOnDisk e h
 
 pub unread_no_usage : (o : Outcome) → IsUnread o → o ≢ outcome.Usage
 unread_no_usage o h e = subst IsUnread e h

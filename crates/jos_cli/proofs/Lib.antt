@@ -6,6 +6,7 @@ pub mod Judging
 pub mod Reading
 pub mod AllRead
 pub mod Gathering
+pub mod ProgramsRead
 pub mod RunAnswered
 pub mod WordsRead
 pub mod ImagesRead

@@ -1,21 +1,19 @@
 -- What `run` answers, stage by stage.
 use Rattle.std.proofs.Common.{◌≡◌, ℕ, nat_lt, Bool, true, false, cond, List, [], ◌∷◌, ◌++◌, length, Option, Some, None, Result, Ok, Err, refl, sym, ap, subst, ◌∙◌, arith}
-use Rattle.std.proofs.Common.{get_or, Vec, Global}
 use mathlib.Core.Logic.{inl, inr}
-use Rattle.std.specs.Prelude.{All, unwrap_or, ◌⊎◌, ◌+◌}
+use Rattle.std.specs.Prelude.{unwrap_or, ◌⊎◌, ◌+◌}
 use Rattle.std.specs.Option.{option_map}
 use Rattle.std.proofs.lemmas.List.{length-append}
 use Rattle.jos_host.specs.Frames.{Around}
 use Rattle.jos_elf.specs.declared.fault.ElfFault.{ElfFault}
 use Rattle.jos_elf.specs.Parsed.{Layout, parsed}
+use Rattle.jos_words.specs.Arguments.{Word}
 use Rattle.jos_words.specs.Commands.{Run}
 use Rattle.jos_kernel.specs.declared.kernel.BootFault.{BootFault}
 use Rattle.jos_kernel.specs.declared.kernel.BootFault.TheVariants as boot_fault
 use Rattle.jos_kernel.specs.declared.report.Refusal.{Refusal}
 use Rattle.jos_kernel.specs.declared.report.Turn.{Turn}
 use Rattle.jos_kernel.specs.Books.{turn_of}
-use Rattle.jos_kernel.specs.Boot.{loadables}
-use Rattle.jos_kernel.specs.Loading.{IsRead}
 use Rattle.jos_kernel.specs.Reports.{Reported, CutOff}
 use Rattle.jos_kernel.proofs.ToldBytes.{gains_none}
 use Rattle.lib_os.specs.AbstractState.{AbstractState}
@@ -26,22 +24,27 @@ use Rattle.jos_run.specs.declared.programs.RunEnd.TheVariants as end
 use Rattle.jos_run.specs.RunEnds.{Job, HasRun, IsCut, AnswersFor, HasRunCause}
 use Rattle.jos_kernel.specs.declared.trace.TrapLine.{TrapLine}
 use Rattle.jos_cli.specs.declared.limits.Settings.{Settings}
-use Rattle.jos_cli.specs.Commands.{texts_of}
+use Rattle.jos_cli.specs.Commands.{path_word, texts_of}
 use Rattle.jos_cli.specs.declared.outcome.Which.TheVariants as which
 use Rattle.jos_cli.specs.Limits.{numbers_of_run, limit_of_run}
-use Rattle.jos_cli.specs.Found.{FileAt, Found}
+use Rattle.jos_cli.specs.Found.{FileAt, RunFound}
 use Rattle.jos_cli.specs.Answer.{Judged, Answer, usage, absent, limit, bad_schedule, bad_image, ran, made, bad_disk, not_there, bad_make}
-use Rattle.jos_cli.specs.Answer.{all_judged, within, bytes_within, numbers_of, text_of, schedule_of, loadable_of, loadable_in, images_of, input_within, Gathered, gathered}
-use Rattle.jos_base.specs.declared.numbers.TheConstants.{SCHEDULE_TEXT_MAX, IMAGE_MAX, INPUT_MAX}
+use Rattle.jos_cli.specs.Answer.{within, bytes_within, numbers_of, text_of, schedule_of, loadable_of, input_within}
+use Rattle.jos_cli.specs.Disks.{held_at, checked_by, checked, disk_of, tree_of, if_there}
+use Rattle.fs_layout.specs.DiskImage.{ImageFault}
+use Rattle.fs_image.specs.DiskHeld.{HeldDisk, fault_in}
+use Rattle.fs_contents.specs.Contents.{read_at}
+use Rattle.jos_base.specs.declared.errno.Errno.{Errno}
+use Rattle.jos_base.specs.declared.numbers.TheConstants.{SCHEDULE_TEXT_MAX, INPUT_MAX}
 use Rattle.jos_base.specs.Words.{◌>>=◌}
 use Rattle.jos_sched.specs.declared.fault.ScheduleFault.{ScheduleFault}
 use Rattle.jos_sched.specs.Schedule as schedule
 use Rattle.jos_cli.specs.declared.outcome.Which.{Which}
 use Rattle.jos_cli.specs.Kinds.{Kind, answered, cut_off, no_memory, kind_of}
-use Rattle.jos_cli.specs.RunAnswers.{job_of, IsCutBehind, IsCutBy, IsRefusal, AnswersAs, RunsAs, Then, AnswersRun}
+use Rattle.jos_cli.specs.RunAnswers.{image_on, program_on, GatheredProgram, gathered_program, job_of, IsCutBehind, IsCutBy, IsRefusal, AnswersAs, RunsAs, Then, AnswersRun}
 use Rattle.jos_cli.specs.Outcomes.{HasCauseOf, HasRunCauseOf}
 use Rattle.jos_cli.specs.Stages.{RefusesBy, settings_of, outcome_of_run, nothing_done, cut_of}
-use Rattle.jos_cli.proofs.Gathering.{read_all, from_input, from_images, from_schedule}
+use Rattle.jos_cli.proofs.ProgramsRead.{read_all, from_input, from_program, from_schedule}
 
 -- ---- a run that took no turn has written nothing
 
@@ -168,29 +171,46 @@ unfolding TellsNoTurn
 layout_tells_none place bytes (Ok layout) = tt
 layout_tells_none place bytes (Err fault) = refl
 
-image_tells_none : (file : FileAt) → TellsNoTurn (loadable_in file)
-unfolding loadable_in
-image_tells_none file =
-    both_tell_none (bytes_within IMAGE_MAX which.Image file.word.place file.bytes) (λ bytes. loadable_of file.word.place bytes (parsed bytes))
-    (bytes_tell_none IMAGE_MAX which.Image file.word.place file.bytes) (λ bytes. layout_tells_none file.word.place bytes (parsed bytes))
+there_tells_none : {X : Type 0} (found : Result X Errno) → TellsNoTurn (if_there found)
+unfolding TellsNoTurn
+there_tells_none (Ok x) = tt
+there_tells_none (Err errno) = refl
 
-images_tell_none : (files : List FileAt) → TellsNoTurn (images_of files)
-unfolding TellsNoTurn all_judged
-images_tell_none [] = tt
-images_tell_none (file ∷ files) =
-    both_tell_none (loadable_in file) (λ first. images_of files >>= (λ others. Ok (first ∷ others))) (image_tells_none file)
-    (λ first. both_tell_none (images_of files) (λ others. Ok (first ∷ others)) (images_tell_none files) (λ others. tt))
+image_tells_none : (path : Word) (held : HeldDisk) → TellsNoTurn (image_on path held)
+unfolding image_on
+image_tells_none path held =
+    both_tell_none (if_there (read_at (tree_of held) path.text)) (λ bytes. loadable_of path.place bytes (parsed bytes))
+    (there_tells_none (read_at (tree_of held) path.text)) (λ bytes. layout_tells_none path.place bytes (parsed bytes))
+
+held_tells_none : (place : ℕ) (stands : Option (List ℕ)) → TellsNoTurn (held_at place stands)
+unfolding TellsNoTurn
+held_tells_none place None = refl
+held_tells_none place (Some bytes) = tt
+
+checked_tells_none : (fault : Option ImageFault) (held : HeldDisk) → TellsNoTurn (checked_by fault held)
+unfolding TellsNoTurn
+checked_tells_none None held = tt
+checked_tells_none (Some fault) held = refl
+
+disk_tells_none : (file : FileAt) → TellsNoTurn (disk_of file)
+unfolding disk_of
+disk_tells_none file =
+    both_tell_none (held_at file.word.place file.bytes) checked (held_tells_none file.word.place file.bytes) (λ held. checked_tells_none (fault_in held) held)
+
+program_tells_none : (path : Word) (disk : FileAt) → TellsNoTurn (program_on path disk)
+unfolding program_on
+program_tells_none path disk = both_tell_none (disk_of disk) (image_on path) (disk_tells_none disk) (image_tells_none path)
 
 input_tells_none : (input : List ℕ) → TellsNoTurn (input_within input)
 input_tells_none input = limit_tells_none (nat_lt INPUT_MAX (length input)) which.Input input
 
-all_tell_none : (passed : Option Which) (found : Found) (input : List ℕ) → TellsNoTurn (gathered passed found input)
-unfolding TellsNoTurn gathered
-all_tell_none passed found input =
-    both_tell_none (within passed) (λ _. from_schedule found input) (within_tells_none passed) (λ _.
-    both_tell_none (schedule_of found.schedule) (from_images found input) (schedule_tells_none found.schedule) (λ schedule.
-    both_tell_none (images_of found.images) (from_input found input schedule) (images_tell_none found.images) (λ images.
-    both_tell_none (input_within input) (read_all found input schedule images) (input_tells_none input) (λ bytes. tt))))
+all_tell_none : (r : Run) (found : RunFound) (input : List ℕ) → TellsNoTurn (gathered_program r found input)
+unfolding TellsNoTurn gathered_program
+all_tell_none r found input =
+    both_tell_none (within (limit_of_run r)) (λ _. from_schedule r found input) (within_tells_none (limit_of_run r)) (λ _.
+    both_tell_none (schedule_of found.schedule) (from_program r found input) (schedule_tells_none found.schedule) (λ schedule.
+    both_tell_none (program_on (path_word r.words) found.disk) (from_input r found input schedule) (program_tells_none (path_word r.words) found.disk) (λ program.
+    both_tell_none (input_within input) (read_all r found input schedule program) (input_tells_none input) (λ bytes. tt))))
 
 -- ---- what holds of each answer
 
@@ -234,32 +254,31 @@ then_stage (Ok x) next none stage = let s = stage x in record { cut = s.cut; mem
 then_stage (Err refusal) next none stage =
     let s = refusal_stage refusal none in record { cut = s.cut; memory = s.memory; unwritten = s.unwritten; behind = s.behind }
 
-pub words_stage : (r : Run) (found : Found) (input : List ℕ) → IsStage (AnswersRun r found input)
+pub words_stage : (r : Run) (found : RunFound) (input : List ℕ) → IsStage (AnswersRun r found input)
 words_stage r found input =
-    then_stage (gathered (limit_of_run r) found input) (λ read. RunsAs (job_of r read)) (all_tell_none (limit_of_run r) found input)
-    (λ read. run_stage (job_of r read))
+    then_stage (gathered_program r found input) (λ read. RunsAs (job_of r read)) (all_tell_none r found input) (λ read. run_stage (job_of r read))
 
 -- ---- the program of `run`
 
-module _ (r : Run) (found : Found) (input : List ℕ) (kind : Kind) (console : Around (Option (List ℕ))) where
+module _ (r : Run) (found : RunFound) (input : List ℕ) (kind : Kind) (console : Around (Option (List ℕ))) where
   -- it is refused, and nothing was written
-  pub run_refused : (faults : Around ℕ) → RefusesBy (gathered (limit_of_run r) found input) kind → HasCauseOf faults kind → console.after ≡ console.before →
+  pub run_refused : (faults : Around ℕ) → RefusesBy (gathered_program r found input) kind → HasCauseOf faults kind → console.after ≡ console.before →
       AnswersRun r found input kind console
   run_refused faults h cause same = by_kind kind h cause
     where
-      by_kind : (k : Kind) → RefusesBy (gathered (limit_of_run r) found input) k → HasCauseOf faults k → AnswersRun r found input k console
+      by_kind : (k : Kind) → RefusesBy (gathered_program r found input) k → HasCauseOf faults k → AnswersRun r found input k console
       by_kind (answered answer) h cause =
-          subst (λ (j : Judged Gathered). Then j (λ read. RunsAs (job_of r read)) (answered answer) console) (sym h) (refl, same)
+          subst (λ (j : Judged GatheredProgram). Then j (λ read. RunsAs (job_of r read)) (answered answer) console) (sym h) (refl, same)
       by_kind (cut_off c) h cause = (words_stage r found input).cut c console cause.1 cause.2 same
       by_kind no_memory h cause = (words_stage r found input).memory console same
 
   -- it is run
-  pub run_goes_on : (read : Gathered) → gathered (limit_of_run r) found input ≡ Ok read → RunsAs (job_of r read) kind console → AnswersRun r found input kind console
-  run_goes_on read h answer = subst (λ (j : Judged Gathered). Then j (λ read. RunsAs (job_of r read)) kind console) (sym h) answer
+  pub run_goes_on : (read : GatheredProgram) → gathered_program r found input ≡ Ok read → RunsAs (job_of r read) kind console → AnswersRun r found input kind console
+  run_goes_on read h answer = subst (λ (j : Judged GatheredProgram). Then j (λ read. RunsAs (job_of r read)) kind console) (sym h) answer
 
   -- the same backwards
-  pub program_runs : (read : Gathered) → gathered (limit_of_run r) found input ≡ Ok read → AnswersRun r found input kind console → RunsAs (job_of r read) kind console
-  program_runs read h answer = subst (λ (j : Judged Gathered). Then j (λ read. RunsAs (job_of r read)) kind console) h answer
+  pub program_runs : (read : GatheredProgram) → gathered_program r found input ≡ Ok read → AnswersRun r found input kind console → RunsAs (job_of r read) kind console
+  program_runs read h answer = subst (λ (j : Judged GatheredProgram). Then j (λ read. RunsAs (job_of r read)) kind console) h answer
 
 -- what `jos_run` answers
 pub runs_as : (p : Job) (run : Result RunEnd BootFault) (console : Around (Option (List ℕ))) → AnswersFor p run console → RunsAs p (kind_of (outcome_of_run run)) console
@@ -274,39 +293,27 @@ ran_cause (Ok (end.HostFault stopped)) faults h = h
 ran_cause (Err boot_fault.Pool) faults h = h
 ran_cause (Err boot_fault.NoMemory) faults h = h
 
--- its program is the one image that was read
-module _ (r : Run) (schedule input : List ℕ) (words : List (List ℕ)) (settings : Settings) (are : words ≡ texts_of r) (is : settings ≡ settings_of (numbers_of_run r)) where
-  -- the program as the run is given it
-  abbrev given : Layout → List ℕ → Job
-  given image file = record {
-    image = image;
-    file = file;
-    words = words;
-    frames = settings.frames;
-    schedule = schedule;
-    input = input;
-    steps = settings.steps;
-    trace = settings.trace;
-  }
-
-  abbrev whole : List Layout → List (Vec ℕ Global) → Job
-  whole images files = job_of r (record { schedule = schedule; images = loadables images files; input = input })
-
-  pub given_is : (images : List Layout) (files : List (Vec ℕ Global)) (image : Layout) (file : Vec ℕ Global) (bytes : List ℕ) → length images ≡ 1 →
-      length images ≡ length files → image ≡ get_or images 0 image → file ≡ get_or files 0 file → bytes ≡ file.items → given image bytes ≡ whole images files
-  given_is [] files image file bytes one pairs first first_file are_bytes = absurd (omega (arith, one))
-  given_is (i ∷ images) [] image file bytes one pairs first first_file are_bytes = absurd (omega (arith, pairs))
-  given_is (i ∷ images) (f ∷ files) image file bytes one pairs first first_file are_bytes =
-      let its_bytes : bytes ≡ f.items = are_bytes ∙ ap (λ (v : Vec ℕ Global). v.items) first_file in
-      λ k. record { image = first k; file = its_bytes k; words = are k; frames = (is k).frames; schedule = schedule; input = input; steps = (is k).steps; trace = (is k).trace }
-
--- and its bytes are read as it
-pub first_is_read : (images : List Layout) (files : List (Vec ℕ Global)) (image : Layout) (file : Vec ℕ Global) (bytes : List ℕ) → length images ≡ 1 →
-    length images ≡ length files → All IsRead (loadables images files) → image ≡ get_or images 0 image → file ≡ get_or files 0 file → bytes ≡ file.items →
-    parsed bytes ≡ Ok image
-first_is_read [] files image file bytes one pairs read first first_file are_bytes = absurd (omega (arith, one))
-first_is_read (i ∷ images) [] image file bytes one pairs read first first_file are_bytes = absurd (omega (arith, pairs))
-first_is_read (i ∷ images) (f ∷ files) image file bytes one pairs read first first_file are_bytes =
-    let its_bytes : bytes ≡ f.items = are_bytes ∙ ap (λ (v : Vec ℕ Global). v.items) first_file in
-    let is : parsed f.items ≡ Ok i = read 0 (record { image = i; file = f.items }) (omega arith) in
-    ap parsed its_bytes ∙ is ∙ ap (λ (l : Layout). Ok l) (sym first)
+-- its program is the one that was read
+pub given_is : (r : Run) (schedule input : List ℕ) (words : List (List ℕ)) (settings : Settings) (image : Layout) (file bytes : List ℕ) → words ≡ texts_of r →
+    settings ≡ settings_of (numbers_of_run r) → bytes ≡ file →
+    record {
+      image = image;
+      file = bytes;
+      words = words;
+      frames = settings.frames;
+      schedule = schedule;
+      input = input;
+      steps = settings.steps;
+      trace = settings.trace;
+    }
+    ≡ job_of r (record { schedule = schedule; program = record { image = image; file = file }; input = input })
+given_is r schedule input words settings image file bytes are is same = λ k. record {
+  image = image;
+  file = same k;
+  words = are k;
+  frames = (is k).frames;
+  schedule = schedule;
+  input = input;
+  steps = (is k).steps;
+  trace = (is k).trace;
+}

@@ -10,7 +10,7 @@ use Rattle.jos_host.specs.Frames.{Around, from_to}
 use Rattle.jos_host.specs.Gains.{Gains, GainsPart}
 use Rattle.jos_words.specs.Commands.{Command, exo, run, demo, mkfs, ls, cat}
 use Rattle.jos_cli.specs.Commands.{command_of}
-use Rattle.jos_cli.specs.Found.{sources_of_exo, sources_of_run}
+use Rattle.jos_cli.specs.Found.{sources_of_exo}
 use Rattle.jos_cli.specs.Answer.{Expected, refused, usage, expected_of_exo, expected_of_demo}
 use Rattle.jos_cli.specs.Making.{expected_of_mkfs}
 use Rattle.jos_cli.specs.Disks.{expected_of_ls, expected_of_cat}
@@ -22,7 +22,7 @@ use Rattle.jos_cli.specs.Notes.{note_of, IsNoted}
 use Rattle.jos_cli.specs.FaultNotes.{IfHostFault, IfNoFault, FaultIsNoted}
 use Rattle.jos_cli.proofs.Judging.{part_of}
 use Rattle.jos_cli.proofs.RunAnswered.{words_stage}
-use Rattle.jos_cli.proofs.Finding.{some_found, some_input, some_file, some_are_found}
+use Rattle.jos_cli.proofs.Finding.{some_found, some_run_found, some_input, some_file, some_are_found}
 
 part : (e : Expected) (kind : Kind) (console : Around (Option (List ℕ))) (later : Option (List ℕ)) → AnswersBy e kind console → later ≡ console.after →
     GainsPart (from_to console.before later) e.console
@@ -179,7 +179,7 @@ at_no_memory files input (Some (demo d)) console same = same
 at_no_memory files input (Some (exo e)) console same =
     let found = some_found files (sources_of_exo e) in let given = some_input input in (found.0, given.0, found.1, given.1, same)
 at_no_memory files input (Some (run r)) console same =
-    let found = some_found files (sources_of_run r) in let given = some_input input in
+    let found = some_run_found files r in let given = some_input input in
     (found.0, given.0, found.1, given.1, (words_stage r found.0 given.0).memory console same)
 at_no_memory files input (Some (mkfs m)) console same = let found = some_are_found files m.files in (found.0, found.1, same)
 at_no_memory files input (Some (ls l)) console same = let file = some_file files l.disk in (file.0, file.1, same)

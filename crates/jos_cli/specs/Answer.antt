@@ -103,7 +103,7 @@ images_of files = all_judged (map loadable_in files)
 abbrev pub input_within : List ℕ → Judged (List ℕ)
 input_within input = if nat_lt INPUT_MAX (length input) then Err (limit Input) else Ok input
 
--- what is read for a run
+-- what is read for `exo`
 pub record Gathered : Type 0 where
   -- its numbers
   pub schedule : List ℕ

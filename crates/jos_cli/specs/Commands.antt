@@ -22,10 +22,10 @@ command_of texts = known (words.command_of texts)
 abbrev pub program_file : List ℕ → List ℕ
 program_file program = unwrap_or (file_of program) []
 
--- the first word of a program names its image
-abbrev pub image_word : List Word → Word
-image_word [] = record { place = 0; text = [] }
-image_word (word ∷ rest) = word
+-- the first word of a program is its path on the disk
+abbrev pub path_word : List Word → Word
+path_word [] = record { place = 0; text = [] }
+path_word (word ∷ rest) = word
 
 -- the words of a program, as it is given them
 abbrev pub texts_of : Run → List (List ℕ)

@@ -2,6 +2,7 @@
 use Rattle.std.specs.Prelude.{◌≡◌, ◌≢◌, ℕ, List, [], Option, IfSome, MatchOption, option_map, Result, MatchResult}
 use Rattle.jos_host.specs.Asked.{Asked}
 use Rattle.jos_host.specs.Told.{HasCause}
+use Rattle.jos_words.specs.Arguments.{Word}
 use Rattle.jos_words.specs.Commands.{Command}
 use Rattle.fs_image.specs.DiskHeld.{IsReadInPieces}
 use Rattle.jos_cli.specs.declared.outcome.Outcome.{Outcome}
@@ -9,10 +10,10 @@ use Rattle.jos_cli.specs.declared.outcome.Outcome.TheVariants.{Usage}
 use Rattle.jos_cli.specs.Answer.{Expected}
 use Rattle.jos_cli.specs.Kinds.{kind_of, Answers}
 use Rattle.jos_cli.specs.Outcomes.{AnswersCommand, IsUsageCase, HasOutcomeCause, HasCommandCause, LeavesInput, LeavesInputBy}
-use Rattle.jos_cli.specs.FilesAsked.{AsksFor, AsksAll, AsksFiles, write_calls, AsksSomeNotes, AsksNote}
+use Rattle.jos_cli.specs.FilesAsked.{AsksFor, AsksAll, AsksScheduleAndDisk, AsksFiles, write_calls, AsksSomeNotes, AsksNote}
 use Rattle.jos_cli.specs.FilesLeft.{told_with, LeavesBy, LeavesFiles, LeavesGoodDisk}
 use Rattle.jos_cli.specs.Outside.{Outside, IsKept}
-use Rattle.jos_cli.specs.Stages.{IsUnread}
+use Rattle.jos_cli.specs.Stages.{IsUnread, IsUnreadOnDisk}
 
 -- What a command does, but for its note.
 pub record DoesCommand (command : Option Command) (outcome : Outcome) (seen : Outside) : Type 0 where
@@ -47,14 +48,24 @@ pub record Gathers (calls : List Asked) (refusal : Option Outcome) (seen : Outsi
   pub asked : MatchOption refusal (AsksAll calls seen.asked) (λ _. AsksFor calls seen.asked)
   pub cause : MatchOption refusal (IsKept seen.faults) (HasOutcomeCause seen.faults)
 
--- The file is read in pieces, up to what is refused, and nothing else is done.
+-- A disk is read in pieces, up to what is refused, and nothing else is done.
 pub record ReadsDisk (name : List ℕ) (refusal : Option Outcome) (seen : Outside) : Type 0 where
-  pub usage : IfSome refusal (λ outcome. outcome ≢ Usage)
+  pub unread : IfSome refusal IsUnreadOnDisk
   pub files : IsKept seen.files
   pub input : IsKept seen.input
   pub console : IsKept seen.console
   pub notes : IsKept seen.notes
   pub asked : IsReadInPieces name seen.asked
+  pub cause : MatchOption refusal (IsKept seen.faults) (HasOutcomeCause seen.faults)
+
+-- A schedule is read, then a disk in pieces and then all input, up to what is refused, and nothing else is done.
+pub record GathersProgram (schedule : Option Word) (disk : List ℕ) (refusal : Option Outcome) (seen : Outside) : Type 0 where
+  pub usage : IfSome refusal (λ outcome. outcome ≢ Usage)
+  pub files : IsKept seen.files
+  pub input : MatchOption refusal (seen.input.after ≡ option_map (λ _. []) seen.input.before) (λ outcome. LeavesInputBy (kind_of outcome) seen.input)
+  pub console : IsKept seen.console
+  pub notes : IsKept seen.notes
+  pub asked : AsksScheduleAndDisk schedule disk seen.asked
   pub cause : MatchOption refusal (IsKept seen.faults) (HasOutcomeCause seen.faults)
 
 -- ---- what is written

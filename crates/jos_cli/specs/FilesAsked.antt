@@ -6,7 +6,7 @@ use Rattle.jos_host.specs.Frames.{Around, from_to}
 use Rattle.fs_image.specs.DiskHeld.{IsReadInPieces}
 use Rattle.jos_words.specs.Arguments.{Word}
 use Rattle.jos_words.specs.Commands.{Command, Mkfs, exo, run, demo, mkfs, ls, cat}
-use Rattle.jos_cli.specs.Found.{Sources, sources_of_exo, sources_of_run}
+use Rattle.jos_cli.specs.Found.{Sources, sources_of_exo}
 
 -- a file is asked for its size, and read whole by one call
 abbrev pub read_calls : List ℕ → List Asked
@@ -24,7 +24,7 @@ files_calls (word ∷ words) = read_calls word.text ++ files_calls words
 abbrev pub write_calls : List ℕ → List Asked
 write_calls file = record { call = Create; name = file } ∷ record { call = Write; name = file } ∷ []
 
--- the files of a run
+-- the files of `exo`
 abbrev pub source_calls : Sources → List Asked
 source_calls sources = schedule_calls sources.schedule ++ files_calls sources.images
 
@@ -41,11 +41,18 @@ abbrev pub AsksAll : List Asked → Around (Option (List Asked)) → Type 0
 AsksAll [] log = log.after ≡ log.before
 AsksAll (c ∷ rest) log = AsksAll rest (from_to (and_asked log.before c.call c.name) log.after)
 
--- the calls on files of a command; `ls` and `cat` read the disk in pieces
+-- A schedule is read; where all calls of that are made, a disk may be read in pieces behind them.
+abbrev pub AsksScheduleAndDisk : Option Word → List ℕ → Around (Option (List Asked)) → Type 0
+AsksScheduleAndDisk schedule disk log =
+    AsksFor (schedule_calls schedule) log
+    ⊎ ((between : Option (List Asked)) × AsksAll (schedule_calls schedule) (from_to log.before between)
+    × IsReadInPieces disk (from_to between log.after))
+
+-- the calls on files of a command; `run`, `ls` and `cat` read the disk in pieces
 abbrev pub AsksFiles : Option Command → Around (Option (List Asked)) → Type 0
 AsksFiles None log = AsksFor [] log
 AsksFiles (Some (exo e)) log = AsksFor (source_calls (sources_of_exo e)) log
-AsksFiles (Some (run r)) log = AsksFor (source_calls (sources_of_run r)) log
+AsksFiles (Some (run r)) log = AsksScheduleAndDisk r.schedule r.disk.text log
 AsksFiles (Some (demo d)) log = AsksFor (write_calls d.file.text) log
 AsksFiles (Some (mkfs m)) log = AsksFor (mkfs_calls m) log
 AsksFiles (Some (ls l)) log = IsReadInPieces l.disk.text log

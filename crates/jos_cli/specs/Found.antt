@@ -1,9 +1,8 @@
 -- The files that the words name, and the input, as they are found. (This system's own.)
-use Rattle.std.specs.Prelude.{◌≡◌, ℕ, List, [], ◌∷◌, map, Option, Some, None, option_map}
+use Rattle.std.specs.Prelude.{◌≡◌, ℕ, List, map, Option, Some, None, option_map}
 use Rattle.jos_host.specs.Files.{Files}
 use Rattle.jos_words.specs.Arguments.{Word}
 use Rattle.jos_words.specs.Commands.{Exo, Run}
-use Rattle.jos_cli.specs.Commands.{image_word}
 
 -- what stands under the name that a word has
 pub record FileAt : Type 0 where
@@ -19,12 +18,18 @@ abbrev pub IsFileAt : Option Files → Word → FileAt → Type 0
 IsFileAt (Some files) word file = file ≡ file_at files word
 IsFileAt None word file = file.word ≡ word
 
+-- The same of a schedule, which need not be named.
+abbrev pub IsScheduleAt : Option Files → Option Word → Option FileAt → Type 0
+IsScheduleAt told None None = Unit {0}
+IsScheduleAt told (Some word) (Some file) = IsFileAt told word file
+IsScheduleAt told _ _ = ⊥
+
 -- The same under each name.
 abbrev pub AreFound : Option Files → List Word → List FileAt → Type 0
 AreFound (Some files) words found = found ≡ map (file_at files) words
 AreFound None words found = map (λ file. file.word) found ≡ words
 
--- ---- the files of a run
+-- ---- the files of `exo`
 
 -- the words that name them
 pub record Sources : Type 0 where
@@ -34,10 +39,6 @@ pub record Sources : Type 0 where
 
 abbrev pub sources_of_exo : Exo → Sources
 sources_of_exo e = record { schedule = e.schedule; images = e.images }
-
--- `run` has one image
-abbrev pub sources_of_run : Run → Sources
-sources_of_run r = record { schedule = r.schedule; images = image_word r.words ∷ [] }
 
 pub record Found : Type 0 where
   pub schedule : Option FileAt
@@ -49,9 +50,6 @@ all_in files sources = record { schedule = option_map (file_at files) sources.sc
 abbrev pub found_in : Files → Exo → Found
 found_in files e = all_in files (sources_of_exo e)
 
-abbrev pub run_found_in : Files → Run → Found
-run_found_in files r = all_in files (sources_of_run r)
-
 -- something for each name
 pub record HasNames (sources : Sources) (found : Found) : Type 0 where
   pub schedule : option_map (λ file. file.word) found.schedule ≡ sources.schedule
@@ -61,6 +59,21 @@ pub record HasNames (sources : Sources) (found : Found) : Type 0 where
 abbrev pub IsFound : Option Files → Sources → Found → Type 0
 IsFound (Some files) sources found = found ≡ all_in files sources
 IsFound None sources found = HasNames sources found
+
+-- ---- the files of `run`
+
+pub record RunFound : Type 0 where
+  -- None where no schedule is named
+  pub schedule : Option FileAt
+  pub disk : FileAt
+
+abbrev pub run_found_in : Files → Run → RunFound
+run_found_in files r = record { schedule = option_map (file_at files) r.schedule; disk = file_at files r.disk }
+
+-- These are the files, where the host tells them. Where it does not, any may be found.
+pub record IsRunFound (told : Option Files) (r : Run) (found : RunFound) : Type 0 where
+  pub schedule : IsScheduleAt told r.schedule found.schedule
+  pub disk : IsFileAt told r.disk found.disk
 
 -- ---- the input
 

@@ -1,5 +1,5 @@
 -- What an outcome of the program says of the answer that is expected, and when it may come. (This system's own.)
-use Rattle.std.specs.Prelude.{◌≡◌, ◌≢◌, ◌≤◌, ℕ, ◌+◌, List, [], ◌∷◌, length, drop, map, Option, Some, None, IsOk, IsSome, option_map}
+use Rattle.std.specs.Prelude.{◌≡◌, ◌≢◌, ◌≤◌, ℕ, ◌+◌, List, [], length, drop, map, Option, Some, None, IsOk, IsSome, option_map}
 use Rattle.std.specs.Prelude.{Ok}
 use Rattle.jos_host.specs.Files.{Files}
 use Rattle.jos_host.specs.Told.{Rose}
@@ -17,16 +17,16 @@ use Rattle.jos_cli.specs.declared.outcome.Which.TheVariants.{Input, Boot}
 use Rattle.jos_cli.specs.declared.outcome.Outcome.{Outcome}
 use Rattle.jos_cli.specs.declared.outcome.Outcome.TheVariants.{Ran, Usage, Absent, Limit, BadSchedule, BadImage}
 use Rattle.jos_cli.specs.declared.outcome.Outcome.TheVariants.{HostFault, NoMemory, Made, BadDisk, NotThere, BadMake}
-use Rattle.jos_cli.specs.Commands.{texts_of}
+use Rattle.jos_cli.specs.Commands.{path_word, texts_of}
 use Rattle.jos_cli.specs.Limits.{numbers_of_exo, numbers_of_run, limit_of_words, limit_of_run, frames_of, limit_of_blocks}
-use Rattle.jos_cli.specs.Found.{FileAt, file_at, IsFileAt, AreFound, sources_of_exo, sources_of_run, Found, IsFound, IsInput}
+use Rattle.jos_cli.specs.Found.{FileAt, file_at, IsFileAt, AreFound, sources_of_exo, Found, IsFound, RunFound, IsRunFound, IsInput}
 use Rattle.jos_cli.specs.InputTaken.{HasLost}
 use Rattle.jos_cli.specs.Answer.{Answer, usage, limit, ran, refused}
 use Rattle.jos_cli.specs.Answer.{schedule_of, images_of, expected_of_exo, expected_of_demo}
 use Rattle.jos_cli.specs.Making.{named_files, named_in, expected_of_mkfs}
 use Rattle.jos_cli.specs.Disks.{tree_of, path_of, expected_of_ls, expected_of_cat}
 use Rattle.jos_cli.specs.Kinds.{Kind, answered, cut_off, no_memory, kind_of, Answers}
-use Rattle.jos_cli.specs.RunAnswers.{AnswersRun}
+use Rattle.jos_cli.specs.RunAnswers.{program_on, AnswersRun}
 
 -- ---- the answer
 
@@ -39,7 +39,7 @@ AnswersCommand told told_input (Some (exo e)) outcome console =
     (found : Found) × (input : List ℕ) × IsFound told (sources_of_exo e) found × IsInput told_input input
     × Answers (expected_of_exo e found input) outcome console
 AnswersCommand told told_input (Some (run r)) outcome console =
-    (found : Found) × (input : List ℕ) × IsFound told (sources_of_run r) found × IsInput told_input input
+    (found : RunFound) × (input : List ℕ) × IsRunFound told r found × IsInput told_input input
     × AnswersRun r found input (kind_of outcome) console
 AnswersCommand told told_input (Some (mkfs m)) outcome console =
     (found : List FileAt) × AreFound told m.files found × Answers (expected_of_mkfs m found) outcome console
@@ -93,12 +93,12 @@ pub record CanRun (e : Exo) (found : Found) (input : List ℕ) : Type 0 where
   pub short : length input ≤ INPUT_MAX
   pub frames : IsSome (booted images (frames_of (numbers_of_exo e)) input)
 
--- the same of a run under the library
-pub record CanRunProgram (r : Run) (found : Found) (input : List ℕ) : Type 0 where
+-- the same of a run under the library, whose program stands on a disk without a fault
+pub record CanRunProgram (r : Run) (found : RunFound) (input : List ℕ) : Type 0 where
   pub words : limit_of_run r ≡ None
   pub schedule : IsOk (schedule_of found.schedule)
   pub image : Loadable
-  pub read : images_of found.images ≡ Ok (image ∷ [])
+  pub read : program_on (path_word r.words) found.disk ≡ Ok image
   pub short : length input ≤ INPUT_MAX
   pub frames : IsSome (booted_within image.image image.file (texts_of r) (frames_of (numbers_of_run r)) input)
 

@@ -13,11 +13,13 @@ use Rattle.jos_kernel.specs.declared.kernel.BootFault.TheVariants as boot_fault
 use Rattle.lib_spawn.specs.StackPage.{fits_stack}
 use Rattle.jos_cli.specs.declared.outcome.Outcome.{Outcome}
 use Rattle.jos_cli.specs.declared.outcome.Outcome.TheVariants.{Ran, Usage, Absent, Limit, BadSchedule, BadImage, HostFault, NoMemory, Made}
+use Rattle.jos_cli.specs.declared.outcome.Outcome.TheVariants.{BadDisk, NotThere}
 use Rattle.jos_cli.specs.declared.outcome.Which.{Which}
 use Rattle.jos_cli.specs.declared.outcome.Which.TheVariants.{Frames, Steps, Trace, Images, Schedule, Image, Boot, File, Args}
 use Rattle.jos_run.specs.declared.programs.RunEnd.{RunEnd}
 use Rattle.jos_run.specs.declared.programs.RunEnd.TheVariants as end
 use Rattle.jos_cli.specs.declared.loading.ReadForRun.{ReadForRun}
+use Rattle.jos_cli.specs.declared.programs.ReadProgram.{ReadProgram}
 use Rattle.jos_cli.specs.declared.limits.Numbers.{Numbers}
 use Rattle.jos_cli.specs.declared.limits.Settings.{Settings}
 use Rattle.jos_cli.specs.Commands.{texts_of}
@@ -25,13 +27,9 @@ use Rattle.jos_cli.specs.Limits.{frames_of, budget_of, trace_of, numbers_of_run,
 use Rattle.jos_cli.specs.Found.{FileAt, IsFileAt, Sources}
 use Rattle.jos_cli.specs.Answer.{Judged, ran, Gathered}
 use Rattle.jos_cli.specs.Kinds.{Kind, answered, cut_off, no_memory, kind_of}
+use Rattle.jos_cli.specs.RunAnswers.{GatheredProgram}
 
 -- ---- what is found
-
-abbrev pub IsScheduleAt : Option Files → Option Word → Option FileAt → Type 0
-IsScheduleAt told None None = Unit {0}
-IsScheduleAt told (Some word) (Some file) = IsFileAt told word file
-IsScheduleAt told _ _ = ⊥
 
 unfoldable pub AreFilesAt : Option Files → List Word → List FileAt → Type 0
 AreFilesAt told [] [] = Unit {0}
@@ -82,6 +80,14 @@ gathered_of read = record {
   input = read.input.items;
 }
 
+-- what was read for the run of a program, as it is defined
+abbrev pub gathered_program_of : ReadProgram → GatheredProgram
+gathered_program_of read = record {
+  schedule = read.schedule;
+  program = record { image = read.image; file = read.file.items };
+  input = read.input.items;
+}
+
 -- the outcome where a file that the words name was not read
 abbrev pub IsUnread : Outcome → Type 0
 IsUnread (Absent word) = Unit {0}
@@ -93,6 +99,16 @@ IsUnread (BadImage word fault) = Unit {0}
 IsUnread (HostFault stopped) = Unit {0}
 IsUnread NoMemory = Unit {0}
 IsUnread _ = ⊥
+
+-- the outcome where a disk was not read, or a path leads to no image on it
+abbrev pub IsUnreadOnDisk : Outcome → Type 0
+IsUnreadOnDisk (Absent word) = Unit {0}
+IsUnreadOnDisk (BadDisk fault) = Unit {0}
+IsUnreadOnDisk (NotThere errno) = Unit {0}
+IsUnreadOnDisk (BadImage word fault) = Unit {0}
+IsUnreadOnDisk (HostFault stopped) = Unit {0}
+IsUnreadOnDisk NoMemory = Unit {0}
+IsUnreadOnDisk _ = ⊥
 
 -- the outcome where nothing was written
 abbrev pub IsUnmade : Outcome → Type 0

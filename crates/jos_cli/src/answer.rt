@@ -44,11 +44,11 @@ use jos_words::{CommandWords, DemoWords, ExoWords, WordsFault, read_words};
 use std::alloc::Global;
 
 /// Does what the words ask: `exo [--frames N] [--steps N] [--schedule FILE] [--trace N] IMAGE..` runs the images,
-/// `run [--frames N] [--steps N] [--schedule FILE] [--trace N] IMAGE [WORD..]` runs a program under the library, and
-/// `demo NAME FILE` writes an example program. `mkfs DISK BLOCKS [FILE..]` makes a disk of the files, `ls DISK [PATH]`
-/// prints the records of a directory of a disk, and `cat DISK PATH` the bytes of a file of it. The words are those behind
-/// the program's name. Each answer has its note, one line, and before it stand the last traps of a run, as many as the
-/// words ask for; where a call of the host fails, the note `host fault` is tried once.
+/// `run [--frames N] [--steps N] [--schedule FILE] [--trace N] DISK PATH [WORD..]` runs a program of a disk under the
+/// library, and `demo NAME FILE` writes an example program. `mkfs DISK BLOCKS [FILE..]` makes a disk of the files,
+/// `ls DISK [PATH]` prints the records of a directory of a disk, and `cat DISK PATH` the bytes of a file of it. The words
+/// are those behind the program's name. Each answer has its note, one line, and before it stand the last traps of a run,
+/// as many as the words ask for; where a call of the host fails, the note `host fault` is tried once.
 ///
 /// (The lines and limits are in `docs/commands.md`.)
 pub fn top<'a, H: Host>(alloc: Global, words: &'a [&'a str], host: &mut H) -> Outcome
@@ -73,7 +73,7 @@ pub fn top<'a, H: Host>(alloc: Global, words: &'a [&'a str], host: &mut H) -> Ou
     ensures complete { (files : Files) (input : List ℕ) (e : Exo) →
         H.files host.old ≡ Some files → H.input host.old ≡ Some input → command_of (map (λ w. w.now) words.now) ≡ Some (exo e) →
         CanRun e (found_in files e) input → (Rose (H.faults host.old) (H.faults host.new) → ⊥) → IsRunCase result }
-    // A program is run under the library where the same allows it.
+    // A program of a disk without a fault is run under the library where the same allows it.
     ensures ran { (files : Files) (input : List ℕ) (r : Run) →
         H.files host.old ≡ Some files → H.input host.old ≡ Some input → command_of (map (λ w. w.now) words.now) ≡ Some (run r) →
         CanRunProgram r (run_found_in files r) input → (Rose (H.faults host.old) (H.faults host.new) → ⊥) → IsRunCase result }
@@ -99,8 +99,8 @@ pub fn top<'a, H: Host>(alloc: Global, words: &'a [&'a str], host: &mut H) -> Ou
     ensures disk { LeavesGoodDisk (command_of (map (λ w. w.now) words.now)) result (around H.files host.old host.new) }
     // Only `exo` and `run` read input, once they have read all files: all of it, up to one byte past the limit.
     ensures input { LeavesInput (command_of (map (λ w. w.now) words.now)) result (around H.input host.old host.new) }
-    // Only files that the words name are asked for, in their order, each call once; and behind them notes are written,
-    // whatever is answered.
+    // Only files that the words name are asked for, in their order, each call once, but that a disk is read in pieces;
+    // and behind them notes are written, whatever is answered.
     ensures asked { AsksOnly (command_of (map (λ w. w.now) words.now)) (around H.asked host.old host.new) }
 {
     let (outcome, is_run) = answer_words(alloc, words, host);

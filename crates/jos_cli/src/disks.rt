@@ -1,6 +1,6 @@
 //! What is told of a disk: the records of a directory, and the bytes of a file.
 
-ghost use Rattle.std.specs.Prelude.{◌≡◌, ◌≢◌, ℕ, ◌+◌, ◌*◌, ◌++◌, ◌<◌, ◌≤◌, ◌==◌, [], IfSome, position, Some, IfOk, IfErr, length, map, slice_index};
+ghost use Rattle.std.specs.Prelude.{◌≡◌, ℕ, ◌+◌, ◌*◌, ◌++◌, ◌<◌, ◌≤◌, ◌==◌, [], IfSome, position, Some, IfOk, IfErr, length, map, slice_index};
 ghost use Rattle.std.specs.Prelude.{vec_capacity};
 ghost use Rattle.std.specs.Option.{option_map};
 ghost use Rattle.std.specs.Result.{result_err};
@@ -15,7 +15,7 @@ ghost use Rattle.jos_cli.specs.declared.disks.TheConstants.{RECORD_LINE_MAX};
 ghost use Rattle.jos_cli.specs.Found.{FileAt, IsFileAt};
 ghost use Rattle.jos_cli.specs.Disks.{checked, disk_of, size_text, record_line, listing, path_of, expected_of_printed, expected_of_listing, expected_of_bytes};
 ghost use Rattle.jos_cli.specs.Outcomes.{HasOutcomeCause};
-ghost use Rattle.jos_cli.specs.Stages.{Judges};
+ghost use Rattle.jos_cli.specs.Stages.{Judges, IsUnreadOnDisk};
 ghost use Rattle.jos_cli.specs.Outside.{outside};
 ghost use Rattle.jos_cli.specs.Effects.{DoesCommand, ReadsDisk, PrintsAnswer};
 
@@ -34,7 +34,7 @@ fn checked(alloc: Global, disk: DiskBytes) -> Result<DiskBytes, Outcome>
     ensures told { Judges (checked disk) (λ disk. disk) result }
     ensures disk { IfOk result (λ disk. IsDiskImage (length disk.bytes) (slice_index disk.bytes)) }
     ensures cause { (faults : ℕ) → IfErr result (HasOutcomeCause (from_to faults faults)) }
-    ensures no_usage { IfErr result (λ outcome. outcome ≢ Outcome.Usage) }
+    ensures unread { IfErr result IsUnreadOnDisk }
 {
     match check(alloc, &disk) {
         Ok(_) => Ok(disk),
@@ -44,7 +44,7 @@ fn checked(alloc: Global, disk: DiskBytes) -> Result<DiskBytes, Outcome>
 }
 
 /// The disk that a word names, without a fault.
-fn read_checked<'a, H: Host>(
+pub(crate) fn read_checked<'a, H: Host>(
     alloc: Global,
     word: WordAt<'a>,
     host: &mut H,

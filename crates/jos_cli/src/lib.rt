@@ -28,6 +28,7 @@ mod loading;
 mod making;
 mod notes;
 mod outcome;
+mod programs;
 mod running;
 mod texts;
 

@@ -1,4 +1,4 @@
-//! The schedule and the images, read from their files, and all that a run is given.
+//! The schedule and the images, read from their files, and all that a run of images is given.
 
 ghost use Rattle.std.specs.Prelude.{◌≡◌, ◌≤◌, ◌∷◌, [], ◌++◌, ℕ, Ok, None, List, Option, All, IfOk, IfErr, IfSome, OnOk};
 ghost use Rattle.std.specs.Prelude.{length, map, option_map};
@@ -9,10 +9,10 @@ ghost use Rattle.jos_elf.specs.Parsed.{parsed};
 ghost use Rattle.jos_base.specs.declared.numbers.TheConstants.{IMAGE_MAX, SCHEDULE_TEXT_MAX};
 ghost use Rattle.jos_kernel.specs.Boot.{loadables};
 ghost use Rattle.jos_kernel.specs.Loading.{IsRead};
-ghost use Rattle.jos_cli.specs.Found.{FileAt, IsFileAt, Found, IsFound, IsInput};
+ghost use Rattle.jos_cli.specs.Found.{FileAt, IsFileAt, IsScheduleAt, Found, IsFound, IsInput};
 ghost use Rattle.jos_cli.specs.Answer.{text_of, schedule_of, loadable_in, images_of, gathered};
 ghost use Rattle.jos_cli.specs.Outcomes.{HasOutcomeCause};
-ghost use Rattle.jos_cli.specs.Stages.{IsScheduleAt, AreFilesAt, Judges, schedule_refusal, sources_in, gathered_of, IsOfWords, IsUnread};
+ghost use Rattle.jos_cli.specs.Stages.{AreFilesAt, Judges, schedule_refusal, sources_in, gathered_of, IsOfWords, IsUnread};
 ghost use Rattle.jos_cli.specs.FilesAsked.{read_calls, schedule_calls, files_calls, source_calls};
 ghost use Rattle.jos_cli.specs.Outside.{outside};
 ghost use Rattle.jos_cli.specs.Effects.{ReadsFiles, Gathers};
@@ -145,7 +145,7 @@ pub(crate) fn read_images<'a, H: Host>(
     Ok(read)
 }
 
-/// What a run is given, beside its numbers.
+/// What a run of images is given, beside its numbers.
 #[derive(Drop)]
 pub(crate) struct ReadForRun {
     pub(crate) schedule: Schedule,
@@ -154,7 +154,7 @@ pub(crate) struct ReadForRun {
     pub(crate) input: Vec<u8>,
 }
 
-/// Gathers what a run is given: the schedule, the images and then the input, if its words pass no limit.
+/// Gathers what a run of images is given: the schedule, the images and then the input, if its words pass no limit.
 pub(crate) fn gather<'a, H: Host>(
     alloc: Global,
     passed: Option<Which>,

@@ -50,21 +50,28 @@ exo_words words = do
   arguments ← arguments_of running_options words
   exo_of arguments
 
--- ---- `run [--frames N] [--steps N] [--schedule FILE] [--trace N] IMAGE [WORD..]`
+-- ---- `run [--frames N] [--steps N] [--schedule FILE] [--trace N] DISK PATH [WORD..]`
 
--- the first of the words names the image, and all of them are the program's
+-- the first of the words is the program's path on the disk, and all of them are the program's
 pub record Run : Type 0 where
   pub frames : Option NumberAt
   pub steps : Option NumberAt
   pub schedule : Option Word
   pub trace : Option NumberAt
+  pub disk : Word
   pub words : List Word
 
--- as of `exo`, with words in place of images
+-- a word, and at least one behind it
+abbrev pub one_and_more : List Word → Option (Word × List Word)
+one_and_more (first ∷ second ∷ more) = Some (first, second ∷ more)
+one_and_more _ = None
+
+-- as of `exo`, with a disk and words in place of images
 unfoldable pub run_of : Arguments → Option Run
 run_of arguments = do
   e ← exo_of arguments
-  Some (record { frames = e.frames; steps = e.steps; schedule = e.schedule; trace = e.trace; words = e.images })
+  words ← one_and_more e.images
+  Some (record { frames = e.frames; steps = e.steps; schedule = e.schedule; trace = e.trace; disk = words.0; words = words.1 })
 
 -- the words behind `run`
 unfoldable pub run_words : List (List ℕ) → Option Run
@@ -198,6 +205,7 @@ run_in_bytes words = record {
   steps = words.steps;
   schedule = option_map word_in_bytes words.schedule;
   trace = words.trace;
+  disk = word_in_bytes words.disk;
   words = map word_in_bytes words.words.items;
 }
 

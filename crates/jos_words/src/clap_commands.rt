@@ -73,7 +73,7 @@ fn command_with<'a>(
     Ok(command)
 }
 
-/// `exo`, whose words are images, or `run`, whose words are an image and a program's words.
+/// `exo`, whose words are images, or `run`, whose words are a disk and a program's words.
 pub(crate) fn running_command<'a>(alloc: Global, name: &'a str) -> Result<Command<'a>, AllocError>
     ensures { IfOk result (λ command. app_of command ≡ running_app name.now) }
 {

@@ -20,7 +20,8 @@ use std::alloc::Global;
 pub enum CommandWords<'a> {
     /// `exo [--frames N] [--steps N] [--schedule FILE] [--trace N] IMAGE..`: runs images.
     Exo(ExoWords<'a>),
-    /// `run [--frames N] [--steps N] [--schedule FILE] [--trace N] IMAGE [WORD..]`: runs a program under the library.
+    /// `run [--frames N] [--steps N] [--schedule FILE] [--trace N] DISK PATH [WORD..]`: runs a program of a disk under the
+    /// library.
     Run(RunWords<'a>),
     /// `demo NAME FILE`: writes an example program.
     Demo(DemoWords<'a>),
@@ -50,7 +51,8 @@ pub struct RunWords<'a> {
     pub steps: Option<NumberAt>,
     pub schedule: Option<WordAt<'a>>,
     pub trace: Option<NumberAt>,
-    /// At least one, in the order of the words: the first names the image, and all of them are the program's.
+    pub disk: WordAt<'a>,
+    /// At least one, in the order of the words: the first is the program's path on the disk, and all of them are the program's.
     pub words: Vec<WordAt<'a>>,
 }
 
@@ -144,12 +146,18 @@ fn run_of<'a>(arguments: ReadArguments<'a>) -> Option<RunWords<'a>>
         trace,
         images,
     } = exo_of(arguments)?;
+    let mut words = images;
+    if words.len() < 2 {
+        return None;
+    }
+    let disk = words.remove(0);
     Some(RunWords {
         frames,
         steps,
         schedule,
         trace,
-        words: images,
+        disk,
+        words,
     })
 }
 

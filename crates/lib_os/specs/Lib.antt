@@ -1,5 +1,6 @@
 pub mod Fence
 pub mod Services
+pub mod Requests
 pub mod AbstractState
 pub mod AbstractMemory
 pub mod GuestStep

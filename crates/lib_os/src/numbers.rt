@@ -9,6 +9,18 @@ pub const FD_DEVICE: u32 = 0;
 /// The console, as that word tells it. (MIT 6.828, lib/console.c: `devcons`)
 pub const DEVICE_CONSOLE: u32 = 0x63;
 
+/// A file, as that word tells it. (MIT 6.828, lib/file.c: `devfile`)
+pub const DEVICE_FILE: u32 = 0x66;
+
+/// Where the page of a descriptor of a file has the place of the next byte. (MIT 6.828, inc/fd.h: `fd_offset`)
+pub const FD_OFFSET: u32 = 4;
+
+/// Where it has the mode in which the file is open. (MIT 6.828, inc/fd.h: `fd_omode`)
+pub const FD_MODE: u32 = 8;
+
+/// Where it has the file's number at the file server. (MIT 6.828, inc/fd.h: `fd_file.id`)
+pub const FD_FILE: u32 = 12;
+
 /// The mode of what may be read and written. (MIT 6.828, inc/lib.h)
 pub const O_RDWR: u32 = 2;
 
@@ -59,6 +71,50 @@ pub const DISKMAP: u32 = 0x1000_0000;
 
 /// The blocks that have an address there have numbers below this one.
 pub const CACHE_BLOCKS: u32 = 65_536;
+
+/// Where the file server has the page of a request. (MIT 6.828, lab 5: fs/serv.c: `fsreq`)
+pub const REQUEST: u32 = 0x0fff_f000;
+
+/// Where it has the page that tells, in a word for each file that it has open, where the file's record stands on the disk.
+pub const OPEN_RECORDS: u32 = 0x0fff_e000;
+
+// ---- requests to the file server, by the words of their messages (MIT 6.828, lab 5: inc/fs.h)
+
+/// A file is opened.
+pub const FSREQ_OPEN: u32 = 1;
+
+/// A file gets another size.
+pub const FSREQ_SET_SIZE: u32 = 2;
+
+/// Bytes are read.
+pub const FSREQ_READ: u32 = 3;
+
+/// Bytes are written.
+pub const FSREQ_WRITE: u32 = 4;
+
+/// The name, the size and the kind of a file are wanted.
+pub const FSREQ_STAT: u32 = 5;
+
+/// A file is removed.
+pub const FSREQ_REMOVE: u32 = 7;
+
+/// What the disk lacks is written.
+pub const FSREQ_SYNC: u32 = 8;
+
+/// The place of the next byte is set. (MIT's clients set it themselves.)
+pub const FSREQ_SEEK: u32 = 9;
+
+/// Where the page of a request has the number of its file.
+pub const REQUEST_FILE: u32 = 0;
+
+/// Where it has the number of bytes that are wanted or given, a size or an offset.
+pub const REQUEST_COUNT: u32 = 4;
+
+/// From here on it has the bytes that are written.
+pub const REQUEST_BYTES: u32 = 8;
+
+/// Where it has the mode in which a file is to be opened, behind the path.
+pub const REQUEST_MODE: u32 = 1024;
 
 /// The words of a page.
 pub const PAGE_WORDS: u32 = 1024;

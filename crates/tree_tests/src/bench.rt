@@ -10,7 +10,7 @@ use fs_jobs::Job;
 use fs_layout::BLKSIZE;
 use fs_places::with_state;
 use fs_runs::begin;
-use fs_tree::{Acted, REQUEST, tree_step};
+use fs_tree::{Acted, tree_step};
 use jos_base::{
     EnvId, EnvType, FRAMES_MAX, FRAMES_MIN, PGSIZE, PTE_P, PTE_U, PTE_W, Perm, SYS_PAGE_ALLOC,
     Status,
@@ -18,7 +18,7 @@ use jos_base::{
 use jos_host::{Failed, Host, MemHost, NamedBytes};
 use jos_run::{HostDisk, Served};
 use jos_sys::{Input, System};
-use lib_os::{CACHE_BLOCKS, UserOs, answer_of};
+use lib_os::{CACHE_BLOCKS, REQUEST, UserOs, answer_of};
 use std::alloc::{AllocError, Global};
 use test_cases::twelve_numbers;
 

@@ -6,8 +6,9 @@ use Rattle.lib_os.specs.declared.numbers.TheConstants.{CACHE_BLOCKS}
 use Rattle.lib_os.specs.UserCalls.{output}
 use Rattle.fs_cache.specs.declared.steps.Cached.{Cached}
 use Rattle.fs_cache.specs.CacheSteps.{FetchTold, IsBlockStep, KeepsCacheWhereDone, caller}
+use Rattle.fs_tree.specs.declared.steps.Done.TheVariants.{Going, NoPage}
 use Rattle.fs_tree.specs.TreeMakes.{IsAccess}
-use Rattle.fs_tree.proofs.TiesLaw.{access_slot, cache_going, cache_lacks, ready_stopped, ready_word}
+use Rattle.fs_tree.proofs.TiesLaw.{access_rest, access_slot, cache_going, cache_lacks, cache_leaves, lacking_lives, quiet_from, ready_leaves, ready_stopped, ready_word}
 use Rattle.fs_tree.proofs.steps.make_at_block.Goals as goal
 
 pub returns-in-Ok-clause-told : goal.returns-in-Ok-clause-told
@@ -44,6 +45,18 @@ returns-in-Ok-clause-kept g c =
     let call = subst (λ (k : KernelState). IsAccess c.args.ask (va + c.args.at % BLKSIZE) k n (Ok c.in-Ok.word) mid told) made.2
     (subst (λ (m : ℕ). IsAccess c.args.ask (va + c.args.at % BLKSIZE) ready m (Ok c.in-Ok.word) mid told) c.block_step.ensures.slot c.in-Ok.ensures.step) in
     access_slot c.args.ask s mid n (va + c.args.at % BLKSIZE) c.in-Ok.word told call
+
+pub returns-in-Ok-NoPage-clause-kept : goal.returns-in-Ok-NoPage-clause-kept
+returns-in-Ok-NoPage-clause-kept g c =
+    let s = g.O.UserOs.state c.args.os.now in
+    let n = g.O.UserOs.slot c.args.os.now in
+    let called = caller s n (g.O.UserOs.disk c.args.os.now) in
+    let block = c.args.at / BLKSIZE % CACHE_BLOCKS in
+    let files = around g.H.Host.files c.args.host.now c.block_step.new.host in
+    let ready = g.O.UserOs.state c.block_step.new.os in
+    let printed = output g.H.Host.console g.O.UserOs.written (from_to c.args.host.now c.block_step.new.host) (from_to c.args.os.now c.block_step.new.os) in
+    let made = subst (λ (x : Cached). IsBlockStep block called (Ok x) files ready printed) c.in-Ok-NoPage.field-0-is c.in-Ok-NoPage.ensures.made in
+    lacking_lives block called files made.0 ready printed c.requires.live made.1 made.2
 
 pub returns-in-Err-Upcall-clause-told : goal.returns-in-Err-Upcall-clause-told
 returns-in-Err-Upcall-clause-told g c =
@@ -89,3 +102,65 @@ returns-in-Ok-NoPage-clause-told g c =
     (subst (λ (x : Cached). IsBlockStep block called (Ok x) files ready printed) c.in-Ok-NoPage.field-0-is c.in-Ok-NoPage.ensures.made)
     (subst (λ (x : Cached). KeepsCacheWhereDone (Ok x) called.disk n (from_to s ready) files) c.in-Ok-NoPage.field-0-is c.in-Ok-NoPage.ensures.cache)
     (subst (λ (x : Cached). FetchTold block (Ok x) called.disk n (from_to s ready) files.before) c.in-Ok-NoPage.field-0-is c.in-Ok-NoPage.ensures.tells)
+
+-- ---- what is left
+
+pub returns-in-Ok-clause-leaves : goal.returns-in-Ok-clause-leaves
+returns-in-Ok-clause-leaves g c =
+    let s = g.O.UserOs.state c.args.os.now in
+    let n = g.O.UserOs.slot c.args.os.now in
+    let called = caller s n (g.O.UserOs.disk c.args.os.now) in
+    let block = c.args.at / BLKSIZE % CACHE_BLOCKS in
+    let files = around g.H.Host.files c.args.host.now c.block_step.new.host in
+    let ready = g.O.UserOs.state c.block_step.new.os in
+    let printed = output g.H.Host.console g.O.UserOs.written (from_to c.args.host.now c.block_step.new.host) (from_to c.args.os.now c.block_step.new.os) in
+    let va = c.in-Ok-Ready.va in
+    let made = subst (λ (x : Cached). IsBlockStep block called (Ok x) files ready printed) c.in-Ok-Ready.field-0-is c.in-Ok-Ready.ensures.made in
+    let mid = g.O.UserOs.state c.access.new.os in
+    let told = output g.H.Host.console g.O.UserOs.written (from_to c.block_step.new.host c.access.new.host) (from_to c.block_step.new.os c.access.new.os) in
+    let call = subst (λ (k : KernelState). IsAccess c.args.ask (va + c.args.at % BLKSIZE) k n (Ok c.in-Ok.word) mid told) made.2
+    (subst (λ (m : ℕ). IsAccess c.args.ask (va + c.args.at % BLKSIZE) ready m (Ok c.in-Ok.word) mid told) c.block_step.ensures.slot c.in-Ok.ensures.step) in
+    let left = access_rest c.args.ask s mid n (va + c.args.at % BLKSIZE) c.in-Ok.word told call in
+    λ before is h inside. (quiet_from told (g.H.Host.console c.args.host.now) (g.O.UserOs.written c.args.os.now) made.4 made.5 left.0, left.1)
+
+pub returns-in-Err-Upcall-clause-leaves : goal.returns-in-Err-Upcall-clause-leaves
+returns-in-Err-Upcall-clause-leaves g c =
+    let s = g.O.UserOs.state c.args.os.now in
+    let n = g.O.UserOs.slot c.args.os.now in
+    let called = caller s n (g.O.UserOs.disk c.args.os.now) in
+    let block = c.args.at / BLKSIZE % CACHE_BLOCKS in
+    let files = around g.H.Host.files c.args.host.now c.block_step.new.host in
+    let ready = g.O.UserOs.state c.block_step.new.os in
+    let printed = output g.H.Host.console g.O.UserOs.written (from_to c.args.host.now c.block_step.new.host) (from_to c.args.os.now c.block_step.new.os) in
+    let va = c.in-Ok-Ready.va in
+    let made = subst (λ (x : Cached). IsBlockStep block called (Ok x) files ready printed) c.in-Ok-Ready.field-0-is c.in-Ok-Ready.ensures.made in
+    let mid = g.O.UserOs.state c.access.new.os in
+    let told = output g.H.Host.console g.O.UserOs.written (from_to c.block_step.new.host c.access.new.host) (from_to c.block_step.new.os c.access.new.os) in
+    let call = subst (λ (k : KernelState). IsAccess c.args.ask (va + c.args.at % BLKSIZE) k n (Err c.in-Err-Upcall.field-0) mid told) made.2
+    (subst (λ (m : ℕ). IsAccess c.args.ask (va + c.args.at % BLKSIZE) ready m (Err c.in-Err-Upcall.field-0) mid told) c.block_step.ensures.slot c.in-Err-Upcall.ensures.step) in
+    ready_leaves c.args.ask c.args.at called c.requires.place mid told c.access.ensures.in_order va made.0 made.1 files.before c.in-Err-Upcall.field-0
+    (output g.H.Host.console g.O.UserOs.written (from_to c.args.host.now c.access.new.host) (from_to c.args.os.now c.access.new.os)) call
+
+pub returns-in-Ok-Going-clause-leaves : goal.returns-in-Ok-Going-clause-leaves
+returns-in-Ok-Going-clause-leaves g c =
+    let s = g.O.UserOs.state c.args.os.now in
+    let n = g.O.UserOs.slot c.args.os.now in
+    let called = caller s n (g.O.UserOs.disk c.args.os.now) in
+    let block = c.args.at / BLKSIZE % CACHE_BLOCKS in
+    let files = around g.H.Host.files c.args.host.now c.block_step.new.host in
+    let ready = g.O.UserOs.state c.block_step.new.os in
+    let printed = output g.H.Host.console g.O.UserOs.written (from_to c.args.host.now c.block_step.new.host) (from_to c.args.os.now c.block_step.new.os) in
+    let made = subst (λ (x : Cached). IsBlockStep block called (Ok x) files ready printed) c.in-Ok-Going.field-0-is c.in-Ok-Going.ensures.made in
+    cache_leaves c.args.ask block called (omega arith) files ready printed made.0 Going made.2
+
+pub returns-in-Ok-NoPage-clause-leaves : goal.returns-in-Ok-NoPage-clause-leaves
+returns-in-Ok-NoPage-clause-leaves g c =
+    let s = g.O.UserOs.state c.args.os.now in
+    let n = g.O.UserOs.slot c.args.os.now in
+    let called = caller s n (g.O.UserOs.disk c.args.os.now) in
+    let block = c.args.at / BLKSIZE % CACHE_BLOCKS in
+    let files = around g.H.Host.files c.args.host.now c.block_step.new.host in
+    let ready = g.O.UserOs.state c.block_step.new.os in
+    let printed = output g.H.Host.console g.O.UserOs.written (from_to c.args.host.now c.block_step.new.host) (from_to c.args.os.now c.block_step.new.os) in
+    let made = subst (λ (x : Cached). IsBlockStep block called (Ok x) files ready printed) c.in-Ok-NoPage.field-0-is c.in-Ok-NoPage.ensures.made in
+    cache_leaves c.args.ask block called (omega arith) files ready printed made.0 NoPage made.2

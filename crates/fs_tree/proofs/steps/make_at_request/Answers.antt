@@ -3,8 +3,8 @@ use Rattle.jos_host.specs.Frames.{around, from_to}
 use Rattle.jos_base.specs.declared.numbers.TheConstants.{PGSIZE}
 use Rattle.lib_os.specs.UserCalls.{output}
 use Rattle.fs_cache.specs.CacheSteps.{caller}
-use Rattle.fs_tree.specs.declared.steps.TheConstants.{REQUEST}
-use Rattle.fs_tree.proofs.TiesLaw.{access_slot, request_stopped, request_word}
+use Rattle.lib_os.specs.declared.numbers.TheConstants.{REQUEST}
+use Rattle.fs_tree.proofs.TiesLaw.{access_rest, access_slot, request_leaves, request_stopped, request_word}
 use Rattle.fs_tree.proofs.steps.make_at_request.Goals as goal
 
 pub returns-in-Ok-clause-told : goal.returns-in-Ok-clause-told
@@ -35,3 +35,24 @@ returns-in-Err-Upcall-clause-told g c =
     let mid = g.O.UserOs.state c.access.new.os in
     let told = output g.H.Host.console g.O.UserOs.written (from_to c.args.host.now c.access.new.host) (from_to c.args.os.now c.access.new.os) in
     request_stopped c.args.ask c.args.at called c.requires.place mid told c.access.ensures.in_order files c.in-Err-Upcall.field-0 c.in-Err-Upcall.ensures.step
+
+-- ---- what is left
+
+pub returns-in-Ok-clause-leaves : goal.returns-in-Ok-clause-leaves
+returns-in-Ok-clause-leaves g c =
+    let s = g.O.UserOs.state c.args.os.now in
+    let n = g.O.UserOs.slot c.args.os.now in
+    let mid = g.O.UserOs.state c.access.new.os in
+    let told = output g.H.Host.console g.O.UserOs.written (from_to c.args.host.now c.access.new.host) (from_to c.args.os.now c.access.new.os) in
+    let left = access_rest c.args.ask s mid n (REQUEST + c.args.at % PGSIZE) c.in-Ok.word told c.in-Ok.ensures.step in
+    λ before is h inside. left
+
+pub returns-in-Err-Upcall-clause-leaves : goal.returns-in-Err-Upcall-clause-leaves
+returns-in-Err-Upcall-clause-leaves g c =
+    let s = g.O.UserOs.state c.args.os.now in
+    let n = g.O.UserOs.slot c.args.os.now in
+    let called = caller s n (g.O.UserOs.disk c.args.os.now) in
+    let files = around g.H.Host.files c.args.host.now c.access.new.host in
+    let mid = g.O.UserOs.state c.access.new.os in
+    let told = output g.H.Host.console g.O.UserOs.written (from_to c.args.host.now c.access.new.host) (from_to c.args.os.now c.access.new.os) in
+    request_leaves c.args.ask c.args.at called c.requires.place mid told c.access.ensures.in_order files c.in-Err-Upcall.field-0 c.in-Err-Upcall.ensures.step

@@ -1,14 +1,16 @@
 use Rattle.std.proofs.Common.{◌≡◌, ◌∙◌, ℕ, Ok, ap, subst, sym}
 use Rattle.jos_host.specs.Frames.{around, from_to}
 use Rattle.jos_base.specs.KernelState.{slot_at, with_extra, with_registers}
+use Rattle.lib_os.specs.UserCalls.{output}
 use Rattle.fs_jobs.specs.declared.place.TreeState.{TreeState}
-use Rattle.fs_tree.specs.declared.steps.Acted.TheVariants.{Answer}
+use Rattle.fs_tree.specs.declared.steps.Acted.TheVariants.{Answer, Going}
 use Rattle.fs_tree.specs.declared.steps.Done.{Done}
+use Rattle.fs_tree.specs.declared.steps.Done.TheVariants as done
 use Rattle.fs_tree.specs.TreeMakes.{DoesWhereTold}
 use Rattle.fs_places.specs.TreePlaces.{registers_with, words_with}
 use Rattle.fs_runs.specs.TreePlans.{ask_at, next_at}
 use Rattle.fs_tree.specs.TreeSteps.{StepsWhereTold, job_in}
-use Rattle.fs_tree.proofs.TiesLaw.{known_state, step_answers, step_goes_on, step_going, step_lacks}
+use Rattle.fs_tree.proofs.TiesLaw.{known_state, quiet_still, set_leaves_rest, step_answers, step_goes_on, step_going, step_lacks, step_leaves_rest, step_prints}
 use Rattle.fs_tree.proofs.steps.tree_step.Goals as goal
 
 pub returns-in-Answer-clause-told : goal.returns-in-Answer-clause-told
@@ -73,3 +75,125 @@ returns-in-Ok-NoPage-clause-told g c =
     let does = subst (λ (x : Done). DoesWhereTold c.ask_at.result (Ok x) disk n (from_to s mid) files) c.in-Ok-NoPage.field-0-is c.in-Ok-NoPage.ensures.told in
     subst (λ (w : ℕ). StepsWhereTold (Ok (Answer w)) disk n (from_to s mid) files) (sym c.negated.ensures)
     (step_lacks disk n s mid files c.ask_at.result asks does)
+
+-- ---- nothing is printed
+
+pub returns-in-Answer-clause-quiet : goal.returns-in-Answer-clause-quiet
+returns-in-Answer-clause-quiet g c =
+    let s = g.O.UserOs.state c.args.os.now in
+    let n = g.O.UserOs.slot c.args.os.now in
+    let disk = g.O.UserOs.disk c.args.os.now in
+    let files = around g.H.Host.files c.args.host.now c.make.new.host in
+    let mid = g.O.UserOs.state c.make.new.os in
+    let known : c.find_state-state.result ≡ job_in s n =
+    known_state s n c.find_state-state.result c.registers-registers.result c.extra-extra.result.0 c.find_state-state.ensures
+    c.registers-registers.ensures c.extra-extra.ensures in
+    let asks : c.ask_at.result ≡ ask_at (job_in s n) = c.ask_at.ensures ∙ ap (λ (t : TreeState). ask_at t) known in
+    let told = output g.H.Host.console g.O.UserOs.written (from_to c.args.host.now c.make.new.host) (from_to c.args.os.now c.make.new.os) in
+    step_prints disk n s mid files c.ask_at.result asks (done.Word c.in-Ok-Word.word) told c.in-Ok-Word.ensures.leaves (Answer c.in-Answer.answer) mid
+
+pub returns-in-Ok-Going-clause-quiet : goal.returns-in-Ok-Going-clause-quiet
+returns-in-Ok-Going-clause-quiet g c =
+    let s = g.O.UserOs.state c.args.os.now in
+    let n = g.O.UserOs.slot c.args.os.now in
+    let disk = g.O.UserOs.disk c.args.os.now in
+    let files = around g.H.Host.files c.args.host.now c.make.new.host in
+    let mid = g.O.UserOs.state c.make.new.os in
+    let known : c.find_state-state.result ≡ job_in s n =
+    known_state s n c.find_state-state.result c.registers-registers.result c.extra-extra.result.0 c.find_state-state.ensures
+    c.registers-registers.ensures c.extra-extra.ensures in
+    let asks : c.ask_at.result ≡ ask_at (job_in s n) = c.ask_at.ensures ∙ ap (λ (t : TreeState). ask_at t) known in
+    let told = output g.H.Host.console g.O.UserOs.written (from_to c.args.host.now c.make.new.host) (from_to c.args.os.now c.make.new.os) in
+    step_prints disk n s mid files c.ask_at.result asks done.Going told c.in-Ok-Going.ensures.leaves Going mid
+
+pub returns-in-Ok-NoPage-clause-quiet : goal.returns-in-Ok-NoPage-clause-quiet
+returns-in-Ok-NoPage-clause-quiet g c =
+    let s = g.O.UserOs.state c.args.os.now in
+    let n = g.O.UserOs.slot c.args.os.now in
+    let disk = g.O.UserOs.disk c.args.os.now in
+    let files = around g.H.Host.files c.args.host.now c.make.new.host in
+    let mid = g.O.UserOs.state c.make.new.os in
+    let known : c.find_state-state.result ≡ job_in s n =
+    known_state s n c.find_state-state.result c.registers-registers.result c.extra-extra.result.0 c.find_state-state.ensures
+    c.registers-registers.ensures c.extra-extra.ensures in
+    let asks : c.ask_at.result ≡ ask_at (job_in s n) = c.ask_at.ensures ∙ ap (λ (t : TreeState). ask_at t) known in
+    let told = output g.H.Host.console g.O.UserOs.written (from_to c.args.host.now c.make.new.host) (from_to c.args.os.now c.make.new.os) in
+    step_prints disk n s mid files c.ask_at.result asks done.NoPage told c.in-Ok-NoPage.ensures.leaves (Answer c.negated.result) mid
+
+pub returns-in-GoOn-clause-quiet : goal.returns-in-GoOn-clause-quiet
+returns-in-GoOn-clause-quiet g c =
+    let s = g.O.UserOs.state c.args.os.now in
+    let n = g.O.UserOs.slot c.args.os.now in
+    let disk = g.O.UserOs.disk c.args.os.now in
+    let files = around g.H.Host.files c.args.host.now c.make.new.host in
+    let mid = g.O.UserOs.state c.make.new.os in
+    let known : c.find_state-state.result ≡ job_in s n =
+    known_state s n c.find_state-state.result c.registers-registers.result c.extra-extra.result.0 c.find_state-state.ensures
+    c.registers-registers.ensures c.extra-extra.ensures in
+    let asks : c.ask_at.result ≡ ask_at (job_in s n) = c.ask_at.ensures ∙ ap (λ (t : TreeState). ask_at t) known in
+    let told = output g.H.Host.console g.O.UserOs.written (from_to c.args.host.now c.make.new.host) (from_to c.args.os.now c.make.new.os) in
+    λ before is h lawful.
+    quiet_still told (g.O.UserOs.written c.go_on.new.os) c.go_on.ensures.written
+    (step_prints disk n s mid files c.ask_at.result asks (done.Word c.in-Ok-Word.word) told c.in-Ok-Word.ensures.leaves Going mid before is h lawful)
+
+-- ---- the rest of the slots stays
+
+pub returns-in-Answer-clause-rest : goal.returns-in-Answer-clause-rest
+returns-in-Answer-clause-rest g c =
+    let s = g.O.UserOs.state c.args.os.now in
+    let n = g.O.UserOs.slot c.args.os.now in
+    let disk = g.O.UserOs.disk c.args.os.now in
+    let files = around g.H.Host.files c.args.host.now c.make.new.host in
+    let mid = g.O.UserOs.state c.make.new.os in
+    let known : c.find_state-state.result ≡ job_in s n =
+    known_state s n c.find_state-state.result c.registers-registers.result c.extra-extra.result.0 c.find_state-state.ensures
+    c.registers-registers.ensures c.extra-extra.ensures in
+    let asks : c.ask_at.result ≡ ask_at (job_in s n) = c.ask_at.ensures ∙ ap (λ (t : TreeState). ask_at t) known in
+    let told = output g.H.Host.console g.O.UserOs.written (from_to c.args.host.now c.make.new.host) (from_to c.args.os.now c.make.new.os) in
+    step_leaves_rest disk n s mid files c.ask_at.result asks (done.Word c.in-Ok-Word.word) told c.in-Ok-Word.ensures.leaves (Answer c.in-Answer.answer)
+
+pub returns-in-Ok-Going-clause-rest : goal.returns-in-Ok-Going-clause-rest
+returns-in-Ok-Going-clause-rest g c =
+    let s = g.O.UserOs.state c.args.os.now in
+    let n = g.O.UserOs.slot c.args.os.now in
+    let disk = g.O.UserOs.disk c.args.os.now in
+    let files = around g.H.Host.files c.args.host.now c.make.new.host in
+    let mid = g.O.UserOs.state c.make.new.os in
+    let known : c.find_state-state.result ≡ job_in s n =
+    known_state s n c.find_state-state.result c.registers-registers.result c.extra-extra.result.0 c.find_state-state.ensures
+    c.registers-registers.ensures c.extra-extra.ensures in
+    let asks : c.ask_at.result ≡ ask_at (job_in s n) = c.ask_at.ensures ∙ ap (λ (t : TreeState). ask_at t) known in
+    let told = output g.H.Host.console g.O.UserOs.written (from_to c.args.host.now c.make.new.host) (from_to c.args.os.now c.make.new.os) in
+    step_leaves_rest disk n s mid files c.ask_at.result asks done.Going told c.in-Ok-Going.ensures.leaves Going
+
+pub returns-in-Ok-NoPage-clause-rest : goal.returns-in-Ok-NoPage-clause-rest
+returns-in-Ok-NoPage-clause-rest g c =
+    let s = g.O.UserOs.state c.args.os.now in
+    let n = g.O.UserOs.slot c.args.os.now in
+    let disk = g.O.UserOs.disk c.args.os.now in
+    let files = around g.H.Host.files c.args.host.now c.make.new.host in
+    let mid = g.O.UserOs.state c.make.new.os in
+    let known : c.find_state-state.result ≡ job_in s n =
+    known_state s n c.find_state-state.result c.registers-registers.result c.extra-extra.result.0 c.find_state-state.ensures
+    c.registers-registers.ensures c.extra-extra.ensures in
+    let asks : c.ask_at.result ≡ ask_at (job_in s n) = c.ask_at.ensures ∙ ap (λ (t : TreeState). ask_at t) known in
+    let told = output g.H.Host.console g.O.UserOs.written (from_to c.args.host.now c.make.new.host) (from_to c.args.os.now c.make.new.os) in
+    step_leaves_rest disk n s mid files c.ask_at.result asks done.NoPage told c.in-Ok-NoPage.ensures.leaves (Answer c.negated.result)
+
+pub returns-in-GoOn-clause-rest : goal.returns-in-GoOn-clause-rest
+returns-in-GoOn-clause-rest g c =
+    let s = g.O.UserOs.state c.args.os.now in
+    let n = g.O.UserOs.slot c.args.os.now in
+    let disk = g.O.UserOs.disk c.args.os.now in
+    let files = around g.H.Host.files c.args.host.now c.make.new.host in
+    let mid = g.O.UserOs.state c.make.new.os in
+    let known : c.find_state-state.result ≡ job_in s n =
+    known_state s n c.find_state-state.result c.registers-registers.result c.extra-extra.result.0 c.find_state-state.ensures
+    c.registers-registers.ensures c.extra-extra.ensures in
+    let asks : c.ask_at.result ≡ ask_at (job_in s n) = c.ask_at.ensures ∙ ap (λ (t : TreeState). ask_at t) known in
+    let told = output g.H.Host.console g.O.UserOs.written (from_to c.args.host.now c.make.new.host) (from_to c.args.os.now c.make.new.os) in
+    let next = c.in-GoOn.next in
+    let after = g.O.UserOs.state c.go_on.new.os in
+    set_leaves_rest disk n s mid files c.ask_at.result asks (done.Word c.in-Ok-Word.word) told c.in-Ok-Word.ensures.leaves Going next after
+    (subst (λ (m : ℕ). after ≡ with_extra (with_registers mid m (registers_with (slot_at mid m).registers next)) m (words_with (slot_at mid m).extra next))
+    c.make.ensures.slot c.go_on.ensures.state)

@@ -18,7 +18,7 @@ pub returns-in-Ok-clause-did : goal.returns-in-Ok-clause-did
 returns-in-Ok-clause-did g c =
     let read = c.in-Ok.ensures in
     read_and_checked g.H.Host c.args.word.text.now c.args.host.now c.read_disk.new.host c.checked.result read.rest read.asked read.cause c.checked.ensures.cause
-    c.checked.ensures.no_usage
+    c.checked.ensures.unread
 
 pub returns-in-Err-Absent-clause-told : goal.returns-in-Err-Absent-clause-told
 returns-in-Err-Absent-clause-told g c =

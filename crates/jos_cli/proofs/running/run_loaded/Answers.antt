@@ -1,22 +1,19 @@
 use Rattle.std.proofs.Common.{ap, subst, ◌∙◌}
 use Rattle.jos_host.specs.Frames.{around}
 use Rattle.jos_words.specs.Commands.{run_in_bytes}
+use Rattle.jos_elf.specs.Parsed.{parsed}
 use Rattle.jos_run.specs.RunEnds.{Job, AnswersFor}
 use Rattle.jos_cli.specs.Stages.{settings_of}
-use Rattle.jos_cli.proofs.RunAnswered.{given_is, first_is_read}
+use Rattle.jos_cli.proofs.RunAnswered.{given_is}
 use Rattle.jos_cli.proofs.running.run_loaded.Goals as goal
 
 pub run-requires-clause-read : goal.run-requires-clause-read
-run-requires-clause-read g c =
-    let images = c.args.read.images in
-    first_is_read images.images.items images.files.items c.index.result.now c.index-2.result.now c.deref.result.now c.requires.count c.requires.pairs c.requires.read
-    c.index.ensures c.index-2.ensures c.deref.ensures.value
+run-requires-clause-read g c = ap parsed c.deref.ensures.value ∙ c.requires.read
 
 pub returns-clause-told : goal.returns-clause-told
 returns-clause-told g c =
     let read = c.args.read in
     subst (λ (p : Job). AnswersFor p c.run.result (around g.H.Host.console c.args.host.now c.run.new.host))
-    (given_is (run_in_bytes c.args.words.now) read.schedule read.input.items _ _ c.requires.may.are
-    (c.settings_of-settings.ensures.settings ∙ ap settings_of c.numbers_of_run.ensures) read.images.images.items read.images.files.items c.index.result.now c.index-2.result.now
-    c.deref.result.now c.requires.count c.requires.pairs c.index.ensures c.index-2.ensures c.deref.ensures.value)
+    (given_is (run_in_bytes c.args.words.now) read.schedule read.input.items _ _ read.image read.file.items c.deref.result.now c.requires.may.are
+    (c.settings_of-settings.ensures.settings ∙ ap settings_of c.numbers_of_run.ensures) c.deref.ensures.value)
     c.run.ensures.told

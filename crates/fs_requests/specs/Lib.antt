@@ -1,0 +1,2 @@
+pub mod ServerWords
+pub mod ServerPlans

@@ -1,0 +1,5 @@
+pub mod CallsLive
+pub mod WordsSet
+pub mod Stopped
+pub mod JobsWorked
+pub mod Flushed

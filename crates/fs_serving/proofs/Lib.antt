@@ -1,0 +1,15 @@
+pub mod Pieces
+pub mod SameTables
+pub mod Tables
+pub mod HeldFiles
+pub mod ActsDone
+pub mod Acting
+pub mod Working
+pub mod Opening
+pub mod Opened
+pub mod OfFiles
+pub mod Storing
+pub mod Removing
+pub mod Finding
+pub mod Served
+pub mod ServedWhole
