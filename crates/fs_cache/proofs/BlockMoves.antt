@@ -35,7 +35,7 @@ use Rattle.lib_os.specs.UserCalls.{IsReadBy, IsSentBy, FilesBehindBy, block_put,
 use Rattle.lib_os.proofs.BytesPut.{bytes_put, page_put, put_is, put_there, put_whole, spaces_put}
 use Rattle.lib_os.proofs.DiskBytes.{below_is, blocks_written}
 use Rattle.lib_os.proofs.Touching.{region_quiet}
-use Rattle.fs_cache.specs.CachePlans.{page_perm}
+use Rattle.fs_blocks.specs.CachePlans.{page_perm}
 use Rattle.fs_cache.specs.CacheStands.{CacheView, IsBlockEntry, cache_view, was_used}
 use Rattle.fs_cache.specs.CacheSteps.{Caller, of_block}
 use Rattle.fs_cache.proofs.Loads.{number_below, number_of, own_number, row_below, row_past}

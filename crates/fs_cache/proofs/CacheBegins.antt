@@ -4,13 +4,13 @@ use Rattle.std.specs.Prelude.{nat_le}
 use Rattle.jos_base.specs.declared.numbers.TheConstants.{NPTENTRIES}
 use Rattle.lib_os.specs.declared.numbers.TheConstants.{CACHE_BLOCKS}
 use Rattle.lib_os.specs.Disk.{Disk}
-use Rattle.fs_cache.specs.declared.place.CachePlace.{CachePlace}
-use Rattle.fs_cache.specs.declared.place.CachePlace.TheVariants as at
-use Rattle.fs_cache.specs.declared.plan.CacheNext.{CacheNext}
-use Rattle.fs_cache.specs.declared.plan.Told.{Told}
-use Rattle.fs_cache.specs.declared.plan.Told.TheVariants as told
-use Rattle.fs_cache.specs.CachePlans.{IsOwnAsk, ask_by, ask_entry, ask_region, block_of, fetching, flushing, further}
-use Rattle.fs_cache.specs.CachePlans.{go_on, is_there, is_used, is_written, next_by, pass, rest_of_region, weigh}
+use Rattle.fs_blocks.specs.declared.place.CachePlace.{CachePlace}
+use Rattle.fs_blocks.specs.declared.place.CachePlace.TheVariants as at
+use Rattle.fs_blocks.specs.declared.plan.CacheNext.{CacheNext}
+use Rattle.fs_blocks.specs.declared.plan.Told.{Told}
+use Rattle.fs_blocks.specs.declared.plan.Told.TheVariants as told
+use Rattle.fs_blocks.specs.CachePlans.{IsOwnAsk, ask_by, ask_entry, ask_region, block_of, fetching, flushing, further}
+use Rattle.fs_blocks.specs.CachePlans.{go_on, is_there, is_used, is_written, next_by, pass, rest_of_region, weigh}
 use Rattle.fs_cache.specs.CacheStands.{CacheView, CacheStands, cached_at}
 use Rattle.fs_cache.proofs.Views.{IsFetching}
 

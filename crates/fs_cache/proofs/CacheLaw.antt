@@ -18,16 +18,16 @@ use Rattle.lib_os.specs.BlockCache.{CachedBlocks, KeepsValues, is_dirty}
 use Rattle.lib_os.specs.Disk.{Disk, HasBlocks, disk_in}
 use Rattle.lib_os.specs.InOrder.{IsInOrder}
 use Rattle.lib_os.specs.UserCalls.{Output, is_file_server}
-use Rattle.fs_cache.specs.declared.place.CachePlace.{CachePlace}
-use Rattle.fs_cache.specs.declared.place.CachePlace.TheVariants as at
-use Rattle.fs_cache.specs.declared.place.CacheState.{CacheState}
-use Rattle.fs_cache.specs.declared.plan.CacheAsk.TheVariants as ask
-use Rattle.fs_cache.specs.declared.plan.Told.{Told}
-use Rattle.fs_cache.specs.declared.plan.Told.TheVariants as told
+use Rattle.fs_blocks.specs.declared.place.CachePlace.{CachePlace}
+use Rattle.fs_blocks.specs.declared.place.CachePlace.TheVariants as at
+use Rattle.fs_blocks.specs.declared.place.CacheState.{CacheState}
+use Rattle.fs_blocks.specs.declared.plan.CacheAsk.TheVariants as ask
+use Rattle.fs_blocks.specs.declared.plan.Told.{Told}
+use Rattle.fs_blocks.specs.declared.plan.Told.TheVariants as told
 use Rattle.fs_cache.specs.declared.steps.Cached.TheVariants as cached
 use Rattle.fs_cache.specs.declared.steps.Flushed.TheVariants as flushed
-use Rattle.fs_cache.specs.CachePlaces.{state_in, with_state}
-use Rattle.fs_cache.specs.CachePlans.{ask_by, block_of, fetching, flushing, next_by}
+use Rattle.fs_blocks.specs.CachePlaces.{state_in, with_state}
+use Rattle.fs_blocks.specs.CachePlans.{ask_by, block_of, fetching, flushing, next_by}
 use Rattle.fs_cache.specs.CacheStands.{CacheAt, CacheStands, CacheView, HoldsBlock, cache_view, cached_at, cached_in, was_used}
 use Rattle.fs_cache.specs.CacheSteps.{Caller, FilesAfter, HasGone, by_word, stopped, IsReply, KeepsCache}
 use Rattle.fs_cache.specs.CacheSteps.{FetchTells, FetchTold, FlushTells, FlushTold, IsBlockStep, as_cached, as_flushed}
@@ -35,7 +35,7 @@ use Rattle.fs_cache.specs.CacheSteps.{cache_state, fetch_left, fetch_state, flus
 use Rattle.fs_cache.proofs.CacheBegins.{IsUnderWay, fetch_caches, fetch_fetches, fetch_goes, fetch_stands}
 use Rattle.fs_cache.proofs.CacheBegins.{fetch_tells, FetchEnds, goes_on, gives_up}
 use Rattle.fs_cache.proofs.CacheBegins.{flush_caches, flush_goes, flush_stands, own_ask}
-use Rattle.fs_cache.proofs.CacheWords.{length_with, state_back}
+use Rattle.fs_blocks.proofs.CacheWords.{length_with, state_back}
 use Rattle.fs_cache.proofs.Interfaces.{BlockIsRead, BlockIsWritten, CallerStays, EntryIsRead, IsServer}
 use Rattle.fs_cache.proofs.Interfaces.{LoadsGive, PageIsMapped, PageIsTaken, PageIsUnmapped}
 use Rattle.fs_cache.proofs.Interfaces.{RegionIsRead, view_in}

@@ -22,8 +22,8 @@ use Rattle.lib_os.proofs.BytesPut.{put_is}
 use Rattle.lib_os.proofs.Calls.{answer_is, system_is}
 use Rattle.lib_os.proofs.Loading.{loaded_state}
 use Rattle.lib_os.proofs.Slots.{slot_put}
-use Rattle.fs_cache.specs.declared.plan.CacheAsk.TheVariants as ask
-use Rattle.fs_cache.specs.CachePlans.{is_page_call}
+use Rattle.fs_blocks.specs.declared.plan.CacheAsk.TheVariants as ask
+use Rattle.fs_blocks.specs.CachePlans.{is_page_call}
 use Rattle.fs_cache.specs.CacheSteps.{of_block}
 use Rattle.fs_cache.proofs.Interfaces.{CallerStays, SlotStays}
 

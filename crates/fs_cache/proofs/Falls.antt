@@ -5,11 +5,11 @@ use Rattle.std.proofs.lemmas.Bool.{leb-false}
 use Rattle.jos_base.specs.declared.numbers.TheConstants.{NPTENTRIES}
 use Rattle.lib_os.specs.declared.numbers.TheConstants.{CACHE_BLOCKS}
 use Rattle.lib_os.specs.Disk.{Disk}
-use Rattle.fs_cache.specs.declared.place.CachePlace.{CachePlace}
-use Rattle.fs_cache.specs.declared.place.CachePlace.TheVariants as at
-use Rattle.fs_cache.specs.declared.plan.CacheNext.{CacheNext}
-use Rattle.fs_cache.specs.declared.plan.Told.TheVariants as told
-use Rattle.fs_cache.specs.CachePlans.{block_of, flush_from, go_on, is_there, is_written, next_by, rest_of_region}
+use Rattle.fs_blocks.specs.declared.place.CachePlace.{CachePlace}
+use Rattle.fs_blocks.specs.declared.place.CachePlace.TheVariants as at
+use Rattle.fs_blocks.specs.declared.plan.CacheNext.{CacheNext}
+use Rattle.fs_blocks.specs.declared.plan.Told.TheVariants as told
+use Rattle.fs_blocks.specs.CachePlans.{block_of, flush_from, go_on, is_there, is_written, next_by, rest_of_region}
 use Rattle.fs_cache.specs.CacheStands.{CacheView, CacheStands}
 use Rattle.fs_cache.specs.CacheSteps.{cached_count, used_count, fetch_left, flush_left}
 use Rattle.fs_cache.proofs.Views.{DoneAt, FetchFalls, FlushFalls, IsFetching, left_by}

@@ -8,11 +8,11 @@ use Rattle.jos_base.specs.Reach.{Entry}
 use Rattle.lib_os.specs.declared.numbers.TheConstants.{CACHE_BLOCKS}
 use Rattle.lib_os.specs.Disk.{Disk}
 use Rattle.lib_os.specs.Rows.{EntryRow}
-use Rattle.fs_cache.specs.declared.place.CachePlace.{CachePlace}
-use Rattle.fs_cache.specs.declared.place.CachePlace.TheVariants as at
-use Rattle.fs_cache.specs.declared.plan.CacheNext.{CacheNext}
-use Rattle.fs_cache.specs.declared.plan.Told.TheVariants as told
-use Rattle.fs_cache.specs.CachePlans.{block_of, further, go_on, is_there, is_used, is_written, next_by, page_perm, pass, rest_of_region, weigh}
+use Rattle.fs_blocks.specs.declared.place.CachePlace.{CachePlace}
+use Rattle.fs_blocks.specs.declared.place.CachePlace.TheVariants as at
+use Rattle.fs_blocks.specs.declared.plan.CacheNext.{CacheNext}
+use Rattle.fs_blocks.specs.declared.plan.Told.TheVariants as told
+use Rattle.fs_blocks.specs.CachePlans.{block_of, further, go_on, is_there, is_used, is_written, next_by, page_perm, pass, rest_of_region, weigh}
 use Rattle.fs_cache.specs.CacheStands.{CacheView, was_used}
 use Rattle.fs_cache.specs.CacheSteps.{cached_count, used_count, fetch_left, giving_left, taking_left, steps_of_page, steps_of_round}
 use Rattle.fs_cache.proofs.Views.{MappedTo, ReadEntry, ReadRegion, TookPage, Unmapped, ViewKept, Written, left_by}

@@ -9,10 +9,10 @@ use Rattle.lib_os.specs.declared.user_os.Stop.{Stop}
 use Rattle.lib_os.specs.Disk.{Disk, HasBlocks, disk_in}
 use Rattle.lib_os.specs.InOrder.{IsInOrder}
 use Rattle.lib_os.specs.UserCalls.{Output, is_file_server}
-use Rattle.fs_cache.specs.declared.plan.CacheAsk.{CacheAsk}
-use Rattle.fs_cache.specs.declared.plan.CacheAsk.TheVariants as ask
-use Rattle.fs_cache.specs.declared.place.CachePlace.{CachePlace}
-use Rattle.fs_cache.specs.CachePlans.{ask_region, ask_entry, ask_page, ask_map, ask_unmap, IsOwnAsk}
+use Rattle.fs_blocks.specs.declared.plan.CacheAsk.{CacheAsk}
+use Rattle.fs_blocks.specs.declared.plan.CacheAsk.TheVariants as ask
+use Rattle.fs_blocks.specs.declared.place.CachePlace.{CachePlace}
+use Rattle.fs_blocks.specs.CachePlans.{ask_region, ask_entry, ask_page, ask_map, ask_unmap, IsOwnAsk}
 use Rattle.fs_cache.specs.CacheStands.{CacheView, CacheStands, cache_view}
 use Rattle.fs_cache.specs.CacheSteps.{Caller, FilesAfter, IsReply}
 use Rattle.fs_cache.proofs.Views.{Filled, MappedTo, ReadEntry, ReadRegion, TookPage, Unmapped, Written}

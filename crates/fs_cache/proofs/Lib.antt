@@ -1,6 +1,5 @@
 pub mod Views
 pub mod Interfaces
-pub mod CacheWords
 pub mod Loads
 pub mod MovesBearing
 pub mod MovesRound

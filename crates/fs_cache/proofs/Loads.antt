@@ -29,7 +29,7 @@ use Rattle.lib_os.proofs.EntryWords.{region_told}
 use Rattle.lib_os.proofs.Loading.{loaded_state, loaded_word}
 use Rattle.lib_os.proofs.Touching.{region_quiet}
 use Rattle.lib_os.proofs.WindowWords.{load_directory_word, load_table_word, directory_touched, table_touched}
-use Rattle.fs_cache.specs.CachePlans.{is_there, is_used, is_written, page_of, page_perm}
+use Rattle.fs_blocks.specs.CachePlans.{is_there, is_used, is_written, page_of, page_perm}
 use Rattle.fs_cache.specs.CacheStands.{IsBlockEntry, cache_view}
 use Rattle.fs_cache.proofs.Views.{ReadEntry, ReadRegion, ViewKept}
 use Rattle.fs_cache.proofs.Interfaces.{EntryIsRead, LoadsGive, RegionIsRead, view_in}

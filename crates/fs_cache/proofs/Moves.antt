@@ -6,11 +6,11 @@ use Rattle.jos_base.specs.Reach.{Entry}
 use Rattle.lib_os.specs.declared.numbers.TheConstants.{CACHE_BLOCKS}
 use Rattle.lib_os.specs.BlockCache.{is_dirty}
 use Rattle.lib_os.specs.Disk.{Disk}
-use Rattle.fs_cache.specs.declared.place.CachePlace.{CachePlace}
-use Rattle.fs_cache.specs.declared.place.CachePlace.TheVariants as at
-use Rattle.fs_cache.specs.declared.plan.CacheNext.{CacheNext}
-use Rattle.fs_cache.specs.declared.plan.Told.TheVariants as told
-use Rattle.fs_cache.specs.CachePlans.{block_of, flush_from, further, go_on, is_there, is_written, next_by, pass, rest_of_region, weigh}
+use Rattle.fs_blocks.specs.declared.place.CachePlace.{CachePlace}
+use Rattle.fs_blocks.specs.declared.place.CachePlace.TheVariants as at
+use Rattle.fs_blocks.specs.declared.plan.CacheNext.{CacheNext}
+use Rattle.fs_blocks.specs.declared.plan.Told.TheVariants as told
+use Rattle.fs_blocks.specs.CachePlans.{block_of, flush_from, further, go_on, is_there, is_written, next_by, pass, rest_of_region, weigh}
 use Rattle.fs_cache.specs.CacheStands.{CacheView, CacheStands, AreClean, ArePassingOn, HoldsBlock, filling_at, was_used}
 use Rattle.fs_cache.proofs.Views.{BytesKept, DiskSet, DoneAt, EndsRightly, Filled, MappedTo, ReadEntry, ReadRegion, RowSet, StandsBehind, TookPage, Unmapped, ViewKept, Written, filled, mapped, not_there, refused, took, written}
 use Rattle.fs_cache.proofs.MovesBearing.{Bears, Carried, bears, entry_of, exactly_other, goes, kept, not_both, not_some, some_same}

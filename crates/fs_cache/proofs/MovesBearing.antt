@@ -11,9 +11,10 @@ use Rattle.lib_os.specs.declared.numbers.TheConstants.{CACHE_BLOCKS}
 use Rattle.lib_os.specs.BlockCache.{KeepsValues, IsCache, cached_by}
 use Rattle.lib_os.specs.Disk.{Disk}
 use Rattle.lib_os.specs.Rows.{IsPage}
-use Rattle.fs_cache.specs.declared.place.CachePlace.{CachePlace}
-use Rattle.fs_cache.specs.declared.place.CacheState.{CacheState}
-use Rattle.fs_cache.specs.CacheStands.{CacheView, CacheStands, HoldsAt, IsBlockEntry, ArePassingOn, block_at, cached_at, filling_at}
+use Rattle.fs_blocks.specs.declared.place.CachePlace.{CachePlace}
+use Rattle.fs_blocks.specs.declared.place.CacheState.{CacheState}
+use Rattle.fs_blocks.specs.CachePlaces.{block_at}
+use Rattle.fs_cache.specs.CacheStands.{CacheView, CacheStands, HoldsAt, IsBlockEntry, ArePassingOn, cached_at, filling_at}
 use Rattle.fs_cache.proofs.Views.{ViewKept}
 
 -- ---- entries and tests

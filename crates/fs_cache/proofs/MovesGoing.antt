@@ -8,12 +8,13 @@ use Rattle.jos_base.specs.Words.{has_bit}
 use Rattle.lib_os.specs.declared.numbers.TheConstants.{CACHE_BLOCKS}
 use Rattle.lib_os.specs.BlockCache.{is_dirty}
 use Rattle.lib_os.specs.Disk.{Disk}
-use Rattle.fs_cache.specs.declared.place.CachePlace.{CachePlace}
-use Rattle.fs_cache.specs.declared.place.CachePlace.TheVariants as at
-use Rattle.fs_cache.specs.declared.plan.CacheNext.{CacheNext}
-use Rattle.fs_cache.specs.declared.plan.Told.TheVariants as told
-use Rattle.fs_cache.specs.CachePlans.{flush_from, further, go_on, is_there, is_used, is_written, pass, weigh}
-use Rattle.fs_cache.specs.CacheStands.{CacheView, AreClean, ArePassingOn, HoldsAt, HoldsBlock, IsGiven, IsSeeking, NonePassed, block_at, filling_at, was_used}
+use Rattle.fs_blocks.specs.declared.place.CachePlace.{CachePlace}
+use Rattle.fs_blocks.specs.declared.place.CachePlace.TheVariants as at
+use Rattle.fs_blocks.specs.declared.plan.CacheNext.{CacheNext}
+use Rattle.fs_blocks.specs.declared.plan.Told.TheVariants as told
+use Rattle.fs_blocks.specs.CachePlans.{flush_from, further, go_on, is_there, is_used, is_written, pass, weigh}
+use Rattle.fs_blocks.specs.CachePlaces.{block_at}
+use Rattle.fs_cache.specs.CacheStands.{CacheView, AreClean, ArePassingOn, HoldsAt, HoldsBlock, IsGiven, IsSeeking, NonePassed, filling_at, was_used}
 use Rattle.fs_cache.proofs.Views.{ReadEntry, ViewKept}
 use Rattle.fs_cache.proofs.MovesBearing.{Carried, Goes, goes, not_both}
 use Rattle.fs_cache.proofs.MovesKinds.{Nobody}

@@ -5,8 +5,8 @@ use Rattle.jos_base.specs.Reach.{Entry}
 use Rattle.jos_base.specs.Words.{has_bit, is_exactly}
 use Rattle.lib_os.specs.Disk.{Disk}
 use Rattle.lib_os.specs.Rows.{IsPage}
-use Rattle.fs_cache.specs.declared.place.CachePlace.TheVariants as at
-use Rattle.fs_cache.specs.CachePlans.{page_perm}
+use Rattle.fs_blocks.specs.declared.place.CachePlace.TheVariants as at
+use Rattle.fs_blocks.specs.CachePlans.{page_perm}
 use Rattle.fs_cache.specs.CacheStands.{CacheView, ArePassingOn, HoldsBlock, IsBlockEntry}
 use Rattle.fs_cache.proofs.Views.{BytesBeside, BytesKept, RowSet, Unmapped}
 use Rattle.fs_cache.proofs.MovesBearing.{Bears, Carried, put, value_by, some_same, not_some, not_both, exactly_at, exactly_other}

@@ -4,7 +4,7 @@ use Rattle.std.proofs.lemmas.Bool.Decides.{nat_tests}
 use Rattle.jos_base.specs.declared.numbers.TheConstants.{NPTENTRIES}
 use Rattle.lib_os.specs.declared.numbers.TheConstants.{CACHE_BLOCKS}
 use Rattle.lib_os.specs.Rows.{EntryRow}
-use Rattle.fs_cache.specs.CachePlans.{block_of, further, rest_of_region}
+use Rattle.fs_blocks.specs.CachePlans.{block_of, further, rest_of_region}
 use Rattle.fs_cache.specs.CacheStands.{NonePassed}
 
 -- ---- the round

@@ -19,7 +19,7 @@ use Rattle.lib_os.specs.UserCalls.{CallStep, IsCallStep, answer_of, system}
 use Rattle.lib_os.proofs.Calls.{comes_to, page_asked, page_made_or_refused}
 use Rattle.lib_os.proofs.PageBytes.{zero_page_whole}
 use Rattle.jos_base.proofs.Maps.{upd-at, upd-other}
-use Rattle.fs_cache.specs.CachePlans.{block_of, page_perm}
+use Rattle.fs_blocks.specs.CachePlans.{block_of, page_perm}
 use Rattle.fs_cache.specs.CacheStands.{cache_view}
 use Rattle.fs_cache.proofs.Views.{TookPage}
 use Rattle.fs_cache.proofs.Interfaces.{PageIsTaken, view_in}

@@ -24,7 +24,7 @@ use Rattle.lib_os.proofs.Remapping.{given_on, inserted_already, page_map_is}
 use Rattle.jos_base.proofs.Counts.{page_count-some}
 use Rattle.jos_base.proofs.Puts.{put-at, put-other, put-holds}
 use Rattle.jos_base.proofs.Released.{released_entries, released_regions}
-use Rattle.fs_cache.specs.CachePlans.{block_of, page_perm}
+use Rattle.fs_blocks.specs.CachePlans.{block_of, page_perm}
 use Rattle.fs_cache.specs.CacheStands.{IsBlockEntry}
 use Rattle.fs_cache.specs.CacheSteps.{Caller}
 use Rattle.fs_cache.proofs.Views.{MappedTo, Unmapped}

@@ -16,7 +16,7 @@ use Rattle.lib_os.specs.BlockCache.{block_address, block_row, entry_behind, own_
 use Rattle.lib_os.specs.InOrder.{HasOneUse, AreFree}
 use Rattle.jos_base.proofs.Maps.{upd-other}
 use Rattle.jos_base.proofs.Puts.{put-at, put-other, put-holds}
-use Rattle.fs_cache.specs.CachePlans.{block_of}
+use Rattle.fs_blocks.specs.CachePlans.{block_of}
 use Rattle.fs_cache.specs.CacheStands.{cache_view}
 use Rattle.fs_cache.proofs.Views.{RowSet}
 

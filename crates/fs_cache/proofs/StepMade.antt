@@ -6,12 +6,12 @@ use Rattle.jos_base.specs.KernelState.{KernelState, slot_at, with_extra}
 use Rattle.lib_os.specs.declared.user_os.Stop.{Stop}
 use Rattle.lib_os.specs.declared.user_os.Stop.TheVariants as stop
 use Rattle.lib_os.specs.UserCalls.{Output}
-use Rattle.fs_cache.specs.declared.place.CacheState.{CacheState}
-use Rattle.fs_cache.specs.declared.plan.CacheAsk.{CacheAsk}
-use Rattle.fs_cache.specs.declared.plan.CacheNext.{CacheNext}
-use Rattle.fs_cache.specs.declared.plan.Told.TheVariants as told
-use Rattle.fs_cache.specs.CachePlaces.{with_state}
-use Rattle.fs_cache.specs.CachePlans.{ask_at, next_at}
+use Rattle.fs_blocks.specs.declared.place.CacheState.{CacheState}
+use Rattle.fs_blocks.specs.declared.plan.CacheAsk.{CacheAsk}
+use Rattle.fs_blocks.specs.declared.plan.CacheNext.{CacheNext}
+use Rattle.fs_blocks.specs.declared.plan.Told.TheVariants as told
+use Rattle.fs_blocks.specs.CachePlaces.{with_state}
+use Rattle.fs_blocks.specs.CachePlans.{ask_at, next_at}
 use Rattle.fs_cache.specs.CacheSteps.{Caller, FilesAfter, HasGone, by_word, stopped, IsReply, gone_on}
 
 -- ---- why a call was stopped

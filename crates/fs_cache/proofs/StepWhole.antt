@@ -18,8 +18,8 @@ use Rattle.lib_os.specs.declared.user_os.Stop.TheVariants as stop
 use Rattle.lib_os.specs.Disk.{HasBlocks}
 use Rattle.lib_os.specs.UserCalls.{BlockCall, FilesBehindBy, Output, is_file_server, may_write_block, page_bytes, user_byte}
 use Rattle.lib_os.proofs.DiskBytes.{written_length}
-use Rattle.fs_cache.specs.declared.plan.CacheAsk.{CacheAsk}
-use Rattle.fs_cache.specs.declared.plan.CacheAsk.TheVariants as ask
+use Rattle.fs_blocks.specs.declared.plan.CacheAsk.{CacheAsk}
+use Rattle.fs_blocks.specs.declared.plan.CacheAsk.TheVariants as ask
 use Rattle.fs_cache.specs.CacheSteps.{Caller, FilesAfter, IsReply, of_block}
 
 bytes_with : (files : Files) (name bytes : List ℕ) → bytes_of (with_bytes files name bytes) name ≡ bytes

@@ -7,10 +7,10 @@ use Rattle.lib_os.specs.declared.numbers.TheConstants.{CACHE_BLOCKS}
 use Rattle.lib_os.specs.BlockCache.{KeepsValues, is_dirty}
 use Rattle.lib_os.specs.Disk.{Disk}
 use Rattle.lib_os.specs.Rows.{IsPage}
-use Rattle.fs_cache.specs.declared.place.CachePlace.{CachePlace}
-use Rattle.fs_cache.specs.declared.place.CachePlace.TheVariants as at
-use Rattle.fs_cache.specs.declared.plan.Told.TheVariants as told
-use Rattle.fs_cache.specs.CachePlans.{is_there, is_used, is_written, next_by, page_perm}
+use Rattle.fs_blocks.specs.declared.place.CachePlace.{CachePlace}
+use Rattle.fs_blocks.specs.declared.place.CachePlace.TheVariants as at
+use Rattle.fs_blocks.specs.declared.plan.Told.TheVariants as told
+use Rattle.fs_blocks.specs.CachePlans.{is_there, is_used, is_written, next_by, page_perm}
 use Rattle.fs_cache.specs.CacheStands.{CacheView, CacheStands, IsBlockEntry, cached_at, was_used}
 use Rattle.fs_cache.specs.CacheSteps.{cached_count, used_count, fetch_left, flush_left}
 

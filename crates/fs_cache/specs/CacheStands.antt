@@ -14,10 +14,10 @@ use Rattle.lib_os.specs.InOrder.{IsInOrder}
 use Rattle.lib_os.specs.LibraryPages.{region_index}
 use Rattle.lib_os.specs.Rows.{EntryRow, IsPage}
 use Rattle.lib_os.specs.UserCalls.{is_file_server}
-use Rattle.fs_cache.specs.declared.place.CachePlace.{CachePlace}
-use Rattle.fs_cache.specs.declared.place.CachePlace.TheVariants as at
-use Rattle.fs_cache.specs.CachePlaces.{state_in}
-use Rattle.fs_cache.specs.CachePlans.{further, page_perm}
+use Rattle.fs_blocks.specs.declared.place.CachePlace.{CachePlace}
+use Rattle.fs_blocks.specs.declared.place.CachePlace.TheVariants as at
+use Rattle.fs_blocks.specs.CachePlaces.{block_at, state_in}
+use Rattle.fs_blocks.specs.CachePlans.{further, page_perm}
 
 -- ---- what is seen of a space
 
@@ -104,28 +104,6 @@ HoldsAt (at.FlushRegion block) hand d v = AreClean v.row block
 HoldsAt (at.FlushPage block) hand d v = AreClean v.row block × (v.tables (block / NPTENTRIES) ≡ true)
 HoldsAt (at.FlushWriting block) hand d v = AreClean v.row block × (is_some (v.row block) ≡ true) × (v.tables (block / NPTENTRIES) ≡ true)
 HoldsAt (at.FlushSettling block) hand d v = AreClean v.row block × HoldsBlock d v block × (v.tables (block / NPTENTRIES) ≡ true)
-
--- the number of the block that it is about
-abbrev pub block_at : CachePlace → ℕ
-block_at at.Resting = 0
-block_at (at.Found block) = block
-block_at (at.LookingRegion block) = block
-block_at (at.LookingPage block) = block
-block_at (at.Taking block) = block
-block_at (at.Filling block) = block
-block_at (at.Settling block) = block
-block_at (at.HandRegion block left) = block
-block_at (at.HandPage block left) = block
-block_at (at.WritingBack block) = block
-block_at (at.Passing block) = block
-block_at (at.Moving block) = block
-block_at (at.Leaving block) = block
-block_at (at.Freeing block) = block
-block_at (at.TakingLast block) = block
-block_at (at.FlushRegion block) = block
-block_at (at.FlushPage block) = block
-block_at (at.FlushWriting block) = block
-block_at (at.FlushSettling block) = block
 
 -- ---- what is known at each place
 

@@ -16,19 +16,19 @@ use Rattle.lib_os.specs.Rows.{EntryRow}
 use Rattle.lib_os.specs.UserCalls as call
 use Rattle.lib_os.specs.UserCalls.{BlockCall, block_call, answer_of, IsStep, IsCallStep, may_read_block}
 use Rattle.lib_os.specs.UserCalls.{may_write_block, IsBlockRead, IsBlockWrite, FilesBehind, Output, Prints}
-use Rattle.fs_cache.specs.declared.place.CachePlace.{CachePlace}
-use Rattle.fs_cache.specs.declared.place.CachePlace.TheVariants as at
-use Rattle.fs_cache.specs.declared.place.CacheState.{CacheState}
-use Rattle.fs_cache.specs.declared.plan.CacheAsk.{CacheAsk}
-use Rattle.fs_cache.specs.declared.plan.CacheAsk.TheVariants as ask
-use Rattle.fs_cache.specs.declared.plan.Told.{Told}
-use Rattle.fs_cache.specs.declared.plan.Told.TheVariants as told
+use Rattle.fs_blocks.specs.declared.place.CachePlace.{CachePlace}
+use Rattle.fs_blocks.specs.declared.place.CachePlace.TheVariants as at
+use Rattle.fs_blocks.specs.declared.place.CacheState.{CacheState}
+use Rattle.fs_blocks.specs.declared.plan.CacheAsk.{CacheAsk}
+use Rattle.fs_blocks.specs.declared.plan.CacheAsk.TheVariants as ask
+use Rattle.fs_blocks.specs.declared.plan.Told.{Told}
+use Rattle.fs_blocks.specs.declared.plan.Told.TheVariants as told
 use Rattle.fs_cache.specs.declared.steps.Cached.{Cached}
 use Rattle.fs_cache.specs.declared.steps.Cached.TheVariants as cached
 use Rattle.fs_cache.specs.declared.steps.Flushed.{Flushed}
 use Rattle.fs_cache.specs.declared.steps.Flushed.TheVariants as flushed
-use Rattle.fs_cache.specs.CachePlaces.{state_in, with_state}
-use Rattle.fs_cache.specs.CachePlans.{ask_at, next_at, fetching, flushing}
+use Rattle.fs_blocks.specs.CachePlaces.{state_in, with_state}
+use Rattle.fs_blocks.specs.CachePlans.{ask_at, next_at, fetching, flushing}
 use Rattle.fs_cache.specs.CacheStands.{CacheAt, cached_in, was_used}
 
 -- ---- one call

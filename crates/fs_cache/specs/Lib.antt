@@ -1,4 +1,2 @@
-pub mod CachePlans
-pub mod CachePlaces
 pub mod CacheStands
 pub mod CacheSteps

@@ -9,14 +9,15 @@ ghost use Rattle.lib_os.specs.declared.numbers.TheConstants.{CACHE_BLOCKS};
 ghost use Rattle.lib_os.specs.Disk.{HasBlocks};
 ghost use Rattle.lib_os.specs.InOrder.{IsInOrder};
 ghost use Rattle.lib_os.specs.UserCalls.{HasStopCause, output};
-ghost use Rattle.fs_cache.specs.CachePlans as plans;
+ghost use Rattle.fs_blocks.specs.CachePlans as plans;
 ghost use Rattle.fs_cache.specs.CacheSteps as cache;
 ghost use Rattle.fs_cache.specs.CacheSteps.{caller, calls_made, IsReply, FilesAfter, IsCacheStep, IsBlockStep, IsFlushStep};
 ghost use Rattle.fs_cache.specs.CacheSteps.{KeepsCacheWhereDone, FetchTold, FlushTold};
 
-use crate::place::{CachePlace, CacheState};
-use crate::plan::{CacheAsk, Told, address_of, ask_at, fetching, flushing, next_at};
-use crate::words::{find_state, with_state};
+use fs_blocks::{
+    CacheAsk, CachePlace, CacheState, Told, address_of, ask_at, fetching, find_state, flushing,
+    next_at, with_state,
+};
 use jos_host::{Failed, Host};
 use lib_os::{Stop, UserOs, answer_of};
 

@@ -11,8 +11,8 @@ use Rattle.lib_os.specs.UserCalls.{CallStep, Output, system}
 use Rattle.lib_os.proofs.Calls.{getenvid_is, yield_is}
 use Rattle.lib_os.proofs.Slots.{slot_put}
 use Rattle.lib_os.proofs.Trying.{recv_lives, try_send_answered}
-use Rattle.fs_cache.specs.declared.plan.CacheAsk.TheVariants as cache
-use Rattle.fs_cache.specs.CachePlans.{is_page_call}
+use Rattle.fs_blocks.specs.declared.plan.CacheAsk.TheVariants as cache
+use Rattle.fs_blocks.specs.CachePlans.{is_page_call}
 use Rattle.fs_cache.specs.CacheSteps.{caller}
 use Rattle.fs_cache.proofs.Callers.{caller_stays}
 use Rattle.fs_jobs.specs.declared.asks.TreeAsk.TheVariants as tree

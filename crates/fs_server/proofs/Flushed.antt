@@ -8,13 +8,13 @@ use Rattle.lib_os.specs.declared.progress.Progress.TheVariants as progress
 use Rattle.lib_os.specs.Disk.{DiskFile}
 use Rattle.lib_os.specs.UserCalls.{Output}
 use Rattle.lib_os.proofs.Slots.{slot_put}
-use Rattle.fs_cache.specs.declared.place.CacheState.{CacheState}
-use Rattle.fs_cache.specs.declared.plan.Told.{Told}
-use Rattle.fs_cache.specs.declared.plan.Told.TheVariants as told
+use Rattle.fs_blocks.specs.declared.place.CacheState.{CacheState}
+use Rattle.fs_blocks.specs.declared.plan.Told.{Told}
+use Rattle.fs_blocks.specs.declared.plan.Told.TheVariants as told
 use Rattle.fs_cache.specs.declared.steps.Flushed.TheVariants as flushed
-use Rattle.fs_cache.specs.CachePlaces.{with_state}
-use Rattle.fs_cache.specs.CachePlans as plans
-use Rattle.fs_cache.specs.CachePlans.{ask_at}
+use Rattle.fs_blocks.specs.CachePlaces.{with_state}
+use Rattle.fs_blocks.specs.CachePlans as plans
+use Rattle.fs_blocks.specs.CachePlans.{ask_at}
 use Rattle.fs_cache.specs.CacheSteps.{FlushTold, HasGone, IsFlushStep, KeepsCacheWhereDone, as_flushed, by_word, caller, flush_state, stopped}
 use Rattle.fs_cache.proofs.CacheBegins.{own_ask}
 use Rattle.fs_cache.proofs.Callers.{caller_stays}

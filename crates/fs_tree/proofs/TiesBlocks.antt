@@ -20,8 +20,8 @@ use Rattle.lib_os.specs.Disk.{Disk}
 use Rattle.lib_os.specs.InOrder.{IsInOrder}
 use Rattle.lib_os.specs.Rows.{IsPage}
 use Rattle.lib_os.specs.UserCalls.{user_byte}
-use Rattle.fs_cache.specs.declared.place.CachePlace.{CachePlace}
-use Rattle.fs_cache.specs.declared.place.CachePlace.TheVariants as at
+use Rattle.fs_blocks.specs.declared.place.CachePlace.{CachePlace}
+use Rattle.fs_blocks.specs.declared.place.CachePlace.TheVariants as at
 use Rattle.fs_cache.specs.CacheStands.{CacheAt, CacheStands, CacheView, IsBlockEntry, cache_view, cached_at, cached_in}
 use Rattle.fs_cache.specs.CacheSteps.{cache_state, row_in}
 use Rattle.fs_cache.proofs.Loads.{number_of, row_below, row_past}

@@ -35,8 +35,8 @@ use Rattle.lib_os.proofs.Calls.{comes_to, made_step, page_asked, page_made_or_re
 use Rattle.lib_os.proofs.Loading.{loaded_quiet, loaded_state}
 use Rattle.lib_os.proofs.Releasing.{AreWithin, released_named}
 use Rattle.lib_os.proofs.Remapping.{given_on, page_map_is}
-use Rattle.fs_cache.specs.declared.plan.CacheAsk.TheVariants as asked
-use Rattle.fs_cache.specs.CachePlans.{ask_entry, ask_map, ask_page, ask_region, ask_unmap, block_of, page_of, page_perm}
+use Rattle.fs_blocks.specs.declared.plan.CacheAsk.TheVariants as asked
+use Rattle.fs_blocks.specs.CachePlans.{ask_entry, ask_map, ask_page, ask_region, ask_unmap, block_of, page_of, page_perm}
 use Rattle.fs_cache.specs.CacheStands.{IsBlockEntry}
 use Rattle.fs_cache.specs.CacheSteps.{Caller, IsReply, of_block, row_in}
 use Rattle.fs_cache.proofs.Interfaces.{IsServer}

@@ -27,12 +27,12 @@ use Rattle.lib_os.specs.UserCalls.{CallStep, IsStep, Output, Prints, accessing, 
 use Rattle.lib_os.specs.UserCalls.{user_byte, user_word, with_bytes_put, with_user_byte}
 use Rattle.lib_os.proofs.BytesPut.{put_is}
 use Rattle.lib_os.proofs.SlotsSet.{set_live}
-use Rattle.fs_cache.specs.declared.place.CachePlace.TheVariants as cached_place
-use Rattle.fs_cache.specs.declared.place.CacheState.{CacheState}
-use Rattle.fs_cache.specs.declared.plan.Told.{Told}
+use Rattle.fs_blocks.specs.declared.place.CachePlace.TheVariants as cached_place
+use Rattle.fs_blocks.specs.declared.place.CacheState.{CacheState}
+use Rattle.fs_blocks.specs.declared.plan.Told.{Told}
 use Rattle.fs_cache.specs.declared.steps.Cached.TheVariants as cached
-use Rattle.fs_cache.specs.CachePlaces.{with_state}
-use Rattle.fs_cache.specs.CachePlans.{ask_at as asked_at, next_at as cache_next}
+use Rattle.fs_blocks.specs.CachePlaces.{with_state}
+use Rattle.fs_blocks.specs.CachePlans.{ask_at as asked_at, next_at as cache_next}
 use Rattle.fs_cache.specs.CacheSteps.{Caller, FetchTold, HasGone, IsBlockStep, KeepsCacheWhereDone, as_cached, by_word, cache_state, fetch_state, stopped}
 use Rattle.fs_cache.proofs.CacheBegins.{own_ask}
 use Rattle.fs_cache.proofs.Callers.{caller_stays}

@@ -22,7 +22,7 @@ use Rattle.lib_os.specs.Rows.{AreBytes, IsPage}
 use Rattle.lib_os.specs.UserCalls.{IsStep, Output, load, load_byte, store, store_byte}
 use Rattle.lib_os.proofs.BytesPut.{bytes_put, put_before, put_there, put_whole}
 use Rattle.lib_os.proofs.PageBytes.{bytes_more, bytes_none, word_bytes}
-use Rattle.fs_cache.specs.declared.place.CachePlace.TheVariants as cached_place
+use Rattle.fs_blocks.specs.declared.place.CachePlace.TheVariants as cached_place
 use Rattle.fs_cache.specs.CacheStands.{IsBlockEntry, cached_in}
 use Rattle.fs_cache.specs.CacheSteps.{cache_state, row_in}
 use Rattle.fs_cache.proofs.Loads.{number_below, number_of, row_below}

@@ -23,8 +23,8 @@ use Rattle.lib_os.specs.Rows.{IsPage}
 use Rattle.lib_os.specs.UserCalls.{IsStep, Output, load_byte, store_byte, user_byte}
 use Rattle.lib_os.proofs.BytesPut.{bytes_put, put_whole}
 use Rattle.lib_os.proofs.PageBytes.{bytes_more, bytes_none}
-use Rattle.fs_cache.specs.declared.place.CachePlace.{CachePlace}
-use Rattle.fs_cache.specs.declared.place.CachePlace.TheVariants as at
+use Rattle.fs_blocks.specs.declared.place.CachePlace.{CachePlace}
+use Rattle.fs_blocks.specs.declared.place.CachePlace.TheVariants as at
 use Rattle.fs_cache.specs.CacheStands.{CacheAt, CacheStands, CacheView, HoldsAt, HoldsBlock, IsBoths, IsGiven, cache_view, cached_at, cached_in, filling_at}
 use Rattle.fs_cache.specs.CacheSteps.{cache_state, row_in}
 use Rattle.fs_cache.proofs.Loads.{number_of, row_below, row_past}

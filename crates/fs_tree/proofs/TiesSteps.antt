@@ -17,18 +17,18 @@ use Rattle.lib_os.specs.BlockCache.{CachedBlocks, KeepsValues, block_value}
 use Rattle.lib_os.specs.Disk.{Disk, disk_in}
 use Rattle.lib_os.specs.UserCalls.{Output, Prints}
 use Rattle.lib_os.proofs.Slots.{slot_put}
-use Rattle.fs_cache.specs.declared.place.CachePlace.{CachePlace}
-use Rattle.fs_cache.specs.declared.place.CachePlace.TheVariants as at
-use Rattle.fs_cache.specs.declared.place.CacheState.{CacheState}
-use Rattle.fs_cache.specs.declared.plan.CacheAsk.TheVariants as asked
-use Rattle.fs_cache.specs.declared.plan.Told.{Told}
-use Rattle.fs_cache.specs.CachePlaces.{with_state}
-use Rattle.fs_cache.specs.CachePlans.{ask_by, ask_map, block_of, fetching, next_by}
+use Rattle.fs_blocks.specs.declared.place.CachePlace.{CachePlace}
+use Rattle.fs_blocks.specs.declared.place.CachePlace.TheVariants as at
+use Rattle.fs_blocks.specs.declared.place.CacheState.{CacheState}
+use Rattle.fs_blocks.specs.declared.plan.CacheAsk.TheVariants as asked
+use Rattle.fs_blocks.specs.declared.plan.Told.{Told}
+use Rattle.fs_blocks.specs.CachePlaces.{with_state}
+use Rattle.fs_blocks.specs.CachePlans.{ask_by, ask_map, block_of, fetching, next_by}
 use Rattle.fs_cache.specs.CacheStands.{CacheStands, HoldsBlock, cached_in, was_used}
 use Rattle.fs_cache.specs.CacheSteps.{Caller, HasGone, IsReply, KeepsCache, by_word, stopped, cache_state, fetch_state, gone_on}
 use Rattle.fs_cache.proofs.CacheBegins.{fetch_fetches, fetch_stands}
 use Rattle.fs_cache.proofs.CacheLaw.{server_of}
-use Rattle.fs_cache.proofs.CacheWords.{first_eight}
+use Rattle.fs_blocks.proofs.CacheWords.{first_eight}
 use Rattle.fs_cache.proofs.Interfaces.{IsServer, view_in}
 use Rattle.fs_cache.proofs.Loads.{loads_give}
 use Rattle.fs_cache.proofs.Views.{IsFetching}

@@ -1,7 +1,7 @@
 use Rattle.std.proofs.Common.{Ok, sym, subst}
 use Rattle.jos_host.specs.Frames.{around, from_to}
 use Rattle.lib_os.specs.UserCalls.{output}
-use Rattle.fs_cache.specs.declared.place.CacheState.{CacheState}
+use Rattle.fs_blocks.specs.declared.place.CacheState.{CacheState}
 use Rattle.fs_cache.specs.declared.steps.Cached.{Cached}
 use Rattle.fs_cache.specs.CacheSteps.{IsBlockStep, HasGone, FetchTold, caller}
 use Rattle.fs_cache.proofs.CacheLaw.{fetch_from, fetch_is_told, fetch_keeps, fetch_made}

@@ -1,7 +1,7 @@
 use Rattle.std.proofs.Common.{Ok, sym, subst}
 use Rattle.jos_host.specs.Frames.{around, from_to}
 use Rattle.lib_os.specs.UserCalls.{output}
-use Rattle.fs_cache.specs.declared.place.CacheState.{CacheState}
+use Rattle.fs_blocks.specs.declared.place.CacheState.{CacheState}
 use Rattle.fs_cache.specs.declared.steps.Flushed.{Flushed}
 use Rattle.fs_cache.specs.CacheSteps.{HasGone, FlushTold, caller}
 use Rattle.fs_cache.proofs.CacheLaw.{flush_from, flush_is_told, flush_keeps}

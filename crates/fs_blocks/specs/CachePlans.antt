@@ -7,13 +7,13 @@ use Rattle.jos_base.specs.declared.numbers.TheConstants.{SYS_PAGE_ALLOC, SYS_PAG
 use Rattle.jos_base.specs.Words.{has_bit}
 use Rattle.lib_os.specs.declared.numbers.TheConstants.{CACHE_BLOCKS, DISKMAP, UVPD}
 use Rattle.lib_os.specs.BlockCache.{block_address}
-use Rattle.fs_cache.specs.declared.place.CachePlace.{CachePlace}
-use Rattle.fs_cache.specs.declared.place.CachePlace.TheVariants as at
-use Rattle.fs_cache.specs.declared.place.CacheState.{CacheState}
-use Rattle.fs_cache.specs.declared.plan.CacheAsk.{CacheAsk}
-use Rattle.fs_cache.specs.declared.plan.CacheAsk.TheVariants as ask
-use Rattle.fs_cache.specs.declared.plan.CacheNext.{CacheNext}
-use Rattle.fs_cache.specs.declared.plan.Told.TheVariants as told
+use Rattle.fs_blocks.specs.declared.place.CachePlace.{CachePlace}
+use Rattle.fs_blocks.specs.declared.place.CachePlace.TheVariants as at
+use Rattle.fs_blocks.specs.declared.place.CacheState.{CacheState}
+use Rattle.fs_blocks.specs.declared.plan.CacheAsk.{CacheAsk}
+use Rattle.fs_blocks.specs.declared.plan.CacheAsk.TheVariants as ask
+use Rattle.fs_blocks.specs.declared.plan.CacheNext.{CacheNext}
+use Rattle.fs_blocks.specs.declared.plan.Told.TheVariants as told
 
 -- ---- blocks and their pages
 

@@ -1,6 +1,6 @@
 use Rattle.std.proofs.Common.{◌≡◌, length, rules}
-use Rattle.fs_cache.proofs.CacheWords.{words_put}
-use Rattle.fs_cache.proofs.words.with_state.Goals as goal
+use Rattle.fs_blocks.proofs.CacheWords.{words_put}
+use Rattle.fs_blocks.proofs.words.with_state.Goals as goal
 
 pub returns : goal.returns
 returns c =

@@ -3,7 +3,7 @@
 ghost use Rattle.std.specs.Prelude.{◌≡◌, ◌*◌, ◌<◌};
 ghost use Rattle.lib_os.specs.declared.numbers.TheConstants.{CACHE_BLOCKS};
 ghost use Rattle.lib_os.specs.BlockCache.{block_address};
-ghost use Rattle.fs_cache.specs.CachePlans as plans;
+ghost use Rattle.fs_blocks.specs.CachePlans as plans;
 
 use crate::place::{CachePlace, CacheState};
 use fs_layout::BLKSIZE;
@@ -56,7 +56,7 @@ fn block_of(word: u32) -> u32
 }
 
 /// Where the page of a block lies.
-pub(crate) fn address_of(block: u32) -> u32
+pub fn address_of(block: u32) -> u32
     ensures { result ≡ block_address (plans.block_of block) }
 {
     DISKMAP + BLKSIZE as u32 * block_of(block)

@@ -1,7 +1,7 @@
 //! Where the cache stands, as it is spelled in words.
 
 ghost use Rattle.std.specs.Prelude.{◌≡◌};
-ghost use Rattle.fs_cache.specs.CachePlaces as places;
+ghost use Rattle.fs_blocks.specs.CachePlaces as places;
 
 use crate::place::{CachePlace, CacheState};
 use jos_base::Extra;

@@ -3,11 +3,10 @@ use Rattle.std.proofs.Common.{◌≡◌, ◌∙◌, ◌<◌, ◌+◌, ◌-◌, �
 use Rattle.std.proofs.lemmas.List.{get_or-append_right, set-append_right, length-take-le, length-append, take-append-drop, take_at}
 use Rattle.std.proofs.Common.{length-drop, mod-eq_of_lt}
 use Rattle.lib_os.specs.declared.numbers.TheConstants.{CACHE_BLOCKS}
-use Rattle.fs_cache.specs.declared.place.CachePlace.{CachePlace}
-use Rattle.fs_cache.specs.declared.place.CachePlace.TheVariants as at
-use Rattle.fs_cache.specs.declared.place.CacheState.{CacheState}
-use Rattle.fs_cache.specs.CachePlaces.{four_words, place_in, place_words, state_in, with_state}
-use Rattle.fs_cache.specs.CacheStands.{block_at}
+use Rattle.fs_blocks.specs.declared.place.CachePlace.{CachePlace}
+use Rattle.fs_blocks.specs.declared.place.CachePlace.TheVariants as at
+use Rattle.fs_blocks.specs.declared.place.CacheState.{CacheState}
+use Rattle.fs_blocks.specs.CachePlaces.{block_at, four_words, place_in, place_words, state_in, with_state}
 
 -- ---- four words
 

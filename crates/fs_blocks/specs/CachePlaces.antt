@@ -2,9 +2,9 @@
 -- number, the block, the hand, and how many blocks are left to look at. (The form is this system's own.)
 use Rattle.std.specs.Prelude.{ℕ, ◌++◌, ◌%◌, ◌==◌, List, [], ◌∷◌, get_or, take, if◌then◌else◌}
 use Rattle.lib_os.specs.declared.numbers.TheConstants.{CACHE_BLOCKS}
-use Rattle.fs_cache.specs.declared.place.CachePlace.{CachePlace}
-use Rattle.fs_cache.specs.declared.place.CachePlace.TheVariants as at
-use Rattle.fs_cache.specs.declared.place.CacheState.{CacheState}
+use Rattle.fs_blocks.specs.declared.place.CachePlace.{CachePlace}
+use Rattle.fs_blocks.specs.declared.place.CachePlace.TheVariants as at
+use Rattle.fs_blocks.specs.declared.place.CacheState.{CacheState}
 
 -- by the place's number, the block and what is left
 unfoldable pub place_in : ℕ → ℕ → ℕ → CachePlace
@@ -63,3 +63,25 @@ place_words (at.FlushSettling block) hand = four_words 18 block hand 0
 -- the words with which it stands so; the first eight stay
 abbrev pub with_state : List ℕ → CacheState → List ℕ
 with_state words state = take 8 words ++ place_words state.place state.hand
+
+-- the number of the block that it is about
+abbrev pub block_at : CachePlace → ℕ
+block_at at.Resting = 0
+block_at (at.Found block) = block
+block_at (at.LookingRegion block) = block
+block_at (at.LookingPage block) = block
+block_at (at.Taking block) = block
+block_at (at.Filling block) = block
+block_at (at.Settling block) = block
+block_at (at.HandRegion block left) = block
+block_at (at.HandPage block left) = block
+block_at (at.WritingBack block) = block
+block_at (at.Passing block) = block
+block_at (at.Moving block) = block
+block_at (at.Leaving block) = block
+block_at (at.Freeing block) = block
+block_at (at.TakingLast block) = block
+block_at (at.FlushRegion block) = block
+block_at (at.FlushPage block) = block
+block_at (at.FlushWriting block) = block
+block_at (at.FlushSettling block) = block

@@ -1,0 +1,2 @@
+pub mod CachePlans
+pub mod CachePlaces
