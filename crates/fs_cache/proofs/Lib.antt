@@ -20,3 +20,4 @@ pub mod MovesGoing
 pub mod Moves
 pub mod StepMade
 pub mod CachePieces
+pub mod GoneMade

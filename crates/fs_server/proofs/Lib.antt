@@ -3,3 +3,4 @@ pub mod WordsSet
 pub mod Stopped
 pub mod JobsWorked
 pub mod Flushed
+pub mod ServerMade

@@ -7,6 +7,7 @@ ghost use Rattle.jos_base.specs.Environments.{is_live};
 ghost use Rattle.jos_base.specs.KernelState.{slot_at};
 ghost use Rattle.lib_os.specs.Disk.{HasBlocks};
 ghost use Rattle.lib_os.specs.InOrder.{IsInOrder};
+ghost use Rattle.lib_os.specs.MadeCalls.{MakesServersCall};
 ghost use Rattle.lib_os.specs.UserCalls.{HasStopCause, output};
 ghost use Rattle.fs_requests.specs.ServerPlans.{IsOwnCall};
 ghost use Rattle.fs_server.specs.ServerSteps as steps;
@@ -108,7 +109,7 @@ fn make_call<O: UserOs, H: Host>(
     }
 }
 
-/// Makes a step of the job on files, and goes on when that answers.
+/// Makes a step of the job on files, and goes on when that answers. It is one call (`made`).
 fn work<O: UserOs, H: Host>(
     os: &mut O,
     host: &mut H,
@@ -118,6 +119,7 @@ fn work<O: UserOs, H: Host>(
     requires few { O.calls os.old < 2 ^ 32 - 1 }
     requires whole { HasBlocks (H.files host.old) (O.disk os.old) }
     ensures told { steps.WorksWhereTold state result (O.disk os.old) (O.slot os.old) (around O.state os.old os.new) (around H.files host.old host.new) }
+    ensures made { OnOk result (MakesServersCall (around O.state os.old os.new) (O.slot os.old) (O.disk os.old) (around H.files host.old host.new) (output H.console O.written (from_to host.old host.new) (from_to os.old os.new))) }
     ensures whole { OnOk result (HasBlocks (H.files host.new) (O.disk os.new)) }
     ensures in_order { IsInOrder (O.state os.old) → IsInOrder (O.state os.new) }
     ensures slot { O.slot os.new ≡ O.slot os.old }
@@ -160,7 +162,8 @@ fn flush<O: UserOs, H: Host>(
     }
 }
 
-/// Makes the next step of the file server, which is one call.
+/// Makes the next step of the file server, which is one call: one of those that it makes, whatever stands, and behind it no more than own words and
+/// registers are set (`made`).
 ///
 /// # Errors
 /// The host failed.
@@ -169,6 +172,7 @@ pub fn server_step<O: UserOs, H: Host>(os: &mut O, host: &mut H) -> Result<Progr
     requires few { O.calls os.old < 2 ^ 32 - 1 }
     requires whole { HasBlocks (H.files host.old) (O.disk os.old) }
     ensures step { steps.Serves result (O.disk os.old) (O.slot os.old) (around O.state os.old os.new) (around H.files host.old host.new) (output H.console O.written (from_to host.old host.new) (from_to os.old os.new)) }
+    ensures made { OnOk result (MakesServersCall (around O.state os.old os.new) (O.slot os.old) (O.disk os.old) (around H.files host.old host.new) (output H.console O.written (from_to host.old host.new) (from_to os.old os.new))) }
     ensures whole { OnOk result (HasBlocks (H.files host.new) (O.disk os.new)) }
     ensures in_order { IsInOrder (O.state os.old) → IsInOrder (O.state os.new) }
     ensures slot { O.slot os.new ≡ O.slot os.old }

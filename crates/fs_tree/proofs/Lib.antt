@@ -6,3 +6,4 @@ pub mod TiesWords
 pub mod TiesCalls
 pub mod TiesSteps
 pub mod TiesLaw
+pub mod AccessMade

@@ -7,6 +7,7 @@ ghost use Rattle.jos_base.specs.Environments.{is_live};
 ghost use Rattle.jos_base.specs.KernelState.{slot_at, with_extra, with_registers};
 ghost use Rattle.lib_os.specs.Disk.{HasBlocks};
 ghost use Rattle.lib_os.specs.InOrder.{IsInOrder};
+ghost use Rattle.lib_os.specs.MadeCalls.{MakesServersCall};
 ghost use Rattle.lib_os.specs.UserCalls.{HasStopCause, Prints, output};
 ghost use Rattle.fs_tree.specs.TreeMakes as makes;
 ghost use Rattle.fs_places.specs.TreePlaces as places;
@@ -72,7 +73,7 @@ fn access<O: UserOs, H: Host>(os: &mut O, host: &mut H, ask: TreeAsk, va: u32) -
     }
 }
 
-/// Does what is asked of the disk at a place. Where the place's block has no page yet, the cache makes a step.
+/// Does what is asked of the disk at a place. Where the place's block has no page yet, the cache makes a step. Either is one call (`made`).
 fn make_at_block<O: UserOs, H: Host>(
     os: &mut O,
     host: &mut H,
@@ -86,6 +87,7 @@ fn make_at_block<O: UserOs, H: Host>(
     ensures told { makes.DoesWhereTold ask result (O.disk os.old) (O.slot os.old) (around O.state os.old os.new) (around H.files host.old host.new) }
     ensures leaves { makes.LeavesWhereInside ask result (O.disk os.old) (O.slot os.old) (around O.state os.old os.new) (H.files host.old) (output H.console O.written (from_to host.old host.new) (from_to os.old os.new)) }
     ensures kept { makes.KeepsSlot result (O.slot os.old) (around O.state os.old os.new) }
+    ensures made { OnOk result (MakesServersCall (around O.state os.old os.new) (O.slot os.old) (O.disk os.old) (around H.files host.old host.new) (output H.console O.written (from_to host.old host.new) (from_to os.old os.new))) }
     ensures whole { OnOk result (HasBlocks (H.files host.new) (O.disk os.new)) }
     ensures in_order { IsInOrder (O.state os.old) → IsInOrder (O.state os.new) }
     ensures slot { O.slot os.new ≡ O.slot os.old }
@@ -108,7 +110,7 @@ fn make_at_block<O: UserOs, H: Host>(
     }
 }
 
-/// Does what is asked of a byte of the page of the request.
+/// Does what is asked of a byte of the page of the request, by one call (`made`).
 fn make_at_request<O: UserOs, H: Host>(
     os: &mut O,
     host: &mut H,
@@ -122,6 +124,7 @@ fn make_at_request<O: UserOs, H: Host>(
     ensures told { makes.DoesWhereTold ask result (O.disk os.old) (O.slot os.old) (around O.state os.old os.new) (around H.files host.old host.new) }
     ensures leaves { makes.LeavesWhereInside ask result (O.disk os.old) (O.slot os.old) (around O.state os.old os.new) (H.files host.old) (output H.console O.written (from_to host.old host.new) (from_to os.old os.new)) }
     ensures kept { makes.KeepsSlot result (O.slot os.old) (around O.state os.old os.new) }
+    ensures made { OnOk result (MakesServersCall (around O.state os.old os.new) (O.slot os.old) (O.disk os.old) (around H.files host.old host.new) (output H.console O.written (from_to host.old host.new) (from_to os.old os.new))) }
     ensures whole { OnOk result (HasBlocks (H.files host.new) (O.disk os.new)) }
     ensures in_order { IsInOrder (O.state os.new) }
     ensures slot { O.slot os.new ≡ O.slot os.old }
@@ -139,7 +142,7 @@ fn make_at_request<O: UserOs, H: Host>(
     }
 }
 
-/// Does what is asked.
+/// Does what is asked, by one call (`made`).
 fn make<O: UserOs, H: Host>(os: &mut O, host: &mut H, ask: TreeAsk) -> Result<Done, Failed>
     requires live { is_live (slot_at (O.state os.old) (O.slot os.old)) ≡ true }
     requires few { O.calls os.old < 2 ^ 32 - 1 }
@@ -147,6 +150,7 @@ fn make<O: UserOs, H: Host>(os: &mut O, host: &mut H, ask: TreeAsk) -> Result<Do
     ensures told { makes.DoesWhereTold ask result (O.disk os.old) (O.slot os.old) (around O.state os.old os.new) (around H.files host.old host.new) }
     ensures leaves { makes.LeavesWhereInside ask result (O.disk os.old) (O.slot os.old) (around O.state os.old os.new) (H.files host.old) (output H.console O.written (from_to host.old host.new) (from_to os.old os.new)) }
     ensures kept { makes.KeepsSlot result (O.slot os.old) (around O.state os.old os.new) }
+    ensures made { OnOk result (MakesServersCall (around O.state os.old os.new) (O.slot os.old) (O.disk os.old) (around H.files host.old host.new) (output H.console O.written (from_to host.old host.new) (from_to os.old os.new))) }
     ensures whole { OnOk result (HasBlocks (H.files host.new) (O.disk os.new)) }
     ensures in_order { IsInOrder (O.state os.old) → IsInOrder (O.state os.new) }
     ensures slot { O.slot os.new ≡ O.slot os.old }
@@ -190,6 +194,7 @@ fn refuse<O: UserOs, H: Host>(os: &mut O, host: &mut H) -> Result<Acted, Failed>
     requires few { O.calls os.old < 2 ^ 32 - 1 }
     ensures files { H.files host.new ≡ H.files host.old }
     ensures quiet { Prints (output H.console O.written (from_to host.old host.new) (from_to os.old os.new)) [] }
+    ensures made { OnOk result (MakesServersCall (around O.state os.old os.new) (O.slot os.old) (O.disk os.old) (around H.files host.old host.new) (output H.console O.written (from_to host.old host.new) (from_to os.old os.new))) }
     ensures lives { LivesWhereAnswered result (slot_at (O.state os.new) (O.slot os.new)) }
     ensures in_order { IsInOrder (O.state os.new) }
     ensures slot { O.slot os.new ≡ O.slot os.old }
@@ -205,7 +210,8 @@ fn refuse<O: UserOs, H: Host>(os: &mut O, host: &mut H) -> Result<Acted, Failed>
     }
 }
 
-/// Makes a step of the job: the block that it wants comes nearer, or it does what it asks and goes on by the reply. Each step is one call.
+/// Makes a step of the job: the block that it wants comes nearer, or it does what it asks and goes on by the reply. Each step is one call, one of
+/// those that the file server makes, whatever stands and whether or not the host tells its files (`made`).
 ///
 /// # Errors
 /// The host failed.
@@ -216,6 +222,7 @@ pub fn tree_step<O: UserOs, H: Host>(os: &mut O, host: &mut H) -> Result<Acted, 
     ensures told { StepsWhereTold result (O.disk os.old) (O.slot os.old) (around O.state os.old os.new) (around H.files host.old host.new) }
     ensures quiet { QuietWhereTold result (O.disk os.old) (O.slot os.old) (around O.state os.old os.new) (H.files host.old) (output H.console O.written (from_to host.old host.new) (from_to os.old os.new)) }
     ensures rest { RestWhereTold result (O.disk os.old) (O.slot os.old) (around O.state os.old os.new) (H.files host.old) }
+    ensures made { OnOk result (MakesServersCall (around O.state os.old os.new) (O.slot os.old) (O.disk os.old) (around H.files host.old host.new) (output H.console O.written (from_to host.old host.new) (from_to os.old os.new))) }
     ensures lives { LivesWhereAnswered result (slot_at (O.state os.new) (O.slot os.old)) }
     ensures whole { OnOk result (HasBlocks (H.files host.new) (O.disk os.new)) }
     ensures in_order { IsInOrder (O.state os.old) → IsInOrder (O.state os.new) }

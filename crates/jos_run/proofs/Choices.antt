@@ -17,10 +17,11 @@ use Rattle.jos_sched.specs.RoundRobin as robin
 use Rattle.jos_kernel.specs.declared.report.End.{End}
 use Rattle.jos_kernel.specs.declared.report.End.TheVariants.{Done, Stuck, Budget, TurnsFull}
 use Rattle.jos_base.specs.Below.{some_below}
-use Rattle.lib_os.specs.AbstractState.{AbstractState, AbstractSlot, free, unborn, born, serving, Server, idle, can_run, can_run_as}
+use Rattle.lib_os.specs.AbstractState.{AbstractState, AbstractSlot, free, unborn, born, serving, Server, idle, is_idle, can_run, can_run_as}
 use Rattle.lib_os.specs.Rows.{Names}
-use Rattle.lib_os.specs.StandsFor.{StandsFor, StandsForSlot, IsStatusFor}
+use Rattle.lib_os.specs.StandsFor.{StandsFor, StandsForSlot, IsServerStatus, IsStatusFor}
 use Rattle.lib_os.proofs.SlotsStand.{born_live}
+use Rattle.lib_os.proofs.StatesStand.{serving_waits}
 use Rattle.jos_run.specs.AbstractTurns.{first_of, next_slot, is_client, any_live, end_of}
 use Rattle.jos_run.specs.LibraryRuns.{NoneRuns, OnlyRuns, OnlyFirstServes, is_user, others_live, end_seen}
 use Rattle.jos_base.proofs.Maps.{upd-other, upd-all}
@@ -34,19 +35,23 @@ runs_alike Running false h idle_now = absurd (let contradiction : true ≡ false
 runs_alike NotRunnable true h idle_now = refl
 runs_alike _ _ h idle_now = absurd h
 
-slot_runs : (names : Names) (sp : SpacesState) (k : Slot) (slot : AbstractSlot) → StandsForSlot names sp k slot →
-    is_running k.status ≡ false → is_runnable k.status ≡ can_run_as idle slot
-slot_runs names sp k (free id) h idle_now = ap (λ (x : Slot). is_runnable x.status) h
-slot_runs names sp k (unborn id parent) h idle_now = ap (λ (x : Status). is_runnable x) h.status
-slot_runs names sp k (born b) h idle_now = runs_alike k.status b.blocked h.runs idle_now
-slot_runs names sp k (serving id) h idle_now = ap (λ (x : Status). is_runnable x) h.status
+-- the file server waits
+server_idle : (server : Server) (k : Slot) → IsServerStatus server k → not (is_idle server) ≡ false
+server_idle idle k h = refl
+server_idle _ k h = absurd h
 
 -- A slot that is not RUNNING may have the next turn where it may have it in the abstract system.
 pub runs_stand : {names : Names} {s : KernelState} {a : AbstractState} → StandsFor names s a → (n : ℕ) →
     is_running (slot_at s n).status ≡ false → may_run s.environments n ≡ can_run a n
-runs_stand {names = names} {s = s} {a = a} h n idle_now =
-    slot_runs names s.spaces (slot_at s n) (a.slots n) (h.slots n) idle_now
-    ∙ ap (λ (x : Server). can_run_as x (a.slots n)) (sym h.server)
+runs_stand {names = names} {s = s} {a = a} h n idle_now = by_slot (a.slots n) refl (h.slots n)
+  where
+    by_slot : (slot : AbstractSlot) → a.slots n ≡ slot → StandsForSlot names s.spaces (slot_at s n) slot →
+        is_runnable (slot_at s n).status ≡ can_run_as a.server slot
+    by_slot (free id) at k = ap (λ (x : Slot). is_runnable x.status) k
+    by_slot (unborn id parent) at k = ap (λ (x : Status). is_runnable x) k.status
+    by_slot (born b) at k = runs_alike (slot_at s n).status b.blocked k.runs idle_now
+    by_slot (serving id) at k =
+        ap (λ (x : Status). is_runnable x) (serving_waits h n id at) ∙ sym (server_idle a.server (slot_at s 0) h.server.status)
 
 -- ---- who gets the next turn
 
@@ -79,7 +84,7 @@ client_counts names sp k (unborn id parent) h =
 client_counts names sp k (born b) h =
     sym (ap (λ (c : Bool). c && is_user k.env_type) (born_live h) ∙ ap (λ (x : EnvType). is_user x) h.env_type)
 client_counts names sp k (serving id) h =
-    sym (ap (λ (x : Status). not (is_free x) && is_user k.env_type) h.status ∙ ap (λ (x : EnvType). is_user x) h.env_type)
+    sym (ap (λ (c : Bool). c && is_user k.env_type) h.lives ∙ ap (λ (x : EnvType). is_user x) h.env_type)
 
 -- a client is a live environment but a file server
 pub clients_stand : {names : Names} {s : KernelState} {a : AbstractState} → StandsFor names s a → (n : ℕ) →

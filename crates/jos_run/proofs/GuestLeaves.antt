@@ -27,7 +27,7 @@ use Rattle.jos_kernel.specs.Running.{Running, user_memory, loaded_in, touched_in
 use Rattle.jos_kernel.specs.Steps.{EnvStep, trapped}
 use Rattle.lib_os.specs.declared.progress.Progress.{Progress}
 use Rattle.lib_os.specs.Fence.{is_resident}
-use Rattle.lib_os.specs.LibrarySteps.{Leaves, KeepsUses}
+use Rattle.lib_os.specs.LibrarySteps.{Leaves, KeepsServer, KeepsUses}
 use Rattle.lib_os.specs.Places.{place_of, words_entered}
 use Rattle.lib_os.proofs.FramesKept.{destroyed_frames, touched_frames}
 use Rattle.lib_os.proofs.Leaving.{running_calm}
@@ -37,6 +37,7 @@ use Rattle.lib_os.proofs.OthersKept.{OthersStay}
 use Rattle.lib_os.proofs.Slots.{slot_kept, slot_put}
 use Rattle.jos_run.specs.FencedMemory.{fenced_memory}
 use Rattle.jos_run.specs.GuestSteps.{after_event, after_instruction, guest_instruction}
+use Rattle.jos_run.proofs.GuestServer.{guest_server}
 use Rattle.jos_run.proofs.GuestUses.{guest_uses}
 use Rattle.jos_base.proofs.Maps.{upd-at, upd-other}
 
@@ -214,4 +215,5 @@ guest_leaves s after n done is =
       places = places_kept s after n others;
       numbers = numbers_kept s after n others
           (copies_kept s after n (record { waited = λ d p beside waits. h.waits.waited d p tt waits }));
+      server = subst (λ (t : KernelState). KeepsServer n s t) (sym is) (guest_server s n);
     }

@@ -14,6 +14,7 @@ pub mod ServicesEntered
 pub mod GuestMemories
 pub mod GuestStands
 pub mod GuestUses
+pub mod GuestServer
 pub mod GuestLeaves
 pub mod GuestTakes
 pub mod Guests

@@ -21,6 +21,7 @@ use Rattle.lib_os.specs.UserCalls.{Output}
 use Rattle.jos_run.specs.Guest.{Follows}
 use Rattle.jos_run.specs.GuestSteps.{guest_instruction, is_handed_over}
 use Rattle.jos_run.specs.Steps.{is_awake, Raises}
+use Rattle.lib_os.proofs.StatesStand.{serving_waits}
 use Rattle.jos_run.proofs.GuestStands.{IsCopied, SmallAtFault, copying_at, instruction_end, instruction_step}
 use Rattle.jos_run.proofs.GuestStands.{guest_copied, guest_goes_on, guest_stands}
 
@@ -41,7 +42,7 @@ awake_born names s a h n awake = by_slot (a.slots n) refl (h.slots n)
     by_slot (free id) is k = absurd (false≢true (sym (ap (λ (x : Slot). is_awake x.status) k) ∙ awake))
     by_slot (unborn id parent) is k = absurd (false≢true (sym (ap is_awake k.status) ∙ awake))
     by_slot (born b) is k = (b, is)
-    by_slot (serving id) is k = absurd (false≢true (sym (ap is_awake k.status) ∙ awake))
+    by_slot (serving id) is k = absurd (false≢true (sym (ap is_awake (serving_waits h n id is)) ∙ awake))
 
 module _ (s after : KernelState) (n : ℕ) (output : Output) (awake : is_awake (slot_at s n).status ≡ true)
     (is_guest : place_of (slot_at s n) ≡ place.Guest) (small : SmallAtFault (slot_at s n).registers (instruction_step s n).event)

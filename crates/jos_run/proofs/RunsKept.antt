@@ -10,7 +10,6 @@ use Rattle.jos_base.specs.declared.environment.Status.TheVariants.{Runnable, Run
 use Rattle.jos_base.specs.Environments.{Slot, is_running, is_runnable}
 use Rattle.jos_base.specs.KernelState.{KernelState, slot_at}
 use Rattle.jos_base.specs.KernelState as kernel
-use Rattle.jos_base.specs.SpacesState.{SpacesState}
 use Rattle.jos_sched.specs.Quantum.{quantum}
 use Rattle.jos_sched.specs.RoundRobin.{next}
 use Rattle.jos_sched.proofs.RoundRobin.{next_runs}
@@ -31,7 +30,7 @@ use Rattle.lib_os.specs.LibraryPages.{View}
 use Rattle.lib_os.specs.Rows.{Names}
 use Rattle.lib_os.specs.StandsFor.{StandsFor, StandsForSlot, StandsAt, StandsAtStep, IsStatusFor, view_of}
 use Rattle.lib_os.proofs.SlotsStand.{born_at}
-use Rattle.lib_os.proofs.StatesStand.{turn_begun_stands, turn_ended_stands}
+use Rattle.lib_os.proofs.StatesStand.{serving_waits, turn_begun_stands, turn_ended_stands}
 use Rattle.jos_run.specs.AbstractTurns.{turn_begun, steps_taken, abs_run, waits_in, stands_waiting}
 use Rattle.jos_run.specs.AbstractTurns.{yields_in, is_yielding, has_yielded, has_yielded_after, may_end, turn_fits, fits, all_fit}
 use Rattle.jos_run.specs.LibraryRuns.{NoneRuns, OnlyRuns, IsBetween, IsInTurn, visible_steps}
@@ -57,21 +56,25 @@ run_begins schedule first s h none = record {
 -- ---- a turn begins
 
 -- who is RUNNABLE is an environment that does not wait
-runnable_born : (names : Names) (sp : SpacesState) (k : Slot) (slot : AbstractSlot) → StandsForSlot names sp k slot →
-    is_runnable k.status ≡ true → (b : Born) × (slot ≡ born b) × (b.blocked ≡ false)
-runnable_born names sp k (free id) h runs =
-    absurd (let contradiction : true ≡ false = sym runs ∙ ap (λ (x : Slot). is_runnable x.status) h in cc)
-runnable_born names sp k (unborn id parent) h runs =
-    absurd (let contradiction : true ≡ false = sym runs ∙ ap (λ (x : Status). is_runnable x) h.status in cc)
-runnable_born names sp k (born b) h runs = (b, refl, awake k.status b.blocked h.runs runs)
+runnable_born : {names : Names} {s : KernelState} {a : AbstractState} → StandsFor names s a → (n : ℕ) →
+    is_runnable (slot_at s n).status ≡ true → (b : Born) × (a.slots n ≡ born b) × (b.blocked ≡ false)
+runnable_born {names = names} {s = s} {a = a} h n runs = by_slot (a.slots n) refl (h.slots n)
   where
     awake : (status : Status) (blocked : Bool) → IsStatusFor status blocked → is_runnable status ≡ true → blocked ≡ false
     awake Runnable false h runs = refl
     awake Running false h runs = refl
     awake NotRunnable true h runs = absurd (let contradiction : false ≡ true = runs in cc)
     awake _ _ h runs = absurd h
-runnable_born names sp k (serving id) h runs =
-    absurd (let contradiction : true ≡ false = sym runs ∙ ap (λ (x : Status). is_runnable x) h.status in cc)
+
+    by_slot : (slot : AbstractSlot) → a.slots n ≡ slot → StandsForSlot names s.spaces (slot_at s n) slot →
+        (b : Born) × (a.slots n ≡ born b) × (b.blocked ≡ false)
+    by_slot (free id) at k =
+        absurd (let contradiction : true ≡ false = sym runs ∙ ap (λ (x : Slot). is_runnable x.status) k in cc)
+    by_slot (unborn id parent) at k =
+        absurd (let contradiction : true ≡ false = sym runs ∙ ap (λ (x : Status). is_runnable x) k.status in cc)
+    by_slot (born b) at k = (b, at, awake (slot_at s n).status b.blocked k.runs runs)
+    by_slot (serving id) at k =
+        absurd (let contradiction : true ≡ false = sym runs ∙ ap (λ (x : Status). is_runnable x) (serving_waits h n id at) in cc)
 
 -- the turn of the slot that the kernel chooses
 pub turn_begins : {schedule : List ℕ} {first : AbstractState} {turns : List Turn} {s : KernelState} {written : List ℕ} →
@@ -79,7 +82,7 @@ pub turn_begins : {schedule : List ℕ} {first : AbstractState} {turns : List Tu
     IsInTurn schedule first turns n 0 (kernel.turn_begun s n) written
 turn_begins {s = s} h n chosen =
     let stands = h.stands.1 in
-    let who = runnable_born h.stands.0 s.spaces (slot_at s n) (h.now.slots n) (stands.slots n) (next_runs s.environments s.last n chosen).1 in
+    let who = runnable_born stands n (next_runs s.environments s.last n chosen).1 in
     record {
       before = h.now;
       ran = h.ran;
@@ -215,20 +218,19 @@ pub stopped_cannot : {names : Names} {s : KernelState} {a : AbstractState} → S
     is_running (slot_at s n).status ≡ false → is_runnable (slot_at s n).status ≡ false → can_run a n ≡ false
 stopped_cannot h n not_running not_runnable = sym (runs_stand h n not_running) ∙ not_runnable
 
-running_slot : (names : Names) (sp : SpacesState) (k : Slot) (slot : AbstractSlot) → StandsForSlot names sp k slot →
-    is_running k.status ≡ true → (b : Born) × (slot ≡ born b)
-running_slot names sp k (free id) h runs =
-    absurd (let contradiction : true ≡ false = sym runs ∙ ap (λ (x : Slot). is_running x.status) h in cc)
-running_slot names sp k (unborn id parent) h runs =
-    absurd (let contradiction : true ≡ false = sym runs ∙ ap (λ (x : Status). is_running x) h.status in cc)
-running_slot names sp k (born b) h runs = (b, refl)
-running_slot names sp k (serving id) h runs =
-    absurd (let contradiction : true ≡ false = sym runs ∙ ap (λ (x : Status). is_running x) h.status in cc)
-
 -- who is RUNNING is an environment
 pub running_born : {names : Names} {s : KernelState} {a : AbstractState} → StandsFor names s a → (n : ℕ) →
     is_running (slot_at s n).status ≡ true → (b : Born) × (a.slots n ≡ born b)
-running_born {names = names} {s = s} {a = a} h n runs = running_slot names s.spaces (slot_at s n) (a.slots n) (h.slots n) runs
+running_born {names = names} {s = s} {a = a} h n runs = by_slot (a.slots n) refl (h.slots n)
+  where
+    by_slot : (slot : AbstractSlot) → a.slots n ≡ slot → StandsForSlot names s.spaces (slot_at s n) slot → (b : Born) × (a.slots n ≡ born b)
+    by_slot (free id) at k =
+        absurd (let contradiction : true ≡ false = sym runs ∙ ap (λ (x : Slot). is_running x.status) k in cc)
+    by_slot (unborn id parent) at k =
+        absurd (let contradiction : true ≡ false = sym runs ∙ ap (λ (x : Status). is_running x) k.status in cc)
+    by_slot (born b) at k = (b, at)
+    by_slot (serving id) at k =
+        absurd (let contradiction : true ≡ false = sym runs ∙ ap (λ (x : Status). is_running x) (serving_waits h n id at) in cc)
 
 yield_step : (v : View) (k : Slot) (b : Born) (stands : Step) → StandsAtStep v k b service.Yield stands →
     (stage : Stage) × (b.phase ≡ in_service service.Yield stage)

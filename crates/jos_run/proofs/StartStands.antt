@@ -9,7 +9,7 @@ use Rattle.std.proofs.lemmas.Bool.Decides.{nat_tests}
 use Rattle.std.proofs.lemmas.Option.{none-some, same_Some}
 use Rattle.jos_base.specs.declared.numbers.TheConstants.{USTACKTOP, UTEMP}
 use Rattle.jos_base.specs.declared.registers.Regs.{Regs}
-use Rattle.jos_base.specs.Environments.{Slot, is_live, no_extra, zero_registers}
+use Rattle.jos_base.specs.Environments.{Slot, free_slot, is_live, no_extra, zero_registers}
 use Rattle.jos_base.specs.KernelState.{KernelState, with_spaces}
 use Rattle.jos_base.specs.Reach.{Entry}
 use Rattle.jos_base.specs.SpacesState.{SpacesState, reserved_frames, zero_page}
@@ -28,7 +28,8 @@ use Rattle.lib_os.specs.Fence.{in_fence, is_resident}
 use Rattle.lib_os.specs.LibraryPages.{LibraryPages, region_index}
 use Rattle.lib_os.specs.LibrarySteps.{Stands}
 use Rattle.lib_os.specs.Places.{is_handlers, place_of}
-use Rattle.lib_os.specs.Rows.{Agree, EntryRow, IsNamed, IsPage, IsUsers, Names, counted, is_programs, is_shared, logical, logical_by, may_write}
+use Rattle.lib_os.specs.Rows.{Agree, EntryRow, IsNamed, IsPage, IsUsers, Names, counted, is_clients, is_programs, is_shared, logical, logical_by}
+use Rattle.lib_os.specs.Rows.{may_write}
 use Rattle.lib_os.specs.Rows.{descriptor_page, descriptor_perm, descriptor_seen, is_descriptor, name_of, page_by, page_seen, rows_of, seen_where}
 use Rattle.lib_os.specs.Rows.{shown_at}
 use Rattle.lib_os.specs.StandsFor.{HasChildren, StandsFor, StandsForBorn, borne_in, upcall_at, view_of}
@@ -325,18 +326,22 @@ module _ (image : Layout) (words : List (List ℕ)) (input : List ℕ) (frames f
     found : (m p : ℕ) (x : Entry) → entries m p ≡ Some x → IsPrograms m p x
     found m p x is = by_slot m p x is
       where
-        no_server_entry : (p : ℕ) → counted (place_of server) (rows_of u first) p ≡ None
-        no_server_entry p = ap (λ (at : Place). counted at (rows_of u first) p) server_place ∙ guests_count (rows_of u first) p ∙ no_server_row p
-
-        none_or_some : (o : Option Entry) (x : Entry) → o ≡ None → o ≡ Some x → ⊥
-        none_or_some o x none some = absurd cc
-
         by_slot : (m p : ℕ) (x : Entry) → entries m p ≡ Some x → IsPrograms m p x
         by_slot = two.each_slot first (first + 1) regs
-            (λ m k. (p : ℕ) (x : Entry) → logical_by (is_live k) (counted (place_of k) (rows_of u k.directory)) p ≡ Some x → IsPrograms m p x)
-            (λ p x is. absurd (none_or_some (counted (place_of server) (rows_of u first) p) x (no_server_entry p) is))
+            (λ m k. (p : ℕ) (x : Entry) → logical_by (is_clients m k) (counted (place_of k) (rows_of u k.directory)) p ≡ Some x → IsPrograms m p x)
+            (λ p x is. absurd cc)
             (λ p x is. (refl, sym (ap (λ (at : Place). counted at row p) program_place ∙ guests_count row p) ∙ is))
-            (λ m a b p x is. absurd cc)
+            (λ m a b p x is. absurd (none_counts m (row_of m) p x is))
+          where
+            row_of : ℕ → EntryRow
+            row_of m = counted (place_of (free_slot 0)) (rows_of u (free_slot 0).directory)
+
+            none_counts : (m : ℕ) (rest : EntryRow) (p : ℕ) (x : Entry) → logical_by (is_clients m (free_slot 0)) rest p ≡ Some x → ⊥
+            none_counts m rest p x is = by_test (not (m == 0)) is
+              where
+                by_test : (t : Bool) → logical_by (t && is_live (free_slot 0)) rest p ≡ Some x → ⊥
+                by_test true is = absurd cc
+                by_test false is = absurd cc
 
     -- ---- there are no children
 
@@ -393,8 +398,7 @@ module _ (image : Layout) (words : List (List ℕ)) (input : List ℕ) (frames f
     pub state_stands : AreBytes input → StandsFor names (with_spaces (base image words input frames first n has) u) (start_state image file words input)
     state_stands input_bytes = record {
       slots = two.slot_stands first (first + 1) regs names u born
-          (two.server_stands first (first + 1) regs u no_server_row
-          (λ r. h.has.tables_elsewhere first r (λ same. omega (arith, same)))) program_stands;
+          (two.server_stands first (first + 1) regs) program_stands;
       children = no_children;
       apart = λ d p e q x y ne is js same. let a = found d p x is in let b = found e q y js in
           agree p q x y (ne (a.0 ∙ sym b.0)) same (which p x a.1) (which q y b.1);
@@ -403,7 +407,9 @@ module _ (image : Layout) (words : List (List ℕ)) (input : List ℕ) (frames f
       whole = λ d p x is. let a = found d p x is in whole_page p x (which p x a.1);
       free_slots = record { same = refl; within = rising-slots 2 1022 (omega arith) };
       first = refl;
-      server = refl;
+      beside = λ n p q x e is stands. absurd (none-some e (sym (no_server_row q) ∙ stands));
+      server = two.server_has first (first + 1) regs u no_server_row (λ r. h.has.tables_elsewhere first r (λ same. omega (arith, same)))
+          (start_state image file words input).opened (start_state image file words input).files.blocks;
       input = (refl, input_bytes);
       last = refl;
       turns = refl;

@@ -28,7 +28,7 @@ const COPY_PERM: u32 = PTE_P + PTE_U + PTE_W;
 const REFUSED_WRITE: u32 = FEC_U + FEC_PR + FEC_WR;
 
 /// The handler of page faults, at a step.
-#[derive(Clone, Copy, Debug, PartialEq, Eq)]
+#[derive(Clone, Copy, Debug)]
 pub struct PageFaultHandler {
     pub step: HandlerStep,
 }

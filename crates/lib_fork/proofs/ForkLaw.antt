@@ -22,6 +22,7 @@ use Rattle.lib_os.proofs.GoingOn.{gives_nothing_up}
 use Rattle.lib_os.proofs.Leaving.{running_calm, system_left}
 use Rattle.lib_os.proofs.NumbersKept.{KeepsCopies, copies_kept, mapping_copies, numbers_kept, places_kept}
 use Rattle.lib_os.proofs.OthersCopies.{plain_wait}
+use Rattle.lib_os.proofs.ServerLeft.{own_server, system_server}
 use Rattle.lib_os.proofs.OthersKept.{own_stay, system_stay}
 use Rattle.lib_os.proofs.Slots.{slot_kept, slot_put}
 use Rattle.lib_os.proofs.UsesCalled.{system_found}
@@ -124,6 +125,8 @@ module _ (s : KernelState) (n id : ℕ) (live : is_live (slot_at s n) ≡ true)
         places = places_kept s (after t) n (λ before then_so lives. others);
         numbers = numbers_kept s (after t) n (λ before then_so lives. others)
             (copies_kept s (after t) n (plain_wait s n SYS_ENV_SET_STATUS args refl));
+        server = own_server s n t (record (slot_at t n) { registers = record (slot_at t n).registers { eax = id }; extra = no_extra }) refl refl
+            (system_server s n SYS_ENV_SET_STATUS args refl (λ a h. refl));
       }
 
   runs_leaves : StepLeaves s n (stage.ChildRuns id)
@@ -143,7 +146,7 @@ map_child_copies s n id page perm stands = mapping_copies s n id page perm (page
 map_child_leaves : (s : KernelState) (n id page perm : ℕ) → place_of (slot_at s n) ≡ place.InService service.Fork (step.MapChild id page perm) →
     StepLeaves s n (stage.MapChild id page perm)
 map_child_leaves s n id page perm stands =
-    known_leaves s n (plan (stage.MapChild id page perm)) (knowingly refl (map_child_copies s n id page perm stands))
+    known_leaves s n (plan (stage.MapChild id page perm)) (knowingly refl (map_child_copies s n id page perm stands) (λ a h. refl))
 
 -- ---- each step
 

@@ -18,7 +18,7 @@ use Rattle.lib_os.specs.declared.progress.Progress.TheVariants as progress
 use Rattle.lib_os.specs.AbstractState.{AbstractState}
 use Rattle.lib_os.specs.Fence.{is_buffer, is_page_inside}
 use Rattle.lib_os.specs.InOrder.{IsInOrder}
-use Rattle.lib_os.specs.LibrarySteps.{LeavesRest, KeepsUses, frames_at, is_pausing, is_yield, service_answered}
+use Rattle.lib_os.specs.LibrarySteps.{KeepsServer, LeavesRest, KeepsUses, frames_at, is_pausing, is_yield, service_answered}
 use Rattle.lib_os.specs.Places.{place_of}
 use Rattle.lib_os.specs.Rows.{Names}
 use Rattle.lib_os.specs.StandsFor.{StandsFor}
@@ -30,6 +30,7 @@ use Rattle.lib_os.proofs.Numbered.{number_of}
 use Rattle.lib_os.proofs.NumbersKept.{copies_kept, numbers_kept, places_kept}
 use Rattle.lib_os.proofs.OthersCopies.{IsBeside, same_wait}
 use Rattle.lib_os.proofs.OthersKept.{OthersStay, own_stay, same_stay}
+use Rattle.lib_os.proofs.ServerLeft.{own_server, system_server}
 use Rattle.lib_os.proofs.Slots.{slot_put}
 use Rattle.lib_os.proofs.UsesCalled.{system_found}
 use Rattle.lib_stage.specs.declared.ask.Ask.{Ask}
@@ -176,6 +177,8 @@ module _ (s : KernelState) (n : ℕ) (step : Step) (live : is_live (slot_at s n)
           places = places_kept s (service_answered ran n 0) n (λ before then_so lives. others);
           numbers = numbers_kept s (service_answered ran n 0) n (λ before then_so lives. others)
               (copies_kept s (service_answered ran n 0) n (same_wait (IsBeside s n) s.spaces));
+          server = own_server s n ran (record (slot_at ran n) { registers = record (slot_at ran n).registers { eax = 0 }; extra = no_extra }) refl refl
+              (subst (λ (z : CallStep Called). KeepsServer n s z.state) is (system_server s n SYS_YIELD none refl (λ a h. refl)));
         };
         lowers = tt;
         gives_up = gives_nothing_up (Ok progress.Finished) (slot_at s n) (slot_at (service_answered ran n 0) n) (ap is_pausing there);

@@ -14,15 +14,19 @@ use Rattle.lib_os.specs.declared.place.Step.{Step}
 use Rattle.lib_os.specs.declared.place.Step.TheVariants as step
 use Rattle.lib_os.specs.declared.service.Service.{Service}
 use Rattle.lib_os.specs.declared.service.Service.TheVariants as service
+use Rattle.lib_os.specs.AbstractState.{AbstractState}
 use Rattle.lib_os.specs.Fence.{is_page_inside}
-use Rattle.lib_os.specs.LibrarySteps.{is_pausing, frames_at}
+use Rattle.lib_os.specs.LibrarySteps.{Stands, is_pausing, frames_at}
 use Rattle.lib_os.specs.Places.{place_of}
+use Rattle.lib_os.specs.Rows.{rows_of}
 use Rattle.lib_os.specs.Services.{named_service, service_of}
-use Rattle.lib_os.specs.StandsFor.{destination_of}
+use Rattle.lib_os.specs.StandsFor.{IsTrying, destination_of}
 use Rattle.lib_os.specs.UserCalls.{CallStep, answer_of}
 use Rattle.lib_os.proofs.Calls.{getenvid_is}
 use Rattle.lib_os.proofs.Numbered.{named_at}
 use Rattle.lib_os.proofs.NumbersKept.{KeepsCopies, sending_copies}
+use Rattle.lib_os.proofs.ServerLeft.{sends_aside, sent_aside}
+use Rattle.lib_os.proofs.Serving.{served}
 use Rattle.lib_os.proofs.Trying.{LivesOn}
 use Rattle.lib_stage.specs.declared.ask.Next.{Next}
 use Rattle.lib_stage.specs.declared.ask.Next.TheVariants as next
@@ -114,6 +118,14 @@ module _ (s : KernelState) (n id value va : ℕ) (live : is_live (slot_at s n) �
     unfolding performed
     trying_copies perm stands = sending_copies s n id value va perm stands
 
+    -- the file server is never sent anything
+    trying_aside : (perm : ℕ) → place_of (slot_at s n) ≡ place.InService (service.Send id value va) (step.Trying perm) →
+        (a : AbstractState) → Stands s a → sends_aside SYS_IPC_TRY_SEND (id ∷ value ∷ destination_of va ∷ perm ∷ 0 ∷ []) ≡ true
+    trying_aside perm stands a h =
+        let v = served h.1 n (service.Send id value va) (step.Trying perm) stands in
+        let at : IsTrying (rows_of s.spaces (slot_at s n).directory) (slot_at s n) v.b id value va perm = v.at in
+        sent_aside (id ∷ value ∷ destination_of va ∷ perm ∷ 0 ∷ []) at.other.1
+
     pub send_holds : (at : Step) → place_of (slot_at s n) ≡ place.InService (service.Send id value va) at →
         ServiceHolds s n (or_nowhere sending (send_at id value va at))
     send_holds step.Entered stands =
@@ -138,7 +150,8 @@ module _ (s : KernelState) (n id value va : ℕ) (live : is_live (slot_at s n) �
     send_holds (step.Trying perm) stands =
         let word_small : value < 2 ^ 32 = subst (λ (w : ℕ). w < 2 ^ 32) (given_word (slot_at s n) id value va (step.Trying perm) stands) small in
         let it = sent s n id value va perm stands live word_small in
-        law_of_call s n (plan (stage.Trying perm)) (service.Send id value va) (step.Trying perm) (here (stage.Trying perm) stands (knowingly refl (trying_copies perm stands)) refl)
+        law_of_call s n (plan (stage.Trying perm)) (service.Send id value va) (step.Trying perm)
+        (here (stage.Trying perm) stands (knowingly refl (trying_copies perm stands) (trying_aside perm stands)) refl)
         SYS_IPC_TRY_SEND (id ∷ value ∷ destination_of va ∷ perm ∷ 0 ∷ []) refl refl
         (record { live = it.live; registers = it.registers; written = it.written })
         (answered_keeps s n (plan (stage.Trying perm)) (send_call s n id value va perm) it (trying_keeps s n id value va perm stands live word_small))

@@ -3,7 +3,7 @@
 use Rattle.std.proofs.Common.{◌≡◌, ◌≢◌, ◌∙◌, ◌==◌, ◌%◌, ◌||◌, ℕ, Bool, true, false, Some, None, is_some, refl, sym, ap, subst, arith}
 use Rattle.std.proofs.lemmas.Bool.Decides.{nat_tests}
 use Rattle.std.proofs.lemmas.Option.{same_Some}
-use Rattle.jos_base.specs.declared.numbers.TheConstants.{NENV}
+use Rattle.jos_base.specs.declared.numbers.TheConstants.{FIRST_ENV_ID, NENV}
 use Rattle.jos_base.specs.Environments.{Slot, is_live as is_live_slot}
 use Rattle.jos_base.specs.KernelState.{KernelState, slot_at, with_slot_at, with_spaces}
 use Rattle.jos_base.specs.SpacesState.{SpacesState}
@@ -11,12 +11,12 @@ use Rattle.jos_base.specs.Words.{upd}
 use Rattle.lib_os.specs.declared.place.Place.TheVariants as place
 use Rattle.lib_os.specs.declared.place.Step.{Step}
 use Rattle.lib_os.specs.declared.service.Service.TheVariants as service
-use Rattle.lib_os.specs.AbstractState.{AbstractState, AbstractSlot, Born, unborn, born, is_live}
+use Rattle.lib_os.specs.AbstractState.{AbstractState, AbstractSlot, Born, unborn, born, serving, is_live}
 use Rattle.lib_os.specs.AbstractMemory.{has_page_in}
 use Rattle.lib_os.specs.InOrder.{IsInOrder}
 use Rattle.lib_os.specs.LibraryPages.{is_library_region}
 use Rattle.lib_os.specs.Places.{place_of, is_handlers}
-use Rattle.lib_os.specs.Rows.{EntryRow, Names, rows_of, logical, page_seen, is_descriptor, is_programs}
+use Rattle.lib_os.specs.Rows.{server_row, EntryRow, Names, rows_of, logical, page_seen, is_descriptor, is_programs}
 use Rattle.lib_os.specs.StandsFor.{StandsFor, StandsForSlot, StandsForBorn, StandsForUnborn, StandsAtStep, view_of, IsBorne, ChildPages}
 use Rattle.lib_os.specs.StandsFor.{borne_at, borne_in, is_passed, child_upcall}
 use Rattle.lib_os.proofs.Children.{same_child, borne_moved}
@@ -24,7 +24,7 @@ use Rattle.lib_os.proofs.EntriesStand.{RowsStand}
 use Rattle.lib_os.proofs.Logical.{logical_alike}
 use Rattle.lib_os.proofs.Serving.{served}
 use Rattle.lib_os.proofs.SlotsStand.{SeenAlike, slot_stands, live_stands, born_live}
-use Rattle.lib_os.proofs.StatesStand.{Settles, tabled_set}
+use Rattle.lib_os.proofs.StatesStand.{Settles, tabled_set, born_not_first, beside_same, server_alike, server_same}
 use Rattle.jos_base.proofs.Maps.{upd-at, upd-other}
 
 -- ---- the child
@@ -122,6 +122,16 @@ bearer {names = names} {s = s} {a = a} h n at id stands bears =
       named = named;
     }
 
+-- neither of them stands in slot 0
+pub parent_not_first : {names : Names} {s : KernelState} {a : AbstractState} {n id : ℕ} {at : Step} → StandsFor names s a →
+    IsBearer names s a n at id → 0 ≢ n
+parent_not_first {n = n} h v = born_not_first h n v.b v.is
+
+pub child_not_first : {names : Names} {s : KernelState} {a : AbstractState} {n id : ℕ} {at : Step} → StandsFor names s a →
+    IsBearer names s a n at id → 0 ≢ id % NENV
+child_not_first {a = a} {id = id} h v first =
+    let contradiction : serving FIRST_ENV_ID ≡ unborn id v.b.id = sym h.first ∙ ap a.slots first ∙ v.child_is in cc
+
 -- ---- the state
 
 module _ {names : Names} {s : KernelState} {a : AbstractState} {sp : SpacesState} (h : StandsFor names s a) (n id : ℕ) (at next : Step)
@@ -151,6 +161,13 @@ module _ {names : Names} {s : KernelState} {a : AbstractState} {sp : SpacesState
       (λ same. ne (h.in_order.spaces.apart j n lives (born_live v.own) same))
       (λ same. apart (h.in_order.spaces.apart j m lives (live_stands h m ∙ ap (λ (x : AbstractSlot). is_live x) v.child_is) same))
 
+  -- the server's among them
+  server_after : slots_after 0 ≡ slot_at s 0
+  server_after = others_after 0 (parent_not_first h v) (child_not_first h v)
+
+  server_seen : SeenAlike names names s.spaces sp (slot_at s 0).directory
+  server_seen = others_seen 0 (parent_not_first h v) (child_not_first h v) (ap (λ (x : AbstractSlot). is_live x) h.first)
+
   -- all others' entries count as they did
   pub others_count_too : (j : ℕ) → j ≢ n → j ≢ m → (p : ℕ) → logical sp slots_after j p ≡ logical s.spaces s.environments.slots j p
   others_count_too j ne apart p =
@@ -161,7 +178,7 @@ module _ {names : Names} {s : KernelState} {a : AbstractState} {sp : SpacesState
   module _ (settles : Settles (slot_at s n) k) (child_settles : Settles (slot_at s m) child)
       (stands : place_of k ≡ place.InService service.Fork next) (bears : borne_at next ≡ Some id)
       (mine : StandsForBorn names sp k v.b) (child_own : StandsForUnborn child id v.b.id) (its_child : IsChild names sp k v.b next child)
-      (rows : RowsStand names sp.pages a.shared a.objects a.next_name (logical sp slots_after))
+      (rows : RowsStand names sp.pages a.shared a.objects a.next_name (server_row s.spaces s.environments.slots) (logical sp slots_after))
       (in_order : IsInOrder (with_slot_at (with_slot_at (with_spaces s sp) m child) n k)) where
     slots_stand : (j : ℕ) → StandsForSlot names sp (slots_after j) (a.slots j)
     slots_stand j = by_parent (j == n) refl
@@ -260,9 +277,10 @@ module _ {names : Names} {s : KernelState} {a : AbstractState} {sp : SpacesState
           named = rows.named;
           users = rows.users;
           whole = rows.whole;
+          beside = beside_same (ap (λ (x : Slot). rows_of sp x.directory) server_after ∙ server_seen.rows) rows.beside;
           free_slots = h.free_slots;
           first = h.first;
-          server = h.server;
+          server = server_same server_after (server_alike server_seen h.server);
           input = h.input;
           last = h.last;
           turns = h.turns;

@@ -14,11 +14,11 @@ use Rattle.lib_os.specs.declared.place.Step.{Step}
 use Rattle.lib_os.specs.declared.service.Service.TheVariants as service
 use Rattle.lib_os.specs.AbstractState.{AbstractState, Born}
 use Rattle.lib_os.specs.Places.{place_of}
-use Rattle.lib_os.specs.Rows.{EntryRow, Names, counted, is_descriptor, logical, logical_by, rows_of}
+use Rattle.lib_os.specs.Rows.{EntryRow, Names, counted, is_clients, is_descriptor, logical, logical_by, rows_of}
 use Rattle.lib_os.specs.StandsFor.{ChildPages, StandsFor}
-use Rattle.lib_os.proofs.Bearing.{IsBearer, IsChild}
+use Rattle.lib_os.proofs.Bearing.{IsBearer, IsChild, parent_not_first, child_not_first}
 use Rattle.lib_os.proofs.GoesDown.{moved, moved_place}
-use Rattle.lib_os.proofs.Logical.{counted_plain, logical_alike}
+use Rattle.lib_os.proofs.Logical.{clients_so, counted_plain, logical_alike}
 use Rattle.lib_os.proofs.Serving.{words_of_none}
 use Rattle.lib_os.proofs.SlotsStand.{SeenAlike, born_live, seen_alike}
 use Rattle.jos_base.proofs.Maps.{upd-at, upd-other}
@@ -35,12 +35,12 @@ of_slots n m Q first second others j = by_first (j == n) refl
     by_first true test = let here : n ≡ j = grind (arith, nat_tests) in subst Q here first
     by_first false test = by_second (grind (arith, nat_tests)) (j == m) refl
 
--- the entries of a live slot, by the place where it stands
-pub live_counts : (sp : SpacesState) (slots : ℕ → Slot) (j : ℕ) (k : Slot) (at : Place) → slots j ≡ k → is_live_slot k ≡ true →
+-- the entries of a live slot but the first, by the place where it stands
+pub live_counts : (sp : SpacesState) (slots : ℕ → Slot) (j : ℕ) (k : Slot) (at : Place) → slots j ≡ k → 0 ≢ j → is_live_slot k ≡ true →
     place_of k ≡ at → (p : ℕ) → logical sp slots j p ≡ counted at (rows_of sp k.directory) p
-live_counts sp slots j k at is live stands p =
-    (λ i. logical_by (is_live_slot (is i)) (counted (place_of (is i)) (rows_of sp (is i).directory)) p)
-    ∙ ap (λ (c : Bool). logical_by c (counted (place_of k) (rows_of sp k.directory)) p) live
+live_counts sp slots j k at is not_first live stands p =
+    (λ i. logical_by (is_clients j (is i)) (counted (place_of (is i)) (rows_of sp (is i).directory)) p)
+    ∙ ap (λ (c : Bool). logical_by c (counted (place_of k) (rows_of sp k.directory)) p) (clients_so j k not_first live)
     ∙ ap (λ (x : Place). counted x (rows_of sp k.directory) p) stands
 
 -- ---- the two
@@ -67,11 +67,12 @@ module _ {names : Names} {s : KernelState} {a : AbstractState} (h : StandsFor na
 
   pub parent_counted : (p : ℕ) →
       logical s.spaces s.environments.slots n p ≡ counted (place.InService service.Fork at) (rows_of s.spaces parent.directory) p
-  parent_counted = live_counts s.spaces s.environments.slots n parent (place.InService service.Fork at) refl parent_lives v.place
+  parent_counted = live_counts s.spaces s.environments.slots n parent (place.InService service.Fork at) refl
+      (parent_not_first h v) parent_lives v.place
 
   pub child_counted : (p : ℕ) → logical s.spaces s.environments.slots (id % NENV) p ≡ rows_of s.spaces child.directory p
   child_counted p =
-      live_counts s.spaces s.environments.slots (id % NENV) child place.Guest refl child_lives child_place p
+      live_counts s.spaces s.environments.slots (id % NENV) child place.Guest refl (child_not_first h v) child_lives child_place p
       ∙ counted_plain place.Guest (rows_of s.spaces child.directory) refl p
 
   -- behind a step after which the parent stands at the next, and spaces may be others
@@ -82,12 +83,12 @@ module _ {names : Names} {s : KernelState} {a : AbstractState} (h : StandsFor na
     pub parent_counts : (p : ℕ) → logical sp slots_after n p ≡ counted (place.InService service.Fork next) (rows_of sp parent.directory) p
     parent_counts =
         live_counts sp slots_after n (moved parent next) (place.InService service.Fork next) (upd-at s.environments.slots n (moved parent next))
-        parent_lives (moved_place parent at next v.place)
+        (parent_not_first h v) parent_lives (moved_place parent at next v.place)
 
     pub child_counts : (p : ℕ) → logical sp slots_after (id % NENV) p ≡ rows_of sp child.directory p
     child_counts p =
         live_counts sp slots_after (id % NENV) child place.Guest (upd-other s.environments.slots n (moved parent next) (id % NENV) v.apart)
-        child_lives child_place p
+        (child_not_first h v) child_lives child_place p
         ∙ counted_plain place.Guest (rows_of sp child.directory) refl p
 
     -- of another slot, whose row is what it was

@@ -34,11 +34,11 @@ use Rattle.lib_os.specs.Services.{service_of}
 use Rattle.lib_os.specs.StandsFor.{StandsAt, StandsAtStep, StandsFor, borne_in, view_of}
 use Rattle.lib_os.specs.StandsInHandler.{is_refused_by}
 use Rattle.lib_os.proofs.BytesRead.{named_inside, page_byte, user_entry_read, users_inside}
-use Rattle.lib_os.proofs.EntriesCount.{entry_counts}
+use Rattle.lib_os.proofs.EntriesCount.{born_counts}
 use Rattle.lib_os.proofs.Logical.{inside_programs, unborne_plain}
 use Rattle.lib_os.proofs.Serving.{holds_page, library_moved, plain_copy, plain_upcall, plain_working}
 use Rattle.lib_os.proofs.SlotsStand.{born_at}
-use Rattle.lib_os.proofs.StatesStand.{slot_changed}
+use Rattle.lib_os.proofs.StatesStand.{born_not_first, slot_changed}
 use Rattle.lib_os.proofs.UsesKept.{stored_kept, touched_kept}
 use Rattle.lib_os.proofs.WordsTell.{handler_runs, is_in_handler, place_at}
 
@@ -98,11 +98,11 @@ abbrev pub access_of : Bool → Access
 access_of true = Write
 access_of false = Read
 
--- each frame that stands in a space has the bytes of a page
-pub frame_whole : {names : Names} {s : KernelState} {a : AbstractState} → StandsFor names s a → (d p : ℕ) (x : Entry) →
-    rows_of s.spaces d p ≡ Some x → IsPage (s.spaces.pages x.frame)
-frame_whole {s = s} h d p x is =
-    let found = entry_counts h d p x is in
+-- each frame that stands in an environment's space has the bytes of a page
+pub frame_whole : {names : Names} {s : KernelState} {a : AbstractState} → StandsFor names s a → (n : ℕ) (b : Born) → a.slots n ≡ born b →
+    (p : ℕ) (x : Entry) → rows_of s.spaces (slot_at s n).directory p ≡ Some x → IsPage (s.spaces.pages x.frame)
+frame_whole {s = s} h n b at p x is =
+    let found = born_counts {s = s} n (born_not_first h n b at) (born_at h n b at) p x is in
     subst (λ (f : ℕ). IsPage (s.spaces.pages f)) found.frame (h.whole found.slot found.page found.entry found.counts)
 
 module _ {names : Names} {s : KernelState} {a : AbstractState} (h : StandsFor names s a) (n : ℕ) (b : Born) (at : a.slots n ≡ born b) (va : ℕ)
@@ -151,7 +151,7 @@ module _ {names : Names} {s : KernelState} {a : AbstractState} (h : StandsFor na
   unfolding rows_of
   byte_small may =
       let found = user_entry_read names s a n b h at va inside may in
-      let page = frame_whole h d (page_number va) (lasting found.0) (ap (option_map lasting) found.1) in
+      let page = frame_whole h n b at (page_number va) (lasting found.0) (ap (option_map lasting) found.1) in
       subst (λ (byte : ℕ). byte < 256)
       (sym (page_byte names s.spaces d b (born_at h n b at).memory (users_inside names s a n b h at) va inside a (named_inside names s a n b h at)
       (λ (i : ℕ). []) found.0 found.1))

@@ -44,8 +44,7 @@ use Rattle.lib_os.proofs.Logical.{is_plain, logical_plain}
 use Rattle.lib_os.proofs.Numbered.{named_at}
 use Rattle.lib_os.proofs.PageBytes.{bytes_append}
 use Rattle.lib_os.proofs.Serving.{IsServed, holds_page, service_step}
-use Rattle.lib_os.proofs.SlotsStand.{born_at, born_live}
-use Rattle.lib_os.proofs.StatesStand.{quiet_stands}
+use Rattle.lib_os.proofs.StatesStand.{clients_live, quiet_stands}
 use Rattle.lib_os.proofs.Touching.{touched_quiet}
 use Rattle.lib_os.proofs.WindowWords.{read_at}
 
@@ -99,7 +98,7 @@ console_named {names} {s} {a} h n b at plain fd below stands =
     by_row (Some x) is there =
         let shared_page : is_shared x.perm ≡ true = ap is_shared (entry_bits h n b at fd x below is) in
         let it = h.named n (descriptor_page fd) x
-        (logical_plain s.spaces s.environments.slots n (born_live (born_at h n b at)) plain (descriptor_page fd) ∙ is) shared_page in
+        (logical_plain s.spaces s.environments.slots n (clients_live h n b at) plain (descriptor_page fd) ∙ is) shared_page in
         let name : ℕ = names.name x.frame in
         let shows : HasObject (a.objects name) (s.spaces.pages x.frame) =
         subst (λ (c : Bool). ShowsBy c (a.shared name) (a.objects name) (s.spaces.pages x.frame)) (it.kind ∙ is_descriptors fd below) it.shows in
@@ -257,7 +256,7 @@ module _ {names : Names} {s : KernelState} {a : AbstractState} (h : StandsFor na
       by_place true test =
           let many = it.many in
           let low : i < done = grind (arith, nat_tests) in
-          let page = frame_whole h d (page_number UTEMP) it.kept.entry it.kept.stands in
+          let page = frame_whole h n v.b v.is (page_number UTEMP) it.kept.entry it.kept.stands in
           subst (λ (byte : ℕ). byte < 256) (it.kept.same i low) (page.small i)
       by_place false test =
           let none : slice_index it.bytes i ≡ 0 = get_or_past it.bytes i 0 (grind (arith, nat_tests)) in

@@ -13,7 +13,6 @@ use Rattle.jos_base.specs.declared.memory.Access.TheVariants.{Read, Write}
 use Rattle.jos_base.specs.declared.memory.PageFault.{PageFault}
 use Rattle.jos_base.specs.declared.numbers.TheConstants.{PGSIZE, UTEMP}
 use Rattle.jos_base.specs.Counting.{page_limit}
-use Rattle.jos_base.specs.Environments.{is_live as is_live_slot}
 use Rattle.jos_base.specs.KernelState.{KernelState, slot_at, with_extra, with_spaces}
 use Rattle.jos_base.specs.Reach.{Entry, FrameOffset, allows}
 use Rattle.jos_base.specs.SpacesState.{SpacesState}
@@ -32,8 +31,8 @@ use Rattle.lib_os.specs.Fence.{in_fence}
 use Rattle.lib_os.specs.InOrder.{IsInOrder}
 use Rattle.lib_os.specs.LibraryPages.{LibraryPages, IsOwnWritable, keeps_page}
 use Rattle.lib_os.specs.Places.{place_of, words_at}
-use Rattle.lib_os.specs.Rows.{EntryRow, Names, Rows, AreBytes, IsPage, rows_of, logical, page_seen, seen_where, shown_at}
-use Rattle.lib_os.specs.Rows.{is_descriptor, is_programs, is_shared}
+use Rattle.lib_os.specs.Rows.{server_row, EntryRow, Names, Rows, AreBytes, IsPage, rows_of, logical, page_seen, seen_where, shown_at}
+use Rattle.lib_os.specs.Rows.{is_clients, is_descriptor, is_programs, is_shared}
 use Rattle.lib_os.specs.StandsFor.{StandsFor, StandsForBorn, StandsAt, StandsAtStep, view_of, HasTaken, IsKeeping, IsTaking, borne_in, refuses_next}
 use Rattle.lib_os.specs.StandsInHandler.{IsGiven, is_refused_by, stage_with, wanted_of}
 use Rattle.lib_os.specs.UserCalls.{CallStep, got, to_handler, gone, giving, accessing, by_access, faulting, load_byte, store, store_byte, user_byte}
@@ -43,7 +42,7 @@ use Rattle.lib_os.proofs.BytesRead.{lasting_reads, lasting_writes}
 use Rattle.lib_os.proofs.CopiesStand.{born_back}
 use Rattle.lib_os.proofs.CopiesStored.{IsRewritten}
 use Rattle.lib_os.proofs.Effects.{Quiet}
-use Rattle.lib_os.proofs.EntriesCount.{entry_counts}
+use Rattle.lib_os.proofs.EntriesCount.{frames_apart}
 use Rattle.lib_os.proofs.EntriesStand.{RowsStand, named_bytes, shown_same}
 use Rattle.lib_os.proofs.EntryWords.{row_entry}
 use Rattle.lib_os.proofs.Fences.{buffer_below}
@@ -52,8 +51,8 @@ use Rattle.lib_os.proofs.Logical.{is_plain, logical_alike, logical_plain, plain_
 use Rattle.lib_os.proofs.Numbered.{named_at}
 use Rattle.lib_os.proofs.PageBytes.{bytes_more, bytes_none, word_bytes}
 use Rattle.lib_os.proofs.Serving.{IsServed, holds_page, served}
-use Rattle.lib_os.proofs.SlotsStand.{SeenAlike, born_at, born_live, descriptors_off, library_alike}
-use Rattle.lib_os.proofs.StatesStand.{space_moves}
+use Rattle.lib_os.proofs.SlotsStand.{SeenAlike, born_at, descriptors_off, library_alike}
+use Rattle.lib_os.proofs.StatesStand.{clients_live, space_moves}
 use Rattle.lib_os.proofs.Touching.{touched_quiet}
 use Rattle.jos_base.proofs.Maps.{upd-at, upd-other}
 use Rattle.jos_base.proofs.Puts.{Elsewhere}
@@ -75,12 +74,12 @@ module _ {names : Names} {s : KernelState} {a : AbstractState} {sp : SpacesState
   own : StandsForBorn names s.spaces (slot_at s n) b
   own = born_at h n b at
 
-  live : is_live_slot (slot_at s n) ≡ true
-  live = born_live own
+  client : is_clients n (slot_at s n) ≡ true
+  client = clients_live h n b at
 
   -- what stands in the space counts
   own_counts : (q : ℕ) (x : Entry) → rows_of s.spaces d q ≡ Some x → before n q ≡ Some x
-  own_counts q x hx = logical_plain s.spaces s.environments.slots n live plain q ∙ hx
+  own_counts q x hx = logical_plain s.spaces s.environments.slots n client plain q ∙ hx
 
   -- nobody else has the frame
   alone : (m q : ℕ) (x : Entry) → Elsewhere m q n p → before m q ≡ Some x → x.frame ≢ e.frame
@@ -110,11 +109,8 @@ module _ {names : Names} {s : KernelState} {a : AbstractState} {sp : SpacesState
     where
       elsewhere : (r : ℕ) (x : Entry) → rows_of s.spaces q r ≡ Some x → sp.pages x.frame ≡ s.spaces.pages x.frame
       elsewhere r x hx =
-          let found = entry_counts h q r x hx in
-          let apart : found.slot ≢ n = λ same. ne (sym found.home ∙ ap (λ (m : ℕ). (slot_at s m).directory) same) in
-          let other_frame : found.entry.frame ≢ e.frame =
-          alone found.slot found.page found.entry (λ same. absurd (apart same)) found.counts in
-          bytes_kept x.frame (λ same. other_frame (found.frame ∙ same))
+          bytes_kept x.frame (frames_apart h n p e (own_counts p e e_is) q r x hx (λ found.
+          alone found.slot found.page found.entry (λ same. absurd (ne (sym found.home ∙ ap (λ (m : ℕ). (slot_at s m).directory) same))) found.counts))
 
   shown_kept : (q : ℕ) → q ≢ p → shown_at names sp d q ≡ shown_at names s.spaces d q
   shown_kept q ne =
@@ -160,7 +156,7 @@ module _ {names : Names} {s : KernelState} {a : AbstractState} {sp : SpacesState
       by_frame false test =
           subst (λ (page : List ℕ). IsPage page) (sym (bytes_kept x.frame (grind (arith, nat_tests)))) (h.whole m q x hx)
 
-  rows_kept : RowsStand names sp.pages a.shared a.objects a.next_name (logical sp s.environments.slots)
+  rows_kept : RowsStand names sp.pages a.shared a.objects a.next_name (server_row s.spaces s.environments.slots) (logical sp s.environments.slots)
   rows_kept = record {
     apart = λ m o q r x y ne hx hy same. h.apart m o q r x y ne (sym (counts_kept m o) ∙ hx) (sym (counts_kept q r) ∙ hy) same;
     named = λ m q x hx shared_page.
@@ -168,6 +164,7 @@ module _ {names : Names} {s : KernelState} {a : AbstractState} {sp : SpacesState
         named_bytes (sym (counted_bytes m q x it shared_page)) (h.named m q x it shared_page);
     users = λ m q x hx. h.users m q x (sym (counts_kept m q) ∙ hx);
     whole = λ m q x hx. as_whole m q x (sym (counts_kept m q) ∙ hx);
+    beside = λ m q r x y hx is. h.beside m q r x y (sym (counts_kept m q) ∙ hx) is;
   }
 
   -- The same is so of it, where it stands so at its place.
@@ -460,7 +457,7 @@ module _ {names : Names} {s : KernelState} {a : AbstractState} (h : StandsFor na
       library.working refl
 
   page_counts : logical s.spaces s.environments.slots n working_page ≡ Some page.entry
-  page_counts = logical_plain s.spaces s.environments.slots n (born_live v.own) (ap is_plain stands) working_page ∙ page.stands
+  page_counts = logical_plain s.spaces s.environments.slots n (clients_live h n v.b v.is) (ap is_plain stands) working_page ∙ page.stands
 
   page_whole : IsPage (s.spaces.pages page.entry.frame)
   page_whole = h.whole n working_page page.entry page_counts

@@ -53,7 +53,7 @@ use Rattle.lib_os.proofs.Logical.{is_plain, logical_plain}
 use Rattle.lib_os.proofs.Numbered.{named_at}
 use Rattle.lib_os.proofs.Serving.{IsServed, library_moved, served, step_in}
 use Rattle.lib_os.proofs.SlotsStand.{born_at, born_live}
-use Rattle.lib_os.proofs.StatesStand.{printed_stands, quiet_stands, slot_changed}
+use Rattle.lib_os.proofs.StatesStand.{clients_live, printed_stands, quiet_stands, slot_changed}
 use Rattle.lib_os.proofs.Touching.{all_touched_quiet}
 use Rattle.lib_os.proofs.WordsTell.{place_at}
 
@@ -74,7 +74,7 @@ object_terminal {names = names} {s = s} {a = a} h n b at plain fd below opened =
     let x : Entry = found.0 in
     let shared_page : is_shared x.perm ≡ true = ap is_shared (entry_bits h n b at fd x below found.1) in
     let counts : logical s.spaces s.environments.slots n (descriptor_page fd) ≡ Some x =
-    logical_plain s.spaces s.environments.slots n (born_live (born_at h n b at)) plain (descriptor_page fd) ∙ found.1 in
+    logical_plain s.spaces s.environments.slots n (clients_live h n b at) plain (descriptor_page fd) ∙ found.1 in
     let it = h.named n (descriptor_page fd) x counts shared_page in
     let kind : names.is_object (names.name x.frame) ≡ true = it.kind ∙ is_descriptors fd below in
     let has : HasObject (a.objects (names.name x.frame)) (s.spaces.pages x.frame) =
@@ -173,7 +173,7 @@ module _ {names : Names} {s : KernelState} {a : AbstractState} (h : StandsFor na
   user : is_page_perm it.kept.entry.perm ≡ true
   user =
       (h.users n (page_number UTEMP) it.kept.entry
-      (logical_plain s.spaces s.environments.slots n (born_live v.own) (ap is_plain stands) (page_number UTEMP) ∙ it.kept.stands)).page
+      (logical_plain s.spaces s.environments.slots n (clients_live h n v.b v.is) (ap is_plain stands) (page_number UTEMP) ∙ it.kept.stands)).page
 
   each_read : (i : ℕ) → i < length it.bytes →
       read_byte (records_of s.environments) s.spaces d (UTEMP + i) ≡ Ok (slice_index it.bytes i)

@@ -40,7 +40,7 @@ use Rattle.lib_os.specs.StandsInHandler.{IsToCopy, is_refused_by, is_write}
 use Rattle.lib_os.proofs.EntriesStand.{page_shows}
 use Rattle.lib_os.proofs.Fences.{buffer_each, buffer_below, inside_number}
 use Rattle.lib_os.proofs.Logical.{inside_programs, programs_beside, logical_beside, is_remapped}
-use Rattle.lib_os.proofs.SlotsStand.{born_live}
+use Rattle.lib_os.proofs.StatesStand.{clients_live}
 use Rattle.jos_base.proofs.Walks.{walked_below}
 
 -- ---- bits
@@ -422,7 +422,7 @@ pub logical_inside : {names : Names} {s : KernelState} {a : AbstractState} → S
     (p : ℕ) → is_programs p ≡ true → is_remapped (place_of (slot_at s n)) p ≡ false →
     logical s.spaces s.environments.slots n p ≡ rows_of s.spaces (slot_at s n).directory p
 logical_inside {names} {s} {a} stands n b is p inside other =
-    logical_beside s.spaces s.environments.slots n (born_live (born_part names s a n b stands is)) p (programs_beside p inside).0 other
+    logical_beside s.spaces s.environments.slots n (clients_live stands n b is) p (programs_beside p inside).0 other
 
 -- of that it is known what stands there
 pub remapped_at : (at : Place) (v : View) (k : Slot) (b : Born) (p : ℕ) → is_remapped at p ≡ true → StandsAt at v k b → IsRemapping v.row p

@@ -14,16 +14,16 @@ use Rattle.lib_os.specs.AbstractMemory.{stored, stored_in}
 use Rattle.lib_os.specs.InOrder.{IsInOrder}
 use Rattle.lib_os.specs.Places.{place_of}
 use Rattle.lib_os.specs.Rows.{Names, Rows, rows_of, logical, is_programs, is_shared, may_write}
-use Rattle.lib_os.specs.Rows.{AgreeWhereShared, AreNamed, AreUsers, AreWhole, IsNamed, IsPage, ShowsBy}
+use Rattle.lib_os.specs.Rows.{AgreeWhereShared, AreNamed, AreUsers, AreWhole, AreBeside, server_row, IsNamed, IsPage, ShowsBy}
 use Rattle.lib_os.specs.StandsFor.{StandsFor, StandsForBorn, view_of, borne_in}
 use Rattle.lib_os.proofs.Effects.{Stored}
-use Rattle.lib_os.proofs.EntriesCount.{entry_counts}
+use Rattle.lib_os.proofs.EntriesCount.{frames_apart}
 use Rattle.lib_os.proofs.EntriesStand.{same_sharing, other_frame, shown_same, seen_own, seen_by, named_bytes, page_kind, page_shows}
 use Rattle.lib_os.proofs.Logical.{logical_alike, logical_beside, logical_plain, programs_beside, unborne_plain, unborne_unremapped}
 use Rattle.lib_os.proofs.PageBytes.{page_set}
-use Rattle.lib_os.proofs.SlotsStand.{SeenAlike, kept_rows, library_alike, page_put, slot_stands, born_at, born_live}
+use Rattle.lib_os.proofs.SlotsStand.{SeenAlike, kept_rows, library_alike, page_put, slot_stands, born_at}
 use Rattle.lib_os.proofs.Children.{same_child, children_still}
-use Rattle.lib_os.proofs.StatesStand.{space_moves}
+use Rattle.lib_os.proofs.StatesStand.{space_moves, clients_live, beside_same, server_alike}
 use Rattle.lib_os.proofs.WordsTell.{is_in_handler}
 use Rattle.jos_base.proofs.Maps.{upd-at, upd-other}
 
@@ -54,7 +54,7 @@ module _ {names : Names} {s : KernelState} {a : AbstractState} {sp : SpacesState
 
   -- this one among them
   counts_here : before n p ≡ Some e
-  counts_here = logical_beside s.spaces s.environments.slots n (born_live (born_at h n b at)) p (programs_beside p inside).0
+  counts_here = logical_beside s.spaces s.environments.slots n (clients_live h n b at) p (programs_beside p inside).0
       (unborne_unremapped (place_of (slot_at s n)) p unborne) ∙ he
 
   -- another frame's bytes
@@ -83,7 +83,7 @@ module _ {names : Names} {s : KernelState} {a : AbstractState} {sp : SpacesState
   -- what stands in its own space counts
   own_counts : (q : ℕ) (x : Entry) → rows_of s.spaces d q ≡ Some x → before n q ≡ Some x
   own_counts q x hx =
-      logical_plain s.spaces s.environments.slots n (born_live (born_at h n b at)) (unborne_plain (place_of (slot_at s n)) outside unborne) q ∙ hx
+      logical_plain s.spaces s.environments.slots n (clients_live h n b at) (unborne_plain (place_of (slot_at s n)) outside unborne) q ∙ hx
 
   -- another page of one's own keeps its bytes, in this space
   own_beside : (q : ℕ) (x : Entry) → q ≢ p → rows_of s.spaces d q ≡ Some x → is_shared x.perm ≡ false → sp.pages x.frame ≡ s.spaces.pages x.frame
@@ -93,11 +93,9 @@ module _ {names : Names} {s : KernelState} {a : AbstractState} {sp : SpacesState
   -- and in any other
   own_elsewhere : (q r : ℕ) (x : Entry) → q ≢ d → rows_of s.spaces q r ≡ Some x → is_shared x.perm ≡ false → sp.pages x.frame ≡ s.spaces.pages x.frame
   own_elsewhere q r x ne hx own_page =
-      let found = entry_counts h q r x hx in
-      let other : found.slot ≢ n = λ same. ne (sym found.home ∙ ap (λ (m : ℕ). (slot_at s m).directory) same) in
-      let apart : found.entry.frame ≢ e.frame =
-      other_frame before h.apart n p found.slot found.page found.entry e (λ same too. other same) counts_here writes found.counts (found.sharing ∙ own_page) in
-      bytes_kept x (λ same. apart (found.frame ∙ same))
+      bytes_kept x (frames_apart h n p e counts_here q r x hx (λ found.
+      other_frame before h.apart n p found.slot found.page found.entry e
+      (λ same too. ne (sym found.home ∙ ap (λ (m : ℕ). (slot_at s m).directory) same)) counts_here writes found.counts (found.sharing ∙ own_page)))
 
   space_alike : (q : ℕ) → ((r : ℕ) (x : Entry) → rows_of s.spaces q r ≡ Some x → is_shared x.perm ≡ false →
       sp.pages x.frame ≡ s.spaces.pages x.frame) → SeenAlike names names s.spaces sp q
@@ -113,6 +111,9 @@ module _ {names : Names} {s : KernelState} {a : AbstractState} {sp : SpacesState
 
   users_kept : AreUsers (logical sp s.environments.slots)
   users_kept m q x hx = h.users m q x (sym (counts_kept m q) ∙ hx)
+
+  beside_kept : AreBeside (server_row s.spaces s.environments.slots) (logical sp s.environments.slots)
+  beside_kept m q r x y hx is = h.beside m q r x y (sym (counts_kept m q) ∙ hx) is
 
   -- in a page of its own
   module _ (own_page : is_shared e.perm ≡ false) where
@@ -147,7 +148,7 @@ module _ {names : Names} {s : KernelState} {a : AbstractState} {sp : SpacesState
     own_stored =
         space_moves h n b at sp (record b { memory = upd b.memory p after }) a.shared a.next_name unborne
         (λ q ne. space_alike q (λ r x hx own_too. own_elsewhere q r x ne hx own_too)) mine
-        (record { apart = apart_kept; named = named_kept; users = users_kept; whole = whole_kept }) in_order
+        (record { apart = apart_kept; named = named_kept; users = users_kept; whole = whole_kept; beside = beside_kept }) in_order
 
   -- in a shared page
   module _ (shared_page : is_shared e.perm ≡ true) where
@@ -159,13 +160,13 @@ module _ {names : Names} {s : KernelState} {a : AbstractState} {sp : SpacesState
 
     -- a page of one's own is another's frame
     own_other : (q r : ℕ) (x : Entry) → rows_of s.spaces q r ≡ Some x → is_shared x.perm ≡ false → x.frame ≢ e.frame
-    own_other q r x hx own_page same =
-        let found = entry_counts h q r x hx in
+    own_other q r x hx own_page =
+        frames_apart h n p e counts_here q r x hx (λ found same.
         let contradiction : true ≡ false =
         sym shared_page
-        ∙ sym (same_sharing before h.apart found.slot found.page n p found.entry e found.counts counts_here (found.frame ∙ same))
+        ∙ sym (same_sharing before h.apart found.slot found.page n p found.entry e found.counts counts_here same)
         ∙ found.sharing ∙ own_page in
-        cc
+        cc)
 
     shared_put : sp.pages e.frame ≡ bytes_after
     shared_put =
@@ -206,9 +207,11 @@ module _ {names : Names} {s : KernelState} {a : AbstractState} {sp : SpacesState
       named = named_stored;
       users = users_kept;
       whole = whole_kept;
+      beside = beside_same (ap (λ (rows : Rows). rows (slot_at s 0).directory) st.rows) beside_kept;
       free_slots = h.free_slots;
       first = h.first;
-      server = h.server;
+      server = server_alike
+          (space_alike (slot_at s 0).directory (λ r x hx own_too. bytes_kept x (own_other (slot_at s 0).directory r x hx own_too))) h.server;
       input = h.input;
       last = h.last;
       turns = h.turns;

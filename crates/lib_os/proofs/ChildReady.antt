@@ -20,9 +20,10 @@ use Rattle.lib_os.specs.AbstractState.{AbstractState}
 use Rattle.lib_os.specs.InOrder.{IsInOrder}
 use Rattle.lib_os.specs.LibraryPages.{is_library_region, region_index}
 use Rattle.lib_os.specs.Places.{place_of, words_at}
-use Rattle.lib_os.specs.Rows.{EntryRow, IsPage, IsUsers, Names, counted, is_descriptor, is_programs, is_shared, logical, page_seen, rows_of}
+use Rattle.lib_os.specs.Rows.{EntryRow, IsPage, IsUsers, Names, counted, is_descriptor, is_programs, is_shared, logical}
+use Rattle.lib_os.specs.Rows.{page_seen, rows_of, server_row}
 use Rattle.lib_os.specs.StandsFor.{StandsFor, StandsForBorn, StandsForUnborn}
-use Rattle.lib_os.proofs.Bearing.{IsBearer, IsChild, bearer, bearing_stands, others_count_too}
+use Rattle.lib_os.proofs.Bearing.{IsBearer, IsChild, bearer, bearing_stands, others_count_too, parent_not_first, child_not_first}
 use Rattle.lib_os.proofs.BearingCounts.{of_slots, live_counts, parent_lives, child_lives, child_place, spaces_apart, parent_counted, child_counted}
 use Rattle.lib_os.proofs.BearingCounts.{parent_counts, child_counts, other_counts}
 use Rattle.lib_os.proofs.Effects.{Made}
@@ -112,13 +113,13 @@ module _ {names : Names} {s : KernelState} {a : AbstractState} (h : StandsFor na
   counts =
       of_slots n m (λ j. (p : ℕ) → logical s.spaces slots_after j p ≡ logical s.spaces s.environments.slots j p)
       (λ p. live_counts s.spaces slots_after n after (place.InService service.Fork next) (upd-at (upd s.environments.slots m handled) n after)
-      (parent_lives h n id (step.ChildUpcall id) v) (moved_place parent (step.ChildUpcall id) next stands) p
+      (parent_not_first h v) (parent_lives h n id (step.ChildUpcall id) v) (moved_place parent (step.ChildUpcall id) next stands) p
       ∙ unremapped_runs id (rows_of s.spaces parent.directory) p
       ∙ sym (unremapped_upcall id (rows_of s.spaces parent.directory) p)
       ∙ sym (parent_counted h n id (step.ChildUpcall id) v p))
       (λ p. live_counts s.spaces slots_after m handled place.Guest
       (upd-other (upd s.environments.slots m handled) n after m v.apart ∙ upd-at s.environments.slots m handled)
-      (child_lives h n id (step.ChildUpcall id) v) (child_place h n id (step.ChildUpcall id) v) p
+      (child_not_first h v) (child_lives h n id (step.ChildUpcall id) v) (child_place h n id (step.ChildUpcall id) v) p
       ∙ counted_plain place.Guest (rows_of s.spaces handled.directory) refl p
       ∙ sym (child_counted h n id (step.ChildUpcall id) v p))
       (λ j ne apart. others_count_too h n id (step.ChildUpcall id) next v after handled refl refl (λ d other beside. same_spaces d) j ne apart)
@@ -288,8 +289,8 @@ module _ {names : Names} {s : KernelState} {a : AbstractState} {sp : SpacesState
       let found = (logical_some s.spaces s.environments.slots j q x hx).1 in
       subst (λ (f : ℕ). sp.pages f ≡ s.spaces.pages f) found.frame (bytes_kept _ q found.entry found.stands)
 
-  stack_row : PutsRow names names s.spaces.pages a.shared sp.pages a.shared a.objects a.next_name a.next_name before (id % NENV) stack_page
-      (Some new_entry)
+  stack_row : PutsRow names names s.spaces.pages a.shared sp.pages a.shared a.objects a.next_name a.next_name
+      (server_row s.spaces s.environments.slots) before (id % NENV) stack_page (Some new_entry)
   stack_row = record {
     bytes = λ j q x ne hx. counted_bytes j q x hx;
     agree = λ j q x e ne hx is same.
@@ -298,6 +299,8 @@ module _ {names : Names} {s : KernelState} {a : AbstractState} {sp : SpacesState
     user = λ e is. subst (λ (y : Entry). IsUsers y.perm) (same_Some new_entry e is) stack_user;
     whole = λ e is. subst (λ (y : Entry). IsPage (sp.pages y.frame)) (same_Some new_entry e is)
         (subst (λ (page : List ℕ). IsPage page) (sym made.zero) zero_page_whole);
+    beside = λ q e y is at same.
+        made.new (slot_at s 0).directory q y at (sym same ∙ ap (λ (x : Entry). x.frame) (sym (same_Some new_entry e is)));
     named_new = λ e is shared_page.
         let contradiction : false ≡ true = ap (λ (y : Entry). is_shared y.perm) (same_Some new_entry e is) ∙ shared_page in cc;
     named_old = λ j q x ne hx shared_page was. named_bytes (sym (counted_bytes j q x hx)) was;

@@ -8,7 +8,7 @@ use Rattle.std.proofs.lemmas.Option.{same_Some, none-some}
 use Rattle.std.specs.Prelude.{Option, Some, None, is_some, slice_index}
 use Rattle.std.specs.Option.{option_map}
 use Rattle.jos_base.specs.declared.numbers.TheConstants.{FDTABLE, NPTENTRIES, PGSIZE, USTACKTOP, UTEMP}
-use Rattle.jos_base.specs.Environments.{Slot, is_live as is_live_slot}
+use Rattle.jos_base.specs.Environments.{Slot}
 use Rattle.jos_base.specs.KernelState.{KernelState, slot_at, with_slot_at, with_spaces, with_registers}
 use Rattle.jos_base.specs.Reach.{Entry}
 use Rattle.jos_base.specs.SpacesState.{SpacesState, put}
@@ -25,9 +25,9 @@ use Rattle.lib_os.specs.Fence.{in_fence, is_resident}
 use Rattle.lib_os.specs.InOrder.{IsInOrder}
 use Rattle.lib_os.specs.LibraryPages.{View, LibraryPages, IsOwnWritable, is_library_region, region_index}
 use Rattle.lib_os.specs.Places.{place_of, is_handlers, handler_registers}
-use Rattle.lib_os.specs.Rows.{IsPage, Names, EntryRow, Rows, rows_of, logical, logical_by, counted, page_by, page_seen, seen_where, is_programs}
+use Rattle.lib_os.specs.Rows.{server_row, IsPage, Names, EntryRow, Rows, rows_of, logical, logical_by, counted, page_by, page_seen, seen_where, is_programs}
 use Rattle.lib_os.specs.Rows.{descriptor_perm, descriptor_seen, is_cow, is_descriptor, is_shared, shown_at}
-use Rattle.lib_os.specs.Rows.{may_write, IsUsers}
+use Rattle.lib_os.specs.Rows.{is_clients, may_write, IsUsers}
 use Rattle.lib_os.specs.StandingLaws.{IsHandlerStep}
 use Rattle.lib_os.specs.StandsFor.{StandsFor, StandsForBorn, StandsAt, view_of, upcall_at, borne_in}
 use Rattle.lib_os.specs.StandsInHandler.{IsInHandler, Copies, CopiesAt, CopiesOrEnds, copies, ends, IsToCopy, IsCopiedTo, IsMappedTwice}
@@ -45,8 +45,8 @@ use Rattle.lib_os.proofs.Puts.{put-found}
 use Rattle.lib_os.proofs.Releasing.{row_entry}
 use Rattle.lib_os.proofs.Serving.{library_moved}
 use Rattle.lib_os.proofs.Slots.{upd-back}
-use Rattle.lib_os.proofs.SlotsStand.{SeenAlike, HasTables, descriptors_beside, descriptors_off, library_put, born_live}
-use Rattle.lib_os.proofs.StatesStand.{own_moves, others_count, slot_in_order}
+use Rattle.lib_os.proofs.SlotsStand.{SeenAlike, HasTables, descriptors_beside, descriptors_off, library_put}
+use Rattle.lib_os.proofs.StatesStand.{clients_live, own_moves, others_count, slot_in_order}
 use Rattle.jos_base.proofs.Maps.{upd-at}
 use Rattle.jos_base.proofs.Puts.{Elsewhere, put-at, put-other}
 
@@ -125,7 +125,7 @@ pub copying_stands : {names : Names} {s : KernelState} {a : AbstractState} {sp :
     a.slots n ≡ born b → (to : HandlerStep) → borne_in (place_of (slot_at s n)) ≡ None → borne_in (place_of (handler_slot (slot_at s n) to)) ≡ None →
     ((d : ℕ) → d ≢ (slot_at s n).directory → SeenAlike names names s.spaces sp d) →
     StandsForBorn names sp (handler_slot (slot_at s n) to) b →
-    RowsStand names sp.pages a.shared a.objects a.next_name (logical sp (upd s.environments.slots n (handler_slot (slot_at s n) to))) →
+    RowsStand names sp.pages a.shared a.objects a.next_name (server_row s.spaces s.environments.slots) (logical sp (upd s.environments.slots n (handler_slot (slot_at s n) to))) →
     IsInOrder (with_spaces s sp) →
     StandsFor names (with_registers (with_spaces s sp) n (handler_registers (slot_at s n).registers to)) a
 copying_stands {names = names} {s = s} {a = a} {sp = sp} h n b at to unborne unborne_after others mine rows in_order =
@@ -135,15 +135,15 @@ copying_stands {names = names} {s = s} {a = a} {sp = sp} h n b at to unborne unb
     (slot_in_order (with_spaces s sp) n (handler_slot (slot_at s n) to) refl refl in_order))
 
 -- how the entries of the slot count at another step
-module _ (sp : SpacesState) (slots : ℕ → Slot) (n : ℕ) (to : HandlerStep) (live : is_live_slot (slots n) ≡ true)
+module _ (sp : SpacesState) (slots : ℕ → Slot) (n : ℕ) (to : HandlerStep) (client : is_clients n (slots n) ≡ true)
     (inside : is_handlers (slots n).registers.esp ≡ true) (there : IsHandlerStep to) where
   abbrev slot : Slot
   slot = handler_slot (slots n) to
 
   pub counts_at : (p : ℕ) → logical sp (upd slots n slot) n p ≡ counted (place.InHandler to) (rows_of sp (slots n).directory) p
   counts_at p =
-      (λ i. let k = upd-at slots n slot i in logical_by (is_live_slot k) (counted (place_of k) (rows_of sp k.directory)) p)
-      ∙ ap (λ (c : Bool). logical_by c (counted (place_of slot) (rows_of sp (slots n).directory)) p) live
+      (λ i. let k = upd-at slots n slot i in logical_by (is_clients n k) (counted (place_of k) (rows_of sp k.directory)) p)
+      ∙ ap (λ (c : Bool). logical_by c (counted (place_of slot) (rows_of sp (slots n).directory)) p) client
       ∙ ap (λ (at : Place). counted at (rows_of sp (slots n).directory) p) (handler_place (slots n) to inside there)
 
 -- ---- the page where the copy is made
@@ -238,8 +238,8 @@ module _ {names : Names} {s : KernelState} {a : AbstractState} {sp : SpacesState
   v : IsHandled names s a n (handler.Taking va)
   v = handled_part h n (handler.Taking va) stands
 
-  live : is_live_slot (slot_at s n) ≡ true
-  live = born_live v.own
+  client : is_clients n (slot_at s n) ≡ true
+  client = clients_live h n v.b v.is
 
   taken_puts : Puts names names s.spaces sp d copy_page (Some new_entry)
   taken_puts = record {
@@ -260,7 +260,7 @@ module _ {names : Names} {s : KernelState} {a : AbstractState} {sp : SpacesState
     where
       here : (p : ℕ) → logical sp (upd s.environments.slots n (handler_slot (slot_at s n) to)) n p ≡ rows_of sp d p
       here p =
-          counts_at sp s.environments.slots n to live v.inside (omega arith) p
+          counts_at sp s.environments.slots n to client v.inside (omega arith) p
           ∙ counted_plain (place.InHandler to) (rows_of sp d) refl p
 
       there : (m q : ℕ) → Elsewhere m q n copy_page →
@@ -274,11 +274,11 @@ module _ {names : Names} {s : KernelState} {a : AbstractState} {sp : SpacesState
               subst (λ (o : ℕ). logical sp (upd s.environments.slots n (handler_slot (slot_at s n) to)) o q ≡ logical s.spaces s.environments.slots o q)
               (sym same)
               (here q ∙ kept_beside taken_puts q (ne same)
-              ∙ sym (logical_plain s.spaces s.environments.slots n live (ap is_plain stands) q))
+              ∙ sym (logical_plain s.spaces s.environments.slots n client (ap is_plain stands) q))
           by_slot false test =
               others_count h n v.b v.is (handler_slot (slot_at s n) to) others m (grind (arith, nat_tests)) q
 
-  taken_row : PutsRow names names s.spaces.pages a.shared sp.pages a.shared a.objects a.next_name a.next_name (logical s.spaces s.environments.slots) n
+  taken_row : PutsRow names names s.spaces.pages a.shared sp.pages a.shared a.objects a.next_name a.next_name (server_row s.spaces s.environments.slots) (logical s.spaces s.environments.slots) n
       copy_page (Some new_entry)
   taken_row = record {
     bytes = bytes_elsewhere h n v.b v.is taken_puts;
@@ -288,6 +288,8 @@ module _ {names : Names} {s : KernelState} {a : AbstractState} {sp : SpacesState
     user = λ e is. subst (λ (y : Entry). IsUsers y.perm) (same_Some new_entry e is) copy_user;
     whole = λ e is. subst (λ (y : Entry). IsPage (sp.pages y.frame)) (same_Some new_entry e is)
         (subst (λ (page : List ℕ). IsPage page) (sym made.zero) zero_page_whole);
+    beside = λ q e y is there same.
+        made.new (slot_at s 0).directory q y there (sym same ∙ ap (λ (x : Entry). x.frame) (sym (same_Some new_entry e is)));
     named_new = λ e is shared_page.
         let contradiction : false ≡ true = ap (λ (y : Entry). is_shared y.perm) (same_Some new_entry e is) ∙ shared_page in cc;
     named_old = λ m q x ne hx shared_page was.
@@ -388,8 +390,8 @@ module _ {names : Names} {s : KernelState} {a : AbstractState} {sp : SpacesState
   w : IsHandled names s a n (handler.Unmapping va)
   w = handled_part h n (handler.Unmapping va) stands
 
-  alive : is_live_slot (slot_at s n) ≡ true
-  alive = born_live w.own
+  client_then : is_clients n (slot_at s n) ≡ true
+  client_then = clients_live h n w.b w.is
 
   unmapped_puts : Puts names names s.spaces sp space copy_page None
   unmapped_puts = record {
@@ -405,7 +407,7 @@ module _ {names : Names} {s : KernelState} {a : AbstractState} {sp : SpacesState
 
   counted_none : logical s.spaces s.environments.slots n copy_page ≡ None
   counted_none =
-      logical_live s.spaces s.environments.slots n alive copy_page
+      logical_live s.spaces s.environments.slots n client_then copy_page
       ∙ ap (λ (at : Place). counted at (rows_of s.spaces space) copy_page) stands
       ∙ over_none va (rows_of s.spaces space)
 
@@ -416,7 +418,7 @@ module _ {names : Names} {s : KernelState} {a : AbstractState} {sp : SpacesState
     where
       here : (q : ℕ) → logical sp (upd s.environments.slots n (handler_slot (slot_at s n) back)) n q ≡ rows_of sp space q
       here q =
-          counts_at sp s.environments.slots n back alive w.inside tt q
+          counts_at sp s.environments.slots n back client_then w.inside tt q
           ∙ counted_plain (place.InHandler back) (rows_of sp space) refl q
 
       by_page : (c : Bool) → (p == copy_page) ≡ c → logical sp (upd s.environments.slots n (handler_slot (slot_at s n) back)) n p
@@ -427,7 +429,7 @@ module _ {names : Names} {s : KernelState} {a : AbstractState} {sp : SpacesState
           (sym same) (here copy_page ∙ row_here unmapped_puts ∙ sym counted_none)
       by_page false test =
           let other : p ≢ copy_page = grind (arith, nat_tests) in
-          here p ∙ kept_beside unmapped_puts p other ∙ sym (logical_beside s.spaces s.environments.slots n alive p other (ap (λ (q : Place). is_remapped q p) stands))
+          here p ∙ kept_beside unmapped_puts p other ∙ sym (logical_beside s.spaces s.environments.slots n client_then p other (ap (λ (q : Place). is_remapped q p) stands))
 
       by_slot : (c : Bool) → (m == n) ≡ c → logical sp (upd s.environments.slots n (handler_slot (slot_at s n) back)) m p
           ≡ logical s.spaces s.environments.slots m p
@@ -547,8 +549,8 @@ module _ {names : Names} {s : KernelState} {a : AbstractState} {sp : SpacesState
   u : IsHandled names s a n (handler.MappingOver va)
   u = handled_part h n (handler.MappingOver va) stands
 
-  running : is_live_slot (slot_at s n) ≡ true
-  running = born_live u.own
+  client_there : is_clients n (slot_at s n) ≡ true
+  client_there = clients_live h n u.b u.is
 
   way : Copies (handler.MappingOver va) (view_of s.spaces home) (slot_at s n) u.b u.at.fault u.at.regs
   way = over_way u
@@ -571,10 +573,10 @@ module _ {names : Names} {s : KernelState} {a : AbstractState} {sp : SpacesState
   beside = let off = programs_beside p page_inside in (off.0, off.1)
 
   old_counts : before n p ≡ Some old.entry
-  old_counts = logical_beside s.spaces s.environments.slots n running p beside.0 (ap (λ (q : Place). is_remapped q p) stands) ∙ old.stands
+  old_counts = logical_beside s.spaces s.environments.slots n client_there p beside.0 (ap (λ (q : Place). is_remapped q p) stands) ∙ old.stands
 
   copy_counts : before n copy_page ≡ Some copy
-  copy_counts = logical_plain s.spaces s.environments.slots n running (ap is_plain stands) copy_page ∙ copy_is
+  copy_counts = logical_plain s.spaces s.environments.slots n client_there (ap is_plain stands) copy_page ∙ copy_is
 
   copy_writes : has_write copy.perm ≡ true
   copy_writes = let it = library.copy refl in ap (λ (e : Entry). has_write e.perm) (same_Some copy it.entry (sym copy_is ∙ it.stands)) ∙ it.writes
@@ -699,7 +701,7 @@ module _ {names : Names} {s : KernelState} {a : AbstractState} {sp : SpacesState
   over_counts = put_is left after n p (Some over) (at_home p ∙ over_beside va (rows_of sp home) p beside.0 ∙ row_placed given.placed) there
     where
       at_home : (q : ℕ) → after n q ≡ counted (place.InHandler next) (rows_of sp home) q
-      at_home q = counts_at sp s.environments.slots n next running u.inside tt q
+      at_home q = counts_at sp s.environments.slots n next client_there u.inside tt q
 
       of_slot : (q : ℕ) → q ≢ p → (c : Bool) → (q == copy_page) ≡ c → after n q ≡ left n q
       of_slot q ne true test =
@@ -709,7 +711,7 @@ module _ {names : Names} {s : KernelState} {a : AbstractState} {sp : SpacesState
       of_slot q ne false test =
           let other : q ≢ copy_page = grind (arith, nat_tests) in
           at_home q ∙ over_beside va (rows_of sp home) q other ∙ over_kept q ne
-          ∙ sym (logical_beside s.spaces s.environments.slots n running q other (ap (λ (at : Place). is_remapped at q) stands))
+          ∙ sym (logical_beside s.spaces s.environments.slots n client_there q other (ap (λ (at : Place). is_remapped at q) stands))
           ∙ sym (put-other before n copy_page None n q (λ same. other))
 
       there : (m q : ℕ) → Elsewhere m q n p → after m q ≡ left m q
@@ -724,12 +726,13 @@ module _ {names : Names} {s : KernelState} {a : AbstractState} {sp : SpacesState
               others_count h n u.b u.is (handler_slot (slot_at s n) next) over_others m other q
               ∙ sym (put-other before n copy_page None m q (λ same. absurd (other same)))
 
-  left_row : PutsRow names names s.spaces.pages a.shared s.spaces.pages a.shared a.objects a.next_name a.next_name before n copy_page None
+  left_row : PutsRow names names s.spaces.pages a.shared s.spaces.pages a.shared a.objects a.next_name a.next_name (server_row s.spaces s.environments.slots) before n copy_page None
   left_row = record {
     bytes = λ m q x ne hx. refl;
     agree = λ m q x e ne hx is same. absurd (none-some e is);
     user = λ e is. absurd (none-some e is);
     whole = λ e is. absurd (none-some e is);
+    beside = λ q e y is. absurd (none-some e is);
     named_new = λ e is. absurd (none-some e is);
     named_old = λ m q x ne hx shared_page was. was;
   }
@@ -745,7 +748,7 @@ module _ {names : Names} {s : KernelState} {a : AbstractState} {sp : SpacesState
   left_bytes m q x ne hx =
       bytes_elsewhere h n u.b u.is over_puts m q x ne (left_found m q x hx).0
 
-  over_row : PutsRow names names s.spaces.pages a.shared sp.pages a.shared a.objects a.next_name a.next_name left n p (Some over)
+  over_row : PutsRow names names s.spaces.pages a.shared sp.pages a.shared a.objects a.next_name a.next_name (server_row s.spaces s.environments.slots) left n p (Some over)
   over_row = record {
     bytes = left_bytes;
     agree = λ m q x e ne hx is same.
@@ -753,6 +756,8 @@ module _ {names : Names} {s : KernelState} {a : AbstractState} {sp : SpacesState
     user = λ e is. subst (λ (y : Entry). IsUsers y.perm) (same_Some over e is) copy_user;
     whole = λ e is. subst (λ (y : Entry). IsPage (sp.pages y.frame)) (same_Some over e is)
         (subst (λ (page : List ℕ). IsPage page) (sym given.same) (h.whole n copy_page copy copy_counts));
+    beside = λ q e y is there same.
+        h.beside n copy_page q copy y copy_counts there (ap (λ (x : Entry). x.frame) (same_Some over e is) ∙ same);
     named_new = λ e is shared_page.
         let contradiction : false ≡ true = ap (λ (y : Entry). is_shared y.perm) (same_Some over e is) ∙ shared_page in cc;
     named_old = λ m q x ne hx shared_page was. named_bytes (sym (left_bytes m q x ne hx)) was;

@@ -11,7 +11,6 @@ use Rattle.std.proofs.lemmas.Option.{same_Some}
 use Rattle.jos_base.specs.declared.memory.Access.TheVariants.{Write}
 use Rattle.jos_base.specs.declared.numbers.TheConstants.{PGSIZE}
 use Rattle.jos_base.specs.Counting.{page_limit}
-use Rattle.jos_base.specs.Environments.{is_live as is_live_slot}
 use Rattle.jos_base.specs.KernelState.{KernelState, slot_at, with_spaces, with_registers}
 use Rattle.jos_base.specs.Reach.{Entry, allows}
 use Rattle.jos_base.specs.SpacesState.{SpacesState}
@@ -27,8 +26,8 @@ use Rattle.lib_os.specs.AbstractState.{AbstractState}
 use Rattle.lib_os.specs.InOrder.{IsInOrder}
 use Rattle.lib_os.specs.LibraryPages.{LibraryPages, IsOwnWritable, has_copy}
 use Rattle.lib_os.specs.Places.{place_of, handler_registers}
-use Rattle.lib_os.specs.Rows.{Names, Rows, AreBytes, IsPage, rows_of, logical, descriptor_seen, page_seen, seen_where, shown_at}
-use Rattle.lib_os.specs.Rows.{is_programs, is_shared}
+use Rattle.lib_os.specs.Rows.{server_row, Names, Rows, AreBytes, IsPage, rows_of, logical, descriptor_seen, page_seen, seen_where, shown_at}
+use Rattle.lib_os.specs.Rows.{is_clients, is_programs, is_shared}
 use Rattle.lib_os.specs.StandingLaws.{IsHandlerStep}
 use Rattle.lib_os.specs.StandsFor.{StandsFor, view_of, upcall_at, borne_in}
 use Rattle.lib_os.specs.StandsInHandler.{Copies, CopiesAt, CopiesOrEnds, copies, ends, IsToCopy, IsCopiedTo, page_word}
@@ -39,15 +38,15 @@ use Rattle.lib_os.proofs.BytesRead.{lasting_reads, lasting_writes}
 use Rattle.lib_os.proofs.CopiesStand.{copy_page, copy_alone, copy_no_descriptor, copy_unseen, stack_beside}
 use Rattle.lib_os.proofs.CopiesStand.{handler_moved, copying_goes, copying_stands, counts_at}
 use Rattle.lib_os.proofs.Effects.{Quiet}
-use Rattle.lib_os.proofs.EntriesCount.{entry_counts}
+use Rattle.lib_os.proofs.EntriesCount.{frames_apart}
 use Rattle.lib_os.proofs.EntriesStand.{RowsStand, named_bytes, shown_same}
 use Rattle.lib_os.proofs.EntryWords.{row_entry}
 use Rattle.lib_os.proofs.Handled.{IsHandled, handled_part, handler_slot, handler_place}
 use Rattle.lib_os.proofs.Logical.{is_plain, is_remapped, counted_plain, logical_plain, logical_beside, inside_programs, programs_beside}
 use Rattle.lib_os.proofs.PageBytes.{word_bytes}
 use Rattle.lib_os.proofs.Serving.{library_moved}
-use Rattle.lib_os.proofs.SlotsStand.{SeenAlike, HasTables, descriptors_off, library_alike, born_live}
-use Rattle.lib_os.proofs.StatesStand.{others_count}
+use Rattle.lib_os.proofs.SlotsStand.{SeenAlike, HasTables, descriptors_off, library_alike}
+use Rattle.lib_os.proofs.StatesStand.{clients_live, others_count}
 use Rattle.lib_os.proofs.Touching.{touched_quiet}
 use Rattle.lib_os.proofs.StepsThere.{step_is_there}
 use Rattle.jos_base.proofs.Maps.{upd-at, upd-other}
@@ -87,8 +86,8 @@ module _ {names : Names} {s : KernelState} {a : AbstractState} {sp : SpacesState
   abbrev v : IsHandled names s a n (handler.Storing va index word)
   v = handled_part h n (handler.Storing va index word) stands
 
-  live : is_live_slot (slot_at s n) ≡ true
-  live = born_live v.own
+  client : is_clients n (slot_at s n) ≡ true
+  client = clients_live h n v.b v.is
 
   way : Copies from (view_of s.spaces d) (slot_at s n) v.b v.at.fault v.at.regs
   way = storing_way v
@@ -98,7 +97,7 @@ module _ {names : Names} {s : KernelState} {a : AbstractState} {sp : SpacesState
 
   -- what stands in the space counts
   own_counts : (q : ℕ) (x : Entry) → rows_of s.spaces d q ≡ Some x → before n q ≡ Some x
-  own_counts q x hx = logical_plain s.spaces s.environments.slots n live (ap is_plain stands) q ∙ hx
+  own_counts q x hx = logical_plain s.spaces s.environments.slots n client (ap is_plain stands) q ∙ hx
 
   copy_own : is_shared copy.perm ≡ false
   copy_own = let it = library.copy refl in ap (λ (e : Entry). is_shared e.perm) (same_Some copy it.entry (sym copy_is ∙ it.stands)) ∙ it.own_page
@@ -133,10 +132,8 @@ module _ {names : Names} {s : KernelState} {a : AbstractState} {sp : SpacesState
     where
       elsewhere : (r : ℕ) (x : Entry) → rows_of s.spaces q r ≡ Some x → sp.pages x.frame ≡ s.spaces.pages x.frame
       elsewhere r x hx =
-          let found = entry_counts h q r x hx in
-          let other : found.slot ≢ n = λ same. ne (sym found.home ∙ ap (λ (m : ℕ). (slot_at s m).directory) same) in
-          let apart : found.entry.frame ≢ copy.frame = alone found.slot found.page found.entry (λ same. absurd (other same)) found.counts in
-          bytes_kept x.frame (λ same. apart (found.frame ∙ same))
+          bytes_kept x.frame (frames_apart h n copy_page copy (own_counts copy_page copy copy_is) q r x hx (λ found.
+          alone found.slot found.page found.entry (λ same. absurd (ne (sym found.home ∙ ap (λ (m : ℕ). (slot_at s m).directory) same))) found.counts))
 
   shown_kept : (q : ℕ) → q ≢ copy_page → shown_at names sp d q ≡ shown_at names s.spaces d q
   shown_kept q other =
@@ -195,16 +192,16 @@ module _ {names : Names} {s : KernelState} {a : AbstractState} {sp : SpacesState
       where
         here : after n q ≡ before n q
         here =
-            counts_at sp s.environments.slots n to live v.inside there q
+            counts_at sp s.environments.slots n to client v.inside there q
             ∙ counted_plain (place.InHandler to) (rows_of sp d) plain q ∙ row_kept d q
-            ∙ sym (logical_plain s.spaces s.environments.slots n live (ap is_plain stands) q)
+            ∙ sym (logical_plain s.spaces s.environments.slots n client (ap is_plain stands) q)
 
         by_slot : (c : Bool) → (m == n) ≡ c → after m q ≡ before m q
         by_slot true test =
             let same : m ≡ n = grind (arith, nat_tests) in subst (λ (o : ℕ). after o q ≡ before o q) (sym same) here
         by_slot false test = others_count h n v.b v.is (handler_slot (slot_at s n) to) others m (grind (arith, nat_tests)) q
 
-    rows_kept : RowsStand names sp.pages a.shared a.objects a.next_name after
+    rows_kept : RowsStand names sp.pages a.shared a.objects a.next_name (server_row s.spaces s.environments.slots) after
     rows_kept = record {
       apart = λ m o q r x y ne hx hy same. h.apart m o q r x y ne (sym (counts_kept m o) ∙ hx) (sym (counts_kept q r) ∙ hy) same;
       named = λ m q x hx shared_page.
@@ -212,6 +209,7 @@ module _ {names : Names} {s : KernelState} {a : AbstractState} {sp : SpacesState
           named_bytes (sym (counted_bytes m q x it shared_page)) (h.named m q x it shared_page);
       users = λ m q x hx. h.users m q x (sym (counts_kept m q) ∙ hx);
       whole = λ m q x hx. as_whole m q x (sym (counts_kept m q) ∙ hx);
+      beside = λ m q r x y hx is. h.beside m q r x y (sym (counts_kept m q) ∙ hx) is;
     }
 
     library_kept : LibraryPages (place.InHandler to) (slot_at s n).extra (rows_of sp d)
@@ -286,7 +284,7 @@ module _ {names : Names} {s : KernelState} {a : AbstractState} {sp : SpacesState
 
   copy_whole : IsPage (s.spaces.pages copy.frame)
   copy_whole =
-      h.whole n copy_page copy (logical_plain s.spaces s.environments.slots n (born_live w.own) (ap is_plain stands) copy_page ∙ copy_is)
+      h.whole n copy_page copy (logical_plain s.spaces s.environments.slots n (clients_live h n w.b w.is) (ap is_plain stands) copy_page ∙ copy_is)
 
   page_whole : IsPage page
   page_whole = put_whole (s.spaces.pages copy.frame) (4 * index) (to_le_bytes w32 word) (word_bytes word) copy_whole
@@ -323,7 +321,7 @@ module _ {names : Names} {s : KernelState} {a : AbstractState} {sp : SpacesState
       let told_same : told.entry ≡ it.entry = same_Some told.entry it.entry (sym told.stands ∙ it.stands) in
       let source_whole : IsPage (s.spaces.pages it.entry.frame) =
       h.whole n (page_number w.at.fault.va) it.entry
-      (logical_beside s.spaces s.environments.slots n (born_live w.own) (page_number w.at.fault.va) beside
+      (logical_beside s.spaces s.environments.slots n (clients_live h n w.b w.is) (page_number w.at.fault.va) beside
       (ap (λ (q : Place). is_remapped q (page_number w.at.fault.va)) stands) ∙ it.stands) in
       let now : sp.pages copy.frame ≡ page =
       ap (λ (pages : ℕ → List ℕ). pages copy.frame) rewritten.pages ∙ upd-at s.spaces.pages copy.frame page in
@@ -436,7 +434,7 @@ module _ {names : Names} {s : KernelState} {a : AbstractState} (h : StandsFor na
   is_user : is_page_perm its_copy.entry.perm ≡ true
   is_user =
       (h.users n copy_page its_copy.entry
-      (logical_plain s.spaces s.environments.slots n (born_live x.own) (ap is_plain stands) copy_page ∙ its_copy.stands)).page
+      (logical_plain s.spaces s.environments.slots n (clients_live h n x.b x.is) (ap is_plain stands) copy_page ∙ its_copy.stands)).page
 
   before_it : WritesBy s.spaces dir its_copy.entry
   before_it = writes_by s.spaces dir its_copy.entry its_copy.stands is_user its_copy.writes

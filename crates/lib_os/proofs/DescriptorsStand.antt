@@ -32,7 +32,7 @@ use Rattle.lib_os.specs.InOrder.{IsInOrder}
 use Rattle.lib_os.specs.LibraryPages.{IsOwnWritable, LibraryPages}
 use Rattle.lib_os.specs.LibrarySteps.{TakesAtMost, gone_back, service_answered}
 use Rattle.lib_os.specs.Places.{is_handlers, place_of, words_at}
-use Rattle.lib_os.specs.Rows.{Agree, EntryRow, IsNamed, IsPage, IsUsers, Names, Rows, descriptor_page, descriptor_perm, descriptor_seen}
+use Rattle.lib_os.specs.Rows.{server_row, Agree, EntryRow, IsNamed, IsPage, IsUsers, Names, Rows, descriptor_page, descriptor_perm, descriptor_seen}
 use Rattle.lib_os.specs.Rows.{is_descriptor, is_programs, is_shared, logical, may_write, name_of, page_by, page_seen, rows_of, seen_where, shown_at}
 use Rattle.lib_os.specs.Services.{service_of}
 use Rattle.lib_os.specs.StandsFor.{IsDuplicating, IsIn, IsOpen, NoneIsOpenBelow, StandsAtStep, StandsFor, StandsForBorn, borne_in, view_of}
@@ -57,7 +57,7 @@ use Rattle.lib_os.proofs.Serving.{IsServed, holds_page}
 use Rattle.lib_os.proofs.Slots.{slot_put, words_put}
 use Rattle.lib_os.proofs.SlotsSet.{set_twice}
 use Rattle.lib_os.proofs.SlotsStand.{HasTables, KeptAt, at_kept, born_at, born_live, descriptor_shown, kept_unminded, minds_page, unminded_plain}
-use Rattle.lib_os.proofs.StatesStand.{slot_in_order, space_moves}
+use Rattle.lib_os.proofs.StatesStand.{clients_live, slot_in_order, space_moves}
 use Rattle.lib_os.proofs.Trying.{LivesOn}
 use Rattle.jos_base.proofs.Maps.{upd-all, upd-at, upd-twice}
 use Rattle.jos_base.proofs.Options.{some_is}
@@ -152,7 +152,7 @@ module _ {names : Names} {s : KernelState} {a : AbstractState} {sp : SpacesState
   descriptor_puts_stand : (name : Option ℕ) → name ≡ name_of (option_map (page_by names sp.pages) o) →
       ((x : Entry) → o ≡ Some x → x.perm ≡ descriptor_perm) →
       ((r : ℕ) → is_some (sp.regions dir r) ≡ is_some (s.spaces.regions dir r)) →
-      PutsRow names names s.spaces.pages a.shared sp.pages a.shared a.objects a.next_name a.next_name (logical s.spaces s.environments.slots) n
+      PutsRow names names s.spaces.pages a.shared sp.pages a.shared a.objects a.next_name a.next_name (server_row s.spaces s.environments.slots) (logical s.spaces s.environments.slots) n
       (descriptor_page fd) o → minds_page (place_of (slot_at s n)) ≡ false → IsInOrder (with_spaces s sp) →
       StandsFor names (with_spaces s sp) (with_born a n (with_descriptor b fd name))
   descriptor_puts_stand name name_is bits tables row unminded in_order =
@@ -206,13 +206,14 @@ module _ {names : Names} {s : KernelState} {a : AbstractState} {sp : SpacesState
         regions = λ q r ne. removed.regions q r;
       }
 
-      removed_row : PutsRow names names s.spaces.pages a.shared sp.pages a.shared a.objects a.next_name a.next_name
+      removed_row : PutsRow names names s.spaces.pages a.shared sp.pages a.shared a.objects a.next_name a.next_name (server_row s.spaces s.environments.slots)
           (logical s.spaces s.environments.slots) n p None
       removed_row = record {
         bytes = bytes_elsewhere h n b at removed_puts;
         agree = λ m q x e ne hx is same. absurd (none-some e is);
         user = λ e is. absurd (none-some e is);
         whole = λ e is. absurd (none-some e is);
+        beside = λ q e y is there. absurd (none-some e is);
         named_new = λ e is. absurd (none-some e is);
         named_old = λ m q x ne hx shared_page was. named_bytes (sym (bytes_elsewhere h n b at removed_puts m q x ne hx)) was;
       }
@@ -248,7 +249,7 @@ module _ {names : Names} {s : KernelState} {a : AbstractState} {sp : SpacesState
       -- the old one's entry counts
       counts_here : logical s.spaces s.environments.slots n from ≡ Some x
       counts_here =
-          logical_plain s.spaces s.environments.slots n (born_live (born_at h n b at)) (unminded_plain (place_of (slot_at s n)) unminded) from ∙ old_is
+          logical_plain s.spaces s.environments.slots n (clients_live h n b at) (unminded_plain (place_of (slot_at s n)) unminded) from ∙ old_is
 
       given_bytes : (q r : ℕ) (y : Entry) → Elsewhere q r into p → rows_of s.spaces q r ≡ Some y → sp.pages y.frame ≡ s.spaces.pages y.frame
       given_bytes q r y ne hy = by_frame (y.frame == x.frame) refl
@@ -280,7 +281,7 @@ module _ {names : Names} {s : KernelState} {a : AbstractState} {sp : SpacesState
         regions = other_regions given.placed;
       }
 
-      given_row : PutsRow names names s.spaces.pages a.shared sp.pages a.shared a.objects a.next_name a.next_name
+      given_row : PutsRow names names s.spaces.pages a.shared sp.pages a.shared a.objects a.next_name a.next_name (server_row s.spaces s.environments.slots)
           (logical s.spaces s.environments.slots) n p (Some x)
       given_row = record {
         bytes = bytes_elsewhere h n b at given_puts;
@@ -291,6 +292,7 @@ module _ {names : Names} {s : KernelState} {a : AbstractState} {sp : SpacesState
         user = λ e is. subst (λ (z : Entry). IsUsers z.perm) (same_Some x e is) (h.users n from x counts_here);
         whole = λ e is. subst (λ (z : Entry). IsPage (sp.pages z.frame)) (same_Some x e is)
             (subst (λ (l : List ℕ). IsPage l) (sym given.same) (h.whole n from x counts_here));
+        beside = λ q e y is there. subst (λ (z : Entry). z.frame ≢ y.frame) (same_Some x e is) (h.beside n from q x y counts_here there);
         named_new = λ e is. subst (λ (y : Entry). is_shared y.perm ≡ true → IsNamed names sp.pages a.shared a.objects a.next_name p y.frame)
             (same_Some x e is)
             (λ shared_page. named_bytes (sym given.same)

@@ -45,7 +45,7 @@ use Rattle.lib_os.proofs.Logical.{logical_beside, unborne_unremapped}
 use Rattle.lib_os.proofs.Numbered.{number_of}
 use Rattle.lib_os.proofs.PageWords.{load_page_word}
 use Rattle.lib_os.proofs.Serving.{IsServed, holds_page, printed_nothing, served, step_in}
-use Rattle.lib_os.proofs.SlotsStand.{born_at, born_live}
+use Rattle.lib_os.proofs.StatesStand.{clients_live}
 use Rattle.lib_os.proofs.WindowWords.{read_at}
 
 -- ---- the page of a descriptor that is open
@@ -75,7 +75,7 @@ module _ {names : Names} {s : KernelState} {a : AbstractState} (h : StandsFor na
 
     counts : logical s.spaces s.environments.slots n (descriptor_page fd) ≡ Some x
     counts =
-        logical_beside s.spaces s.environments.slots n (born_live (born_at h n b at)) (descriptor_page fd)
+        logical_beside s.spaces s.environments.slots n (clients_live h n b at) (descriptor_page fd)
         (λ same. absurd (omega (arith, same, below))) (unborne_unremapped (place_of (slot_at s n)) (descriptor_page fd) unborne)
         ∙ is
 

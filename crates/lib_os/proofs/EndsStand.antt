@@ -20,6 +20,7 @@ use Rattle.lib_os.proofs.Effects.{Gone}
 use Rattle.lib_os.proofs.EntriesStand.{named_bytes}
 use Rattle.lib_os.proofs.SlotsStand.{SeenAlike, born_at, born_live}
 use Rattle.lib_os.proofs.Children.{born_bears_none, children_kept}
+use Rattle.lib_os.proofs.StatesStand.{beside_same, row_other, server_alike, server_same, servers_seen}
 use Rattle.lib_os.proofs.StatesStand.{born_not_first, directories_apart, others_stand, others_count, tabled_freed}
 use Rattle.lib_os.proofs.Logical.{logical_some}
 use Rattle.jos_base.specs.Words.{upd}
@@ -65,12 +66,17 @@ ended_stands {names = names} {s = s} {a = a} h n b at unborne gone in_order =
           named_bytes (sym before.1) (h.named q r x before.0 shared_page);
       users = λ q r x hx. h.users q r x (still q r x hx).0;
       whole = λ q r x hx. let before = still q r x hx in subst (λ (l : List ℕ). IsPage l) (sym before.1) (h.whole q r x before.0);
+      beside = beside_same
+          (row_other t s.environments.slots n (free_slot (slot_at s n).id) (born_not_first h n b at)
+          ∙ (servers_seen h n b at (gone_alike names gone)).rows)
+          (λ q r p x e hx is. h.beside q r p x e (still q r x hx).0 is);
       free_slots = record {
         same = ap (λ (slots : List ℕ). n ∷ slots) h.free_slots.same;
         within = (let here : (slot_at s n).id % NENV ≡ n = h.tabled.ids n (born_live (born_at h n b at)) in omega (arith, here), h.free_slots.within);
       };
       first = upd-other a.slots n (free b.id) 0 (born_not_first h n b at) ∙ h.first;
-      server = h.server;
+      server = server_same (upd-other s.environments.slots n (free_slot (slot_at s n).id) 0 (born_not_first h n b at))
+          (server_alike (servers_seen h n b at (gone_alike names gone)) h.server);
       input = h.input;
       last = h.last;
       turns = h.turns;

@@ -1,5 +1,6 @@
 -- Whatever stands in a space counts for a slot: where it stands, or, where a copy is mapped over its page, at that page.
-use Rattle.std.proofs.Common.{◌≡◌, ◌≢◌, ◌∙◌, ◌==◌, ℕ, Bool, true, false, Option, Some, None, refl, sym, ap, subst, arith}
+use Rattle.jos_base.specs.declared.numbers.TheConstants.{NENV}
+use Rattle.std.proofs.Common.{◌≡◌, ◌≢◌, ◌∙◌, ◌==◌, ℕ, ◌%◌, Bool, true, false, Option, Some, None, refl, sym, ap, subst, arith}
 use Rattle.std.proofs.lemmas.Bool.Decides.{nat_tests}
 use Rattle.std.proofs.lemmas.Option.{none-some, same_Some}
 use Rattle.std.specs.Option.{option_map}
@@ -16,10 +17,10 @@ use Rattle.lib_os.specs.declared.place.Place.TheVariants as place
 use Rattle.lib_os.specs.AbstractState.{AbstractState, Born, AbstractSlot, free, unborn, born, serving}
 use Rattle.lib_os.specs.LibraryPages.{View, has_copy}
 use Rattle.lib_os.specs.Places.{place_of}
-use Rattle.lib_os.specs.Rows.{Names, rows_of, lasting, logical, is_shared, as_cow}
+use Rattle.lib_os.specs.Rows.{Names, rows_of, lasting, logical, is_shared, as_cow, is_clients}
 use Rattle.lib_os.specs.StandsFor.{StandsFor, StandsForSlot, StandsForBorn, StandsAt, view_of}
 use Rattle.lib_os.specs.StandsInHandler.{IsInHandler, CopiesOrEnds, copies, ends, IsMappedTwice}
-use Rattle.lib_os.proofs.Logical.{is_plain, is_remapped, as_cow_alike, counted_remapped, plain_unremapped, inside_programs, programs_beside}
+use Rattle.lib_os.proofs.Logical.{is_plain, is_remapped, as_cow_alike, counted_remapped, plain_unremapped, inside_programs, programs_beside, clients_so}
 use Rattle.lib_os.proofs.Logical.{logical_live, logical_plain, logical_beside}
 use Rattle.lib_os.proofs.Serving.{words_of_none}
 use Rattle.lib_os.proofs.SlotsStand.{born_live}
@@ -28,6 +29,7 @@ use Rattle.lib_os.proofs.SlotsStand.{born_live}
 pub record Counts (s : KernelState) (d p : ℕ) (x : Entry) : Type 0 where
   pub slot : ℕ
   pub live : is_live_slot (slot_at s slot) ≡ true
+  pub client : is_clients slot (slot_at s slot) ≡ true
   pub home : (slot_at s slot).directory ≡ d
   pub page : ℕ
   pub entry : Entry
@@ -46,17 +48,21 @@ twice_at (handler.Unmapping found) v k b plain at = by_way at.way
     by_way (ends way) = absurd way.at
 twice_at _ v k b plain at = absurd (let contradiction : true ≡ false = plain in cc)
 
-pub born_counts : {names : Names} {s : KernelState} {b : Born} (m : ℕ) → StandsForBorn names s.spaces (slot_at s m) b →
+pub born_counts : {names : Names} {s : KernelState} {b : Born} (m : ℕ) → 0 ≢ m → StandsForBorn names s.spaces (slot_at s m) b →
     (p : ℕ) (x : Entry) → rows_of s.spaces (slot_at s m).directory p ≡ Some x → Counts s (slot_at s m).directory p x
-born_counts {names = names} {s = s} {b = b} m own p x is = by_page (p == page_number PFTEMP) refl (is_plain (place_of (slot_at s m))) refl
+born_counts {names = names} {s = s} {b = b} m not_first own p x is = by_page (p == page_number PFTEMP) refl (is_plain (place_of (slot_at s m))) refl
   where
     live : is_live_slot (slot_at s m) ≡ true
     live = born_live own
+
+    client : is_clients m (slot_at s m) ≡ true
+    client = clients_so m (slot_at s m) not_first live
 
     itself : logical s.spaces s.environments.slots m p ≡ Some x → Counts s (slot_at s m).directory p x
     itself counts = record {
       slot = m;
       live = live;
+      client = client;
       home = refl;
       page = p;
       entry = x;
@@ -79,10 +85,11 @@ born_counts {names = names} {s = s} {b = b} m own p x is = by_page (p == page_nu
         record {
           slot = m;
           live = live;
+          client = client;
           home = refl;
           page = page_number found.0;
           entry = twice.here;
-          counts = logical_beside s.spaces s.environments.slots m live (page_number found.0) found.1
+          counts = logical_beside s.spaces s.environments.slots m client (page_number found.0) found.1
               (ap (λ (q : Place). is_remapped q (page_number found.0)) there) ∙ twice.here_is;
           frame = sym twice.frames ∙ ap (λ (e : Entry). e.frame) (sym copy);
           sharing = twice.own_page ∙ sym (ap (λ (e : Entry). is_shared e.perm) copy ∙ twice.own_copy);
@@ -96,10 +103,11 @@ born_counts {names = names} {s = s} {b = b} m own p x is = by_page (p == page_nu
         record {
           slot = m;
           live = live;
+          client = client;
           home = refl;
           page = p;
           entry = as_cow x;
-          counts = logical_live s.spaces s.environments.slots m live p
+          counts = logical_live s.spaces s.environments.slots m client p
               ∙ counted_remapped (place_of (slot_at s m)) (rows_of s.spaces (slot_at s m).directory) p twice
               ∙ ap (λ (o : Option Entry). option_map as_cow o) is;
           frame = alike.0;
@@ -109,43 +117,67 @@ born_counts {names = names} {s = s} {b = b} m own p x is = by_page (p == page_nu
 
     by_step : p ≢ page_number PFTEMP → (c : Bool) → is_remapped (place_of (slot_at s m)) p ≡ c → Counts s (slot_at s m).directory p x
     by_step ne true twice = twice_mapped twice
-    by_step ne false other = itself (logical_beside s.spaces s.environments.slots m live p ne other ∙ is)
+    by_step ne false other = itself (logical_beside s.spaces s.environments.slots m client p ne other ∙ is)
 
     by_page : (c : Bool) → (p == page_number PFTEMP) ≡ c → (t : Bool) → is_plain (place_of (slot_at s m)) ≡ t → Counts s (slot_at s m).directory p x
     by_page false test t plain = by_step (grind (arith, nat_tests)) (is_remapped (place_of (slot_at s m)) p) refl
-    by_page true test true plain = itself (logical_plain s.spaces s.environments.slots m live plain p ∙ is)
+    by_page true test true plain = itself (logical_plain s.spaces s.environments.slots m client plain p ∙ is)
     by_page true test false plain = at_page (place_of (slot_at s m)) refl plain (grind (arith, nat_tests)) own.at
 
--- what stands in a space
+-- what stands in a space but the file server's
 pub entry_counts : {names : Names} {s : KernelState} {a : AbstractState} → StandsFor names s a → (d p : ℕ) (x : Entry) →
-    rows_of s.spaces d p ≡ Some x → Counts s d p x
+    d ≢ (slot_at s 0).directory → rows_of s.spaces d p ≡ Some x → Counts s d p x
 unfolding rows_of
-entry_counts {names = names} {s = s} {a = a} h d p x is = by_entry (s.spaces.entries d p) refl is
+entry_counts {names = names} {s = s} {a = a} h d p x other is = by_entry (s.spaces.entries d p) refl is
   where
+    not_first : (m : ℕ) → (slot_at s m).directory ≡ d → 0 ≢ m
+    not_first m home first = other (sym home ∙ ap (λ (k : ℕ). (slot_at s k).directory) (sym first))
+
     of_slot : (m : ℕ) → (slot_at s m).directory ≡ d → is_live_slot (slot_at s m) ≡ true → (slot : AbstractSlot) → StandsForSlot names s.spaces (slot_at s m) slot → Counts s d p x
     of_slot m home live (free id) k =
         absurd (let contradiction : false ≡ true = sym (ap (λ (j : Slot). is_live_slot j) k) ∙ live in cc)
     of_slot m home live (unborn id parent) k =
+        let client : is_clients m (slot_at s m) ≡ true = clients_so m (slot_at s m) (not_first m home) live in
         let its_row = ap (λ (f : ℕ). rows_of s.spaces f p) home ∙ is in
         let guest : place_of (slot_at s m) ≡ place.Guest = words_of_none (slot_at s m).registers (slot_at s m).extra k.stack k.words in
         record {
           slot = m;
           live = live;
+          client = client;
           home = home;
           page = p;
           entry = x;
-          counts = logical_plain s.spaces s.environments.slots m live (ap is_plain guest) p ∙ its_row;
+          counts = logical_plain s.spaces s.environments.slots m client (ap is_plain guest) p ∙ its_row;
           frame = refl;
           sharing = refl;
           here = λ plain. (refl, refl);
         }
     of_slot m home live (serving id) k =
-        absurd (none-some x (sym (k.empty p) ∙ ap (λ (f : ℕ). rows_of s.spaces f p) home ∙ is))
+        absurd (not_first m home (sym (sym (h.tabled.ids m live) ∙ ap (λ (i : ℕ). i % NENV) (k.id_is ∙ k.first))))
     of_slot m home live (born b) k =
-        subst (λ (f : ℕ). Counts s f p x) home (born_counts m k p x (ap (λ (f : ℕ). rows_of s.spaces f p) home ∙ is))
+        subst (λ (f : ℕ). Counts s f p x) home (born_counts m (not_first m home) k p x (ap (λ (f : ℕ). rows_of s.spaces f p) home ∙ is))
 
     by_entry : (o : Option Entry) → s.spaces.entries d p ≡ o → rows_of s.spaces d p ≡ Some x → Counts s d p x
     by_entry None none is = absurd (none-some x (sym (ap (λ (o : Option Entry). option_map lasting o) none) ∙ is))
     by_entry (Some e) there is =
         let owner = h.in_order.spaces.owned d (ap is_directory (h.in_order.frames.owners d p e there)) in
         of_slot owner.0 owner.2 owner.1 (a.slots owner.0) (h.slots owner.0)
+
+-- the file server's pages stand in other frames than what counts
+pub servers_frame : {names : Names} {s : KernelState} {a : AbstractState} → StandsFor names s a → (n p q : ℕ) (x e : Entry) →
+    logical s.spaces s.environments.slots n p ≡ Some x → rows_of s.spaces (slot_at s 0).directory q ≡ Some e → e.frame ≢ x.frame
+servers_frame h n p q x e counts is same = h.beside n p q x e counts is (sym same)
+
+-- What stands in a space has another frame than an entry that counts, where what counts for it has another.
+pub frames_apart : {names : Names} {s : KernelState} {a : AbstractState} → StandsFor names s a → (n p : ℕ) (e : Entry) →
+    logical s.spaces s.environments.slots n p ≡ Some e → (d q : ℕ) (x : Entry) → rows_of s.spaces d q ≡ Some x →
+    ((found : Counts s d q x) → found.entry.frame ≢ e.frame) → x.frame ≢ e.frame
+frames_apart {s = s} h n p e counts d q x is apart same = by_space (d == (slot_at s 0).directory) refl
+  where
+    by_space : (c : Bool) → (d == (slot_at s 0).directory) ≡ c → ⊥
+    by_space true test =
+        let servers : d ≡ (slot_at s 0).directory = grind (arith, nat_tests) in
+        servers_frame h n p q e x counts (ap (λ (f : ℕ). rows_of s.spaces f q) (sym servers) ∙ is) same
+    by_space false test =
+        let found = entry_counts h d q x (grind (arith, nat_tests)) is in
+        apart found (found.frame ∙ same)

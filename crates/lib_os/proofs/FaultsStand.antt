@@ -46,8 +46,8 @@ use Rattle.lib_os.proofs.LaidStand.{Laid, bytes_laid, laid_beside, laid_others, 
 use Rattle.lib_os.proofs.Logical.{is_plain, is_remapped, plain_unborne, logical_beside}
 use Rattle.lib_os.proofs.PageBytes.{page_overlaid, words_bytes}
 use Rattle.lib_os.proofs.Serving.{library_moved, plain_copy, plain_upcall}
-use Rattle.lib_os.proofs.SlotsStand.{born_at, born_live, descriptors_off, library_alike}
-use Rattle.lib_os.proofs.StatesStand.{own_moves, plain_alike}
+use Rattle.lib_os.proofs.SlotsStand.{born_at, descriptors_off, library_alike}
+use Rattle.lib_os.proofs.StatesStand.{clients_live, own_moves, plain_alike}
 use Rattle.lib_os.proofs.Touching.{touched_quiet}
 use Rattle.lib_os.proofs.Working.{words_work}
 use Rattle.lib_os.proofs.WordsTell.{is_in_handler, outside_stack}
@@ -102,7 +102,7 @@ module _ {names : Names} {s : KernelState} {a : AbstractState} (h : StandsFor na
 
   stack_counts : logical s.spaces s.environments.slots n (page_number UXSTACK) ≡ Some stack_page.entry
   stack_counts =
-      logical_beside s.spaces s.environments.slots n (born_live (born_at h n b at)) (page_number UXSTACK) (λ same. absurd (omega (arith, same)))
+      logical_beside s.spaces s.environments.slots n (clients_live h n b at) (page_number UXSTACK) (λ same. absurd (omega (arith, same)))
       (by_step (is_remapped (place_of (slot_at s n)) (page_number UXSTACK)) refl)
       ∙ stack_page.stands
     where
@@ -177,6 +177,7 @@ counted_stands h in_order = record {
   named = h.named;
   users = h.users;
   whole = h.whole;
+  beside = h.beside;
   free_slots = h.free_slots;
   first = h.first;
   server = h.server;

@@ -1,6 +1,7 @@
 -- Behind the first step of fork the kernel's state stands for the abstract one behind its own: the child's slot is taken, and its
 -- parent stands where it is about to pass on its pages, of which the child has none yet.
-use Rattle.std.proofs.Common.{◌≡◌, ◌≢◌, ◌∙◌, ◌==◌, ◌+◌, ◌*◌, ◌%◌, ◌<◌, ◌≤◌, ℕ, Bool, true, false, List, [], ◌∷◌, Option, Some, None, is_some, refl, sym, ap, subst, arith}
+use Rattle.std.proofs.Common.{◌≡◌, ◌≢◌, ◌∙◌, ◌==◌, ◌&&◌, ◌+◌, ◌*◌, ◌%◌, ◌<◌, ◌≤◌, ℕ, Bool, true, false, not, List, [], ◌∷◌}
+use Rattle.std.proofs.Common.{Option, Some, None, is_some, refl, sym, ap, subst, arith}
 use Rattle.std.proofs.lemmas.Bool.{false≢true}
 use Rattle.std.proofs.lemmas.Bool.Decides.{nat_tests}
 use Rattle.std.proofs.lemmas.Option.{none-some, same_Some}
@@ -25,7 +26,7 @@ use Rattle.lib_os.specs.Answers.{at_stage}
 use Rattle.lib_os.specs.InOrder.{IsInOrder, AreFree}
 use Rattle.lib_os.specs.LibraryPages.{has_working, region_index}
 use Rattle.lib_os.specs.Places.{place_of, words_at}
-use Rattle.lib_os.specs.Rows.{Names, EntryRow, rows_of, counted, logical, logical_by, is_descriptor, is_programs}
+use Rattle.lib_os.specs.Rows.{server_row, Names, EntryRow, rows_of, counted, logical, logical_by, is_clients, is_descriptor, is_programs}
 use Rattle.lib_os.specs.StandsFor.{StandsFor, StandsForSlot, StandsForBorn, StandsForUnborn, StandsAt, IsTabled, AreSlots, IsBorne}
 use Rattle.lib_os.specs.StandsFor.{IsBearing, view_of, borne_in, is_passed}
 use Rattle.lib_os.proofs.Bearing.{IsChild, child_borne}
@@ -33,12 +34,12 @@ use Rattle.lib_os.proofs.Children.{borne_moved, same_child}
 use Rattle.lib_os.proofs.EntriesStand.{RowsStand, rows_stand, rows_same, rows_bytes}
 use Rattle.lib_os.proofs.Fences.{fence_below}
 use Rattle.lib_os.proofs.Forked.{child_slot, space_begun, next_id_names, next_id_small}
-use Rattle.lib_os.proofs.Logical.{logical_live, logical_some, logical_alike}
+use Rattle.lib_os.proofs.Logical.{clients_so, logical_live, logical_some, logical_alike}
 use Rattle.lib_os.proofs.Numbered.{named_at}
 use Rattle.lib_os.proofs.Releasing.{row_entry}
 use Rattle.lib_os.proofs.Serving.{IsServed, served, library_moved, plain_copy, plain_upcall, words_of_none}
 use Rattle.lib_os.proofs.SlotsStand.{SeenAlike, slot_stands, born_stands, live_stands, ids_stand, born_live}
-use Rattle.lib_os.proofs.StatesStand.{slot_in_order, tabled_set, born_not_first}
+use Rattle.lib_os.proofs.StatesStand.{slot_in_order, tabled_set, born_not_first, clients_live, beside_same, server_alike, server_same}
 use Rattle.lib_os.proofs.WordsTell.{handler_runs, is_in_handler, place_at}
 use Rattle.jos_base.proofs.Maps.{upd-at, upd-other, upd-all, upd-both}
 
@@ -222,6 +223,21 @@ module _ {names : Names} {s : KernelState} {a : AbstractState} (h : StandsFor na
   nobody_there : is_live (a.slots m) ≡ false
   nobody_there = sym (live_stands h m) ∙ nobody
 
+  -- slot 0 is the server's
+  not_first : 0 ≢ m
+  not_first same =
+      false≢true (sym nobody_there ∙ ap (λ (j : ℕ). is_live (a.slots j)) (sym same) ∙ ap (λ (x : AbstractSlot). is_live x) h.first)
+
+  server_here : slots_after 0 ≡ slot_at s 0
+  server_here = slots_else 0 (born_not_first h n b v.is) not_first
+
+  nobody_counts : is_clients m (slot_at s m) ≡ false
+  nobody_counts = ap (λ (c : Bool). not (m == 0) && c) nobody ∙ never (not (m == 0))
+    where
+      never : (c : Bool) → c && false ≡ false
+      never true = refl
+      never false = refl
+
   there : place_of parent ≡ place.InService service.Fork to
   there =
       place_at regs SERVICE_FORK to v.outside
@@ -287,23 +303,23 @@ module _ {names : Names} {s : KernelState} {a : AbstractState} (h : StandsFor na
       here : logical sp slots_after n p ≡ logical s.spaces s.environments.slots n p
       here =
           let d = (slot_at s n).directory in
-          logical_live sp slots_after n (ap (λ (x : Slot). is_live_slot x) parent_here ∙ live) p
+          logical_live sp slots_after n (ap (λ (x : Slot). is_clients n x) parent_here ∙ clients_live h n b v.is) p
           ∙ (λ i. counted (place_of (parent_here i)) (rows_of sp (parent_here i).directory) p)
           ∙ ap (λ (at : Place). counted at (rows_of sp d) p) there
           ∙ region_counts id (region_index USTACKTOP) (rows_of sp d) p
           ∙ ap (λ (row : EntryRow). row p) (rows_kept d)
           ∙ sym (entered_counts (rows_of s.spaces d) p)
           ∙ sym (ap (λ (at : Place). counted at (rows_of s.spaces d) p) stands)
-          ∙ sym (logical_live s.spaces s.environments.slots n live p)
+          ∙ sym (logical_live s.spaces s.environments.slots n (clients_live h n b v.is) p)
 
       its : logical sp slots_after m p ≡ logical s.spaces s.environments.slots m p
       its =
-          logical_live sp slots_after m (ap (λ (x : Slot). is_live_slot x) child_here) p
+          logical_live sp slots_after m (ap (λ (x : Slot). is_clients m x) child_here ∙ clients_so m child not_first refl) p
           ∙ (λ i. counted (place_of (child_here i)) (rows_of sp (child_here i).directory) p)
           ∙ ap (λ (at : Place). counted at (rows_of sp f) p) child_place
           ∙ guest_counts (rows_of sp f) p
           ∙ no_row p
-          ∙ sym (ap (λ (c : Bool). logical_by c (counted (place_of (slot_at s m)) (rows_of s.spaces (slot_at s m).directory)) p) nobody)
+          ∙ sym (ap (λ (c : Bool). logical_by c (counted (place_of (slot_at s m)) (rows_of s.spaces (slot_at s m).directory)) p) nobody_counts)
 
       by_child : j ≢ n → (c : Bool) → (j == m) ≡ c → logical sp slots_after j p ≡ logical s.spaces s.environments.slots j p
       by_child ne true test =
@@ -321,7 +337,7 @@ module _ {names : Names} {s : KernelState} {a : AbstractState} (h : StandsFor na
           subst (λ (q : ℕ). logical sp slots_after q p ≡ logical s.spaces s.environments.slots q p) same here
       by_parent false test = by_child (grind (arith, nat_tests)) (j == m) refl
 
-  rows : RowsStand names sp.pages a.shared a.objects a.next_name (logical sp slots_after)
+  rows : RowsStand names sp.pages a.shared a.objects a.next_name (server_row s.spaces s.environments.slots) (logical sp slots_after)
   rows =
       rows_same (logical s.spaces s.environments.slots) (logical sp slots_after) rows_count
       (rows_bytes sp.pages (λ j p x is.
@@ -442,13 +458,13 @@ module _ {names : Names} {s : KernelState} {a : AbstractState} (h : StandsFor na
       named = rows.named;
       users = rows.users;
       whole = rows.whole;
+      beside = beside_same (ap (λ (x : Slot). rows_of sp x.directory) server_here ∙ rows_kept (slot_at s 0).directory) rows.beside;
       free_slots = record { same = refl; within = listed.1 };
       first =
           upd-other (upd a.slots m (unborn id b.id)) n (born bearer) 0 (born_not_first h n b v.is)
-          ∙ upd-other a.slots m (unborn id b.id) 0
-          (λ same. false≢true (sym nobody_there ∙ ap (λ (j : ℕ). is_live (a.slots j)) (sym same) ∙ ap (λ (x : AbstractSlot). is_live x) h.first))
+          ∙ upd-other a.slots m (unborn id b.id) 0 not_first
           ∙ h.first;
-      server = h.server;
+      server = server_same server_here (server_alike (seen (slot_at s 0).directory) h.server);
       input = h.input;
       last = h.last;
       turns = h.turns;

@@ -36,7 +36,7 @@ use Rattle.lib_os.specs.StandingLaws.{IsHalfCopied, SomeCopyStands}
 use Rattle.lib_os.specs.StandsFor.{view_of, borne_in, HasChildren, IsBorne, StandsForUnborn}
 use Rattle.lib_os.specs.StandsInHandler.{at_program, copies, IsCopiedTo, IsToCopy}
 use Rattle.lib_os.proofs.Listed.{Spaces, EntryFits, SpacesFit, StateFits, EnvironmentFits, Pair, spaces_of, listed, own_fits, copied_fits}
-use Rattle.lib_os.proofs.Listed.{server_slot, server_fits, running_slot, born_in, environment_fits, the_names, state_of, abstract_of}
+use Rattle.lib_os.proofs.Listed.{server_bare, server_slot, server_fits, running_slot, born_in, environment_fits, the_names, state_of, abstract_of}
 use Rattle.lib_os.proofs.Listed.{listed_stands, found, no_pair, each_listed, SlotFits}
 use Rattle.lib_os.proofs.Bearing.{same_born, same_unborn}
 use Rattle.lib_os.proofs.Logical.{programs_beside}
@@ -467,7 +467,7 @@ state_fits : StateFits spaces pairs owner
 state_fits = record {
   spaces = spaces_fit;
   slots = (
-    server_fits spaces owner 20 refl refl refl refl,
+    server_fits spaces owner 20 refl refl,
     (
       environment_fits spaces owner 1 0x1001 21 program program forking is_bearing in_fork first_fits refl refl refl,
       (
@@ -508,6 +508,7 @@ state_fits = record {
     ),
   );
   first = refl;
+  server = server_bare spaces 20 refl refl;
   children = children;
 }
 

@@ -13,13 +13,13 @@ use Rattle.jos_base.specs.SystemCalls.{has_write}
 use Rattle.jos_base.specs.Words.{upd}
 use Rattle.lib_os.specs.AbstractState.{AbstractState, Born, born}
 use Rattle.lib_os.specs.Places.{place_of}
-use Rattle.lib_os.specs.Rows.{Names, Rows, rows_of, counted, logical, logical_by, is_shared, IsPage}
+use Rattle.lib_os.specs.Rows.{server_row, Names, Rows, rows_of, counted, logical, logical_by, is_clients, is_shared, IsPage}
 use Rattle.lib_os.specs.StandsFor.{StandsFor}
-use Rattle.lib_os.proofs.EntriesCount.{entry_counts}
+use Rattle.lib_os.proofs.EntriesCount.{frames_apart}
 use Rattle.lib_os.proofs.EntriesStand.{RowsStand, rows_same, same_sharing, other_frame, named_bytes}
 use Rattle.lib_os.proofs.Logical.{is_plain, logical_plain}
-use Rattle.lib_os.proofs.SlotsStand.{SeenAlike, born_at, born_live}
-use Rattle.lib_os.proofs.StatesStand.{CountsAlike, set_counts}
+use Rattle.lib_os.proofs.SlotsStand.{SeenAlike}
+use Rattle.lib_os.proofs.StatesStand.{CountsAlike, set_counts, clients_live}
 use Rattle.jos_base.proofs.Maps.{upd-at, upd-other}
 
 -- ---- bytes that are laid over others
@@ -37,7 +37,7 @@ overlaid_at old bytes offset within i lt =
 
 -- in spaces with the same entries
 pub same_rows_count : (s t : SpacesState) → rows_of t ≡ rows_of s → (slots : ℕ → Slot) (m q : ℕ) → logical t slots m q ≡ logical s slots m q
-same_rows_count s t same slots m q = λ i. logical_by (is_live (slots m)) (counted (place_of (slots m)) (same i (slots m).directory)) q
+same_rows_count s t same slots m q = λ i. logical_by (is_clients m (slots m)) (counted (place_of (slots m)) (same i (slots m).directory)) q
 
 -- ---- a page gets other bytes
 
@@ -60,7 +60,7 @@ module _ {names : Names} {s : KernelState} {a : AbstractState} {sp : SpacesState
 
   -- what stands in its space counts
   own_counts : (q : ℕ) (x : Entry) → rows_of s.spaces d q ≡ Some x → before n q ≡ Some x
-  own_counts q x hx = logical_plain s.spaces s.environments.slots n (born_live (born_at h n b at)) plain q ∙ hx
+  own_counts q x hx = logical_plain s.spaces s.environments.slots n (clients_live h n b at) plain q ∙ hx
 
   counts_here : before n p ≡ Some e
   counts_here = own_counts p e he
@@ -79,12 +79,9 @@ module _ {names : Names} {s : KernelState} {a : AbstractState} {sp : SpacesState
 
   own_elsewhere : (q r : ℕ) (x : Entry) → q ≢ d → rows_of s.spaces q r ≡ Some x → is_shared x.perm ≡ false → sp.pages x.frame ≡ s.spaces.pages x.frame
   own_elsewhere q r x ne hx own_too =
-      let found = entry_counts h q r x hx in
-      let other : found.slot ≢ n = λ same. ne (sym found.home ∙ ap (λ (m : ℕ). (slot_at s m).directory) same) in
-      let apart : found.entry.frame ≢ e.frame =
-      other_frame before h.apart n p found.slot found.page found.entry e (λ same too. other same) counts_here writes found.counts
-      (found.sharing ∙ own_too) in
-      bytes_kept x (λ same. apart (found.frame ∙ same))
+      bytes_kept x (frames_apart h n p e counts_here q r x hx (λ found.
+      other_frame before h.apart n p found.slot found.page found.entry e
+      (λ same too. ne (sym found.home ∙ ap (λ (m : ℕ). (slot_at s m).directory) same)) counts_here writes found.counts (found.sharing ∙ own_too)))
 
   -- it is no shared frame
   shared_elsewhere : (m q : ℕ) (x : Entry) → before m q ≡ Some x → is_shared x.perm ≡ true → x.frame ≢ e.frame
@@ -103,7 +100,7 @@ module _ {names : Names} {s : KernelState} {a : AbstractState} {sp : SpacesState
   -- where its slot is another, in the same space, and its entries count as before, all is as it was of entries
   pub laid_rows : IsPage bytes → (k : Slot) → is_live k ≡ is_live (slot_at s n) → k.directory ≡ d →
       CountsAlike (place_of (slot_at s n)) (place_of k) →
-      RowsStand names sp.pages a.shared a.objects a.next_name (logical sp (upd s.environments.slots n k))
+      RowsStand names sp.pages a.shared a.objects a.next_name (server_row s.spaces s.environments.slots) (logical sp (upd s.environments.slots n k))
   laid_rows page k live directory counts =
       rows_same before (logical sp (upd s.environments.slots n k))
       (λ m q. same_rows_count s.spaces sp laid.rows (upd s.environments.slots n k) m q ∙ set_counts s n k live directory counts m q)
@@ -113,6 +110,7 @@ module _ {names : Names} {s : KernelState} {a : AbstractState} {sp : SpacesState
             named_bytes (sym (bytes_kept x (shared_elsewhere m q x hx shared_page))) (h.named m q x hx shared_page);
         users = h.users;
         whole = λ m q x hx. by_frame x (x.frame == e.frame) refl (h.whole m q x hx);
+        beside = h.beside;
       })
     where
       by_frame : (x : Entry) (c : Bool) → (x.frame == e.frame) ≡ c → IsPage (s.spaces.pages x.frame) → IsPage (sp.pages x.frame)

@@ -53,11 +53,14 @@ pub mod OthersKept
 pub mod CopiesLeft
 pub mod OthersCopies
 pub mod NumbersKept
+pub mod SpacesLeft
+pub mod ServerLeft
 pub mod StepsLeave
 pub mod Trying
 pub mod Apart
 pub mod GuestMemory
 pub mod Others
+pub mod FilesLeft
 pub mod Fences
 pub mod BytesRead
 pub mod EntryWords
@@ -103,3 +106,4 @@ pub mod BufferAccesses
 pub mod BytesGathered
 pub mod BytesDelivered
 pub mod BytesRefused
+pub mod CallsMade

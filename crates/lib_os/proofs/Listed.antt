@@ -30,7 +30,7 @@ use Rattle.lib_os.specs.Places.{place_of, place_in_words, is_handlers}
 use Rattle.lib_os.specs.Rows.{Names, EntryRow, lasting, rows_of, counted, logical, page_seen, is_programs, is_shared, IsUsers, Agree, AgreeWhereShared, IsPage}
 use Rattle.lib_os.specs.Rows.{descriptor_page, descriptor_seen, is_descriptor, name_of, page_by, shown_at}
 use Rattle.lib_os.specs.StandsFor.{StandsFor, StandsForSlot, StandsForBorn, StandsAt, view_of, upcall_at, HasChildren, borne_in}
-use Rattle.lib_os.proofs.Logical.{logical_live, logical_some, programs_no_descriptor}
+use Rattle.lib_os.proofs.Logical.{clients_are, logical_live, logical_of, programs_no_descriptor}
 
 -- ---- lists by numbers
 
@@ -266,6 +266,12 @@ pub record SlotFits (l : Spaces) (owner : ℕ → ℕ) (n : ℕ) (pair : Pair) :
   pub owner_is : is_live pair.0 ≡ true → owner pair.0.directory ≡ n
   pub counts : (row : EntryRow) (p : ℕ) → counted (place_of pair.0) row p ≡ row p
 
+-- The server waits, and has neither pages nor tables.
+pub record IsBare (l : Spaces) (k : Slot) : Type 0 where
+  pub waits : k.status ≡ NotRunnable
+  pub empty : (p : ℕ) → rows_of (spaces_of l) k.directory p ≡ None
+  pub tables : (r : ℕ) → (spaces_of l).regions k.directory r ≡ None
+
 -- the environment of a slot has the directory
 abbrev pub HasOwner : List (ℕ × Pair) → ℕ → Use → Type 0
 HasOwner pairs d used =
@@ -276,6 +282,7 @@ pub record StateFits (l : Spaces) (pairs : List (ℕ × Pair)) (owner : ℕ → 
   pub slots : AllListed (SlotFits l owner) pairs
   pub owned : AllListed (HasOwner pairs) l.uses
   pub first : (listed pairs no_pair 0).1 ≡ serving FIRST_ENV_ID
+  pub server : IsBare l (listed pairs no_pair 0).0
   pub children : HasChildren the_names (spaces_of l) (λ n. (listed pairs no_pair n).0) (λ n. (listed pairs no_pair n).1)
 
 module _ (l : Spaces) (pairs : List (ℕ × Pair)) (owner : ℕ → ℕ) (fit : StateFits l pairs owner) where
@@ -311,10 +318,10 @@ module _ (l : Spaces) (pairs : List (ℕ × Pair)) (owner : ℕ → ℕ) (fit : 
 
   counts_at : (n p : ℕ) (x : Entry) → logical the_state.spaces slot n p ≡ Some x → CountsAt n p x
   counts_at n p x is =
-      let h = logical_some the_state.spaces slot n p x is in
+      let h = logical_of the_state.spaces slot n p x is in
       let counts : counted (place_of (slot n)) (rows_of the_state.spaces (slot n).directory) p ≡ Some x = sym (logical_live the_state.spaces slot n h.0 p) ∙ is in
       record {
-        live = h.0;
+        live = (clients_are n (slot n) h.0).1;
         fits = row_fits l fit.spaces (slot n).directory p x
             (sym ((slot_fits n).counts (rows_of the_state.spaces (slot n).directory) p) ∙ counts);
       }
@@ -346,9 +353,14 @@ module _ (l : Spaces) (pairs : List (ℕ × Pair)) (owner : ℕ → ℕ) (fit : 
     named = λ n p x is shared. absurd (false≢true (sym (counts_at n p x is).fits.own_page ∙ shared));
     users = λ n p x is. (counts_at n p x is).fits.users;
     whole = λ n p x is. (counts_at n p x is).fits.whole;
+    beside = λ n p q x e is at. absurd (none-some e (sym (fit.server.empty q) ∙ at));
     free_slots = record { same = refl; within = tt };
     first = fit.first;
-    server = refl;
+    server = record {
+      status = fit.server.waits;
+      pages = λ p is. absurd (false≢true (sym (ap (λ (o : Option Entry). is_some o) (fit.server.empty p)) ∙ is));
+      tables = λ r is. absurd (false≢true (sym (ap (λ (o : Option Region). is_some o) (fit.server.tables r)) ∙ is));
+    };
     input = (refl, λ i. omega arith);
     last = refl;
     turns = refl;
@@ -386,20 +398,26 @@ pub server_childless : (d : ℕ) → IsChildless 0 (server_slot d, serving FIRST
 unfolding place_in_words
 server_childless d = (refl, (λ id parent is. let contradiction : serving FIRST_ENV_ID ≡ unborn id parent = is in absurd cc))
 
-pub server_fits : (l : Spaces) (owner : ℕ → ℕ) (d : ℕ) → listed l.rows [] d ≡ [] → listed l.tables [] d ≡ [] →
-    (spaces_of l).uses d ≡ directory → owner d ≡ 0 → SlotFits l owner 0 (server_slot d, serving FIRST_ENV_ID)
-unfolding rows_of place_in_words counted
-server_fits l owner d no_row no_table directory_is owner_is = record {
+pub server_bare : (l : Spaces) (d : ℕ) → listed l.rows [] d ≡ [] → listed l.tables [] d ≡ [] → IsBare l (server_slot d)
+unfolding rows_of
+server_bare l d no_row no_table = record {
+  waits = refl;
+  empty = λ p. ap (λ (row : List (ℕ × Entry)). option_map lasting (found row p)) no_row;
+  tables = λ r. ap (λ (row : List (ℕ × ℕ)). option_map region_of (found row r)) no_table;
+}
+
+pub server_fits : (l : Spaces) (owner : ℕ → ℕ) (d : ℕ) → (spaces_of l).uses d ≡ directory → owner d ≡ 0 →
+    SlotFits l owner 0 (server_slot d, serving FIRST_ENV_ID)
+unfolding place_in_words counted
+server_fits l owner d directory_is owner_is = record {
   stands = record {
     first = refl;
     id_is = refl;
+    lives = refl;
+    parent = refl;
     env_type = refl;
-    status = refl;
-    silent = refl;
     words = refl;
     stack = refl;
-    empty = λ p. ap (λ (row : List (ℕ × Entry)). option_map lasting (found row p)) no_row;
-    tables = λ r. ap (λ (row : List (ℕ × ℕ)). option_map region_of (found row r)) no_table;
   };
   id = λ live. refl;
   user = λ other. absurd (other refl);

@@ -1,5 +1,5 @@
 -- Entries as they count: where they count as they stand, and what becomes of them where one is put in the place of another.
-use Rattle.std.proofs.Common.{◌≡◌, ◌≢◌, ◌∙◌, ◌*◌, ◌==◌, ◌&&◌, ℕ, Bool, true, false, refl, sym, ap, subst, arith, if◌then◌else◌}
+use Rattle.std.proofs.Common.{◌≡◌, ◌≢◌, ◌∙◌, ◌*◌, ◌==◌, ◌&&◌, ℕ, Bool, true, false, refl, sym, ap, subst, arith, if◌then◌else◌, not}
 use Rattle.std.proofs.lemmas.Bool.Decides.{nat_tests}
 use Rattle.std.specs.Prelude.{Option, Some, None, is_none}
 use Rattle.std.specs.Option.{option_map}
@@ -21,7 +21,7 @@ use Rattle.lib_os.specs.declared.service.Service.TheVariants as service
 use Rattle.lib_os.specs.StandsFor.{borne_in}
 use Rattle.lib_os.specs.Fence.{in_fence, is_inside, is_page_inside}
 use Rattle.lib_os.specs.Places.{place_of}
-use Rattle.lib_os.specs.Rows.{EntryRow, rows_of, counted, logical_by, logical, is_descriptor, is_programs, is_shared, as_cow, cow_perm}
+use Rattle.lib_os.specs.Rows.{is_clients, EntryRow, rows_of, counted, logical_by, logical, is_descriptor, is_programs, is_shared, as_cow, cow_perm}
 use Rattle.lib_os.proofs.WordsTell.{is_in_handler}
 
 -- ---- pages that a program may have
@@ -476,25 +476,49 @@ unborne_stands (place.InHandler at) row p x none is = handler_some at row p x is
 
 -- ---- entries as they count, by slots
 
+-- a slot but the first, which is live
+pub clients_so : (n : ℕ) (k : Slot) → 0 ≢ n → is_live k ≡ true → is_clients n k ≡ true
+clients_so n k other live = by_tests (n == 0) (is_live k) (grind (arith, nat_tests)) live
+  where
+    by_tests : (first lives : Bool) → first ≡ false → lives ≡ true → not first && lives ≡ true
+    by_tests false true none is = refl
+    by_tests true lives none is = absurd (let contradiction : true ≡ false = none in cc)
+    by_tests false false none is = absurd (let contradiction : false ≡ true = is in cc)
+
+pub clients_are : (n : ℕ) (k : Slot) → is_clients n k ≡ true → (0 ≢ n) × (is_live k ≡ true)
+clients_are n k is = by_tests (n == 0) refl (is_live k) refl is
+  where
+    by_tests : (first : Bool) → (n == 0) ≡ first → (lives : Bool) → is_live k ≡ lives → not first && lives ≡ true → (0 ≢ n) × (is_live k ≡ true)
+    by_tests false other true lives so = ((λ same. grind (arith, nat_tests)), lives)
+    by_tests true here lives_so lives so = absurd (let contradiction : false ≡ true = so in cc)
+    by_tests false other false lives so = absurd (let contradiction : false ≡ true = so in cc)
+
+-- two that are live alike
+clients_alike : (n : ℕ) (k l : Slot) → is_live l ≡ is_live k → is_clients n l ≡ is_clients n k
+clients_alike n k l same = ap (λ (c : Bool). not (n == 0) && c) same
+
 module _ (s : SpacesState) (slots : ℕ → Slot) (n : ℕ) where
   abbrev row : EntryRow
   row = rows_of s (slots n).directory
 
-  pub logical_live : is_live (slots n) ≡ true → (p : ℕ) → logical s slots n p ≡ counted (place_of (slots n)) row p
+  pub logical_live : is_clients n (slots n) ≡ true → (p : ℕ) → logical s slots n p ≡ counted (place_of (slots n)) row p
   logical_live live p = ap (λ (c : Bool). logical_by c (counted (place_of (slots n)) row) p) live
 
-  -- what counts stands in the space of a slot that is live
-  pub logical_some : (p : ℕ) (x : Entry) → logical s slots n p ≡ Some x → (is_live (slots n) ≡ true) × StandsAs (row p) x
-  logical_some p x is = by_live (is_live (slots n)) refl
+  -- what counts stands in the space of a slot that is live, and not the first
+  pub logical_of : (p : ℕ) (x : Entry) → logical s slots n p ≡ Some x → (is_clients n (slots n) ≡ true) × StandsAs (row p) x
+  logical_of p x is = by_live (is_clients n (slots n)) refl
     where
-      by_live : (c : Bool) → is_live (slots n) ≡ c → (is_live (slots n) ≡ true) × StandsAs (row p) x
+      by_live : (c : Bool) → is_clients n (slots n) ≡ c → (is_clients n (slots n) ≡ true) × StandsAs (row p) x
       by_live true live = (live, counted_some (place_of (slots n)) row p x (sym (logical_live live p) ∙ is))
       by_live false dead = absurd (none-some x (sym (ap (λ (c : Bool). logical_by c (counted (place_of (slots n)) row) p) dead) ∙ is))
 
-  pub logical_plain : is_live (slots n) ≡ true → is_plain (place_of (slots n)) ≡ true → (p : ℕ) → logical s slots n p ≡ row p
+  pub logical_some : (p : ℕ) (x : Entry) → logical s slots n p ≡ Some x → (is_live (slots n) ≡ true) × StandsAs (row p) x
+  logical_some p x is = let found = logical_of p x is in ((clients_are n (slots n) found.0).1, found.1)
+
+  pub logical_plain : is_clients n (slots n) ≡ true → is_plain (place_of (slots n)) ≡ true → (p : ℕ) → logical s slots n p ≡ row p
   logical_plain live plain p = logical_live live p ∙ counted_plain (place_of (slots n)) row plain p
 
-  pub logical_beside : is_live (slots n) ≡ true → (p : ℕ) → p ≢ page_number PFTEMP → is_remapped (place_of (slots n)) p ≡ false →
+  pub logical_beside : is_clients n (slots n) ≡ true → (p : ℕ) → p ≢ page_number PFTEMP → is_remapped (place_of (slots n)) p ≡ false →
       logical s slots n p ≡ row p
   logical_beside live p ne other = logical_live live p ∙ counted_elsewhere (place_of (slots n)) row p ne other
 
@@ -503,13 +527,16 @@ pub logical_alike : (s t : SpacesState) (slots after : ℕ → Slot) (n : ℕ) �
     place_of (after n) ≡ place_of (slots n) →
     (is_live (slots n) ≡ true → rows_of t (after n).directory ≡ rows_of s (slots n).directory) →
     (p : ℕ) → logical t after n p ≡ logical s slots n p
-logical_alike s t slots after n live place row p = by_live (is_live (slots n)) refl
+logical_alike s t slots after n live place row p = by_live (is_clients n (slots n)) refl
   where
-    by_live : (c : Bool) → is_live (slots n) ≡ c → logical t after n p ≡ logical s slots n p
+    alike : is_clients n (after n) ≡ is_clients n (slots n)
+    alike = clients_alike n (slots n) (after n) live
+
+    by_live : (c : Bool) → is_clients n (slots n) ≡ c → logical t after n p ≡ logical s slots n p
     by_live true is =
-        logical_live t after n (live ∙ is) p
-        ∙ (λ i. counted (place i) (row is i) p)
+        logical_live t after n (alike ∙ is) p
+        ∙ (λ i. counted (place i) (row (clients_are n (slots n) is).1 i) p)
         ∙ sym (logical_live s slots n is p)
     by_live false is =
-        ap (λ (c : Bool). logical_by c (counted (place_of (after n)) (rows_of t (after n).directory)) p) (live ∙ is)
+        ap (λ (c : Bool). logical_by c (counted (place_of (after n)) (rows_of t (after n).directory)) p) (alike ∙ is)
         ∙ sym (ap (λ (c : Bool). logical_by c (counted (place_of (slots n)) (rows_of s (slots n).directory)) p) is)

@@ -3,10 +3,10 @@
 -- system wants one.
 use Rattle.std.proofs.Common.{◌≡◌, ◌≢◌, ◌∙◌, ◌+◌, ◌-◌, ◌*◌, ◌/◌, ◌%◌, ◌<◌, ◌≤◌, ◌==◌, ◌||◌, ℕ, zero, suc, Bool, true, false, List, [], ◌∷◌, length}
 use Rattle.std.proofs.Common.{refl, sym, ap, subst, arith}
-use Rattle.std.specs.Prelude.{Option, Some, None, is_some, nat_lt, if◌then◌else◌}
+use Rattle.std.specs.Prelude.{Option, Some, None, is_some, nat_le, nat_lt, not, ◌&&◌, if◌then◌else◌}
 use Rattle.std.specs.List.{Contains}
 use Rattle.std.specs.Option.{option_map}
-use Rattle.jos_base.specs.declared.numbers.TheConstants.{FDTABLE, FIRST_ENV_ID, NENV, NPTENTRIES, UTEMP}
+use Rattle.jos_base.specs.declared.numbers.TheConstants.{FDTABLE, NENV, NPTENTRIES, UTEMP}
 use Rattle.jos_base.specs.Counting.{total, page_limit}
 use Rattle.jos_base.specs.Environments.{Slot, bit_of, free_slot, is_live}
 use Rattle.jos_base.specs.KernelState.{KernelState, slot_at}
@@ -14,30 +14,33 @@ use Rattle.jos_base.specs.Reach.{Entry}
 use Rattle.jos_base.specs.SpacesState.{SpacesState, Region, directory, is_directory, region_limit, reserved_frames}
 use Rattle.jos_base.specs.SystemCalls.{has_write}
 use Rattle.jos_base.specs.Words.{is_exactly, page_number}
-use Rattle.lib_os.specs.declared.numbers.TheConstants.{DESCRIPTORS, PFTEMP, UXSTACK}
-use Rattle.lib_os.specs.AbstractState.{AbstractState, Born, Page, own, named, AbstractSlot, free, unborn, born, serving}
+use Rattle.fs_layout.specs.declared.numbers.TheConstants.{MAXBLOCKS}
+use Rattle.lib_os.specs.declared.numbers.TheConstants.{DESCRIPTORS, DISKMAP, MAXOPEN, OPEN_RECORDS, PFTEMP, REQUEST, UXSTACK}
+use Rattle.lib_os.specs.AbstractState.{AbstractState, Born, Page, own, named, AbstractSlot, free, unborn, born, serving, TablePlace}
 use Rattle.lib_os.specs.declared.place.Place.TheVariants as place
 use Rattle.lib_os.specs.AbstractMemory.{has_page_in}
 use Rattle.lib_os.specs.InOrder.{HasOneUse}
 use Rattle.lib_os.specs.Need.{NeedIsReached, HasUse, in_list, in_entry, as_directory, as_table, EachHasUse, pool_of, need}
 use Rattle.lib_os.specs.Need.{slot_need, born_need, parent_need}
-use Rattle.lib_os.specs.LibraryPages.{is_library_region, IsOwnWritable, has_copy, has_working}
+use Rattle.lib_os.specs.LibraryPages.{is_library_region, IsOwnWritable, has_copy, has_working, region_index}
 use Rattle.lib_os.specs.Need.{server_need, count_below, is_own, someone, born_passes, has_object_of, has_page_of, is_page_of}
 use Rattle.lib_os.specs.Places.{place_of}
 use Rattle.lib_os.specs.Rows.{Names, EntryRow, IsNamed, rows_of, lasting, is_shared, may_write, page_by, page_seen, seen_where, is_programs}
 use Rattle.lib_os.specs.Rows.{descriptor_page, descriptor_perm, is_descriptor, name_of, shown_at}
 use Rattle.lib_os.specs.StandsFor.{StandsFor, StandsForSlot, StandsForBorn, StandsForServer, StandsForUnborn, IsBorne, is_passed, has_stack}
+use Rattle.lib_os.specs.StandsFor.{HasServer, is_servers_page, is_servers_region}
 use Rattle.std.proofs.lemmas.Bool.{false≢true}
 use Rattle.std.proofs.lemmas.Bool.Decides.{nat_tests}
 use Rattle.std.proofs.lemmas.Option.{none-some, same_Some}
 use Rattle.lib_os.proofs.Covering.{no_more_frames, filled, times_in}
 use Rattle.lib_os.proofs.BytesRead.{remapped}
 use Rattle.lib_os.proofs.EntryWords.{row_entry}
-use Rattle.lib_os.proofs.Logical.{is_plain, is_remapped, logical_beside, logical_plain}
+use Rattle.lib_os.proofs.Logical.{clients_so, is_plain, is_remapped, logical_beside, logical_plain}
 use Rattle.lib_os.proofs.Serving.{words_of_none}
-use Rattle.lib_os.proofs.SlotsStand.{born_at, born_live}
+use Rattle.lib_os.proofs.SlotsStand.{born_at}
+use Rattle.lib_os.proofs.StatesStand.{clients_live}
 use Rattle.lib_os.proofs.Sums.{is_at, is_at-here, at_most_once}
-use Rattle.jos_base.proofs.Sums.{total-mono, total-less, total-none, total-one, total-sum}
+use Rattle.jos_base.proofs.Sums.{total-mono, total-less, total-none, total-one, total-ones, total-sum}
 use Rattle.jos_base.proofs.Below.{some_below-at, some_below-none}
 
 -- ---- one of two
@@ -193,23 +196,187 @@ born_frames names s k b h =
     let beside = three_beside in
     omega (arith, one, tables, pages, sum, beside)
 
--- the server wants more than it has
-server_frames : (a : AbstractState) (s : SpacesState) (k : Slot) (id : ℕ) → StandsForServer s k id →
-    1 + slot_frames s k ≤ server_need a
-server_frames a s k id h =
-    let one = bit_small (is_some (directory_of k)) in
-    let tables = total-none region_limit (λ r. bit_of (is_some (table_of s k r))) (λ r lt. no_table (is_live k) r) in
-    let pages = total-none page_limit (λ p. bit_of (is_some (page_of s k p))) (λ p lt. no_page (is_live k) p) in
-    omega (arith, one, tables, pages)
-  where
-    no_table : (t : Bool) (r : ℕ) →
-        bit_of (is_some (where_so t (option_map (λ (x : Region). x.table) (s.regions k.directory r)))) ≡ 0
-    no_table false r = refl
-    no_table true r = ap (λ (o : Option Region). bit_of (is_some (option_map (λ (x : Region). x.table) o))) (h.tables r)
+-- ---- the server
 
-    no_page : (t : Bool) (p : ℕ) → bit_of (is_some (where_so t (own_frame (rows_of s k.directory p)))) ≡ 0
-    no_page false p = refl
-    no_page true p = ap (λ (o : Option Entry). bit_of (is_some (own_frame o))) (h.empty p)
+-- Of its pages each counts, be it shared or not.
+abbrev place_by : Bool → SpacesState → Slot → ℕ → Option ℕ
+place_by true s k p = where_so (is_live k) (option_map (λ (e : Entry). e.frame) (rows_of s k.directory p))
+place_by false s k p = page_of s k p
+
+abbrev frames_by : Bool → SpacesState → Slot → ℕ
+frames_by first s k = bit_of (is_some (directory_of k)) + (filled region_limit (table_of s k) + filled page_limit (place_by first s k))
+
+-- Where the numbers that pass lie in an interval, and pass as they stand in it, there are no more of them than pass there.
+in_interval : (limit lo n : ℕ) (passes so : ℕ → Bool) →
+    ((p : ℕ) → passes p ≡ true → (lo ≤ p) × (p < lo + n) × (so (p - lo) ≡ true)) → count_below limit passes ≤ count_below n so
+unfolding total
+in_interval limit lo zero passes so each =
+    let none = total-none limit (λ p. bit_of (passes p)) (λ p lt. dead p (passes p) refl) in
+    omega (arith, none)
+  where
+    dead : (p : ℕ) (c : Bool) → passes p ≡ c → bit_of c ≡ 0
+    dead p false is = refl
+    dead p true is = let at = each p is in let from = at.0 in let to = at.1 in absurd (omega (arith, from, to))
+in_interval limit lo (suc n) passes so each =
+    let split = total-mono limit (λ p. bit_of (passes p)) (λ p. bit_of (before p) + is_at last (0 + p))
+    (λ p lt. one_of p (passes p) (lo + n == 0 + p) refl refl) in
+    let sum = total-sum limit (λ p. bit_of (before p)) (λ p. is_at last (0 + p)) in
+    let rest = in_interval limit lo n before so (λ p is. below p (passes p) (lo + n == 0 + p) refl refl is) in
+    let one = at_most_once limit 0 last in
+    let here = so_of_some (so n) (lo + n) in
+    omega (arith, split, sum, rest, one, here)
+  where
+    before : ℕ → Bool
+    before p = passes p && not (lo + n == 0 + p)
+
+    last : Option ℕ
+    last = where_so (so n) (Some (lo + n))
+
+    one_of : (p : ℕ) (c d : Bool) → passes p ≡ c → (lo + n == 0 + p) ≡ d → bit_of c ≤ bit_of (c && not d) + is_at last (0 + p)
+    one_of p false d is test = omega arith
+    one_of p true false is test = omega arith
+    one_of p true true is test =
+        let same : lo + n ≡ 0 + p = grind (arith, nat_tests) in
+        let place : p - lo ≡ n = omega (arith, same) in
+        let passed : so n ≡ true = sym (ap so place) ∙ (each p is).2 in
+        let at = is_at-here last (0 + p) (lo + n) (ap (λ (c : Bool). where_so c (Some (lo + n))) passed) same in
+        omega (arith, at)
+
+    below : (p : ℕ) (c d : Bool) → passes p ≡ c → (lo + n == 0 + p) ≡ d → (c && not d) ≡ true →
+        (lo ≤ p) × (p < lo + n) × (so (p - lo) ≡ true)
+    below p false d is test passed = absurd (false≢true passed)
+    below p true true is test passed = absurd (false≢true passed)
+    below p true false is test passed =
+        let at = each p is in
+        let from = at.0 in
+        let to = at.1 in
+        let other : lo + n ≢ p = grind (arith, nat_tests) in
+        (from, omega (arith, from, to, other), at.2)
+
+-- all that lie in an interval
+all_below : (limit lo n : ℕ) (passes : ℕ → Bool) → ((p : ℕ) → passes p ≡ true → (lo ≤ p) × (p < lo + n)) → count_below limit passes ≤ n
+all_below limit lo n passes each =
+    let most = in_interval limit lo n passes (λ k. true) (λ p is. let at = each p is in (at.0, at.1, refl)) in
+    let ones = total-ones n in
+    omega (arith, most, ones)
+
+-- one alone
+one_alone : (limit x : ℕ) → count_below limit (λ p. p == x) ≤ 1
+one_alone limit x =
+    all_below limit x 1 (λ p. p == x) (λ p is. let same : p ≡ x = grind (arith, nat_tests) in (omega (arith, same), omega (arith, same)))
+
+both : (a b : Bool) → (a && b) ≡ true → (a ≡ true) × (b ≡ true)
+both true true is = (refl, refl)
+both true false is = absurd (false≢true is)
+both false b is = absurd (false≢true is)
+
+all_three : (a b c : Bool) → (a && b && c) ≡ true → (a ≡ true) × (b ≡ true) × (c ≡ true)
+all_three true true true is = (refl, refl, refl)
+all_three true true false is = absurd (false≢true is)
+all_three true false c is = absurd (false≢true is)
+all_three false b c is = absurd (false≢true is)
+
+one_of_three : (a b c : Bool) → bit_of (a || b || c) ≤ bit_of a + (bit_of b + bit_of c)
+one_of_three true b c = omega arith
+one_of_three false true c = omega arith
+one_of_three false false c = omega arith
+
+one_of_four : (a b c d : Bool) → bit_of (a || b || c || d) ≤ bit_of a + (bit_of b + (bit_of c + bit_of d))
+one_of_four true b c d = omega arith
+one_of_four false true c d = omega arith
+one_of_four false false true d = omega arith
+one_of_four false false false d = omega arith
+
+-- a page of a place of its table that was ever taken
+abbrev is_records : (ℕ → TablePlace) → ℕ → Bool
+is_records opened p = nat_le (page_number FDTABLE) p && nat_lt p (page_number FDTABLE + MAXOPEN) && (opened (p - page_number FDTABLE)).used
+
+-- the page of a block
+abbrev is_blocks : ℕ → ℕ → Bool
+is_blocks blocks p = nat_le (page_number DISKMAP) p && nat_lt p (page_number DISKMAP + blocks)
+
+-- a region of blocks
+abbrev is_disks : ℕ → Bool
+is_disks r = nat_le (region_index DISKMAP) r && nat_lt r (region_index DISKMAP + MAXBLOCKS / NPTENTRIES)
+
+records_count : (limit : ℕ) (opened : ℕ → TablePlace) → count_below limit (is_records opened) ≤ count_below MAXOPEN (λ k. (opened k).used)
+records_count limit opened = in_interval limit (page_number FDTABLE) MAXOPEN (is_records opened) (λ k. (opened k).used) each
+  where
+    each : (p : ℕ) → is_records opened p ≡ true →
+        (page_number FDTABLE ≤ p) × (p < page_number FDTABLE + MAXOPEN) × ((opened (p - page_number FDTABLE)).used ≡ true)
+    each p is =
+        let at = all_three (nat_le (page_number FDTABLE) p) (nat_lt p (page_number FDTABLE + MAXOPEN))
+        (opened (p - page_number FDTABLE)).used is in
+        let from = at.0 in
+        let to = at.1 in
+        (grind (arith, nat_tests, from), grind (arith, nat_tests, to), at.2)
+
+blocks_count : (limit blocks : ℕ) → count_below limit (is_blocks blocks) ≤ blocks
+blocks_count limit blocks = all_below limit (page_number DISKMAP) blocks (is_blocks blocks) each
+  where
+    each : (p : ℕ) → is_blocks blocks p ≡ true → (page_number DISKMAP ≤ p) × (p < page_number DISKMAP + blocks)
+    each p is =
+        let at = both (nat_le (page_number DISKMAP) p) (nat_lt p (page_number DISKMAP + blocks)) is in
+        let from = at.0 in
+        let to = at.1 in
+        (grind (arith, nat_tests, from), grind (arith, nat_tests, to))
+
+disks_count : (limit : ℕ) → count_below limit is_disks ≤ 16
+disks_count limit = all_below limit (region_index DISKMAP) 16 is_disks each
+  where
+    each : (r : ℕ) → is_disks r ≡ true → (region_index DISKMAP ≤ r) × (r < region_index DISKMAP + 16)
+    each r is =
+        let at = both (nat_le (region_index DISKMAP) r) (nat_lt r (region_index DISKMAP + MAXBLOCKS / NPTENTRIES)) is in
+        let from = at.0 in
+        let to = at.1 in
+        (grind (arith, nat_tests, from), grind (arith, nat_tests, to))
+
+servers_pages : (limit : ℕ) (opened : ℕ → TablePlace) (blocks : ℕ) →
+    count_below limit (is_servers_page opened blocks) ≤ 2 + (count_below MAXOPEN (λ k. (opened k).used) + blocks)
+servers_pages limit opened blocks =
+    let each = total-mono limit (λ p. bit_of (is_servers_page opened blocks p))
+    (λ p. bit_of (p == page_number REQUEST) + (bit_of (p == page_number OPEN_RECORDS) + (bit_of (is_records opened p) + bit_of (is_blocks blocks p))))
+    (λ p lt. one_of_four (p == page_number REQUEST) (p == page_number OPEN_RECORDS) (is_records opened p) (is_blocks blocks p)) in
+    let first = total-sum limit (λ p. bit_of (p == page_number REQUEST))
+    (λ p. bit_of (p == page_number OPEN_RECORDS) + (bit_of (is_records opened p) + bit_of (is_blocks blocks p))) in
+    let second = total-sum limit (λ p. bit_of (p == page_number OPEN_RECORDS)) (λ p. bit_of (is_records opened p) + bit_of (is_blocks blocks p)) in
+    let third = total-sum limit (λ p. bit_of (is_records opened p)) (λ p. bit_of (is_blocks blocks p)) in
+    let request = one_alone limit (page_number REQUEST) in
+    let places = one_alone limit (page_number OPEN_RECORDS) in
+    let records = records_count limit opened in
+    let disk = blocks_count limit blocks in
+    omega (arith, each, first, second, third, request, places, records, disk)
+
+servers_regions : (limit : ℕ) → count_below limit is_servers_region ≤ 18
+servers_regions limit =
+    let each = total-mono limit (λ r. bit_of (is_servers_region r))
+    (λ r. bit_of (r == region_index REQUEST) + (bit_of (r == region_index FDTABLE) + bit_of (is_disks r)))
+    (λ r lt. one_of_three (r == region_index REQUEST) (r == region_index FDTABLE) (is_disks r)) in
+    let first = total-sum limit (λ r. bit_of (r == region_index REQUEST)) (λ r. bit_of (r == region_index FDTABLE) + bit_of (is_disks r)) in
+    let second = total-sum limit (λ r. bit_of (r == region_index FDTABLE)) (λ r. bit_of (is_disks r)) in
+    let request = one_alone limit (region_index REQUEST) in
+    let table = one_alone limit (region_index FDTABLE) in
+    let disk = disks_count limit in
+    omega (arith, each, first, second, request, table, disk)
+
+so_of_frame : (t : Bool) (o : Option Entry) (wants : Bool) → (is_some o ≡ true → wants ≡ true) →
+    bit_of (is_some (where_so t (option_map (λ (e : Entry). e.frame) o))) ≤ bit_of wants
+so_of_frame false o wants so = omega arith
+so_of_frame true None wants so = omega arith
+so_of_frame true (Some e) wants so = let one = ap bit_of (so refl) in omega (arith, one)
+
+-- the server wants more than it has
+server_frames : (a : AbstractState) (s : SpacesState) (k : Slot) → HasServer s k a.opened a.files.blocks a.server →
+    1 + frames_by true s k ≤ server_need a
+server_frames a s k h =
+    let one = bit_small (is_some (directory_of k)) in
+    let tables = total-mono region_limit (λ r. bit_of (is_some (table_of s k r))) (λ r. bit_of (is_servers_region r))
+    (λ r lt. so_of_region (is_live k) (s.regions k.directory r) (is_servers_region r) (h.tables r)) in
+    let pages = total-mono page_limit (λ p. bit_of (is_some (place_by true s k p))) (λ p. bit_of (is_servers_page a.opened a.files.blocks p))
+    (λ p lt. so_of_frame (is_live k) (rows_of s k.directory p) (is_servers_page a.opened a.files.blocks p) (h.pages p)) in
+    let most_tables = servers_regions region_limit in
+    let most_pages = servers_pages page_limit a.opened a.files.blocks in
+    omega (arith, one, tables, pages, most_tables, most_pages)
 
 -- ---- a child that is not born has no more than its parent
 
@@ -306,16 +473,20 @@ module _ (names : Names) (s : SpacesState) (parent : Slot) (parent_is : Abstract
       let beside = three_beside in
       omega (arith, one, tables, pages, sum, beside)
 
-wanted_frames : (names : Names) (s : KernelState) (a : AbstractState) → StandsFor names s a → (n : ℕ) (slot : AbstractSlot) →
+-- only the first slot serves
+serving_first : {names : Names} {s : KernelState} {a : AbstractState} → StandsFor names s a → (n id : ℕ) → StandsForServer (slot_at s n) id → 0 ≡ n
+serving_first h n id so = sym (ap (λ (i : ℕ). i % NENV) (so.id_is ∙ so.first)) ∙ h.tabled.ids n so.lives
+
+wanted_frames : (names : Names) (s : KernelState) (a : AbstractState) → StandsFor names s a → (n : ℕ) → 0 ≢ n → (slot : AbstractSlot) →
     a.slots n ≡ slot → StandsForSlot names s.spaces (slot_at s n) slot → slot_frames s.spaces (slot_at s n) ≤ slot_need a slot
-wanted_frames names s a h n (free id) at k = let none = ap (slot_frames s.spaces) k ∙ free_frames s.spaces id in omega (arith, none)
-wanted_frames names s a h n (unborn id parent) at k =
+wanted_frames names s a h n other (free id) at k = let none = ap (slot_frames s.spaces) k ∙ free_frames s.spaces id in omega (arith, none)
+wanted_frames names s a h n other (unborn id parent) at k =
     let child = h.children.borne n id parent at in
     let own = born_at h (parent % NENV) child.b child.born_by in
     subst (λ (x : AbstractSlot). slot_frames s.spaces (slot_at s n) ≤ parent_need x) (sym child.born_by)
     (child_frames names s.spaces (slot_at s (parent % NENV)) (a.slots (parent % NENV)) (slot_at s n) id parent child h.in_order.frames own)
-wanted_frames names s a h n (born b) at k = born_frames names s.spaces (slot_at s n) b k
-wanted_frames names s a h n (serving id) at k = let more = server_frames a s.spaces (slot_at s n) id k in omega (arith, more)
+wanted_frames names s a h n other (born b) at k = born_frames names s.spaces (slot_at s n) b k
+wanted_frames names s a h n other (serving id) at k = absurd (other (serving_first h n id k))
 
 -- ---- each frame stands in a place
 
@@ -332,7 +503,7 @@ module _ (names : Names) (s : KernelState) (a : AbstractState) (h : StandsFor na
   the_row n = table_of s.spaces (slot n)
 
   abbrev the_page : ℕ → ℕ → Option ℕ
-  the_page n = page_of s.spaces (slot n)
+  the_page n = place_by (n == 0) s.spaces (slot n)
 
   abbrev times_of : ℕ → ℕ → ℕ
   times_of n f = is_at (directory_of (slot n)) f + (times_in region_limit (the_row n) f + times_in page_limit (the_page n) f)
@@ -458,7 +629,7 @@ module _ (names : Names) (s : KernelState) (a : AbstractState) (h : StandsFor na
           let entry_is : it.entry ≡ e = same_Some it.entry e (sym it.stands ∙ stands) in
           absurd (false≢true (sym it.own_page ∙ ap (λ (x : Entry). is_shared x.perm) entry_is ∙ shared))
       by_step false other =
-          h.named n p e (logical_beside s.spaces s.environments.slots n (born_live (born_at h n b at)) p beside other ∙ stands) shared
+          h.named n p e (logical_beside s.spaces s.environments.slots n (clients_live h n b at) p beside other ∙ stands) shared
 
   -- in an environment's space it is a page that the program may have, or that of a descriptor
   of_born : (n p : ℕ) (e : Entry) → n < NENV → p < page_limit → rows_of s.spaces (slot n).directory p ≡ Some e → is_shared e.perm ≡ true →
@@ -496,15 +667,15 @@ module _ (names : Names) (s : KernelState) (a : AbstractState) (h : StandsFor na
               (no_copy (has_copy (place_of (slot n))) refl) (no_working (has_working (place_of (slot n)) (slot n).extra) refl)) ∙ stands))
 
   -- and in a child's it is one that its parent has
-  of_child : (n p : ℕ) (e : Entry) → is_live (slot n) ≡ true → p < page_limit → rows_of s.spaces (slot n).directory p ≡ Some e →
+  of_child : (n p : ℕ) (e : Entry) → 0 ≢ n → is_live (slot n) ≡ true → p < page_limit → rows_of s.spaces (slot n).directory p ≡ Some e →
       is_shared e.perm ≡ true → (id parent : ℕ) → a.slots n ≡ unborn id parent → StandsForUnborn (slot n) id parent → IsHad p e
-  of_child n p e live within stands shared id parent is k = record {
+  of_child n p e other live within stands shared id parent is k = record {
     home = parent % NENV;
     below = omega arith;
     b = child.b;
     at = child.born_by;
     has = by_inside (is_programs p) refl;
-    name = h.named n p e (logical_plain s.spaces s.environments.slots n live (ap is_plain guest) p ∙ stands) shared;
+    name = h.named n p e (logical_plain s.spaces s.environments.slots n (clients_so n (slot n) other live) (ap is_plain guest) p ∙ stands) shared;
   }
     where
       child : IsBorne names s.spaces (slot (parent % NENV)) (a.slots (parent % NENV)) (slot n) id parent
@@ -542,16 +713,16 @@ module _ (names : Names) (s : KernelState) (a : AbstractState) (h : StandsFor na
           by_descriptor false no_descriptor =
               absurd (none-some e (sym (child.library.none p outside no_descriptor (by_stack (has_stack child.step) refl)) ∙ stands))
 
-  had : (n p : ℕ) (e : Entry) → n < NENV → is_live (slot n) ≡ true → p < page_limit → rows_of s.spaces (slot n).directory p ≡ Some e →
+  had : (n p : ℕ) (e : Entry) → n < NENV → 0 ≢ n → is_live (slot n) ≡ true → p < page_limit → rows_of s.spaces (slot n).directory p ≡ Some e →
       is_shared e.perm ≡ true → IsHad p e
-  had n p e below live within stands shared = by_slot (a.slots n) refl (h.slots n)
+  had n p e below other live within stands shared = by_slot (a.slots n) refl (h.slots n)
     where
       by_slot : (y : AbstractSlot) → a.slots n ≡ y → StandsForSlot names s.spaces (slot n) y → IsHad p e
       by_slot (free id) at k_is = absurd (let e : ◌≡◌ {A = Bool} false true = sym (ap (λ (k : Slot). is_live k) k_is)
           ∙ live in cc)
-      by_slot (unborn id parent) at k_is = of_child n p e live within stands shared id parent at k_is
+      by_slot (unborn id parent) at k_is = of_child n p e other live within stands shared id parent at k_is
       by_slot (born b) at k_is = of_born n p e below within stands shared b at k_is
-      by_slot (serving id) at k_is = absurd (let e : ◌≡◌ {A = Option Entry} None (Some e) = sym (k_is.empty p) ∙ stands in cc)
+      by_slot (serving id) at k_is = absurd (other (serving_first h n id k_is))
 
   -- so someone has it
   someone_has : (home : ℕ) (b : Born) (m : ℕ) → home < NENV → a.slots home ≡ born b → Has b m →
@@ -567,29 +738,39 @@ module _ (names : Names) (s : KernelState) (a : AbstractState) (h : StandsFor na
           second_holds (someone a (has_page_of m)) (someone a (has_object_of m))
           (some_below-at (λ q. born_passes (has_object_of m) (a.slots q)) NENV home lt (ap (born_passes (has_object_of m)) at ∙ object))
 
-  -- a page of an environment's own, or one that is shared
+  -- a page of the server, a page of an environment's own, or one that is shared
   page_stands : (n p : ℕ) (e : Entry) → n < NENV → is_live (slot n) ≡ true → p < page_limit →
       rows_of s.spaces (slot n).directory p ≡ Some e →
       1 ≤ times e.frame
-  page_stands n p e below live lt stands = by_test (is_shared e.perm) refl
+  page_stands n p e below live lt stands = by_first (n == 0) refl
     where
-      by_test : (t : Bool) → is_shared e.perm ≡ t → 1 ≤ times e.frame
-      by_test false mine =
-          let at : the_page n p ≡ Some e.frame =
-          ap (λ (t : Bool). where_so t (own_frame (rows_of s.spaces (slot n).directory p))) live ∙ ap own_frame stands
-          ∙ ap (λ (t : Bool). if t then None else Some e.frame) mine in
+      in_place : the_page n p ≡ Some e.frame → 1 ≤ times e.frame
+      in_place at =
           let here = is_at-here (the_page n p) e.frame e.frame at refl in
           let one = total-one page_limit p (λ q. is_at (the_page n q) e.frame) lt in
           in_slot n e.frame below (omega (arith, here, one))
-      by_test true shared =
+
+      by_test : (n == 0) ≡ false → (t : Bool) → is_shared e.perm ≡ t → 1 ≤ times e.frame
+      by_test other false mine = in_place
+          (ap (λ (t : Bool). place_by t s.spaces (slot n) p) other
+          ∙ ap (λ (t : Bool). where_so t (own_frame (rows_of s.spaces (slot n).directory p))) live ∙ ap own_frame stands
+          ∙ ap (λ (t : Bool). if t then None else Some e.frame) mine)
+      by_test other true shared =
           let m = names.name e.frame in
-          let found = had n p e below live lt stands shared in
+          let found = had n p e below (λ same. grind (arith, nat_tests)) live lt stands shared in
           let some : someone a (has_page_of m) || someone a (has_object_of m) ≡ true =
           someone_has found.home found.b m found.below found.at found.has in
           let here = is_at-here (named_frame names a m) e.frame (names.frame m)
           (ap (λ (t : Bool). where_so t (Some (names.frame m))) some) found.name.home in
           let one = total-one a.next_name m (λ q. is_at (named_frame names a q) e.frame) found.name.old in
           omega (arith, here, one)
+
+      by_first : (first : Bool) → (n == 0) ≡ first → 1 ≤ times e.frame
+      by_first true first = in_place
+          (ap (λ (t : Bool). place_by t s.spaces (slot n) p) first
+          ∙ ap (λ (t : Bool). where_so t (option_map (λ (x : Entry). x.frame) (rows_of s.spaces (slot n).directory p))) live
+          ∙ ap (option_map (λ (x : Entry). x.frame)) stands)
+      by_first false other = by_test other (is_shared e.perm) refl
 
   entry_stands : (d p : ℕ) (e : Entry) → s.spaces.entries d p ≡ Some e → 1 ≤ times e.frame
   unfolding rows_of
@@ -608,13 +789,20 @@ module _ (names : Names) (s : KernelState) (a : AbstractState) (h : StandsFor na
 
   -- ---- together
 
-  slots_want : 1 + total NENV (λ n. slot_frames s.spaces (slot n)) ≤ total NENV (λ n. slot_need a (a.slots n))
+  server_wants : 1 + frames_by true s.spaces (slot 0) ≤ slot_need a (a.slots 0)
+  server_wants =
+      subst (λ (y : AbstractSlot). 1 + frames_by true s.spaces (slot 0) ≤ slot_need a y) (sym h.first) (server_frames a s.spaces (slot 0) h.server)
+
+  each_wants : (n : ℕ) (first : Bool) → (n == 0) ≡ first → frames_by first s.spaces (slot n) ≤ slot_need a (a.slots n)
+  each_wants n true first =
+      let same : 0 ≡ n = grind (arith, nat_tests) in
+      subst (λ (m : ℕ). frames_by true s.spaces (slot m) ≤ slot_need a (a.slots m)) same (let more = server_wants in omega (arith, more))
+  each_wants n false other = wanted_frames names s a h n (λ same. grind (arith, nat_tests)) (a.slots n) refl (h.slots n)
+
+  slots_want : 1 + total NENV (λ n. frames_by (n == 0) s.spaces (slot n)) ≤ total NENV (λ n. slot_need a (a.slots n))
   slots_want =
-      total-less NENV 0 1 (λ n. slot_frames s.spaces (slot n)) (λ n. slot_need a (a.slots n)) (omega arith)
-      (λ n lt. wanted_frames names s a h n (a.slots n) refl (h.slots n))
-      (subst (λ (y : AbstractSlot). 1 + slot_frames s.spaces (slot 0) ≤ slot_need a y) (sym h.first)
-      (server_frames a s.spaces (slot 0) FIRST_ENV_ID (subst (λ (y : AbstractSlot). StandsForSlot names s.spaces (slot 0) y) h.first
-      (h.slots 0))))
+      total-less NENV 0 1 (λ n. frames_by (n == 0) s.spaces (slot n)) (λ n. slot_need a (a.slots n)) (omega arith)
+      (λ n lt. each_wants n (n == 0) refl) server_wants
 
   names_want : filled a.next_name (named_frame names a)
       ≤ count_below a.next_name (λ name. someone a (has_page_of name)) + count_below a.next_name (λ name. someone a (has_object_of name))

@@ -31,8 +31,8 @@ use Rattle.lib_os.specs.InOrder.{IsInOrder}
 use Rattle.lib_os.specs.LibraryPages.{IsOwnWritable, LibraryPages, has_working, is_library_region, region_index}
 use Rattle.lib_os.specs.LibrarySteps.{KeepsStanding, TakesAtMost, copies_left, is_to_copy, service_answered, steps_left}
 use Rattle.lib_os.specs.Places.{is_handlers, place_of, words_at}
-use Rattle.lib_os.specs.Rows.{IsPage, IsUsers, Names, Rows, descriptor_page, descriptor_seen, is_descriptor, is_programs, is_shared, logical}
-use Rattle.lib_os.specs.Rows.{is_cow, lasting, page_by, page_seen, rows_of, seen_where, shown_at}
+use Rattle.lib_os.specs.Rows.{server_row, IsPage, IsUsers, Names, Rows, descriptor_page, descriptor_seen, is_descriptor, is_programs, is_shared, logical}
+use Rattle.lib_os.specs.Rows.{is_clients, is_cow, lasting, page_by, page_seen, rows_of, seen_where, shown_at}
 use Rattle.lib_os.specs.StandsFor.{IsIn, IsTaking, StandsAt, StandsFor, StandsForBorn, borne_in, view_of}
 use Rattle.lib_os.specs.StandsInHandler.{IsGiven, wanted_of}
 use Rattle.lib_os.specs.UserCalls.{CallStep, giving, system}
@@ -50,8 +50,8 @@ use Rattle.lib_os.proofs.PagesStand.{Puts, bytes_elsewhere, elsewhere, other_reg
 use Rattle.lib_os.proofs.PageBytes.{zero_page_whole}
 use Rattle.lib_os.proofs.Placing.{allocated_made}
 use Rattle.lib_os.proofs.Serving.{IsServed, plain_copy, plain_upcall, served}
-use Rattle.lib_os.proofs.SlotsStand.{HasTables, SeenAlike, born_live, descriptors_off}
-use Rattle.lib_os.proofs.StatesStand.{others_count, own_moves, slot_in_order}
+use Rattle.lib_os.proofs.SlotsStand.{HasTables, SeenAlike, descriptors_off}
+use Rattle.lib_os.proofs.StatesStand.{clients_live, others_count, own_moves, slot_in_order}
 use Rattle.lib_os.proofs.Trying.{LivesOn}
 use Rattle.lib_os.proofs.WordsTell.{handler_runs, is_in_handler, place_at}
 use Rattle.jos_base.proofs.Maps.{upd-at}
@@ -182,8 +182,8 @@ module _ {names : Names} {s : KernelState} {a : AbstractState} {sp : SpacesState
   others : (q : ℕ) → q ≢ dir → SeenAlike names names s.spaces sp q
   others = others_seen h n b is puts
 
-  live : is_live_slot (slot_at s n) ≡ true
-  live = born_live own
+  counts_all : is_clients n (slot_at s n) ≡ true
+  counts_all = clients_live h n b is
 
   unhandled : is_in_handler (place_of (slot_at s n)) ≡ false
   unhandled = handler_runs (slot_at s n).registers (slot_at s n).extra ∙ outside
@@ -210,7 +210,7 @@ module _ {names : Names} {s : KernelState} {a : AbstractState} {sp : SpacesState
 
         here : (p : ℕ) → logical sp (upd s.environments.slots n moved) n p ≡ rows_of sp dir p
         here p =
-            logical_plain sp (upd s.environments.slots n moved) n (ap (λ (k : Slot). is_live_slot k) slot_is ∙ live)
+            logical_plain sp (upd s.environments.slots n moved) n (ap (λ (k : Slot). is_clients n k) slot_is ∙ counts_all)
             (ap (λ (k : Slot). is_plain (place_of k)) slot_is ∙ plain_after) p
             ∙ ap (λ (k : Slot). rows_of sp k.directory p) slot_is
 
@@ -223,14 +223,14 @@ module _ {names : Names} {s : KernelState} {a : AbstractState} {sp : SpacesState
             by_slot true test =
                 let same : m ≡ n = grind (arith, nat_tests) in
                 subst (λ (o : ℕ). logical sp (upd s.environments.slots n moved) o q ≡ logical s.spaces s.environments.slots o q) (sym same)
-                (here q ∙ working_beside puts q (ne same) ∙ sym (logical_plain s.spaces s.environments.slots n live plain q))
+                (here q ∙ working_beside puts q (ne same) ∙ sym (logical_plain s.spaces s.environments.slots n counts_all plain q))
             by_slot false test = others_count h n b is moved others m (grind (arith, nat_tests)) q
 
     -- The same abstract state: what stands behind it is given.
     pub working_stands : regs.esp ≡ (slot_at s n).registers.esp → regs.eflags ≡ (slot_at s n).registers.eflags →
         (has_working after words ≡ true → IsOwnWritable (rows_of sp dir) working_page) → (has_working after words ≡ false → v ≡ None) →
         HasTables sp dir b.regions → StandsAt after (view_of sp dir) moved b →
-        PutsRow names names s.spaces.pages a.shared sp.pages a.shared a.objects a.next_name a.next_name (logical s.spaces s.environments.slots) n
+        PutsRow names names s.spaces.pages a.shared sp.pages a.shared a.objects a.next_name a.next_name (server_row s.spaces s.environments.slots) (logical s.spaces s.environments.slots) n
         working_page v → IsInOrder (with_spaces s sp) → StandsFor names (with_slot_at (with_spaces s sp) n moved) a
     working_stands esp eflags working no_working tables at row in_order =
         subst (λ (x : AbstractState). StandsFor names (with_slot_at (with_spaces s sp) n moved) x) (born_back a n b is)
@@ -323,7 +323,7 @@ module _ {names : Names} {s : KernelState} {a : AbstractState} {sp : SpacesState
     regions = other_regions made.placed;
   }
 
-  taken_row : PutsRow names names s.spaces.pages a.shared sp.pages a.shared a.objects a.next_name a.next_name (logical s.spaces s.environments.slots) n
+  taken_row : PutsRow names names s.spaces.pages a.shared sp.pages a.shared a.objects a.next_name a.next_name (server_row s.spaces s.environments.slots) (logical s.spaces s.environments.slots) n
       working_page (Some new_entry)
   taken_row = record {
     bytes = bytes_elsewhere h n v.b v.is taken_puts;
@@ -333,6 +333,7 @@ module _ {names : Names} {s : KernelState} {a : AbstractState} {sp : SpacesState
     user = λ e is. subst (λ (y : Entry). IsUsers y.perm) (same_Some new_entry e is) working_user;
     whole = λ e is. subst (λ (y : Entry). IsPage (sp.pages y.frame)) (same_Some new_entry e is)
         (subst (λ (page : List ℕ). IsPage page) (sym made.zero) zero_page_whole);
+    beside = λ q e y is there same. made.new _ q y there (sym same ∙ ap (λ (z : Entry). z.frame) (sym (same_Some new_entry e is)));
     named_new = λ e is shared_page.
         let contradiction : false ≡ true = ap (λ (y : Entry). is_shared y.perm) (same_Some new_entry e is) ∙ shared_page in cc;
     named_old = λ m q x ne hx shared_page was.

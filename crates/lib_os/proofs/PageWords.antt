@@ -37,7 +37,7 @@ use Rattle.lib_os.specs.declared.place.Place.TheVariants as place
 use Rattle.lib_os.specs.Places.{place_of}
 use Rattle.lib_os.proofs.Logical.{is_remapped, logical_beside}
 use Rattle.lib_os.proofs.WordsTell.{handler_runs, is_in_handler}
-use Rattle.lib_os.proofs.SlotsStand.{born_live}
+use Rattle.lib_os.proofs.StatesStand.{clients_live}
 use Rattle.lib_os.proofs.Touching.{touched_quiet}
 use Rattle.lib_os.proofs.WindowWords.{read_at}
 
@@ -177,7 +177,7 @@ module _ {names : Names} {s : KernelState} {a : AbstractState} (h : StandsFor na
       let frame = v.at.frame in
       let beside : page_number UXSTACK ≢ page_number PFTEMP = λ same. absurd (omega arith) in
       let counts =
-      logical_beside s.spaces s.environments.slots n (born_live v.own) (page_number UXSTACK) beside
+      logical_beside s.spaces s.environments.slots n (clients_live h n v.b v.is) (page_number UXSTACK) beside
       (is_handlers_page (place_of (slot_at s n)) (page_number UXSTACK) (handler_runs (slot_at s n).registers (slot_at s n).extra ∙ v.inside))
       ∙ frame.stands in
       let user = h.users n (page_number UXSTACK) frame.entry counts in

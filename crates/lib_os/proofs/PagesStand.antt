@@ -17,7 +17,7 @@ use Rattle.lib_os.specs.AbstractMemory.{page_at, with_page, without_page}
 use Rattle.lib_os.specs.InOrder.{IsInOrder}
 use Rattle.lib_os.specs.LibraryPages.{is_library_region}
 use Rattle.lib_os.specs.Places.{place_of}
-use Rattle.lib_os.specs.Rows.{Names, Rows, rows_of, logical, page_by, page_seen, is_programs, is_shared, is_cow, may_write}
+use Rattle.lib_os.specs.Rows.{is_clients, server_row, Names, Rows, rows_of, logical, page_by, page_seen, is_programs, is_shared, is_cow, may_write}
 use Rattle.lib_os.specs.Rows.{Agree, IsUsers, IsNamed, IsPage, ShowsBy, is_descriptor}
 use Rattle.lib_os.specs.StandsFor.{StandsFor, StandsForBorn, view_of, borne_in}
 use Rattle.lib_os.proofs.Effects.{Placed, Made, Given, Removed}
@@ -27,8 +27,8 @@ use Rattle.lib_os.proofs.Logical.{is_plain, logical_some, logical_plain, logical
 use Rattle.lib_os.proofs.Logical.{plain_unborne, programs_no_descriptor, unborne_unremapped}
 use Rattle.lib_os.proofs.PageBytes.{zero_page_whole}
 use Rattle.lib_os.proofs.SlotsStand.{SeenAlike, HasTables, minds_page, unminded_plain, kept_unminded, library_put, page_alike, page_put}
-use Rattle.lib_os.proofs.SlotsStand.{born_at, born_live, live_stands}
-use Rattle.lib_os.proofs.StatesStand.{directories_apart, space_moves}
+use Rattle.lib_os.proofs.SlotsStand.{born_at, live_stands}
+use Rattle.lib_os.proofs.StatesStand.{clients_live, directories_apart, space_moves}
 use Rattle.jos_base.proofs.Maps.{upd-at, upd-other, upd-true}
 use Rattle.jos_base.proofs.Puts.{Elsewhere, place_cases, put-at, put-other}
 
@@ -84,8 +84,8 @@ module _ {names after : Names} {s : KernelState} {a : AbstractState} {sp : Space
       logical sp s.environments.slots m q ≡ put (logical s.spaces s.environments.slots) n p v m q
   counts_put plain = put_is (logical s.spaces s.environments.slots) (logical sp s.environments.slots) n p v here there
     where
-      live : is_live_slot (slot_at s n) ≡ true
-      live = born_live (born_at h n b at)
+      live : is_clients n (slot_at s n) ≡ true
+      live = clients_live h n b at
 
       here : logical sp s.environments.slots n p ≡ v
       here = logical_plain sp s.environments.slots n live plain p ∙ ap (λ (rows : Rows). rows dir p) puts.rows ∙ put-at (rows_of s.spaces) dir p v
@@ -107,7 +107,7 @@ module _ {names after : Names} {s : KernelState} {a : AbstractState} {sp : Space
 
   pub puts_stand : is_programs p ≡ true → (page : Option Page) → page ≡ page_seen after sp dir p →
       (regions : ℕ → Bool) → HasTables sp dir regions → (shared : ℕ → List ℕ) (next : ℕ) →
-      PutsRow names after s.spaces.pages a.shared sp.pages shared a.objects a.next_name next (logical s.spaces s.environments.slots) n p v →
+      PutsRow names after s.spaces.pages a.shared sp.pages shared a.objects a.next_name next (server_row s.spaces s.environments.slots) (logical s.spaces s.environments.slots) n p v →
       minds_page (place_of (slot_at s n)) ≡ false → IsInOrder (with_spaces s sp) →
       StandsFor after (with_spaces s sp)
       (with_born (record a { shared = shared; next_name = next }) n (record b { memory = upd b.memory p page; regions = regions }))
@@ -200,7 +200,7 @@ module _ {names : Names} {s : KernelState} {a : AbstractState} {sp : SpacesState
       (is_shared perm ≡ true → IsNamed after sp.pages shared a.objects next p made.frame) →
       ((q r : ℕ) (x : Entry) → rows_of s.spaces q r ≡ Some x → sp.pages x.frame ≡ s.spaces.pages x.frame →
       IsNamed names s.spaces.pages a.shared a.objects a.next_name r x.frame → IsNamed after sp.pages shared a.objects next r x.frame) →
-      PutsRow names after s.spaces.pages a.shared sp.pages shared a.objects a.next_name next (logical s.spaces s.environments.slots) n p (Some new_entry)
+      PutsRow names after s.spaces.pages a.shared sp.pages shared a.objects a.next_name next (server_row s.spaces s.environments.slots) (logical s.spaces s.environments.slots) n p (Some new_entry)
   made_row after named_so shared next new_named old_named = record {
     bytes = bytes_elsewhere h n b at (made_puts after named_so);
     agree = λ m q x e ne hx is same.
@@ -209,6 +209,7 @@ module _ {names : Names} {s : KernelState} {a : AbstractState} {sp : SpacesState
     user = λ e is. subst (λ (y : Entry). IsUsers y.perm) (same_Some new_entry e is) is_user;
     whole = λ e is. subst (λ (y : Entry). IsPage (sp.pages y.frame)) (same_Some new_entry e is)
         (subst (λ (l : List ℕ). IsPage l) (sym made.zero) zero_page_whole);
+    beside = λ q e y is there same. made.new _ q y there (sym same ∙ ap (λ (z : Entry). z.frame) (sym (same_Some new_entry e is)));
     named_new = λ e is. subst (λ (y : Entry). is_shared y.perm ≡ true → IsNamed after sp.pages shared a.objects next p y.frame)
         (same_Some new_entry e is) new_named;
     named_old = λ m q x ne hx shared_page was.
@@ -332,7 +333,7 @@ module _ {names : Names} {s : KernelState} {a : AbstractState} {sp : SpacesState
   -- the sender's entry counts
   counts_here : logical s.spaces s.environments.slots n (page_number from) ≡ Some x
   counts_here =
-      logical_beside s.spaces s.environments.slots n (born_live (born_at h n b at)) (page_number from) (programs_beside (page_number from) from_inside).0
+      logical_beside s.spaces s.environments.slots n (clients_live h n b at) (page_number from) (programs_beside (page_number from) from_inside).0
       (unborne_unremapped (place_of (slot_at s n)) (page_number from) unborne)
       ∙ hx
 
@@ -370,7 +371,7 @@ module _ {names : Names} {s : KernelState} {a : AbstractState} {sp : SpacesState
     regions = other_regions given.placed;
   }
 
-  given_row : PutsRow names names s.spaces.pages a.shared sp.pages a.shared a.objects a.next_name a.next_name (logical s.spaces s.environments.slots) m
+  given_row : PutsRow names names s.spaces.pages a.shared sp.pages a.shared a.objects a.next_name a.next_name (server_row s.spaces s.environments.slots) (logical s.spaces s.environments.slots) m
       (page_number va) (Some x)
   given_row = record {
     bytes = bytes_elsewhere h m c target_at given_puts;
@@ -381,6 +382,7 @@ module _ {names : Names} {s : KernelState} {a : AbstractState} {sp : SpacesState
     user = λ e is. subst (λ (z : Entry). IsUsers z.perm) (same_Some x e is) (h.users n (page_number from) x counts_here);
     whole = λ e is. subst (λ (z : Entry). IsPage (sp.pages z.frame)) (same_Some x e is)
         (subst (λ (l : List ℕ). IsPage l) (sym given.same) (h.whole n (page_number from) x counts_here));
+    beside = λ q e y is there. subst (λ (z : Entry). z.frame ≢ y.frame) (same_Some x e is) (h.beside n (page_number from) q x y counts_here there);
     named_new = λ e is.
         subst (λ (y : Entry). is_shared y.perm ≡ true → IsNamed names sp.pages a.shared a.objects a.next_name (page_number va) y.frame)
         (same_Some x e is)
@@ -429,13 +431,14 @@ module _ {names : Names} {s : KernelState} {a : AbstractState} {sp : SpacesState
     regions = λ q r ne. removed.regions q r;
   }
 
-  removed_row : PutsRow names names s.spaces.pages a.shared sp.pages a.shared a.objects a.next_name a.next_name (logical s.spaces s.environments.slots) n
+  removed_row : PutsRow names names s.spaces.pages a.shared sp.pages a.shared a.objects a.next_name a.next_name (server_row s.spaces s.environments.slots) (logical s.spaces s.environments.slots) n
       number None
   removed_row = record {
     bytes = bytes_elsewhere h n b at removed_puts;
     agree = λ m q x e ne hx is same. absurd (none-some e is);
     user = λ e is. absurd (none-some e is);
     whole = λ e is. absurd (none-some e is);
+    beside = λ q e y is there. absurd (none-some e is);
     named_new = λ e is. absurd (none-some e is);
     named_old = λ m q x ne hx shared_page was. named_bytes (sym (bytes_elsewhere h n b at removed_puts m q x ne hx)) was;
   }

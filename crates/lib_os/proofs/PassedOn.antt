@@ -28,11 +28,11 @@ use Rattle.lib_os.specs.AbstractMemory.{has_page_in}
 use Rattle.lib_os.specs.InOrder.{IsInOrder}
 use Rattle.lib_os.specs.LibraryPages.{is_library_region, region_index}
 use Rattle.lib_os.specs.Places.{place_in_words, place_of, words_at}
-use Rattle.lib_os.specs.Rows.{Agree, EntryRow, IsNamed, IsPage, IsUsers, Names, Rows, as_cow, counted, cow_perm}
+use Rattle.lib_os.specs.Rows.{server_row, Agree, EntryRow, IsNamed, IsPage, IsUsers, Names, Rows, as_cow, counted, cow_perm, is_clients}
 use Rattle.lib_os.specs.Rows.{is_cow, is_descriptor, is_programs, is_shared, lasting, logical, logical_by, may_write, page_by, page_seen, rows_of}
 use Rattle.lib_os.specs.StandsFor.{StandsFor, StandsAtStep, IsBearing, IsMapping, borne_at, view_of}
 use Rattle.lib_os.specs.UserCalls.{asking, called_by, system}
-use Rattle.lib_os.proofs.Bearing.{IsBearer, IsChild}
+use Rattle.lib_os.proofs.Bearing.{IsBearer, IsChild, parent_not_first, child_not_first}
 use Rattle.lib_os.proofs.Calls.{caller_is, made_is, made_step, system_is}
 use Rattle.lib_os.proofs.Effects.{Given}
 use Rattle.lib_os.proofs.EntriesStand.{PutsRow, RowsStand, put_is, rows_bytes, rows_put, rows_same, rows_stand}
@@ -40,7 +40,7 @@ use Rattle.lib_os.proofs.EntriesStand.{same_entry, seen_at, seen_by, seen_own}
 use Rattle.lib_os.proofs.EntryWords.{row_entry}
 use Rattle.lib_os.proofs.GoesDown.{HasFrom, bearing_moves, goes_below, has_from, is_child, moved, moved_place, own_moved, step_below, there_handed}
 use Rattle.lib_os.proofs.GoingOn.{in_with_words}
-use Rattle.lib_os.proofs.Logical.{logical_alike, logical_some}
+use Rattle.lib_os.proofs.Logical.{clients_so, logical_alike, logical_some}
 use Rattle.lib_os.proofs.PagesStand.{other_regions, row_elsewhere, row_placed}
 use Rattle.lib_os.proofs.Placing.{inserted_given}
 use Rattle.lib_os.proofs.Puts.{put-found}
@@ -120,12 +120,13 @@ given_with e perm permitted writes = rw permitted (by_test (has_write perm) writ
 
 -- ---- entries as they count
 
--- where its entries count by its place
-counts_at : (sp : SpacesState) (slots : ℕ → Slot) (j : ℕ) (k : Slot) (at : Place) → slots j ≡ k → is_live_slot k ≡ true → place_of k ≡ at → (p : ℕ) →
+-- where its entries count by its place, in a slot but the first
+counts_at : (sp : SpacesState) (slots : ℕ → Slot) (j : ℕ) (k : Slot) (at : Place) → slots j ≡ k → 0 ≢ j → is_live_slot k ≡ true →
+    place_of k ≡ at → (p : ℕ) →
     logical sp slots j p ≡ counted at (rows_of sp k.directory) p
-counts_at sp slots j k at is live stands p =
-    ap (λ (x : Slot). logical_by (is_live_slot x) (counted (place_of x) (rows_of sp x.directory)) p) is
-    ∙ ap (λ (c : Bool). logical_by c (counted (place_of k) (rows_of sp k.directory)) p) live
+counts_at sp slots j k at is not_first live stands p =
+    ap (λ (x : Slot). logical_by (is_clients j x) (counted (place_of x) (rows_of sp x.directory)) p) is
+    ∙ ap (λ (c : Bool). logical_by c (counted (place_of k) (rows_of sp k.directory)) p) (clients_so j k not_first live)
     ∙ ap (λ (q : Place). counted q (rows_of sp k.directory) p) stands
 
 guest_counts : (row : EntryRow) (p : ℕ) → counted place.Guest row p ≡ row p
@@ -179,17 +180,18 @@ cow_agreed had own_page = record {
 }
 
 -- A page that stands somewhere gets an entry at the same number in some space, which agrees with all others of its frame.
-rows_given : {names : Names} {pages shared : ℕ → List ℕ} {objects : ℕ → Object} {next : ℕ} {rows : Rows} →
-    RowsStand names pages shared objects next rows → (n p m : ℕ) (x e : Entry) → rows n p ≡ Some x → x.frame ≡ e.frame → IsUsers e.perm →
+rows_given : {names : Names} {pages shared : ℕ → List ℕ} {objects : ℕ → Object} {next : ℕ} {server : EntryRow} {rows : Rows} →
+    RowsStand names pages shared objects next server rows → (n p m : ℕ) (x e : Entry) → rows n p ≡ Some x → x.frame ≡ e.frame → IsUsers e.perm →
     (is_shared e.perm ≡ true → is_shared x.perm ≡ true) →
     ((j r : ℕ) (y : Entry) → Elsewhere j r m p → rows j r ≡ Some y → y.frame ≡ e.frame → Agree y.perm e.perm) →
-    RowsStand names pages shared objects next (put rows m p (Some e))
-rows_given {names = names} {pages = pages} {shared = shared} {objects = objects} {next = next} {rows = rows} h n p m x e stands frame is_user sharing
-    agrees =
+    RowsStand names pages shared objects next server (put rows m p (Some e))
+rows_given {names = names} {pages = pages} {shared = shared} {objects = objects} {next = next} {server = server}
+    {rows = rows} h n p m x e stands frame is_user sharing agrees =
     rows_put h puts
   where
-    puts : PutsRow names names pages shared pages shared objects next next rows m p (Some e)
+    puts : PutsRow names names pages shared pages shared objects next next server rows m p (Some e)
     puts = record {
+      beside = λ q z y is at same. h.beside n p q x y stands at (frame ∙ ap (λ (w : Entry). w.frame) (same_Some e z is) ∙ same);
       bytes = λ j r y ne hy. refl;
       agree = λ j r y z ne hy is same.
           let one : e ≡ z = same_Some e z is in
@@ -272,7 +274,8 @@ module _ {names : Names} {s : KernelState} {a : AbstractState} (h : StandsFor na
 
   counts_before : (p : ℕ) → before n p ≡ rows_of s.spaces d p
   counts_before p =
-      counts_at s.spaces s.environments.slots n (slot_at s n) (place.InService service.Fork (step.MapChild id page perm)) refl live v.place p
+      counts_at s.spaces s.environments.slots n (slot_at s n) (place.InService service.Fork (step.MapChild id page perm)) refl
+      (parent_not_first h v) live v.place p
       ∙ mapping_counts id page perm (rows_of s.spaces d) p
 
   entry_counts : before n page ≡ Some mapping.entry
@@ -478,19 +481,20 @@ module _ {names : Names} {s : KernelState} {a : AbstractState} (h : StandsFor na
 
     child_counts_before : (p : ℕ) → before m p ≡ rows_of s.spaces child_space p
     child_counts_before p =
-        counts_at s.spaces s.environments.slots m (slot_at s m) place.Guest refl child_live child_guest p
+        counts_at s.spaces s.environments.slots m (slot_at s m) place.Guest refl (child_not_first h v) child_live child_guest p
         ∙ guest_counts (rows_of s.spaces child_space) p
 
     counts_after : (next : Step) (p : ℕ) → after next n p ≡ counted (place.InService service.Fork next) (rows_of s.spaces d) p
     counts_after next p =
         counts_at sp (upd s.environments.slots n (moved (slot_at s n) next)) n (moved (slot_at s n) next) (place.InService service.Fork next)
-        (upd-at s.environments.slots n (moved (slot_at s n) next)) live (moved_place (slot_at s n) (step.MapChild id page perm) next v.place) p
+        (upd-at s.environments.slots n (moved (slot_at s n) next)) (parent_not_first h v) live
+        (moved_place (slot_at s n) (step.MapChild id page perm) next v.place) p
         ∙ ap (λ (row : EntryRow). counted (place.InService service.Fork next) row p) (seen_beside d parent_beside).rows
 
     child_counts_after : (next : Step) (p : ℕ) → after next m p ≡ rows_of sp child_space p
     child_counts_after next p =
         counts_at sp (upd s.environments.slots n (moved (slot_at s n) next)) m (slot_at s m) place.Guest
-        (upd-other s.environments.slots n (moved (slot_at s n) next) m v.apart) child_live child_guest p
+        (upd-other s.environments.slots n (moved (slot_at s n) next) m v.apart) (child_not_first h v) child_live child_guest p
         ∙ guest_counts (rows_of sp child_space) p
 
     others_count_after : (next : Step) (q : ℕ) → q ≢ n → q ≢ m → (p : ℕ) → after next q p ≡ before q p
@@ -525,7 +529,7 @@ module _ {names : Names} {s : KernelState} {a : AbstractState} (h : StandsFor na
         let found = (logical_some s.spaces s.environments.slots q r x hx).1 in
         subst (λ (f : ℕ). sp.pages f ≡ s.spaces.pages f) found.frame (bytes_kept (slot_at s q).directory r found.entry found.stands)
 
-    rows_before : RowsStand names sp.pages a.shared a.objects a.next_name before
+    rows_before : RowsStand names sp.pages a.shared a.objects a.next_name (server_row s.spaces s.environments.slots) before
     rows_before = rows_bytes sp.pages bytes_counted (rows_stand h)
 
     child_counts : (next : Step) → after next m page ≡ Some passed_on
@@ -553,14 +557,16 @@ module _ {names : Names} {s : KernelState} {a : AbstractState} (h : StandsFor na
               })
           by_place (inr ne) = agreed q r x ne hx same
 
-      rows_kept : RowsStand names sp.pages a.shared a.objects a.next_name (put before m page (Some passed_on))
+      rows_kept : RowsStand names sp.pages a.shared a.objects a.next_name
+          (server_row s.spaces s.environments.slots) (put before m page (Some passed_on))
       rows_kept =
-          subst (λ (e : Entry). RowsStand names sp.pages a.shared a.objects a.next_name (put before m page (Some e))) (sym (kept_entry is))
+          subst (λ (e : Entry). RowsStand names sp.pages a.shared a.objects a.next_name
+          (server_row s.spaces s.environments.slots) (put before m page (Some e))) (sym (kept_entry is))
           (rows_given rows_before n page m mapping.entry mapping.entry entry_counts refl user (λ shared_page. shared_page)
           (λ q r x ne hx same. all_agree q r x hx same))
 
       rows_below : (next : Step) → ((row : EntryRow) (p : ℕ) → counted (place.InService service.Fork next) row p ≡ row p) →
-          RowsStand names sp.pages a.shared a.objects a.next_name (after next)
+          RowsStand names sp.pages a.shared a.objects a.next_name (server_row s.spaces s.environments.slots) (after next)
       rows_below next plain =
           rows_same (put before m page (Some passed_on)) (after next)
           (put_is before (after next) m page (Some passed_on) (child_counts next)
@@ -583,7 +589,7 @@ module _ {names : Names} {s : KernelState} {a : AbstractState} (h : StandsFor na
       abbrev parent_copied : Rows
       parent_copied = put before n page (Some copied_entry)
 
-      rows_parent : RowsStand names sp.pages a.shared a.objects a.next_name parent_copied
+      rows_parent : RowsStand names sp.pages a.shared a.objects a.next_name (server_row s.spaces s.environments.slots) parent_copied
       rows_parent =
           rows_given rows_before n page n mapping.entry copied_entry entry_counts refl cow_user
           (λ shared_page. absurd (let contradiction : false ≡ true = shared_page in cc))
@@ -595,9 +601,11 @@ module _ {names : Names} {s : KernelState} {a : AbstractState} (h : StandsFor na
         | inr there ↦ cow_agreed (agreed q r x there.0 there.1 same) own_writable.0
       ]
 
-      rows_both : RowsStand names sp.pages a.shared a.objects a.next_name (put parent_copied m page (Some passed_on))
+      rows_both : RowsStand names sp.pages a.shared a.objects a.next_name
+          (server_row s.spaces s.environments.slots) (put parent_copied m page (Some passed_on))
       rows_both =
-          subst (λ (e : Entry). RowsStand names sp.pages a.shared a.objects a.next_name (put parent_copied m page (Some e))) (sym cow_entry)
+          subst (λ (e : Entry). RowsStand names sp.pages a.shared a.objects a.next_name
+          (server_row s.spaces s.environments.slots) (put parent_copied m page (Some e))) (sym cow_entry)
           (rows_given rows_parent n page m copied_entry copied_entry (put-at before n page (Some copied_entry)) refl cow_user
           (λ shared_page. shared_page) (λ q r x ne hx same. parent_agrees q r x hx same))
 
@@ -617,7 +625,7 @@ module _ {names : Names} {s : KernelState} {a : AbstractState} (h : StandsFor na
               let other : p ≢ page = grind (arith, nat_tests) in
               sym (counts_before p) ∙ sym (put-other before n page (Some copied_entry) n p (λ same. other))
 
-      rows_remap : RowsStand names sp.pages a.shared a.objects a.next_name (after (step.Remap id page))
+      rows_remap : RowsStand names sp.pages a.shared a.objects a.next_name (server_row s.spaces s.environments.slots) (after (step.Remap id page))
       rows_remap =
           rows_same (put parent_copied m page (Some passed_on)) (after (step.Remap id page))
           (put_is parent_copied (after (step.Remap id page)) m page (Some passed_on) (child_counts (step.Remap id page))
@@ -633,7 +641,8 @@ module _ {names : Names} {s : KernelState} {a : AbstractState} (h : StandsFor na
           in_with_words (words_at SERVICE_FORK next) at.0
 
       stands_at : (next : Step) → borne_at next ≡ Some id → StandsAtStep (view_of sp d) (moved (slot_at s n) next) v.b service.Fork next →
-          IsChild names sp (slot_at s n) v.b next (slot_at s m) → RowsStand names sp.pages a.shared a.objects a.next_name (after next) →
+          IsChild names sp (slot_at s n) v.b next (slot_at s m) →
+          RowsStand names sp.pages a.shared a.objects a.next_name (server_row s.spaces s.environments.slots) (after next) →
           StandsFor names (with_extra (with_spaces s sp) n (words_at SERVICE_FORK next)) a
       stands_at next bears so has rows =
           bearing_moves h n id (step.MapChild id page perm) next v bears sp (λ q ne apart. seen_beside q apart)

@@ -22,7 +22,7 @@ use Rattle.lib_os.specs.declared.numbers.TheConstants.{PGFAULT_UPCALL}
 use Rattle.jos_base.specs.TrapFrames.{user_flags}
 use Rattle.lib_os.specs.LibraryCall.{library_step}
 use Rattle.lib_os.specs.LibrarySteps.{GoesOn, NothingRefused, IsLibraryStep}
-use Rattle.lib_os.specs.Places.{place_in_words, place_of, is_handlers}
+use Rattle.lib_os.specs.Places.{place_in_words, place_of, is_handlers, service_word}
 use Rattle.lib_os.specs.Rows.{Names, EntryRow, rows_of}
 use Rattle.lib_os.specs.StandsFor.{StandsFor, StandsForSlot, StandsForBorn, StandsAt, StandsAtStep, IsStatusFor, IsIn, view_of, upcall_at}
 use Rattle.lib_os.proofs.WordsTell.{is_in_handler, handler_runs, outside_stack}
@@ -33,15 +33,20 @@ pub words_of_none : (regs : Regs) (words : List ℕ) → is_handlers regs.esp �
 unfolding place_in_words
 words_of_none regs words outside none = rw (outside, none) refl
 
+-- and so is who is in no service
+pub in_no_service : (regs : Regs) (words : List ℕ) → is_handlers regs.esp ≡ false → service_word words ≡ 0 → place_in_words regs words ≡ place.Guest
+unfolding place_in_words
+in_no_service regs words outside none = rw (outside, none) refl
+
 -- nor is it in a service, wherever its stack pointer lies
-never_served : (regs : Regs) (words : List ℕ) (s : Service) (t : Step) → words ≡ no_extra → place_in_words regs words ≡ place.InService s t → ⊥
+never_served : (regs : Regs) (words : List ℕ) (s : Service) (t : Step) → service_word words ≡ 0 → place_in_words regs words ≡ place.InService s t → ⊥
 never_served regs words s t none at = by_esp (is_handlers regs.esp) refl
   where
     by_esp : (c : Bool) → is_handlers regs.esp ≡ c → ⊥
     by_esp true inside =
         false≢true (sym (ap is_in_handler at) ∙ handler_runs regs words ∙ inside)
     by_esp false outside =
-        false≢true (sym (ap is_at_guest at) ∙ ap is_at_guest (words_of_none regs words outside none))
+        false≢true (sym (ap is_at_guest at) ∙ ap is_at_guest (in_no_service regs words outside none))
       where
         is_at_guest : Place → Bool
         is_at_guest place.Guest = true
@@ -63,8 +68,8 @@ pub served : {names : Names} {s : KernelState} {a : AbstractState} → StandsFor
 served {names = names} {s = s} {a = a} h n service step at = by_slot (a.slots n) refl (h.slots n)
   where
     by_slot : (slot : AbstractSlot) → a.slots n ≡ slot → StandsForSlot names s.spaces (slot_at s n) slot → IsServed names s a n service step
-    by_slot (free id) is k = absurd (never_served (slot_at s n).registers (slot_at s n).extra service step (ap (λ (x : Slot). x.extra) k) at)
-    by_slot (unborn id parent) is k = absurd (never_served (slot_at s n).registers (slot_at s n).extra service step k.words at)
+    by_slot (free id) is k = absurd (never_served (slot_at s n).registers (slot_at s n).extra service step (ap (λ (x : Slot). service_word x.extra) k) at)
+    by_slot (unborn id parent) is k = absurd (never_served (slot_at s n).registers (slot_at s n).extra service step (ap service_word k.words) at)
     by_slot (born b) is k = record {
       b = b;
       is = is;

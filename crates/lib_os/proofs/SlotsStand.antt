@@ -11,7 +11,7 @@ use Rattle.jos_base.specs.declared.registers.Regs.{Regs}
 use Rattle.jos_base.specs.Environments.{Slot, is_free, is_live as is_live_slot}
 use Rattle.jos_base.specs.KernelState.{KernelState, slot_at}
 use Rattle.jos_base.specs.Reach.{Entry}
-use Rattle.jos_base.specs.SpacesState.{SpacesState, Region}
+use Rattle.jos_base.specs.SpacesState.{SpacesState}
 use Rattle.jos_base.specs.SystemCalls.{has_write}
 use Rattle.lib_os.specs.declared.place.HandlerStep.{HandlerStep}
 use Rattle.lib_os.specs.declared.place.HandlerStep.TheVariants as handler
@@ -639,7 +639,7 @@ pub slot_live : (names : Names) (s : SpacesState) (k : Slot) (slot : AbstractSlo
 slot_live names s k (free id) h = ap (λ (x : Slot). is_live_slot x) h
 slot_live names s k (unborn id parent) h = ap (λ (x : Status). not (is_free x)) h.status
 slot_live names s k (born b) h = runs_live k.status b.blocked h.runs
-slot_live names s k (serving id) h = ap (λ (x : Status). not (is_free x)) h.status
+slot_live names s k (serving id) h = h.lives
 
 pub slot_named : (names : Names) (s : SpacesState) (k : Slot) (slot : AbstractSlot) → StandsForSlot names s k slot →
     k.id ≡ slot_id slot
@@ -663,10 +663,6 @@ born_at {names = names} {s = s} h n b at = subst (λ (slot : AbstractSlot). Stan
 
 -- ---- slots
 
-no_region : (o : Option Region) → is_some o ≡ false → o ≡ None
-no_region None is = refl
-no_region (Some region) is = absurd cc
-
 -- A slot stands for what it stood for while nothing that is seen of its space differs. Of a slot that is not live no space is
 -- seen.
 pub slot_stands : (names after : Names) (s t : SpacesState) (k : Slot) (slot : AbstractSlot) → StandsForSlot names s k slot →
@@ -674,17 +670,7 @@ pub slot_stands : (names after : Names) (s t : SpacesState) (k : Slot) (slot : A
 slot_stands names after s t k (free id) h same = h
 slot_stands names after s t k (unborn id parent) h same = h
 slot_stands names after s t k (born b) h same = born_stands k b (same refl) h
-slot_stands names after s t k (serving id) h same = record {
-  first = h.first;
-  id_is = h.id_is;
-  env_type = h.env_type;
-  status = h.status;
-  silent = h.silent;
-  words = h.words;
-  stack = h.stack;
-  empty = λ p. ap (λ (r : EntryRow). r p) (same refl).rows ∙ h.empty p;
-  tables = λ r. no_region (t.regions k.directory r) ((same refl).regions r ∙ ap is_some (h.tables r));
-}
+slot_stands names after s t k (serving id) h same = h
 
 pub other_stands : (names after : Names) (s t : SpacesState) (k : Slot) (slot : AbstractSlot) → StandsForSlot names s k slot →
     rows_of t k.directory ≡ rows_of s k.directory →

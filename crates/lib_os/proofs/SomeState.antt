@@ -14,7 +14,7 @@ use Rattle.lib_os.specs.Rows.{IsPage, counted, rows_of}
 use Rattle.lib_os.specs.StandingLaws.{SomeStateStands}
 use Rattle.lib_os.proofs.Listed.{Spaces, EntryFits, SpacesFit, StateFits, EnvironmentFits, Pair, listed, own_fits, server_slot}
 use Rattle.lib_os.proofs.PageBytes.{zero_page_whole}
-use Rattle.lib_os.proofs.Listed.{server_fits, running_slot, born_in, environment_fits, the_names, state_of, abstract_of, listed_stands}
+use Rattle.lib_os.proofs.Listed.{server_bare, server_fits, running_slot, born_in, environment_fits, the_names, state_of, abstract_of, listed_stands}
 use Rattle.lib_os.proofs.Listed.{childless, server_childless, environment_childless}
 
 pub whole : IsPage zero_page
@@ -92,7 +92,7 @@ state_fits : StateFits spaces pairs owner
 state_fits = record {
   spaces = spaces_fit;
   slots = (
-    server_fits spaces owner 20 refl refl refl refl,
+    server_fits spaces owner 20 refl refl,
     (environment_fits spaces owner 1 0x1001 21 registers registers no_extra at_guest place.Guest program_fits refl refl refl, tt),
   );
   owned = (
@@ -103,6 +103,7 @@ state_fits = record {
     ),
   );
   first = refl;
+  server = server_bare spaces 20 refl refl;
   children = childless spaces pairs (
     server_childless 20,
     (environment_childless spaces 1 0x1001 21 registers registers no_extra at_guest place.Guest program_fits refl, tt),

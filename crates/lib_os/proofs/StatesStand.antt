@@ -1,7 +1,7 @@
 -- The kernel's state goes on standing for the abstract one where one slot's environment changes, where nothing that is seen
 -- of address spaces does, and where turns begin and end.
 use Rattle.std.proofs.Common.{◌≡◌, ◌≢◌, ◌∙◌, ℕ, ◌+◌, ◌%◌, ◌^◌, Bool, true, false, List, Option, refl, sym, ap, subst, if◌then◌else◌}
-use Rattle.std.specs.Prelude.{Some, None}
+use Rattle.std.specs.Prelude.{Some, None, not, ◌==◌, ◌&&◌, is_some}
 use Rattle.jos_base.specs.Reach.{Entry}
 use Rattle.jos_base.specs.Words.{upd}
 use Rattle.jos_base.specs.declared.environment.EnvType.TheVariants.{User}
@@ -11,16 +11,16 @@ use Rattle.jos_base.specs.declared.numbers.TheConstants.{FIRST_ENV_ID, NENV}
 use Rattle.jos_base.specs.Environments.{Slot, Environments, free_slot, is_live as is_live_slot, is_running}
 use Rattle.jos_base.specs.KernelState.{KernelState, HasSpaces, slot_at, with_slot_at, with_spaces, with_status, turn_begun, turn_ended}
 use Rattle.jos_base.specs.SpacesState.{SpacesState, directories}
-use Rattle.lib_os.specs.AbstractState.{AbstractState, Born, AbstractSlot, free, unborn, born, serving, is_live, with_born, with_printed}
+use Rattle.lib_os.specs.AbstractState.{AbstractState, Born, AbstractSlot, free, unborn, born, serving, is_live, with_born, with_printed, TablePlace, Server, idle}
 use Rattle.lib_os.specs.InOrder.{HasOneUse, IsInOrder}
-use Rattle.lib_os.specs.Rows.{Names, Rows, EntryRow, rows_of, counted, logical, logical_by}
-use Rattle.lib_os.specs.StandsFor.{StandsFor, StandsForSlot, StandsForBorn, IsStatusFor, IsTabled, HasChildren, borne_in}
+use Rattle.lib_os.specs.Rows.{server_row, Names, Rows, EntryRow, rows_of, counted, logical, logical_by, AreBeside, is_clients}
+use Rattle.lib_os.specs.StandsFor.{StandsFor, StandsForSlot, StandsForBorn, IsStatusFor, IsTabled, HasChildren, borne_in, HasServer, StandsForServer, IsServerStatus}
 use Rattle.lib_os.specs.declared.place.Place.{Place}
 use Rattle.lib_os.specs.Places.{place_of}
 use Rattle.lib_os.proofs.Effects.{Quiet}
 use Rattle.lib_os.proofs.EntriesStand.{RowsStand, rows_stand, rows_same, rows_bytes}
 use Rattle.lib_os.proofs.Children.{KeepsChild, bears_none, stands_still, SameChild, same_child, born_bears_none, children_kept, children_still}
-use Rattle.lib_os.proofs.Logical.{is_plain, plain_unborne, counted_plain, logical_alike}
+use Rattle.lib_os.proofs.Logical.{is_plain, plain_unborne, counted_plain, logical_alike, clients_so}
 use Rattle.lib_os.proofs.SlotsStand.{SeenAlike, slot_stands, born_at, born_live, live_stands, status_born}
 use Rattle.jos_base.proofs.Maps.{upd-at, upd-other, upd-alike, upd-all, upd-both}
 
@@ -41,6 +41,36 @@ pub born_not_first : {names : Names} {s : KernelState} {a : AbstractState} → S
     a.slots n ≡ born b → 0 ≢ n
 born_not_first {a = a} h n b at zero_is =
     let contradiction : serving FIRST_ENV_ID ≡ born b = sym h.first ∙ ap a.slots zero_is ∙ at in cc
+
+-- whoever is born counts
+pub clients_live : {names : Names} {s : KernelState} {a : AbstractState} → StandsFor names s a → (n : ℕ) (b : Born) → a.slots n ≡ born b →
+    is_clients n (slot_at s n) ≡ true
+clients_live {s = s} h n b at = clients_so n (slot_at s n) (born_not_first h n b at) (born_live (born_at h n b at))
+
+-- ---- the file server
+
+-- what it has, where nothing that is seen of its space differs
+pub server_alike : {names after : Names} {s t : SpacesState} {k : Slot} {opened : ℕ → TablePlace} {blocks : ℕ} {server : Server} →
+    SeenAlike names after s t k.directory → HasServer s k opened blocks server → HasServer t k opened blocks server
+server_alike same h = record {
+  status = h.status;
+  pages = λ p is. h.pages p (ap (λ (r : EntryRow). is_some (r p)) (sym same.rows) ∙ is);
+  tables = λ r is. h.tables r (sym (same.regions r) ∙ is);
+}
+
+-- where its slot is the same
+pub server_same : {s : SpacesState} {k l : Slot} {opened : ℕ → TablePlace} {blocks : ℕ} {server : Server} → l ≡ k →
+    HasServer s k opened blocks server → HasServer s l opened blocks server
+server_same {s = s} {opened = opened} {blocks = blocks} {server = server} same h =
+    subst (λ (x : Slot). HasServer s x opened blocks server) (sym same) h
+
+-- no page of it is a client's, where its row is the same
+pub beside_same : {server after : EntryRow} {rows : Rows} → after ≡ server → AreBeside server rows → AreBeside after rows
+beside_same {rows = rows} same h = subst (λ (r : EntryRow). AreBeside r rows) (sym same) h
+
+-- its row, where another slot is another
+pub row_other : (sp : SpacesState) (slots : ℕ → Slot) (n : ℕ) (k : Slot) → 0 ≢ n → server_row sp (upd slots n k) ≡ server_row sp slots
+row_other sp slots n k other = ap (λ (x : Slot). rows_of sp x.directory) (upd-other slots n k 0 other)
 
 pub slot_in_order : (s : KernelState) (n : ℕ) (k : Slot) → is_live_slot k ≡ is_live_slot (slot_at s n) →
     k.directory ≡ (slot_at s n).directory → IsInOrder s → IsInOrder (with_slot_at s n k)
@@ -134,17 +164,17 @@ pub set_counts : (s : KernelState) (n : ℕ) (k : Slot) → is_live_slot k ≡ i
     CountsAlike (place_of (slot_at s n)) (place_of k) → (m p : ℕ) →
     logical s.spaces (upd s.environments.slots n k) m p ≡ logical s.spaces s.environments.slots m p
 set_counts s n k live directory counts =
-    upd-all (λ m (x : Slot). (p : ℕ) → logical_by (is_live_slot x) (counted (place_of x) (rows_of s.spaces x.directory)) p ≡ logical s.spaces s.environments.slots m p)
+    upd-all (λ m (x : Slot). (p : ℕ) → logical_by (is_clients m x) (counted (place_of x) (rows_of s.spaces x.directory)) p ≡ logical s.spaces s.environments.slots m p)
     s.environments.slots n k here (λ m ne p. refl)
   where
-    here : (p : ℕ) → logical_by (is_live_slot k) (counted (place_of k) (rows_of s.spaces k.directory)) p ≡ logical s.spaces s.environments.slots n p
+    here : (p : ℕ) → logical_by (is_clients n k) (counted (place_of k) (rows_of s.spaces k.directory)) p ≡ logical s.spaces s.environments.slots n p
     here p =
-        (λ i. logical_by (live i) (counted (place_of k) (rows_of s.spaces (directory i))) p)
-        ∙ ap (λ (o : Option Entry). if is_live_slot (slot_at s n) then o else None) (counts (rows_of s.spaces (slot_at s n).directory) p)
+        (λ i. logical_by (not (n == 0) && live i) (counted (place_of k) (rows_of s.spaces (directory i))) p)
+        ∙ ap (λ (o : Option Entry). if is_clients n (slot_at s n) then o else None) (counts (rows_of s.spaces (slot_at s n).directory) p)
 
 rows_set : {names : Names} {s : KernelState} {a : AbstractState} → StandsFor names s a → (n : ℕ) (b : Born) → a.slots n ≡ born b → (k : Slot) →
     is_live_slot k ≡ is_live_slot (slot_at s n) → k.directory ≡ (slot_at s n).directory → CountsAlike (place_of (slot_at s n)) (place_of k) →
-    RowsStand names s.spaces.pages a.shared a.objects a.next_name (logical s.spaces (upd s.environments.slots n k))
+    RowsStand names s.spaces.pages a.shared a.objects a.next_name (server_row s.spaces s.environments.slots) (logical s.spaces (upd s.environments.slots n k))
 rows_set {s = s} h n b at k live directory counts =
     rows_same (logical s.spaces s.environments.slots) (logical s.spaces (upd s.environments.slots n k)) (set_counts s n k live directory counts) (rows_stand h)
 
@@ -198,8 +228,9 @@ slot_changed {names = names} {s = s} {a = a} h n b at k after directory settles 
           (ap (λ (x : Slot). borne_in (place_of x)) (upd-at s.environments.slots n k) ∙ plain_unborne (place_of k) plain_after));
       whole = rows.whole;
       free_slots = h.free_slots;
+      beside = beside_same (row_other s.spaces s.environments.slots n k (born_not_first h n b at)) rows.beside;
       first = upd-other a.slots n (born after) 0 (born_not_first h n b at) ∙ h.first;
-      server = h.server;
+      server = server_same (upd-other s.environments.slots n k 0 (born_not_first h n b at)) h.server;
       input = h.input;
       last = h.last;
       turns = h.turns;
@@ -222,9 +253,10 @@ slot_replaced {names = names} {s = s} {a = a} h n b at k directory settles count
       named = rows.named;
       users = rows.users;
       whole = rows.whole;
+      beside = beside_same (row_other s.spaces s.environments.slots n k (born_not_first h n b at)) rows.beside;
       free_slots = h.free_slots;
       first = h.first;
-      server = h.server;
+      server = server_same (upd-other s.environments.slots n k 0 (born_not_first h n b at)) h.server;
       input = h.input;
       last = h.last;
       turns = h.turns;
@@ -239,6 +271,14 @@ pub directories_apart : {names : Names} {s : KernelState} {a : AbstractState} �
     a.slots n ≡ born b → (m : ℕ) → m ≢ n → is_live (a.slots m) ≡ true → (slot_at s m).directory ≢ (slot_at s n).directory
 directories_apart h n b at m ne live same =
     ne (h.in_order.spaces.apart m n (live_stands h m ∙ live) (born_live (born_at h n b at)) same)
+
+-- nothing that is seen of the server's space changes where only an environment's does
+pub servers_seen : {names after : Names} {s : KernelState} {a : AbstractState} {sp : SpacesState} → StandsFor names s a →
+    (n : ℕ) (b : Born) → a.slots n ≡ born b → ((d : ℕ) → d ≢ (slot_at s n).directory → SeenAlike names after s.spaces sp d) →
+    SeenAlike names after s.spaces sp (slot_at s 0).directory
+servers_seen {s = s} h n b at same =
+    same (slot_at s 0).directory
+    (directories_apart h n b at 0 (born_not_first h n b at) (ap (λ (x : AbstractSlot). is_live x) h.first))
 
 -- where only one environment's space is seen to change, the others' slots stand for what they stood for
 pub others_stand : {names after : Names} {s : KernelState} {a : AbstractState} {sp : SpacesState} → StandsFor names s a →
@@ -271,6 +311,7 @@ printed_stands h bytes = record {
   named = h.named;
   users = h.users;
   whole = h.whole;
+  beside = h.beside;
   free_slots = h.free_slots;
   first = h.first;
   server = h.server;
@@ -311,9 +352,10 @@ turn_begun_stands {names = names} {s = s} {a = a} h n b at awake none =
       named = rows.named;
       users = rows.users;
       whole = rows.whole;
+      beside = beside_same (row_other s.spaces s.environments.slots n k (born_not_first h n b at)) rows.beside;
       free_slots = h.free_slots;
       first = h.first;
-      server = h.server;
+      server = server_same (upd-other s.environments.slots n k 0 (born_not_first h n b at)) h.server;
       input = h.input;
       last = refl;
       turns = ap (λ (t : ℕ). t + 1) h.turns;
@@ -343,6 +385,25 @@ running_awake Runnable false h is = tt
 running_awake NotRunnable true h is = absurd (let contradiction : false ≡ true = is in cc)
 running_awake _ _ h is = absurd h
 
+-- The server waits.
+pub server_waits : {names : Names} {s : KernelState} {a : AbstractState} → StandsFor names s a → (slot_at s 0).status ≡ NotRunnable
+server_waits {s = s} {a = a} h = by_server a.server h.server.status
+  where
+    by_server : (server : Server) → IsServerStatus server (slot_at s 0) → (slot_at s 0).status ≡ NotRunnable
+    by_server idle waits = waits
+    by_server _ waits = absurd waits
+
+-- It stands in slot 0.
+pub serves_first : {names : Names} {s : KernelState} {a : AbstractState} → StandsFor names s a → (n id : ℕ) → a.slots n ≡ serving id → 0 ≡ n
+serves_first {names = names} {s = s} {a = a} h n id at =
+    let so : StandsForServer (slot_at s n) id = subst (λ (slot : AbstractSlot). StandsForSlot names s.spaces (slot_at s n) slot) at (h.slots n) in
+    sym (ap (λ (i : ℕ). i % NENV) (so.id_is ∙ so.first)) ∙ h.tabled.ids n so.lives
+
+-- so whoever serves is neither RUNNING nor RUNNABLE
+pub serving_waits : {names : Names} {s : KernelState} {a : AbstractState} → StandsFor names s a → (n id : ℕ) → a.slots n ≡ serving id →
+    (slot_at s n).status ≡ NotRunnable
+serving_waits {s = s} h n id at = ap (λ (m : ℕ). (slot_at s m).status) (sym (serves_first h n id at)) ∙ server_waits h
+
 pub turn_ended_stands : {names : Names} {s : KernelState} {a : AbstractState} → StandsFor names s a → (n : ℕ) →
     StandsFor names (turn_ended s n) a
 turn_ended_stands {names = names} {s = s} {a = a} h n = by_running (is_running (slot_at s n).status) refl
@@ -358,7 +419,7 @@ turn_ended_stands {names = names} {s = s} {a = a} h n = by_running (is_running (
         (status_alike (slot_at s n) Runnable (slot_at s n).runs)
         (status_born (slot_at s n) b Runnable (slot_at s n).runs (running_awake (slot_at s n).status b.blocked so.runs running) so)
     by_slot running (serving id) at so =
-        absurd (let contradiction : true ≡ false = sym running ∙ ap (λ (x : Status). is_running x) so.status in cc)
+        absurd (let contradiction : true ≡ false = sym running ∙ ap (λ (x : Status). is_running x) (serving_waits h n id at) in cc)
 
     by_running : (c : Bool) → is_running (slot_at s n).status ≡ c → StandsFor names (if c then with_status s n Runnable else s) a
     by_running true is = by_slot is (a.slots n) refl (h.slots n)
@@ -390,9 +451,10 @@ quiet_stands {names = names} {s = s} {a = a} {sp = sp} h quiet in_order =
       named = rows.named;
       users = rows.users;
       whole = rows.whole;
+      beside = beside_same (ap (λ (r : Rows). r (slot_at s 0).directory) quiet.rows) rows.beside;
       free_slots = h.free_slots;
       first = h.first;
-      server = h.server;
+      server = server_alike (quiet_alike names quiet (slot_at s 0).directory) h.server;
       input = h.input;
       last = h.last;
       turns = h.turns;
@@ -407,7 +469,7 @@ pub own_moves : {names after : Names} {s : KernelState} {a : AbstractState} → 
     a.slots n ≡ born b → (sp : SpacesState) (k : Slot) (c : Born) (shared : ℕ → List ℕ) (next : ℕ) →
     k.directory ≡ (slot_at s n).directory → Settles (slot_at s n) k → borne_in (place_of (slot_at s n)) ≡ None → borne_in (place_of k) ≡ None →
     ((d : ℕ) → d ≢ (slot_at s n).directory → SeenAlike names after s.spaces sp d) → StandsForBorn after sp k c →
-    RowsStand after sp.pages shared a.objects next (logical sp (upd s.environments.slots n k)) →
+    RowsStand after sp.pages shared a.objects next (server_row s.spaces s.environments.slots) (logical sp (upd s.environments.slots n k)) →
     IsInOrder (with_slot_at (with_spaces s sp) n k) →
     StandsFor after (with_slot_at (with_spaces s sp) n k) (with_born (record a { shared = shared; next_name = next }) n c)
 own_moves {names = names} {after = after} {s = s} {a = a} h n b at sp k c shared next directory settles none none_after others mine rows in_order = record {
@@ -420,9 +482,10 @@ own_moves {names = names} {after = after} {s = s} {a = a} h n b at sp k c shared
   named = rows.named;
   users = rows.users;
   whole = rows.whole;
+  beside = beside_same (row_other sp s.environments.slots n k (born_not_first h n b at) ∙ (servers_seen h n b at others).rows) rows.beside;
   free_slots = h.free_slots;
   first = upd-other a.slots n (born c) 0 (born_not_first h n b at) ∙ h.first;
-  server = h.server;
+  server = server_same (upd-other s.environments.slots n k 0 (born_not_first h n b at)) (server_alike (servers_seen h n b at others) h.server);
   input = h.input;
   last = h.last;
   turns = h.turns;
@@ -434,7 +497,7 @@ own_moves {names = names} {after = after} {s = s} {a = a} h n b at sp k c shared
 pub space_moves : {names after : Names} {s : KernelState} {a : AbstractState} → StandsFor names s a → (n : ℕ) (b : Born) →
     a.slots n ≡ born b → (sp : SpacesState) (c : Born) (shared : ℕ → List ℕ) (next : ℕ) → borne_in (place_of (slot_at s n)) ≡ None →
     ((d : ℕ) → d ≢ (slot_at s n).directory → SeenAlike names after s.spaces sp d) → StandsForBorn after sp (slot_at s n) c →
-    RowsStand after sp.pages shared a.objects next (logical sp s.environments.slots) → IsInOrder (with_spaces s sp) →
+    RowsStand after sp.pages shared a.objects next (server_row s.spaces s.environments.slots) (logical sp s.environments.slots) → IsInOrder (with_spaces s sp) →
     StandsFor after (with_spaces s sp) (with_born (record a { shared = shared; next_name = next }) n c)
 space_moves {names = names} {after = after} {s = s} {a = a} h n b at sp c shared next none others mine rows in_order = record {
   slots = upd-all (λ m (y : AbstractSlot). StandsForSlot after sp (slot_at s m) y) a.slots n (born c) mine (others_stand h n b at others);
@@ -443,9 +506,10 @@ space_moves {names = names} {after = after} {s = s} {a = a} h n b at sp c shared
   named = rows.named;
   users = rows.users;
   whole = rows.whole;
+  beside = beside_same (servers_seen h n b at others).rows rows.beside;
   free_slots = h.free_slots;
   first = upd-other a.slots n (born c) 0 (born_not_first h n b at) ∙ h.first;
-  server = h.server;
+  server = server_alike (servers_seen h n b at others) h.server;
   input = h.input;
   last = h.last;
   turns = h.turns;

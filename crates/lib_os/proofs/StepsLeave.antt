@@ -4,13 +4,15 @@ use Rattle.jos_base.specs.declared.registers.Regs.{Regs}
 use Rattle.jos_base.specs.Environments.{Slot, is_live, no_extra}
 use Rattle.jos_base.specs.KernelState.{KernelState, slot_at, with_slot_at, with_extra}
 use Rattle.lib_os.specs.declared.progress.Progress.{Progress}
-use Rattle.lib_os.specs.LibrarySteps.{KeepsUses, Leaves, gone_back, service_answered}
+use Rattle.lib_os.specs.AbstractState.{AbstractState}
+use Rattle.lib_os.specs.LibrarySteps.{KeepsServer, KeepsUses, Leaves, Stands, gone_back, service_answered}
 use Rattle.lib_os.specs.UserCalls.{system}
 use Rattle.lib_os.proofs.UsesCalled.{system_found}
 use Rattle.lib_os.proofs.Leaving.{Left, put_left, system_left, wakes, running_calm}
 use Rattle.lib_os.proofs.NumbersKept.{KeepsCopies, KeepsOthers, copies_kept, numbers_kept, places_kept}
 use Rattle.lib_os.proofs.OthersCopies.{maps_no_copy, plain_wait}
 use Rattle.lib_os.proofs.OthersKept.{own_stay, system_stay, sets_others}
+use Rattle.lib_os.proofs.ServerLeft.{own_server, sends_aside, system_server}
 use Rattle.lib_os.proofs.StatesStand.{slot_was_in_order}
 
 -- Behind a call in which the environment did not wake itself: one that is in its turn, and waits for nothing, is not RUNNABLE. Each
@@ -20,25 +22,33 @@ pub record Behind (s : KernelState) (n : ℕ) (mid : KernelState) : Type 0 where
   pub used : KeepsUses n s mid
   pub others : KeepsOthers n s mid
   pub copies : KeepsCopies n s mid
+  pub server : KeepsServer n s mid
 
 pub behind : (s : KernelState) (n number : ℕ) (args : List ℕ) → wakes number ≡ false →
-    KeepsOthers n s (system s n number args).state → KeepsCopies n s (system s n number args).state → Behind s n (system s n number args).state
-behind s n number args asleep others copies =
+    KeepsOthers n s (system s n number args).state → KeepsCopies n s (system s n number args).state →
+    KeepsServer n s (system s n number args).state → Behind s n (system s n number args).state
+behind s n number args asleep others copies server =
     let h = system_left s n number args in record {
       left = record { rest = h.rest; calm = λ silent calm. h.calm (silent, asleep) calm };
       used = λ in_order live each. system_found s n number args in_order live each;
       others = others;
       copies = copies;
+      server = server;
     }
 
+-- Wherever the state stands for an abstract one, it sends nothing to the file server.
+abbrev pub SendsAside : KernelState → ℕ → List ℕ → Type 0
+SendsAside s number args = (a : AbstractState) → Stands s a → sends_aside number args ≡ true
+
 pub behind_calm : (s : KernelState) (n number : ℕ) (args : List ℕ) → wakes number ≡ false → sets_others number ≡ false →
-    KeepsCopies n s (system s n number args).state → Behind s n (system s n number args).state
-behind_calm s n number args asleep calm copies = behind s n number args asleep (λ before after live. system_stay s n number args calm) copies
+    KeepsCopies n s (system s n number args).state → SendsAside s number args → Behind s n (system s n number args).state
+behind_calm s n number args asleep calm copies aside =
+    behind s n number args asleep (λ before after live. system_stay s n number args calm) copies (system_server s n number args calm aside)
 
 pub behind_plain : (s : KernelState) (n number : ℕ) (args : List ℕ) → wakes number ≡ false → sets_others number ≡ false →
-    maps_no_copy number args ≡ true → Behind s n (system s n number args).state
-behind_plain s n number args asleep calm plain =
-    behind_calm s n number args asleep calm (copies_kept s (system s n number args).state n (plain_wait s n number args plain))
+    maps_no_copy number args ≡ true → SendsAside s number args → Behind s n (system s n number args).state
+behind_plain s n number args asleep calm plain aside =
+    behind_calm s n number args asleep calm (copies_kept s (system s n number args).state n (plain_wait s n number args plain)) aside
 
 -- its own slot is changed in what tells neither whether it is there, nor whether it may run, nor its space
 pub behind_own : (s : KernelState) (n : ℕ) (mid : KernelState) (slot : Slot) → slot.status ≡ (slot_at mid n).status →
@@ -49,6 +59,7 @@ behind_own s n mid slot status directory h = record {
   others = λ before after live.
       own_stay s n mid (h.others before (slot_was_in_order mid n slot (λ i. is_live (record slot { status = status i })) directory after) live) slot;
   copies = h.copies;
+  server = own_server s n mid slot status directory h.server;
 }
 
 -- ---- what follows it
@@ -63,6 +74,7 @@ stays s after n done h = record {
   uses = h.used;
   places = places_kept s after n h.others;
   numbers = numbers_kept s after n h.others h.copies;
+  server = h.server;
 }
 
 -- registers and no words, or an answer

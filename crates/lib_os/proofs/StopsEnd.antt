@@ -36,7 +36,7 @@ use Rattle.lib_os.proofs.FaultEnds.{access_of, access_refused, faulted_step}
 use Rattle.lib_os.proofs.Fences.{inside_below, inside_number}
 use Rattle.lib_os.proofs.Logical.{inside_programs, is_plain, logical_plain}
 use Rattle.lib_os.proofs.Serving.{service_step}
-use Rattle.lib_os.proofs.SlotsStand.{born_at, born_live}
+use Rattle.lib_os.proofs.StatesStand.{clients_live}
 
 -- ---- an access that a page refuses
 
@@ -88,7 +88,7 @@ module _ {names : Names} {s : KernelState} {a : AbstractState} (h : StandsFor na
   names_console plain fd below open_there =
       let x = some_is (row (descriptor_page fd)) open_there in
       let counts : logical s.spaces s.environments.slots n (descriptor_page fd) ≡ Some x.0 =
-      logical_plain s.spaces s.environments.slots n (born_live (born_at h n b at)) plain (descriptor_page fd) ∙ x.1 in
+      logical_plain s.spaces s.environments.slots n (clients_live h n b at) plain (descriptor_page fd) ∙ x.1 in
       let shared_page : is_shared x.0.perm ≡ true = ap is_shared (entry_bits h n b at fd x.0 below x.1) in
       let it = h.named n (descriptor_page fd) x.0 counts shared_page in
       let f : ℕ = x.0.frame in

@@ -1,6 +1,7 @@
 -- A kernel in which the server stands in slot 0 and a program at its first instruction in slot 1, and no other environment.
 use Rattle.std.proofs.Common.{◌≡◌, ◌≢◌, ◌∙◌, ◌⊎◌, inl, inr, ◌%◌, ◌==◌, ℕ, Bool, true, false, List, Option, None}
 use Rattle.std.proofs.Common.{refl, sym, ap, subst, arith, if◌then◌else◌}
+use Rattle.std.specs.Prelude.{is_some}
 use Rattle.std.proofs.lemmas.Bool.{false≢true}
 use Rattle.std.proofs.lemmas.Bool.Decides.{nat_tests}
 use Rattle.jos_base.specs.declared.environment.EnvType.TheVariants.{User, FileServer}
@@ -9,14 +10,15 @@ use Rattle.jos_base.specs.declared.numbers.TheConstants.{NENV}
 use Rattle.jos_base.specs.declared.registers.Regs.{Regs}
 use Rattle.jos_base.specs.Environments.{Slot, free_slot, no_extra, is_live, is_running}
 use Rattle.jos_base.specs.KernelState.{HasSpaces}
-use Rattle.jos_base.specs.SpacesState.{SpacesState, directories}
-use Rattle.lib_os.specs.AbstractState.{Born, AbstractSlot, free, born, serving, guest, at_guest}
+use Rattle.jos_base.specs.Reach.{Entry}
+use Rattle.jos_base.specs.SpacesState.{SpacesState, Region, directories}
+use Rattle.lib_os.specs.AbstractState.{Born, AbstractSlot, free, born, serving, guest, at_guest, idle, TablePlace}
 use Rattle.lib_os.specs.declared.numbers.TheConstants.{PGFAULT_UPCALL}
 use Rattle.lib_os.specs.declared.place.Place.{Place}
 use Rattle.lib_os.specs.LibraryPages.{View}
 use Rattle.lib_os.specs.Places.{place_of, is_handlers}
 use Rattle.lib_os.specs.Rows.{Names, rows_of}
-use Rattle.lib_os.specs.StandsFor.{StandsForSlot, StandsForServer, StandsForBorn, StandsAt, IsTabled}
+use Rattle.lib_os.specs.StandsFor.{StandsForSlot, StandsForServer, HasServer, StandsForBorn, StandsAt, IsTabled}
 use Rattle.lib_os.proofs.Serving.{words_of_none}
 
 -- every slot is one of three
@@ -114,21 +116,27 @@ module _ (first second : ℕ) (registers : Regs) where
       subst (λ (p : Place). StandsAt p v the_program b) (sym (words_of_none registers no_extra outside refl))
       (record { program = program_is; phase = phase; words = refl; silent = refl; awake = awake })
 
-  pub server_stands : (spaces : SpacesState) → ((p : ℕ) → rows_of spaces first p ≡ None) → ((r : ℕ) → spaces.regions first r ≡ None) →
-      StandsForServer spaces the_server 0x1000
-  server_stands spaces empty tables = record {
+  pub server_stands : StandsForServer the_server 0x1000
+  server_stands = record {
     first = refl;
     id_is = refl;
+    lives = refl;
+    parent = refl;
     env_type = refl;
-    status = refl;
-    silent = refl;
     words = refl;
     stack = refl;
-    empty = empty;
-    tables = tables;
   }
 
-  pub slot_stands : (names : Names) (spaces : SpacesState) (b : Born) → StandsForServer spaces the_server 0x1000 →
+  -- the server has neither pages nor tables
+  pub server_has : (spaces : SpacesState) → ((p : ℕ) → rows_of spaces first p ≡ None) → ((r : ℕ) → spaces.regions first r ≡ None) →
+      (opened : ℕ → TablePlace) (blocks : ℕ) → HasServer spaces the_server opened blocks idle
+  server_has spaces empty tables opened blocks = record {
+    status = refl;
+    pages = λ p is. absurd (false≢true (sym (ap (λ (o : Option Entry). is_some o) (empty p)) ∙ is));
+    tables = λ r is. absurd (false≢true (sym (ap (λ (o : Option Region). is_some o) (tables r)) ∙ is));
+  }
+
+  pub slot_stands : (names : Names) (spaces : SpacesState) (b : Born) → StandsForServer the_server 0x1000 →
       StandsForBorn names spaces the_program b → (n : ℕ) → StandsForSlot names spaces (slots n) (slot_of b n)
   slot_stands names spaces b serves stands =
       each_slot (λ n k. StandsForSlot names spaces k (slot_of b n)) serves stands (λ n a b. rw (a, b) refl)

@@ -84,7 +84,7 @@ address_below va test = page_below va (by_tests (va % PGSIZE == 0) (nat_lt va UT
 
 -- ---- who is found
 
-found_lives : (e : Environments) (id caller m : ℕ) (control : Bool) → is_live (e.slots caller) ≡ true →
+pub found_lives : (e : Environments) (id caller m : ℕ) (control : Bool) → is_live (e.slots caller) ≡ true →
     found e id caller control ≡ Some m →
     is_live (e.slots m) ≡ true
 unfolding found

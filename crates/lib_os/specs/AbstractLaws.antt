@@ -1,17 +1,22 @@
 -- What the abstract system means: a fork copies, what is an environment's own is seen by no other, what is shared is
--- one page, a write leaves a pipe with no more than it can hold, and a step of one environment leaves the others.
-use Rattle.std.specs.Prelude.{◌≡◌, ◌≢◌, ◌≤◌, ℕ, Bool, true, false, List, length, Some, IfSome, slice_set}
+-- one page, a write leaves a pipe with no more than it can hold, and a step of one environment leaves the others and what
+-- the file server has.
+use Rattle.std.specs.Prelude.{◌≡◌, ◌≢◌, ◌≤◌, ◌<◌, ◌⊎◌, ℕ, Bool, true, false, List, length, Some, IfSome, slice_set, ⊤}
 use Rattle.jos_base.specs.declared.registers.Regs.{Regs}
+use Rattle.jos_base.specs.declared.numbers.TheConstants.{NENV}
 use Rattle.jos_base.specs.Words.{page_offset, upd}
 use Rattle.jos_cpu.specs.Memory.{IsLawful}
 use Rattle.lib_os.specs.declared.numbers.TheConstants.{PIPEBUFSIZ}
 use Rattle.lib_os.specs.declared.service.Service.{Service}
 use Rattle.lib_os.specs.declared.service.Service.TheVariants as service
-use Rattle.lib_os.specs.AbstractState.{AbstractState, Born, born, own, named, slot_id, Phase, in_service}
+use Rattle.lib_os.specs.AbstractState.{AbstractState, Born, born, own, named, slot_id, Phase, in_service, Object, file}
+use Rattle.lib_os.specs.AbstractState.{Request, idle}
 use Rattle.lib_os.specs.AbstractMemory.{page_at, stored}
 use Rattle.lib_os.specs.GuestStep.{guest_memory}
 use Rattle.lib_os.specs.AbstractFork.{child_of, bear}
 use Rattle.lib_os.specs.AbstractPipes.{write_pipe}
+use Rattle.lib_os.specs.Descriptors.{is_held}
+use Rattle.lib_os.specs.FileServer.{request_begun}
 use Rattle.lib_os.specs.AbstractRun.{abs_step}
 
 -- The child is born with the memory that its parent has.
@@ -58,3 +63,30 @@ abbrev pub StepsLeaveOthers : Type 0
 StepsLeaveOthers = (a : AbstractState) (n m : ℕ) (b : Born) →
     m ≢ n → a.slots n ≡ born b → is_about_others b.phase ≡ false →
     IfSome (abs_step a n) (λ after. after.slots m ≡ a.slots m)
+
+abbrev pub IsNoFile : Object → Type 0
+IsNoFile (file f) = ⊥
+IsNoFile _ = ⊤
+
+-- a name that is given by the step, and to no file
+abbrev pub IsNewName : AbstractState → AbstractState → ℕ → Type 0
+IsNewName a after name = (a.next_name ≤ name) × (name < after.next_name) × IsNoFile (after.objects name)
+
+-- What a step of an environment leaves of what the file server has: the files, the table of open files, and the objects
+-- that there were. What an environment has a descriptor for, one had a descriptor for before, or it is new and no file.
+pub record LeavesFiles (a after : AbstractState) : Type 0 where
+  pub files : after.files ≡ a.files
+  pub opened : after.opened ≡ a.opened
+  pub names : a.next_name ≤ after.next_name
+  pub objects : (name : ℕ) → name < a.next_name → after.objects name ≡ a.objects name
+  pub held : (name : ℕ) → is_held after name ≡ true → (is_held a name ≡ true) ⊎ IsNewName a after name
+
+-- The server is as it was, or the environment in slot n has asked it while it was idle.
+pub data AsksOrLeaves (a after : AbstractState) (n : ℕ) : Type 0 where
+  leaves : after.server ≡ a.server → AsksOrLeaves a after n
+  asks : (request : Request) → a.server ≡ idle → after.server ≡ request_begun n request → AsksOrLeaves a after n
+
+-- A step of an environment leaves the files, the table of open files and the server, but that it may ask.
+abbrev pub ClientsLeaveFiles : Type 0
+ClientsLeaveFiles = (a : AbstractState) (n : ℕ) (b : Born) → n < NENV → a.slots n ≡ born b →
+    IfSome (abs_step a n) (λ after. LeavesFiles a after × AsksOrLeaves a after n)

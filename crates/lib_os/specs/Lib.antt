@@ -28,3 +28,4 @@ pub mod LibrarySteps
 pub mod Need
 pub mod StandingLaws
 pub mod UserCalls
+pub mod MadeCalls

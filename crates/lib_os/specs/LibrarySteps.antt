@@ -268,6 +268,18 @@ KeepsNumbers n before after =
     IsInOrder after → is_live (slot_at before n) ≡ true → (a : AbstractState) → Stands before a →
     (m : ℕ) (b : Born) → m ≢ n → a.slots m ≡ born b → is_live (slot_at after m) ≡ true → hidden_left after m ≤ hidden_left before m
 
+-- What is left to the file server: it stands where it stood, in the same space, and its pages hold what they held.
+pub record LeavesServer (before after : KernelState) : Type 0 where
+  pub slot : slot_at after 0 ≡ slot_at before 0
+  pub entries : (p : ℕ) → after.spaces.entries (slot_at before 0).directory p ≡ before.spaces.entries (slot_at before 0).directory p
+  pub regions : (r : ℕ) → after.spaces.regions (slot_at before 0).directory r ≡ before.spaces.regions (slot_at before 0).directory r
+  pub pages : (p : ℕ) (e : Entry) → before.spaces.entries (slot_at before 0).directory p ≡ Some e → after.spaces.pages e.frame ≡ before.spaces.pages e.frame
+
+-- Where the state stands for an abstract one, the step of another environment leaves that.
+abbrev pub KeepsServer : ℕ → KernelState → KernelState → Type 0
+KeepsServer n before after =
+    IsInOrder after → n ≢ 0 → is_live (slot_at before n) ≡ true → (a : AbstractState) → Stands before a → LeavesServer before after
+
 -- What a step leaves to the one whose step it is and to the others. Its turn is kept where the state stands for an abstract one.
 pub record LeavesEach (done : Progress) (n : ℕ) (before after : KernelState) : Type 0 where
   pub rest : LeavesRest before after
@@ -275,6 +287,7 @@ pub record LeavesEach (done : Progress) (n : ℕ) (before after : KernelState) :
   pub uses : KeepsUses n before after
   pub places : KeepsPlaces n before after
   pub numbers : KeepsNumbers n before after
+  pub server : KeepsServer n before after
 
 -- Where the host failed nothing is said.
 abbrev pub Leaves : Result Progress Failed → ℕ → KernelState → KernelState → Type 0

@@ -1,7 +1,7 @@
 -- The pages of address spaces as the library sees them: what an entry is to its environment, and how entries count where they
 -- are counted together, be a page on its way from one place to another.
 -- (MIT 6.828, lib/fork.c: PTE_COW; inc/lib.h: PTE_SHARE.)
-use Rattle.std.specs.Prelude.{◌≡◌, ◌<◌, ℕ, ◌+◌, ◌*◌, ◌==◌, ◌&&◌, ◌||◌, nat_le, nat_lt, Bool, true, false, List, Option, None, Some}
+use Rattle.std.specs.Prelude.{◌≡◌, ◌≢◌, ◌<◌, ℕ, ◌+◌, ◌*◌, ◌==◌, ◌&&◌, ◌||◌, nat_le, nat_lt, not, Bool, true, false, List, Option, None, Some}
 use Rattle.std.specs.Prelude.{bit_and, length, slice_index, if◌then◌else◌}
 use Rattle.std.specs.Option.{option_map}
 use Rattle.jos_base.specs.declared.numbers.TheConstants.{FDTABLE, PGSIZE, PTE_P, PTE_SYSCALL, PTE_U, PTE_W}
@@ -115,12 +115,19 @@ counted (place.InHandler (handler.Unmapping va)) row p = if p == page_number PFT
 counted (place.InService service.Fork (step.Remap id page)) row p = if p == page then option_map as_cow (row p) else row p
 counted _ row p = row p
 
--- of each slot that is live, as they count at its place
+-- of each slot that is live, as they count at its place; those of the file server, which stands in slot 0, do not count here
 abbrev pub logical_by : Bool → EntryRow → EntryRow
-logical_by live row p = if live then row p else None
+logical_by counts row p = if counts then row p else None
+
+abbrev pub is_clients : ℕ → Slot → Bool
+is_clients n k = not (n == 0) && is_live k
 
 abbrev pub logical : SpacesState → (ℕ → Slot) → Rows
-logical s slots n = logical_by (is_live (slots n)) (counted (place_of (slots n)) (rows_of s (slots n).directory))
+logical s slots n = logical_by (is_clients n (slots n)) (counted (place_of (slots n)) (rows_of s (slots n).directory))
+
+-- and what the pages of the file server are
+abbrev pub server_row : SpacesState → (ℕ → Slot) → EntryRow
+server_row s slots = rows_of s (slots 0).directory
 
 -- ---- frames
 
@@ -133,6 +140,10 @@ pub record Agree (x y : ℕ) : Type 0 where
 abbrev pub AgreeWhereShared : Rows → Type 0
 AgreeWhereShared rows = (d p e q : ℕ) (x y : Entry) → (d ≡ e → p ≡ q → ⊥) → rows d p ≡ Some x → rows e q ≡ Some y →
     x.frame ≡ y.frame → Agree x.perm y.perm
+
+-- No page of the file server is a client's too. (As far as services are built.)
+abbrev pub AreBeside : EntryRow → Rows → Type 0
+AreBeside server rows = (n p q : ℕ) (x e : Entry) → rows n p ≡ Some x → server q ≡ Some e → x.frame ≢ e.frame
 
 -- what a name says of bytes: they are those of a page, or tell an object
 abbrev pub ShowsBy : Bool → List ℕ → Object → List ℕ → Type 0

@@ -2,7 +2,7 @@
 -- with its registers, its place in a service and its pages; one of each frame, with the entries that name it; and one of
 -- what is there once. Nothing here speaks of steps. (That the library keeps this is what its steps promise, in
 -- `LibrarySteps.antt`. As far as services are built: what a descriptor names is the console, and there are no files.)
-use Rattle.std.specs.Prelude.{◌≡◌, ◌≢◌, ◌<◌, ◌≤◌, ℕ, ◌+◌, ◌-◌, ◌*◌, ◌/◌, ◌%◌, ◌^◌, ◌==◌, ◌||◌, nat_le, nat_lt, not, Bool, true, false}
+use Rattle.std.specs.Prelude.{◌≡◌, ◌≢◌, ◌<◌, ◌≤◌, ℕ, ◌+◌, ◌-◌, ◌*◌, ◌/◌, ◌%◌, ◌^◌, ◌==◌, ◌&&◌, ◌||◌, nat_le, nat_lt, not, Bool, true, false}
 use Rattle.std.specs.Prelude.{is_some, List, [], ◌∷◌, Option, Some, None}
 use Rattle.std.specs.Prelude.{length, take, drop, slice_index, if◌then◌else◌}
 use Rattle.std.specs.Int.{w32, to_le_bytes}
@@ -19,7 +19,8 @@ use Rattle.jos_base.specs.SpacesState.{SpacesState}
 use Rattle.jos_base.specs.SystemCalls.{has_write}
 use Rattle.jos_base.specs.TrapFrames.{user_flags}
 use Rattle.jos_base.specs.Words.{page_number}
-use Rattle.lib_os.specs.declared.numbers.TheConstants.{DESCRIPTORS, PGFAULT_UPCALL, UXSTACK}
+use Rattle.lib_os.specs.declared.numbers.TheConstants.{DESCRIPTORS, DISKMAP, MAXOPEN, OPEN_RECORDS, PGFAULT_UPCALL, REQUEST, UXSTACK}
+use Rattle.fs_layout.specs.declared.numbers.TheConstants.{MAXBLOCKS}
 use Rattle.lib_os.specs.declared.place.HandlerStep.TheVariants as handler
 use Rattle.lib_os.specs.declared.place.Place.{Place}
 use Rattle.lib_os.specs.declared.place.Place.TheVariants as place
@@ -27,17 +28,17 @@ use Rattle.lib_os.specs.declared.place.Step.{Step}
 use Rattle.lib_os.specs.declared.place.Step.TheVariants as step
 use Rattle.lib_os.specs.declared.service.Service.{Service}
 use Rattle.lib_os.specs.declared.service.Service.TheVariants as service
-use Rattle.lib_os.specs.AbstractState.{AbstractState, Born, AbstractSlot, free, unborn, born, serving, idle}
+use Rattle.lib_os.specs.AbstractState.{AbstractState, Born, AbstractSlot, free, unborn, born, serving, Server, idle, TablePlace}
 use Rattle.lib_os.specs.AbstractState.{Stage, bearing, entered, gathering, receiving, received, Message, guest, at_guest, in_service}
 use Rattle.lib_os.specs.AbstractMemory.{has_page_in}
 use Rattle.lib_os.specs.AbstractMessages.{is_page_or_none}
 use Rattle.lib_os.specs.Fence.{is_page_inside, is_resident}
 use Rattle.lib_os.specs.InOrder.{IsInOrder}
 use Rattle.lib_os.specs.LibraryPages.{View, IsOwnWritable, LibraryPages, is_library_region, region_index}
-use Rattle.lib_os.specs.Places.{place_of, is_handlers}
+use Rattle.lib_os.specs.Places.{place_of, is_handlers, service_word}
 use Rattle.lib_os.specs.Rows.{EntryRow, Names, rows_of, page_seen, logical, is_programs, is_shared, may_write, cow_perm}
 use Rattle.lib_os.specs.Rows.{descriptor_page, descriptor_seen, is_descriptor}
-use Rattle.lib_os.specs.Rows.{AgreeWhereShared, AreBytes, AreNamed, AreUsers, IsUsers, AreWhole}
+use Rattle.lib_os.specs.Rows.{AgreeWhereShared, AreBytes, AreNamed, AreBeside, AreUsers, IsUsers, AreWhole, server_row}
 use Rattle.lib_os.specs.StandsInHandler.{IsAtGuest, IsInHandler, IsGiven, WantsMore, StandsDelivering, StandsPutting, buffer_of, wanted_of}
 use Rattle.lib_os.specs.StandsInHandler.{is_refused_by, next_page}
 
@@ -465,23 +466,48 @@ pub record HasChildren (names : Names) (s : SpacesState) (slots : ℕ → Slot) 
       IsBorne names s (slots (parent % NENV)) (abstract (parent % NENV)) (slots m) id parent
   pub have : (n id : ℕ) (b : Born) → abstract n ≡ born b → borne_in (place_of (slots n)) ≡ Some id → abstract (id % NENV) ≡ unborn id b.id
 
--- the file server, which nobody has asked for anything: it has a space without pages and tables, and never runs
-pub record StandsForServer (s : SpacesState) (k : Slot) (id : ℕ) : Type 0 where
+-- ---- the file server
+
+-- A page with this number may be the file server's: that of a request, that of the records' places, that of a place of the table of open
+-- files which was ever taken, or that of a block of the disk.
+abbrev pub is_servers_page : (ℕ → TablePlace) → ℕ → ℕ → Bool
+is_servers_page opened blocks p =
+    (p == page_number REQUEST) || (p == page_number OPEN_RECORDS)
+    || (nat_le (page_number FDTABLE) p && nat_lt p (page_number FDTABLE + MAXOPEN) && (opened (p - page_number FDTABLE)).used)
+    || (nat_le (page_number DISKMAP) p && nat_lt p (page_number DISKMAP + blocks))
+
+-- Its space may have tables for these regions.
+abbrev pub is_servers_region : ℕ → Bool
+is_servers_region r =
+    (r == region_index REQUEST) || (r == region_index FDTABLE)
+    || (nat_le (region_index DISKMAP) r && nat_lt r (region_index DISKMAP + MAXBLOCKS / NPTENTRIES))
+
+-- It waits for a request. (As far as services are built nobody asks it anything, and it never runs.)
+abbrev pub IsServerStatus : Server → Slot → Type 0
+IsServerStatus idle k = k.status ≡ NotRunnable
+IsServerStatus _ k = ⊥
+
+-- its slot, in which no service stands
+pub record StandsForServer (k : Slot) (id : ℕ) : Type 0 where
   pub first : id ≡ FIRST_ENV_ID
   pub id_is : k.id ≡ id
+  pub lives : is_live k ≡ true
+  pub parent : k.parent ≡ 0
   pub env_type : k.env_type ≡ FileServer
-  pub status : k.status ≡ NotRunnable
-  pub silent : k.rendezvous.receiving ≡ false
-  pub words : k.extra ≡ no_extra
+  pub words : service_word k.extra ≡ 0
   pub stack : is_handlers k.registers.esp ≡ false
-  pub empty : (p : ℕ) → rows_of s k.directory p ≡ None
-  pub tables : (r : ℕ) → s.regions k.directory r ≡ None
+
+-- what it does, and what it has
+pub record HasServer (s : SpacesState) (k : Slot) (opened : ℕ → TablePlace) (blocks : ℕ) (server : Server) : Type 0 where
+  pub status : IsServerStatus server k
+  pub pages : (p : ℕ) → is_some (rows_of s k.directory p) ≡ true → is_servers_page opened blocks p ≡ true
+  pub tables : (r : ℕ) → is_some (s.regions k.directory r) ≡ true → is_servers_region r ≡ true
 
 abbrev pub StandsForSlot : Names → SpacesState → Slot → AbstractSlot → Type 0
 StandsForSlot names s k (free id) = k ≡ free_slot id
 StandsForSlot names s k (unborn id parent) = StandsForUnborn k id parent
 StandsForSlot names s k (born b) = StandsForBorn names s k b
-StandsForSlot names s k (serving id) = StandsForServer s k id
+StandsForSlot names s k (serving id) = StandsForServer k id
 
 -- ---- the table
 
@@ -512,10 +538,11 @@ pub record StandsFor (names : Names) (s : KernelState) (a : AbstractState) : Typ
   pub named : AreNamed names s.spaces.pages a.shared a.objects a.next_name (logical s.spaces s.environments.slots)
   pub users : AreUsers (logical s.spaces s.environments.slots)
   pub whole : AreWhole s.spaces.pages (logical s.spaces s.environments.slots)
+  pub beside : AreBeside (server_row s.spaces s.environments.slots) (logical s.spaces s.environments.slots)
   -- what is there once
   pub free_slots : AreFreeSlots s.environments.free_slots a.free_slots
   pub first : a.slots 0 ≡ serving FIRST_ENV_ID
-  pub server : a.server ≡ idle
+  pub server : HasServer s.spaces (slot_at s 0) a.opened a.files.blocks a.server
   pub input : (s.input ≡ a.input) × AreBytes a.input
   pub last : s.last ≡ a.last
   pub turns : s.turns ≡ a.turns

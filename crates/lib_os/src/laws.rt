@@ -1,7 +1,7 @@
 //! What the abstract system means. Nothing here is to be run: each clause is a theorem.
 
 ghost use Rattle.lib_os.specs.AbstractLaws.{ForkCopies, OwnStoresAreUnseen, SharedStoresAreSeen, PipesAreBounded};
-ghost use Rattle.lib_os.specs.AbstractLaws.{GuestMemoryIsLawful, StepsLeaveOthers};
+ghost use Rattle.lib_os.specs.AbstractLaws.{GuestMemoryIsLawful, StepsLeaveOthers, ClientsLeaveFiles};
 ghost use Rattle.lib_os.specs.Need.{NeedIsReached};
 ghost use Rattle.lib_os.specs.StandingLaws.{SomeStateStands, SomeCopyStands, WordsTellThePlace, RegistersTellThePlace};
 
@@ -30,6 +30,12 @@ pub fn guest_memory_is_lawful()
 /// A step of an environment leaves every other slot as it was, where it sends no message and forks no child.
 pub fn steps_leave_others()
     ensures { StepsLeaveOthers }
+{}
+
+/// A step of an environment leaves the files, the table of open files and the objects that there were, and the file server
+/// but where it asks that; and no environment has a descriptor for a file for which none had one before.
+pub fn clients_leave_files()
+    ensures { ClientsLeaveFiles }
 {}
 
 /// There are states of the kernel that stand for abstract ones, also such in which an environment's page is half copied.

@@ -30,8 +30,9 @@ mod user_os;
 pub use answers::{answer, answer_of, go_back, go_on, stopped};
 pub use fence::{in_fence, is_buffer, is_page_inside, is_resident};
 pub use laws::{
-    fork_copies, guest_memory_is_lawful, need_is_reached, pages_are_own_or_shared,
-    pipes_are_bounded, some_state_stands, steps_leave_others, words_tell_the_place,
+    clients_leave_files, fork_copies, guest_memory_is_lawful, need_is_reached,
+    pages_are_own_or_shared, pipes_are_bounded, some_state_stands, steps_leave_others,
+    words_tell_the_place,
 };
 pub use numbers::{
     CACHE_BLOCKS, DESCRIPTORS, DEVICE_CONSOLE, DEVICE_FILE, DISKMAP, FD_DEVICE, FD_FILE, FD_MODE,

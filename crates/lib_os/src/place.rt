@@ -21,7 +21,7 @@ use crate::service::{Service, service_of};
 use jos_base::{Extra, Regs, UXSTACKTOP};
 
 /// How far a service is. What it has found out so far stands beside, as words.
-#[derive(Clone, Copy, Debug, PartialEq, Eq)]
+#[derive(Clone, Copy, Debug)]
 pub enum Step {
     /// Nothing is done yet.
     Entered,
@@ -94,7 +94,7 @@ pub enum Step {
 
 /// How far the handler of page faults is, with what it has found out: the address of the fault, its error code, the address of
 /// the instruction that raised it, and which word of the page it copies, with the word.
-#[derive(Clone, Copy, Debug, PartialEq, Eq)]
+#[derive(Clone, Copy, Debug)]
 pub enum HandlerStep {
     /// It is about to read the address.
     Entered,
@@ -123,7 +123,7 @@ pub enum HandlerStep {
 }
 
 /// Where an environment stands.
-#[derive(Clone, Copy, Debug, PartialEq, Eq)]
+#[derive(Clone, Copy, Debug)]
 pub enum Place {
     /// At its program's next instruction.
     Guest,

@@ -13,7 +13,7 @@ use jos_base::Regs;
 
 /// A service with what it is given. Addresses and ids are words, as the program has them in its registers. Those that
 /// open, read and write follow MIT 6.828, inc/lib.h.
-#[derive(Clone, Copy, Debug, PartialEq, Eq)]
+#[derive(Clone, Copy, Debug)]
 pub enum Service {
     /// Drops all descriptors, and ends the environment.
     Exit,

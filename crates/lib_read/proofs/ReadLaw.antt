@@ -96,6 +96,7 @@ taken_stands h rest small = record {
   named = h.named;
   users = h.users;
   whole = h.whole;
+  beside = h.beside;
   free_slots = h.free_slots;
   first = h.first;
   server = h.server;

@@ -22,7 +22,7 @@ use Rattle.lib_os.specs.AbstractRun.{abs_step}
 use Rattle.lib_os.specs.AbstractState.{AbstractState, Born}
 use Rattle.lib_os.specs.InOrder.{IsInOrder}
 use Rattle.lib_os.specs.Need.{EachHasUse}
-use Rattle.lib_os.specs.LibrarySteps.{Stands, AbstractFollows, KeepsStanding, KeepsUses, Leaves, LeavesRest, Lowers, counts_copies, is_pausing}
+use Rattle.lib_os.specs.LibrarySteps.{Stands, AbstractFollows, KeepsServer, KeepsStanding, KeepsUses, Leaves, LeavesRest, Lowers, counts_copies, is_pausing}
 use Rattle.lib_os.specs.LibrarySteps.{copy_steps, most_copy_steps, steps_left, copies_left, left_at, hidden_left, frames_asked, frames_at}
 use Rattle.lib_os.specs.LibraryPages.{View}
 use Rattle.lib_os.specs.Places.{place_of, words_at, handler_registers}
@@ -44,7 +44,10 @@ use Rattle.lib_os.proofs.Slots.{slots_alike}
 use Rattle.lib_os.proofs.Loading.{loaded, loaded_state, GivesWord}
 use Rattle.lib_os.proofs.Numbered.{number_of}
 use Rattle.lib_os.proofs.Serving.{served}
-use Rattle.lib_os.proofs.StepsLeave.{Behind, behind, behind_calm, behind_plain, behind_own, answers, goes_back, goes_on, stays}
+use Rattle.lib_os.proofs.ServerLeft.{IsAside, ServerStays, aside_asked, asked_before, keeps_server, own_server, sends_aside}
+use Rattle.lib_os.proofs.ServerLeft.{exofork_server, system_server, load_server, load_byte_server, store_server, store_byte_server}
+use Rattle.lib_os.proofs.ServerLeft.{exchange_server, restore_server}
+use Rattle.lib_os.proofs.StepsLeave.{Behind, SendsAside, behind, behind_calm, behind_plain, behind_own, answers, goes_back, goes_on, stays}
 use Rattle.lib_os.proofs.Trying.{IsAnswered, LivesOn}
 use Rattle.lib_os.proofs.UsesCalled.{load_found, load_byte_found, store_found, store_byte_found, exchange_found}
 use Rattle.lib_os.proofs.UsesCalled.{restore_frame_found, system_found}
@@ -65,15 +68,20 @@ abbrev pub is_calm : Ask → Bool
 is_calm (ask.System number args) = not (wakes number) && not (sets_others number)
 is_calm _ = true
 
--- and in which it maps into no other space a page that waits to be copied
+-- and in which it sends nothing to the file server, and maps into no other space a page that waits to be copied
 abbrev pub is_plain : Ask → Bool
-is_plain (ask.System number args) = (not (wakes number) && not (sets_others number)) && maps_no_copy number args
+is_plain (ask.System number args) = (not (wakes number) && not (sets_others number)) && (sends_aside number args && maps_no_copy number args)
 is_plain _ = true
 
--- a plain one, or one of which it is known by where the service stands that others' pages are left
+-- the same of the file server alone, wherever the state stands for an abstract one
+abbrev pub IsAsideAsk : KernelState → Ask → Type 0
+IsAsideAsk s (ask.System number args) = SendsAside s number args
+IsAsideAsk s _ = Unit {0}
+
+-- a plain one, or one of which it is known by where the service stands that others' pages and the file server are left
 pub data IsPlain (s : KernelState) (n : ℕ) (a : Ask) : Type 0 where
   plainly : is_plain a ≡ true → IsPlain s n a
-  knowingly : is_calm a ≡ true → KeepsCopies n s (performed s n a).state → IsPlain s n a
+  knowingly : is_calm a ≡ true → KeepsCopies n s (performed s n a).state → IsAsideAsk s a → IsPlain s n a
 
 neither : (t u : Bool) → not t && not u ≡ true → (t ≡ false) × (u ≡ false)
 neither false false is = (refl, refl)
@@ -83,8 +91,9 @@ neither true u is = absurd (let contradiction : false ≡ true = is in cc)
 -- the environment stands at an instruction before
 moved_behind : (s : KernelState) (n ip : ℕ) (after : KernelState) → Left (Unit {0}) (at_instruction s n ip) n after →
     (IsInOrder s → EachHasUse s.spaces → EachHasUse after.spaces) → OthersStay (at_instruction s n ip) n after →
-    NoMoreWait (IsBeside s n) s.spaces after.spaces → Behind s n after
-moved_behind s n ip after h used others wait = record {
+    NoMoreWait (IsBeside s n) s.spaces after.spaces →
+    ((d : ℕ) → IsAside d (at_instruction s n ip) n → ServerStays d (at_instruction s n ip) after) → Behind s n after
+moved_behind s n ip after h used others wait server = record {
   left = record {
     rest = record { last = h.rest.last; turns = h.rest.turns; frames = h.rest.frames; refused = h.rest.refused; told = h.rest.told };
     calm = λ p calm. h.calm tt (
@@ -96,67 +105,79 @@ moved_behind s n ip after h used others wait = record {
   others = λ before then_so live.
       own_before s n (record (slot_at s n) { registers = record (slot_at s n).registers { eip = ip } }) after others;
   copies = copies_kept s after n wait;
+  server = keeps_server s after n
+      (λ order d aside. let regs = record (slot_at s n).registers { eip = ip } in
+      asked_before d s n regs after aside.other (server d (aside_asked d s n regs aside)));
 }
 
 -- an access
 reached_behind : (s : KernelState) (n : ℕ) (after : KernelState) → Left ((slot_at s n).rendezvous.receiving ≡ false) s n after →
     (IsInOrder s → EachHasUse s.spaces → EachHasUse after.spaces) → OthersStay s n after →
-    NoMoreWait (IsBeside s n) s.spaces after.spaces → Behind s n after
-reached_behind s n after h used others wait = record {
+    NoMoreWait (IsBeside s n) s.spaces after.spaces → ((d : ℕ) → IsAside d s n → ServerStays d s after) → Behind s n after
+reached_behind s n after h used others wait server = record {
   left = h;
   used = λ in_order live each. used in_order each;
   others = λ before then_so live. others;
   copies = copies_kept s after n wait;
+  server = keeps_server s after n (λ order d aside. server d aside);
 }
 
 pub plain_behind : (s : KernelState) (n : ℕ) (a : Ask) → is_plain a ≡ true → Behind s n (performed s n a).state
 unfolding performed
 plain_behind s n (ask.System number args) plain =
-    let parts = and_parts (not (wakes number) && not (sets_others number)) (maps_no_copy number args) plain in
+    let parts = and_parts (not (wakes number) && not (sets_others number)) (sends_aside number args && maps_no_copy number args) plain in
+    let rest = and_parts (sends_aside number args) (maps_no_copy number args) parts.1 in
     let both = neither (wakes number) (sets_others number) parts.0 in
-    behind_plain s n number args both.0 both.1 parts.1
+    behind_plain s n number args both.0 both.1 rest.1 (λ a h. rest.0)
 plain_behind s n ask.Exofork plain =
     behind s n SYS_EXOFORK (as_given (slot_at s n).registers) refl (λ before then_so live. exofork_stays s n before live then_so)
     (copies_kept s (system s n SYS_EXOFORK (as_given (slot_at s n).registers)).state n
-    (plain_wait s n SYS_EXOFORK (as_given (slot_at s n).registers) refl))
+    (plain_wait s n SYS_EXOFORK (as_given (slot_at s n).registers) refl)) (exofork_server s n)
 plain_behind s n (ask.Load va) plain =
     reached_behind s n _ (load_left _ s n va) (λ in_order each. load_found s n in_order.frames each va) (load_stay s n va) (load_wait _ s n va)
+    (λ d aside. load_server d s n aside va)
 plain_behind s n (ask.LoadByte va) plain =
-    reached_behind s n _ (load_byte_left _ s n va) (λ in_order each. load_byte_found s n in_order.frames each va) (load_byte_stay s n va) (load_byte_wait _ s n va)
+    reached_behind s n _ (load_byte_left _ s n va) (λ in_order each. load_byte_found s n in_order.frames each va) (load_byte_stay s n va)
+    (load_byte_wait _ s n va) (λ d aside. load_byte_server d s n aside va)
 plain_behind s n (ask.Store va word) plain =
-    reached_behind s n _ (store_left _ s n va word) (λ in_order each. store_found s n in_order.frames each va word) (store_stay s n va word) (store_wait _ s n va word)
+    reached_behind s n _ (store_left _ s n va word) (λ in_order each. store_found s n in_order.frames each va word) (store_stay s n va word)
+    (store_wait _ s n va word) (λ d aside. store_server d s n aside va word)
 plain_behind s n (ask.StoreByte va byte) plain =
     reached_behind s n _ (store_byte_left _ s n va byte) (λ in_order each. store_byte_found s n in_order.frames each va byte)
-    (store_byte_stay s n va byte) (store_byte_wait _ s n va byte)
+    (store_byte_stay s n va byte) (store_byte_wait _ s n va byte) (λ d aside. store_byte_server d s n aside va byte)
 plain_behind s n (ask.Exchange va word) plain =
     reached_behind s n _ (exchange_left _ s n va word) (λ in_order each. exchange_found s n in_order.frames each va word)
-    (exchange_stay s n va word) (exchange_wait _ s n va word)
+    (exchange_stay s n va word) (exchange_wait _ s n va word) (λ d aside. exchange_server d s n aside va word)
 plain_behind s n ask.RestoreFrame plain =
     reached_behind s n _ (restore_left _ s n) (λ in_order each. restore_frame_found s n in_order.frames each) (restore_stay s n) (restore_wait _ s n)
+    (λ d aside. restore_server d s n aside)
 plain_behind s n (ask.Touch ip va true) plain =
     let t = at_instruction s n ip in
-    moved_behind s n ip _ (store_byte_left _ t n va 0) (λ in_order each. store_byte_found t n in_order.frames each va 0) (store_byte_stay t n va 0) (store_byte_wait _ t n va 0)
+    moved_behind s n ip _ (store_byte_left _ t n va 0) (λ in_order each. store_byte_found t n in_order.frames each va 0) (store_byte_stay t n va 0)
+    (store_byte_wait _ t n va 0) (λ d aside. store_byte_server d t n aside va 0)
 plain_behind s n (ask.Touch ip va false) plain =
     let t = at_instruction s n ip in
-    moved_behind s n ip _ (load_byte_left _ t n va) (λ in_order each. load_byte_found t n in_order.frames each va) (load_byte_stay t n va) (load_byte_wait _ t n va)
+    moved_behind s n ip _ (load_byte_left _ t n va) (λ in_order each. load_byte_found t n in_order.frames each va) (load_byte_stay t n va)
+    (load_byte_wait _ t n va) (λ d aside. load_byte_server d t n aside va)
 
-calm_behind : (s : KernelState) (n : ℕ) (a : Ask) → is_calm a ≡ true → KeepsCopies n s (performed s n a).state → Behind s n (performed s n a).state
+calm_behind : (s : KernelState) (n : ℕ) (a : Ask) → is_calm a ≡ true → KeepsCopies n s (performed s n a).state → IsAsideAsk s a →
+    Behind s n (performed s n a).state
 unfolding performed
-calm_behind s n (ask.System number args) calm copies =
-    let both = neither (wakes number) (sets_others number) calm in behind_calm s n number args both.0 both.1 copies
-calm_behind s n ask.Exofork calm copies = plain_behind s n ask.Exofork refl
-calm_behind s n (ask.Load va) calm copies = plain_behind s n (ask.Load va) refl
-calm_behind s n (ask.LoadByte va) calm copies = plain_behind s n (ask.LoadByte va) refl
-calm_behind s n (ask.Store va word) calm copies = plain_behind s n (ask.Store va word) refl
-calm_behind s n (ask.StoreByte va byte) calm copies = plain_behind s n (ask.StoreByte va byte) refl
-calm_behind s n (ask.Exchange va word) calm copies = plain_behind s n (ask.Exchange va word) refl
-calm_behind s n ask.RestoreFrame calm copies = plain_behind s n ask.RestoreFrame refl
-calm_behind s n (ask.Touch ip va write) calm copies = plain_behind s n (ask.Touch ip va write) refl
+calm_behind s n (ask.System number args) calm copies aside =
+    let both = neither (wakes number) (sets_others number) calm in behind_calm s n number args both.0 both.1 copies aside
+calm_behind s n ask.Exofork calm copies aside = plain_behind s n ask.Exofork refl
+calm_behind s n (ask.Load va) calm copies aside = plain_behind s n (ask.Load va) refl
+calm_behind s n (ask.LoadByte va) calm copies aside = plain_behind s n (ask.LoadByte va) refl
+calm_behind s n (ask.Store va word) calm copies aside = plain_behind s n (ask.Store va word) refl
+calm_behind s n (ask.StoreByte va byte) calm copies aside = plain_behind s n (ask.StoreByte va byte) refl
+calm_behind s n (ask.Exchange va word) calm copies aside = plain_behind s n (ask.Exchange va word) refl
+calm_behind s n ask.RestoreFrame calm copies aside = plain_behind s n ask.RestoreFrame refl
+calm_behind s n (ask.Touch ip va write) calm copies aside = plain_behind s n (ask.Touch ip va write) refl
 
 -- the same of one of which it is known
 pub known_behind : (s : KernelState) (n : ℕ) (a : Ask) → IsPlain s n a → Behind s n (performed s n a).state
 known_behind s n a (plainly plain) = plain_behind s n a plain
-known_behind s n a (knowingly calm copies) = calm_behind s n a calm copies
+known_behind s n a (knowingly calm copies aside) = calm_behind s n a calm copies aside
 
 pub settled_leaves : (s mid : KernelState) (n number : ℕ) (x : Next) → Behind s n mid → Leaves (Ok (seen_as x)) n s (settled number x mid n)
 settled_leaves s mid n number (next.Answer word) h = answers s mid _ n word progress.Finished h refl
@@ -527,6 +548,9 @@ module _ (s : KernelState) (n : ℕ) (service : Service) (from to : Step) (numbe
   used : KeepsUses n s ran
   used = subst (λ (z : CallStep Called). KeepsUses n s z.state) (yield_is s n live args) (λ in_order live each. system_found s n SYS_YIELD args in_order live each)
 
+  server : KeepsServer n s ran
+  server = subst (λ (z : CallStep Called). KeepsServer n s z.state) (yield_is s n live args) (system_server s n SYS_YIELD args refl (λ a h. refl))
+
   others : OthersStay s n after
   others =
       own_stay s n ran (own_stay s n s (same_stay s n) (record (slot_at s n) { status = Runnable })) (record (slot_at ran n) { extra = words_at number to })
@@ -546,6 +570,7 @@ module _ (s : KernelState) (n : ℕ) (service : Service) (from to : Step) (numbe
           uses = used;
           places = places_kept s after n (λ before then_so live. others);
           numbers = numbers_kept s after n (λ before then_so live. others) (copies_kept s after n (same_wait (IsBeside s n) s.spaces));
+          server = own_server s n ran (record (slot_at ran n) { extra = words_at number to }) refl refl server;
         };
         lowers = falling_lowers s n pause call service from stands numbered
             (record { live = λ called is stays. ap (λ (k : Slot). is_live k) slot_is; registers = λ called is stays. ap (λ (k : Slot). k.registers) slot_is })

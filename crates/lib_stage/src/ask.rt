@@ -27,7 +27,7 @@ pub enum Ask {
 }
 
 /// What a service does by the reply.
-#[derive(Clone, Copy, Debug, PartialEq, Eq)]
+#[derive(Clone, Copy, Debug)]
 pub enum Next {
     /// It is over, and answers with a word.
     Answer(u32),

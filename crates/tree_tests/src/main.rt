@@ -19,7 +19,6 @@
 #![tactic(auto)]
 
 mod bench;
-mod given;
 
 use crate::bench::TreeBench;
 use fs_jobs::Job;
@@ -59,14 +58,17 @@ fn answer(alloc: Global, bench: &mut Option<TreeBench>, line: &str) -> Result<St
         return server.run(alloc, job, CALLS_MAX);
     }
     match case {
-        "bytes" => server.put_bytes(alloc, given),
-        "path" => server.put_path(alloc, given),
+        "bytes" => server.machine.put_bytes(alloc, given),
+        "path" => server.put(alloc, given.as_bytes()),
         "page" => server.put_page(alloc, given),
         "calls" => server.calls(alloc),
         "reply" => server.reply(alloc, given),
         "flush" => server.flush(alloc, CALLS_MAX),
-        "file" => server.file(alloc, given),
-        "hold" => server.hold(alloc, given),
+        "file" => server.machine.file(alloc, given),
+        "hold" => {
+            let [pages, ..] = twelve_numbers(given);
+            server.machine.hold(alloc, pages)
+        }
         _ => String::from_str(alloc, "no case"),
     }
 }

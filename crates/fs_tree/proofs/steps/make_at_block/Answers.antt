@@ -1,13 +1,19 @@
-use Rattle.std.proofs.Common.{◌∙◌, ◌+◌, ◌/◌, ◌%◌, ℕ, Ok, Err, arith, subst}
+use Rattle.std.proofs.Common.{◌≡◌, ◌≢◌, ◌∙◌, ◌+◌, ◌/◌, ◌%◌, ℕ, true, Ok, Err, arith, sym, subst}
 use Rattle.jos_host.specs.Frames.{around, from_to}
 use Rattle.jos_base.specs.KernelState.{KernelState}
+use Rattle.jos_base.specs.Words.{page_number}
 use Rattle.fs_layout.specs.declared.numbers.TheConstants.{BLKSIZE}
 use Rattle.lib_os.specs.declared.numbers.TheConstants.{CACHE_BLOCKS}
-use Rattle.lib_os.specs.UserCalls.{output}
+use Rattle.lib_os.specs.declared.user_os.Stop.TheVariants as stop
+use Rattle.lib_os.specs.MadeCalls.{is_server_page}
+use Rattle.lib_os.specs.UserCalls.{Output, output}
+use Rattle.lib_os.proofs.CallsMade.{in_block}
 use Rattle.fs_cache.specs.declared.steps.Cached.{Cached}
-use Rattle.fs_cache.specs.CacheSteps.{FetchTold, IsBlockStep, KeepsCacheWhereDone, caller}
+use Rattle.fs_cache.specs.CacheSteps.{FetchTold, IsBlockStep, KeepsCacheWhereDone, caller, fetch_state}
+use Rattle.fs_cache.proofs.GoneMade.{gone_makes}
 use Rattle.fs_tree.specs.declared.steps.Done.TheVariants.{Going, NoPage}
 use Rattle.fs_tree.specs.TreeMakes.{IsAccess}
+use Rattle.fs_tree.proofs.AccessMade.{access_faulted, access_made}
 use Rattle.fs_tree.proofs.TiesLaw.{access_rest, access_slot, cache_going, cache_lacks, cache_leaves, lacking_lives, quiet_from, ready_leaves, ready_stopped, ready_word}
 use Rattle.fs_tree.proofs.steps.make_at_block.Goals as goal
 
@@ -164,3 +170,81 @@ returns-in-Ok-NoPage-clause-leaves g c =
     let printed = output g.H.Host.console g.O.UserOs.written (from_to c.args.host.now c.block_step.new.host) (from_to c.args.os.now c.block_step.new.os) in
     let made = subst (λ (x : Cached). IsBlockStep block called (Ok x) files ready printed) c.in-Ok-NoPage.field-0-is c.in-Ok-NoPage.ensures.made in
     cache_leaves c.args.ask block called (omega arith) files ready printed made.0 NoPage made.2
+
+-- ---- the call
+
+pub returns-in-Ok-clause-made : goal.returns-in-Ok-clause-made
+returns-in-Ok-clause-made g c =
+    let s = g.O.UserOs.state c.args.os.now in
+    let n = g.O.UserOs.slot c.args.os.now in
+    let called = caller s n (g.O.UserOs.disk c.args.os.now) in
+    let block = c.args.at / BLKSIZE % CACHE_BLOCKS in
+    let files = around g.H.Host.files c.args.host.now c.block_step.new.host in
+    let ready = g.O.UserOs.state c.block_step.new.os in
+    let printed = output g.H.Host.console g.O.UserOs.written (from_to c.args.host.now c.block_step.new.host) (from_to c.args.os.now c.block_step.new.os) in
+    let va = c.in-Ok-Ready.va in
+    let made = subst (λ (x : Cached). IsBlockStep block called (Ok x) files ready printed) c.in-Ok-Ready.field-0-is c.in-Ok-Ready.ensures.made in
+    let mid = g.O.UserOs.state c.access.new.os in
+    let told = output g.H.Host.console g.O.UserOs.written (from_to c.block_step.new.host c.access.new.host) (from_to c.block_step.new.os c.access.new.os) in
+    let whole = output g.H.Host.console g.O.UserOs.written (from_to c.args.host.now c.access.new.host) (from_to c.args.os.now c.access.new.os) in
+    let same : told ≡ whole = λ i. record {
+      console = from_to (made.4 i) (g.H.Host.console c.access.new.host);
+      count = from_to (made.5 i) (g.O.UserOs.written c.access.new.os);
+    } in
+    let own = subst (λ (x : ℕ). is_server_page (page_number (x + c.args.at % BLKSIZE)) ≡ true) (sym made.1)
+    (in_block block (c.args.at % BLKSIZE) (omega arith) (omega arith)) in
+    let call = subst (λ (k : KernelState). IsAccess c.args.ask (va + c.args.at % BLKSIZE) k n (Ok c.in-Ok.word) mid told) made.2
+    (subst (λ (m : ℕ). IsAccess c.args.ask (va + c.args.at % BLKSIZE) ready m (Ok c.in-Ok.word) mid told) c.block_step.ensures.slot c.in-Ok.ensures.step) in
+    access_made s mid n called.disk (around g.H.Host.files c.args.host.now c.access.new.host) whole (c.access.ensures.rest.first ∙ made.3)
+    (va + c.args.at % BLKSIZE) own c.args.ask c.in-Ok.word (subst (λ (o : Output). IsAccess c.args.ask (va + c.args.at % BLKSIZE) s n (Ok c.in-Ok.word) mid o) same call)
+
+pub returns-in-Err-Upcall-clause-made : goal.returns-in-Err-Upcall-clause-made
+returns-in-Err-Upcall-clause-made g c =
+    let s = g.O.UserOs.state c.args.os.now in
+    let n = g.O.UserOs.slot c.args.os.now in
+    let called = caller s n (g.O.UserOs.disk c.args.os.now) in
+    let block = c.args.at / BLKSIZE % CACHE_BLOCKS in
+    let files = around g.H.Host.files c.args.host.now c.block_step.new.host in
+    let ready = g.O.UserOs.state c.block_step.new.os in
+    let printed = output g.H.Host.console g.O.UserOs.written (from_to c.args.host.now c.block_step.new.host) (from_to c.args.os.now c.block_step.new.os) in
+    let va = c.in-Ok-Ready.va in
+    let made = subst (λ (x : Cached). IsBlockStep block called (Ok x) files ready printed) c.in-Ok-Ready.field-0-is c.in-Ok-Ready.ensures.made in
+    let mid = g.O.UserOs.state c.access.new.os in
+    let told = output g.H.Host.console g.O.UserOs.written (from_to c.block_step.new.host c.access.new.host) (from_to c.block_step.new.os c.access.new.os) in
+    let whole = output g.H.Host.console g.O.UserOs.written (from_to c.args.host.now c.access.new.host) (from_to c.args.os.now c.access.new.os) in
+    let same : told ≡ whole = λ i. record {
+      console = from_to (made.4 i) (g.H.Host.console c.access.new.host);
+      count = from_to (made.5 i) (g.O.UserOs.written c.access.new.os);
+    } in
+    let own = subst (λ (x : ℕ). is_server_page (page_number (x + c.args.at % BLKSIZE)) ≡ true) (sym made.1)
+    (in_block block (c.args.at % BLKSIZE) (omega arith) (omega arith)) in
+    let call = subst (λ (k : KernelState). IsAccess c.args.ask (va + c.args.at % BLKSIZE) k n (Err c.in-Err-Upcall.field-0) mid told) made.2
+    (subst (λ (m : ℕ). IsAccess c.args.ask (va + c.args.at % BLKSIZE) ready m (Err c.in-Err-Upcall.field-0) mid told) c.block_step.ensures.slot c.in-Err-Upcall.ensures.step) in
+    let other : c.in-Err-Upcall.field-0 ≢ stop.Failed = grind arith in
+    access_faulted s mid n called.disk (around g.H.Host.files c.args.host.now c.access.new.host) whole (c.access.ensures.rest.first ∙ made.3)
+    (va + c.args.at % BLKSIZE) own c.args.ask c.in-Err-Upcall.field-0 other
+    (subst (λ (o : Output). IsAccess c.args.ask (va + c.args.at % BLKSIZE) s n (Err c.in-Err-Upcall.field-0) mid o) same call)
+
+pub returns-in-Ok-Going-clause-made : goal.returns-in-Ok-Going-clause-made
+returns-in-Ok-Going-clause-made g c =
+    let s = g.O.UserOs.state c.args.os.now in
+    let n = g.O.UserOs.slot c.args.os.now in
+    let called = caller s n (g.O.UserOs.disk c.args.os.now) in
+    let block = c.args.at / BLKSIZE % CACHE_BLOCKS in
+    let files = around g.H.Host.files c.args.host.now c.block_step.new.host in
+    let ready = g.O.UserOs.state c.block_step.new.os in
+    let printed = output g.H.Host.console g.O.UserOs.written (from_to c.args.host.now c.block_step.new.host) (from_to c.args.os.now c.block_step.new.os) in
+    let made = subst (λ (x : Cached). IsBlockStep block called (Ok x) files ready printed) c.in-Ok-Going.field-0-is c.in-Ok-Going.ensures.made in
+    gone_makes (fetch_state s n block) called files made.0 ready printed made.2
+
+pub returns-in-Ok-NoPage-clause-made : goal.returns-in-Ok-NoPage-clause-made
+returns-in-Ok-NoPage-clause-made g c =
+    let s = g.O.UserOs.state c.args.os.now in
+    let n = g.O.UserOs.slot c.args.os.now in
+    let called = caller s n (g.O.UserOs.disk c.args.os.now) in
+    let block = c.args.at / BLKSIZE % CACHE_BLOCKS in
+    let files = around g.H.Host.files c.args.host.now c.block_step.new.host in
+    let ready = g.O.UserOs.state c.block_step.new.os in
+    let printed = output g.H.Host.console g.O.UserOs.written (from_to c.args.host.now c.block_step.new.host) (from_to c.args.os.now c.block_step.new.os) in
+    let made = subst (λ (x : Cached). IsBlockStep block called (Ok x) files ready printed) c.in-Ok-NoPage.field-0-is c.in-Ok-NoPage.ensures.made in
+    gone_makes (fetch_state s n block) called files made.0 ready printed made.2

@@ -1,9 +1,12 @@
-use Rattle.std.proofs.Common.{◌+◌, ◌%◌}
+use Rattle.std.proofs.Common.{◌+◌, ◌%◌, ◌≢◌, arith}
 use Rattle.jos_host.specs.Frames.{around, from_to}
 use Rattle.jos_base.specs.declared.numbers.TheConstants.{PGSIZE}
+use Rattle.lib_os.specs.declared.user_os.Stop.TheVariants as stop
 use Rattle.lib_os.specs.UserCalls.{output}
 use Rattle.fs_cache.specs.CacheSteps.{caller}
 use Rattle.lib_os.specs.declared.numbers.TheConstants.{REQUEST}
+use Rattle.lib_os.proofs.CallsMade.{in_request}
+use Rattle.fs_tree.proofs.AccessMade.{access_faulted, access_made}
 use Rattle.fs_tree.proofs.TiesLaw.{access_rest, access_slot, request_leaves, request_stopped, request_word}
 use Rattle.fs_tree.proofs.steps.make_at_request.Goals as goal
 
@@ -56,3 +59,26 @@ returns-in-Err-Upcall-clause-leaves g c =
     let mid = g.O.UserOs.state c.access.new.os in
     let told = output g.H.Host.console g.O.UserOs.written (from_to c.args.host.now c.access.new.host) (from_to c.args.os.now c.access.new.os) in
     request_leaves c.args.ask c.args.at called c.requires.place mid told c.access.ensures.in_order files c.in-Err-Upcall.field-0 c.in-Err-Upcall.ensures.step
+
+-- ---- the call
+
+pub returns-in-Ok-clause-made : goal.returns-in-Ok-clause-made
+returns-in-Ok-clause-made g c =
+    let s = g.O.UserOs.state c.args.os.now in
+    let n = g.O.UserOs.slot c.args.os.now in
+    let files = around g.H.Host.files c.args.host.now c.access.new.host in
+    let mid = g.O.UserOs.state c.access.new.os in
+    let told = output g.H.Host.console g.O.UserOs.written (from_to c.args.host.now c.access.new.host) (from_to c.args.os.now c.access.new.os) in
+    access_made s mid n (g.O.UserOs.disk c.args.os.now) files told c.access.ensures.rest.first (REQUEST + c.args.at % PGSIZE)
+    (in_request (c.args.at % PGSIZE) (omega arith)) c.args.ask c.in-Ok.word c.in-Ok.ensures.step
+
+pub returns-in-Err-Upcall-clause-made : goal.returns-in-Err-Upcall-clause-made
+returns-in-Err-Upcall-clause-made g c =
+    let s = g.O.UserOs.state c.args.os.now in
+    let n = g.O.UserOs.slot c.args.os.now in
+    let files = around g.H.Host.files c.args.host.now c.access.new.host in
+    let mid = g.O.UserOs.state c.access.new.os in
+    let other : c.in-Err-Upcall.field-0 ≢ stop.Failed = grind arith in
+    let told = output g.H.Host.console g.O.UserOs.written (from_to c.args.host.now c.access.new.host) (from_to c.args.os.now c.access.new.os) in
+    access_faulted s mid n (g.O.UserOs.disk c.args.os.now) files told c.access.ensures.rest.first (REQUEST + c.args.at % PGSIZE)
+    (in_request (c.args.at % PGSIZE) (omega arith)) c.args.ask c.in-Err-Upcall.field-0 other c.in-Err-Upcall.ensures.step

@@ -1,7 +1,9 @@
 use Rattle.std.proofs.Common.{◌≡◌, ◌∙◌, ℕ, Ok, ap, subst, sym}
 use Rattle.jos_host.specs.Frames.{around, from_to}
 use Rattle.jos_base.specs.KernelState.{slot_at, with_extra, with_registers}
-use Rattle.lib_os.specs.UserCalls.{output}
+use Rattle.lib_os.specs.MadeCalls.{MakesServersCall}
+use Rattle.lib_os.specs.UserCalls.{Output, output}
+use Rattle.lib_os.proofs.CallsMade.{then_set}
 use Rattle.fs_jobs.specs.declared.place.TreeState.{TreeState}
 use Rattle.fs_tree.specs.declared.steps.Acted.TheVariants.{Answer, Going}
 use Rattle.fs_tree.specs.declared.steps.Done.{Done}
@@ -10,6 +12,7 @@ use Rattle.fs_tree.specs.TreeMakes.{DoesWhereTold}
 use Rattle.fs_places.specs.TreePlaces.{registers_with, words_with}
 use Rattle.fs_runs.specs.TreePlans.{ask_at, next_at}
 use Rattle.fs_tree.specs.TreeSteps.{StepsWhereTold, job_in}
+use Rattle.fs_tree.proofs.AccessMade.{job_sets}
 use Rattle.fs_tree.proofs.TiesLaw.{known_state, quiet_still, set_leaves_rest, step_answers, step_goes_on, step_going, step_lacks, step_leaves_rest, step_prints}
 use Rattle.fs_tree.proofs.steps.tree_step.Goals as goal
 
@@ -197,3 +200,34 @@ returns-in-GoOn-clause-rest g c =
     set_leaves_rest disk n s mid files c.ask_at.result asks (done.Word c.in-Ok-Word.word) told c.in-Ok-Word.ensures.leaves Going next after
     (subst (λ (m : ℕ). after ≡ with_extra (with_registers mid m (registers_with (slot_at mid m).registers next)) m (words_with (slot_at mid m).extra next))
     c.make.ensures.slot c.go_on.ensures.state)
+
+-- ---- the call
+
+pub returns-in-GoOn-clause-made : goal.returns-in-GoOn-clause-made
+returns-in-GoOn-clause-made g c =
+    let s = g.O.UserOs.state c.args.os.now in
+    let n = g.O.UserOs.slot c.args.os.now in
+    let files = around g.H.Host.files c.args.host.now c.make.new.host in
+    let mid = g.O.UserOs.state c.make.new.os in
+    let next = c.in-GoOn.next in
+    let after = g.O.UserOs.state c.go_on.new.os in
+    let told = output g.H.Host.console g.O.UserOs.written (from_to c.args.host.now c.make.new.host) (from_to c.args.os.now c.make.new.os) in
+    let whole = output g.H.Host.console g.O.UserOs.written (from_to c.args.host.now c.make.new.host) (from_to c.args.os.now c.go_on.new.os) in
+    let same : told ≡ whole = λ i. record {
+      console = around g.H.Host.console c.args.host.now c.make.new.host;
+      count = from_to (g.O.UserOs.written c.args.os.now) (sym c.go_on.ensures.written i);
+    } in
+    then_set s mid after n (g.O.UserOs.disk c.args.os.now) files whole
+    (subst (λ (o : Output). MakesServersCall (from_to s mid) n (g.O.UserOs.disk c.args.os.now) files o) same c.in-Ok-Word.ensures.made)
+    (job_sets mid after n next
+    (subst (λ (m : ℕ). after ≡ with_extra (with_registers mid m (registers_with (slot_at mid m).registers next)) m (words_with (slot_at mid m).extra next))
+    c.make.ensures.slot c.go_on.ensures.state))
+
+pub returns-in-Answer-clause-made : goal.returns-in-Answer-clause-made
+returns-in-Answer-clause-made g c = c.in-Ok-Word.ensures.made
+
+pub returns-in-Ok-Going-clause-made : goal.returns-in-Ok-Going-clause-made
+returns-in-Ok-Going-clause-made g c = c.in-Ok-Going.ensures.made
+
+pub returns-in-Ok-NoPage-clause-made : goal.returns-in-Ok-NoPage-clause-made
+returns-in-Ok-NoPage-clause-made g c = c.in-Ok-NoPage.ensures.made

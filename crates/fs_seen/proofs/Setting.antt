@@ -1,0 +1,161 @@
+-- The server goes on: its slot gets the registers and words with which it stands where it goes, and nothing that it sees changes.
+use Rattle.std.proofs.Common.{◌≡◌, ◌∙◌, ℕ, true, false, List, length, Option, Some, None, refl, sym, ap, subst, if◌then◌else◌}
+use Rattle.std.specs.Prelude.{◌*◌, is_some, nat_lt}
+use Rattle.lib_os.specs.declared.numbers.TheConstants.{MAXOPEN}
+use Rattle.jos_base.specs.declared.registers.Regs.{Regs}
+use Rattle.jos_base.specs.Environments.{Slot, is_live}
+use Rattle.jos_base.specs.KernelState.{KernelState, slot_at, with_slot_at}
+use Rattle.jos_base.specs.Reach.{Entry}
+use Rattle.jos_base.specs.SpacesState.{directories}
+use Rattle.lib_os.specs.Disk.{Disk}
+use Rattle.lib_os.specs.InOrder.{IsInOrder}
+use Rattle.lib_os.proofs.Slots.{slot_put, slots_alike}
+use Rattle.lib_os.proofs.SlotsSet.{both_set}
+use Rattle.fs_blocks.specs.CachePlaces.{state_in as cache_in}
+use Rattle.fs_jobs.specs.declared.place.Job.{Job}
+use Rattle.fs_jobs.specs.declared.place.TreeState.{TreeState}
+use Rattle.fs_places.specs.TreePlaces as places
+use Rattle.fs_tree.specs.TreeSteps.{TreeAt, job_in, memory_in}
+use Rattle.fs_tree.proofs.TiesWords.{cache_alike, directory_set, memory_set, tree_set}
+use Rattle.fs_requests.specs.declared.plan.ServerNext.{ServerNext}
+use Rattle.fs_requests.specs.ServerWords.{registers_with, server_in, words_with}
+use Rattle.fs_serving.specs.ServerViews.{Serving, View, job_begun, word_of}
+use Rattle.fs_server.specs.ServerSteps as server
+use Rattle.fs_server.specs.ServerSteps.{registers_begun, server_at, words_begun}
+use Rattle.fs_seen.specs.ServerMemory.{HasFileTable, bytes_by, entry_of, frame_by, place_page, records_page, serving_in, view_in}
+use Rattle.fs_seen.specs.ServerSees.{ServesAlike}
+use Rattle.fs_seen.proofs.GoesOn.{GoesWell}
+use Rattle.fs_seen.proofs.WordsBack.{begun_long, begun_rest, job_told, stands_in, stands_whole}
+
+-- ---- a slot that is set
+
+module _ (s : KernelState) (n : ℕ) (slot : Slot) (directory : slot.directory ≡ (slot_at s n).directory) where
+  abbrev set : KernelState
+  set = with_slot_at s n slot
+
+  -- the state before was in order
+  pub in_order_back : is_live slot ≡ is_live (slot_at s n) → IsInOrder set → IsInOrder s
+  in_order_back live h =
+      let alive = slots_alike s n (λ (x : Slot). is_live x) slot live in
+      let there = slots_alike s n (λ (x : Slot). x.directory) slot directory in
+      record {
+        frames = h.frames;
+        spaces = record {
+          in_use = λ m lives. subst (λ (q : ℕ). directories s.spaces q ≡ true) (there m) (h.spaces.in_use m (alive m ∙ lives));
+          apart = λ m o m_lives o_lives same. h.spaces.apart m o (alive m ∙ m_lives) (alive o ∙ o_lives) (there m ∙ same ∙ sym (there o));
+          owned = λ q is.
+              let found = h.spaces.owned q is in (found.0, sym (alive found.0) ∙ found.1, sym (there found.0) ∙ found.2);
+        };
+      }
+
+  entry_set : (p : ℕ) → entry_of set n p ≡ entry_of s n p
+  entry_set p = ap (λ (q : ℕ). s.spaces.entries q p) (directory_set s n slot directory)
+
+  pub table_set : HasFileTable s n → HasFileTable set n
+  table_set h = record {
+    records = ap (λ (o : Option Entry). is_some o) (entry_set _) ∙ h.records;
+    pages = λ p e is there.
+        let was = h.pages p e is (sym (entry_set p) ∙ there) in record { allowed = was.allowed; whole = was.whole };
+    apart = λ p q x y is own x_is y_is. h.apart p q x y is own (sym (entry_set p) ∙ x_is) (sym (entry_set q) ∙ y_is);
+  }
+
+  pub view_set : (d : Disk) → memory_in d set n ≡ memory_in d s n → slot.rendezvous ≡ (slot_at s n).rendezvous → view_in d set n ≡ view_in d s n
+  view_set d memory rendezvous = λ i. record {
+    memory = memory i;
+    homes = λ number. if nat_lt number MAXOPEN then word_of (bytes_by s (entry_set records_page i)) (4 * number) else 0;
+    pages = λ number. bytes_by s (if nat_lt number MAXOPEN then entry_set (place_page number) i else None);
+    frames = λ number. frame_by (if nat_lt number MAXOPEN then entry_set (place_page number) i else None);
+    holders = (view_in d s n).holders;
+    value = (same i).value;
+    sender = (same i).sender;
+  }
+    where
+      same : (slot_at set n).rendezvous ≡ (slot_at s n).rendezvous
+      same = ap (λ (x : Slot). x.rendezvous) (slot_put s n slot) ∙ rendezvous
+
+-- ---- the server goes on
+
+-- where it goes, whatever job stood there
+abbrev pub going_to : ServerNext → TreeState → View → Serving
+going_to next job v = record { state = next.state; job = job_begun next.begins job; view = v }
+
+-- all stands, and the server as it does by itself
+pub record HasGoneOn (d : Disk) (mid after : KernelState) (n : ℕ) (next : ServerNext) (job : TreeState) : Type 0 where
+  pub tree : TreeAt d after n
+  pub table : HasFileTable after n
+  pub stands_as : ServesAlike (going_to next job (view_in d mid n)) (serving_in d after n)
+
+module _ (mid : KernelState) (n : ℕ) (next : ServerNext) where
+  abbrev regs : Regs
+  regs = registers_begun next.begins (registers_with (slot_at mid n).registers next.state)
+
+  abbrev words : List ℕ
+  words = words_begun next.begins (words_with (slot_at mid n).extra next.state)
+
+  abbrev slot : Slot
+  slot = record (slot_at mid n) { registers = regs; extra = words }
+
+  gone_is : server.gone_on mid n next ≡ with_slot_at mid n slot
+  unfolding server.gone_on
+  gone_is = both_set mid n regs words
+
+  -- before it went on it was in order
+  pub was_in_order : (after : KernelState) → after ≡ server.gone_on mid n next → IsInOrder after → IsInOrder mid
+  was_in_order after is h = in_order_back mid n slot refl refl (subst (λ (k : KernelState). IsInOrder k) (is ∙ gone_is) h)
+
+  module _ (d : Disk) (well : GoesWell next) (h : TreeAt d mid n) (t : HasFileTable mid n) (job : TreeState)
+      (in_order : IsInOrder (with_slot_at mid n slot)) where
+    abbrev gone : KernelState
+    gone = with_slot_at mid n slot
+
+    there : slot_at gone n ≡ slot
+    there = slot_put mid n slot
+
+    cache : cache_in words ≡ cache_in (slot_at mid n).extra
+    cache = cache_alike words (slot_at mid n).extra
+        (begun_rest (slot_at mid n).registers (slot_at mid n).extra next.state well.below h.cache.words next.begins)
+
+    long : length words ≡ 12
+    long = begun_long (slot_at mid n).registers (slot_at mid n).extra next.state well.below h.cache.words next.begins
+
+    stands_so : ServesAlike (going_to next job (view_in d mid n)) (serving_in d gone n)
+    stands_so =
+        let so = stands_in (slot_at mid n).registers (slot_at mid n).extra next.state well.below h.cache.words next.begins in
+        record {
+          at_step = sym (ap (λ (x : Slot). (server_in x.registers x.extra).step) there ∙ so.at_step);
+          kind = sym (ap (λ (x : Slot). (server_in x.registers x.extra).kind) there ∙ so.kind);
+          client = sym (ap (λ (x : Slot). (server_in x.registers x.extra).client) there ∙ so.client);
+          number = sym (ap (λ (x : Slot). (server_in x.registers x.extra).number) there ∙ so.number);
+          words = λ off. sym (ap (λ (x : Slot). server_in x.registers x.extra) there ∙ whole (none_there next.begins (sym well.begins ∙ off)));
+          job = λ on. job_there next.begins refl (sym well.begins ∙ on);
+          view = sym (view_set mid n slot refl d (memory_set mid n slot refl d h in_order h.cache.live refl long cache) refl);
+        }
+      where
+        whole : next.begins ≡ None → server_in regs words ≡ next.state
+        whole = stands_whole (slot_at mid n).registers (slot_at mid n).extra next.state well.below h.cache.words next.begins
+
+        none_there : (o : Option Job) → is_some o ≡ false → o ≡ None
+        none_there None is = refl
+        none_there (Some it) is = absurd (let contradiction : true ≡ false = is in cc)
+
+        job_there : (o : Option Job) → next.begins ≡ o → is_some o ≡ true → job_begun next.begins job ≡ job_in gone n
+        job_there None at is = absurd (let contradiction : false ≡ true = is in cc)
+        job_there (Some it) at is =
+            ap (λ (b : Option Job). job_begun b job) at
+            ∙ sym (ap (λ (x : Slot). places.state_in x.registers x.extra) there
+            ∙ job_told (registers_with (slot_at mid n).registers next.state) (words_with (slot_at mid n).extra next.state) next.begins it at)
+
+    set_done : HasGoneOn d mid gone n next job
+    set_done = record {
+      tree = tree_set mid n slot refl d h in_order h.cache.live refl long cache;
+      table = table_set mid n slot refl t;
+      stands_as = stands_so;
+    }
+
+  -- by the state that is reached
+  pub has_gone_on : (d : Disk) → GoesWell next → TreeAt d mid n → HasFileTable mid n → (job : TreeState) → (after : KernelState) →
+      after ≡ server.gone_on mid n next → IsInOrder after → HasGoneOn d mid after n next job
+  has_gone_on d well h t job after is in_order =
+      let whole : after ≡ with_slot_at mid n slot = is ∙ gone_is in
+      subst (λ (k : KernelState). HasGoneOn d mid k n next job) (sym whole)
+      (set_done d well h t job (subst (λ (k : KernelState). IsInOrder k) whole in_order))

@@ -1,0 +1,2 @@
+pub mod ServerMemory
+pub mod ServerSees

@@ -1,0 +1,210 @@
+-- A step of a program leaves to the file server what it has: its slot, its space and the bytes of its pages. The instruction reaches bytes
+-- and stores bytes in the program's own space, a page fault is handled there or ends the environment, and any other trap ends it.
+use Rattle.std.proofs.Common.{◌≡◌, ◌≢◌, ◌∙◌, ◌==◌, ℕ, Bool, true, false, Option, Some, None, Result, Ok, Err, IfSome, refl, sym, subst}
+use Rattle.std.proofs.Common.{if◌then◌else◌}
+use Rattle.std.proofs.lemmas.Option.{same_Some}
+use Rattle.jos_base.specs.declared.line.Line.{Line}
+use Rattle.jos_base.specs.declared.line.Line.TheVariants as line
+use Rattle.jos_base.specs.declared.memory.Access.{Access}
+use Rattle.jos_base.specs.declared.memory.Access.TheVariants.{Write}
+use Rattle.jos_base.specs.declared.memory.PageFault.{PageFault}
+use Rattle.jos_base.specs.declared.numbers.TheConstants.{T_BRKPT, T_GPFLT, T_PGFLT, T_SERVICE}
+use Rattle.jos_base.specs.Environments.{Slot, free_slot, is_live}
+use Rattle.jos_base.specs.KernelState.{KernelState, slot_at, with_slot_at, with_registers}
+use Rattle.jos_base.specs.Reach.{FrameOffset}
+use Rattle.jos_base.specs.SpacesState.{SpacesState}
+use Rattle.jos_base.specs.SystemCalls.{Trapped, handled, delivered_to, deliver_fault, trapped_by, killed}
+use Rattle.jos_base.specs.UserMemory.{reach_in, stored_byte, with_byte_at}
+use Rattle.jos_cpu.specs.declared.events.Event.{Event}
+use Rattle.jos_cpu.specs.declared.events.Event.TheVariants.{Next, Soft, Raised}
+use Rattle.jos_cpu.specs.declared.events.Gates.TheVariants.{Run}
+use Rattle.jos_cpu.specs.Steps.{Stepped, step_of}
+use Rattle.jos_cpu.proofs.Agreement.{Agrees}
+use Rattle.jos_cpu.proofs.Through.{step_through}
+use Rattle.jos_kernel.specs.Running.{Running, user_memory, loaded_in, with_state, touched_in, stored_in_space}
+use Rattle.jos_kernel.specs.Steps.{EnvStep, trapped}
+use Rattle.lib_os.specs.Fence.{is_resident}
+use Rattle.lib_os.specs.InOrder.{HasOneUse}
+use Rattle.lib_os.specs.LibrarySteps.{KeepsServer}
+use Rattle.lib_os.specs.Places.{words_entered}
+use Rattle.lib_os.proofs.ServerLeft.{IsAside, ServerStays, aside_asked, asked_before, handled_server, keeps_server}
+use Rattle.lib_os.proofs.SpacesLeft.{SpaceLeft, IsBesidePages, destroyed_left, same_left, stored_beside, stored_left, touched_beside, touched_left}
+use Rattle.lib_os.proofs.UsesKept.{stored_kept, touched_kept}
+use Rattle.jos_run.specs.FencedMemory.{fenced_memory}
+use Rattle.jos_run.specs.GuestSteps.{after_event, guest_instruction}
+use Rattle.jos_run.proofs.SpacesKept.{touched_uses}
+use Rattle.jos_base.proofs.Maps.{upd-other}
+
+stored_uses : (s : SpacesState) (d va byte : ℕ) → (stored_byte s d va byte).uses ≡ s.uses
+unfolding stored_byte
+stored_uses s d va byte = by_outcome (reach_in s d va Write)
+  where
+    by_outcome : (r : Result FrameOffset PageFault) → (with_byte_at s byte r).uses ≡ s.uses
+    by_outcome (Ok location) = refl
+    by_outcome (Err refusal) = refl
+
+-- what is left after one step and after the next
+stays_then : (d : ℕ) (s t u : KernelState) → ServerStays d s t → ServerStays d t u → ServerStays d s u
+stays_then d s t u h k = record {
+  slot = k.slot ∙ h.slot;
+  space = record {
+    entries = λ p. k.space.entries p ∙ h.space.entries p;
+    regions = λ r. k.space.regions r ∙ h.space.regions r;
+    pages = λ p e is. k.space.pages p e (h.space.entries p ∙ is) ∙ h.space.pages p e is;
+  };
+}
+
+-- ---- what comes of the instruction
+
+module _ (d : ℕ) (s : KernelState) (n : ℕ) (h : IsAside d s n) where
+  abbrev Left : KernelState → Type 0
+  Left t = ServerStays d s t
+
+  home_apart : (slot_at s n).directory ≢ d
+  home_apart = let it = h.homes n h.other h.live in it.0
+
+  stays_so : Left s
+  stays_so = record { slot = refl; space = same_left d s.spaces h.frames }
+
+  put_stays : (slot : Slot) → Left (with_slot_at s n slot)
+  put_stays slot = record {
+    slot = upd-other s.environments.slots n slot 0 (λ same. h.other (sym same));
+    space = same_left d s.spaces h.frames;
+  }
+
+  killed_stays : (why : Line) → Left (killed s n why).state
+  unfolding killed
+  killed_stays why =
+      let it = h.homes n h.other h.live in
+      record {
+        slot = upd-other s.environments.slots n (free_slot (slot_at s n).id) 0 (λ same. h.other (sym same));
+        space = destroyed_left d s.spaces h.frames (slot_at s n).directory it.0 it.1;
+      }
+
+  delivered_stays : (fault : PageFault) (after : Option KernelState) → IfSome after Left → Left (delivered_to s n fault after).state
+  delivered_stays fault (Some after) left = left
+  delivered_stays fault None left = killed_stays (line.UserFault fault.va (slot_at s n).registers.eip)
+
+  trap_stays : (trap error va ip : ℕ) → Left (trapped s n trap error va ip).state
+  trap_stays trap error va ip = by_number (trap == T_PGFLT)
+    where
+      fault : PageFault
+      fault = record { va = va; error = error }
+
+      by_number : (c : Bool) →
+          Left (if◌then◌else◌ {A = Trapped} c (deliver_fault s n fault) (trapped_by (killed s n (line.Trap trap error ip)))).state
+      by_number true = delivered_stays fault (handled s n fault) (handled_server d s n h fault)
+      by_number false = killed_stays (line.Trap trap error ip)
+
+  step_by : (c : Bool) (a b : EnvStep) → Left a.state → Left b.state → Left (if◌then◌else◌ {A = EnvStep} c a b).state
+  step_by true a b x y = x
+  step_by false a b x y = y
+
+  event_stays : (ip : ℕ) (event : Event) → Left (after_event s n ip event).state
+  event_stays ip Next = step_by (is_resident (slot_at s n).registers.esp) _ _ (trap_stays T_GPFLT 0 0 ip) stays_so
+  event_stays ip (Soft vector) =
+      step_by (vector == T_SERVICE) _ _ (put_stays (record (slot_at s n) { extra = words_entered (slot_at s n).registers }))
+      (trap_stays T_BRKPT 0 0 (slot_at s n).registers.eip)
+  event_stays ip (Raised trap error va) = trap_stays trap error va ip
+
+-- ---- the instruction
+
+module _ (d : ℕ) (s : KernelState) (n : ℕ) (h : IsAside d s n) where
+  abbrev home : ℕ
+  home = (slot_at s n).directory
+
+  abbrev apart : home ≢ d
+  apart = home_apart d s n h
+
+  -- while it reaches and stores bytes
+  record Walks (x : Running) : Type 0 where
+    environments : x.state.environments ≡ s.environments
+    directory : x.directory ≡ Some home
+    uses : x.state.spaces.uses ≡ s.spaces.uses
+    frames : HasOneUse x.state.spaces
+    space : SpaceLeft d s.spaces x.state.spaces
+    pages : IsBesidePages d s.spaces h.frames home apart x.state.spaces
+
+  touched_walks : (x : Running) → Walks x → (o : Option ℕ) → o ≡ Some home → (va : ℕ) (access : Access) →
+      Walks (with_state x (touched_in x.state o va access))
+  touched_walks x w None none va access = absurd cc
+  touched_walks x w (Some q) is va access =
+      subst (λ (q : ℕ). Walks (with_state x (touched_in x.state (Some q) va access))) (sym (same_Some q home is)) (record {
+        environments = w.environments;
+        directory = w.directory;
+        uses = touched_uses x.state.spaces home va access ∙ w.uses;
+        frames = touched_kept x.state.spaces home va access w.frames;
+        space = touched_left d s.spaces h.frames home apart x.state.spaces va access w.space;
+        pages = touched_beside d s.spaces h.frames home apart x.state.spaces va access w.pages;
+      })
+
+  stored_walks : (x : Running) → Walks x → (o : Option ℕ) → o ≡ Some home → (va byte : ℕ) →
+      Walks (with_state x (stored_in_space x.state o va byte))
+  stored_walks x w None none va byte = absurd cc
+  stored_walks x w (Some q) is va byte =
+      subst (λ (q : ℕ). Walks (with_state x (stored_in_space x.state (Some q) va byte))) (sym (same_Some q home is)) (record {
+        environments = w.environments;
+        directory = w.directory;
+        uses = stored_uses x.state.spaces home va byte ∙ w.uses;
+        frames = stored_kept x.state.spaces home va byte w.frames;
+        space = stored_left d s.spaces h.frames home apart x.state.spaces va byte w.pages w.space;
+        pages = stored_beside d s.spaces h.frames home apart x.state.spaces va byte w.pages;
+      })
+
+  walks : Agrees fenced_memory fenced_memory (λ (x : Running). x) Walks
+  unfolding fenced_memory user_memory
+  walks = record {
+    byte = λ x w va. refl;
+    allowed = λ x w va access. refl;
+    fault = λ x w va access off. refl;
+    reached = λ x w va access on. (touched_walks x w x.directory w.directory va access, refl);
+    stored = λ x w va byte small. (stored_walks x w x.directory w.directory va byte, refl);
+  }
+
+  -- it is still aside, and the file server is as it was
+  aside_walked : (x : Running) → Walks x → IsAside d x.state n
+  aside_walked x w = record {
+    frames = w.frames;
+    other = h.other;
+    live = (λ i. is_live ((w.environments i).slots n)) ∙ h.live;
+    first = (λ i. is_live ((w.environments i).slots 0)) ∙ h.first;
+    named = (λ i. ((w.environments i).slots 0).id) ∙ h.named;
+    no_child = λ same. h.no_child
+        ((λ i. ((sym w.environments i).slots 0).parent) ∙ same ∙ (λ i. ((w.environments i).slots n).id));
+    homes = λ m ne lives.
+        let it = h.homes m ne ((λ i. is_live ((sym w.environments i).slots m)) ∙ lives) in (
+          λ same. it.0 ((λ i. ((sym w.environments i).slots m).directory) ∙ same),
+          (λ i. w.uses i ((w.environments i).slots m).directory) ∙ it.1,
+        );
+    pages = λ p e is q y stands.
+        w.pages.none p e ((λ i. x.state.spaces.entries ((sym w.environments i).slots n).directory p) ∙ is) q y
+        (sym (w.space.entries q) ∙ stands);
+  }
+
+  walked_stays : (x : Running) → Walks x → ServerStays d s x.state
+  walked_stays x w = record { slot = λ i. (w.environments i).slots 0; space = w.space }
+
+  begins : Walks (loaded_in s home)
+  begins = record {
+    environments = refl;
+    directory = refl;
+    uses = refl;
+    frames = h.frames;
+    space = same_left d s.spaces h.frames;
+    pages = record { none = h.pages };
+  }
+
+  instruction_stays : ServerStays d s (guest_instruction s n).state
+  unfolding guest_instruction
+  instruction_stays =
+      let regs = (slot_at s n).registers in
+      let step : Stepped Running = step_of fenced_memory regs (loaded_in s home) Run in
+      let w = (step_through walks regs (loaded_in s home) Run begins).0 in
+      let t = step.memory.state in
+      let u = with_registers t n step.regs in
+      let aside = aside_asked d t n step.regs (aside_walked step.memory w) in
+      stays_then d s t (after_event u n regs.eip step.event).state (walked_stays step.memory w)
+      (asked_before d t n step.regs (after_event u n regs.eip step.event).state h.other (event_stays d u n aside regs.eip step.event))
+
+pub guest_server : (s : KernelState) (n : ℕ) → KeepsServer n s (guest_instruction s n).state
+guest_server s n = keeps_server s (guest_instruction s n).state n (λ then_so d aside. instruction_stays d s n aside)
