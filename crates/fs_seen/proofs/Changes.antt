@@ -22,7 +22,8 @@ use Rattle.fs_cache.proofs.Loads.{number_of, row_below, row_past}
 use Rattle.fs_cache.proofs.Views.{ViewKept}
 use Rattle.fs_tree.specs.TreeSteps.{HasRequest, TreeAt, disk_bytes, memory_in}
 use Rattle.fs_tree.proofs.TiesBlocks.{request_number, request_same}
-use Rattle.fs_seen.specs.ServerMemory.{is_server_page, is_table_page, place_page, records_page}
+use Rattle.fs_seen.specs.ServerMemory.{is_table_page, place_page, records_page}
+use Rattle.lib_os.specs.MadeCalls.{is_page_from, is_server_page}
 use Rattle.fs_seen.proofs.CacheKept.{cached_kept, stands_kept}
 
 -- ---- the numbers of the pages
@@ -86,20 +87,38 @@ place_table k below =
     (both_true (nat_le (page_number FDTABLE) (place_page k)) (nat_lt (place_page k) (page_number FDTABLE + MAXOPEN))
     (grind (arith, nat_tests, number)) (grind (arith, nat_tests, number, below)))
 
-pub table_server : (p : ℕ) → is_table_page p ≡ true → is_server_page p ≡ true
-table_server p is = or_left (is_table_page p) (nat_le (page_number REQUEST) p && nat_lt p (page_number DISKMAP + CACHE_BLOCKS)) is
+-- one of four
+middle_so : (a b c d : Bool) → b || c ≡ true → a || b || c || d ≡ true
+middle_so true b c d is = refl
+middle_so false true c d is = refl
+middle_so false false true d is = refl
+middle_so false false false d is = absurd (let contradiction : false ≡ true = is in cc)
 
-low_server : (p : ℕ) → 65535 ≤ p → p < 131072 → is_server_page p ≡ true
-low_server p low high =
-    or_right (is_table_page p) (nat_le (page_number REQUEST) p && nat_lt p (page_number DISKMAP + CACHE_BLOCKS))
-    (both_true (nat_le (page_number REQUEST) p) (nat_lt p (page_number DISKMAP + CACHE_BLOCKS)) (grind (arith, nat_tests, low))
-    (grind (arith, nat_tests, high)))
+last_so : (a b c d : Bool) → d ≡ true → a || b || c || d ≡ true
+last_so true b c d is = refl
+last_so false true c d is = refl
+last_so false false true d is = refl
+last_so false false false d is = is
+
+pub table_server : (p : ℕ) → is_table_page p ≡ true → is_server_page p ≡ true
+unfolding is_server_page
+table_server p is =
+    middle_so (p == page_number REQUEST) (p == records_page) (is_page_from (page_number FDTABLE) MAXOPEN p)
+    (is_page_from (page_number DISKMAP) CACHE_BLOCKS p) is
 
 pub request_server : is_server_page request_number ≡ true
-request_server = low_server request_number (omega arith) (omega arith)
+unfolding is_server_page
+request_server = refl
 
 pub block_server : (b : ℕ) → b < CACHE_BLOCKS → is_server_page (number_of b) ≡ true
-block_server b below = low_server (number_of b) (omega arith) (omega (arith, below))
+unfolding is_server_page
+block_server b below =
+    let low : 65536 ≤ number_of b = omega arith in
+    let high : number_of b < 131072 = omega (arith, below) in
+    last_so (number_of b == page_number REQUEST) (number_of b == records_page) (is_page_from (page_number FDTABLE) MAXOPEN (number_of b))
+    (is_page_from (page_number DISKMAP) CACHE_BLOCKS (number_of b))
+    (both_true (nat_le (page_number DISKMAP) (number_of b)) (nat_lt (number_of b) (page_number DISKMAP + CACHE_BLOCKS)) (grind (arith, nat_tests, low))
+    (grind (arith, nat_tests, high)))
 
 -- ---- the blocks
 

@@ -26,7 +26,8 @@ use Rattle.fs_cache.proofs.Views.{ViewKept}
 use Rattle.fs_tree.specs.TreeSteps.{TreeAt, memory_in}
 use Rattle.fs_tree.proofs.TiesBlocks.{request_number}
 use Rattle.fs_serving.specs.ServerViews.{with_page_word, with_word, word_of}
-use Rattle.fs_seen.specs.ServerMemory.{HasFileTable, IsOpenPage, bytes_by, entry_of, frame_by, home_in, is_server_page, is_table_page, place_entry}
+use Rattle.fs_seen.specs.ServerMemory.{HasFileTable, IsOpenPage, bytes_by, entry_of, frame_by, home_in, is_table_page, place_entry}
+use Rattle.lib_os.specs.MadeCalls.{is_server_page}
 use Rattle.fs_seen.specs.ServerMemory.{place_page, records_page, view_in}
 use Rattle.fs_seen.proofs.Accesses.{Accessed, counts_stay}
 use Rattle.fs_seen.proofs.Alike.{IsBehind, frames_alike, place_alike, view_alike}

@@ -33,7 +33,8 @@ use Rattle.fs_tree.specs.TreeSteps.{TreeAt, memory_in}
 use Rattle.fs_tree.proofs.TiesBlocks.{request_number}
 use Rattle.fs_requests.specs.ServerPlans.{open_page, open_perm}
 use Rattle.fs_serving.specs.ServerViews.{with_new_page, word_of}
-use Rattle.fs_seen.specs.ServerMemory.{HasFileTable, IsOpenPage, bytes_by, entry_of, frame_by, home_in, is_server_page, is_table_page}
+use Rattle.fs_seen.specs.ServerMemory.{HasFileTable, IsOpenPage, bytes_by, entry_of, frame_by, home_in, is_table_page}
+use Rattle.lib_os.specs.MadeCalls.{is_server_page}
 use Rattle.fs_seen.specs.ServerMemory.{place_entry}
 use Rattle.fs_seen.specs.ServerMemory.{place_page, records_page, view_in}
 use Rattle.fs_seen.proofs.Alike.{IsBehind}

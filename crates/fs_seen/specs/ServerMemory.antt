@@ -8,8 +8,9 @@ use Rattle.jos_base.specs.KernelState.{KernelState, slot_at}
 use Rattle.jos_base.specs.Reach.{Entry, allows}
 use Rattle.jos_base.specs.SpacesState.{page, reference_count}
 use Rattle.jos_base.specs.Words.{page_number}
-use Rattle.lib_os.specs.declared.numbers.TheConstants.{CACHE_BLOCKS, DISKMAP, MAXOPEN, OPEN_RECORDS, REQUEST}
+use Rattle.lib_os.specs.declared.numbers.TheConstants.{MAXOPEN, OPEN_RECORDS}
 use Rattle.lib_os.specs.Disk.{Disk}
+use Rattle.lib_os.specs.MadeCalls.{is_server_page}
 use Rattle.lib_os.specs.Rows.{IsPage}
 use Rattle.fs_tree.specs.TreeSteps.{job_in, memory_in}
 use Rattle.fs_requests.specs.ServerPlans.{open_page}
@@ -28,10 +29,6 @@ place_page number = page_number (open_page number)
 -- the pages of the table of open files
 abbrev pub is_table_page : ℕ → Bool
 is_table_page p = (p == records_page) || (nat_le (page_number FDTABLE) p && nat_lt p (page_number FDTABLE + MAXOPEN))
-
--- the pages that the server works with: those, that of the request, and those of the blocks
-abbrev pub is_server_page : ℕ → Bool
-is_server_page p = is_table_page p || (nat_le (page_number REQUEST) p && nat_lt p (page_number DISKMAP + CACHE_BLOCKS))
 
 -- the entry of a page in the space of a slot's environment
 abbrev pub entry_of : KernelState → ℕ → ℕ → Option Entry
