@@ -5,8 +5,9 @@
 
 IMAGE is a file, which stands on no disk here, and the program's first word.
 
-It is written after docs/library.md, and shares nothing with the code: the fence, the services 0 to 9, 11 to 16 and 19, each with
-its refusals and its steps, the handler of page faults, which copies a page that waits for that or ends the program, and turns.
+It is written after docs/library.md, and shares nothing with the code: the fence, the services 0 to 9, 11 to 16, 18 and 19,
+each with its refusals and its steps, the handler of page faults, which copies a page that waits for that or ends the program, the
+file server, which is asked for sync alone, and turns.
 The processor is that of processor.py, and the frames are those of model.py. It takes the words of the command, and the console's
 input on its own, and answers with its console, notes and status; what it does not have is `Unmodelled`.
 """
@@ -31,6 +32,8 @@ TRANSFER_MAX = 4096  # bytes of one read or write
 END_OF_INPUT = 4  # what is read where there is no byte
 NOT_SUPPORTED = 15
 SERVER, PROGRAM = 0x1000, 0x1001
+SYNC = 8  # the word of the only request
+CACHED_REGIONS = 64  # the regions of the server's cache, which has no page
 FENCE = [(0x00200000, 0x00400000), (0x00800000, 0xD0000000), (0xD0400000, 0xEEBFE000)]
 RESIDENT = range(0xEEBFE800, 0xEEC00000)
 CPUTS_MAX, TURN_MAX, QUANTUM = 4096, 1048576, 1000
@@ -140,7 +143,7 @@ class Run:
         self.output, self.traps = bytearray(), []
         self.slots, self.last_ids, self.free_slots = [None] * SLOTS, [0] * SLOTS, list(range(SLOTS))
         self.last, self.now = -1, None
-        self.make(0)  # the server, which has no pages and never runs
+        self.make(0).status = "runnable"  # the server, which has no pages
         self.now = self.make(0)
         self.load(image)
         self.begin(words)
@@ -255,6 +258,8 @@ class Run:
             self.seek_or_set_size(edx)
         elif service == 15:
             self.stat(edx, ecx)
+        elif service == 18:
+            self.sync()
         elif service == 19:
             self.dup(edx, ecx)
         else:
@@ -558,6 +563,52 @@ class Run:
             registers[EBX] = 0 if bits == 0 else 2 if bits & W else 1
             self.now.answer(0)
 
+    # ---- requests to the file server
+
+    def sync(self):
+        """The own id; a try to send the word of the request, after one in vain a yield, and again; from the next step on it waits
+        for the server alone; then the word that came, which it answers."""
+        stage = self.now.stage
+        if stage == "entered":
+            self.now.go_on("asking")
+        elif stage == "asking":
+            self.now.go_on("pausing" if self.try_to_send(SERVER, SYNC, 0) == -NOT_RECEIVING else "awaiting")
+        elif stage == "pausing":
+            self.now.status = "runnable"
+            self.now.go_on("asking")
+        elif stage == "awaiting":
+            self.now.receives, self.now.status = (0, SERVER), "not runnable"
+            self.now.go_on("reply")
+        else:
+            self.now.answer(self.now.message[1])
+
+    def server_step(self):
+        """It gives back the page of a request, and it has none; from the next step on it waits for anybody. Then the word that came
+        and who sent it; the entry of each region of its cache, in none of which is a page to be written; its own id, by which it has
+        acted; and a try to send the answer, after one in vain a yield, and again."""
+        stage = self.now.stage
+        if stage == "entered":
+            self.now.go_on("receiving")
+        elif stage == "receiving":
+            self.now.receives, self.now.status = (0, 0), "not runnable"
+            self.now.go_on("kind")
+        elif stage == "kind":
+            assert self.now.message[1:] == (SYNC, 0)
+            self.now.go_on("client")
+        elif stage == "client":
+            self.now.go_on("flushing", self.now.message[0], 0)
+        elif stage == "flushing":
+            client, region = self.now.found
+            self.now.go_on(*("flushing", client, region + 1) if region + 1 < CACHED_REGIONS else ("acting", client))
+        elif stage == "acting":
+            self.now.go_on("replying", *self.now.found)
+        elif stage == "replying":
+            answer = self.try_to_send(self.now.found[0], 0, 0)
+            self.now.go_on(*("pausing", *self.now.found) if answer == -NOT_RECEIVING else ("entered",))
+        else:
+            self.now.status = "runnable"
+            self.now.go_on("replying", *self.now.found)
+
     # ---- fork
 
     def fork(self):
@@ -696,6 +747,9 @@ class Run:
 
     def step(self):
         now = self.now
+        if now.id == SERVER:
+            self.server_step()
+            return
         if now.fault is not None:
             self.handle()
             return

@@ -11,13 +11,13 @@ ENDS = [0x1FFFFF, 0x200000, 0x3FFFFF, 0x400000, 0x7FFFFF, 0x800000, 0xCFFFFFFF, 
         0xEEBFDFFF, 0xEEBFE000, 0xEEC00000, 0xFFFFFFFF]
 IDS = [0, 0x1001, 0x1002, 0x2001, 0x2000, 0x13FF, 0xFFFFFFFF]
 LIKELY_IDS = [0x1001, 0x1002, 0x1002, 0x1003, 0x1004, 0x2002, 0x2003]
-NUMBERS = [10, 17, 18, 20, 21, 22, 0x41, 0x80000000, 0xFFFFFFFF]
+NUMBERS = [10, 17, 20, 21, 22, 0x41, 0x80000000, 0xFFFFFFFF]
 FDS, ODD_FDS = [0, 1, 1, 2, 5, 31], [32, 33, 0x80000000, 0xFFFFFFFF]
 OPEN_FDS = [0, 1, 1, 1, 2]
 LENGTHS, ODD_LENGTHS = [1, 2, 3, 4, 5, 7, 8, 13, 16, 17], [0, 4095, 4096, 4097, 0x7FFFFFFF, 0xFFFFFFFF]
 
 # how often a program asks for which service; 99 is any other number
-ANY = {1: 4, 2: 1, 3: 2, 5: 2, 6: 6, 7: 3, 8: 4, 9: 1, 11: 2, 12: 3, 13: 5, 14: 1, 15: 2, 16: 1, 19: 4, 99: 1}
+ANY = {1: 4, 2: 1, 3: 2, 5: 2, 6: 6, 7: 3, 8: 4, 9: 1, 11: 2, 12: 3, 13: 5, 14: 1, 15: 2, 16: 1, 18: 2, 19: 4, 99: 1}
 # where ESP may lie, and at the end the first and last places where it may not
 STACKS = [STACK + 0x800, 0x902000, 0, 0xEEBFE000, 0xEEBFE7FF, 0xEEC00000, 0xEEC00FF0]
 RESIDENT = [0xEEBFE800, 0xEEBFF000, 0xEEBFFFFF]

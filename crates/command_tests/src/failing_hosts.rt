@@ -111,11 +111,12 @@ fn check_turns(
     Ok(())
 }
 
-// The calls are the disk's size and its bytes in two pieces, the input, the letter and the note.
+// The calls are the disk's size and its bytes in two pieces, the input, the letter and the note. The letter is printed in the turn
+// behind the server's.
 #[test]
 fn a_call_that_fails_in_a_run_leaves_its_turns(rt: HostRuntime) -> Result<(), Fail> {
     let disk = disk_with(rt.alloc(), "h", &PRINTS)?;
-    for (call, turns) in [(0, 0), (1, 0), (2, 0), (3, 0), (4, 1), (5, 1)] {
+    for (call, turns) in [(0, 0), (1, 0), (2, 0), (3, 0), (4, 2), (5, 2)] {
         check_turns(&rt, rt.alloc(), &disk, call, turns)?;
     }
     Ok(())

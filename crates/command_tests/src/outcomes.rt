@@ -1,7 +1,7 @@
 //! What only an outcome tells: turns, the first refusal, and the places of words.
 
 use crate::hosts::{ask, disk_with, holds, host_of};
-use crate::images::{FILLS, HI, JUMPS};
+use crate::images::{FILLS, FORKS_AND_SYNCS, HI, JUMPS, PRINTS, SYNCS};
 use jos_cli::{Outcome, Refusal, Turn};
 use std::alloc::{AllocError, Global};
 use std::process::Abort;
@@ -34,14 +34,99 @@ fn the_last_turn_has_what_is_left_of_the_budget(rt: HostRuntime) -> Result<(), F
     Ok(())
 }
 
-/// Whether the outcome tells one refusal, in the first turn, before anything was printed.
+/// Ends the test where these are not a turn of the server, with a step that nobody sees and one that is seen, and one of the program.
+fn check_first_turns(rt: &impl Abort, turns: &[Turn]) {
+    let server = Turn {
+        slot: 0,
+        visible: 1,
+        hidden: 1,
+    };
+    let program = Turn {
+        slot: 1,
+        visible: 10,
+        hidden: 33,
+    };
+    assert_eq!(rt; turns, [server, program].as_slice());
+}
+
+#[test]
+fn the_first_turn_of_a_run_is_the_servers(rt: HostRuntime) -> Result<(), Fail> {
+    let disk = disk_with(rt.alloc(), "h", &PRINTS)?;
+    let mut host = host_of(rt.alloc(), &[("d", disk.as_slice())], &[])?;
+    let outcome = ask(rt.alloc(), &["run", "d", "h"], &mut host);
+    check_first_turns(&rt, turns_of(&outcome));
+    Ok(())
+}
+
+/// A turn of a slot, with so many steps that are seen and so many that are not.
+fn turn_of(slot: u16, visible: u32, hidden: u32) -> Turn {
+    Turn {
+        slot,
+        visible,
+        hidden,
+    }
+}
+
+/// Ends the test where these are not the turns of a program that asks for sync and ends: the server makes ready; the program asks and
+/// waits; the server looks at 64 regions, acts, replies and makes ready; and the program is answered and ends.
+fn check_turns_of_sync(rt: &impl Abort, turns: &[Turn]) {
+    let wanted = [
+        turn_of(0, 1, 1),
+        turn_of(1, 4, 1),
+        turn_of(0, 3, 67),
+        turn_of(1, 6, 33),
+    ];
+    assert_eq!(rt; turns, wanted.as_slice());
+}
+
+#[test]
+fn the_file_server_has_a_turn_for_a_request(rt: HostRuntime) -> Result<(), Fail> {
+    let disk = disk_with(rt.alloc(), "h", &SYNCS)?;
+    let mut host = host_of(rt.alloc(), &[("d", disk.as_slice())], &[])?;
+    let outcome = ask(rt.alloc(), &["run", "d", "h"], &mut host);
+    check_turns_of_sync(&rt, turns_of(&outcome));
+    Ok(())
+}
+
+/// How many steps of a slot are seen in these turns, and how many are not.
+fn steps_of(turns: &[Turn], slot: u16) -> (u32, u32) {
+    let (mut visible, mut hidden) = (0u32, 0u32);
+    for turn in turns {
+        if turn.slot == slot {
+            visible = visible.saturating_add(turn.visible);
+            hidden = hidden.saturating_add(turn.hidden);
+        }
+    }
+    (visible, hidden)
+}
+
+/// Ends the test where the server has not made 70 steps for each of two requests, six of them seen, or where the second of the two who
+/// ask has not tried in vain 35 times, with a step that gives up the turn behind each.
+fn check_steps_of_two(rt: &impl Abort, turns: &[Turn]) {
+    assert_eq!(rt; steps_of(turns, 0), (7, 135));
+    assert_eq!(rt; steps_of(turns, 1), (14, 4136));
+    assert_eq!(rt; steps_of(turns, 2), (10, 34));
+}
+
+// Behind the fork each turn has one step.
+#[test]
+fn two_ask_the_file_server_at_once(rt: HostRuntime) -> Result<(), Fail> {
+    let disk = disk_with(rt.alloc(), "h", &FORKS_AND_SYNCS)?;
+    let files: [(&str, &[u8]); 2] = [("d", disk.as_slice()), ("s", b"2 4036 1")];
+    let mut host = host_of(rt.alloc(), &files, &[])?;
+    let outcome = ask(rt.alloc(), &["run", "--schedule=s", "d", "h"], &mut host);
+    check_steps_of_two(&rt, turns_of(&outcome));
+    Ok(())
+}
+
+/// Whether the outcome tells one refusal, in the turn behind the server's, before anything was printed.
 fn is_refused_once(outcome: &Outcome) -> bool {
     match outcome {
         Outcome::Ran(report, _) => {
             report.refused == 1
                 && report.first_refused
                     == Some(Refusal {
-                        turn: 0,
+                        turn: 1,
                         console_len: 0,
                     })
         }

@@ -5,6 +5,7 @@ pub mod MovesBearing
 pub mod MovesRound
 pub mod CacheBegins
 pub mod StepWhole
+pub mod DiskTouched
 pub mod CacheLaw
 pub mod PagesPut
 pub mod Pages

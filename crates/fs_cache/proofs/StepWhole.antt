@@ -8,6 +8,7 @@ use Rattle.std.proofs.lemmas.Slice.Eq.{bytes_eq-Decides}
 use Rattle.jos_host.specs.Files.{Files, with_bytes, bytes_of, overwritten}
 use Rattle.jos_host.specs.Frames.{from_to}
 use Rattle.jos_base.specs.declared.numbers.TheConstants.{PGSIZE}
+use Rattle.jos_base.specs.declared.memory.Access.{Access}
 use Rattle.jos_base.specs.declared.memory.Access.TheVariants.{Read}
 use Rattle.jos_base.specs.KernelState.{KernelState, slot_at}
 use Rattle.jos_base.specs.UserMemory.{is_allowed}
@@ -16,7 +17,7 @@ use Rattle.fs_layout.specs.declared.numbers.TheConstants.{BLKSIZE}
 use Rattle.lib_os.specs.declared.user_os.Stop.{Stop}
 use Rattle.lib_os.specs.declared.user_os.Stop.TheVariants as stop
 use Rattle.lib_os.specs.Disk.{HasBlocks}
-use Rattle.lib_os.specs.UserCalls.{BlockCall, FilesBehindBy, Output, is_file_server, may_write_block, page_bytes, user_byte}
+use Rattle.lib_os.specs.UserCalls.{BlockCall, FilesBehindBy, Output, is_file_server, may_move, may_write_block, page_bytes, user_byte}
 use Rattle.lib_os.proofs.DiskBytes.{written_length}
 use Rattle.fs_blocks.specs.declared.plan.CacheAsk.{CacheAsk}
 use Rattle.fs_blocks.specs.declared.plan.CacheAsk.TheVariants as ask
@@ -27,7 +28,7 @@ bytes_with files name bytes =
     let same : bytes_eq name name ≡ true = (bytes_eq-Decides name name).1 refl in
     ap (λ (t : Bool). unwrap_or (if t then Some bytes else files name) []) same
 
-page_long : (s : KernelState) (n va : ℕ) → length (page_bytes s n va) ≡ BLKSIZE
+pub page_long : (s : KernelState) (n va : ℕ) → length (page_bytes s n va) ≡ BLKSIZE
 unfolding page_bytes
 page_long s n va = length-values PGSIZE (λ k. user_byte s n (va + k))
 
@@ -39,11 +40,11 @@ and_second : (a b : Bool) → (a && b) ≡ true → b ≡ true
 and_second true b h = h
 and_second false b h = cc
 
--- The caller is the file server only where the disk has the block.
-block_there : (call : BlockCall) → may_write_block call ≡ true → call.block < call.disk.blocks
-block_there call may =
+-- A block is moved only where the disk has it.
+pub block_there : (call : BlockCall) (access : Access) → may_move call access ≡ true → call.block < call.disk.blocks
+block_there call access may =
     let caller = slot_at call.state call.slot in
-    let allowed = is_allowed call.state.spaces caller.directory call.va Read in
+    let allowed = is_allowed call.state.spaces caller.directory call.va access in
     let has = nat_lt call.block call.disk.blocks in
     let server = is_file_server caller.env_type in
     let there : nat_lt call.block call.disk.blocks ≡ true = and_second server has (and_first (server && has) allowed may) in
@@ -68,7 +69,7 @@ moved_whole : (t : Bool) (call : BlockCall) (word : ℕ) (before after : Option 
 moved_whole false call word before after test whole behind = subst (λ (f : Option Files). HasBlocks f call.disk) (sym behind) whole
 moved_whole true call word None after test whole behind = subst (λ (f : Option Files). HasBlocks f call.disk) (sym behind) tt
 moved_whole true call word (Some files) after test whole behind =
-    subst (λ (f : Option Files). HasBlocks f call.disk) (sym behind) (written_whole files call (block_there call test) whole)
+    subst (λ (f : Option Files). HasBlocks f call.disk) (sym behind) (written_whole files call (block_there call Read test) whole)
 
 -- where the call gave a word
 pub whole_behind : (a : CacheAsk) (c : Caller) (word : ℕ) (before after : Option Files) → HasBlocks before c.disk →

@@ -1,6 +1,6 @@
 //! Steps of the cache, each of which is one call.
 
-ghost use Rattle.std.specs.Prelude.{◌≡◌, ◌+◌, ◌-◌, ◌<◌, ◌^◌, true, OnOk};
+ghost use Rattle.std.specs.Prelude.{◌≡◌, ◌+◌, ◌-◌, ◌<◌, ◌^◌, true, OnErr, OnOk};
 ghost use Rattle.jos_host.specs.Told.{HasCause};
 ghost use Rattle.jos_host.specs.Frames.{around, from_to};
 ghost use Rattle.jos_base.specs.Environments.{is_live};
@@ -8,6 +8,7 @@ ghost use Rattle.jos_base.specs.KernelState.{slot_at};
 ghost use Rattle.lib_os.specs.declared.numbers.TheConstants.{CACHE_BLOCKS};
 ghost use Rattle.lib_os.specs.Disk.{HasBlocks};
 ghost use Rattle.lib_os.specs.InOrder.{IsInOrder};
+ghost use Rattle.lib_os.specs.MadeCalls.{PrintsPartOfSome, TouchesDisk};
 ghost use Rattle.lib_os.specs.UserCalls.{HasStopCause, output};
 ghost use Rattle.fs_blocks.specs.CachePlans as plans;
 ghost use Rattle.fs_cache.specs.CacheSteps as cache;
@@ -49,6 +50,7 @@ fn reply<O: UserOs, H: Host>(os: &mut O, host: &mut H, asked: CacheAsk) -> Resul
     requires own { plans.IsOwnAsk asked }
     ensures step { IsReply asked (caller (O.state os.old) (O.slot os.old) (O.disk os.old)) (H.files host.old) result (O.state os.new) (output H.console O.written (from_to host.old host.new) (from_to os.old os.new)) }
     ensures files { FilesAfter asked (caller (O.state os.old) (O.slot os.old) (O.disk os.old)) result (around H.files host.old host.new) }
+    ensures disk_only { TouchesDisk (O.disk os.old) (around H.files host.old host.new) (around H.asked host.old host.new) }
     ensures in_order { IsInOrder (O.state os.new) }
     ensures slot { O.slot os.new ≡ O.slot os.old }
     ensures disk { O.disk os.new ≡ O.disk os.old }
@@ -81,6 +83,8 @@ fn step<O: UserOs, H: Host>(os: &mut O, host: &mut H, state: CacheState) -> Resu
     requires whole { HasBlocks (H.files host.old) (O.disk os.old) }
     ensures made { IsCacheStep state (caller (O.state os.old) (O.slot os.old) (O.disk os.old)) result (around H.files host.old host.new) (O.state os.new) (output H.console O.written (from_to host.old host.new) (from_to os.old os.new)) }
     ensures whole { OnOk result (HasBlocks (H.files host.new) (O.disk os.new)) }
+    ensures disk_only { TouchesDisk (O.disk os.old) (around H.files host.old host.new) (around H.asked host.old host.new) }
+    ensures failed { OnErr result (PrintsPartOfSome (output H.console O.written (from_to host.old host.new) (from_to os.old os.new))) }
     ensures in_order { IsInOrder (O.state os.new) }
     ensures slot { O.slot os.new ≡ O.slot os.old }
     ensures disk { O.disk os.new ≡ O.disk os.old }
@@ -124,10 +128,12 @@ fn as_flushed(told: Told) -> Flushed
 }
 
 /// Makes a step towards a block in the cache. Nothing is done where it is ready; else the step is one call. What is under way for
-/// another block is done first. (MIT 6.828, lab 5: fs/bc.c, bc_pgfault)
+/// another block is done first. Of the host's files at most a block of the disk's is read or written, whether or not the host fails
+/// (`disk_only`). (MIT 6.828, lab 5: fs/bc.c, bc_pgfault)
 ///
 /// # Errors
-/// The host failed while a block was read or written.
+/// The host failed while a block was read or written, or while a line was written. The console keeps what it has, and at most a part of some
+/// bytes came behind that (`failed`).
 pub fn block_step<O: UserOs, H: Host>(
     os: &mut O,
     host: &mut H,
@@ -141,6 +147,8 @@ pub fn block_step<O: UserOs, H: Host>(
     ensures cache { KeepsCacheWhereDone result (O.disk os.old) (O.slot os.old) (around O.state os.old os.new) (around H.files host.old host.new) }
     ensures tells { FetchTold block result (O.disk os.old) (O.slot os.old) (around O.state os.old os.new) (H.files host.old) }
     ensures whole { OnOk result (HasBlocks (H.files host.new) (O.disk os.new)) }
+    ensures disk_only { TouchesDisk (O.disk os.old) (around H.files host.old host.new) (around H.asked host.old host.new) }
+    ensures failed { OnErr result (PrintsPartOfSome (output H.console O.written (from_to host.old host.new) (from_to os.old os.new))) }
     ensures in_order { IsInOrder (O.state os.old) → IsInOrder (O.state os.new) }
     ensures slot { O.slot os.new ≡ O.slot os.old }
     ensures disk { O.disk os.new ≡ O.disk os.old }
@@ -163,10 +171,12 @@ pub fn block_step<O: UserOs, H: Host>(
 }
 
 /// Makes a step of a flush, in which all dirty pages are written to the disk, in the order of their blocks. The step is one
-/// call. (MIT 6.828, lab 5: fs/fs.c, fs_sync)
+/// call. Of the host's files at most a block of the disk's is read or written, whether or not the host fails (`disk_only`).
+/// (MIT 6.828, lab 5: fs/fs.c, fs_sync)
 ///
 /// # Errors
-/// The host failed while a block was read or written.
+/// The host failed while a block was read or written, or while a line was written. The console keeps what it has, and at most a part of some
+/// bytes came behind that (`failed`).
 pub fn flush_step<O: UserOs, H: Host>(os: &mut O, host: &mut H) -> Result<Flushed, Failed>
     requires live { is_live (slot_at (O.state os.old) (O.slot os.old)) ≡ true }
     requires few { O.calls os.old < 2 ^ 32 - 1 }
@@ -175,6 +185,8 @@ pub fn flush_step<O: UserOs, H: Host>(os: &mut O, host: &mut H) -> Result<Flushe
     ensures cache { KeepsCacheWhereDone result (O.disk os.old) (O.slot os.old) (around O.state os.old os.new) (around H.files host.old host.new) }
     ensures tells { FlushTold result (O.disk os.old) (O.slot os.old) (around O.state os.old os.new) (H.files host.old) }
     ensures whole { OnOk result (HasBlocks (H.files host.new) (O.disk os.new)) }
+    ensures disk_only { TouchesDisk (O.disk os.old) (around H.files host.old host.new) (around H.asked host.old host.new) }
+    ensures failed { OnErr result (PrintsPartOfSome (output H.console O.written (from_to host.old host.new) (from_to os.old os.new))) }
     ensures in_order { IsInOrder (O.state os.new) }
     ensures slot { O.slot os.new ≡ O.slot os.old }
     ensures disk { O.disk os.new ≡ O.disk os.old }

@@ -17,3 +17,11 @@ pub mod TakingLaw
 pub mod ServesAs
 pub mod Needs
 pub mod ServesOver
+pub mod SeenAlike
+pub mod TableLeft
+pub mod OneEntry
+pub mod CallsLeave
+pub mod CacheLeaves
+pub mod JobsLeave
+pub mod JobsServed
+pub mod FlushesServed

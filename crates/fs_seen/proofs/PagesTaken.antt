@@ -31,16 +31,16 @@ pub record Taken (s t : SpacesState) (d p perm frame : ℕ) : Type 0 where
 -- ---- a table for it
 
 -- the next frame to be handed out is free
-abbrev HeadFree : SpacesState → Type 0
+abbrev pub HeadFree : SpacesState → Type 0
 HeadFree s = (f : ℕ) (rest : List ℕ) → s.free ≡ f ∷ rest → s.uses f ≡ free
 
-record Tabled (s t : SpacesState) : Type 0 where
-  entries : t.entries ≡ s.entries
-  pages : (f : ℕ) → s.uses f ≢ free → t.pages f ≡ s.pages f
-  uses : (f : ℕ) → s.uses f ≢ free → t.uses f ≡ s.uses f
-  tables : (q r : ℕ) → is_some (s.regions q r) ≡ true → is_some (t.regions q r) ≡ true
+pub record Tabled (s t : SpacesState) : Type 0 where
+  pub entries : t.entries ≡ s.entries
+  pub pages : (f : ℕ) → s.uses f ≢ free → t.pages f ≡ s.pages f
+  pub uses : (f : ℕ) → s.uses f ≢ free → t.uses f ≡ s.uses f
+  pub tables : (q r : ℕ) → is_some (s.regions q r) ≡ true → is_some (t.regions q r) ≡ true
 
-tabled_so : (s t : SpacesState) (d index : ℕ) → HeadFree s → tabled s d index ≡ Some t → Tabled s t
+pub tabled_so : (s t : SpacesState) (d index : ℕ) → HeadFree s → tabled s d index ≡ Some t → Tabled s t
 unfolding tabled
 tabled_so s t d index head is = by_region (s.regions d index) is
   where
@@ -67,7 +67,7 @@ tabled_so s t d index head is = by_region (s.regions d index) is
 
 -- a frame that is another keeps its bytes and its use
 module _ (s : SpacesState) (f : ℕ) where
-  released_pages : (o : Option ℕ) → o ≢ Some f → (released s o).pages f ≡ s.pages f
+  pub released_pages : (o : Option ℕ) → o ≢ Some f → (released s o).pages f ≡ s.pages f
   released_pages None ne = refl
   released_pages (Some g) ne = by_test (page_count s.entries g == 0)
     where
@@ -75,7 +75,7 @@ module _ (s : SpacesState) (f : ℕ) where
       by_test true = upd-other s.pages g [] f (λ same. ne (ap (λ (x : ℕ). Some x) (sym same)))
       by_test false = refl
 
-  released_uses : (o : Option ℕ) → o ≢ Some f → (released s o).uses f ≡ s.uses f
+  pub released_uses : (o : Option ℕ) → o ≢ Some f → (released s o).uses f ≡ s.uses f
   released_uses None ne = refl
   released_uses (Some g) ne = by_test (page_count s.entries g == 0)
     where
@@ -88,11 +88,11 @@ module _ (s : SpacesState) (f : ℕ) where
 fresh_not_free : (u : Use) → u ≡ fresh → u ≢ free
 fresh_not_free u one two = let contradiction : fresh ≡ free = sym one ∙ two in cc
 
-page_not_free : (u : Use) → u ≡ page → u ≢ free
+pub page_not_free : (u : Use) → u ≡ page → u ≢ free
 page_not_free u one two = let contradiction : page ≡ free = sym one ∙ two in cc
 
 -- a frame that is not an entry's is not named by it
-not_named : (o : Option Entry) (f : ℕ) → frame_of o ≢ Some f → named f o ≡ 0
+pub not_named : (o : Option Entry) (f : ℕ) → frame_of o ≢ Some f → named f o ≡ 0
 not_named None f ne = refl
 not_named (Some e) f ne = elim (named_is f e) [
   | inl is ↦ absurd (ne (ap (λ (x : ℕ). Some x) (sym is.0)))

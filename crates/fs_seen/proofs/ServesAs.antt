@@ -3,12 +3,14 @@
 use Rattle.std.proofs.Common.{◌≡◌, ℕ, Bool, true, false, List, Option, refl, sym, subst}
 use Rattle.fs_runs.specs.TreeRuns.{Memory}
 use Rattle.fs_jobs.specs.declared.place.TreeState.{TreeState}
+use Rattle.lib_os.specs.declared.progress.Progress.{Progress}
+use Rattle.lib_os.specs.declared.progress.Progress.TheVariants as progress
 use Rattle.lib_os.specs.declared.request.RequestKind.{RequestKind}
 use Rattle.lib_os.specs.AbstractState.{AbstractState, Request}
 use Rattle.fs_requests.specs.declared.state.ServerStep.{ServerStep}
 use Rattle.fs_requests.specs.declared.state.ServerStep.TheVariants as step
 use Rattle.fs_serving.specs.ServerRuns.{HasCome, HasMoved, IsBusy, IsChecking, IsDone, IsFound, IsLooking, IsOpened, IsOpening, IsReplying}
-use Rattle.fs_serving.specs.ServerRuns.{IsStoring, IsTold, IsWorking, OfFile, StandsAtStep, StandsServing, TableStands, moved, opened, over}
+use Rattle.fs_serving.specs.ServerRuns.{Follows, IsStoring, IsTold, IsWorking, OfFile, StandsAtStep, StandsServing, TableStands, moved, opened, over}
 use Rattle.fs_serving.specs.ServerRuns.{removed, sought}
 use Rattle.fs_serving.specs.ServerViews.{Serving, View}
 use Rattle.fs_seen.specs.ServerSees.{ServesAlike, is_working}
@@ -281,3 +283,12 @@ module _ (blocks : ℕ) (a : AbstractState) (it other : Serving) (same : ServesA
       by_test : (b : Bool) → is_working it.state.step ≡ b → StandsServing blocks a other
       by_test true on = busily on
       by_test false off = idle off
+
+-- what follows at a server follows at one that stands as it does
+pub follows_as : (count : ℕ) (a : AbstractState) (done : Progress) (it that : Serving) → ServesAlike it that → Follows count a done it →
+    Follows count a done that
+follows_as count a progress.Hidden it that same h = serves_as count a it that same h
+follows_as count a progress.Visible it that same h = (h.0, h.1, serves_as count h.0 it that same h.2)
+follows_as count a progress.Waited it that same h = h
+follows_as count a progress.Finished it that same h = h
+follows_as count a progress.Ended it that same h = h

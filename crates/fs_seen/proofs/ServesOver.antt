@@ -2,7 +2,6 @@
 use Rattle.std.proofs.Common.{◌≡◌, ◌⊎◌, inl, inr, ℕ, true, false, refl, sym, subst}
 use Rattle.jos_base.specs.KernelState.{KernelState}
 use Rattle.lib_os.specs.declared.progress.Progress.{Progress}
-use Rattle.lib_os.specs.declared.progress.Progress.TheVariants as progress
 use Rattle.lib_os.specs.AbstractState.{AbstractState}
 use Rattle.lib_os.specs.Disk.{Disk}
 use Rattle.fs_requests.specs.declared.plan.ServerNext.{ServerNext}
@@ -16,20 +15,11 @@ use Rattle.fs_serving.specs.ServerViews.{Calls, Serving}
 use Rattle.fs_serving.proofs.ServedWhole.{all_servers_serve}
 use Rattle.fs_server.specs.ServerSteps.{server_at}
 use Rattle.fs_seen.specs.ServerMemory.{serving_in}
-use Rattle.fs_seen.specs.ServerSees.{CallsServe, HasServed, IsSeen, ServesAlike, is_quiet, makes_call}
+use Rattle.fs_seen.specs.ServerSees.{CallsServe, HasServed, IsSeen, is_quiet, makes_call}
 use Rattle.fs_seen.proofs.CallsSeen.{calls_are_seen}
 use Rattle.fs_seen.proofs.Needs.{has_needs}
-use Rattle.fs_seen.proofs.ServesAs.{serves_as}
+use Rattle.fs_seen.proofs.ServesAs.{follows_as}
 use Rattle.fs_seen.proofs.TakingLaw.{pages_are_taken}
-
--- what follows at a server follows at one that stands as it does
-follows_as : (count : ℕ) (a : AbstractState) (done : Progress) (it other : Serving) → ServesAlike it other → Follows count a done it →
-    Follows count a done other
-follows_as count a progress.Hidden it other same h = serves_as count a it other same h
-follows_as count a progress.Visible it other same h = (h.0, h.1, serves_as count h.0 it other same h.2)
-follows_as count a progress.Waited it other same h = h
-follows_as count a progress.Finished it other same h = h
-follows_as count a progress.Ended it other same h = h
 
 -- what a step of the server's own asks for is a call
 module _ (count : ℕ) (a : AbstractState) (it : Serving) (next : ServerNext) (behind : Serving) (calls : Calls it next behind) where

@@ -1,2 +1,3 @@
 pub mod ServerMemory
 pub mod ServerSees
+pub mod BlockSteps

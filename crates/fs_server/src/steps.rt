@@ -1,13 +1,13 @@
 //! A step of the server, which is one call.
 
-ghost use Rattle.std.specs.Prelude.{◌≡◌, ◌+◌, ◌-◌, ◌<◌, ◌^◌, true, OnOk};
+ghost use Rattle.std.specs.Prelude.{◌≡◌, ◌+◌, ◌-◌, ◌<◌, ◌^◌, true, OnErr, OnOk};
 ghost use Rattle.jos_host.specs.Told.{HasCause};
 ghost use Rattle.jos_host.specs.Frames.{Unchanged, around, from_to};
 ghost use Rattle.jos_base.specs.Environments.{is_live};
 ghost use Rattle.jos_base.specs.KernelState.{slot_at};
 ghost use Rattle.lib_os.specs.Disk.{HasBlocks};
 ghost use Rattle.lib_os.specs.InOrder.{IsInOrder};
-ghost use Rattle.lib_os.specs.MadeCalls.{MakesServersCall};
+ghost use Rattle.lib_os.specs.MadeCalls.{MakesServersCall, PrintsPartOfSome, TouchesDisk};
 ghost use Rattle.lib_os.specs.UserCalls.{HasStopCause, output};
 ghost use Rattle.fs_requests.specs.ServerPlans.{IsOwnCall};
 ghost use Rattle.fs_server.specs.ServerSteps as steps;
@@ -96,6 +96,7 @@ fn make_call<O: UserOs, H: Host>(
     requires few { O.calls os.old < 2 ^ 32 - 1 }
     requires own { IsOwnCall call }
     ensures made { steps.IsCalled call state result (O.slot os.old) (around O.state os.old os.new) (output H.console O.written (from_to host.old host.new) (from_to os.old os.new)) }
+    ensures failed { OnErr result (PrintsPartOfSome (output H.console O.written (from_to host.old host.new) (from_to os.old os.new))) }
     ensures in_order { IsInOrder (O.state os.new) }
     ensures slot { O.slot os.new ≡ O.slot os.old }
     ensures disk { O.disk os.new ≡ O.disk os.old }
@@ -120,6 +121,8 @@ fn work<O: UserOs, H: Host>(
     requires whole { HasBlocks (H.files host.old) (O.disk os.old) }
     ensures told { steps.WorksWhereTold state result (O.disk os.old) (O.slot os.old) (around O.state os.old os.new) (around H.files host.old host.new) }
     ensures made { OnOk result (MakesServersCall (around O.state os.old os.new) (O.slot os.old) (O.disk os.old) (around H.files host.old host.new) (output H.console O.written (from_to host.old host.new) (from_to os.old os.new))) }
+    ensures disk_only { TouchesDisk (O.disk os.old) (around H.files host.old host.new) (around H.asked host.old host.new) }
+    ensures failed { OnErr result (PrintsPartOfSome (output H.console O.written (from_to host.old host.new) (from_to os.old os.new))) }
     ensures whole { OnOk result (HasBlocks (H.files host.new) (O.disk os.new)) }
     ensures in_order { IsInOrder (O.state os.old) → IsInOrder (O.state os.new) }
     ensures slot { O.slot os.new ≡ O.slot os.old }
@@ -146,6 +149,8 @@ fn flush<O: UserOs, H: Host>(
     requires few { O.calls os.old < 2 ^ 32 - 1 }
     requires whole { HasBlocks (H.files host.old) (O.disk os.old) }
     ensures made { steps.IsFlushed state result (O.disk os.old) (O.slot os.old) (around O.state os.old os.new) (around H.files host.old host.new) (output H.console O.written (from_to host.old host.new) (from_to os.old os.new)) }
+    ensures disk_only { TouchesDisk (O.disk os.old) (around H.files host.old host.new) (around H.asked host.old host.new) }
+    ensures failed { OnErr result (PrintsPartOfSome (output H.console O.written (from_to host.old host.new) (from_to os.old os.new))) }
     ensures whole { OnOk result (HasBlocks (H.files host.new) (O.disk os.new)) }
     ensures in_order { IsInOrder (O.state os.new) }
     ensures slot { O.slot os.new ≡ O.slot os.old }
@@ -163,16 +168,18 @@ fn flush<O: UserOs, H: Host>(
 }
 
 /// Makes the next step of the file server, which is one call: one of those that it makes, whatever stands, and behind it no more than own words and
-/// registers are set (`made`).
+/// registers are set (`made`). Of the host's files at most a block of the disk's is read or written, whether or not the host fails (`disk_only`).
 ///
 /// # Errors
-/// The host failed.
+/// The host failed. The console keeps what it has, and at most a part of some bytes came behind that (`failed`).
 pub fn server_step<O: UserOs, H: Host>(os: &mut O, host: &mut H) -> Result<Progress, Failed>
     requires live { is_live (slot_at (O.state os.old) (O.slot os.old)) ≡ true }
     requires few { O.calls os.old < 2 ^ 32 - 1 }
     requires whole { HasBlocks (H.files host.old) (O.disk os.old) }
     ensures step { steps.Serves result (O.disk os.old) (O.slot os.old) (around O.state os.old os.new) (around H.files host.old host.new) (output H.console O.written (from_to host.old host.new) (from_to os.old os.new)) }
     ensures made { OnOk result (MakesServersCall (around O.state os.old os.new) (O.slot os.old) (O.disk os.old) (around H.files host.old host.new) (output H.console O.written (from_to host.old host.new) (from_to os.old os.new))) }
+    ensures disk_only { TouchesDisk (O.disk os.old) (around H.files host.old host.new) (around H.asked host.old host.new) }
+    ensures failed { OnErr result (PrintsPartOfSome (output H.console O.written (from_to host.old host.new) (from_to os.old os.new))) }
     ensures whole { OnOk result (HasBlocks (H.files host.new) (O.disk os.new)) }
     ensures in_order { IsInOrder (O.state os.old) → IsInOrder (O.state os.new) }
     ensures slot { O.slot os.new ≡ O.slot os.old }

@@ -9,7 +9,7 @@ use Rattle.jos_base.specs.Words.{page_number}
 use Rattle.lib_os.specs.declared.user_os.Stop.{Stop}
 use Rattle.lib_os.specs.declared.user_os.Stop.TheVariants as stop
 use Rattle.lib_os.specs.Disk.{DiskFile}
-use Rattle.lib_os.specs.MadeCalls.{IsMade, IsServersCall, MakesServersCall, SetsWords, UserCall, faulted, gave, is_server_page}
+use Rattle.lib_os.specs.MadeCalls.{IsMade, IsServersCall, MakesServersCall, PrintsPartOfSome, SetsWords, UserCall, faulted, gave, is_server_page}
 use Rattle.lib_os.specs.MadeCalls.{asks_id, calls, loads, loads_byte, stores, stores_byte}
 use Rattle.lib_os.specs.UserCalls.{IsCallStep, Output, system}
 use Rattle.lib_os.proofs.CallsMade.{of_word}
@@ -42,6 +42,16 @@ module _ (s after : KernelState) (n : ℕ) (disk : DiskFile) (files : Around (Op
   access_faulted (ask.StoreByte at byte) why other it = one (stores_byte va (low_byte byte)) own (faulted why other it, same)
   access_faulted (ask.Request at) why other it = one (loads_byte va) tt (faulted why other it, same)
   access_faulted (ask.HandBack at byte) why other it = one (stores_byte va (low_byte byte)) own (faulted why other it, same)
+
+-- Where the host failed in it, no more came to the console than a part of some bytes.
+pub access_failed : (a : TreeAsk) (va : ℕ) (s : KernelState) (n : ℕ) (after : KernelState) (output : Output) →
+    IsAccess a va s n (Err stop.Failed) after output → PrintsPartOfSome output
+access_failed (ask.Load at) va s n after output it = (_, it.1)
+access_failed (ask.LoadByte at) va s n after output it = (_, it.1)
+access_failed (ask.Store at value) va s n after output it = (_, it.1)
+access_failed (ask.StoreByte at byte) va s n after output it = (_, it.1)
+access_failed (ask.Request at) va s n after output it = (_, it.1)
+access_failed (ask.HandBack at byte) va s n after output it = (_, it.1)
 
 -- the call that asks for the own id
 pub asked_made : (s after : KernelState) (n : ℕ) (disk : DiskFile) (files : Around (Option Files)) (output : Output) → files.after ≡ files.before →

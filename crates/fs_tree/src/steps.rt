@@ -1,13 +1,13 @@
 //! Steps of a job, each of which is one call.
 
-ghost use Rattle.std.specs.Prelude.{◌≡◌, ◌+◌, ◌-◌, ◌*◌, ◌/◌, ◌%◌, ◌<◌, ◌^◌, true, [], OnOk};
+ghost use Rattle.std.specs.Prelude.{◌≡◌, ◌+◌, ◌-◌, ◌*◌, ◌/◌, ◌%◌, ◌<◌, ◌^◌, true, [], OnErr, OnOk};
 ghost use Rattle.jos_host.specs.Told.{HasCause};
 ghost use Rattle.jos_host.specs.Frames.{Unchanged, around, from_to};
 ghost use Rattle.jos_base.specs.Environments.{is_live};
 ghost use Rattle.jos_base.specs.KernelState.{slot_at, with_extra, with_registers};
 ghost use Rattle.lib_os.specs.Disk.{HasBlocks};
 ghost use Rattle.lib_os.specs.InOrder.{IsInOrder};
-ghost use Rattle.lib_os.specs.MadeCalls.{MakesServersCall};
+ghost use Rattle.lib_os.specs.MadeCalls.{MakesServersCall, PrintsPartOfSome, TouchesDisk};
 ghost use Rattle.lib_os.specs.UserCalls.{HasStopCause, Prints, output};
 ghost use Rattle.fs_tree.specs.TreeMakes as makes;
 ghost use Rattle.fs_places.specs.TreePlaces as places;
@@ -88,6 +88,8 @@ fn make_at_block<O: UserOs, H: Host>(
     ensures leaves { makes.LeavesWhereInside ask result (O.disk os.old) (O.slot os.old) (around O.state os.old os.new) (H.files host.old) (output H.console O.written (from_to host.old host.new) (from_to os.old os.new)) }
     ensures kept { makes.KeepsSlot result (O.slot os.old) (around O.state os.old os.new) }
     ensures made { OnOk result (MakesServersCall (around O.state os.old os.new) (O.slot os.old) (O.disk os.old) (around H.files host.old host.new) (output H.console O.written (from_to host.old host.new) (from_to os.old os.new))) }
+    ensures disk_only { TouchesDisk (O.disk os.old) (around H.files host.old host.new) (around H.asked host.old host.new) }
+    ensures failed { OnErr result (PrintsPartOfSome (output H.console O.written (from_to host.old host.new) (from_to os.old os.new))) }
     ensures whole { OnOk result (HasBlocks (H.files host.new) (O.disk os.new)) }
     ensures in_order { IsInOrder (O.state os.old) → IsInOrder (O.state os.new) }
     ensures slot { O.slot os.new ≡ O.slot os.old }
@@ -125,6 +127,8 @@ fn make_at_request<O: UserOs, H: Host>(
     ensures leaves { makes.LeavesWhereInside ask result (O.disk os.old) (O.slot os.old) (around O.state os.old os.new) (H.files host.old) (output H.console O.written (from_to host.old host.new) (from_to os.old os.new)) }
     ensures kept { makes.KeepsSlot result (O.slot os.old) (around O.state os.old os.new) }
     ensures made { OnOk result (MakesServersCall (around O.state os.old os.new) (O.slot os.old) (O.disk os.old) (around H.files host.old host.new) (output H.console O.written (from_to host.old host.new) (from_to os.old os.new))) }
+    ensures disk_only { TouchesDisk (O.disk os.old) (around H.files host.old host.new) (around H.asked host.old host.new) }
+    ensures failed { OnErr result (PrintsPartOfSome (output H.console O.written (from_to host.old host.new) (from_to os.old os.new))) }
     ensures whole { OnOk result (HasBlocks (H.files host.new) (O.disk os.new)) }
     ensures in_order { IsInOrder (O.state os.new) }
     ensures slot { O.slot os.new ≡ O.slot os.old }
@@ -151,6 +155,8 @@ fn make<O: UserOs, H: Host>(os: &mut O, host: &mut H, ask: TreeAsk) -> Result<Do
     ensures leaves { makes.LeavesWhereInside ask result (O.disk os.old) (O.slot os.old) (around O.state os.old os.new) (H.files host.old) (output H.console O.written (from_to host.old host.new) (from_to os.old os.new)) }
     ensures kept { makes.KeepsSlot result (O.slot os.old) (around O.state os.old os.new) }
     ensures made { OnOk result (MakesServersCall (around O.state os.old os.new) (O.slot os.old) (O.disk os.old) (around H.files host.old host.new) (output H.console O.written (from_to host.old host.new) (from_to os.old os.new))) }
+    ensures disk_only { TouchesDisk (O.disk os.old) (around H.files host.old host.new) (around H.asked host.old host.new) }
+    ensures failed { OnErr result (PrintsPartOfSome (output H.console O.written (from_to host.old host.new) (from_to os.old os.new))) }
     ensures whole { OnOk result (HasBlocks (H.files host.new) (O.disk os.new)) }
     ensures in_order { IsInOrder (O.state os.old) → IsInOrder (O.state os.new) }
     ensures slot { O.slot os.new ≡ O.slot os.old }
@@ -195,6 +201,8 @@ fn refuse<O: UserOs, H: Host>(os: &mut O, host: &mut H) -> Result<Acted, Failed>
     ensures files { H.files host.new ≡ H.files host.old }
     ensures quiet { Prints (output H.console O.written (from_to host.old host.new) (from_to os.old os.new)) [] }
     ensures made { OnOk result (MakesServersCall (around O.state os.old os.new) (O.slot os.old) (O.disk os.old) (around H.files host.old host.new) (output H.console O.written (from_to host.old host.new) (from_to os.old os.new))) }
+    ensures disk_only { TouchesDisk (O.disk os.old) (around H.files host.old host.new) (around H.asked host.old host.new) }
+    ensures failed { OnErr result (PrintsPartOfSome (output H.console O.written (from_to host.old host.new) (from_to os.old os.new))) }
     ensures lives { LivesWhereAnswered result (slot_at (O.state os.new) (O.slot os.new)) }
     ensures in_order { IsInOrder (O.state os.new) }
     ensures slot { O.slot os.new ≡ O.slot os.old }
@@ -211,10 +219,11 @@ fn refuse<O: UserOs, H: Host>(os: &mut O, host: &mut H) -> Result<Acted, Failed>
 }
 
 /// Makes a step of the job: the block that it wants comes nearer, or it does what it asks and goes on by the reply. Each step is one call, one of
-/// those that the file server makes, whatever stands and whether or not the host tells its files (`made`).
+/// those that the file server makes, whatever stands and whether or not the host tells its files (`made`). Of the host's files at most a block of
+/// the disk's is read or written, whether or not the host fails (`disk_only`).
 ///
 /// # Errors
-/// The host failed.
+/// The host failed. The console keeps what it has, and at most a part of some bytes came behind that (`failed`).
 pub fn tree_step<O: UserOs, H: Host>(os: &mut O, host: &mut H) -> Result<Acted, Failed>
     requires live { is_live (slot_at (O.state os.old) (O.slot os.old)) ≡ true }
     requires few { O.calls os.old < 2 ^ 32 - 1 }
@@ -223,6 +232,8 @@ pub fn tree_step<O: UserOs, H: Host>(os: &mut O, host: &mut H) -> Result<Acted, 
     ensures quiet { QuietWhereTold result (O.disk os.old) (O.slot os.old) (around O.state os.old os.new) (H.files host.old) (output H.console O.written (from_to host.old host.new) (from_to os.old os.new)) }
     ensures rest { RestWhereTold result (O.disk os.old) (O.slot os.old) (around O.state os.old os.new) (H.files host.old) }
     ensures made { OnOk result (MakesServersCall (around O.state os.old os.new) (O.slot os.old) (O.disk os.old) (around H.files host.old host.new) (output H.console O.written (from_to host.old host.new) (from_to os.old os.new))) }
+    ensures disk_only { TouchesDisk (O.disk os.old) (around H.files host.old host.new) (around H.asked host.old host.new) }
+    ensures failed { OnErr result (PrintsPartOfSome (output H.console O.written (from_to host.old host.new) (from_to os.old os.new))) }
     ensures lives { LivesWhereAnswered result (slot_at (O.state os.new) (O.slot os.old)) }
     ensures whole { OnOk result (HasBlocks (H.files host.new) (O.disk os.new)) }
     ensures in_order { IsInOrder (O.state os.old) → IsInOrder (O.state os.new) }

@@ -1,10 +1,11 @@
 -- One step of a run: the turn in which it is made, and where that turn may end.
-use Rattle.std.proofs.Common.{◌≡◌, ◌∙◌, ℕ, ◌+◌, ◌<◌, ◌≤◌, ◌&&◌, Bool, true, false, List, [], ◌∷◌, ◌++◌, length}
-use Rattle.std.proofs.Common.{None, Option, Some, refl, sym, ap, arith}
+use Rattle.std.proofs.Common.{◌≡◌, ◌≢◌, ◌∙◌, ℕ, ◌+◌, ◌<◌, ◌≤◌, ◌&&◌, Bool, true, false, List, [], ◌∷◌, ◌++◌, length}
+use Rattle.std.proofs.Common.{None, Option, Some, refl, sym, ap, subst, arith}
 use Rattle.std.specs.Prelude.{nat_lt, unwrap_or}
 use Rattle.std.proofs.lemmas.Bool.Decides.{nat_tests}
 use Rattle.jos_base.specs.declared.environment.Status.{Status}
 use Rattle.jos_base.specs.declared.environment.Status.TheVariants.{Runnable, Running, NotRunnable}
+use Rattle.jos_base.specs.declared.numbers.TheConstants.{FIRST_ENV_ID}
 use Rattle.jos_base.specs.Environments.{Slot, is_running, is_runnable}
 use Rattle.jos_base.specs.KernelState.{KernelState, slot_at}
 use Rattle.jos_base.specs.KernelState as kernel
@@ -19,17 +20,18 @@ use Rattle.lib_os.specs.declared.progress.Progress.{Progress}
 use Rattle.lib_os.specs.declared.progress.Progress.TheVariants as progress
 use Rattle.lib_os.specs.declared.service.Service.{Service}
 use Rattle.lib_os.specs.declared.service.Service.TheVariants as service
-use Rattle.lib_os.specs.AbstractState.{AbstractState, Born}
-use Rattle.lib_os.specs.LibrarySteps.{Stands, KeepsStanding, NothingRefused, KeepsTurn, MayGiveUp}
+use Rattle.lib_os.specs.AbstractState.{AbstractSlot, AbstractState, Born, Server, acted, serving}
+use Rattle.lib_os.specs.LibrarySteps.{Stands, NothingRefused, KeepsTurn, MayGiveUp}
 use Rattle.lib_os.specs.Places.{place_of}
 use Rattle.lib_os.specs.LibraryPages.{View}
 use Rattle.lib_os.specs.StandsInHandler.{CopiesOrEnds, copies, ends, StandsBeneath, at_program, in_delivery}
 use Rattle.lib_os.specs.Rows.{EntryRow, Names}
-use Rattle.lib_os.specs.StandsFor.{StandsFor, StandsAt, StandsAtStep, IsStatusFor, WaitsOrHas, waits, has, view_of}
+use Rattle.lib_os.specs.StandsFor.{AwaitsOrHas, StandsFor, StandsAt, StandsAtStep, IsStatusFor, awaits, has_reply, WaitsOrHas, waits, has, view_of}
 use Rattle.lib_os.specs.StandsFor.{StandsAtDevice, StandsBefore, descriptor_given}
 use Rattle.lib_os.proofs.SlotsStand.{born_at}
-use Rattle.jos_run.specs.AbstractTurns.{turn_begun, may_end}
+use Rattle.jos_run.specs.AbstractTurns.{turn_begun, is_yielding, may_end, stands_waiting, waits_to_reply}
 use Rattle.jos_run.specs.LibraryRuns.{IsBetween, IsInTurn, visible_steps}
+use Rattle.jos_run.specs.ServerStands.{KeepsWhole, MayGiveUpServing, ServerLeaves, WaitsToReply}
 use Rattle.jos_run.proofs.RunsKept.{step_hidden, step_visible, stopped_cannot, stopped_may_end, running_born}
 use Rattle.jos_run.proofs.RunsKept.{turn_ends_whole, turn_ends_early, waiting_may_end, pausing_waits, yielded_may_end}
 use Rattle.jos_run.proofs.RunsKept.{yielded_further, yield_tells}
@@ -80,6 +82,14 @@ silent_step v k b (service.Receive va from) (step.ReadingValue id) h awake = by_
     by_come (has so) = so.silent
 silent_step v k b (service.Receive va from) (step.ReadingSender id value) h awake = h.2.silent
 silent_step v k b (service.Receive va from) (step.ReadingPerm id value sender) h awake = h.3.silent
+silent_step v k b service.Sync (step.Asking id) h awake = h.1.silent
+silent_step v k b service.Sync (step.Pausing id) h awake = h.1.silent
+silent_step v k b service.Sync (step.Awaiting id) h awake = h.1.silent
+silent_step v k b service.Sync (step.ReadingReply id) h awake = by_reply h.1
+  where
+    by_reply : AwaitsOrHas k b service.Sync → k.rendezvous.receiving ≡ false
+    by_reply (awaits so) = absurd (let contradiction : true ≡ false = sym so.blocked ∙ awake in cc)
+    by_reply (has_reply so) = so.silent
 silent_step v k b service.Fork (step.ForkRegion id region) h awake = h.0.silent
 silent_step v k b service.Fork (step.ForkEntry id page) h awake = h.0.silent
 silent_step v k b service.Fork (step.MapChild id page perm) h awake = h.0.silent
@@ -125,10 +135,10 @@ silent_at v k b (place.InHandler stands) h awake = by_way h.way
     by_way (ends way) = way.silent
 
 -- it waits for no message
-pub running_silent : {names : Names} {s : KernelState} {a : AbstractState} → StandsFor names s a → (n : ℕ) →
+pub running_silent : {names : Names} {s : KernelState} {a : AbstractState} → StandsFor names s a → (n : ℕ) → n ≢ 0 →
     is_running (slot_at s n).status ≡ true → (slot_at s n).rendezvous.receiving ≡ false
-running_silent {s = s} h n runs =
-    let who = running_born h n runs in
+running_silent {s = s} h n other runs =
+    let who = running_born h n other runs in
     let own = born_at h n who.0 who.1 in
     silent_at (view_of s.spaces (slot_at s n).directory) (slot_at s n) who.0 (place_of (slot_at s n)) own.at
     (awake_running (slot_at s n).status who.0.blocked own.runs runs)
@@ -146,7 +156,7 @@ stopped : {schedule : List ℕ} {first : AbstractState} {turns : List Turn} {n v
     (h : IsInTurn schedule first turns n visible s written) → (hidden : ℕ) → is_running (slot_at s n).status ≡ false →
     is_runnable (slot_at s n).status ≡ false → may_end h.before (turn_of n visible hidden) h.now ≡ true
 stopped {n = n} {visible = visible} h hidden idle_now asleep =
-    stopped_may_end h.before h.now (turn_of n visible hidden) (stopped_cannot h.stands.1 n idle_now asleep)
+    stopped_may_end h.before h.now (turn_of n visible hidden) (stopped_cannot h.stands.0.1 n idle_now asleep)
 
 -- where it is not even RUNNABLE, or may give up its turn
 comes_by : {schedule : List ℕ} {first : AbstractState} {turns : List Turn} {n visible hidden : ℕ} {s : KernelState} {written : List ℕ} →
@@ -163,43 +173,76 @@ comes_by {n = n} {visible = visible} {hidden = hidden} {s = s} h may = record {
     by_test true is idle_now = may is
     by_test false is idle_now = stopped h hidden idle_now is
 
+-- by what its step has come to the slot may give up its turn
+abbrev MayEndBy : Progress → AbstractState → ℕ → Type 0
+MayEndBy progress.Hidden a n = stands_waiting a n (a.slots n) ≡ true
+MayEndBy progress.Finished a n = is_yielding (a.slots n) ≡ true
+MayEndBy _ a n = ⊥
+
 comes : {schedule : List ℕ} {first : AbstractState} {turns : List Turn} {n visible : ℕ} {s after : KernelState} {written : List ℕ}
     (bytes : List ℕ) →
-    (h : IsInTurn schedule first turns n visible s written) → (done : Progress) → KeepsStanding done n s after bytes → NothingRefused s after →
+    (h : IsInTurn schedule first turns n visible s written) → (done : Progress) → KeepsWhole done n s after bytes → NothingRefused s after →
     after.last ≡ Some n → is_running (slot_at s n).status ≡ true →
-    (is_runnable (slot_at after n).status ≡ true → MayGiveUp done (place_of (slot_at s n))) → (hidden : ℕ) →
+    (is_runnable (slot_at after n).status ≡ true → MayEndBy done h.now n) → (hidden : ℕ) →
     Comes schedule first turns n (visible + visible_steps done) hidden after (written ++ bytes)
 unfolding step_hidden step_visible
 comes {n = n} {visible = visible} bytes h progress.Hidden keeps none_refused last runs gives hidden =
     let stays = keeps h.now h.stands none_refused in
-    let only = only_runs stays.1.1 n last in
+    let only = only_runs stays.1.0.1 n last in
     comes_by (step_hidden bytes h stays only)
-    (λ ready. waiting_may_end h.before h.now (turn_of n (visible + 0) hidden) (pausing_waits h.stands.1 n runs (gives ready)))
+    (λ ready. waiting_may_end h.before h.now (turn_of n (visible + 0) hidden) (gives ready))
 comes {n = n} bytes h progress.Waited keeps none_refused last runs gives hidden =
     let stays = (keeps h.now h.stands none_refused).0 in
-    comes_by (step_hidden bytes h stays (only_runs stays.1.1 n last)) (λ ready. absurd (gives ready))
+    comes_by (step_hidden bytes h stays (only_runs stays.1.0.1 n last)) (λ ready. absurd (gives ready))
 comes {n = n} bytes h progress.Visible keeps none_refused last runs gives hidden =
     let goes_on = keeps h.now h.stands none_refused in
-    comes_by (step_visible bytes h goes_on (only_runs goes_on.3.1 n last)) (λ ready. absurd (gives ready))
+    comes_by (step_visible bytes h goes_on (only_runs goes_on.3.0.1 n last)) (λ ready. absurd (gives ready))
 comes {n = n} {visible = visible} bytes h progress.Finished keeps none_refused last runs gives hidden =
     let goes_on = keeps h.now h.stands none_refused in
-    let only = only_runs goes_on.3.1 n last in
+    let only = only_runs goes_on.3.0.1 n last in
     comes_by (step_visible bytes h goes_on only)
     (λ ready. yielded_may_end h.before goes_on.0 (turn_of n (visible + 1) hidden)
-    (yielded_further n (turn_begun h.before n) h.now visible h.taken (yield_tells h.stands.1 n runs (gives ready))))
+    (yielded_further n (turn_begun h.before n) h.now visible h.taken (gives ready)))
 comes {n = n} bytes h progress.Ended keeps none_refused last runs gives hidden =
     let goes_on = keeps h.now h.stands none_refused in
-    comes_by (step_visible bytes h goes_on (only_runs goes_on.3.1 n last)) (λ ready. absurd (gives ready))
+    comes_by (step_visible bytes h goes_on (only_runs goes_on.3.0.1 n last)) (λ ready. absurd (gives ready))
 
--- A step of the slot that has its turn, where nothing was refused.
+others_may : {names : Names} {s : KernelState} {a : AbstractState} → StandsFor names s a → (n : ℕ) → n ≢ 0 → is_running (slot_at s n).status ≡ true →
+    (done : Progress) → MayGiveUp done (place_of (slot_at s n)) → MayEndBy done a n
+others_may h n other runs progress.Hidden may = pausing_waits h n other runs may
+others_may h n other runs progress.Finished may = yield_tells h n other runs may
+others_may h n other runs _ may = absurd may
+
+server_may : (a : AbstractState) (id : ℕ) → a.slots 0 ≡ serving id → (done : Progress) → MayGiveUpServing done a → MayEndBy done a 0
+server_may a id first progress.Hidden may = ap (λ (slot : AbstractSlot). stands_waiting a 0 slot) first ∙ by_server a.server may
+  where
+    by_server : (server : Server) → WaitsToReply server → waits_to_reply server ≡ true
+    by_server (acted client answer bytes object) is = refl
+    by_server _ is = absurd is
+server_may a id first _ may = absurd may
+
+-- A step of the slot that has its turn, where nothing was refused: of another than the file server,
 pub stepped : {schedule : List ℕ} {first : AbstractState} {turns : List Turn} {n visible : ℕ} {s after : KernelState}
     {written : List ℕ} (bytes : List ℕ) →
-    IsInTurn schedule first turns n visible s written → (done : Progress) → KeepsStanding done n s after bytes → NothingRefused s after →
+    n ≢ 0 → IsInTurn schedule first turns n visible s written → (done : Progress) → KeepsWhole done n s after bytes → NothingRefused s after →
     after.last ≡ Some n → is_running (slot_at s n).status ≡ true →
     ((a : AbstractState) → Stands s a → KeepsTurn done (slot_at s n) (slot_at after n)) → (hidden : ℕ) →
     Comes schedule first turns n (visible + visible_steps done) hidden after (written ++ bytes)
-stepped {n = n} bytes h done keeps none_refused last runs turn hidden =
-    comes bytes h done keeps none_refused last runs (turn h.now h.stands runs (running_silent h.stands.1 n runs)) hidden
+stepped {n = n} bytes other h done keeps none_refused last runs turn hidden =
+    comes bytes h done keeps none_refused last runs
+    (λ ready. others_may h.stands.0.1 n other runs done (turn h.now h.stands.0 runs (running_silent h.stands.0.1 n other runs) ready)) hidden
+
+-- or of the file server
+pub server_stepped : {schedule : List ℕ} {first : AbstractState} {turns : List Turn} {n visible : ℕ} {s after : KernelState}
+    {written : List ℕ} (bytes : List ℕ) →
+    n ≡ 0 → IsInTurn schedule first turns n visible s written → (done : Progress) → KeepsWhole done n s after bytes → NothingRefused s after →
+    after.last ≡ Some n → is_running (slot_at s n).status ≡ true → ServerLeaves done s after → (hidden : ℕ) →
+    Comes schedule first turns n (visible + visible_steps done) hidden after (written ++ bytes)
+server_stepped {n = n} {s = s} {after = after} bytes zero h done keeps none_refused last runs left hidden =
+    comes bytes h done keeps none_refused last runs
+    (λ ready. subst (λ (m : ℕ). MayEndBy done h.now m) (sym zero) (server_may h.now FIRST_ENV_ID h.stands.0.1.first done
+    (left.turn h.now h.stands (ap (λ (m : ℕ). is_running (slot_at s m).status) (sym zero) ∙ runs)
+    (ap (λ (m : ℕ). is_runnable (slot_at after m).status) (sym zero) ∙ ready)))) hidden
 
 -- ---- the turn behind the step
 

@@ -17,11 +17,10 @@ use Rattle.jos_sched.specs.RoundRobin as robin
 use Rattle.jos_kernel.specs.declared.report.End.{End}
 use Rattle.jos_kernel.specs.declared.report.End.TheVariants.{Done, Stuck, Budget, TurnsFull}
 use Rattle.jos_base.specs.Below.{some_below}
-use Rattle.lib_os.specs.AbstractState.{AbstractState, AbstractSlot, free, unborn, born, serving, Server, idle, is_idle, can_run, can_run_as}
+use Rattle.lib_os.specs.AbstractState.{AbstractState, AbstractSlot, free, unborn, born, serving, Server, idle, leaving, looking, busy, acted, is_idle, can_run, can_run_as}
 use Rattle.lib_os.specs.Rows.{Names}
-use Rattle.lib_os.specs.StandsFor.{StandsFor, StandsForSlot, IsServerStatus, IsStatusFor}
+use Rattle.lib_os.specs.StandsFor.{StandsFor, StandsForServer, StandsForSlot, IsServerStatus, IsStatusFor}
 use Rattle.lib_os.proofs.SlotsStand.{born_live}
-use Rattle.lib_os.proofs.StatesStand.{serving_waits}
 use Rattle.jos_run.specs.AbstractTurns.{first_of, next_slot, is_client, any_live, end_of}
 use Rattle.jos_run.specs.LibraryRuns.{NoneRuns, OnlyRuns, OnlyFirstServes, is_user, others_live, end_seen}
 use Rattle.jos_base.proofs.Maps.{upd-other, upd-all}
@@ -35,10 +34,17 @@ runs_alike Running false h idle_now = absurd (let contradiction : true ≡ false
 runs_alike NotRunnable true h idle_now = refl
 runs_alike _ _ h idle_now = absurd h
 
--- the file server waits
-server_idle : (server : Server) (k : Slot) → IsServerStatus server k → not (is_idle server) ≡ false
-server_idle idle k h = refl
-server_idle _ k h = absurd h
+server_runs : (server : Server) (k : Slot) → IsServerStatus server k → is_running k.status ≡ false → is_runnable k.status ≡ not (is_idle server)
+server_runs idle k h idle_now = ap (λ (x : Status). is_runnable x) h.status
+server_runs leaving k h idle_now = runs_alike k.status false h.0 idle_now
+server_runs (looking client request number) k h idle_now = runs_alike k.status false h.0 idle_now
+server_runs (busy client request place) k h idle_now = runs_alike k.status false h.0 idle_now
+server_runs (acted client answer bytes object) k h idle_now = runs_alike k.status false h.0 idle_now
+
+-- the file server stands in slot 0
+pub serving_first : {names : Names} {s : KernelState} {a : AbstractState} → StandsFor names s a → (n id : ℕ) →
+    StandsForServer (slot_at s n) id → 0 ≡ n
+serving_first h n id so = sym (ap (λ (i : ℕ). i % NENV) (so.id_is ∙ so.first)) ∙ h.tabled.ids n so.lives
 
 -- A slot that is not RUNNING may have the next turn where it may have it in the abstract system.
 pub runs_stand : {names : Names} {s : KernelState} {a : AbstractState} → StandsFor names s a → (n : ℕ) →
@@ -51,7 +57,8 @@ runs_stand {names = names} {s = s} {a = a} h n idle_now = by_slot (a.slots n) re
     by_slot (unborn id parent) at k = ap (λ (x : Status). is_runnable x) k.status
     by_slot (born b) at k = runs_alike (slot_at s n).status b.blocked k.runs idle_now
     by_slot (serving id) at k =
-        ap (λ (x : Status). is_runnable x) (serving_waits h n id at) ∙ sym (server_idle a.server (slot_at s 0) h.server.status)
+        let first : 0 ≡ n = serving_first h n id k in
+        server_runs a.server (slot_at s n) (subst (λ (m : ℕ). IsServerStatus a.server (slot_at s m)) first h.server.status) idle_now
 
 -- ---- who gets the next turn
 

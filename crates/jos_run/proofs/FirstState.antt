@@ -7,10 +7,11 @@ use Rattle.std.specs.Option.{option_map}
 use Rattle.std.proofs.lemmas.Bool.Decides.{nat_tests}
 use Rattle.std.proofs.lemmas.Option.{same_Some}
 use Rattle.jos_base.specs.declared.environment.EnvType.TheVariants.{FileServer}
+use Rattle.jos_base.specs.declared.environment.Status.TheVariants.{Runnable}
 use Rattle.jos_base.specs.declared.registers.Regs.{Regs}
 use Rattle.jos_base.specs.Counting.{frame_limit}
 use Rattle.jos_base.specs.Environments.{Slot, allotted, allotted_from, first_environments, free_slot, new_slot, next_id}
-use Rattle.jos_base.specs.KernelState.{KernelState, first_state, slot_at, with_directory, with_env_type, with_spaces}
+use Rattle.jos_base.specs.KernelState.{KernelState, first_state, slot_at, with_directory, with_env_type, with_spaces, with_status}
 use Rattle.jos_base.specs.SpacesState.{SpacesState, first_spaces, rising}
 use Rattle.jos_base.specs.SystemCalls.{environment_made, made_of}
 use Rattle.jos_base.specs.Words.{upd}
@@ -20,7 +21,6 @@ use Rattle.lib_os.specs.AbstractState.{Page}
 use Rattle.lib_os.specs.InOrder.{IsInOrder}
 use Rattle.lib_os.specs.Need.{EachHasUse}
 use Rattle.lib_os.specs.Rows.{rows_of}
-use Rattle.lib_os.proofs.TwoSlots as two
 use Rattle.lib_os.proofs.UsesFound.{first_found}
 use Rattle.lib_os.proofs.UsesPlaced.{created_found}
 use Rattle.lib_spawn.specs.StackPage.{stack_size}
@@ -33,6 +33,7 @@ use Rattle.jos_run.proofs.FirstSpaces.{HasFrames, rising-some, spaces_one, space
 use Rattle.jos_run.proofs.FirstSpaces.{two_one_use, two_below}
 use Rattle.jos_run.proofs.FirstSpaces.{directory_one, directory_two, no_other}
 use Rattle.jos_run.proofs.PagesBegin.{Stage, space_memory}
+use Rattle.jos_run.proofs.TwoSlots as two
 use Rattle.jos_base.proofs.Below.{some_below-none}
 
 module _ (image : Layout) (words : List (List ℕ)) (input : List ℕ) (frames first n : ℕ) (has : HasFrames frames first n) where
@@ -131,7 +132,7 @@ module _ (image : Layout) (words : List (List ℕ)) (input : List ℕ) (frames f
   }) 0 first
 
   abbrev with_server : KernelState
-  with_server = with_env_type made_one 0 FileServer
+  with_server = with_status (with_env_type made_one 0 FileServer) 0 Runnable
 
   abbrev made_two : KernelState
   made_two = with_directory (record with_server {

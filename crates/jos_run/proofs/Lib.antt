@@ -2,6 +2,8 @@ pub mod Looked
 pub mod Accesses
 pub mod Answers
 pub mod Choices
+pub mod ServerTurns
+pub mod WholeStands
 pub mod InOrder
 pub mod OthersLive
 pub mod Printed
@@ -28,6 +30,7 @@ pub mod PagesFilled
 pub mod PagesWhole
 pub mod BootedPages
 pub mod FirstSpaces
+pub mod TwoSlots
 pub mod PagesBegin
 pub mod BootedSpace
 pub mod ConsoleLoaded
@@ -38,10 +41,19 @@ pub mod Refusals
 pub mod Advancing
 pub mod QuietSteps
 pub mod RunSteps
+pub mod HostTouched
 pub mod LibraryMade
 pub mod StepsAtOnce
 pub mod GuestBursts
 pub mod StepsMade
+pub mod ServerLeavings
+pub mod ServerNow
+pub mod ServerGoes
+pub mod ServerPrints
+pub mod ServerStepped
+pub mod ServerFlushes
+pub mod ServerAnswers
+pub mod ServerSteps
 pub mod RunEnds
 pub mod TurnsCounted
 pub mod ProgramsRun

@@ -1,7 +1,10 @@
 -- A step of a program is one that the library promises.
-use Rattle.std.proofs.Common.{◌≡◌, ◌≢◌, ◌∙◌, ◌<◌, ◌++◌, inl, inr, ℕ, true, false, Option, Some, Ok, Err, refl, sym, ap, subst}
+use Rattle.std.proofs.Common.{◌≡◌, ◌≢◌, ◌∙◌, ◌<◌, ◌++◌, inl, inr, ℕ, Bool, true, false, Option, Some, Result, Ok, Err, refl, sym, ap, subst}
 use Rattle.std.proofs.lemmas.Bool.{false≢true}
+use Rattle.std.specs.Prelude.{IfOk}
 use Rattle.jos_host.specs.declared.host.Failed.{Failed}
+use Rattle.jos_base.specs.declared.environment.EnvType.{EnvType}
+use Rattle.jos_base.specs.declared.environment.EnvType.TheVariants.{FileServer, User}
 use Rattle.jos_base.specs.declared.environment.Status.{Status}
 use Rattle.jos_base.specs.declared.environment.Status.TheVariants.{Free, Dying, NotRunnable, Runnable, Running}
 use Rattle.jos_base.specs.Environments.{Slot, is_runnable}
@@ -9,19 +12,22 @@ use Rattle.jos_base.specs.KernelState.{KernelState, slot_at}
 use Rattle.jos_kernel.specs.declared.trace.TrapLine.{TrapLine}
 use Rattle.lib_os.specs.declared.place.Place.{Place}
 use Rattle.lib_os.specs.declared.place.Place.TheVariants as place
+use Rattle.lib_os.specs.declared.progress.Progress.{Progress}
 use Rattle.lib_os.specs.declared.progress.Progress.TheVariants as progress
 use Rattle.lib_os.specs.AbstractState.{AbstractState, Born, AbstractSlot, free, unborn, born, serving}
 use Rattle.lib_os.specs.InOrder.{IsInOrder}
 use Rattle.lib_os.specs.AbstractRun.{abs_step}
-use Rattle.lib_os.specs.LibrarySteps.{Stands, GoesOn, IsLibraryStep, Lowers, hidden_left}
+use Rattle.lib_os.specs.LibrarySteps.{Stands, GoesOn, IsLibraryStep, KeepsPlaces, KeepsServer, Lowers, hidden_left}
 use Rattle.lib_os.specs.Places.{place_of}
 use Rattle.lib_os.specs.Rows.{Names}
 use Rattle.lib_os.specs.StandsFor.{StandsFor, StandsForSlot}
-use Rattle.lib_os.specs.UserCalls.{Output}
+use Rattle.lib_os.specs.UserCalls.{Output, is_file_server}
 use Rattle.jos_run.specs.Guest.{Follows}
 use Rattle.jos_run.specs.GuestSteps.{guest_instruction, is_handed_over}
-use Rattle.jos_run.specs.Steps.{is_awake, Raises}
-use Rattle.lib_os.proofs.StatesStand.{serving_waits}
+use Rattle.jos_run.specs.ServerStands.{IsWholeStep}
+use Rattle.jos_run.specs.Steps.{is_awake, is_servers, LeavesAs, LeavesByPlace, Raises, RaisesAs}
+use Rattle.jos_run.proofs.Choices.{serving_first}
+use Rattle.jos_run.proofs.WholeStands.{others_slot, whole_kept}
 use Rattle.jos_run.proofs.GuestStands.{IsCopied, SmallAtFault, copying_at, instruction_end, instruction_step}
 use Rattle.jos_run.proofs.GuestStands.{guest_copied, guest_goes_on, guest_stands}
 
@@ -33,18 +39,31 @@ not_runnable NotRunnable other = refl
 not_runnable Runnable other = absurd (other refl)
 not_runnable Running other = refl
 
--- who may have steps is an environment that is born
-pub awake_born : (names : Names) (s : KernelState) (a : AbstractState) → StandsFor names s a → (n : ℕ) →
+-- a type that is another than the file server's
+pub not_server : (kind : EnvType) → kind ≢ FileServer → false ≡ is_file_server kind
+not_server User other = refl
+not_server FileServer other = absurd (other refl)
+
+-- who may have steps, but the file server, is an environment that is born
+pub awake_born : (names : Names) (s : KernelState) (a : AbstractState) → StandsFor names s a → (n : ℕ) → n ≢ 0 →
     is_awake (slot_at s n).status ≡ true → (b : Born) × (a.slots n ≡ born b)
-awake_born names s a h n awake = by_slot (a.slots n) refl (h.slots n)
+awake_born names s a h n other awake = by_slot (a.slots n) refl (h.slots n)
   where
     by_slot : (slot : AbstractSlot) → a.slots n ≡ slot → StandsForSlot names s.spaces (slot_at s n) slot → (b : Born) × (a.slots n ≡ born b)
     by_slot (free id) is k = absurd (false≢true (sym (ap (λ (x : Slot). is_awake x.status) k) ∙ awake))
     by_slot (unborn id parent) is k = absurd (false≢true (sym (ap is_awake k.status) ∙ awake))
     by_slot (born b) is k = (b, is)
-    by_slot (serving id) is k = absurd (false≢true (sym (ap is_awake (serving_waits h n id is)) ∙ awake))
+    by_slot (serving id) is k = absurd (other (sym (serving_first h n id k)))
 
-module _ (s after : KernelState) (n : ℕ) (output : Output) (awake : is_awake (slot_at s n).status ≡ true)
+-- A step of another than the file server that keeps what the library's steps promise keeps the whole, where it leaves the file server what it has.
+pub whole_step : (s after : KernelState) (n : ℕ) (output : Output) → is_servers s n ≡ false → is_awake (slot_at s n).status ≡ true →
+    (did : Result Progress Failed) → IfOk did (λ done. KeepsServer n s after × KeepsPlaces n s after) → IsLibraryStep did n s after output →
+    IsWholeStep did n s after output
+whole_step s after n output user awake (Ok done) left h =
+    (h.0, h.1, whole_kept n s after done h.0 user (λ names a stands other. awake_born names s a stands n other awake) left.0 left.1 h.2)
+whole_step s after n output user awake (Err failed) left h = (h.0, h.1, λ a stands. h.2 a stands.0)
+
+module _ (s after : KernelState) (n : ℕ) (output : Output) (user : is_servers s n ≡ false) (awake : is_awake (slot_at s n).status ≡ true)
     (is_guest : place_of (slot_at s n) ≡ place.Guest) (small : SmallAtFault (slot_at s n).registers (instruction_step s n).event)
     (order : IsInOrder after) where
   -- ---- one that is seen
@@ -52,7 +71,7 @@ module _ (s after : KernelState) (n : ℕ) (output : Output) (awake : is_awake (
   goes_on : copying_at s n ≡ false → (trap : Option TrapLine) → Follows (Ok trap) (guest_instruction s n) after output → (a : AbstractState) →
       Stands s a → GoesOn n after a (guest_instruction s n).written
   goes_on seen trap told a h =
-      let b = awake_born h.0 s a h.1 n awake in
+      let b = awake_born h.0 s a h.1 n (others_slot h.1 n user) awake in
       subst (λ (t : KernelState). GoesOn n t a (guest_instruction s n).written) (sym told.0)
       (guest_goes_on h.0 s a n b.0 h.1 b.1 is_guest small seen (subst IsInOrder told.0 order))
 
@@ -67,7 +86,7 @@ module _ (s after : KernelState) (n : ℕ) (output : Output) (awake : is_awake (
   -- ---- one that a page to be copied has stopped
 
   copied : copying_at s n ≡ true → (a : AbstractState) (h : Stands s a) → IsCopied h.0 s a n
-  copied is a h = let b = awake_born h.0 s a h.1 n awake in guest_copied h.0 s a n b.0 h.1 b.1 is_guest small is
+  copied is a h = let b = awake_born h.0 s a h.1 n (others_slot h.1 n user) awake in guest_copied h.0 s a n b.0 h.1 b.1 is_guest small is
 
   pub program_copies : copying_at s n ≡ true → (trap : Option TrapLine) → Follows (Ok trap) (guest_instruction s n) after output →
       IsLibraryStep (Ok progress.Hidden) n s after output
@@ -93,13 +112,25 @@ module _ (s after : KernelState) (n : ℕ) (output : Output) (awake : is_awake (
       by_step : (a : AbstractState) → Stands s a →
           (b : AbstractState) × (abs_step a n ≡ Some b) × (b.console ≡ a.console ++ (guest_instruction s n).written)
       by_step a h =
-          let b = awake_born h.0 s a h.1 n awake in
+          let b = awake_born h.0 s a h.1 n (others_slot h.1 n user) awake in
           elim (guest_stands h.0 s a n b.0 h.1 b.1 is_guest small) [
             | inl seen ↦ (seen.next, seen.step_is, seen.console)
             | inr copied ↦ absurd (false≢true (sym ended ∙ copied.handed_over))
           ]
 
 -- ---- traps
+
+-- Another than the file server raises a trap by where it stands.
+pub raises_as : (is : Bool) (s after : KernelState) (n : ℕ) (trap : Option TrapLine) → is ≡ false → Raises (place_of (slot_at s n)) n s trap after →
+    RaisesAs is n s trap after
+raises_as true s after n trap is h = absurd (let contradiction : true ≡ false = is in cc)
+raises_as false s after n trap is h = h
+
+-- and leaves what it leaves by its place
+pub leaves_as : (is : Bool) (did : Result Progress Failed) (s after : KernelState) (n : ℕ) → is ≡ false → LeavesByPlace did n s after →
+    LeavesAs is did n s after
+leaves_as true did s after n is h = absurd (let contradiction : true ≡ false = is in cc)
+leaves_as false did s after n is h = h
 
 -- A program raises the trap of its instruction.
 pub guest_raises : (s after : KernelState) (n : ℕ) (trap : Option TrapLine) → place_of (slot_at s n) ≡ place.Guest →

@@ -23,13 +23,13 @@ use Rattle.jos_kernel.specs.declared.report.Turn.{Turn}
 use Rattle.jos_kernel.specs.declared.trace.TrapLine.{TrapLine}
 use Rattle.jos_kernel.specs.Books.{turn_of, made, HasRoom}
 use Rattle.jos_kernel.proofs.ToldBytes.{gains_none, gains_more}
-use Rattle.lib_os.specs.AbstractState.{AbstractState, AbstractSlot, can_run}
-use Rattle.lib_os.specs.LibrarySteps.{Stands}
+use Rattle.lib_os.specs.AbstractState.{AbstractState, AbstractSlot, can_run, can_run_as}
 use Rattle.lib_os.specs.Rows.{Names}
 use Rattle.lib_os.specs.StandsFor.{StandsFor}
 use Rattle.lib_os.proofs.SlotsStand.{born_at}
 use Rattle.lib_os.proofs.StatesStand.{turn_ended_stands}
 use Rattle.jos_run.specs.Begun.{IsNew}
+use Rattle.jos_run.specs.ServerStands.{StandsWhole}
 use Rattle.jos_run.specs.declared.library_run.LibraryRun.{LibraryRun}
 use Rattle.jos_run.specs.AbstractTurns.{next_slot, is_client, any_live, end_of}
 use Rattle.jos_run.specs.LibraryRuns.{others_live, end_seen, IsBetween, IsInTurn}
@@ -38,8 +38,9 @@ use Rattle.jos_run.specs.RunSteps.{traps_of, turns_with, end_at, HasGone}
 use Rattle.jos_run.specs.Running.{state_of, turns_so_far, Holds, StandsBy, RunsBy, Runs, IsChosen, Went, HasFailed}
 use Rattle.jos_run.specs.Running.{EndsBy, HasRunToEnd, report_of, cut_off_of}
 use Rattle.jos_run.proofs.Advancing.{awake_running}
-use Rattle.jos_run.proofs.Choices.{end_stands, ended_none, next_stands, runs_stand, only_first_serves}
+use Rattle.jos_run.proofs.Choices.{any_live_stands, end_stands, ended_none, next_stands, runs_stand, only_first_serves}
 use Rattle.jos_run.proofs.RunsKept.{run_begins, between_fits, in_turn_ran, in_turn_fits, running_born}
+use Rattle.jos_run.proofs.ServerTurns.{running_serves}
 use Rattle.jos_run.proofs.RunSteps.{no_step, lead_further, no_trap, traps_further, none_kept, none_written, written_further, no_turn_more, turns_further, end_between, end_in_turn, budget_spent}
 use Rattle.jos_run.proofs.StepsMade.{none_made, some_made}
 use Rattle.jos_base.proofs.Below.{some_below-at}
@@ -134,7 +135,7 @@ between_end r spent end none seen first frames printed = by_first r.book.first_r
       taken = record { ran = h.ran; fit = between_fits h; console = h.console };
       whole = λ other. h.fit;
       over = ap (λ (k : ℕ). end_of h.now k spent) (sym r.book.turns.ok.0)
-          ∙ end_stands h.stands.1 h.none (only_first_serves h.stands.1) (vec_len r.book.turns) spent ∙ seen;
+          ∙ end_stands h.stands.0.1 h.none (only_first_serves h.stands.0.1) (vec_len r.book.turns) spent ∙ seen;
     }
 
     by_made : (c : Bool) → true ≡ c → StandsBy c r.book.schedule first r printed →
@@ -157,10 +158,18 @@ goes_on_next {names = names} {s = s} {a = a} h n within last only runs = by_next
     over = turn_ended_stands h n
 
     ready : can_run a n ≡ true
-    ready =
-        let who = running_born h n runs in
-        ap (λ (slot : AbstractSlot). can_run (record a { slots = λ m. slot }) n) who.1
-        ∙ ap (λ (c : Bool). not c) (awake_running (slot_at s n).status who.0.blocked (born_at h n who.0 who.1).runs runs)
+    ready = by_slot (n == 0) refl
+      where
+        by_slot : (c : Bool) → (n == 0) ≡ c → can_run a n ≡ true
+        by_slot true test =
+            let is_first : n ≡ 0 = grind (arith, nat_tests) in
+            ap (λ (m : ℕ). can_run a m) is_first ∙ ap (λ (slot : AbstractSlot). can_run_as a.server slot) h.first
+            ∙ ap (λ (c : Bool). not c) (running_serves h (ap (λ (m : ℕ). is_running (slot_at s m).status) (sym is_first) ∙ runs))
+        by_slot false test =
+            let other : n ≢ 0 = grind (arith, nat_tests) in
+            let who = running_born h n other runs in
+            ap (λ (slot : AbstractSlot). can_run (record a { slots = λ m. slot }) n) who.1
+            ∙ ap (λ (c : Bool). not c) (awake_running (slot_at s n).status who.0.blocked (born_at h n who.0 who.1).runs runs)
 
     last_small : (o : Option ℕ) → ForSome o (λ m. m < NENV) → start o ≤ NENV
     last_small None h = omega arith
@@ -178,12 +187,17 @@ goes_on_next {names = names} {s = s} {a = a} h n within last only runs = by_next
         absurd (let contradiction : true ≡ false = sym ready ∙ sym (runs_stand over n (none n)) ∙ idle_now in cc)
 
 running_client : {names : Names} {s : KernelState} {a : AbstractState} → StandsFor names s a → (n : ℕ) → n < NENV →
-    is_running (slot_at s n).status ≡ true → any_live a ≡ true
-running_client {a = a} h n within runs =
-    let who = running_born h n runs in
-    some_below-at (λ m. is_client (a.slots m)) NENV n within (ap (λ (slot : AbstractSlot). is_client slot) who.1)
+    is_running (slot_at s n).status ≡ true → (n ≡ 0 → others_live s ≡ true) → any_live a ≡ true
+running_client {s = s} {a = a} h n within runs others = by_slot (n == 0) refl
+  where
+    by_slot : (c : Bool) → (n == 0) ≡ c → any_live a ≡ true
+    by_slot true test = any_live_stands h (only_first_serves h) ∙ others (grind (arith, nat_tests))
+    by_slot false test =
+        let other : n ≢ 0 = grind (arith, nat_tests) in
+        let who = running_born h n other runs in
+        some_below-at (λ m. is_client (a.slots m)) NENV n within (ap (λ (slot : AbstractSlot). is_client slot) who.1)
 
--- the steps are used up while an environment runs
+-- the steps are used up while an environment runs, beside which there is another where it is the file server's
 spent_end : (a : AbstractState) (turns : ℕ) → any_live a ≡ true → is_none (next_slot a) ≡ false → end_of a turns true ≡ Some Budget
 unfolding end_of
 spent_end a turns live ready =
@@ -199,9 +213,10 @@ in_turn_end r holds some first frames printed = by_first r.book.first_refused
     test : false ≡ (made r.book == 0)
     test = grind (arith, nat_tests)
 
-    told : IsInTurn r.book.schedule first r.book.turns.items r.served.slot r.book.visible (state_of r) printed →
+    told : (r.served.slot ≡ 0 → others_live (state_of r) ≡ true) →
+        IsInTurn r.book.schedule first r.book.turns.items r.served.slot r.book.visible (state_of r) printed →
         HasEnded r.book.schedule first (r.book.turns.items ++ turn_of r.served.slot r.book.visible r.book.hidden ∷ []) printed true Budget
-    told h =
+    told others h =
         let left : made r.book < quantum r.book.schedule (length r.book.turns.items) = holds.left some in
         let within : r.served.slot < NENV = holds.last r.served.slot (holds.current some) in
         let runs = holds.running some in
@@ -210,18 +225,18 @@ in_turn_end r holds some first frames printed = by_first r.book.first_refused
           taken = record { ran = in_turn_ran h r.book.hidden; fit = in_turn_fits h r.book.hidden some (omega arith); console = h.console };
           whole = λ other. absurd (other refl);
           over = spent_end h.now (length (r.book.turns.items ++ turn_of r.served.slot r.book.visible r.book.hidden ∷ []))
-              (running_client h.stands.1 r.served.slot within runs)
-              (goes_on_next h.stands.1 r.served.slot within holds.last h.only runs);
+              (running_client h.stands.0.1 r.served.slot within runs others)
+              (goes_on_next h.stands.0.1 r.served.slot within holds.last h.only runs);
         }
 
-    by_made : (c : Bool) → false ≡ c → StandsBy c r.book.schedule first r printed →
+    by_made : (c : Bool) → false ≡ c → (r.served.slot ≡ 0 → others_live (state_of r) ≡ true) → StandsBy c r.book.schedule first r printed →
         HasEnded r.book.schedule first (if c then r.book.turns.items else r.book.turns.items ++ turn_of r.served.slot r.book.visible r.book.hidden ∷ [])
         printed true Budget
-    by_made true is h = absurd (let contradiction : false ≡ true = is in cc)
-    by_made false is h = told h
+    by_made true is others h = absurd (let contradiction : false ≡ true = is in cc)
+    by_made false is others h = told others h
 
     by_first : (o : Option Refusal) → RunsBy o first frames r printed → EndsBy o first true r printed Budget
-    by_first None h = by_made (made r.book == 0) test h.stands
+    by_first None h = by_made (made r.book == 0) test (λ is_first. h.others some is_first) h.stands
     by_first (Some refusal) h = tt
 
 -- how many turns are told
@@ -292,7 +307,7 @@ on_budget {budget = budget} {left = left} {t = t} went none holds end between in
 
 -- A run has not begun to make steps.
 pub begins : (r : LibraryRun) → r.book.turns.items ≡ [] → made r.book ≡ 0 → r.book.first_refused ≡ None → r.served.written ≡ 0 →
-    (first : AbstractState) (frames : ℕ) → Stands (state_of r) first → IsNew (state_of r) frames → Runs first frames r []
+    (first : AbstractState) (frames : ℕ) → StandsWhole (state_of r) first → IsNew (state_of r) frames → Runs first frames r []
 begins r empty none quiet written first frames stands h =
     let test : true ≡ (made r.book == 0) = grind (arith, nat_tests) in
     subst (λ (o : Option Refusal). RunsBy o first frames r []) (sym quiet) (record {
@@ -302,6 +317,7 @@ begins r empty none quiet written first frames stands h =
       quiet = h.refusals;
       frames_are = h.frames_are;
       used = h.used;
+      others = λ some. absurd (omega (arith, none, some));
       counted_so = written;
     })
 

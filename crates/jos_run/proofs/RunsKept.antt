@@ -1,12 +1,13 @@
 -- A run of the library's programs goes on as one of the abstract system: at its beginning, where a turn begins, by each step,
 -- and where a turn ends.
-use Rattle.std.proofs.Common.{◌≡◌, ◌∙◌, ℕ, ◌+◌, ◌<◌, ◌≤◌, ◌==◌, ◌||◌, Bool, true, false, List, [], ◌∷◌, ◌++◌, length}
-use Rattle.std.proofs.Common.{Option, Some, refl, sym, ap, subst, arith, add-one, append_assoc}
+use Rattle.std.proofs.Common.{◌≡◌, ◌≢◌, ◌∙◌, ℕ, ◌+◌, ◌<◌, ◌≤◌, ◌==◌, ◌||◌, Bool, true, false, List, [], ◌∷◌, ◌++◌, length}
+use Rattle.std.proofs.Common.{Option, Some, None, refl, sym, ap, subst, arith, add-one, append_assoc, if◌then◌else◌}
 use Rattle.std.specs.Prelude.{not, nat_le, nat_lt}
 use Rattle.std.proofs.lemmas.Bool.Decides.{nat_tests}
 use Rattle.std.proofs.lemmas.List.{append-nil}
 use Rattle.jos_base.specs.declared.environment.Status.{Status}
 use Rattle.jos_base.specs.declared.environment.Status.TheVariants.{Runnable, Running, NotRunnable}
+use Rattle.jos_base.specs.declared.registers.Regs.{Regs}
 use Rattle.jos_base.specs.Environments.{Slot, is_running, is_runnable}
 use Rattle.jos_base.specs.KernelState.{KernelState, slot_at}
 use Rattle.jos_base.specs.KernelState as kernel
@@ -22,26 +23,30 @@ use Rattle.lib_os.specs.declared.place.Step.TheVariants as step
 use Rattle.lib_os.specs.declared.progress.Progress.{Progress}
 use Rattle.lib_os.specs.declared.progress.Progress.TheVariants as progress
 use Rattle.lib_os.specs.declared.service.Service.TheVariants as service
-use Rattle.lib_os.specs.AbstractState.{AbstractState, Born, AbstractSlot, free, unborn, born, serving, Stage, Phase, in_service, can_run}
-use Rattle.lib_os.specs.AbstractRun.{abs_step}
-use Rattle.lib_os.specs.LibrarySteps.{Stands, Stays, GoesOn, KeepsStanding, NothingRefused, is_pausing, is_yield}
+use Rattle.lib_os.specs.AbstractState.{AbstractState, Born, AbstractSlot, free, unborn, born, idle, serving, Stage, entered, guest, Phase, in_service, can_run, is_idle}
+use Rattle.lib_os.specs.AbstractRun.{abs_step, program_step, slot_step}
+use Rattle.lib_os.specs.LibraryCall.{library_step}
+use Rattle.lib_os.specs.LibrarySteps.{NothingRefused, is_pausing, is_yield}
 use Rattle.lib_os.specs.Places.{place_of}
 use Rattle.lib_os.specs.LibraryPages.{View}
 use Rattle.lib_os.specs.Rows.{Names}
 use Rattle.lib_os.specs.StandsFor.{StandsFor, StandsForSlot, StandsAt, StandsAtStep, IsStatusFor, view_of}
 use Rattle.lib_os.proofs.SlotsStand.{born_at}
-use Rattle.lib_os.proofs.StatesStand.{serving_waits, turn_begun_stands, turn_ended_stands}
-use Rattle.jos_run.specs.AbstractTurns.{turn_begun, steps_taken, abs_run, waits_in, stands_waiting}
+use Rattle.lib_os.proofs.StatesStand.{turn_begun_stands, turn_ended_stands}
+use Rattle.jos_run.specs.AbstractTurns.{turn_begun, steps_taken, abs_run, asks, asks_behind, waits_in, stands_waiting}
 use Rattle.jos_run.specs.AbstractTurns.{yields_in, is_yielding, has_yielded, has_yielded_after, may_end, turn_fits, fits, all_fit}
 use Rattle.jos_run.specs.LibraryRuns.{NoneRuns, OnlyRuns, IsBetween, IsInTurn, visible_steps}
-use Rattle.jos_run.proofs.Choices.{runs_stand, next_stands, begun_only, ended_none}
+use Rattle.jos_run.specs.ServerStands.{KeepsWhole, StandsWhole, WholeGoesOn, WholeStays}
+use Rattle.jos_run.proofs.Choices.{runs_stand, serving_first, next_stands, begun_only, ended_none}
+use Rattle.jos_run.proofs.ServerTurns.{awake_serves, server_begun_stands}
 use Rattle.jos_run.proofs.TurnsTaken.{run_with_turn, taken_is, no_steps, one_more_step, all_fit_append, fits_append, all_fit_fits}
+use Rattle.jos_run.proofs.WholeStands.{begun_server, ended_server}
 use Rattle.std.proofs.Math.Bool.{or-true}
 
 -- ---- the beginning
 
 -- before the first turn
-pub run_begins : (schedule : List ℕ) (first : AbstractState) (s : KernelState) → Stands s first → NoneRuns s →
+pub run_begins : (schedule : List ℕ) (first : AbstractState) (s : KernelState) → StandsWhole s first → NoneRuns s →
     IsBetween schedule first [] s []
 unfolding abs_run all_fit
 run_begins schedule first s h none = record {
@@ -55,10 +60,14 @@ run_begins schedule first s h none = record {
 
 -- ---- a turn begins
 
--- who is RUNNABLE is an environment that does not wait
-runnable_born : {names : Names} {s : KernelState} {a : AbstractState} → StandsFor names s a → (n : ℕ) →
-    is_runnable (slot_at s n).status ≡ true → (b : Born) × (a.slots n ≡ born b) × (b.blocked ≡ false)
-runnable_born {names = names} {s = s} {a = a} h n runs = by_slot (a.slots n) refl (h.slots n)
+-- who is RUNNABLE is an environment that does not wait, or the file server, which does not wait for a request
+pub data MayRun (a : AbstractState) (n : ℕ) : Type 0 where
+  environment : (b : Born) → a.slots n ≡ born b → b.blocked ≡ false → MayRun a n
+  server : 0 ≡ n → is_idle a.server ≡ false → MayRun a n
+
+pub runnable_who : {names : Names} {s : KernelState} {a : AbstractState} → StandsFor names s a → (n : ℕ) →
+    is_runnable (slot_at s n).status ≡ true → MayRun a n
+runnable_who {names = names} {s = s} {a = a} h n runs = by_slot (a.slots n) refl (h.slots n)
   where
     awake : (status : Status) (blocked : Bool) → IsStatusFor status blocked → is_runnable status ≡ true → blocked ≡ false
     awake Runnable false h runs = refl
@@ -66,30 +75,37 @@ runnable_born {names = names} {s = s} {a = a} h n runs = by_slot (a.slots n) ref
     awake NotRunnable true h runs = absurd (let contradiction : false ≡ true = runs in cc)
     awake _ _ h runs = absurd h
 
-    by_slot : (slot : AbstractSlot) → a.slots n ≡ slot → StandsForSlot names s.spaces (slot_at s n) slot →
-        (b : Born) × (a.slots n ≡ born b) × (b.blocked ≡ false)
-    by_slot (free id) at k =
-        absurd (let contradiction : true ≡ false = sym runs ∙ ap (λ (x : Slot). is_runnable x.status) k in cc)
-    by_slot (unborn id parent) at k =
-        absurd (let contradiction : true ≡ false = sym runs ∙ ap (λ (x : Status). is_runnable x) k.status in cc)
-    by_slot (born b) at k = (b, at, awake (slot_at s n).status b.blocked k.runs runs)
+    by_slot : (slot : AbstractSlot) → a.slots n ≡ slot → StandsForSlot names s.spaces (slot_at s n) slot → MayRun a n
+    by_slot (free id) at k = absurd (let contradiction : true ≡ false = sym runs ∙ ap (λ (x : Slot). is_runnable x.status) k in cc)
+    by_slot (unborn id parent) at k = absurd (let contradiction : true ≡ false = sym runs ∙ ap (λ (x : Status). is_runnable x) k.status in cc)
+    by_slot (born b) at k = environment b at (awake (slot_at s n).status b.blocked k.runs runs)
     by_slot (serving id) at k =
-        absurd (let contradiction : true ≡ false = sym runs ∙ ap (λ (x : Status). is_runnable x) (serving_waits h n id at) in cc)
+        let first : 0 ≡ n = serving_first h n id k in
+        let ready : is_runnable (slot_at s 0).status ≡ true = ap (λ (m : ℕ). is_runnable (slot_at s m).status) first ∙ runs in
+        server first (awake_serves h (λ is. let contradiction : true ≡ false = sym ready ∙ ap (λ (x : Status). is_runnable x) is in cc))
+
+pub begun_stands : {names : Names} {s : KernelState} {a : AbstractState} → StandsFor names s a → NoneRuns s → (n : ℕ) → MayRun a n →
+    StandsFor names (kernel.turn_begun s n) (turn_begun a n)
+begun_stands h none n (environment b at awake) = turn_begun_stands h n b at awake none
+begun_stands {names = names} {s = s} {a = a} h none n (server first busy_now) =
+    subst (λ (m : ℕ). StandsFor names (kernel.turn_begun s m) (turn_begun a m)) first (server_begun_stands h busy_now none)
 
 -- the turn of the slot that the kernel chooses
-pub turn_begins : {schedule : List ℕ} {first : AbstractState} {turns : List Turn} {s : KernelState} {written : List ℕ} →
+unfoldable pub turn_begins : {schedule : List ℕ} {first : AbstractState} {turns : List Turn} {s : KernelState} {written : List ℕ} →
     IsBetween schedule first turns s written → (n : ℕ) → next s.environments s.last ≡ Some n →
     IsInTurn schedule first turns n 0 (kernel.turn_begun s n) written
 turn_begins {s = s} h n chosen =
-    let stands = h.stands.1 in
-    let who = runnable_born stands n (next_runs s.environments s.last n chosen).1 in
+    let stands = h.stands.0.1 in
     record {
       before = h.now;
       ran = h.ran;
       chosen = sym (next_stands stands h.none) ∙ chosen;
       now = turn_begun h.now n;
       taken = no_steps (turn_begun h.now n) n;
-      stands = (h.stands.0, turn_begun_stands stands n who.0 who.1 who.2 h.none);
+      stands = (
+        (h.stands.0.0, begun_stands stands h.none n (runnable_who stands n (next_runs s.environments s.last n chosen).1)),
+        begun_server s n h.now h.stands.1,
+      );
       console = h.console;
       only = begun_only s n h.none;
       fit = h.fit;
@@ -99,7 +115,7 @@ turn_begins {s = s} h n chosen =
 
 -- one that nobody sees
 unfoldable pub step_hidden : {schedule : List ℕ} {first : AbstractState} {turns : List Turn} {n visible : ℕ} {s after : KernelState}
-    {written : List ℕ} (bytes : List ℕ) → (h : IsInTurn schedule first turns n visible s written) → Stays after h.now bytes → OnlyRuns after n →
+    {written : List ℕ} (bytes : List ℕ) → (h : IsInTurn schedule first turns n visible s written) → WholeStays after h.now bytes → OnlyRuns after n →
     IsInTurn schedule first turns n (visible + 0) after (written ++ bytes)
 step_hidden {first = first} {n = n} {visible = visible} {written = written} bytes h stays only = record {
   before = h.before;
@@ -115,7 +131,7 @@ step_hidden {first = first} {n = n} {visible = visible} {written = written} byte
 
 -- one that is a step of the abstract system
 unfoldable pub step_visible : {schedule : List ℕ} {first : AbstractState} {turns : List Turn} {n visible : ℕ} {s after : KernelState}
-    {written : List ℕ} (bytes : List ℕ) → (h : IsInTurn schedule first turns n visible s written) → GoesOn n after h.now bytes → OnlyRuns after n →
+    {written : List ℕ} (bytes : List ℕ) → (h : IsInTurn schedule first turns n visible s written) → WholeGoesOn n after h.now bytes → OnlyRuns after n →
     IsInTurn schedule first turns n (visible + 1) after (written ++ bytes)
 step_visible {first = first} {n = n} {visible = visible} {written = written} bytes h goes_on only = record {
   before = h.before;
@@ -132,7 +148,7 @@ step_visible {first = first} {n = n} {visible = visible} {written = written} byt
 -- whatever the step has come to
 pub step_kept : {schedule : List ℕ} {first : AbstractState} {turns : List Turn} {n visible : ℕ} {s after : KernelState}
     {written : List ℕ} (bytes : List ℕ) → IsInTurn schedule first turns n visible s written → (progress : Progress) →
-    KeepsStanding progress n s after bytes → NothingRefused s after → OnlyRuns after n →
+    KeepsWhole progress n s after bytes → NothingRefused s after → OnlyRuns after n →
     IsInTurn schedule first turns n (visible + visible_steps progress) after (written ++ bytes)
 step_kept bytes h progress.Hidden keeps none_refused only = step_hidden bytes h (keeps h.now h.stands none_refused) only
 step_kept bytes h progress.Waited keeps none_refused only = step_hidden bytes h (keeps h.now h.stands none_refused).0 only
@@ -151,7 +167,7 @@ turn_ends {schedule = schedule} {first = first} {turns = turns} {n = n} {visible
     record {
       now = h.now;
       ran = run_with_turn first h.before h.now turns n visible hidden h.ran h.chosen h.taken;
-      stands = (h.stands.0, turn_ended_stands h.stands.1 n);
+      stands = ((h.stands.0.0, turn_ended_stands h.stands.0.1 n), ended_server s n h.now h.stands.1);
       console = h.console;
       none = ended_none s n h.only;
       fit = all_fit_append schedule 0 first h.before h.now turns (turn_of n visible hidden) h.fit h.ran
@@ -192,12 +208,12 @@ last_turn_fits schedule k before after t some within =
 -- its slot can't run on
 pub stopped_may_end : (before after : AbstractState) (t : Turn) → can_run after t.slot ≡ false → may_end before t after ≡ true
 stopped_may_end before after t cannot =
-    ap (λ (c : Bool). not c || stands_waiting (after.slots t.slot) || has_yielded (turn_begun before t.slot) t.slot t.visible) cannot
+    ap (λ (c : Bool). not c || stands_waiting after t.slot (after.slots t.slot) || has_yielded (turn_begun before t.slot) t.slot t.visible) cannot
 
 -- it waits in a service
-pub waiting_may_end : (before after : AbstractState) (t : Turn) → stands_waiting (after.slots t.slot) ≡ true → may_end before t after ≡ true
+pub waiting_may_end : (before after : AbstractState) (t : Turn) → stands_waiting after t.slot (after.slots t.slot) ≡ true → may_end before t after ≡ true
 waiting_may_end before after t in_wait =
-    by_cases (not (can_run after t.slot)) (stands_waiting (after.slots t.slot)) (has_yielded (turn_begun before t.slot) t.slot t.visible) in_wait
+    by_cases (not (can_run after t.slot)) (stands_waiting after t.slot (after.slots t.slot)) (has_yielded (turn_begun before t.slot) t.slot t.visible) in_wait
   where
     by_cases : (stopped waiting yielded : Bool) → waiting ≡ true → (stopped || waiting || yielded) ≡ true
     by_cases true waiting yielded is = refl
@@ -208,8 +224,8 @@ waiting_may_end before after t in_wait =
 pub yielded_may_end : (before after : AbstractState) (t : Turn) → has_yielded (turn_begun before t.slot) t.slot t.visible ≡ true →
     may_end before t after ≡ true
 yielded_may_end before after t yielded =
-    ap (λ (c : Bool). not (can_run after t.slot) || stands_waiting (after.slots t.slot) || c) yielded
-    ∙ or-true (not (can_run after t.slot) || stands_waiting (after.slots t.slot))
+    ap (λ (c : Bool). not (can_run after t.slot) || stands_waiting after t.slot (after.slots t.slot) || c) yielded
+    ∙ or-true (not (can_run after t.slot) || stands_waiting after t.slot (after.slots t.slot))
 
 -- ---- how the kernel tells it
 
@@ -218,48 +234,57 @@ pub stopped_cannot : {names : Names} {s : KernelState} {a : AbstractState} → S
     is_running (slot_at s n).status ≡ false → is_runnable (slot_at s n).status ≡ false → can_run a n ≡ false
 stopped_cannot h n not_running not_runnable = sym (runs_stand h n not_running) ∙ not_runnable
 
--- who is RUNNING is an environment
-pub running_born : {names : Names} {s : KernelState} {a : AbstractState} → StandsFor names s a → (n : ℕ) →
+-- who is RUNNING is an environment, or the file server
+pub running_born : {names : Names} {s : KernelState} {a : AbstractState} → StandsFor names s a → (n : ℕ) → n ≢ 0 →
     is_running (slot_at s n).status ≡ true → (b : Born) × (a.slots n ≡ born b)
-running_born {names = names} {s = s} {a = a} h n runs = by_slot (a.slots n) refl (h.slots n)
+running_born {names = names} {s = s} {a = a} h n other runs = by_slot (a.slots n) refl (h.slots n)
   where
     by_slot : (slot : AbstractSlot) → a.slots n ≡ slot → StandsForSlot names s.spaces (slot_at s n) slot → (b : Born) × (a.slots n ≡ born b)
-    by_slot (free id) at k =
-        absurd (let contradiction : true ≡ false = sym runs ∙ ap (λ (x : Slot). is_running x.status) k in cc)
-    by_slot (unborn id parent) at k =
-        absurd (let contradiction : true ≡ false = sym runs ∙ ap (λ (x : Status). is_running x) k.status in cc)
+    by_slot (free id) at k = absurd (let contradiction : true ≡ false = sym runs ∙ ap (λ (x : Slot). is_running x.status) k in cc)
+    by_slot (unborn id parent) at k = absurd (let contradiction : true ≡ false = sym runs ∙ ap (λ (x : Status). is_running x) k.status in cc)
     by_slot (born b) at k = (b, at)
-    by_slot (serving id) at k =
-        absurd (let contradiction : true ≡ false = sym runs ∙ ap (λ (x : Status). is_running x) (serving_waits h n id at) in cc)
+    by_slot (serving id) at k = absurd (other (sym (serving_first h n id k)))
 
 yield_step : (v : View) (k : Slot) (b : Born) (stands : Step) → StandsAtStep v k b service.Yield stands →
     (stage : Stage) × (b.phase ≡ in_service service.Yield stage)
 yield_step v k b step.Entered h = (_, h.phase)
 yield_step v k b _ h = absurd h
 
-pausing_phase : (v : View) (k : Slot) (b : Born) (p : Place) → StandsAt p v k b → is_pausing p ≡ true → waits_in b.phase ≡ true
-pausing_phase v k b (place.InService (service.Wait id) (step.Pausing perm)) h pauses = ap (λ (x : Phase). waits_in x) h.is_in.phase
-pausing_phase v k b (place.InService (service.Send id value va) (step.Pausing perm)) h pauses = ap (λ (x : Phase). waits_in x) h.is_in.phase
-pausing_phase v k b (place.InService _ (step.Pausing perm)) h pauses = absurd h
-pausing_phase v k b _ h pauses = absurd (let contradiction : false ≡ true = pauses in cc)
+-- one that is about to ask the file server does so where that is idle
+asks_sync : (a : AbstractState) (n : ℕ) (b : Born) (regs : Regs) → a.slots n ≡ born b → b.blocked ≡ false → b.program ≡ guest regs →
+    b.phase ≡ in_service service.Sync entered → asks a n ≡ true
+unfolding abs_step library_step
+asks_sync a n b regs at awake program phase =
+    ap (λ (slot : AbstractSlot). asks_behind (slot_step (record a { server = idle }) n slot)) at
+    ∙ (λ i. asks_behind (if awake i then None else program_step (record a { server = idle }) n b (program i) (phase i)))
+
+pausing_place : (a : AbstractState) (n : ℕ) (v : View) (k : Slot) (b : Born) (p : Place) → a.slots n ≡ born b → StandsAt p v k b → is_pausing p ≡ true →
+    (waits_in b.phase || asks a n) ≡ true
+pausing_place a n v k b (place.InService (service.Wait id) (step.Pausing perm)) at h pauses = ap (λ (x : Phase). waits_in x || asks a n) h.is_in.phase
+pausing_place a n v k b (place.InService (service.Send id value va) (step.Pausing perm)) at h pauses =
+    ap (λ (x : Phase). waits_in x || asks a n) h.is_in.phase
+pausing_place a n v k b (place.InService service.Sync (step.Pausing id)) at h pauses =
+    ap (λ (c : Bool). waits_in b.phase || c) (asks_sync a n b k.registers at h.1.awake h.1.program h.1.phase) ∙ or-true (waits_in b.phase)
+pausing_place a n v k b (place.InService _ (step.Pausing perm)) at h pauses = absurd h
+pausing_place a n v k b _ at h pauses = absurd (let contradiction : false ≡ true = pauses in cc)
 
 -- One that is about to give up its turn waits in a service.
-pub pausing_waits : {names : Names} {s : KernelState} {a : AbstractState} → StandsFor names s a → (n : ℕ) → is_running (slot_at s n).status ≡ true →
-    is_pausing (place_of (slot_at s n)) ≡ true → stands_waiting (a.slots n) ≡ true
-pausing_waits {s = s} h n runs pauses =
-    let who = running_born h n runs in
-    ap (λ (slot : AbstractSlot). stands_waiting slot) who.1
-    ∙ pausing_phase (view_of s.spaces (slot_at s n).directory) (slot_at s n) who.0 (place_of (slot_at s n)) (born_at h n who.0 who.1).at pauses
+pub pausing_waits : {names : Names} {s : KernelState} {a : AbstractState} → StandsFor names s a → (n : ℕ) → n ≢ 0 → is_running (slot_at s n).status ≡ true →
+    is_pausing (place_of (slot_at s n)) ≡ true → stands_waiting a n (a.slots n) ≡ true
+pausing_waits {s = s} {a = a} h n other runs pauses =
+    let who = running_born h n other runs in
+    ap (λ (slot : AbstractSlot). stands_waiting a n slot) who.1
+    ∙ pausing_place a n (view_of s.spaces (slot_at s n).directory) (slot_at s n) who.0 (place_of (slot_at s n)) who.1 (born_at h n who.0 who.1).at pauses
 
 yield_phase : (v : View) (k : Slot) (b : Born) (p : Place) → StandsAt p v k b → is_yield p ≡ true → yields_in b.phase ≡ true
 yield_phase v k b (place.InService service.Yield stands) h yields =
     ap (λ (x : Phase). yields_in x) (yield_step v k b stands h).1
 yield_phase v k b _ h yields = absurd (let contradiction : false ≡ true = yields in cc)
 
-pub yield_tells : {names : Names} {s : KernelState} {a : AbstractState} → StandsFor names s a → (n : ℕ) → is_running (slot_at s n).status ≡ true →
+pub yield_tells : {names : Names} {s : KernelState} {a : AbstractState} → StandsFor names s a → (n : ℕ) → n ≢ 0 → is_running (slot_at s n).status ≡ true →
     is_yield (place_of (slot_at s n)) ≡ true → is_yielding (a.slots n) ≡ true
-yield_tells {s = s} h n runs yields =
-    let who = running_born h n runs in
+yield_tells {s = s} h n other runs yields =
+    let who = running_born h n other runs in
     ap (λ (slot : AbstractSlot). is_yielding slot) who.1
     ∙ yield_phase (view_of s.spaces (slot_at s n).directory) (slot_at s n) who.0 (place_of (slot_at s n)) (born_at h n who.0 who.1).at yields
 
@@ -312,7 +337,7 @@ in_turn_fits {schedule = schedule} {first = first} {turns = turns} {n = n} {visi
 -- Where the host fails in a step, what was written is the beginning of what the abstract system has written after that step.
 pub step_failed : {schedule : List ℕ} {first : AbstractState} {turns : List Turn} {n visible : ℕ} {s : KernelState}
     {written : List ℕ} (bytes : List ℕ) → IsInTurn schedule first turns n visible s written → (hidden : ℕ) →
-    ((a : AbstractState) → Stands s a → (b : AbstractState) × (abs_step a n ≡ Some b) × (b.console ≡ a.console ++ bytes)) →
+    ((a : AbstractState) → StandsWhole s a → (b : AbstractState) × (abs_step a n ≡ Some b) × (b.console ≡ a.console ++ bytes)) →
     (b : AbstractState) × (abs_run first (turns ++ turn_of n (visible + 1) hidden ∷ []) ≡ Some b) × (b.console ≡ first.console ++ (written ++ bytes))
 step_failed {first = first} {turns = turns} {n = n} {visible = visible} {written = written} bytes h hidden would =
     let b = would h.now h.stands in (
@@ -325,7 +350,7 @@ step_failed {first = first} {turns = turns} {n = n} {visible = visible} {written
 -- and its turns fit
 pub failed_fits : {schedule : List ℕ} {first : AbstractState} {turns : List Turn} {n visible : ℕ} {s : KernelState}
     {written bytes : List ℕ} → (h : IsInTurn schedule first turns n visible s written) → (hidden : ℕ) →
-    ((a : AbstractState) → Stands s a → (b : AbstractState) × (abs_step a n ≡ Some b) × (b.console ≡ a.console ++ bytes)) →
+    ((a : AbstractState) → StandsWhole s a → (b : AbstractState) × (abs_step a n ≡ Some b) × (b.console ≡ a.console ++ bytes)) →
     0 < visible + 1 + hidden → visible + 1 + hidden ≤ quantum schedule (length turns) →
     fits schedule 0 first (turns ++ turn_of n (visible + 1) hidden ∷ []) ≡ true
 failed_fits {schedule = schedule} {first = first} {turns = turns} {n = n} {visible = visible} h hidden would some within =

@@ -214,6 +214,7 @@ module _ (image : Layout) (file : List ℕ) (words : List (List ℕ)) (s : Kerne
         ap (program_in image file words) made ∙ ap (option_map (program_started t n image.entry words)) (loaded_at loads.0)
         ∙ ap Some (sym state)
 
-pub server-made : (s t u : KernelState) (n : ℕ) → environment_made s 0 ≡ Ok (n, t) → u ≡ with_env_type t n FileServer →
-    server_in (environment_made s 0) ≡ Some u
-server-made s t u n made is = ap server_in made ∙ ap Some (sym is)
+pub server-made : (s t u v : KernelState) (n : ℕ) → environment_made s 0 ≡ Ok (n, t) → u ≡ with_env_type t n FileServer →
+    v ≡ with_status u n Runnable → server_in (environment_made s 0) ≡ Some v
+server-made s t u v n made typed runs =
+    ap server_in made ∙ ap Some (sym (runs ∙ ap (λ (k : KernelState). with_status k n Runnable) typed))

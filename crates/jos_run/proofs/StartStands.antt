@@ -26,7 +26,6 @@ use Rattle.lib_os.specs.AbstractState.{Born, Page, free, own, named, terminal, u
 use Rattle.lib_os.specs.DescriptorPages.{device_of}
 use Rattle.lib_os.specs.Fence.{in_fence, is_resident}
 use Rattle.lib_os.specs.LibraryPages.{LibraryPages, region_index}
-use Rattle.lib_os.specs.LibrarySteps.{Stands}
 use Rattle.lib_os.specs.Places.{is_handlers, place_of}
 use Rattle.lib_os.specs.Rows.{Agree, EntryRow, IsNamed, IsPage, IsUsers, Names, counted, is_clients, is_programs, is_shared, logical, logical_by}
 use Rattle.lib_os.specs.Rows.{may_write}
@@ -36,12 +35,12 @@ use Rattle.lib_os.specs.StandsFor.{HasChildren, StandsFor, StandsForBorn, borne_
 use Rattle.lib_os.proofs.Logical.{programs_no_descriptor}
 use Rattle.lib_os.proofs.PageBytes.{page_overlaid, words_bytes, zero_page_whole}
 use Rattle.lib_os.proofs.Serving.{words_of_none}
-use Rattle.lib_os.proofs.TwoSlots as two
 use Rattle.lib_spawn.specs.StackPage.{fits_stack, stack_pointer, stack_size, strings_of}
 use Rattle.lib_spawn.proofs.StackPages.{fits}
 use Rattle.lib_os.specs.Rows.{AreBytes}
 use Rattle.jos_run.specs.Begun.{IsNew, ProgramsBegin}
 use Rattle.jos_run.specs.Boot.{booted_within, console_bytes, handler_page}
+use Rattle.jos_run.specs.ServerStands.{ServerStands, StandsWhole}
 use Rattle.jos_run.specs.Start.{first_descriptors, first_memory, program_with, start_state}
 use Rattle.jos_run.proofs.Booted.{within-booted}
 use Rattle.jos_run.proofs.BootedPages.{IsPlain, own_by}
@@ -51,6 +50,7 @@ use Rattle.jos_run.proofs.FirstSpaces.{HasFrames, has_frames, rising-slots}
 use Rattle.jos_run.proofs.FirstState.{base, begun_new, has_begun, registers, space_small}
 use Rattle.jos_run.proofs.PagesBegin.{space_memory}
 use Rattle.jos_run.proofs.StackLoaded.{fits-some}
+use Rattle.jos_run.proofs.TwoSlots as two
 
 -- the name of the console, which stands in this frame
 abbrev pub the_names : ℕ → Names
@@ -417,6 +417,19 @@ module _ (image : Layout) (words : List (List ℕ)) (input : List ℕ) (frames f
       in_order = h.in_order;
     }
 
+    -- the file server stands at its first step
+    pub server_begins : ServerStands (with_spaces (base image words input frames first n has) u) (start_state image file words input)
+    server_begins = record {
+      at = two.server_leaves first (first + 1) regs;
+      twelve = refl;
+      bare = λ r. h.has.tables_elsewhere first r (λ same. omega (arith, same));
+      cache = two.cache_rests first (first + 1) regs;
+      asked = record {
+        asked = λ client is. absurd (none-some client is);
+        given = two.given_apart born refl;
+      };
+    }
+
 pub programs_begin : ProgramsBegin
 programs_begin image file words frames input s file_bytes word_bytes input_bytes read fit least most is =
     let h = fits words fit in
@@ -425,10 +438,14 @@ programs_begin image file words frames input s file_bytes word_bytes input_bytes
     let n = frames - reserved_frames frames - 2 in
     let begun = has_begun image words input frames first n has file s read (fits-some words h) h.size is in (
       (
-        the_names begun.begins.has.frame,
-        subst (λ (k : KernelState). StandsFor (the_names begun.begins.has.frame) k (start_state image file words input)) (sym begun.state)
-            (state_stands image words input frames first n has h.size file file_bytes word_bytes (read_lie file image read) begun.loaded
-            begun.begins input_bytes),
+        (
+          the_names begun.begins.has.frame,
+          subst (λ (k : KernelState). StandsFor (the_names begun.begins.has.frame) k (start_state image file words input)) (sym begun.state)
+              (state_stands image words input frames first n has h.size file file_bytes word_bytes (read_lie file image read) begun.loaded
+              begun.begins input_bytes),
+        ),
+        subst (λ (k : KernelState). ServerStands k (start_state image file words input)) (sym begun.state)
+            (server_begins image words input frames first n has h.size file file_bytes word_bytes (read_lie file image read) begun.loaded begun.begins),
       ),
       begun_new image words input frames first n has file s begun,
     )
@@ -436,7 +453,7 @@ programs_begin image file words frames input s file_bytes word_bytes input_bytes
 -- the same where the frames that the program wants are there
 pub begun_within : (image : Layout) (file : List ℕ) (words : List (List ℕ)) (frames : ℕ) (input : List ℕ) (s : KernelState) →
     AreBytes file → AreBytes (strings_of words) → AreBytes input → parsed file ≡ Ok image → fits_stack words ≡ true → 64 ≤ frames → frames ≤ 65536 →
-    booted_within image file words frames input ≡ Some s → Stands s (start_state image file words input) × IsNew s frames
+    booted_within image file words frames input ≡ Some s → StandsWhole s (start_state image file words input) × IsNew s frames
 begun_within image file words frames input s file_bytes word_bytes input_bytes read fit least most is =
     programs_begin image file words frames input s file_bytes word_bytes input_bytes read fit least most
     (within-booted image file words frames input s is)

@@ -3,6 +3,7 @@ use Rattle.std.proofs.Common.{◌≡◌, ◌∙◌, ℕ, ◌+◌, ◌<◌, zero,
 use Rattle.std.proofs.Common.{Result, Err, refl, sym, ap, subst, arith, if◌then◌else◌}
 use Rattle.std.specs.Prelude.{IfOk, OnErr}
 use Rattle.jos_host.specs.declared.host.Failed.{Failed}
+use Rattle.jos_base.specs.declared.environment.EnvType.{EnvType}
 use Rattle.jos_base.specs.declared.environment.Status.{Status}
 use Rattle.jos_base.specs.declared.registers.Regs.{Regs}
 use Rattle.jos_base.specs.Environments.{Slot, is_running}
@@ -21,10 +22,10 @@ use Rattle.jos_kernel.specs.Steps.{EnvStep}
 use Rattle.lib_os.specs.declared.place.Place.TheVariants as place
 use Rattle.lib_os.specs.declared.progress.Progress.{Progress}
 use Rattle.lib_os.specs.declared.progress.Progress.TheVariants as progress
-use Rattle.lib_os.specs.LibrarySteps.{GivesUp, KeepsStanding, IsLibraryStep, Leaves, Lowers, TakesByPlace, is_pausing}
+use Rattle.lib_os.specs.LibrarySteps.{IsLibraryStep, Leaves, LeavesRest, Lowers, TakesByPlace, is_pausing}
 use Rattle.lib_os.specs.InOrder.{IsInOrder}
 use Rattle.lib_os.specs.Places.{place_of}
-use Rattle.lib_os.specs.UserCalls.{Output}
+use Rattle.lib_os.specs.UserCalls.{Output, is_file_server}
 use Rattle.lib_os.specs.StandsInHandler.{AreSmall}
 use Rattle.lib_os.proofs.GoingOn.{gives_nothing_up}
 use Rattle.lib_os.proofs.Slots.{slot_put}
@@ -34,13 +35,14 @@ use Rattle.jos_run.specs.Guest.{Follows}
 use Rattle.jos_run.specs.GuestSteps.{quietly, after_event, guest_instruction, is_copying, is_handed_over}
 use Rattle.jos_run.specs.LibraryRuns.{visible_steps, hidden_steps}
 use Rattle.jos_run.specs.RunSteps.{StepMade, IsMade, LeadTo, traps_of, written_in, turns_with}
-use Rattle.jos_run.specs.Steps.{is_awake, step_progress, Raises}
+use Rattle.jos_run.specs.ServerStands.{KeepsWhole}
+use Rattle.jos_run.specs.Steps.{LeavesAs, Raises, RaisesAs, is_awake, is_servers, step_progress}
 use Rattle.jos_run.specs.StepsAtOnce.{GuestGoesOn, came_to, MakesSteps}
 use Rattle.jos_run.proofs.GuestLeaves.{guest_leaves}
 use Rattle.jos_run.proofs.GuestStands.{SmallAtFault, copying_at, instruction_end, instruction_step}
 use Rattle.jos_run.proofs.GuestTakes.{guest_takes}
-use Rattle.jos_run.proofs.ProgramSteps.{program_goes_on, program_ends, program_copies, program_lowers, program_fails, guest_raises}
-use Rattle.jos_run.proofs.QuietSteps.{gone_quietly, quiet_calm, quiet_keeps, running_awake}
+use Rattle.jos_run.proofs.ProgramSteps.{program_goes_on, program_ends, program_copies, program_lowers, program_fails, guest_raises, leaves_as, raises_as, whole_step}
+use Rattle.jos_run.proofs.QuietSteps.{gone_quietly, quiet_calm, quiet_keeps, running_awake, still_user}
 use Rattle.jos_run.proofs.RunSteps.{turns_further, turn_longer}
 
 -- ---- a program
@@ -62,10 +64,13 @@ small_before (Raised trap error va) old new left small = λ is. subst AreSmall l
 
 -- so it is as many steps of its environment
 module _ {n going ip : ℕ} {event : Event} (s mid after : KernelState) (output : Output) (b : IsGuestBurst n going s mid ip event)
-    (awake : is_awake (slot_at s n).status ≡ true) (guest : place_of (slot_at s n) ≡ place.Guest) (small : AreSmall (slot_at mid n).registers)
+    (user : is_servers s n ≡ false) (awake : is_awake (slot_at s n).status ≡ true) (guest : place_of (slot_at s n) ≡ place.Guest) (small : AreSmall (slot_at mid n).registers)
     (order : IsInOrder after) where
   still_awake : is_awake (slot_at b.reached n).status ≡ true
   still_awake = ap (λ (x : Status). is_awake x) (gone_quietly n going s b.reached b.went).status ∙ awake
+
+  reached_user : is_servers b.reached n ≡ false
+  reached_user = ap (λ (t : EnvType). is_file_server t) (gone_quietly n going s b.reached b.went).env_type ∙ user
 
   abbrev step : Stepped Running
   step = instruction_step b.reached n
@@ -78,19 +83,31 @@ module _ {n going ip : ℕ} {event : Event} (s mid after : KernelState) (output 
       (subst AreSmall ((λ i. (slot_at (sym b.end_is i) n).registers) ∙ ap (λ (x : Slot). x.registers) (slot_put step.memory.state n set)) small)
 
   makes : (last : Result StepOutcome Failed) → IsLibraryStep (step_progress last) n b.reached after output →
-      Leaves (step_progress last) n b.reached after → Lowers (step_progress last) n b.reached after →
-      IfOk last (λ stepped. TakesByPlace n b.reached after) →
+      Leaves (step_progress last) n b.reached after → Lowers (step_progress last) n b.reached after → IfOk (step_progress last) (λ done. TakesByPlace n b.reached after) →
       IfOk last (λ stepped. Raises (place_of (slot_at b.reached n)) n b.reached stepped.trap after) → MakesSteps n going last s after output
-  makes last step leaves lowers takes raises = record {
+  makes (Ok stepped) step leaves lowers takes raises = record {
     reached = b.reached;
     went = b.went;
-    is_guest = λ some. guest;
-    step = step;
-    leaves = leaves;
-    lowers = lowers;
-    gives_up = gives_nothing_up (step_progress last) (slot_at b.reached n) (slot_at after n) (ap is_pausing b.is_guest);
-    takes = takes;
-    raises = raises;
+    is_guest = λ some. (user, guest);
+    step = whole_step b.reached after n output reached_user still_awake (Ok stepped.progress) (leaves.server, leaves.places) step;
+    rest = leaves.rest;
+    leaves = leaves_as (is_servers b.reached n) (Ok stepped.progress) b.reached after n reached_user (record {
+      each = leaves;
+      lowers = lowers;
+      gives_up = gives_nothing_up (Ok stepped.progress) (slot_at b.reached n) (slot_at after n) (ap is_pausing b.is_guest);
+      takes = takes;
+    });
+    raises = raises_as (is_servers b.reached n) b.reached after n stepped.trap reached_user raises;
+  }
+  makes (Err failed) step leaves lowers takes raises = record {
+    reached = b.reached;
+    went = b.went;
+    is_guest = λ some. (user, guest);
+    step = whole_step b.reached after n output reached_user still_awake (Err failed) tt step;
+    rest = tt;
+    leaves = leaves_as (is_servers b.reached n) (Err failed) b.reached after n reached_user
+        (record { each = tt; lowers = tt; gives_up = tt; takes = tt });
+    raises = tt;
   }
 
   by_followed : (copying live : Bool) → copying_at b.reached n ≡ copying → (followed : Result (Option TrapLine) Failed) →
@@ -99,22 +116,22 @@ module _ {n going ip : ℕ} {event : Event} (s mid after : KernelState) (output 
       MakesSteps n going (came_to copying live followed) s after output
   by_followed true live is (Ok trap) told ended =
       makes (Ok (record { progress = progress.Hidden; trap = trap }))
-      (program_copies b.reached after n output still_awake b.is_guest still_small order is trap told)
+      (program_copies b.reached after n output reached_user still_awake b.is_guest still_small order is trap told)
       (guest_leaves b.reached after n progress.Hidden told.0)
-      (program_lowers b.reached after n output still_awake b.is_guest still_small order is trap told)
+      (program_lowers b.reached after n output reached_user still_awake b.is_guest still_small order is trap told)
       (guest_takes b.reached after n b.is_guest told.0) (guest_raises b.reached after n trap b.is_guest told.0 told.1)
   by_followed false true is (Ok trap) told ended =
       makes (Ok (record { progress = progress.Visible; trap = trap }))
-      (program_goes_on b.reached after n output still_awake b.is_guest still_small order is trap told)
+      (program_goes_on b.reached after n output reached_user still_awake b.is_guest still_small order is trap told)
       (guest_leaves b.reached after n progress.Visible told.0) tt (guest_takes b.reached after n b.is_guest told.0)
       (guest_raises b.reached after n trap b.is_guest told.0 told.1)
   by_followed false false is (Ok trap) told ended =
       makes (Ok (record { progress = progress.Ended; trap = trap }))
-      (program_ends b.reached after n output still_awake b.is_guest still_small order is trap told)
+      (program_ends b.reached after n output reached_user still_awake b.is_guest still_small order is trap told)
       (guest_leaves b.reached after n progress.Ended told.0) tt (guest_takes b.reached after n b.is_guest told.0)
       (guest_raises b.reached after n trap b.is_guest told.0 told.1)
   by_followed copying live is (Err failed) told ended =
-      makes (Err failed) (program_fails b.reached after n output still_awake b.is_guest still_small order failed told ended) tt tt tt tt
+      makes (Err failed) (program_fails b.reached after n output reached_user still_awake b.is_guest still_small order failed told ended) tt tt tt tt
 
   pub program_made : (copying live : Bool) → copying ≡ is_copying mid n event → (followed : Result (Option TrapLine) Failed) →
       Follows followed (after_event mid n ip event) after output → OnErr followed (is_handed_over mid n event ≡ false) →
@@ -150,24 +167,29 @@ steps_with begins n (suc k) s t g last = quiet_step n begins g.0 ∷ steps_with 
 -- ---- one that goes on
 
 -- whether it is the first of its turn or not
-quiet_made : (begins : Bool) (n : ℕ) (s u after : KernelState) → guest_instruction s n ≡ quietly after →
+quiet_made : (begins : Bool) (n : ℕ) (s u after : KernelState) → guest_instruction s n ≡ quietly after → is_servers s n ≡ false →
     place_of (slot_at s n) ≡ place.Guest → is_running (slot_at s n).status ≡ true → (if begins then turn_begun u n else u) ≡ s →
     (begins ≡ true → next u.environments u.last ≡ Some n) → IsMade u (quiet_step n begins after)
-quiet_made begins n s u after g guest runs is chosen = record {
-  chosen = chosen;
-  running = (λ i. is_running (slot_at (is i) n).status) ∙ runs;
-  raises = subst (λ (x : KernelState). Raises (place_of (slot_at x n)) n x None after) (sym is)
-      (guest_raises s after n None guest (ap (λ (step : EnvStep). step.state) (sym g)) (ap (λ (step : EnvStep). step.trap) (sym g)));
-  keeps = subst (λ (x : KernelState). KeepsStanding progress.Visible n x after []) (sym is)
-      (quiet_keeps s after n g (running_awake (slot_at s n).status runs) guest);
-  leaves = subst (λ (x : KernelState). Leaves (Ok progress.Visible) n x after) (sym is)
-      (guest_leaves s after n progress.Visible (ap (λ (step : EnvStep). step.state) (sym g)));
-  lowers = tt;
-  gives_up = gives_nothing_up (Ok progress.Visible) (slot_at (if begins then turn_begun u n else u) n) (slot_at after n)
-      ((λ i. is_pausing (place_of (slot_at (is i) n))) ∙ ap is_pausing guest);
-  takes = subst (λ (x : KernelState). TakesByPlace n x after) (sym is)
-      (guest_takes s after n guest (ap (λ (step : EnvStep). step.state) (sym g)));
-}
+quiet_made begins n s u after g user guest runs is chosen =
+    let state_is : after ≡ (guest_instruction s n).state = ap (λ (step : EnvStep). step.state) (sym g) in
+    let left : Leaves (Ok progress.Visible) n s after = guest_leaves s after n progress.Visible state_is in
+    record {
+      chosen = chosen;
+      running = (λ i. is_running (slot_at (is i) n).status) ∙ runs;
+      raises = subst (λ (x : KernelState). RaisesAs (is_servers x n) n x None after) (sym is)
+          (raises_as (is_servers s n) s after n None user
+          (guest_raises s after n None guest state_is (ap (λ (step : EnvStep). step.trap) (sym g))));
+      keeps = subst (λ (x : KernelState). KeepsWhole progress.Visible n x after []) (sym is)
+          (quiet_keeps s after n g user (running_awake (slot_at s n).status runs) guest);
+      rest = subst (λ (x : KernelState). LeavesRest x after) (sym is) left.rest;
+      leaves = subst (λ (x : KernelState). LeavesAs (is_servers x n) (Ok progress.Visible) n x after) (sym is)
+          (leaves_as (is_servers s n) (Ok progress.Visible) s after n user (record {
+            each = left;
+            lowers = tt;
+            gives_up = gives_nothing_up (Ok progress.Visible) (slot_at s n) (slot_at after n) (ap is_pausing guest);
+            takes = guest_takes s after n guest state_is;
+          }));
+    }
 
 -- ---- all of them
 
@@ -183,31 +205,30 @@ module _ (n : ℕ) (goes_on : Bool) (done : Progress) (bytes : List ℕ) (trap :
       let rest : length (steps_with false n k g.0 t g.3 last) ≡ k + 1 = steps_long false k g.0 t g.3 in omega arith
 
   -- they lead on to where the last one leads
-  module _ (t v : KernelState) (raises : Raises (place_of (slot_at t n)) n t trap left) (keeps : KeepsStanding done n t left bytes)
-      (leaves : Leaves (Ok done) n t left) (passed_is : (if goes_on then left else turn_ended left n) ≡ v) (takes : TakesByPlace n t left)
-      (lowers : Lowers (Ok done) n t left) (gives_up : GivesUp (Ok done) (slot_at t n) (slot_at left n)) where
+  module _ (t v : KernelState) (raises : RaisesAs (is_servers t n) n t trap left) (keeps : KeepsWhole done n t left bytes)
+      (rest : LeavesRest t left) (leaves : LeavesAs (is_servers t n) (Ok done) n t left)
+      (passed_is : (if goes_on then left else turn_ended left n) ≡ v) where
     pub steps_lead : (begins : Bool) (k : ℕ) (s u : KernelState) (g : GuestGoesOn n k s t) → (if begins then turn_begun u n else u) ≡ s →
         (begins ≡ true → next u.environments u.last ≡ Some n) → is_running (slot_at s n).status ≡ true →
-        (0 < k → place_of (slot_at s n) ≡ place.Guest) → LeadTo (steps_with begins n k s t g last) u v
+        (0 < k → (is_servers s n ≡ false) × (place_of (slot_at s n) ≡ place.Guest)) → LeadTo (steps_with begins n k s t g last) u v
     unfolding steps_with LeadTo
     steps_lead begins zero s u g is chosen runs guest =
         let at_last : (if begins then turn_begun u n else u) ≡ t = is ∙ sym g in (
           record {
             chosen = chosen;
             running = (λ i. is_running (slot_at (is i) n).status) ∙ runs;
-            raises = subst (λ (x : KernelState). Raises (place_of (slot_at x n)) n x trap left) (sym at_last) raises;
-            keeps = subst (λ (x : KernelState). KeepsStanding done n x left bytes) (sym at_last) keeps;
-            leaves = subst (λ (x : KernelState). Leaves (Ok done) n x left) (sym at_last) leaves;
-            lowers = subst (λ (x : KernelState). Lowers (Ok done) n x left) (sym at_last) lowers;
-            gives_up = subst (λ (x : KernelState). GivesUp (Ok done) (slot_at x n) (slot_at left n)) (sym at_last) gives_up;
-            takes = subst (λ (x : KernelState). TakesByPlace n x left) (sym at_last) takes;
+            raises = subst (λ (x : KernelState). RaisesAs (is_servers x n) n x trap left) (sym at_last) raises;
+            keeps = subst (λ (x : KernelState). KeepsWhole done n x left bytes) (sym at_last) keeps;
+            rest = subst (λ (x : KernelState). LeavesRest x left) (sym at_last) rest;
+            leaves = subst (λ (x : KernelState). LeavesAs (is_servers x n) (Ok done) n x left) (sym at_last) leaves;
           },
           passed_is,
         )
     steps_lead begins (suc k) s u g is chosen runs guest = (
-      quiet_made begins n s u g.0 g.1 (guest (omega arith)) runs is chosen,
+      quiet_made begins n s u g.0 g.1 (guest (omega arith)).0 (guest (omega arith)).1 runs is chosen,
       steps_lead false k g.0 g.0 g.3 refl (λ so. absurd (let contradiction : false ≡ true = so in cc))
-          (ap (λ (x : Status). is_running x) (quiet_calm s g.0 n g.1).status ∙ runs) (λ some. g.2),
+          (ap (λ (x : Status). is_running x) (quiet_calm s g.0 n g.1).status ∙ runs)
+          (λ some. (still_user s g.0 n g.1 (guest (omega arith)).0, g.2)),
     )
 
   -- none of those that go on raises a trap or writes

@@ -1,7 +1,7 @@
 -- A run after more steps: what the calls of steps that are made at once have done to it tells where it has come to.
-use Rattle.std.proofs.Common.{◌≡◌, ◌≢◌, ◌∙◌, ℕ, ◌+◌, ◌-◌, ◌^◌, ◌<◌, ◌≤◌, ◌==◌, ◌&&◌, Bool, true, false, List, [], ◌∷◌, ◌++◌, length, min, Ok}
+use Rattle.std.proofs.Common.{◌≡◌, ◌≢◌, ◌∙◌, ℕ, zero, suc, ◌+◌, ◌-◌, ◌^◌, ◌<◌, ◌≤◌, ◌==◌, ◌&&◌, Bool, true, false, List, [], ◌∷◌, ◌++◌, length, min, Ok}
 use Rattle.std.proofs.Common.{Option, Some, None, Result, inl, inr, refl, sym, ap, subst, arith, if◌then◌else◌, take, drop, vec_len}
-use Rattle.std.specs.Prelude.{nat_lt, nat_le, not}
+use Rattle.std.specs.Prelude.{is_none, nat_lt, nat_le, not}
 use Rattle.std.proofs.lemmas.Bool.Decides.{nat_tests}
 use Rattle.std.proofs.lemmas.List.{take-append-drop}
 use Rattle.circular_buffer.specs.Buffer.{Buffer, buffer, keep_last}
@@ -10,10 +10,14 @@ use Rattle.jos_host.specs.Frames.{Around, from_to}
 use Rattle.jos_host.specs.Gains.{Gains, GainsPart}
 use Rattle.jos_base.specs.declared.environment.Status.{Status}
 use Rattle.jos_base.specs.declared.environment.Status.TheVariants.{Runnable}
+use Rattle.jos_base.specs.declared.numbers.TheConstants.{TURN_MAX}
 use Rattle.jos_base.specs.Environments.{is_running}
 use Rattle.jos_base.specs.KernelState.{KernelState, slot_at, with_status, turn_begun, turn_ended}
 use Rattle.jos_base.specs.SpacesState.{SpacesState, reserved_frames}
 use Rattle.jos_sched.specs.Quantum.{quantum}
+use Rattle.jos_sched.specs.RoundRobin.{next}
+use Rattle.jos_kernel.specs.declared.report.End.{End}
+use Rattle.jos_kernel.specs.declared.report.End.TheVariants.{Done, Stuck, TurnsFull}
 use Rattle.jos_kernel.specs.declared.report.Refusal.{Refusal}
 use Rattle.jos_kernel.specs.declared.report.Turn.{Turn}
 use Rattle.jos_kernel.specs.declared.trace.TrapLine.{TrapLine}
@@ -25,7 +29,7 @@ use Rattle.lib_os.specs.declared.progress.Progress.{Progress}
 use Rattle.lib_os.specs.declared.progress.Progress.TheVariants as progress
 use Rattle.lib_os.specs.AbstractState.{AbstractState}
 use Rattle.lib_os.specs.AbstractRun.{abs_step}
-use Rattle.lib_os.specs.LibrarySteps.{Stands, GivesUp, KeepsStanding, LeavesEach, Lowers, NothingRefused, TakesByPlace}
+use Rattle.lib_os.specs.LibrarySteps.{KeepsUses, LeavesEach, LeavesRest, NothingRefused}
 use Rattle.lib_os.specs.Need.{EachHasUse, NeedIsReached, need}
 use Rattle.lib_os.specs.Places.{place_of}
 use Rattle.lib_os.specs.UserCalls.{Output}
@@ -33,19 +37,23 @@ use Rattle.jos_run.specs.declared.library_run.LibraryRun.{LibraryRun}
 use Rattle.jos_run.specs.declared.steps.StepOutcome.{StepOutcome}
 use Rattle.jos_run.specs.AbstractTurns.{steps_taken}
 use Rattle.jos_run.specs.AbstractTurns.{turn_begun as begun_at}
-use Rattle.jos_run.specs.LibraryRuns.{IsBetween, IsInTurn, visible_steps, hidden_steps}
+use Rattle.jos_run.specs.LibraryRuns.{IsBetween, IsInTurn, end_seen, others_live, visible_steps, hidden_steps}
 use Rattle.jos_run.specs.RunReports.{IsRefused, LacksSpace, IsCutOff, CutOffBy}
 use Rattle.jos_run.specs.RunSteps.{StepMade, LeadTo, traps_of, written_in, turns_with}
-use Rattle.jos_run.specs.Steps.{Raises}
+use Rattle.jos_run.specs.ServerStands.{KeepsWhole, ServerLeaves, StandsWhole}
+use Rattle.jos_run.specs.Steps.{LeavesAs, RaisesAs, is_servers}
 use Rattle.jos_run.specs.StepsAtOnce.{GuestGoesOn, MakesSteps}
 use Rattle.jos_run.specs.Running.{state_of, turns_so_far, Holds, StandsBy, StandsSo, RunsBy, Runs, IsChosen, entered}
 use Rattle.jos_run.specs.Running.{goes_on_after, turn_after, CountedBy, Counted, Went, HasFailed}
-use Rattle.jos_run.proofs.Advancing.{Comes, stepped, turn_over}
+use Rattle.jos_run.proofs.Advancing.{Comes, server_stepped, stepped, turn_over}
+use Rattle.jos_run.proofs.Choices.{any_live_stands, only_first_serves}
+use Rattle.jos_run.proofs.ServerTurns.{server_others}
 use Rattle.jos_run.proofs.QuietSteps.{GoneQuietly, gone_quietly, quiet_in_turn, quiet_each}
 use Rattle.jos_run.proofs.RunSteps.{kept_one, written_one}
 use Rattle.jos_run.proofs.Refusals.{refused_further, refused_longer}
 use Rattle.jos_run.proofs.RunsKept.{turn_begins, in_turn_ran, step_failed, failed_fits}
 use Rattle.jos_run.proofs.StepsAtOnce.{made_step, steps_with, steps_long, steps_lead, steps_traps, steps_written, steps_turns}
+use Rattle.jos_run.proofs.WholeStands.{others_slot, servers_first}
 
 -- ---- the turn under way, or the next
 
@@ -54,6 +62,15 @@ none_made r is = grind (arith, nat_tests)
 
 pub some_made : (r : LibraryRun) → (made r.book == 0) ≡ false → 0 < made r.book
 some_made r is = grind (arith, nat_tests)
+
+-- where no end test holds there is another environment than the file server
+seen_others : (s : KernelState) (turns : ℕ) → end_seen s turns false ≡ None → others_live s ≡ true
+seen_others s turns none = by_test (others_live s) none
+  where
+    by_test : (c : Bool) → (if not c then Some Done else if is_none (next s.environments s.last) then Some Stuck
+        else if nat_le TURN_MAX turns then Some TurnsFull else None) ≡ None → c ≡ true
+    by_test true is = refl
+    by_test false is = absurd (let contradiction : ◌≡◌ {A = Option End} (Some Done) None = is in cc)
 
 -- what a turn's beginning leaves
 entered_rest : (r : LibraryRun) (n : ℕ) →
@@ -106,6 +123,21 @@ in_turn_of first r n printed chosen stands = by_test (made r.book == 0) refl sta
     by_test false is h =
         subst (λ (m : ℕ). IsInTurn r.book.schedule first r.book.turns.items m r.book.visible (state_of r) printed) (sym (chosen.turn (some_made r is))) h
 
+-- Where the file server's turn is under way, or begins, there is another environment.
+entered_others : {frames : ℕ} (first : AbstractState) (r : LibraryRun) (n : ℕ) (printed : List ℕ) → IsChosen r n →
+    StandsSo first frames r printed → n ≡ 0 → others_live (entered r n) ≡ true
+unfolding turn_begins
+entered_others first r n printed chosen so is_first = by_test (made r.book == 0) refl so.stands
+  where
+    by_test : (c : Bool) → (made r.book == 0) ≡ c → StandsBy c r.book.schedule first r printed →
+        others_live (if c then turn_begun (state_of r) n else state_of r) ≡ true
+    by_test true is h =
+        let none = none_made r is in
+        let t = turn_begins h n (chosen.next_is none) in
+        sym (any_live_stands t.stands.0.1 (only_first_serves t.stands.0.1)) ∙ any_live_stands h.stands.0.1 (only_first_serves h.stands.0.1)
+        ∙ seen_others (state_of r) (vec_len r.book.turns) (chosen.goes_on none)
+    by_test false is h = let some = some_made r is in so.others some (sym (chosen.turn some) ∙ is_first)
+
 -- ---- steps
 
 -- what holds of a slot and of a state holds of the same in other words
@@ -118,7 +150,7 @@ pub record Reaches (r : LibraryRun) (n going : ℕ) : Type 0 where
   pub chosen : IsChosen r n
   pub left : made r.book + going < quantum r.book.schedule (length r.book.turns.items)
   pub running : is_running (slot_at (entered r n) n).status ≡ true
-  pub is_guest : 0 < going → place_of (slot_at (entered r n) n) ≡ place.Guest
+  pub is_guest : 0 < going → (is_servers (entered r n) n ≡ false) × (place_of (slot_at (entered r n) n) ≡ place.Guest)
   pub reached : KernelState
   pub went : GuestGoesOn n going (entered r n) reached
 
@@ -138,15 +170,14 @@ reaches holds chosen left running b = record {
 -- what the calls of steps have done before they are counted
 pub record Makes (r m : LibraryRun) (n going : ℕ) (done : Progress) (bytes : List ℕ) : Type 0 where
   pub before : Reaches r n going
-  pub keeps : KeepsStanding done n before.reached (state_of m) bytes
-  pub leaves : LeavesEach done n before.reached (state_of m)
+  pub keeps : KeepsWhole done n before.reached (state_of m) bytes
+  pub rest : LeavesRest before.reached (state_of m)
+  pub leaves : LeavesAs (is_servers before.reached n) (Ok done) n before.reached (state_of m)
   pub trap : Option TrapLine
-  pub raises : Raises (place_of (slot_at before.reached n)) n before.reached trap (state_of m)
+  pub raises : RaisesAs (is_servers before.reached n) n before.reached trap (state_of m)
   pub slot : m.served.slot ≡ n
   pub written : m.served.written ≡ min (r.served.written + length bytes) (2 ^ 64 - 1)
-  pub takes : TakesByPlace n before.reached (state_of m)
-  pub lowers : Lowers (Ok done) n before.reached (state_of m)
-  pub gives_up : GivesUp (Ok done) (slot_at before.reached n) (slot_at (state_of m) n)
+  pub disk : m.served.disk ≡ r.served.disk
   pub book : m.book ≡ record r.book {
     trace = traced r.book.trace trap;
     first_refused = noted r.book.first_refused (not ((state_of m).refusals == (entered r n).refusals)) (vec_len r.book.turns) r.served.written;
@@ -297,14 +328,56 @@ module _ {r : LibraryRun} {n going : ℕ} (k : Reaches r n going) where
       EachHasUse (state_of r).spaces → EachHasUse k.reached.spaces
   before_used first printed stands used =
       let begun = in_turn_of first r n printed k.chosen stands in
-      quiet_each n going (entered r n) k.reached k.went begun.stands.1.in_order (running_live (slot_at (entered r n) n) k.running)
+      quiet_each n going (entered r n) k.reached k.went begun.stands.0.1.in_order (running_live (slot_at (entered r n) n) k.running)
       (subst (λ (x : SpacesState). EachHasUse x) (sym (entered_rest r n).0) used)
 
+  -- In a turn of the file server there is another environment: no instruction of a program goes before its step.
+  reached_others : {first : AbstractState} {frames : ℕ} {printed : List ℕ} → StandsSo first frames r printed → n ≡ 0 →
+      others_live k.reached ≡ true
+  reached_others {first = first} {printed = printed} h is_first = by_going going k.went k.is_guest
+    where
+      begun : IsInTurn r.book.schedule first r.book.turns.items n r.book.visible (entered r n) printed
+      begun = in_turn_of first r n printed k.chosen h.stands
+
+      by_going : (count : ℕ) → GuestGoesOn n count (entered r n) k.reached →
+          (0 < count → (is_servers (entered r n) n ≡ false) × (place_of (slot_at (entered r n) n) ≡ place.Guest)) → others_live k.reached ≡ true
+      by_going zero went guest = ap others_live went ∙ entered_others first r n printed k.chosen h is_first
+      by_going (suc count) went guest = absurd (others_slot begun.stands.0.1 n (guest (omega arith)).0 is_first)
+
 -- ---- the steps
+
+-- what the last of them leaves, where the state stands for an abstract one
+data LeftBy (n : ℕ) (done : Progress) (before after : KernelState) : Type 0 where
+  served : n ≡ 0 → ServerLeaves done before after → LeftBy n done before after
+  another : n ≢ 0 → LeavesEach done n before after → LeftBy n done before after
 
 module _ {r m : LibraryRun} {n going : ℕ} {done : Progress} {bytes : List ℕ} (k : Makes r m n going done bytes) where
   abbrev reached : KernelState
   reached = k.before.reached
+
+  left_by : (a : AbstractState) → StandsWhole reached a → LeftBy n done reached (state_of m)
+  left_by a h = by_test (is_servers reached n) refl k.leaves
+    where
+      by_test : (c : Bool) → is_servers reached n ≡ c → LeavesAs c (Ok done) n reached (state_of m) → LeftBy n done reached (state_of m)
+      by_test true is leaves = let is_first = servers_first h.0.1 n is in served is_first (leaves is_first)
+      by_test false is leaves = another (others_slot h.0.1 n is) leaves.each
+
+  uses_by : LeftBy n done reached (state_of m) → KeepsUses n reached (state_of m)
+  uses_by (served is_first left) = subst (λ (x : ℕ). KeepsUses x reached (state_of m)) (sym is_first) left.uses
+  uses_by (another other left) = left.uses
+
+  -- in a turn of the file server there is another environment still
+  others_further : {first : AbstractState} {frames : ℕ} {printed : List ℕ} → StandsSo first frames r printed →
+      IsInTurn r.book.schedule first r.book.turns.items n (r.book.visible + going) reached printed → NothingRefused reached (state_of m) →
+      (c : Bool) (after : LibraryRun) (visible hidden : ℕ) → CountedBy c m after visible hidden → 0 < made after.book → after.served.slot ≡ 0 →
+      others_live (state_of after) ≡ true
+  others_further h t none_refused true after visible hidden counts some slot =
+      let is_first : n ≡ 0 = sym k.slot ∙ sym counts.slot ∙ slot in
+      (λ i. others_live (counts.state i))
+      ∙ server_others n reached (state_of m) done bytes is_first t.now t.stands (still_runs k.before) none_refused k.keeps (reached_others k.before h is_first)
+  others_further h t none_refused false after visible hidden counts some slot =
+      let none : made after.book ≡ 0 = (λ i. counts.book.visible_are i + counts.book.hidden_are i) in
+      absurd (omega (arith, none, some))
 
   -- the steps are within the turn
   within_turn : made m.book + (seen_with going done + hidden_steps done) ≤ quantum r.book.schedule (length m.book.turns.items)
@@ -330,9 +403,18 @@ module _ {r m : LibraryRun} {n going : ℕ} {done : Progress} {bytes : List ℕ}
       (state_of m) (printed ++ bytes)
   comes_with {first = first} {printed = printed} t none_refused =
       comes_is (λ i. (sym k.book i).turns.items) (sym k.slot) seen_is (λ i. (sym k.book i).hidden + hidden_steps done)
-      (stepped bytes t done k.keeps none_refused (k.leaves.rest.last ∙ last_is k.before)
-      (still_runs k.before) k.leaves.turn (r.book.hidden + hidden_steps done))
+      (by_left (left_by t.now t.stands))
     where
+      by_left : LeftBy n done reached (state_of m) →
+          Comes r.book.schedule first r.book.turns.items n ((r.book.visible + going) + visible_steps done) (r.book.hidden + hidden_steps done)
+          (state_of m) (printed ++ bytes)
+      by_left (served is_first left) =
+          server_stepped bytes is_first t done k.keeps none_refused (k.rest.last ∙ last_is k.before) (still_runs k.before) left
+          (r.book.hidden + hidden_steps done)
+      by_left (another other left) =
+          stepped bytes other t done k.keeps none_refused (k.rest.last ∙ last_is k.before) (still_runs k.before) left.turn
+          (r.book.hidden + hidden_steps done)
+
       comes_is : {turns turns' : List Turn} {n n' visible visible' hidden hidden' : ℕ} → turns ≡ turns' → n ≡ n' → visible ≡ visible' →
           hidden ≡ hidden' → Comes r.book.schedule first turns n visible hidden (state_of m) (printed ++ bytes) →
           Comes r.book.schedule first turns' n' visible' hidden' (state_of m) (printed ++ bytes)
@@ -356,10 +438,11 @@ module _ {r m : LibraryRun} {n going : ℕ} {done : Progress} {bytes : List ℕ}
         stands = stands_after (goes_on_with m going done) r.book.schedule first m after (seen_with going done) (hidden_steps done)
             (printed ++ bytes) refl counts (λ i. (k.book i).schedule) (some_steps going done) within_turn (comes_with t none_refused);
         quiet = rest.1 ∙ same ∙ kept.1 ∙ h.quiet;
-        frames_are = (λ i. (rest.0 i).frames) ∙ k.leaves.rest.frames ∙ (gone k.before).frames ∙ (λ i. (kept.0 i).frames) ∙ h.frames_are;
+        frames_are = (λ i. (rest.0 i).frames) ∙ k.rest.frames ∙ (gone k.before).frames ∙ (λ i. (kept.0 i).frames) ∙ h.frames_are;
         used = subst (λ (x : SpacesState). EachHasUse x) (sym rest.0)
-            (k.leaves.uses t.stands.1.in_order (running_live (slot_at reached n) (still_runs k.before))
+            (uses_by (left_by t.now t.stands) t.stands.0.1.in_order (running_live (slot_at reached n) (still_runs k.before))
             (before_used k.before first printed h.stands h.used));
+        others = others_further h t none_refused (goes_on_with m going done) after (seen_with going done) (hidden_steps done) counts;
         counted_so = counts.written ∙ k.written ∙ (λ i. min (h.counted_so i + length bytes) (2 ^ 64 - 1)) ∙ counted-more printed bytes;
       }
 
@@ -372,7 +455,7 @@ module _ {r m : LibraryRun} {n going : ℕ} {done : Progress} {bytes : List ℕ}
   lacks_space rose frames now same needed true is (slot ∷ rest) are =
       let two : 2 ≤ length reached.spaces.free = grind (arith, nat_tests) in
       let some : reached.environments.free_slots ≢ [] = λ none. let contradiction : ◌≡◌ {A = List ℕ} [] (slot ∷ rest) = sym none ∙ are in absurd cc in
-      let still : (state_of m).refusals ≡ (entered r n).refusals = k.leaves.rest.refused two some ∙ (gone k.before).refusals in
+      let still : (state_of m).refusals ≡ (entered r n).refusals = k.rest.refused two some ∙ (gone k.before).refusals in
       let test : ((state_of m).refusals == (entered r n).refusals) ≡ true = grind (arith, nat_tests) in
       absurd (let contradiction : true ≡ false = sym test ∙ rose in cc)
 
@@ -405,8 +488,8 @@ module _ {r m : LibraryRun} {n going : ℕ} {done : Progress} {bytes : List ℕ}
         printed_is = refl;
         console = t.console;
         console_len = h.counted_so;
-        needed = lacks_space rose frames t.now t.stands.1.free_slots.same
-            (λ few. subst (λ (x : ℕ). x - reserved_frames x ≤ need t.now) all (needs t.stands.0 reached t.now t.stands.1 used few))
+        needed = lacks_space rose frames t.now t.stands.0.1.free_slots.same
+            (λ few. subst (λ (x : ℕ). x - reserved_frames x ≤ need t.now) all (needs t.stands.0.0 reached t.now t.stands.0.1 used few))
             (nat_le 2 (length reached.spaces.free)) refl reached.environments.free_slots refl;
       }
 
@@ -460,7 +543,7 @@ module _ {r m : LibraryRun} {n going : ℕ} {done : Progress} {bytes : List ℕ}
           let told : after.book.first_refused ≡ Some refusal =
           counts.book.first_refused ∙ (λ i. (k.book i).first_refused)
           ∙ ap (λ (o : Option Refusal). refusal_by (not ((state_of m).refusals == (entered r n).refusals)) o) is in
-          refused_so refusal told (k.leaves.rest.told (subst (λ (x : ℕ). 0 < x) (sym (before_last k.before)) h.0))
+          refused_so refusal told (k.rest.told (subst (λ (x : ℕ). 0 < x) (sym (before_last k.before)) h.0))
           (subst (λ (x : List Turn). IsRefused r.book.schedule first frames (x ++ turn_with m going done ∷ []) refusal (printed ++ bytes))
           (λ i. (sym k.book i).turns.items)
           (still_refused first frames refusal r (turn_with m going done) bytes printed (λ some. k.slot ∙ k.before.chosen.turn some)
@@ -482,9 +565,9 @@ module _ {r m : LibraryRun} {n going : ℕ} {done : Progress} {bytes : List ℕ}
   unfolding made_all
   leads_on after counts =
       steps_lead n (goes_on_with m going done) done bytes k.trap (state_of m) reached (state_of after) k.raises k.keeps
-      k.leaves
+      k.rest k.leaves
       ((λ i. if goes_on_with m going done then state_of m else turn_ended (state_of m) (sym k.slot i)) ∙ sym counts.state)
-      k.takes k.lowers k.gives_up (made r.book == 0) going (entered r n) (state_of r) k.before.went refl (λ is. k.before.chosen.next_is (none_made r is)) k.before.running
+      (made r.book == 0) going (entered r n) (state_of r) k.before.went refl (λ is. k.before.chosen.next_is (none_made r is)) k.before.running
       k.before.is_guest
 
   keeps_traps : (after : LibraryRun) → CountsSteps m after going done → (most : ℕ) (traps : List TrapLine) →
@@ -554,7 +637,7 @@ module _ {r m : LibraryRun} {n going : ℕ} {done : Progress} {bytes : List ℕ}
 -- what the calls of steps have done, in the last of which the host failed
 pub record Fails (r m : LibraryRun) (n going : ℕ) (bytes : List ℕ) : Type 0 where
   pub before : Reaches r n going
-  pub would : (a : AbstractState) → Stands before.reached a →
+  pub would : (a : AbstractState) → StandsWhole before.reached a →
       (b : AbstractState) × (abs_step a n ≡ Some b) × (b.console ≡ a.console ++ bytes)
   pub slot : m.served.slot ≡ n
   pub book : m.book ≡ record r.book { visible = r.book.visible + (going + 1) }

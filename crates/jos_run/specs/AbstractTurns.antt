@@ -13,7 +13,7 @@ use Rattle.jos_kernel.specs.declared.report.Turn.{Turn}
 use Rattle.jos_base.specs.Below.{some_below}
 use Rattle.lib_os.specs.declared.service.Service.{Service}
 use Rattle.lib_os.specs.declared.service.Service.TheVariants as service
-use Rattle.lib_os.specs.AbstractState.{AbstractState, AbstractSlot, born, serving, Phase, in_service, can_run, is_live}
+use Rattle.lib_os.specs.AbstractState.{AbstractState, AbstractSlot, Server, born, serving, idle, acted, is_idle, Phase, in_service, can_run, is_live}
 use Rattle.lib_os.specs.AbstractRun.{abs_step}
 
 -- ---- turns
@@ -66,7 +66,7 @@ end_of a turns spent =
 -- ---- schedules
 
 -- Where a turn may end before its steps are used up: its slot can't run on, or waits in a service, or has just given up
--- its turn.
+-- its turn. The file server waits with its reply.
 
 -- services in which an environment may wait for others
 abbrev pub is_waiting_service : Service → Bool
@@ -78,9 +78,23 @@ abbrev pub waits_in : Phase → Bool
 waits_in (in_service s stage) = is_waiting_service s
 waits_in _ = false
 
-abbrev pub stands_waiting : AbstractSlot → Bool
-stands_waiting (born b) = waits_in b.phase
-stands_waiting _ = false
+-- it has acted, and waits with its reply
+abbrev pub waits_to_reply : Server → Bool
+waits_to_reply (acted client answer bytes object) = true
+waits_to_reply _ = false
+
+-- its next step, where it has one if the server is idle, asks the server
+abbrev pub asks_behind : Option AbstractState → Bool
+asks_behind None = false
+asks_behind (Some after) = not (is_idle after.server)
+
+abbrev pub asks : AbstractState → ℕ → Bool
+asks a n = asks_behind (abs_step (record a { server = idle }) n)
+
+abbrev pub stands_waiting : AbstractState → ℕ → AbstractSlot → Bool
+stands_waiting a n (born b) = waits_in b.phase || asks a n
+stands_waiting a n (serving id) = waits_to_reply a.server
+stands_waiting a n _ = false
 
 abbrev pub yields_in : Phase → Bool
 yields_in (in_service service.Yield stage) = true
@@ -101,7 +115,7 @@ has_yielded begun n (suc visible) = has_yielded_after n (steps_taken begun n vis
 
 abbrev pub may_end : AbstractState → Turn → AbstractState → Bool
 may_end before turn after =
-    not (can_run after turn.slot) || stands_waiting (after.slots turn.slot)
+    not (can_run after turn.slot) || stands_waiting after turn.slot (after.slots turn.slot)
     || has_yielded (turn_begun before turn.slot) turn.slot turn.visible
 
 -- The steps of a turn are as many as the schedule gives it, or fewer, where it is the last or may end.

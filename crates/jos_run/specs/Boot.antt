@@ -1,4 +1,4 @@
--- How a run begins: the file server's environment in slot 0, which has no pages and never runs, and a program in slot 1,
+-- How a run begins: the file server's environment in slot 0, which has no pages and may run, and a program in slot 1,
 -- with the pages of its image, a page of stack on which its words stand, a page for the stack of the library's handler of page
 -- faults, to which its page faults go, and a page that tells the console, which its first two descriptors name.
 -- (MIT 6.828, env_create and load_icode of kern/env.c, init_stack of lib/spawn.c, and set_pgfault_handler of lib/pgfault.c.)
@@ -89,7 +89,7 @@ program_in image file words (Ok made) =
 
 abbrev pub server_in : Result (ℕ × KernelState) Errno → Option KernelState
 server_in (Err error) = None
-server_in (Ok made) = Some (with_env_type made.1 made.0 FileServer)
+server_in (Ok made) = Some (with_status (with_env_type made.1 made.0 FileServer) made.0 Runnable)
 
 -- ---- both
 

@@ -5,6 +5,7 @@ pub mod FencedMemory
 pub mod GuestSteps
 pub mod Guest
 pub mod MemoryProofs
+pub mod ServerStands
 pub mod Steps
 pub mod StepsAtOnce
 pub mod RunLaws

@@ -15,8 +15,8 @@ use Rattle.jos_base.specs.Below.{some_below}
 use Rattle.lib_os.specs.declared.progress.Progress.{Progress}
 use Rattle.lib_os.specs.declared.progress.Progress.TheVariants as progress
 use Rattle.lib_os.specs.AbstractState.{AbstractState}
-use Rattle.lib_os.specs.LibrarySteps.{Stands}
 use Rattle.jos_run.specs.AbstractTurns.{next_slot, turn_begun, steps_taken, abs_run, all_fit}
+use Rattle.jos_run.specs.ServerStands.{StandsWhole}
 
 -- ---- the kernel's slots
 
@@ -42,7 +42,7 @@ OnlyFirstServes s = (n : ℕ) → n ≢ 0 → is_user (slot_at s n).env_type ≡
 pub record IsBetween (schedule : List ℕ) (first : AbstractState) (turns : List Turn) (s : KernelState) (written : List ℕ) : Type 0 where
   pub now : AbstractState
   pub ran : abs_run first turns ≡ Some now
-  pub stands : Stands s now
+  pub stands : StandsWhole s now
   pub console : now.console ≡ first.console ++ written
   pub none : NoneRuns s
   pub fit : all_fit schedule 0 first turns ≡ true
@@ -54,7 +54,7 @@ pub record IsInTurn (schedule : List ℕ) (first : AbstractState) (turns : List 
   pub chosen : next_slot before ≡ Some n
   pub now : AbstractState
   pub taken : steps_taken (turn_begun before n) n visible ≡ Some now
-  pub stands : Stands s now
+  pub stands : StandsWhole s now
   pub console : now.console ≡ first.console ++ written
   pub only : OnlyRuns s n
   pub fit : all_fit schedule 0 first turns ≡ true

@@ -7,11 +7,12 @@ use Rattle.jos_kernel.specs.declared.report.Turn.{Turn}
 use Rattle.jos_kernel.specs.Books.{turn_of}
 use Rattle.lib_os.specs.declared.progress.Progress.{Progress}
 use Rattle.lib_os.specs.AbstractState.{AbstractState}
-use Rattle.lib_os.specs.LibrarySteps.{Stands, KeepsStanding, NothingRefused}
+use Rattle.lib_os.specs.LibrarySteps.{NothingRefused}
 use Rattle.lib_os.specs.Rows.{Names}
 use Rattle.lib_os.specs.StandsFor.{StandsFor}
 use Rattle.jos_run.specs.AbstractTurns.{next_slot, end_of, turn_fits, fits}
 use Rattle.jos_run.specs.LibraryRuns.{NoneRuns, OnlyRuns, OnlyFirstServes, IsBetween, IsInTurn, visible_steps, end_seen}
+use Rattle.jos_run.specs.ServerStands.{KeepsWhole, StandsWhole}
 
 -- Between two turns the kernel chooses the slot that the abstract system chooses.
 abbrev pub ChoicesAgree : Type 0
@@ -23,9 +24,9 @@ abbrev pub EndsAgree : Type 0
 EndsAgree = (names : Names) (s : KernelState) (a : AbstractState) → StandsFor names s a → NoneRuns s → OnlyFirstServes s →
     (turns : ℕ) (spent : Bool) → end_of a turns spent ≡ end_seen s turns spent
 
--- A run begins where the kernel's state stands for the first abstract one.
+-- A run begins where the kernel's state stands for the first abstract one, with the file server at its step.
 abbrev pub RunsBegin : Type 0
-RunsBegin = (schedule : List ℕ) (first : AbstractState) (s : KernelState) → Stands s first → NoneRuns s →
+RunsBegin = (schedule : List ℕ) (first : AbstractState) (s : KernelState) → StandsWhole s first → NoneRuns s →
     IsBetween schedule first [] s []
 
 -- The turn of the slot that is chosen begins.
@@ -34,11 +35,11 @@ TurnsBegin = (schedule : List ℕ) (first : AbstractState) (turns : List Turn) (
     IsBetween schedule first turns s written → (n : ℕ) → next s.environments s.last ≡ Some n →
     IsInTurn schedule first turns n 0 (turn_begun s n) written
 
--- A step that keeps what the library's steps promise leads on in its turn.
+-- A step that keeps what the library's steps and the file server's promise leads on in its turn.
 abbrev pub StepsLeadOn : Type 0
 StepsLeadOn = (schedule : List ℕ) (first : AbstractState) (turns : List Turn) (n visible : ℕ) (s after : KernelState)
     (written bytes : List ℕ) → IsInTurn schedule first turns n visible s written → (progress : Progress) →
-    KeepsStanding progress n s after bytes → NothingRefused s after → OnlyRuns after n →
+    KeepsWhole progress n s after bytes → NothingRefused s after → OnlyRuns after n →
     IsInTurn schedule first turns n (visible + visible_steps progress) after (written ++ bytes)
 
 -- A turn that fits ends.

@@ -11,10 +11,10 @@ use Rattle.jos_kernel.specs.declared.trace.TrapLine.{TrapLine}
 use Rattle.jos_kernel.specs.Books.{turn_of}
 use Rattle.jos_kernel.specs.Reports.{Reported}
 use Rattle.lib_os.specs.declared.progress.Progress.{Progress}
-use Rattle.lib_os.specs.LibrarySteps.{GivesUp, KeepsStanding, Leaves, Lowers, TakesByPlace}
-use Rattle.lib_os.specs.Places.{place_of}
+use Rattle.lib_os.specs.LibrarySteps.{LeavesRest}
 use Rattle.jos_run.specs.LibraryRuns.{visible_steps, hidden_steps, end_seen}
-use Rattle.jos_run.specs.Steps.{Raises}
+use Rattle.jos_run.specs.ServerStands.{KeepsWhole}
+use Rattle.jos_run.specs.Steps.{LeavesAs, RaisesAs, is_servers}
 
 -- ---- steps
 
@@ -37,18 +37,14 @@ entered_by s step = if step.begins then turn_begun s step.slot else s
 abbrev pub passed : StepMade → KernelState
 passed step = if step.goes_on then step.left else turn_ended step.left step.slot
 
--- The step is made from this state on, by the slot whose turn it is, and is one that the library promises. It takes no more frames than
--- may be taken where its environment stands. Where nobody sees it, it lowers a number of the state, which no step of another raises, or is
--- followed by one that gives up the turn.
+-- The step is made from this state on, by the slot whose turn it is, and is one that the library or the file server promises.
 pub record IsMade (s : KernelState) (step : StepMade) : Type 0 where
   pub chosen : step.begins ≡ true → next s.environments s.last ≡ Some step.slot
   pub running : is_running (slot_at (entered_by s step) step.slot).status ≡ true
-  pub raises : Raises (place_of (slot_at (entered_by s step) step.slot)) step.slot (entered_by s step) step.trap step.left
-  pub keeps : KeepsStanding step.progress step.slot (entered_by s step) step.left step.written
-  pub leaves : Leaves (Ok step.progress) step.slot (entered_by s step) step.left
-  pub lowers : Lowers (Ok step.progress) step.slot (entered_by s step) step.left
-  pub gives_up : GivesUp (Ok step.progress) (slot_at (entered_by s step) step.slot) (slot_at step.left step.slot)
-  pub takes : TakesByPlace step.slot (entered_by s step) step.left
+  pub raises : RaisesAs (is_servers (entered_by s step) step.slot) step.slot (entered_by s step) step.trap step.left
+  pub keeps : KeepsWhole step.progress step.slot (entered_by s step) step.left step.written
+  pub rest : LeavesRest (entered_by s step) step.left
+  pub leaves : LeavesAs (is_servers (entered_by s step) step.slot) (Ok step.progress) step.slot (entered_by s step) step.left
 
 -- These steps lead from one state to another.
 unfoldable pub LeadTo : List StepMade → KernelState → KernelState → Type 0

@@ -22,7 +22,7 @@ use Rattle.lib_os.specs.AbstractState.{AbstractState}
 use Rattle.lib_os.specs.Need.{EachHasUse}
 use Rattle.jos_run.specs.declared.library_run.LibraryRun.{LibraryRun}
 use Rattle.jos_run.specs.Served.{kernel_state}
-use Rattle.jos_run.specs.LibraryRuns.{IsBetween, IsInTurn, end_seen}
+use Rattle.jos_run.specs.LibraryRuns.{IsBetween, IsInTurn, end_seen, others_live}
 use Rattle.jos_run.specs.RunSteps.{StepMade, LeadTo, traps_of, written_in, turns_with, is_in_turn, end_at}
 use Rattle.jos_run.specs.RunReports.{IsRefused, HasEnded, steps_of, CutOffBy}
 
@@ -36,7 +36,7 @@ turns_so_far r = books.turns_so_far r.book r.served.slot
 -- ---- what is kept
 
 -- Between two steps there is room for each turn, and a turn that is under way is that of an environment that is RUNNING,
--- with steps left.
+-- with steps left. No disk is served.
 pub record Holds (r : LibraryRun) : Type 0 where
   pub has_room : HasRoom r.book
   pub left : HasStepsLeft r.book
@@ -46,6 +46,7 @@ pub record Holds (r : LibraryRun) : Type 0 where
   pub last : ForSome (state_of r).last (λ n. n < NENV)
   pub between : made r.book ≡ 0 → is_in_turn (state_of r) (state_of r).last ≡ false
   pub steps : r.book.steps ≡ steps_of (turns_so_far r)
+  pub no_blocks : r.served.disk.blocks ≡ 0
 
 -- ---- where it stands beside the abstract system
 
@@ -60,6 +61,8 @@ pub record StandsSo (first : AbstractState) (frames : ℕ) (r : LibraryRun) (pri
   pub frames_are : (state_of r).spaces.frames ≡ frames
   pub used : EachHasUse (state_of r).spaces
   pub counted_so : r.served.written ≡ bytes_counted printed
+  -- in a turn of the file server there is another environment
+  pub others : 0 < made r.book → r.served.slot ≡ 0 → others_live (state_of r) ≡ true
 
 abbrev pub RunsBy : Option Refusal → AbstractState → ℕ → LibraryRun → List ℕ → Type 0
 RunsBy None first frames r printed = StandsSo first frames r printed
@@ -101,6 +104,7 @@ pub record CountedBy (goes_on : Bool) (old new : LibraryRun) (visible hidden : �
   pub book : books.IsCounted goes_on old.book new.book old.served.slot visible hidden
   pub slot : new.served.slot ≡ old.served.slot
   pub written : new.served.written ≡ old.served.written
+  pub disk : new.served.disk ≡ old.served.disk
 
 abbrev pub Counted : LibraryRun → LibraryRun → ℕ → ℕ → Type 0
 Counted old new visible hidden = CountedBy (goes_on_after old (visible + hidden)) old new visible hidden

@@ -1,4 +1,4 @@
--- The abstract state in which a run begins: the server, which is idle and has an empty disk, and one program.
+-- The abstract state in which a run begins: the server, which is not yet ready for a request and has an empty disk, and one program.
 use Rattle.std.specs.Prelude.{ℕ, ◌+◌, ◌-◌, ◌==◌, nat_lt, true, false, List, [], ◌∷◌, Option, Some, None, if◌then◌else◌}
 use Rattle.jos_base.specs.declared.numbers.TheConstants.{FIRST_ENV_ID, NENV}
 use Rattle.jos_base.specs.SpacesState.{rising}
@@ -7,7 +7,7 @@ use Rattle.jos_elf.specs.Parsed.{Layout}
 use Rattle.jos_kernel.specs.Boot.{any_touches, any_writes, page_bytes, stack_page}
 use Rattle.fs_layout.specs.FileTree.{a_directory, no_more}
 use Rattle.lib_os.specs.AbstractMemory.{has_page_in}
-use Rattle.lib_os.specs.AbstractState.{AbstractState, Born, Page, own, TablePlace, AbstractSlot, free, born, serving, guest, at_guest, idle, terminal}
+use Rattle.lib_os.specs.AbstractState.{AbstractState, Born, Page, own, TablePlace, AbstractSlot, free, born, serving, guest, at_guest, leaving, terminal}
 use Rattle.lib_spawn.specs.StackPage.{stack_contents}
 use Rattle.jos_run.specs.Boot.{program_registers, stack_segment}
 
@@ -58,7 +58,7 @@ start_with b input = record {
   next_name = 1;
   files = record { root = a_directory no_more false; blocks = 0; unnamed = 0 };
   opened = λ k. no_place;
-  server = idle;
+  server = leaving;
   console = [];
   input = input;
   last = None;

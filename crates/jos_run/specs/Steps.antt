@@ -1,5 +1,5 @@
 -- One step of an environment that the library serves: of its program, or of the service that it is in.
-use Rattle.std.specs.Prelude.{◌≡◌, ℕ, ◌+◌, ◌%◌, ◌^◌, Bool, true, ◌||◌, Option, Some, None, is_some, Result, Ok, Err, if◌then◌else◌}
+use Rattle.std.specs.Prelude.{◌≡◌, ℕ, ◌+◌, ◌%◌, ◌^◌, Bool, true, false, ◌||◌, Option, Some, None, is_some, Result, Ok, Err, IfOk, if◌then◌else◌}
 use Rattle.jos_host.specs.declared.host.Failed.{Failed}
 use Rattle.jos_base.specs.declared.environment.Status.{Status}
 use Rattle.jos_base.specs.declared.numbers.TheConstants.{FEC_PR, FEC_U, FEC_WR, T_PGFLT}
@@ -16,12 +16,15 @@ use Rattle.lib_os.specs.declared.place.Step.{Step}
 use Rattle.lib_os.specs.declared.place.Step.TheVariants as step
 use Rattle.lib_os.specs.declared.progress.Progress.{Progress}
 use Rattle.lib_os.specs.declared.service.Service.{Service}
-use Rattle.lib_os.specs.LibrarySteps.{is_to_copy}
+use Rattle.lib_os.specs.LibrarySteps.{GivesUp, Leaves, Lowers, TakesByPlace, is_to_copy}
+use Rattle.lib_os.specs.Places.{place_of}
 use Rattle.lib_os.specs.Rows.{rows_of}
 use Rattle.lib_os.specs.StandsFor.{writes_buffer}
 use Rattle.lib_os.specs.StandsInHandler.{buffer_of}
+use Rattle.lib_os.specs.UserCalls.{is_file_server}
 use Rattle.jos_run.specs.declared.steps.StepOutcome.{StepOutcome}
 use Rattle.jos_run.specs.GuestSteps.{guest_instruction}
+use Rattle.jos_run.specs.ServerStands.{LeavesServed}
 
 -- who may have steps
 abbrev pub is_awake : Status → Bool
@@ -69,3 +72,27 @@ abbrev pub Raises : Place → ℕ → KernelState → Option TrapLine → Kernel
 Raises place.Guest n before trap after = (after ≡ (guest_instruction before n).state) × (trap ≡ (guest_instruction before n).trap)
 Raises (place.InService service step) n before trap after = trap ≡ raised_by before n service step
 Raises (place.InHandler step) n before trap after = trap ≡ raised_again before n step
+
+-- ---- who makes it
+
+-- The environment in slot n is the file server. (Wherever the state stands for an abstract one, that is the environment in slot 0.)
+abbrev pub is_servers : KernelState → ℕ → Bool
+is_servers s n = is_file_server (slot_at s n).env_type
+
+-- The file server raises no trap.
+abbrev pub RaisesAs : Bool → ℕ → KernelState → Option TrapLine → KernelState → Type 0
+RaisesAs true n before trap after = trap ≡ None
+RaisesAs false n before trap after = Raises (place_of (slot_at before n)) n before trap after
+
+-- What a step of another leaves. It takes no more frames than may be taken where its environment stands. Where nobody sees it, it lowers a
+-- number of the state, which no step of another raises, or is followed by one that gives up the turn.
+pub record LeavesByPlace (did : Result Progress Failed) (n : ℕ) (before after : KernelState) : Type 0 where
+  pub each : Leaves did n before after
+  pub lowers : Lowers did n before after
+  pub gives_up : GivesUp did (slot_at before n) (slot_at after n)
+  pub takes : IfOk did (λ done. TakesByPlace n before after)
+
+-- What a step leaves by whose it is: the file server's, which stands in slot 0, or another's.
+abbrev pub LeavesAs : Bool → Result Progress Failed → ℕ → KernelState → KernelState → Type 0
+LeavesAs true did n before after = n ≡ 0 → LeavesServed did before after
+LeavesAs false did n before after = LeavesByPlace did n before after

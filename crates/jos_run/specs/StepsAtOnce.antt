@@ -1,16 +1,18 @@
--- Steps of an environment that are made at once: of its program as many as go on, and one more, which may be a service's.
-use Rattle.std.specs.Prelude.{◌≡◌, ℕ, ◌<◌, zero, suc, Bool, Option, Result, Ok, Err, IfOk, if◌then◌else◌}
+-- Steps of an environment that are made at once: of its program as many as go on, and one more, which may be a service's; or one of the file
+-- server's.
+use Rattle.std.specs.Prelude.{◌≡◌, ℕ, ◌<◌, zero, suc, Bool, false, Option, Result, Ok, Err, IfOk, if◌then◌else◌}
 use Rattle.jos_host.specs.declared.host.Failed.{Failed}
 use Rattle.jos_base.specs.KernelState.{KernelState, slot_at}
 use Rattle.jos_kernel.specs.declared.trace.TrapLine.{TrapLine}
 use Rattle.lib_os.specs.declared.place.Place.TheVariants as place
 use Rattle.lib_os.specs.declared.progress.Progress.TheVariants as progress
-use Rattle.lib_os.specs.LibrarySteps.{IsLibraryStep, Leaves, Lowers, GivesUp, TakesByPlace}
+use Rattle.lib_os.specs.LibrarySteps.{LeavesRest}
 use Rattle.lib_os.specs.Places.{place_of}
 use Rattle.lib_os.specs.UserCalls.{Output}
 use Rattle.jos_run.specs.declared.steps.StepOutcome.{StepOutcome}
 use Rattle.jos_run.specs.GuestSteps.{quietly, guest_instruction}
-use Rattle.jos_run.specs.Steps.{step_progress, Raises}
+use Rattle.jos_run.specs.ServerStands.{IsWholeStep}
+use Rattle.jos_run.specs.Steps.{LeavesAs, RaisesAs, is_servers, step_progress}
 
 -- So many instructions of the program in slot n, after each of which it stands at the next one, with nothing told.
 abbrev pub GuestGoesOn : ℕ → ℕ → KernelState → KernelState → Type 0
@@ -31,10 +33,8 @@ pub record MakesSteps (n going : ℕ) (last : Result StepOutcome Failed) (before
   -- where the last begins
   pub reached : KernelState
   pub went : GuestGoesOn n going before reached
-  pub is_guest : 0 < going → place_of (slot_at before n) ≡ place.Guest
-  pub step : IsLibraryStep (step_progress last) n reached after output
-  pub leaves : Leaves (step_progress last) n reached after
-  pub lowers : Lowers (step_progress last) n reached after
-  pub gives_up : GivesUp (step_progress last) (slot_at reached n) (slot_at after n)
-  pub takes : IfOk last (λ stepped. TakesByPlace n reached after)
-  pub raises : IfOk last (λ stepped. Raises (place_of (slot_at reached n)) n reached stepped.trap after)
+  pub is_guest : 0 < going → (is_servers before n ≡ false) × (place_of (slot_at before n) ≡ place.Guest)
+  pub step : IsWholeStep (step_progress last) n reached after output
+  pub rest : IfOk last (λ stepped. LeavesRest reached after)
+  pub leaves : LeavesAs (is_servers reached n) (step_progress last) n reached after
+  pub raises : IfOk last (λ stepped. RaisesAs (is_servers reached n) n reached stepped.trap after)

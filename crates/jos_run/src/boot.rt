@@ -10,9 +10,9 @@ ghost use Rattle.jos_sys.specs.System.{state_of, spaces_of, Keeps, is_live_in};
 ghost use Rattle.jos_kernel.specs.Boot.{page_loaded, stack_page};
 ghost use Rattle.jos_kernel.specs.Loading.{directory_of, Loads};
 ghost use Rattle.lib_spawn.specs.StackPage.{fits_stack, stack_contents, strings_of};
-ghost use Rattle.lib_os.specs.LibrarySteps.{Stands};
 ghost use Rattle.jos_run.specs.Start.{start_state};
 ghost use Rattle.jos_run.specs.Begun.{IsNew, ProgramsBegin, ProgramsBoot};
+ghost use Rattle.jos_run.specs.ServerStands.{StandsWhole};
 ghost use Rattle.lib_os.specs.Rows.{AreBytes};
 ghost use Rattle.jos_run.specs.Boot.{pages_touched, touches_region, regions_touched, boot_frames, stack_segment, program_loaded};
 ghost use Rattle.jos_run.specs.Boot.{handler_stack_loaded, console_bytes, console_loaded, program_registers, program_in, server_in, booted_within};
@@ -245,7 +245,7 @@ fn start_program(system: &mut System, image: &Image, file: &[u8], words: &[&str]
 
 // ---- both
 
-/// The environment of the file server, which never runs. False where a frame or a slot is wanted and none is free.
+/// The environment of the file server, which may run. False where a frame or a slot is wanted and none is free.
 fn make_server(system: &mut System) -> bool
     requires { Keeps system.old }
     ensures made { result ≡ true → (input : List ℕ) →
@@ -256,6 +256,7 @@ fn make_server(system: &mut System) -> bool
     match system.make_environment(EnvId(0)) {
         Ok(slot) => {
             system.set_env_type(slot, EnvType::FileServer);
+            system.set_status(slot, Status::Runnable);
             true
         }
         Err(_) => false,
@@ -282,7 +283,7 @@ pub fn boot_program(
     ensures pool { IfErr result (λ fault. fault ≡ BootFault.Pool → (input : List ℕ) →
         booted_within image.now file.now (map (λ w. w.now) words.now) frames input ≡ None) }
     ensures stands { IfOk result (λ system. (input : List ℕ) → AreBytes input →
-        Stands (state_of system input) (start_state image.now file.now (map (λ w. w.now) words.now) input)) }
+        StandsWhole (state_of system input) (start_state image.now file.now (map (λ w. w.now) words.now) input)) }
     ensures new { IfOk result (λ system. (input : List ℕ) → IsNew (state_of system input) frames) }
     ensures keeps { IfOk result Keeps }
 {

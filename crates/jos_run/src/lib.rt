@@ -1,9 +1,10 @@
 //! The library's programs over the kernel.
 //!
 //! `Served` is the kernel as the library has it while it serves one environment: each call of `UserOs` (`lib_os`) is the step
-//! of the kernel's state that `UserCalls.antt` says, and `make_steps` makes the steps of its program that `GuestSteps.antt` says.
-//! `boot_program` makes the state in which a run begins, as `Boot.antt` says it. `run` boots a program and makes its turns, which
-//! stand in the `Book` of jos_kernel.
+//! of the kernel's state that `UserCalls.antt` says, and `make_steps` makes the steps of its program that `GuestSteps.antt` says,
+//! those of its services, and, where it is the file server, that of `server_step` (`fs_server`). `boot_program` makes the state in
+//! which a run begins, as `Boot.antt` says it. `run` boots a program and makes its turns, and the file server's, which stand in
+//! the `Book` of jos_kernel.
 #![tactic(auto)]
 
 mod boot;

@@ -12,8 +12,8 @@ ghost use Rattle.jos_sched.specs.RoundRobin.{next};
 ghost use Rattle.jos_kernel.specs.Books.{made, HasRoom, HasStepsLeft};
 ghost use Rattle.jos_kernel.specs.declared.report.End.TheVariants.{Budget};
 ghost use Rattle.lib_os.specs.AbstractState.{AbstractState};
-ghost use Rattle.lib_os.specs.LibrarySteps.{Stands};
 ghost use Rattle.jos_run.specs.Begun.{IsNew};
+ghost use Rattle.jos_run.specs.ServerStands.{StandsWhole};
 ghost use Rattle.jos_run.specs.LibraryRuns.{others_live, end_seen, visible_steps, hidden_steps};
 ghost use Rattle.jos_run.specs.Served.{kernel_state};
 ghost use Rattle.jos_run.specs.Running.{state_of, Holds, Runs, IsChosen, entered, Counted};
@@ -70,13 +70,14 @@ impl LibraryRun {
         requires turns { (kernel_state served).turns ≡ 0 }
         requires last { (kernel_state served).last ≡ None }
         requires written { served.written ≡ 0 }
+        requires no_blocks { served.disk.blocks ≡ 0 }
         ensures state { state_of result ≡ kernel_state served }
         ensures schedule { result.book.schedule ≡ schedule }
         ensures steps { result.book.steps ≡ 0 }
         ensures told { turns_so_far result ≡ [] }
         ensures trace { result.book.trace ≡ trace }
         ensures holds { Holds result }
-        ensures runs { (first : AbstractState) (frames : ℕ) → Stands (kernel_state served) first → IsNew (kernel_state served) frames →
+        ensures runs { (first : AbstractState) (frames : ℕ) → StandsWhole (kernel_state served) first → IsNew (kernel_state served) frames →
             Runs first frames result [] }
     {
         LibraryRun {
@@ -133,6 +134,7 @@ impl LibraryRun {
         ensures slot { self.new.served.slot ≡ slot }
         ensures calls { self.new.served.calls ≡ 0 }
         ensures written { self.new.served.written ≡ self.old.served.written }
+        ensures disk { self.new.served.disk ≡ self.old.served.disk }
         ensures rest { self.new ≡ record self.old { served = self.new.served } }
     {
         self.served.serve(slot);

@@ -7,9 +7,9 @@ ghost use Rattle.jos_base.specs.declared.numbers.TheConstants.{FRAMES_MIN, FRAME
 ghost use Rattle.jos_elf.specs.Parsed.{parsed};
 ghost use Rattle.jos_sys.specs.System.{state_of, Keeps};
 ghost use Rattle.lib_os.specs.AbstractState.{AbstractState};
-ghost use Rattle.lib_os.specs.LibrarySteps.{Stands};
 ghost use Rattle.lib_spawn.specs.StackPage.{fits_stack};
 ghost use Rattle.jos_run.specs.Begun.{IsNew};
+ghost use Rattle.jos_run.specs.ServerStands.{StandsWhole};
 ghost use Rattle.jos_run.specs.RunEnds.{AnswersFor, HasEndCause, HasRunCause, RunsFrom, given_job};
 
 use crate::boot::{boot_program, keep_bytes};
@@ -61,7 +61,7 @@ fn run_booted<H: Host>(
     requires room { TURN_MAX ≤ vec_capacity turns }
     requires empty { turns.items ≡ [] }
     requires trace { trace ≡ buffer [] setup.trace }
-    ensures runs { (first : AbstractState) → Stands (state_of system setup.input.items) first →
+    ensures runs { (first : AbstractState) → StandsWhole (state_of system setup.input.items) first →
         RunsFrom (state_of system setup.input.items) first setup result (around H.console host.old host.new) }
     ensures rest { Unchanged H.files H.input H.asked H.notes host.old host.new }
     ensures cause { HasEndCause (around H.faults host.old host.new) result }
@@ -78,7 +78,8 @@ fn run_booted<H: Host>(
 }
 
 /// Runs the program of an image that was read from a file, with these words as its arguments, the first of which is its name:
-/// as long as an environment but the file server can run, in turns of the schedule. All memory is taken before the first turn.
+/// as long as an environment but the file server lives and one can run, in turns of the schedule. All memory is taken before the
+/// first turn.
 pub fn run<H: Host>(
     alloc: Global,
     image: &Image,

@@ -11,6 +11,7 @@ use lib_mem::MemoryService;
 use lib_msg::{Receive, Send};
 use lib_os::{Service, Step};
 use lib_read::{Read, Stat};
+use lib_request::Sync;
 use lib_spawn::Wait;
 use lib_stage::{Ask, Next, Nowhere, Planned};
 use lib_write::Write;
@@ -30,6 +31,7 @@ pub(crate) enum ServiceStage {
     Write(Write),
     FileOnly(FileOnly),
     Stat(Stat),
+    Sync(Sync),
     /// The service has not this step.
     Nowhere(Nowhere),
 }
@@ -87,6 +89,10 @@ pub(crate) fn stage_of(service: Service, step: Step) -> ServiceStage
             Some(set_size) => ServiceStage::FileOnly(set_size),
             None => ServiceStage::Nowhere(Nowhere),
         },
+        Service::Sync => match Sync::at_step(step) {
+            Some(sync) => ServiceStage::Sync(sync),
+            None => ServiceStage::Nowhere(Nowhere),
+        },
         _ => match MemoryService::of(service) {
             Some(memory) => ServiceStage::Memory(memory),
             None => ServiceStage::Nowhere(Nowhere),
@@ -113,6 +119,7 @@ impl Planned for ServiceStage {
             ServiceStage::Write(write) => write.number(),
             ServiceStage::FileOnly(service) => service.number(),
             ServiceStage::Stat(stat) => stat.number(),
+            ServiceStage::Sync(sync) => sync.number(),
             ServiceStage::Nowhere(nowhere) => nowhere.number(),
         }
     }
@@ -131,6 +138,7 @@ impl Planned for ServiceStage {
             ServiceStage::Write(write) => write.ask(),
             ServiceStage::FileOnly(service) => service.ask(),
             ServiceStage::Stat(stat) => stat.ask(),
+            ServiceStage::Sync(sync) => sync.ask(),
             ServiceStage::Nowhere(nowhere) => nowhere.ask(),
         }
     }
@@ -149,6 +157,7 @@ impl Planned for ServiceStage {
             ServiceStage::Write(write) => write.next(called),
             ServiceStage::FileOnly(service) => service.next(called),
             ServiceStage::Stat(stat) => stat.next(called),
+            ServiceStage::Sync(sync) => sync.next(called),
             ServiceStage::Nowhere(nowhere) => nowhere.next(called),
         }
     }

@@ -1,10 +1,12 @@
 //! Steps of an environment that the library serves.
 
-ghost use Rattle.std.specs.Prelude.{◌≡◌, ◌+◌, ◌-◌, ◌<◌, ◌≤◌, ◌^◌, true, None, IfOk, is_some, if◌then◌else◌};
+ghost use Rattle.std.specs.Prelude.{◌≡◌, ◌+◌, ◌-◌, ◌<◌, ◌≤◌, ◌^◌, true, false, None, IfOk, OnOk, is_some, if◌then◌else◌};
 ghost use Rattle.jos_host.specs.Told.{HasCause};
-ghost use Rattle.jos_host.specs.Frames.{Unchanged, from_to};
+ghost use Rattle.jos_host.specs.Frames.{Unchanged, around, from_to};
 ghost use Rattle.jos_base.specs.Environments.{is_live, is_runnable, is_running};
 ghost use Rattle.jos_base.specs.KernelState.{slot_at};
+ghost use Rattle.lib_os.specs.Disk.{HasBlocks};
+ghost use Rattle.lib_os.specs.MadeCalls.{TouchesDisk};
 ghost use Rattle.lib_os.specs.Places.{place_of};
 ghost use Rattle.lib_os.specs.UserCalls.{output};
 ghost use Rattle.lib_os.specs.declared.place.Place.TheVariants as place;
@@ -15,12 +17,13 @@ ghost use Rattle.lib_os.specs.Rows.{rows_of};
 ghost use Rattle.lib_os.specs.StandsFor.{writes_buffer};
 ghost use Rattle.lib_os.specs.StandsInHandler.{AreSmall, buffer_of};
 ghost use Rattle.jos_run.specs.GuestSteps.{is_copying};
-ghost use Rattle.jos_run.specs.Steps.{entry_at, fault_line, is_awake, raised_again, raised_by, step_progress};
+ghost use Rattle.jos_run.specs.Steps.{entry_at, fault_line, is_awake, is_servers, raised_again, raised_by, step_progress};
 ghost use Rattle.jos_run.specs.StepsAtOnce.{came_to, MakesSteps};
 
 use crate::served::Served;
 use crate::services::stage_of;
-use jos_base::{FEC_PR, FEC_U, FEC_WR, PTE_SYSCALL, Status, T_PGFLT};
+use fs_server::server_step;
+use jos_base::{EnvType, FEC_PR, FEC_U, FEC_WR, PTE_SYSCALL, Status, T_PGFLT};
 use jos_cpu::{Decodings, Event, Gates, make_burst};
 use jos_host::{Failed, Host};
 use jos_kernel::TrapLine;
@@ -120,6 +123,16 @@ impl Served {
         ensures { result ≡ is_awake (slot_at (kernel_state self.now) self.now.slot).status }
     {
         self.is_runnable() || self.is_running()
+    }
+
+    /// Whether the environment is the file server.
+    fn is_server(&self) -> bool
+        ensures { result ≡ is_servers (kernel_state self.now) self.now.slot }
+    {
+        matches!(
+            self.machine.system().environment(self.slot).env_type,
+            EnvType::FileServer
+        )
     }
 
     /// Tells that the registers of the environment have 32 bits each. Nothing is done.
@@ -226,6 +239,7 @@ impl Served {
     fn run_program<H: Host>(&mut self, host: &mut H, decodings: &mut Decodings, limit: u32) -> Steps
         requires live { is_live (slot_at (kernel_state self.old) self.old.slot) ≡ true }
         requires awake { is_awake (slot_at (kernel_state self.old) self.old.slot).status ≡ true }
+        requires user { is_servers (kernel_state self.old) self.old.slot ≡ false }
         requires at { place_of (slot_at (kernel_state self.old) self.old.slot) ≡ place.Guest }
         requires limit { 0 < limit }
         ensures made { MakesSteps self.old.slot result.going result.last (kernel_state self.old) (kernel_state self.new) (output H.console (λ s. s.written) (from_to host.old host.new) (from_to self.old self.new)) }
@@ -257,10 +271,11 @@ impl Served {
     }
 
     /// Makes steps of the environment that is served: instructions of its program, so many at most, or one step of the
-    /// service that it is in, or of its handler of page faults.
+    /// service that it is in, or of its handler of page faults; or one step of the file server, which may read or write a
+    /// block of the disk.
     ///
     /// # Errors
-    /// A call of the host failed while the last step wrote to the console.
+    /// A call of the host failed, while the last step wrote to the console or moved a block.
     pub fn make_steps<H: Host>(
         &mut self,
         host: &mut H,
@@ -271,13 +286,25 @@ impl Served {
         requires awake { is_awake (slot_at (kernel_state self.old) self.old.slot).status ≡ true }
         requires few { self.old.calls < 2 ^ 32 - 1 }
         requires limit { 0 < limit }
+        requires whole { HasBlocks (H.files host.old) self.old.disk }
         ensures made { MakesSteps self.old.slot result.going result.last (kernel_state self.old) (kernel_state self.new) (output H.console (λ s. s.written) (from_to host.old host.new) (from_to self.old self.new)) }
         ensures within { result.going < limit }
         ensures slot { self.new.slot ≡ self.old.slot }
         ensures calls { self.new.calls ≤ self.old.calls + 1 }
-        ensures rest { Unchanged H.files H.input H.asked H.notes host.old host.new }
+        ensures disk { self.new.disk ≡ self.old.disk }
+        ensures disk_only { TouchesDisk self.old.disk (around H.files host.old host.new) (around H.asked host.old host.new) }
+        ensures whole { OnOk result.last (HasBlocks (H.files host.new) self.new.disk) }
+        ensures input { H.input host.new ≡ H.input host.old }
+        ensures notes { H.notes host.new ≡ H.notes host.old }
         ensures cause { HasCause (H.faults host.old) (H.faults host.new) result.last }
     {
+        if self.is_server() {
+            let answer = server_step(self, host);
+            return Steps {
+                going: 0,
+                last: came_with(answer, None),
+            };
+        }
         let registers = self.registers();
         let words = self.extra();
         match find_place(&registers, &words) {

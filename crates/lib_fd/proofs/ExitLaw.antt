@@ -135,3 +135,6 @@ module _ (s : KernelState) (n : ℕ) (live : is_live (slot_at s n) ≡ true) whe
   exit_holds step.Getting stands = law_of_nowhere s n service.Exit step.Getting stands refl (λ view k b h. h)
   exit_holds (step.Delivering done word) stands = law_of_nowhere s n service.Exit (step.Delivering done word) stands refl (λ view k b h. h)
   exit_holds (step.Faulting done word) stands = law_of_nowhere s n service.Exit (step.Faulting done word) stands refl (λ view k b h. h)
+  exit_holds (step.Asking own) stands = law_of_nowhere s n service.Exit (step.Asking own) stands refl (λ view k b h. h)
+  exit_holds (step.Awaiting own) stands = law_of_nowhere s n service.Exit (step.Awaiting own) stands refl (λ view k b h. h)
+  exit_holds (step.ReadingReply own) stands = law_of_nowhere s n service.Exit (step.ReadingReply own) stands refl (λ view k b h. h)

@@ -93,6 +93,9 @@ module _ (s : KernelState) (n fd : ℕ) (live : is_live (slot_at s n) ≡ true) 
     seek_holds step.Getting stands = no_seek step.Getting stands (λ view k b h. h)
     seek_holds (step.Delivering done word) stands = no_seek (step.Delivering done word) stands (λ view k b h. h)
     seek_holds (step.Faulting done word) stands = no_seek (step.Faulting done word) stands (λ view k b h. h)
+    seek_holds (step.Asking own) stands = no_seek (step.Asking own) stands (λ view k b h. h)
+    seek_holds (step.Awaiting own) stands = no_seek (step.Awaiting own) stands (λ view k b h. h)
+    seek_holds (step.ReadingReply own) stands = no_seek (step.ReadingReply own) stands (λ view k b h. h)
 
   module _ (size : ℕ) where
     abbrev set_size : Service
@@ -137,3 +140,6 @@ module _ (s : KernelState) (n fd : ℕ) (live : is_live (slot_at s n) ≡ true) 
     set_size_holds step.Getting stands = no_set_size step.Getting stands (λ view k b h. h)
     set_size_holds (step.Delivering done word) stands = no_set_size (step.Delivering done word) stands (λ view k b h. h)
     set_size_holds (step.Faulting done word) stands = no_set_size (step.Faulting done word) stands (λ view k b h. h)
+    set_size_holds (step.Asking own) stands = no_set_size (step.Asking own) stands (λ view k b h. h)
+    set_size_holds (step.Awaiting own) stands = no_set_size (step.Awaiting own) stands (λ view k b h. h)
+    set_size_holds (step.ReadingReply own) stands = no_set_size (step.ReadingReply own) stands (λ view k b h. h)

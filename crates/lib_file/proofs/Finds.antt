@@ -56,6 +56,7 @@ Follows s n service a x = AbstractFollows (seen_as x) n (settled (number_of serv
 pub is_steady : (s : Service) (fd : ℕ) → descriptor_given s ≡ Some fd → (from : Step) → is_pausing (place.InService s from) ≡ false
 is_steady (service.Wait id) fd given from = absurd (none-some fd given)
 is_steady (service.Send id value va) fd given from = absurd (none-some fd given)
+is_steady service.Sync fd given from = absurd (none-some fd given)
 is_steady _ fd given from = refl
 
 module _ (s : KernelState) (n : ℕ) (service : Service) (from : Step) (live : is_live (slot_at s n) ≡ true)

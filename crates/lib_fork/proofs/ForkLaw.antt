@@ -203,3 +203,6 @@ module _ (s : KernelState) (n : ℕ) (live : is_live (slot_at s n) ≡ true) whe
   fork_holds step.Getting stands = law_of_nowhere s n service.Fork step.Getting stands refl (λ view k b h. h)
   fork_holds (step.Delivering done word) stands = law_of_nowhere s n service.Fork (step.Delivering done word) stands refl (λ view k b h. h)
   fork_holds (step.Faulting done word) stands = law_of_nowhere s n service.Fork (step.Faulting done word) stands refl (λ view k b h. h)
+  fork_holds (step.Asking own) stands = law_of_nowhere s n service.Fork (step.Asking own) stands refl (λ view k b h. h)
+  fork_holds (step.Awaiting own) stands = law_of_nowhere s n service.Fork (step.Awaiting own) stands refl (λ view k b h. h)
+  fork_holds (step.ReadingReply own) stands = law_of_nowhere s n service.Fork (step.ReadingReply own) stands refl (λ view k b h. h)

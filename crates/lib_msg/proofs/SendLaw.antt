@@ -188,3 +188,6 @@ module _ (s : KernelState) (n id value va : ℕ) (live : is_live (slot_at s n) �
     send_holds step.Getting stands = law_of_nowhere s n (service.Send id value va) step.Getting stands refl (λ view k b h. h)
     send_holds (step.Delivering done word) stands = law_of_nowhere s n (service.Send id value va) (step.Delivering done word) stands refl (λ view k b h. h)
     send_holds (step.Faulting done word) stands = law_of_nowhere s n (service.Send id value va) (step.Faulting done word) stands refl (λ view k b h. h)
+    send_holds (step.Asking own) stands = law_of_nowhere s n (service.Send id value va) (step.Asking own) stands refl (λ view k b h. h)
+    send_holds (step.Awaiting own) stands = law_of_nowhere s n (service.Send id value va) (step.Awaiting own) stands refl (λ view k b h. h)
+    send_holds (step.ReadingReply own) stands = law_of_nowhere s n (service.Send id value va) (step.ReadingReply own) stands refl (λ view k b h. h)

@@ -114,6 +114,9 @@ passed_from step.Releasing p = every p
 passed_from step.Getting p = every p
 passed_from (step.Delivering done word) p = every p
 passed_from (step.Faulting done word) p = every p
+passed_from (step.Asking id) p = every p
+passed_from (step.Awaiting id) p = every p
+passed_from (step.ReadingReply id) p = every p
 
 stack_kept : is_programs (page_number UXSTACK) ≡ false
 unfolding in_fence

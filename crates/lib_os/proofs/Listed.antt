@@ -29,7 +29,9 @@ use Rattle.lib_os.specs.LibraryPages.{LibraryPages, IsOwnWritable, has_copy, has
 use Rattle.lib_os.specs.Places.{place_of, place_in_words, is_handlers}
 use Rattle.lib_os.specs.Rows.{Names, EntryRow, lasting, rows_of, counted, logical, page_seen, is_programs, is_shared, IsUsers, Agree, AgreeWhereShared, IsPage}
 use Rattle.lib_os.specs.Rows.{descriptor_page, descriptor_seen, is_descriptor, name_of, page_by, shown_at}
-use Rattle.lib_os.specs.StandsFor.{StandsFor, StandsForSlot, StandsForBorn, StandsAt, view_of, upcall_at, HasChildren, borne_in}
+use Rattle.jos_base.specs.Messages.{wanting}
+use Rattle.lib_os.specs.declared.numbers.TheConstants.{REQUEST}
+use Rattle.lib_os.specs.StandsFor.{AwaitsRequest, StandsFor, StandsForSlot, StandsForBorn, StandsAt, view_of, upcall_at, HasChildren, borne_in}
 use Rattle.lib_os.proofs.Logical.{clients_are, logical_live, logical_of, programs_no_descriptor}
 
 -- ---- lists by numbers
@@ -268,7 +270,7 @@ pub record SlotFits (l : Spaces) (owner : ℕ → ℕ) (n : ℕ) (pair : Pair) :
 
 -- The server waits, and has neither pages nor tables.
 pub record IsBare (l : Spaces) (k : Slot) : Type 0 where
-  pub waits : k.status ≡ NotRunnable
+  pub waits : AwaitsRequest k
   pub empty : (p : ℕ) → rows_of (spaces_of l) k.directory p ≡ None
   pub tables : (r : ℕ) → (spaces_of l).regions k.directory r ≡ None
 
@@ -392,7 +394,12 @@ childless l pairs all = record {
 
 -- the server, with a directory
 abbrev pub server_slot : ℕ → Slot
-server_slot d = record (free_slot FIRST_ENV_ID) { env_type = FileServer; status = NotRunnable; directory = d }
+server_slot d = record (free_slot FIRST_ENV_ID) {
+  env_type = FileServer;
+  status = NotRunnable;
+  directory = d;
+  rendezvous = wanting (free_slot FIRST_ENV_ID).rendezvous REQUEST 0;
+}
 
 pub server_childless : (d : ℕ) → IsChildless 0 (server_slot d, serving FIRST_ENV_ID)
 unfolding place_in_words
@@ -401,7 +408,7 @@ server_childless d = (refl, (λ id parent is. let contradiction : serving FIRST_
 pub server_bare : (l : Spaces) (d : ℕ) → listed l.rows [] d ≡ [] → listed l.tables [] d ≡ [] → IsBare l (server_slot d)
 unfolding rows_of
 server_bare l d no_row no_table = record {
-  waits = refl;
+  waits = record { status = refl; receiving = refl; anybody = refl; destination = refl };
   empty = λ p. ap (λ (row : List (ℕ × Entry)). option_map lasting (found row p)) no_row;
   tables = λ r. ap (λ (row : List (ℕ × ℕ)). option_map region_of (found row r)) no_table;
 }

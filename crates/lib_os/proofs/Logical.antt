@@ -139,6 +139,9 @@ fork_plain step.Releasing row plain p = refl
 fork_plain step.Getting row plain p = refl
 fork_plain (step.Delivering done word) row plain p = refl
 fork_plain (step.Faulting done word) row plain p = refl
+fork_plain (step.Asking id) row plain p = refl
+fork_plain (step.Awaiting id) row plain p = refl
+fork_plain (step.ReadingReply id) row plain p = refl
 
 service_plain : (s : Service) (at : Step) (row : EntryRow) → is_plain (place.InService s at) ≡ true → (p : ℕ) →
     counted (place.InService s at) row p ≡ row p
@@ -212,6 +215,9 @@ fork_unremapped step.Releasing p plain = refl
 fork_unremapped step.Getting p plain = refl
 fork_unremapped (step.Delivering done word) p plain = refl
 fork_unremapped (step.Faulting done word) p plain = refl
+fork_unremapped (step.Asking id) p plain = refl
+fork_unremapped (step.Awaiting id) p plain = refl
+fork_unremapped (step.ReadingReply id) p plain = refl
 
 pub plain_unremapped : (at : Place) (p : ℕ) → is_plain at ≡ true → is_remapped at p ≡ false
 plain_unremapped place.Guest p plain = refl
@@ -303,6 +309,9 @@ fork_elsewhere step.Releasing row p other = refl
 fork_elsewhere step.Getting row p other = refl
 fork_elsewhere (step.Delivering done word) row p other = refl
 fork_elsewhere (step.Faulting done word) row p other = refl
+fork_elsewhere (step.Asking id) row p other = refl
+fork_elsewhere (step.Awaiting id) row p other = refl
+fork_elsewhere (step.ReadingReply id) row p other = refl
 
 service_elsewhere : (s : Service) (at : Step) (row : EntryRow) (p : ℕ) → is_remapped (place.InService s at) p ≡ false →
     counted (place.InService s at) row p ≡ row p
@@ -433,6 +442,9 @@ fork_some step.Releasing row p x is = itself (row p) x is
 fork_some step.Getting row p x is = itself (row p) x is
 fork_some (step.Delivering done word) row p x is = itself (row p) x is
 fork_some (step.Faulting done word) row p x is = itself (row p) x is
+fork_some (step.Asking id) row p x is = itself (row p) x is
+fork_some (step.Awaiting id) row p x is = itself (row p) x is
+fork_some (step.ReadingReply id) row p x is = itself (row p) x is
 
 service_some : (s : Service) (at : Step) (row : EntryRow) (p : ℕ) (x : Entry) → counted (place.InService s at) row p ≡ Some x → StandsAs (row p) x
 unfolding counted

@@ -41,7 +41,7 @@ use Rattle.jos_base.specs.UserMemory.{reach_in, touched, all_touched, stored_byt
 use Rattle.jos_base.specs.Words.{page_number, upd}
 use Rattle.lib_os.specs.AbstractState.{AbstractState, AbstractSlot}
 use Rattle.lib_os.specs.InOrder.{HasOneUse, IsInOrder, AreFree}
-use Rattle.lib_os.specs.LibrarySteps.{Stands, KeepsServer}
+use Rattle.lib_os.specs.LibrarySteps.{Stands, KeepsServer, LeavesOrAsks, asked_it, left_alone}
 use Rattle.lib_os.specs.Rows.{Names, rows_of, lasting}
 use Rattle.lib_os.specs.StandsFor.{StandsFor, StandsForSlot, StandsForServer}
 use Rattle.lib_os.specs.UserCalls.{CallStep, giving, accessing, by_access, faulting, user_byte, user_word, with_user_byte, with_user_word}
@@ -133,7 +133,7 @@ pub record ServerStays (d : ℕ) (s t : KernelState) : Type 0 where
 pub keeps_server : (s t : KernelState) (n : ℕ) → (IsInOrder t → (d : ℕ) → IsAside d s n → ServerStays d s t) → KeepsServer n s t
 keeps_server s t n left then_so other live a h =
     let it = left then_so (slot_at s 0).directory (aside_where h.1 n other live) in
-    record { slot = it.slot; entries = it.space.entries; regions = it.space.regions; pages = it.space.pages }
+    left_alone (record { slot = it.slot; entries = it.space.entries; regions = it.space.regions; pages = it.space.pages })
 
 -- a call that names no page that may pass
 abbrev pub is_no_page : ℕ → Bool
@@ -599,12 +599,15 @@ pub own_server : (s : KernelState) (n : ℕ) (mid : KernelState) (slot : Slot) �
     slot.directory ≡ (slot_at mid n).directory → KeepsServer n s mid → KeepsServer n s (with_slot_at mid n slot)
 own_server s n mid slot status directory_is h then_so other live a stands =
     let it = h (slot_was_in_order mid n slot (λ i. is_live (record slot { status = status i })) directory_is then_so) other live a stands in
-    record {
-      slot = slot_kept mid n slot 0 (λ same. other (sym same)) ∙ it.slot;
-      entries = it.entries;
-      regions = it.regions;
-      pages = it.pages;
-    }
+    by_way it
+  where
+    kept : slot_at (with_slot_at mid n slot) 0 ≡ slot_at mid 0
+    kept = slot_kept mid n slot 0 (λ same. other (sym same))
+
+    by_way : LeavesOrAsks n s mid → LeavesOrAsks n s (with_slot_at mid n slot)
+    by_way (left_alone it) = left_alone (record { slot = kept ∙ it.slot; entries = it.entries; regions = it.regions; pages = it.pages })
+    by_way (asked_it it) =
+        asked_it (record { id = it.id; at = it.at; waited = it.waited; slot = kept ∙ it.slot; spaces = it.spaces })
 
 module _ (s : KernelState) (n number : ℕ) (args : List ℕ) where
   server_by : (d : ℕ) → IsAside d s n → ((number == SYS_EXOFORK) ≡ true → NextIsFree s) → sends_aside number args ≡ true →

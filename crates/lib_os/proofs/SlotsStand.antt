@@ -33,6 +33,7 @@ use Rattle.lib_os.specs.Rows.{descriptor_page, descriptor_seen, is_descriptor, n
 use Rattle.lib_os.specs.StandsInHandler.{IsAtGuest, IsToCopy, IsCopiedTo, HasWord, IsMappedTwice, CopiesAt}
 use Rattle.lib_os.specs.StandsInHandler.{CopiesOrEnds, copies, ends, IsInHandler, is_refused_by, is_write}
 use Rattle.lib_os.specs.StandsInHandler.{IsDelivering, StandsDelivering, StandsPutting, buffer_of, next_page, IsGiven, WantsMore}
+use Rattle.lib_os.specs.StandsFor.{AwaitsOrHas, HasAsked, awaits, has_reply}
 use Rattle.lib_os.specs.StandsInHandler.{StandsBeneath, at_program, in_delivery, IsStoppedAt, marked, reading, telling, writing}
 use Rattle.lib_os.specs.StandsFor.{StandsFor, StandsForSlot, StandsForBorn, StandsAt, StandsAtStep, view_of, IsStatusFor, MaySend}
 use Rattle.lib_os.specs.StandsFor.{IsLookingUp, StandsAtDevice, StandsBefore, HasTaken, IsTaking, IsKeeping, IsPrinting}
@@ -259,6 +260,28 @@ module _ (v w : View) (k : Slot) (b : Born) (status : Status) (runs : ℕ) (memo
   waits_kept va from (waits h) = waits (receiving_kept va from h)
   waits_kept va from (has h) = has (received_kept va from h)
 
+  asked_kept : (s : Service) → HasAsked k b s → HasAsked kernel_slot environment s
+  asked_kept s h = record { program = h.program; phase = h.phase; silent = h.silent; awake = h.awake }
+
+  awaits_kept : (s : Service) → AwaitsOrHas k b s → AwaitsOrHas kernel_slot environment s
+  awaits_kept s (awaits h) = awaits (record {
+    program = h.program;
+    phase = h.phase;
+    blocked = h.blocked;
+    rendezvous = h.rendezvous;
+    wanted = h.wanted;
+    destination = h.destination;
+  })
+  awaits_kept s (has_reply h) = has_reply (record {
+    regs = h.regs;
+    program = h.program;
+    registers = h.registers;
+    phase = h.phase;
+    awake = h.awake;
+    silent = h.silent;
+    small = h.small;
+  })
+
   mapping_kept : (page perm : ℕ) → w.row ≡ v.row → IsMapping v.row page perm → IsMapping w.row page perm
   mapping_kept page perm row h = subst (λ (r : EntryRow). IsMapping r page perm) (sym row) h
 
@@ -422,6 +445,10 @@ module _ (v w : View) (k : Slot) (b : Born) (status : Status) (runs : ℕ) (memo
   step_kept (service.Receive va from) (step.ReadingValue id) row tables taken h = (h.0, waits_kept va from h.1)
   step_kept (service.Receive va from) (step.ReadingSender id value) row tables taken h = (h.0, h.1, received_kept va from h.2)
   step_kept (service.Receive va from) (step.ReadingPerm id value sender) row tables taken h = (h.0, h.1, h.2, received_kept va from h.3)
+  step_kept service.Sync (step.Asking id) row tables taken h = (h.0, in_kept _ _ h.1)
+  step_kept service.Sync (step.Pausing id) row tables taken h = (h.0, in_kept _ _ h.1)
+  step_kept service.Sync (step.Awaiting id) row tables taken h = (h.0, asked_kept service.Sync h.1)
+  step_kept service.Sync (step.ReadingReply id) row tables taken h = (h.0, awaits_kept service.Sync h.1)
   step_kept service.Fork (step.ForkRegion id region) row tables taken h = (in_kept _ _ h.0, h.1)
   step_kept service.Fork (step.ForkEntry id page) row tables taken h = (in_kept _ _ h.0, h.1, tables refl (page / NPTENTRIES) h.2)
   step_kept service.Fork (step.MapChild id page perm) row tables taken h = (in_kept _ _ h.0, mapping_kept page perm (row refl) h.1)

@@ -11,7 +11,7 @@ use Rattle.jos_base.specs.declared.numbers.TheConstants.{FIRST_ENV_ID, NENV}
 use Rattle.jos_base.specs.Environments.{Slot, Environments, free_slot, is_live as is_live_slot, is_running}
 use Rattle.jos_base.specs.KernelState.{KernelState, HasSpaces, slot_at, with_slot_at, with_spaces, with_status, turn_begun, turn_ended}
 use Rattle.jos_base.specs.SpacesState.{SpacesState, directories}
-use Rattle.lib_os.specs.AbstractState.{AbstractState, Born, AbstractSlot, free, unborn, born, serving, is_live, with_born, with_printed, TablePlace, Server, idle}
+use Rattle.lib_os.specs.AbstractState.{AbstractState, Born, AbstractSlot, free, unborn, born, serving, is_live, with_born, with_printed, TablePlace, Server, leaving, idle, looking, busy, acted}
 use Rattle.lib_os.specs.InOrder.{HasOneUse, IsInOrder}
 use Rattle.lib_os.specs.Rows.{server_row, Names, Rows, EntryRow, rows_of, counted, logical, logical_by, AreBeside, is_clients}
 use Rattle.lib_os.specs.StandsFor.{StandsFor, StandsForSlot, StandsForBorn, IsStatusFor, IsTabled, HasChildren, borne_in, HasServer, StandsForServer, IsServerStatus}
@@ -19,7 +19,7 @@ use Rattle.lib_os.specs.declared.place.Place.{Place}
 use Rattle.lib_os.specs.Places.{place_of}
 use Rattle.lib_os.proofs.Effects.{Quiet}
 use Rattle.lib_os.proofs.EntriesStand.{RowsStand, rows_stand, rows_same, rows_bytes}
-use Rattle.lib_os.proofs.Children.{KeepsChild, bears_none, stands_still, SameChild, same_child, born_bears_none, children_kept, children_still}
+use Rattle.lib_os.proofs.Children.{KeepsChild, bears_none, stands_still, SameChild, same_child, born_bears_none, children_kept, children_still, BearsNone}
 use Rattle.lib_os.proofs.Logical.{is_plain, plain_unborne, counted_plain, logical_alike, clients_so}
 use Rattle.lib_os.proofs.SlotsStand.{SeenAlike, slot_stands, born_at, born_live, live_stands, status_born}
 use Rattle.jos_base.proofs.Maps.{upd-at, upd-other, upd-alike, upd-all, upd-both}
@@ -300,6 +300,50 @@ children_moved {s = s} {a = a} h n b at slots c none none_after same others =
     (born_bears_none (slot_at s n) (a.slots n) b at none)
     (born_bears_none (slots n) (upd a.slots n (born c) n) c (upd-at a.slots n (born c)) none_after)
 
+-- ---- the server's slot
+
+servers_slot : {names : Names} {s : KernelState} {a : AbstractState} → StandsFor names s a → StandsForServer (slot_at s 0) FIRST_ENV_ID
+servers_slot {names = names} {s = s} h = subst (λ (slot : AbstractSlot). StandsForSlot names s.spaces (slot_at s 0) slot) h.first (h.slots 0)
+
+serving_bears_none : (k : Slot) (slot : AbstractSlot) (id : ℕ) → slot ≡ serving id → BearsNone k slot
+serving_bears_none k slot id is = record {
+  bears = λ b at. let contradiction : serving id ≡ born b = sym is ∙ at in absurd cc;
+  no_child = λ child parent at. let contradiction : serving id ≡ unborn child parent = sym is ∙ at in absurd cc;
+}
+
+-- It is another, in the same space.
+pub server_set : {names : Names} {s : KernelState} {a : AbstractState} → StandsFor names s a → (k : Slot) (server : Server) →
+    k.directory ≡ (slot_at s 0).directory → Settles (slot_at s 0) k → StandsForServer k FIRST_ENV_ID →
+    HasServer s.spaces k a.opened a.files.blocks server → StandsFor names (with_slot_at s 0 k) (record a { server = server })
+server_set {names = names} {s = s} {a = a} h k server directory settles so has =
+    let rows = rows_same (logical s.spaces s.environments.slots) (logical s.spaces (upd s.environments.slots 0 k)) counts (rows_stand h) in
+    record {
+      slots = upd-all (λ m (x : Slot). StandsForSlot names s.spaces x (a.slots m)) s.environments.slots 0 k
+          (subst (λ (y : AbstractSlot). StandsForSlot names s.spaces k y) (sym h.first) so) (λ m ne. h.slots m);
+      children = children_kept h.children 0 (λ m ne. upd-other s.environments.slots 0 k m ne) (λ m ne. refl)
+          (λ m ne live. same_space names s.spaces (slot_at s m).directory)
+          (serving_bears_none (slot_at s 0) (a.slots 0) FIRST_ENV_ID h.first)
+          (serving_bears_none (upd s.environments.slots 0 k 0) (a.slots 0) FIRST_ENV_ID h.first);
+      apart = rows.apart;
+      named = rows.named;
+      users = rows.users;
+      whole = rows.whole;
+      beside = beside_same (ap (λ (x : Slot). rows_of s.spaces x.directory) (upd-at s.environments.slots 0 k) ∙ ap (rows_of s.spaces) directory) rows.beside;
+      free_slots = h.free_slots;
+      first = h.first;
+      server = server_same (upd-at s.environments.slots 0 k) has;
+      input = h.input;
+      last = h.last;
+      turns = h.turns;
+      tabled = tabled_set h.tabled 0 k (servers_slot h).lives settles;
+      in_order = slot_in_order s 0 k (so.lives ∙ sym (servers_slot h).lives) directory h.in_order;
+    }
+  where
+    counts : (m p : ℕ) → logical s.spaces (upd s.environments.slots 0 k) m p ≡ logical s.spaces s.environments.slots m p
+    counts =
+        upd-all (λ m (x : Slot). (p : ℕ) → logical_by (is_clients m x) (counted (place_of x) (rows_of s.spaces x.directory)) p ≡ logical s.spaces s.environments.slots m p)
+        s.environments.slots 0 k (λ p. refl) (λ m ne p. refl)
+
 -- ---- what is printed, and turns
 
 pub printed_stands : {names : Names} {s : KernelState} {a : AbstractState} → StandsFor names s a → (bytes : List ℕ) →
@@ -385,24 +429,45 @@ running_awake Runnable false h is = tt
 running_awake NotRunnable true h is = absurd (let contradiction : false ≡ true = is in cc)
 running_awake _ _ h is = absurd h
 
--- The server waits.
-pub server_waits : {names : Names} {s : KernelState} {a : AbstractState} → StandsFor names s a → (slot_at s 0).status ≡ NotRunnable
-server_waits {s = s} {a = a} h = by_server a.server h.server.status
+-- the server's turn ends
+server_ended : {names : Names} {s : KernelState} {a : AbstractState} → StandsFor names s a → (n id : ℕ) → a.slots n ≡ serving id →
+    is_running (slot_at s n).status ≡ true → StandsFor names (with_status s n Runnable) a
+server_ended {names = names} {s = s} {a = a} h n id at running = subst (λ (m : ℕ). StandsFor names (with_status s m Runnable) a) first ended
   where
-    by_server : (server : Server) → IsServerStatus server (slot_at s 0) → (slot_at s 0).status ≡ NotRunnable
-    by_server idle waits = waits
-    by_server _ waits = absurd waits
+    so : StandsForServer (slot_at s n) id
+    so = subst (λ (slot : AbstractSlot). StandsForSlot names s.spaces (slot_at s n) slot) at (h.slots n)
 
--- It stands in slot 0.
-pub serves_first : {names : Names} {s : KernelState} {a : AbstractState} → StandsFor names s a → (n id : ℕ) → a.slots n ≡ serving id → 0 ≡ n
-serves_first {names = names} {s = s} {a = a} h n id at =
-    let so : StandsForServer (slot_at s n) id = subst (λ (slot : AbstractSlot). StandsForSlot names s.spaces (slot_at s n) slot) at (h.slots n) in
-    sym (ap (λ (i : ℕ). i % NENV) (so.id_is ∙ so.first)) ∙ h.tabled.ids n so.lives
+    first : 0 ≡ n
+    first = sym (ap (λ (i : ℕ). i % NENV) (so.id_is ∙ so.first)) ∙ h.tabled.ids n so.lives
 
--- so whoever serves is neither RUNNING nor RUNNABLE
-pub serving_waits : {names : Names} {s : KernelState} {a : AbstractState} → StandsFor names s a → (n id : ℕ) → a.slots n ≡ serving id →
-    (slot_at s n).status ≡ NotRunnable
-serving_waits {s = s} h n id at = ap (λ (m : ℕ). (slot_at s m).status) (sym (serves_first h n id at)) ∙ server_waits h
+    k : Slot
+    k = record (slot_at s 0) { status = Runnable }
+
+    runs : is_running (slot_at s 0).status ≡ true
+    runs = ap (λ (m : ℕ). is_running (slot_at s m).status) first ∙ running
+
+    ready : (server : Server) → IsServerStatus server (slot_at s 0) → IsServerStatus server k
+    ready idle is = absurd (let contradiction : false ≡ true = sym (ap is_running is.status) ∙ runs in cc)
+    ready leaving is = (tt, is.1)
+    ready (looking client request number) is = (tt, is.1)
+    ready (busy client request place) is = (tt, is.1)
+    ready (acted client answer bytes object) is = (tt, is.1)
+
+    stopped : StandsForServer k FIRST_ENV_ID
+    stopped = let so = servers_slot h in record {
+      first = so.first;
+      id_is = so.id_is;
+      lives = refl;
+      parent = so.parent;
+      env_type = so.env_type;
+      words = so.words;
+      stack = so.stack;
+    }
+
+    ended : StandsFor names (with_status s 0 Runnable) a
+    ended =
+        server_set h k a.server refl (stopped_settles (slot_at s 0) k refl refl refl) stopped
+        (record { status = ready a.server h.server.status; pages = h.server.pages; tables = h.server.tables })
 
 pub turn_ended_stands : {names : Names} {s : KernelState} {a : AbstractState} → StandsFor names s a → (n : ℕ) →
     StandsFor names (turn_ended s n) a
@@ -418,8 +483,7 @@ turn_ended_stands {names = names} {s = s} {a = a} h n = by_running (is_running (
         slot_replaced h n b at (record (slot_at s n) { status = Runnable }) refl (runnable_settles (slot_at s n)) (λ row p. refl)
         (status_alike (slot_at s n) Runnable (slot_at s n).runs)
         (status_born (slot_at s n) b Runnable (slot_at s n).runs (running_awake (slot_at s n).status b.blocked so.runs running) so)
-    by_slot running (serving id) at so =
-        absurd (let contradiction : true ≡ false = sym running ∙ ap (λ (x : Status). is_running x) (serving_waits h n id at) in cc)
+    by_slot running (serving id) at so = server_ended h n id at running
 
     by_running : (c : Bool) → is_running (slot_at s n).status ≡ c → StandsFor names (if c then with_status s n Runnable else s) a
     by_running true is = by_slot is (a.slots n) refl (h.slots n)

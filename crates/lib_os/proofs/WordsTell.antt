@@ -57,6 +57,9 @@ place_at regs number at outside =
     by_step step.Getting some back = rw (outside, some, back) refl
     by_step (step.Delivering done word) some back = rw (outside, some, back) refl
     by_step (step.Faulting done word) some back = rw (outside, some, back) refl
+    by_step (step.Asking id) some back = rw (outside, some, back) refl
+    by_step (step.Awaiting id) some back = rw (outside, some, back) refl
+    by_step (step.ReadingReply id) some back = rw (outside, some, back) refl
 
 -- ---- the handler's registers
 

@@ -1,7 +1,8 @@
 -- What the abstract system means: a fork copies, what is an environment's own is seen by no other, what is shared is
--- one page, a write leaves a pipe with no more than it can hold, and a step of one environment leaves the others and what
--- the file server has.
-use Rattle.std.specs.Prelude.{◌≡◌, ◌≢◌, ◌≤◌, ◌<◌, ◌⊎◌, ℕ, Bool, true, false, List, length, Some, IfSome, slice_set, ⊤}
+-- one page, a write leaves a pipe with no more than it can hold, a step of one environment leaves the others and what
+-- the file server has, and whom the server serves has asked it.
+use Rattle.std.specs.Prelude.{◌≡◌, ◌≢◌, ◌≤◌, ◌<◌, ◌⊎◌, ℕ, Bool, true, false, List, [], ◌∷◌, length, Option, Some, None, IfSome}
+use Rattle.std.specs.Prelude.{slice_set, ⊤}
 use Rattle.jos_base.specs.declared.registers.Regs.{Regs}
 use Rattle.jos_base.specs.declared.numbers.TheConstants.{NENV}
 use Rattle.jos_base.specs.Words.{page_offset, upd}
@@ -9,8 +10,8 @@ use Rattle.jos_cpu.specs.Memory.{IsLawful}
 use Rattle.lib_os.specs.declared.numbers.TheConstants.{PIPEBUFSIZ}
 use Rattle.lib_os.specs.declared.service.Service.{Service}
 use Rattle.lib_os.specs.declared.service.Service.TheVariants as service
-use Rattle.lib_os.specs.AbstractState.{AbstractState, Born, born, own, named, slot_id, Phase, in_service, Object, file}
-use Rattle.lib_os.specs.AbstractState.{Request, idle}
+use Rattle.lib_os.specs.AbstractState.{AbstractState, Born, AbstractSlot, free, unborn, born, own, named, slot_id, Object, file}
+use Rattle.lib_os.specs.AbstractState.{Phase, in_service, bearing, asked, awaiting, Request, Server, idle, looking, busy, acted}
 use Rattle.lib_os.specs.AbstractMemory.{page_at, stored}
 use Rattle.lib_os.specs.GuestStep.{guest_memory}
 use Rattle.lib_os.specs.AbstractFork.{child_of, bear}
@@ -90,3 +91,77 @@ pub data AsksOrLeaves (a after : AbstractState) (n : ℕ) : Type 0 where
 abbrev pub ClientsLeaveFiles : Type 0
 ClientsLeaveFiles = (a : AbstractState) (n : ℕ) (b : Born) → n < NENV → a.slots n ≡ born b →
     IfSome (abs_step a n) (λ after. LeavesFiles a after × AsksOrLeaves a after n)
+
+-- ---- who is served has asked
+
+-- the client whose request the server has taken, and not answered yet
+abbrev pub client_served : Server → Option ℕ
+client_served (looking client request k) = Some client
+client_served (busy client request place) = Some client
+client_served (acted client answer bytes object) = Some client
+client_served _ = None
+
+-- the services that ask the file server
+abbrev pub asks_server : Service → Bool
+asks_server (service.OpenFile path mode) = true
+asks_server (service.Read fd va len) = true
+asks_server (service.Write fd va len) = true
+asks_server (service.Seek fd offset) = true
+asks_server (service.Stat fd va) = true
+asks_server (service.SetSize fd size) = true
+asks_server (service.Remove path) = true
+asks_server service.Sync = true
+asks_server _ = false
+
+-- it has asked the server, and has no reply yet
+abbrev pub has_asked : Phase → Bool
+has_asked (in_service service asked) = asks_server service
+has_asked (in_service service awaiting) = asks_server service
+has_asked _ = false
+
+abbrev pub is_asking : AbstractSlot → Bool
+is_asking (born b) = has_asked b.phase
+is_asking _ = false
+
+-- the slot of the child that is borne
+abbrev pub bears_in : Phase → Option ℕ
+bears_in (in_service service (bearing child)) = Some child
+bears_in _ = None
+
+abbrev pub borne_by : AbstractSlot → Option ℕ
+borne_by (born b) = bears_in b.phase
+borne_by _ = None
+
+abbrev pub is_vacant : AbstractSlot → Bool
+is_vacant (free id) = true
+is_vacant _ = false
+
+abbrev pub is_unborn : AbstractSlot → Bool
+is_unborn (unborn id parent) = true
+is_unborn _ = false
+
+-- a number is none of a list
+abbrev pub IsNoneOf : ℕ → List ℕ → Type 0
+IsNoneOf n [] = ⊤
+IsNoneOf n (m ∷ rest) = (m ≢ n) × IsNoneOf n rest
+
+-- in the slots of a list nobody is, and none stands there twice
+abbrev pub AreVacant : (ℕ → AbstractSlot) → List ℕ → Type 0
+AreVacant slots [] = ⊤
+AreVacant slots (n ∷ rest) = (is_vacant (slots n) ≡ true) × IsNoneOf n rest × AreVacant slots rest
+
+-- Fork takes no slot in which somebody is: those that are free are vacant, and a child that is borne is not born, and has
+-- one parent.
+pub record AreGivenApart (slots : ℕ → AbstractSlot) (free_slots : List ℕ) : Type 0 where
+  pub vacant : AreVacant slots free_slots
+  pub children : (n child : ℕ) → borne_by (slots n) ≡ Some child → is_unborn (slots child) ≡ true
+  pub parents : (n m child : ℕ) → borne_by (slots n) ≡ Some child → borne_by (slots m) ≡ Some child → n ≡ m
+
+-- Whom the server serves has asked it, and has no reply yet.
+pub record ServesWhoAsked (a : AbstractState) : Type 0 where
+  pub asked : (client : ℕ) → client_served a.server ≡ Some client → (client < NENV) × (is_asking (a.slots client) ≡ true)
+  pub given : AreGivenApart a.slots a.free_slots
+
+-- It stays so, whatever slot makes a step.
+abbrev pub ServedClientsStay : Type 0
+ServedClientsStay = (a after : AbstractState) (n : ℕ) → n < NENV → ServesWhoAsked a → abs_step a n ≡ Some after → ServesWhoAsked after

@@ -117,7 +117,7 @@ pub data AbstractSlot : Type 0 where
 -- ---- the file server
 
 pub data Server : Type 0 where
-  -- it has replied, and is not yet ready for the next
+  -- it is not yet ready for a request, at the beginning and where it has replied
   leaving : Server
   idle : Server
   -- for this client and its request it looks at a place of the table of open files

@@ -7,16 +7,18 @@ use Rattle.jos_host.specs.declared.host.Failed.{Failed}
 use Rattle.jos_host.specs.Frames.{Around}
 use Rattle.jos_base.specs.declared.numbers.TheConstants.{NPTENTRIES, SYS_EXOFORK, SYS_IPC_TRY_SEND, SYS_PAGE_ALLOC, SYS_PAGE_MAP}
 use Rattle.jos_base.specs.Counting.{page_limit}
+use Rattle.jos_base.specs.declared.environment.Status.TheVariants.{Runnable}
 use Rattle.jos_base.specs.declared.registers.Regs.{Regs}
 use Rattle.jos_base.specs.Reach.{Entry}
 use Rattle.jos_base.specs.Environments.{Slot, is_live, is_runnable, is_running, no_extra}
 use Rattle.jos_base.specs.KernelState.{KernelState, slot_at, with_slot_at}
+use Rattle.jos_base.specs.Messages.{delivered}
 use Rattle.jos_base.specs.SpacesState.{SpacesState}
 use Rattle.lib_os.specs.declared.user_os.Stop.{Stop}
 use Rattle.lib_os.specs.declared.user_os.Stop.TheVariants as stop
 use Rattle.lib_os.specs.declared.progress.Progress.{Progress}
 use Rattle.lib_os.specs.declared.progress.Progress.TheVariants as progress
-use Rattle.lib_os.specs.declared.numbers.TheConstants.{DESCRIPTORS, PAGE_WORDS, SHORT_QUANTUM}
+use Rattle.lib_os.specs.declared.numbers.TheConstants.{DESCRIPTORS, FSREQ_SYNC, PAGE_WORDS, SHORT_QUANTUM}
 use Rattle.lib_os.specs.declared.place.HandlerStep.{HandlerStep}
 use Rattle.lib_os.specs.declared.place.HandlerStep.TheVariants as handler
 use Rattle.lib_os.specs.declared.place.Place.{Place}
@@ -30,7 +32,7 @@ use Rattle.lib_os.specs.InOrder.{IsInOrder}
 use Rattle.lib_os.specs.Need.{EachHasUse, count_below}
 use Rattle.lib_os.specs.Places.{place_of}
 use Rattle.lib_os.specs.Rows.{Names, EntryRow, rows_of, is_cow}
-use Rattle.lib_os.specs.StandsFor.{StandsFor}
+use Rattle.lib_os.specs.StandsFor.{AwaitsRequest, StandsFor}
 use Rattle.lib_os.specs.UserCalls.{Output, Prints, PrintsPart}
 
 -- the state stands for an abstract one, by some names of the shared pages
@@ -78,6 +80,7 @@ IsLibraryStep (Err _) n before after output =
 abbrev pub is_pausing : Place → Bool
 is_pausing (place.InService (service.Wait id) (step.Pausing perm)) = true
 is_pausing (place.InService (service.Send id value va) (step.Pausing perm)) = true
+is_pausing (place.InService service.Sync (step.Pausing id)) = true
 is_pausing _ = false
 
 -- What a step leaves, whatever it stands for: the last turn and the number of turns, and how many frames there are; where
@@ -102,12 +105,13 @@ frames_asked number =
 
 -- How many frames a step may take from the list, by where its environment stands: fork takes one for the child's directory, one for a
 -- table of the child's with each page that it maps there, and two for the child's stack; the handler takes two for a page and its table;
--- write and page_new take as many, and a message that is tried one, for a table of the page that goes with it. A page that is mapped over another
+-- write and page_new take as many, and a message or a request that is tried one, for a table of the page that goes with it. A page that is mapped over another
 -- takes none, since its table is there; a step of a program takes none, and so does each other step.
 abbrev pub frames_at : Place → ℕ
 frames_at (place.InService (service.PageNew va flags) at) = 2
 frames_at (place.InService (service.Send id value va) (step.Trying perm)) = 1
 frames_at (place.InService (service.Wait id) (step.Trying perm)) = 1
+frames_at (place.InService service.Sync (step.Asking id)) = 1
 frames_at (place.InService service.Fork step.Entered) = 1
 frames_at (place.InService service.Fork (step.MapChild id page perm)) = 1
 frames_at (place.InService service.Fork (step.ChildStack id)) = 2
@@ -188,6 +192,9 @@ steps_left step.Getting = 3
 steps_left (step.Delivering done word) = 5
 steps_left (step.Faulting done word) = 2070
 steps_left step.Releasing = 1
+steps_left (step.Asking id) = 6
+steps_left (step.Awaiting id) = 2
+steps_left (step.ReadingReply id) = 1
 
 -- those behind which pages are copied: read and stat put their bytes into the program's memory, an access raises the fault that ends the
 -- environment, and the program goes on
@@ -275,10 +282,31 @@ pub record LeavesServer (before after : KernelState) : Type 0 where
   pub regions : (r : ℕ) → after.spaces.regions (slot_at before 0).directory r ≡ before.spaces.regions (slot_at before 0).directory r
   pub pages : (p : ℕ) (e : Entry) → before.spaces.entries (slot_at before 0).directory p ≡ Some e → after.spaces.pages e.frame ≡ before.spaces.pages e.frame
 
--- Where the state stands for an abstract one, the step of another environment leaves that.
+-- the slot of one who waited, to whom a word has come with no page: it may run again, and is answered 0
+abbrev pub with_word : Slot → ℕ → ℕ → Slot
+with_word k sender value = record k {
+  rendezvous = delivered k.rendezvous sender value 0;
+  status = Runnable;
+  registers = record k.registers { eax = 0 };
+}
+
+-- The environment in slot n has asked the server, which waited: the word of its request has come.
+pub record AsksServer (n : ℕ) (before after : KernelState) : Type 0 where
+  pub id : ℕ
+  pub at : place_of (slot_at before n) ≡ place.InService service.Sync (step.Asking id)
+  pub waited : AwaitsRequest (slot_at before 0)
+  pub slot : slot_at after 0 ≡ with_word (slot_at before 0) (slot_at before n).id FSREQ_SYNC
+  pub spaces : after.spaces ≡ before.spaces
+
+-- It is left alone, or asked.
+pub data LeavesOrAsks (n : ℕ) (before after : KernelState) : Type 0 where
+  left_alone : LeavesServer before after → LeavesOrAsks n before after
+  asked_it : AsksServer n before after → LeavesOrAsks n before after
+
+-- Where the state stands for an abstract one, the step of another environment does no more to it.
 abbrev pub KeepsServer : ℕ → KernelState → KernelState → Type 0
 KeepsServer n before after =
-    IsInOrder after → n ≢ 0 → is_live (slot_at before n) ≡ true → (a : AbstractState) → Stands before a → LeavesServer before after
+    IsInOrder after → n ≢ 0 → is_live (slot_at before n) ≡ true → (a : AbstractState) → Stands before a → LeavesOrAsks n before after
 
 -- What a step leaves to the one whose step it is and to the others. Its turn is kept where the state stands for an abstract one.
 pub record LeavesEach (done : Progress) (n : ℕ) (before after : KernelState) : Type 0 where

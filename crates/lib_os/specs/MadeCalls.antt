@@ -1,23 +1,28 @@
 -- The one call of the kernel that a step made: which it was, what came of it, and which of its own registers and words the environment set
--- behind it; and the calls that the file server makes, with the pages that they touch.
+-- behind it; and the calls that the file server makes, with the pages that they touch, what they do to the host's files, and what is printed where
+-- the host fails.
 use Rattle.std.specs.Prelude.{◌≡◌, ◌≢◌, ◌<◌, ℕ, ◌+◌, ◌*◌, ◌%◌, ◌==◌, ◌&&◌, ◌||◌, nat_le, nat_lt, Bool, true, List, [], ◌∷◌, get_or, length}
-use Rattle.std.specs.Prelude.{Option, Ok, Err, ◌⊎◌}
+use Rattle.std.specs.Prelude.{Option, Result, Ok, Err, ◌⊎◌}
 use Rattle.jos_host.specs.declared.host.Failed.{Failed}
+use Rattle.jos_host.specs.declared.host.HostCall.TheVariants.{Read, Write}
+use Rattle.jos_host.specs.Asked.{Asked, and_asked}
 use Rattle.jos_host.specs.Files.{Files}
 use Rattle.jos_host.specs.Frames.{Around}
+use Rattle.jos_host.specs.Told.{WritesAt}
 use Rattle.jos_base.specs.declared.called.Called.{Called}
 use Rattle.jos_base.specs.declared.numbers.TheConstants.{FDTABLE, PGSIZE, PTE_P, PTE_U, PTE_W, UTOP}
 use Rattle.jos_base.specs.declared.numbers.TheConstants.{SYS_GETENVID, SYS_IPC_RECV, SYS_IPC_TRY_SEND, SYS_PAGE_ALLOC, SYS_PAGE_MAP, SYS_PAGE_UNMAP, SYS_YIELD}
 use Rattle.jos_base.specs.declared.registers.Regs.{Regs}
 use Rattle.jos_base.specs.KernelState.{KernelState, slot_at, with_extra, with_registers}
 use Rattle.jos_base.specs.Words.{page_number}
+use Rattle.fs_layout.specs.declared.numbers.TheConstants.{BLKSIZE}
 use Rattle.lib_os.specs.declared.numbers.TheConstants.{CACHE_BLOCKS, DISKMAP, MAXOPEN, OPEN_RECORDS, PTE_SHARE, REQUEST}
 use Rattle.lib_os.specs.declared.user_os.Stop.{Stop}
 use Rattle.lib_os.specs.declared.user_os.Stop.TheVariants as stop
 use Rattle.lib_os.specs.BlockCache.{block_address}
 use Rattle.lib_os.specs.Disk.{DiskFile}
 use Rattle.lib_os.specs.UserCalls as call
-use Rattle.lib_os.specs.UserCalls.{CallStep, IsStep, IsCallStep, IsBlockRead, IsBlockWrite, FilesBehind, Output, Prints, block_call}
+use Rattle.lib_os.specs.UserCalls.{CallStep, IsStep, IsCallStep, IsBlockRead, IsBlockWrite, FilesBehind, Output, Prints, PrintsPart, block_call}
 
 -- ---- a call
 
@@ -129,3 +134,22 @@ pub record MakesServersCall (states : Around KernelState) (n : ℕ) (disk : Disk
   pub call : UserCall
   pub own : IsServersCall call
   pub makes : MakesCall call states.before states.after n disk files output
+
+-- ---- what a step does to the host's files, whether or not the host fails
+
+-- Nothing, and the host is asked no call. Or it is asked one more, of the disk's file: a block that the disk has is read, and the files are as
+-- before; or one is written: its bytes have come, or the host failed and what stands there is unknown, and all other bytes are as before, in
+-- every file.
+pub data TouchesDisk (disk : DiskFile) (files : Around (Option Files)) (asked : Around (Option (List Asked))) : Type 0 where
+  asks_nothing : files.after ≡ files.before → asked.after ≡ asked.before → TouchesDisk disk files asked
+  asks_read : (block : ℕ) → block < disk.blocks → files.after ≡ files.before → asked.after ≡ and_asked asked.before Read disk.name →
+      TouchesDisk disk files asked
+  asks_write : (block : ℕ) (bytes : List ℕ) (done : Result (Unit {0}) Failed) → block < disk.blocks → length bytes ≡ BLKSIZE →
+      WritesAt files.before disk.name (BLKSIZE * block) bytes done files.after → asked.after ≡ and_asked asked.before Write disk.name →
+      TouchesDisk disk files asked
+
+-- ---- what is printed where the host fails
+
+-- The console keeps what it has, and a part of some bytes came behind that.
+abbrev pub PrintsPartOfSome : Output → Type 0
+PrintsPartOfSome output = (bytes : List ℕ) × PrintsPart output bytes

@@ -29,7 +29,7 @@ use Rattle.lib_os.specs.declared.place.Step.TheVariants as step
 use Rattle.lib_os.specs.declared.service.Service.{Service}
 use Rattle.lib_os.specs.declared.service.Service.TheVariants as service
 use Rattle.lib_os.specs.AbstractState.{AbstractState, Born, AbstractSlot, free, unborn, born, serving, Server, idle, TablePlace}
-use Rattle.lib_os.specs.AbstractState.{Stage, bearing, entered, gathering, receiving, received, Message, guest, at_guest, in_service}
+use Rattle.lib_os.specs.AbstractState.{Stage, asked, awaiting, replied, bearing, entered, gathering, receiving, received, Message, guest, at_guest, in_service}
 use Rattle.lib_os.specs.AbstractMemory.{has_page_in}
 use Rattle.lib_os.specs.AbstractMessages.{is_page_or_none}
 use Rattle.lib_os.specs.Fence.{is_page_inside, is_resident}
@@ -139,6 +139,39 @@ pub record HasReceived (k : Slot) (b : Born) (va from : ℕ) : Type 0 where
 pub data WaitsOrHas (k : Slot) (b : Born) (va from : ℕ) : Type 0 where
   waits : IsReceiving k b va from → WaitsOrHas k b va from
   has : HasReceived k b va from → WaitsOrHas k b va from
+
+-- ---- requests to the file server
+
+-- It has asked, and does not wait yet.
+pub record HasAsked (k : Slot) (b : Born) (s : Service) : Type 0 where
+  pub program : b.program ≡ guest k.registers
+  pub phase : b.phase ≡ in_service s asked
+  pub silent : k.rendezvous.receiving ≡ false
+  pub awake : b.blocked ≡ false
+
+-- it waits for the server's reply, with which no page goes
+pub record IsAwaiting (k : Slot) (b : Born) (s : Service) : Type 0 where
+  pub program : b.program ≡ guest k.registers
+  pub phase : b.phase ≡ in_service s awaiting
+  pub blocked : b.blocked ≡ true
+  pub rendezvous : k.rendezvous.receiving ≡ true
+  pub wanted : k.rendezvous.wanted ≡ FIRST_ENV_ID
+  pub destination : k.rendezvous.destination ≡ UTOP
+
+-- The reply has come, which is a word: the kernel has set EAX to 0.
+pub record HasReply (k : Slot) (b : Born) (s : Service) : Type 0 where
+  pub regs : Regs
+  pub program : b.program ≡ guest regs
+  pub registers : k.registers ≡ record regs { eax = 0 }
+  pub phase : b.phase ≡ in_service s (replied [] k.rendezvous.value)
+  pub awake : b.blocked ≡ false
+  pub silent : k.rendezvous.receiving ≡ false
+  pub small : k.rendezvous.value < 2 ^ 32
+
+-- where it waits, or where the reply has come and is not read
+pub data AwaitsOrHas (k : Slot) (b : Born) (s : Service) : Type 0 where
+  awaits : IsAwaiting k b s → AwaitsOrHas k b s
+  has_reply : HasReply k b s → AwaitsOrHas k b s
 
 -- ---- descriptors
 
@@ -325,6 +358,10 @@ StandsAtStep v k b (service.Receive va from) (step.ReadingSender id value) =
     (id ≡ k.id) × (value ≡ k.rendezvous.value) × HasReceived k b va from
 StandsAtStep v k b (service.Receive va from) (step.ReadingPerm id value sender) =
     (id ≡ k.id) × (value ≡ k.rendezvous.value) × (sender ≡ k.rendezvous.sender) × HasReceived k b va from
+StandsAtStep v k b service.Sync (step.Asking id) = (id ≡ k.id) × IsIn k b service.Sync entered
+StandsAtStep v k b service.Sync (step.Pausing id) = (id ≡ k.id) × IsIn k b service.Sync entered
+StandsAtStep v k b service.Sync (step.Awaiting id) = (id ≡ k.id) × HasAsked k b service.Sync
+StandsAtStep v k b service.Sync (step.ReadingReply id) = (id ≡ k.id) × AwaitsOrHas k b service.Sync
 StandsAtStep v k b service.Fork (step.ForkRegion id region) = IsBearing k b id × (region ≤ region_index USTACKTOP)
 StandsAtStep v k b service.Fork (step.ForkEntry id page) =
     IsBearing k b id × (page < top_page) × (v.tables (page / NPTENTRIES) ≡ true)
@@ -482,10 +519,17 @@ is_servers_region r =
     (r == region_index REQUEST) || (r == region_index FDTABLE)
     || (nat_le (region_index DISKMAP) r && nat_lt r (region_index DISKMAP + MAXBLOCKS / NPTENTRIES))
 
--- It waits for a request. (As far as services are built nobody asks it anything, and it never runs.)
+-- it waits for a request, by anybody
+pub record AwaitsRequest (k : Slot) : Type 0 where
+  pub status : k.status ≡ NotRunnable
+  pub receiving : k.rendezvous.receiving ≡ true
+  pub anybody : k.rendezvous.wanted ≡ 0
+  pub destination : k.rendezvous.destination ≡ REQUEST
+
+-- While it is idle it waits, and else it may run.
 abbrev pub IsServerStatus : Server → Slot → Type 0
-IsServerStatus idle k = k.status ≡ NotRunnable
-IsServerStatus _ k = ⊥
+IsServerStatus idle k = AwaitsRequest k
+IsServerStatus _ k = IsStatusFor k.status false × (k.rendezvous.receiving ≡ false)
 
 -- its slot, in which no service stands
 pub record StandsForServer (k : Slot) (id : ℕ) : Type 0 where

@@ -19,6 +19,7 @@ pub fn go_back<O: UserOs>(os: &mut O, registers: Regs)
     requires { is_live (slot_at (O.state os.old) (O.slot os.old)) ≡ true }
     ensures state { O.state os.new ≡ gone_back (O.state os.old) (O.slot os.old) registers }
     ensures slot { O.slot os.new ≡ O.slot os.old }
+    ensures disk { O.disk os.new ≡ O.disk os.old }
     ensures calls { O.calls os.new ≡ O.calls os.old }
     ensures written { O.written os.new ≡ O.written os.old }
 {
@@ -31,6 +32,7 @@ pub fn answer<O: UserOs>(os: &mut O, word: u32)
     requires { is_live (slot_at (O.state os.old) (O.slot os.old)) ≡ true }
     ensures state { O.state os.new ≡ service_answered (O.state os.old) (O.slot os.old) word }
     ensures slot { O.slot os.new ≡ O.slot os.old }
+    ensures disk { O.disk os.new ≡ O.disk os.old }
     ensures calls { O.calls os.new ≡ O.calls os.old }
     ensures written { O.written os.new ≡ O.written os.old }
 {
@@ -74,6 +76,7 @@ pub fn go_on<O: UserOs>(os: &mut O, number: u32, step: Step)
     requires number { number ≤ SERVICES }
     ensures state { O.state os.new ≡ with_extra (O.state os.old) (O.slot os.old) (words_at number step) }
     ensures slot { O.slot os.new ≡ O.slot os.old }
+    ensures disk { O.disk os.new ≡ O.disk os.old }
     ensures calls { O.calls os.new ≡ O.calls os.old }
     ensures written { O.written os.new ≡ O.written os.old }
 {

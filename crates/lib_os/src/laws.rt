@@ -1,7 +1,7 @@
 //! What the abstract system means. Nothing here is to be run: each clause is a theorem.
 
 ghost use Rattle.lib_os.specs.AbstractLaws.{ForkCopies, OwnStoresAreUnseen, SharedStoresAreSeen, PipesAreBounded};
-ghost use Rattle.lib_os.specs.AbstractLaws.{GuestMemoryIsLawful, StepsLeaveOthers, ClientsLeaveFiles};
+ghost use Rattle.lib_os.specs.AbstractLaws.{GuestMemoryIsLawful, StepsLeaveOthers, ClientsLeaveFiles, ServedClientsStay};
 ghost use Rattle.lib_os.specs.Need.{NeedIsReached};
 ghost use Rattle.lib_os.specs.StandingLaws.{SomeStateStands, SomeCopyStands, WordsTellThePlace, RegistersTellThePlace};
 
@@ -36,6 +36,12 @@ pub fn steps_leave_others()
 /// but where it asks that; and no environment has a descriptor for a file for which none had one before.
 pub fn clients_leave_files()
     ensures { ClientsLeaveFiles }
+{}
+
+/// Whom the file server serves is an environment that has asked and has no reply yet, and stays so until its reply,
+/// whatever slot makes a step.
+pub fn served_clients_stay()
+    ensures { ServedClientsStay }
 {}
 
 /// There are states of the kernel that stand for abstract ones, also such in which an environment's page is half copied.

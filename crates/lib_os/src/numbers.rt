@@ -295,6 +295,15 @@ pub const STEP_DELIVERING: u32 = 31;
 /// The next byte of its buffer can't be moved, and it is about to raise the fault by which the environment ends.
 pub const STEP_FAULTING: u32 = 32;
 
+/// A service of the file server's is about to ask.
+pub const STEP_ASKING: u32 = 33;
+
+/// It has asked, and is about to wait for the reply.
+pub const STEP_AWAITING: u32 = 34;
+
+/// It waits for the reply, or is about to read its word.
+pub const STEP_READING_REPLY: u32 = 35;
+
 // ---- how far the handler of page faults is, as the EIP of its environment. Nothing is fetched there: no page stands below the
 // exception stack, and that the handler runs is told by ESP.
 

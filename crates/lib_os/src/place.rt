@@ -8,14 +8,14 @@ ghost use Rattle.lib_os.specs.Places as places;
 use crate::numbers::{
     HANDLER_LOADING, HANDLER_LOOKING, HANDLER_MAPPING_OVER, HANDLER_READING_ERROR,
     HANDLER_READING_IP, HANDLER_RESTORING, HANDLER_STORING, HANDLER_TAKING, HANDLER_TOUCHING,
-    HANDLER_UNMAPPING, HANDLER_UNSETTING, PAGE_WORDS, PGFAULT_UPCALL, STEP_BUFFER_ENTRY,
-    STEP_BUFFER_REGION, STEP_CHILD_RUNS, STEP_CHILD_STACK, STEP_CHILD_UPCALL, STEP_DELIVERING,
-    STEP_DESCRIPTOR_ENTRY, STEP_DROPPING_DESCRIPTOR, STEP_ENDING, STEP_ENTERED, STEP_FAULTING,
-    STEP_FORK_ENTRY, STEP_FORK_REGION, STEP_GATHERING, STEP_GETTING, STEP_KEEPING, STEP_MAP_CHILD,
-    STEP_MAPPING_DESCRIPTOR, STEP_PAUSING, STEP_PRINTING, STEP_READING_DEVICE, STEP_READING_ENTRY,
-    STEP_READING_PERM, STEP_READING_REGION, STEP_READING_SENDER, STEP_READING_VALUE,
-    STEP_RECEIVING, STEP_RELEASING, STEP_REMAP, STEP_TAKING_PAGE, STEP_TARGET_ENTRY, STEP_TRYING,
-    STEP_UNDOING, UXSTACK,
+    HANDLER_UNMAPPING, HANDLER_UNSETTING, PAGE_WORDS, PGFAULT_UPCALL, STEP_ASKING, STEP_AWAITING,
+    STEP_BUFFER_ENTRY, STEP_BUFFER_REGION, STEP_CHILD_RUNS, STEP_CHILD_STACK, STEP_CHILD_UPCALL,
+    STEP_DELIVERING, STEP_DESCRIPTOR_ENTRY, STEP_DROPPING_DESCRIPTOR, STEP_ENDING, STEP_ENTERED,
+    STEP_FAULTING, STEP_FORK_ENTRY, STEP_FORK_REGION, STEP_GATHERING, STEP_GETTING, STEP_KEEPING,
+    STEP_MAP_CHILD, STEP_MAPPING_DESCRIPTOR, STEP_PAUSING, STEP_PRINTING, STEP_READING_DEVICE,
+    STEP_READING_ENTRY, STEP_READING_PERM, STEP_READING_REGION, STEP_READING_REPLY,
+    STEP_READING_SENDER, STEP_READING_VALUE, STEP_RECEIVING, STEP_RELEASING, STEP_REMAP,
+    STEP_TAKING_PAGE, STEP_TARGET_ENTRY, STEP_TRYING, STEP_UNDOING, UXSTACK,
 };
 use crate::service::{Service, service_of};
 use jos_base::{Extra, Regs, UXSTACKTOP};
@@ -90,6 +90,13 @@ pub enum Step {
     Delivering { done: u32, word: u32 },
     /// read, write and stat: the next byte of the buffer can't be moved, and it is about to raise the fault by which the environment ends.
     Faulting { done: u32, word: u32 },
+    /// sync, with the environment's id: it is about to ask the file server. Where it has tried in vain, it is about to give up its turn, as above,
+    /// and has the id in the place of a page's bits.
+    Asking { id: u32 },
+    /// sync: it has asked, and is about to wait for the reply.
+    Awaiting { id: u32 },
+    /// sync: it waits for the reply, or is about to read the word that came.
+    ReadingReply { id: u32 },
 }
 
 /// How far the handler of page faults is, with what it has found out: the address of the fault, its error code, the address of
@@ -280,6 +287,9 @@ fn find_step(words: &Extra) -> Step
             done: first,
             word: second,
         },
+        STEP_ASKING => Step::Asking { id: first },
+        STEP_AWAITING => Step::Awaiting { id: first },
+        STEP_READING_REPLY => Step::ReadingReply { id: first },
         _ => Step::Undoing {
             id: first,
             error: second,
@@ -350,6 +360,9 @@ pub fn words_at(number: u32, step: Step) -> Extra
         Step::Getting => (STEP_GETTING, 0, 0, 0),
         Step::Delivering { done, word } => (STEP_DELIVERING, done, word, 0),
         Step::Faulting { done, word } => (STEP_FAULTING, done, word, 0),
+        Step::Asking { id } => (STEP_ASKING, id, 0, 0),
+        Step::Awaiting { id } => (STEP_AWAITING, id, 0, 0),
+        Step::ReadingReply { id } => (STEP_READING_REPLY, id, 0, 0),
     };
     Extra([number + 1, place, first, second, third, 0, 0, 0, 0, 0, 0, 0])
 }

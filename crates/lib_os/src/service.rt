@@ -69,6 +69,7 @@ fn is_built(number: u32) -> bool
 {
     number <= SERVICE_RECEIVE
         || (SERVICE_CLOSE..=SERVICE_SET_SIZE).contains(&number)
+        || number == SERVICE_SYNC
         || number == SERVICE_DUP
 }
 

@@ -422,3 +422,6 @@ module _ (s : KernelState) (n fd va len : ℕ) (live : is_live (slot_at s n) ≡
   read_holds (step.Keeping done word left) stands = no_step (step.Keeping done word left) stands (λ view k b h. h)
   read_holds step.Printing stands = no_step step.Printing stands (λ view k b h. h)
   read_holds step.Releasing stands = no_step step.Releasing stands (λ view k b h. h)
+  read_holds (step.Asking own) stands = no_step (step.Asking own) stands (λ view k b h. h)
+  read_holds (step.Awaiting own) stands = no_step (step.Awaiting own) stands (λ view k b h. h)
+  read_holds (step.ReadingReply own) stands = no_step (step.ReadingReply own) stands (λ view k b h. h)

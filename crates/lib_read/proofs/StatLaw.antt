@@ -290,3 +290,6 @@ module _ (s : KernelState) (n fd va : ℕ) (live : is_live (slot_at s n) ≡ tru
   stat_holds step.Printing stands = no_step step.Printing stands (λ view k b h. h)
   stat_holds step.Releasing stands = no_step step.Releasing stands (λ view k b h. h)
   stat_holds step.Getting stands = no_step step.Getting stands (λ view k b h. h)
+  stat_holds (step.Asking own) stands = no_step (step.Asking own) stands (λ view k b h. h)
+  stat_holds (step.Awaiting own) stands = no_step (step.Awaiting own) stands (λ view k b h. h)
+  stat_holds (step.ReadingReply own) stands = no_step (step.ReadingReply own) stands (λ view k b h. h)

@@ -39,7 +39,7 @@ use Rattle.lib_os.proofs.NumbersKept.{KeepsCopies, copies_kept, numbers_kept, pl
 use Rattle.lib_os.proofs.OthersCopies.{NoMoreWait, IsBeside, maps_no_copy, plain_wait, same_wait, load_wait, load_byte_wait}
 use Rattle.lib_os.proofs.OthersCopies.{store_wait, store_byte_wait, exchange_wait, restore_wait}
 use Rattle.lib_os.proofs.OthersKept.{OthersStay, same_stay, own_stay, own_before, sets_others, exofork_stays, load_stay, load_byte_stay}
-use Rattle.lib_os.proofs.OthersKept.{store_stay, store_byte_stay, exchange_stay, restore_stay}
+use Rattle.lib_os.proofs.OthersKept.{store_stay, store_byte_stay, exchange_stay, restore_stay, system_stay}
 use Rattle.lib_os.proofs.Slots.{slots_alike}
 use Rattle.lib_os.proofs.Loading.{loaded, loaded_state, GivesWord}
 use Rattle.lib_os.proofs.Numbered.{number_of}
@@ -78,10 +78,12 @@ abbrev pub IsAsideAsk : KernelState → Ask → Type 0
 IsAsideAsk s (ask.System number args) = SendsAside s number args
 IsAsideAsk s _ = Unit {0}
 
--- a plain one, or one of which it is known by where the service stands that others' pages and the file server are left
+-- A plain one, or one of which it is known by where the service stands that others' pages are left, and that nothing is sent to the file
+-- server, or what is done to it.
 pub data IsPlain (s : KernelState) (n : ℕ) (a : Ask) : Type 0 where
   plainly : is_plain a ≡ true → IsPlain s n a
   knowingly : is_calm a ≡ true → KeepsCopies n s (performed s n a).state → IsAsideAsk s a → IsPlain s n a
+  kept_so : is_calm a ≡ true → KeepsCopies n s (performed s n a).state → KeepsServer n s (performed s n a).state → IsPlain s n a
 
 neither : (t u : Bool) → not t && not u ≡ true → (t ≡ false) × (u ≡ false)
 neither false false is = (refl, refl)
@@ -174,10 +176,27 @@ calm_behind s n (ask.Exchange va word) calm copies aside = plain_behind s n (ask
 calm_behind s n ask.RestoreFrame calm copies aside = plain_behind s n ask.RestoreFrame refl
 calm_behind s n (ask.Touch ip va write) calm copies aside = plain_behind s n (ask.Touch ip va write) refl
 
+-- the same, where it is known what is done to the file server
+kept_behind : (s : KernelState) (n : ℕ) (a : Ask) → is_calm a ≡ true → KeepsCopies n s (performed s n a).state →
+    KeepsServer n s (performed s n a).state → Behind s n (performed s n a).state
+unfolding performed
+kept_behind s n (ask.System number args) calm copies server =
+    let both = neither (wakes number) (sets_others number) calm in
+    behind s n number args both.0 (λ before after live. system_stay s n number args both.1) copies server
+kept_behind s n ask.Exofork calm copies server = plain_behind s n ask.Exofork refl
+kept_behind s n (ask.Load va) calm copies server = plain_behind s n (ask.Load va) refl
+kept_behind s n (ask.LoadByte va) calm copies server = plain_behind s n (ask.LoadByte va) refl
+kept_behind s n (ask.Store va word) calm copies server = plain_behind s n (ask.Store va word) refl
+kept_behind s n (ask.StoreByte va byte) calm copies server = plain_behind s n (ask.StoreByte va byte) refl
+kept_behind s n (ask.Exchange va word) calm copies server = plain_behind s n (ask.Exchange va word) refl
+kept_behind s n ask.RestoreFrame calm copies server = plain_behind s n ask.RestoreFrame refl
+kept_behind s n (ask.Touch ip va write) calm copies server = plain_behind s n (ask.Touch ip va write) refl
+
 -- the same of one of which it is known
 pub known_behind : (s : KernelState) (n : ℕ) (a : Ask) → IsPlain s n a → Behind s n (performed s n a).state
 known_behind s n a (plainly plain) = plain_behind s n a plain
 known_behind s n a (knowingly calm copies aside) = calm_behind s n a calm copies aside
+known_behind s n a (kept_so calm copies server) = kept_behind s n a calm copies server
 
 pub settled_leaves : (s mid : KernelState) (n number : ℕ) (x : Next) → Behind s n mid → Leaves (Ok (seen_as x)) n s (settled number x mid n)
 settled_leaves s mid n number (next.Answer word) h = answers s mid _ n word progress.Finished h refl

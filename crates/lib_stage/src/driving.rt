@@ -58,6 +58,7 @@ pub fn drive<S: Planned, O: UserOs, H: Host>(
     ensures gives_up { GivesUp result (slot_at (O.state os.old) (O.slot os.old)) (slot_at (O.state os.new) (O.slot os.new)) }
     ensures frames { IfOk result (λ done. TakesAtMost (frames_of (S.plan stage.now).asks) (O.state os.old).spaces (O.state os.new).spaces) }
     ensures by_place { IfOk result (λ done. TakesByPlace (O.slot os.old) (O.state os.old) (O.state os.new)) }
+    ensures disk { O.disk os.new ≡ O.disk os.old }
     ensures one { MakesOneCall (around O.slot os.old os.new) (around O.calls os.old os.new) }
     ensures rest { Unchanged H.files H.input H.asked H.notes host.old host.new }
     ensures cause { HasCause (H.faults host.old) (H.faults host.new) result }

@@ -18,6 +18,7 @@ pub fn settle<O: UserOs>(os: &mut O, number: u32, next: Next) -> Progress
     ensures progress { result ≡ seen_as next }
     ensures state { O.state os.new ≡ settled number next (O.state os.old) (O.slot os.old) }
     ensures slot { O.slot os.new ≡ O.slot os.old }
+    ensures disk { O.disk os.new ≡ O.disk os.old }
     ensures calls { O.calls os.new ≡ O.calls os.old }
     ensures written { O.written os.new ≡ O.written os.old }
 {

@@ -67,3 +67,6 @@ module _ (s : KernelState) (n fd va len : ℕ) (live : is_live (slot_at s n) ≡
   write_holds step.Ending stands = no_step step.Ending stands (λ view k b h. h)
   write_holds step.Getting stands = no_step step.Getting stands (λ view k b h. h)
   write_holds (step.Delivering done word) stands = no_step (step.Delivering done word) stands (λ view k b h. h)
+  write_holds (step.Asking own) stands = no_step (step.Asking own) stands (λ view k b h. h)
+  write_holds (step.Awaiting own) stands = no_step (step.Awaiting own) stands (λ view k b h. h)
+  write_holds (step.ReadingReply own) stands = no_step (step.ReadingReply own) stands (λ view k b h. h)

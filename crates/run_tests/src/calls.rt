@@ -7,7 +7,7 @@ ghost use Rattle.jos_base.specs.SystemCalls.{is_page_address};
 
 use crate::disks::{has_blocks, tell_file};
 use crate::telling::{quoted, tell_numbers};
-use jos_base::{Called, Extra, PGSIZE, UTOP};
+use jos_base::{Called, Extra, NENV, PGSIZE, UTOP};
 use jos_cpu::Decodings;
 use jos_host::{Failed, MemHost};
 use jos_run::Served;
@@ -110,6 +110,7 @@ impl ServedBench {
         let [va, word, ..] = twelve_numbers(given);
         let (served, host) = (&mut self.served, &mut self.host);
         match call {
+            "turn" => self.turn(alloc, given),
             "load" => tell_word(alloc, served.load(host, aligned(va))),
             "load_byte" => tell_word(alloc, served.load_byte(host, va).map(u32::from)),
             "store" => tell_done(alloc, served.store(host, aligned(va), word)),
@@ -151,6 +152,16 @@ impl ServedBench {
         }
     }
 
+    /// Makes so many steps of the environment in a slot, which is the one that is asked from then on.
+    pub(crate) fn turn(&mut self, alloc: Global, given: &str) -> Result<String, AllocError> {
+        let [slot, steps, ..] = twelve_numbers(given);
+        if slot >= NENV {
+            return String::from_str(alloc, "no slot");
+        }
+        self.slot = slot as usize;
+        self.go(alloc, steps)
+    }
+
     /// Makes so many steps of the environment, and tells what comes of them.
     pub(crate) fn go(&mut self, alloc: Global, steps: u32) -> Result<String, AllocError> {
         let mut decodings = Decodings::new(alloc)?;
@@ -158,6 +169,9 @@ impl ServedBench {
             self.served.serve(self.slot);
             if !self.served.is_live() || !self.served.is_awake() {
                 break;
+            }
+            if !has_blocks(&self.served, &self.host) {
+                return String::from_str(alloc, "the file is shorter");
             }
             let made = self.served.make_steps(&mut self.host, &mut decodings, 1);
             if made.last.is_err() {

@@ -13,9 +13,11 @@
 //! | `first` | nothing: an environment begins, with a page of zeros at `UTEMP` |
 //! | `server BLOCKS BYTES FAILS` | nothing: so does the file server, with a disk of so many blocks, whose file has so many bytes; the call of the host with this number, counted from 1, fails |
 //! | `user BLOCKS BYTES FAILS` | the same with a user |
+//! | `clients` | nothing: the file server begins at its first step, in slot 0, and in slots 1 and 2 environments that are about to ask for sync |
 //! | `end` | how the environment that began stands at last, and the console |
 //!
-//! Between those that begin one and `end` any other line is a call of that environment (`src/calls.rt`), or `file`: how many
+//! Between those that begin one and `end` any other line is a call of that environment (`src/calls.rt`), `turn SLOT COUNT`: what
+//! comes of so many steps of the one in that slot, which is asked from then on; or `file`: how many
 //! bytes the disk's file has, and how many of them are others than at first. There each byte has the number of its block and one
 //! more as its first digit, and the place in the file modulo 8 as its second.
 #![tactic(auto)]
@@ -28,7 +30,7 @@ mod telling;
 
 use crate::beginning::{boot, first, frames, with_disk};
 use crate::calls::ServedBench;
-use crate::stepping::{on_console, steps};
+use crate::stepping::{clients, on_console, steps};
 use jos_base::EnvType;
 use std::alloc::{AllocError, Global};
 use test_cases::tell_lines;
@@ -46,6 +48,7 @@ fn answer(
         "frames" => frames(alloc),
         "boot" => boot(alloc, bench, given),
         "first" => first(alloc, bench),
+        "clients" => clients(alloc, bench),
         "server" => with_disk(alloc, bench, EnvType::FileServer, given),
         "user" => with_disk(alloc, bench, EnvType::User, given),
         "end" => match bench.take() {

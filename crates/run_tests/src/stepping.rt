@@ -1,4 +1,8 @@
-//! Programs step by step: the server in slot 0, and one environment.
+//! Programs step by step: the server in slot 0, and one environment, or two that ask it.
+
+ghost use Rattle.std.specs.Prelude.{◌<◌, IfSome};
+ghost use Rattle.jos_base.specs.declared.numbers.TheConstants.{NENV};
+ghost use Rattle.jos_sys.specs.System.{Keeps};
 
 use crate::calls::ServedBench;
 use jos_base::{
@@ -8,7 +12,7 @@ use jos_base::{
 use jos_host::MemHost;
 use jos_run::Served;
 use jos_sys::{Input, System};
-use lib_os::{DEVICE_CONSOLE, PTE_SHARE, UserOs};
+use lib_os::{DEVICE_CONSOLE, PTE_SHARE, SERVICE_SYNC, UserOs};
 use std::alloc::{AllocError, Global};
 use test_cases::twelve_numbers;
 
@@ -115,4 +119,68 @@ pub(crate) fn on_console(
         }
         None => String::from_str(alloc, "no program"),
     }
+}
+
+/// INT 0x40.
+const SERVICE_CALL: u32 = 0x40cd;
+
+/// An environment in the next slot, with a page at `UTEXT`, which it may read and write; false where there is none.
+fn add_client(system: &mut System) -> bool
+    requires { Keeps system.old }
+    ensures { Keeps system.new }
+{
+    let Ok(slot) = system.make_environment(EnvId(0)) else {
+        return false;
+    };
+    system.set_status(slot, Status::Runnable);
+    system
+        .allocate(slot, UTEXT, Perm(PTE_P + PTE_W + PTE_U))
+        .is_some()
+}
+
+/// The system with the server before its first step, and two environments.
+fn server_with_two(alloc: Global) -> Option<System>
+    ensures { IfSome result (λ system. Keeps system) }
+{
+    let Ok(mut system) = System::new(alloc, FRAMES_MIN) else {
+        return None;
+    };
+    let Ok(server) = system.make_environment(EnvId(0)) else {
+        return None;
+    };
+    system.set_env_type(server, EnvType::FileServer);
+    system.set_status(server, Status::Runnable);
+    if !add_client(&mut system) || !add_client(&mut system) {
+        return None;
+    }
+    Some(system)
+}
+
+/// Puts the environment of a slot before an INT 0x40 by which it asks for sync; false where it can't.
+fn about_to_ask(served: &mut Served, host: &mut MemHost, slot: usize) -> bool
+    requires { slot < NENV }
+{
+    served.serve(slot);
+    if !served.is_live() {
+        return false;
+    }
+    served.set_registers(registers_with(SERVICE_SYNC, 0, 0, 0));
+    served.is_live() && served.store(host, UTEXT, SERVICE_CALL).is_ok()
+}
+
+/// Begins with the file server before its first step, in slot 0, and two environments that are about to ask for sync.
+pub(crate) fn clients(
+    alloc: Global,
+    asked: &mut Option<ServedBench>,
+) -> Result<String, AllocError> {
+    let Some(system) = server_with_two(alloc) else {
+        return String::from_str(alloc, "no environment");
+    };
+    let mut served = Served::new(system, Input::new(Vec::new(alloc)));
+    let mut host = MemHost::new(alloc, Vec::new(alloc), Vec::new(alloc), Vec::new(alloc));
+    if !about_to_ask(&mut served, &mut host, 1) || !about_to_ask(&mut served, &mut host, 2) {
+        return String::from_str(alloc, "no program");
+    }
+    *asked = Some(ServedBench::new(alloc, served, 0));
+    String::from_str(alloc, "begins")
 }

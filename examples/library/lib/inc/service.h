@@ -29,6 +29,7 @@ enum {
     SERVICE_seek = 14,
     SERVICE_stat = 15,
     SERVICE_set_size = 16,
+    SERVICE_sync = 18,
     SERVICE_dup = 19,
 };
 
@@ -107,5 +108,9 @@ int stat(uint32_t fd, uint32_t va);
 /* what is no file has neither place nor size that could be set */
 int seek(uint32_t fd, uint32_t offset);
 int set_size(uint32_t fd, uint32_t size);
+
+/* ---- requests.c: what the file server is asked for, beside what has a descriptor. */
+
+int sync(void); /* it writes what the disk lacks, and replies: 0 */
 
 #endif

@@ -5,7 +5,7 @@ use Rattle.lib_os.specs.UserCalls.{Output, output}
 use Rattle.fs_requests.specs.declared.plan.ServerNext.{ServerNext}
 use Rattle.fs_requests.specs.ServerPlans.{next_at}
 use Rattle.fs_server.specs.ServerSteps.{HasCalled, IsReply, by_word, gone_on}
-use Rattle.fs_server.proofs.Stopped.{stopped_calls}
+use Rattle.fs_server.proofs.Stopped.{stopped_calls, stopped_fails}
 use Rattle.fs_server.proofs.steps.make_call.Goals as goal
 
 pub returns-in-Ok-clause-made : goal.returns-in-Ok-clause-made
@@ -29,5 +29,11 @@ returns-in-Ok-clause-made g c =
 pub returns-in-Err-clause-made : goal.returns-in-Err-clause-made
 returns-in-Err-clause-made g c =
     stopped_calls c.args.call c.args.state (g.O.UserOs.slot c.args.os.now) (g.O.UserOs.state c.args.os.now) (g.O.UserOs.state c.reply.new.os)
+    (output g.H.Host.console g.O.UserOs.written (from_to c.args.host.now c.reply.new.host) (from_to c.args.os.now c.reply.new.os)) c.in-Err.stop c.stopped.result
+    c.in-Err.ensures.step c.stopped.ensures
+
+pub returns-in-Err-clause-failed : goal.returns-in-Err-clause-failed
+returns-in-Err-clause-failed g c =
+    stopped_fails c.args.call (g.O.UserOs.slot c.args.os.now) (g.O.UserOs.state c.args.os.now) (g.O.UserOs.state c.reply.new.os)
     (output g.H.Host.console g.O.UserOs.written (from_to c.args.host.now c.reply.new.host) (from_to c.args.os.now c.reply.new.os)) c.in-Err.stop c.stopped.result
     c.in-Err.ensures.step c.stopped.ensures

@@ -1,5 +1,6 @@
 use Rattle.std.proofs.Common.{◌∙◌, sym}
 use Rattle.jos_host.specs.Frames.{around, from_to}
+use Rattle.lib_os.specs.MadeCalls.{asks_nothing}
 use Rattle.lib_os.specs.UserCalls.{output}
 use Rattle.fs_server.proofs.ServerMade.{call_makes, flush_makes}
 use Rattle.fs_server.proofs.steps.server_step.Goals as goal
@@ -21,3 +22,8 @@ returns-in-Flush-clause-made g c =
     (around g.H.Host.files c.args.host.now c.flush.new.host)
     (output g.H.Host.console g.O.UserOs.written (from_to c.args.host.now c.flush.new.host) (from_to c.args.os.now c.flush.new.os))
     c.find_server-state.result c.flush.result c.flush.ensures.made
+
+-- ---- the host's files
+
+pub returns-in-Call-clause-disk_only : goal.returns-in-Call-clause-disk_only
+returns-in-Call-clause-disk_only g c = asks_nothing c.make_call.ensures.rest.first c.make_call.ensures.rest.third

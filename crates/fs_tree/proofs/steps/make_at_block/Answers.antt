@@ -5,15 +5,17 @@ use Rattle.jos_base.specs.Words.{page_number}
 use Rattle.fs_layout.specs.declared.numbers.TheConstants.{BLKSIZE}
 use Rattle.lib_os.specs.declared.numbers.TheConstants.{CACHE_BLOCKS}
 use Rattle.lib_os.specs.declared.user_os.Stop.TheVariants as stop
-use Rattle.lib_os.specs.MadeCalls.{is_server_page}
+use Rattle.lib_os.specs.declared.user_os.Stop.{Stop}
+use Rattle.lib_os.specs.MadeCalls.{PrintsPartOfSome, is_server_page}
 use Rattle.lib_os.specs.UserCalls.{Output, output}
 use Rattle.lib_os.proofs.CallsMade.{in_block}
 use Rattle.fs_cache.specs.declared.steps.Cached.{Cached}
 use Rattle.fs_cache.specs.CacheSteps.{FetchTold, IsBlockStep, KeepsCacheWhereDone, caller, fetch_state}
+use Rattle.fs_cache.proofs.DiskTouched.{then_leaves}
 use Rattle.fs_cache.proofs.GoneMade.{gone_makes}
 use Rattle.fs_tree.specs.declared.steps.Done.TheVariants.{Going, NoPage}
 use Rattle.fs_tree.specs.TreeMakes.{IsAccess}
-use Rattle.fs_tree.proofs.AccessMade.{access_faulted, access_made}
+use Rattle.fs_tree.proofs.AccessMade.{access_failed, access_faulted, access_made}
 use Rattle.fs_tree.proofs.TiesLaw.{access_rest, access_slot, cache_going, cache_lacks, cache_leaves, lacking_lives, quiet_from, ready_leaves, ready_stopped, ready_word}
 use Rattle.fs_tree.proofs.steps.make_at_block.Goals as goal
 
@@ -248,3 +250,56 @@ returns-in-Ok-NoPage-clause-made g c =
     let printed = output g.H.Host.console g.O.UserOs.written (from_to c.args.host.now c.block_step.new.host) (from_to c.args.os.now c.block_step.new.os) in
     let made = subst (λ (x : Cached). IsBlockStep block called (Ok x) files ready printed) c.in-Ok-NoPage.field-0-is c.in-Ok-NoPage.ensures.made in
     gone_makes (fetch_state s n block) called files made.0 ready printed made.2
+
+-- ---- the host's files and its console
+
+pub returns-in-Ok-clause-disk_only : goal.returns-in-Ok-clause-disk_only
+returns-in-Ok-clause-disk_only g c =
+    then_leaves (g.O.UserOs.disk c.args.os.now) (around g.H.Host.files c.args.host.now c.block_step.new.host)
+    (around g.H.Host.asked c.args.host.now c.block_step.new.host) c.block_step.ensures.disk_only (g.H.Host.files c.access.new.host)
+    (g.H.Host.asked c.access.new.host) c.access.ensures.rest.first c.access.ensures.rest.third
+
+pub returns-in-Err-Failed-clause-disk_only : goal.returns-in-Err-Failed-clause-disk_only
+returns-in-Err-Failed-clause-disk_only g c =
+    then_leaves (g.O.UserOs.disk c.args.os.now) (around g.H.Host.files c.args.host.now c.block_step.new.host)
+    (around g.H.Host.asked c.args.host.now c.block_step.new.host) c.block_step.ensures.disk_only (g.H.Host.files c.access.new.host)
+    (g.H.Host.asked c.access.new.host) c.access.ensures.rest.first c.access.ensures.rest.third
+
+pub returns-in-Err-Upcall-clause-disk_only : goal.returns-in-Err-Upcall-clause-disk_only
+returns-in-Err-Upcall-clause-disk_only g c =
+    then_leaves (g.O.UserOs.disk c.args.os.now) (around g.H.Host.files c.args.host.now c.block_step.new.host)
+    (around g.H.Host.asked c.args.host.now c.block_step.new.host) c.block_step.ensures.disk_only (g.H.Host.files c.access.new.host)
+    (g.H.Host.asked c.access.new.host) c.access.ensures.rest.first c.access.ensures.rest.third
+
+pub returns-in-Ok-Going-clause-disk_only : goal.returns-in-Ok-Going-clause-disk_only
+returns-in-Ok-Going-clause-disk_only g c = c.block_step.ensures.disk_only
+
+pub returns-in-Ok-NoPage-clause-disk_only : goal.returns-in-Ok-NoPage-clause-disk_only
+returns-in-Ok-NoPage-clause-disk_only g c = c.block_step.ensures.disk_only
+
+pub returns-in-Err-clause-disk_only : goal.returns-in-Err-clause-disk_only
+returns-in-Err-clause-disk_only g c = c.block_step.ensures.disk_only
+
+pub returns-in-Err-Failed-clause-failed : goal.returns-in-Err-Failed-clause-failed
+returns-in-Err-Failed-clause-failed g c =
+    let called = caller (g.O.UserOs.state c.args.os.now) (g.O.UserOs.slot c.args.os.now) (g.O.UserOs.disk c.args.os.now) in
+    let block = c.args.at / BLKSIZE % CACHE_BLOCKS in
+    let files = around g.H.Host.files c.args.host.now c.block_step.new.host in
+    let ready = g.O.UserOs.state c.block_step.new.os in
+    let printed = output g.H.Host.console g.O.UserOs.written (from_to c.args.host.now c.block_step.new.host) (from_to c.args.os.now c.block_step.new.os) in
+    let va = c.in-Ok-Ready.va in
+    let made = subst (λ (x : Cached). IsBlockStep block called (Ok x) files ready printed) c.in-Ok-Ready.field-0-is c.in-Ok-Ready.ensures.made in
+    let mid = g.O.UserOs.state c.access.new.os in
+    let told = output g.H.Host.console g.O.UserOs.written (from_to c.block_step.new.host c.access.new.host) (from_to c.block_step.new.os c.access.new.os) in
+    let whole = output g.H.Host.console g.O.UserOs.written (from_to c.args.host.now c.access.new.host) (from_to c.args.os.now c.access.new.os) in
+    let same : told ≡ whole = λ i. record {
+      console = from_to (made.4 i) (g.H.Host.console c.access.new.host);
+      count = from_to (made.5 i) (g.O.UserOs.written c.access.new.os);
+    } in
+    let slot = g.O.UserOs.slot c.block_step.new.os in
+    subst (λ (o : Output). PrintsPartOfSome o) same
+    (access_failed c.args.ask (va + c.args.at % BLKSIZE) ready slot mid told
+    (subst (λ (why : Stop). IsAccess c.args.ask (va + c.args.at % BLKSIZE) ready slot (Err why) mid told) c.in-Err-Failed.field-0-is c.in-Err-Failed.ensures.step))
+
+pub returns-in-Err-clause-failed : goal.returns-in-Err-clause-failed
+returns-in-Err-clause-failed g c = c.in-Err.ensures.failed

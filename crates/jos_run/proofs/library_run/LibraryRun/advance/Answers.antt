@@ -14,6 +14,7 @@ use Rattle.jos_run.specs.LibraryRuns.{visible_steps, hidden_steps}
 use Rattle.jos_run.specs.Running.{state_of, entered, Counted}
 use Rattle.jos_run.specs.Served.{kernel_state}
 use Rattle.jos_run.specs.StepsAtOnce.{MakesSteps}
+use Rattle.jos_run.proofs.HostTouched.{none_whole, untouched}
 use Rattle.jos_run.proofs.Printed.{printed}
 use Rattle.jos_run.proofs.StepsMade.{Makes, Reaches, reaches, CountsSteps, seen_with, all_steps, moved, went_all, failed_last}
 use Rattle.jos_run.proofs.TurnsCounted.{steps_hold}
@@ -45,6 +46,23 @@ module _ (g : given.Over) (c : goal.After-make_steps-made g) where
       reaches c.requires.holds c.requires.chosen (omega (arith, within, c.min-most.ensures, c.steps_left-left_of_turn.ensures.exact))
       ((λ i. is_running (slot_at (sym c.enter_turn.ensures.state i) c.args.slot).status) ∙ c.enter_turn.ensures.running) b
 
+-- ---- the disk, of which there is none
+
+pub make_steps-made-requires-clause-whole : goal.make_steps-made-requires-clause-whole
+make_steps-made-requires-clause-whole g c =
+    none_whole (g.H.Host.files c.args.host.now) c.enter_turn.new.self.served.disk
+    ((λ i. (c.enter_turn.ensures.disk i).blocks) ∙ c.requires.holds.no_blocks)
+
+pub returns-in-Ok-clause-rest : goal.returns-in-Ok-clause-rest
+returns-in-Ok-clause-rest g c =
+    untouched c.enter_turn.new.self.served.disk ((λ i. (c.enter_turn.ensures.disk i).blocks) ∙ c.requires.holds.no_blocks)
+    c.make_steps-made.ensures.disk_only c.make_steps-made.ensures.input c.make_steps-made.ensures.notes
+
+pub returns-in-Err-clause-rest : goal.returns-in-Err-clause-rest
+returns-in-Err-clause-rest g c =
+    untouched c.enter_turn.new.self.served.disk ((λ i. (c.enter_turn.ensures.disk i).blocks) ∙ c.requires.holds.no_blocks)
+    c.make_steps-made.ensures.disk_only c.make_steps-made.ensures.input c.make_steps-made.ensures.notes
+
 -- ---- they are counted
 
 -- the run whose steps are counted
@@ -70,14 +88,13 @@ makes g c =
     record {
       before = before_last g (made_so g c) (Ok c.in-Ok.stepped) b;
       keeps = b.step.2;
+      rest = b.rest;
       leaves = b.leaves;
       trap = trap;
       raises = b.raises;
       slot = c.make_steps-made.ensures.slot ∙ before.slot;
       written = b.step.1.counted ∙ (λ i. min (before.written i + length b.step.0) (2 ^ 64 - 1));
-      takes = b.takes;
-      lowers = b.lowers;
-      gives_up = b.gives_up;
+      disk = c.make_steps-made.ensures.disk ∙ before.disk;
       book = c.keep_trap.ensures
           ∙ (λ i. record (c.note_refusal.ensures i) { trace = traced (c.note_refusal.ensures i).trace trap })
           ∙ (λ i. record (before.rest i).book {

@@ -13,7 +13,7 @@ use Rattle.jos_run.specs.declared.steps.StepOutcome.{StepOutcome}
 use Rattle.jos_run.specs.Guest.{Follows}
 use Rattle.jos_run.specs.GuestSteps.{after_event, is_copying, is_handed_over}
 use Rattle.jos_run.specs.Served.{Parts, kernel_state}
-use Rattle.jos_run.specs.Steps.{is_awake}
+use Rattle.jos_run.specs.Steps.{is_awake, is_servers}
 use Rattle.jos_run.specs.StepsAtOnce.{came_to, MakesSteps}
 use Rattle.jos_run.proofs.Printed.{printed}
 use Rattle.jos_run.proofs.GuestBursts.{HasBurst, has_burst}
@@ -77,6 +77,7 @@ returns-clause-made g c =
     c.set_registers.ensures c.follow_guest-followed.ensures.told in
     let awake = subst (λ (m : Parts). is_awake (slot_at (kernel_state m) m.slot).status ≡ true) (sym c.self.view_is) c.requires.awake in
     let guest = subst (λ (m : Parts). place_of (slot_at (kernel_state m) m.slot) ≡ place.Guest) (sym c.self.view_is) c.requires.at in
+    let user = subst (λ (m : Parts). is_servers (kernel_state m) m.slot ≡ false) (sym c.self.view_is) c.requires.user in
     let copying = c.is_copying-copying.result in
     let followed = c.follow_guest-followed.result in
     let copying_is : copying ≡ is_copying mid n burst.result.event =
@@ -86,7 +87,7 @@ returns-clause-made g c =
     c.follow_guest-followed.ensures.ended in
     let small : AreSmall (slot_at mid n).registers =
     subst (λ (k : KernelState). AreSmall (slot_at k n).registers) c.set_registers.ensures c.keep_small.ensures in
-    let made = program_made s mid (kernel_state after) output d.burst awake guest small c.keep_in_order.ensures copying c.is_live.result
+    let made = program_made s mid (kernel_state after) output d.burst user awake guest small c.keep_in_order.ensures copying c.is_live.result
     copying_is followed told ended in
     let count : burst.result.steps ≡ burst.ensures.going + 1 = burst.ensures.count in
     let going_is : burst.ensures.going ≡ burst.result.steps - 1 = omega (arith, count) in

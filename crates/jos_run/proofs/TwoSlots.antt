@@ -1,25 +1,33 @@
--- A kernel in which the server stands in slot 0 and a program at its first instruction in slot 1, and no other environment.
-use Rattle.std.proofs.Common.{◌≡◌, ◌≢◌, ◌∙◌, ◌⊎◌, inl, inr, ◌%◌, ◌==◌, ℕ, Bool, true, false, List, Option, None}
+-- A kernel in which the server stands in slot 0 and is about to make ready for a request, and a program at its first instruction in slot 1,
+-- and no other environment.
+use Rattle.std.proofs.Common.{◌≡◌, ◌≢◌, ◌∙◌, ◌⊎◌, inl, inr, ◌%◌, ◌≤◌, ◌==◌, ℕ, Bool, true, false, List, Option, None}
 use Rattle.std.proofs.Common.{refl, sym, ap, subst, arith, if◌then◌else◌}
 use Rattle.std.specs.Prelude.{is_some}
 use Rattle.std.proofs.lemmas.Bool.{false≢true}
 use Rattle.std.proofs.lemmas.Bool.Decides.{nat_tests}
 use Rattle.jos_base.specs.declared.environment.EnvType.TheVariants.{User, FileServer}
-use Rattle.jos_base.specs.declared.environment.Status.TheVariants.{Runnable, NotRunnable}
+use Rattle.jos_base.specs.declared.environment.Status.TheVariants.{Runnable}
 use Rattle.jos_base.specs.declared.numbers.TheConstants.{NENV}
 use Rattle.jos_base.specs.declared.registers.Regs.{Regs}
 use Rattle.jos_base.specs.Environments.{Slot, free_slot, no_extra, is_live, is_running}
 use Rattle.jos_base.specs.KernelState.{HasSpaces}
 use Rattle.jos_base.specs.Reach.{Entry}
 use Rattle.jos_base.specs.SpacesState.{SpacesState, Region, directories}
-use Rattle.lib_os.specs.AbstractState.{Born, AbstractSlot, free, born, serving, guest, at_guest, idle, TablePlace}
+use Rattle.lib_os.specs.AbstractState.{Born, AbstractSlot, free, born, serving, guest, at_guest, leaving, TablePlace}
 use Rattle.lib_os.specs.declared.numbers.TheConstants.{PGFAULT_UPCALL}
 use Rattle.lib_os.specs.declared.place.Place.{Place}
 use Rattle.lib_os.specs.LibraryPages.{View}
 use Rattle.lib_os.specs.Places.{place_of, is_handlers}
 use Rattle.lib_os.specs.Rows.{Names, rows_of}
 use Rattle.lib_os.specs.StandsFor.{StandsForSlot, StandsForServer, HasServer, StandsForBorn, StandsAt, IsTabled}
+use Rattle.jos_base.specs.SpacesState.{rising}
+use Rattle.lib_os.specs.AbstractLaws.{AreGivenApart, bears_in, borne_by, is_vacant}
+use Rattle.lib_os.proofs.ServedStay.{vacant_rising}
 use Rattle.lib_os.proofs.Serving.{words_of_none}
+use Rattle.std.proofs.lemmas.Option.{none-some}
+use Rattle.fs_requests.specs.ServerWords.{server_in, step_in}
+use Rattle.fs_blocks.specs.CachePlaces.{place_in, state_in}
+use Rattle.jos_run.specs.ServerStands.{IsBareCache, IsLeavingStep, step_of}
 
 -- every slot is one of three
 data WhichSlot (n : ℕ) : Type 0 where
@@ -39,9 +47,27 @@ which_slot n = by_tests (n == 0) (n == 1) refl refl
 abbrev pub slot_of : Born → ℕ → AbstractSlot
 slot_of b n = if n == 0 then serving 0x1000 else if n == 1 then born b else free 0
 
+-- the others are vacant, and no child is borne
+pub given_apart : (b : Born) → bears_in b.phase ≡ None → AreGivenApart (slot_of b) (rising 2 1022)
+given_apart b none = record {
+  vacant = vacant_rising (slot_of b) 1022 2 (λ n from. vacant_at n from (which_slot n));
+  children = λ n child is. absurd (none-some child (sym (bears_none n (which_slot n)) ∙ is));
+  parents = λ n m child is too. absurd (none-some child (sym (bears_none n (which_slot n)) ∙ is));
+}
+  where
+    vacant_at : (n : ℕ) → 2 ≤ n → WhichSlot n → is_vacant (slot_of b n) ≡ true
+    vacant_at n from (server is) = absurd (omega (arith, from, is))
+    vacant_at n from (program is) = absurd (omega (arith, from, is))
+    vacant_at n from (unused x y) = rw (x, y) refl
+
+    bears_none : (n : ℕ) → WhichSlot n → borne_by (slot_of b n) ≡ None
+    bears_none n (server is) = ap (λ (m : ℕ). borne_by (slot_of b m)) is
+    bears_none n (program is) = ap (λ (m : ℕ). borne_by (slot_of b m)) is ∙ none
+    bears_none n (unused x y) = rw (x, y) refl
+
 module _ (first second : ℕ) (registers : Regs) where
   abbrev pub the_server : Slot
-  the_server = record (free_slot 0x1000) { env_type = FileServer; status = NotRunnable; directory = first }
+  the_server = record (free_slot 0x1000) { env_type = FileServer; status = Runnable; directory = first }
 
   abbrev pub the_program : Slot
   the_program = record (free_slot 0x1001) { status = Runnable; registers = registers; directory = second; upcall = PGFAULT_UPCALL }
@@ -127,11 +153,21 @@ module _ (first second : ℕ) (registers : Regs) where
     stack = refl;
   }
 
+  -- it has yet to take the page of the last request away, of which there is none
+  pub server_leaves : IsLeavingStep (step_of the_server)
+  unfolding server_in step_in
+  server_leaves = tt
+
+  -- and its cache rests
+  pub cache_rests : IsBareCache (state_in the_server.extra).place
+  unfolding place_in
+  cache_rests = tt
+
   -- the server has neither pages nor tables
   pub server_has : (spaces : SpacesState) → ((p : ℕ) → rows_of spaces first p ≡ None) → ((r : ℕ) → spaces.regions first r ≡ None) →
-      (opened : ℕ → TablePlace) (blocks : ℕ) → HasServer spaces the_server opened blocks idle
+      (opened : ℕ → TablePlace) (blocks : ℕ) → HasServer spaces the_server opened blocks leaving
   server_has spaces empty tables opened blocks = record {
-    status = refl;
+    status = (tt, refl);
     pages = λ p is. absurd (false≢true (sym (ap (λ (o : Option Entry). is_some o) (empty p)) ∙ is));
     tables = λ r is. absurd (false≢true (sym (ap (λ (o : Option Region). is_some o) (tables r)) ∙ is));
   }

@@ -1,0 +1,157 @@
+-- The server over the kernel serves by the steps of a flush as the abstract one does.
+use Rattle.std.proofs.Common.{◌≡◌, ◌∙◌, ◌/◌, ◌%◌, ◌<◌, ℕ, Bool, true, false, List, Option, Some, refl, sym, ap, subst, arith, if◌then◌else◌}
+use Rattle.std.proofs.lemmas.Bool.Decides.{nat_tests}
+use Rattle.std.specs.Prelude.{nat_lt, slice_index}
+use Rattle.jos_host.specs.Files.{Files}
+use Rattle.jos_host.specs.Frames.{Around, from_to}
+use Rattle.jos_base.specs.KernelState.{KernelState}
+use Rattle.fs_layout.specs.declared.numbers.TheConstants.{BLKSIZE}
+use Rattle.lib_os.specs.declared.progress.Progress.{Progress}
+use Rattle.lib_os.specs.declared.progress.Progress.TheVariants as progress
+use Rattle.lib_os.specs.AbstractState.{AbstractState}
+use Rattle.lib_os.specs.BlockCache.{CachedBlocks, KeepsValues, block_value}
+use Rattle.lib_os.specs.Disk.{Disk, DiskFile, disk_in}
+use Rattle.lib_os.specs.InOrder.{IsInOrder}
+use Rattle.lib_os.specs.UserCalls.{Output}
+use Rattle.fs_cache.specs.declared.steps.Flushed.{Flushed}
+use Rattle.fs_cache.specs.CacheStands.{cached_in}
+use Rattle.fs_cache.specs.CacheSteps.{HasGone, cache_state, caller, flush_state}
+use Rattle.fs_cache.proofs.CacheBegins.{flush_goes, flush_stands}
+use Rattle.fs_cache.proofs.CacheLaw.{server_of}
+use Rattle.fs_cache.proofs.Interfaces.{view_in as cache_seen}
+use Rattle.fs_runs.specs.TreeRuns.{AreSmall}
+use Rattle.fs_tree.specs.TreeSteps.{TreeAt, disk_bytes, job_in, memory_in}
+use Rattle.fs_requests.specs.declared.plan.ServerNext.{ServerNext}
+use Rattle.fs_requests.specs.declared.state.ServerStep.{ServerStep}
+use Rattle.fs_requests.specs.declared.state.ServerStep.TheVariants as step
+use Rattle.fs_requests.specs.ServerPlans.{ask_for, next_at}
+use Rattle.fs_serving.specs.ServerRuns.{Follows, GoesOnBy, StandsServing, is_serving}
+use Rattle.fs_serving.specs.ServerViews.{Serving, gone_on}
+use Rattle.fs_serving.proofs.ServedWhole.{all_servers_serve}
+use Rattle.fs_server.specs.ServerSteps as server
+use Rattle.fs_server.specs.ServerSteps.{Flushes, HasFlushed, ends, goes, server_at}
+use Rattle.fs_seen.specs.BlockSteps.{FlushesServe, SeesAlike}
+use Rattle.fs_seen.specs.ServerMemory.{HasFileTable, serving_in, view_in}
+use Rattle.fs_seen.specs.ServerSees.{HasServed, is_working}
+use Rattle.fs_seen.proofs.CacheLeaves.{CacheLeaves, step_leaves}
+use Rattle.fs_seen.proofs.GoesOn.{goes_well}
+use Rattle.fs_seen.proofs.JobsServed.{follows_seen, number_below}
+use Rattle.fs_seen.proofs.SeenAlike.{seeing, sees_as}
+use Rattle.fs_seen.proofs.ServesAs.{follows_as, serves_as}
+use Rattle.fs_seen.proofs.Setting.{going_to, has_gone_on}
+use Rattle.fs_seen.proofs.TableLeft.{sees_left, table_there}
+
+-- what each block holds, the disk does
+values_same : (d e : Disk) (c k : CachedBlocks) → e.count ≡ d.count → KeepsValues d c e k → disk_bytes e k ≡ disk_bytes d c
+values_same d e c k count keeps =
+    (λ i q. if nat_lt (q / BLKSIZE) (count i) then slice_index (block_value e k (q / BLKSIZE)) (q % BLKSIZE) else 0)
+    ∙ (λ i q. by_test q (nat_lt (q / BLKSIZE) d.count) refl i)
+  where
+    by_test : (q : ℕ) (t : Bool) → nat_lt (q / BLKSIZE) d.count ≡ t →
+        (if t then slice_index (block_value e k (q / BLKSIZE)) (q % BLKSIZE) else 0)
+        ≡ (if t then slice_index (block_value d c (q / BLKSIZE)) (q % BLKSIZE) else 0)
+    by_test q false off = refl
+    by_test q true on =
+        let below : q / BLKSIZE < d.count = grind (arith, nat_tests) in
+        ap (λ (page : List ℕ). slice_index page (q % BLKSIZE)) (keeps (q / BLKSIZE) below)
+
+-- ---- what is so behind a step
+
+-- The cache stands over the disk that the host tells then, the table stands, and the same is seen.
+record FlushLeaves (disk : DiskFile) (d : Disk) (s after : KernelState) (n : ℕ) (files : Option Files) : Type 0 where
+  now : Files
+  told : files ≡ Some now
+  tree : TreeAt (disk_in now disk) after n
+  table : HasFileTable after n
+  sees : SeesAlike (view_in d s n) (view_in (disk_in now disk) after n)
+  server : server_at after n ≡ server_at s n
+
+module _ (disk : DiskFile) (before : Files) (s : KernelState) (n : ℕ) (h : TreeAt (disk_in before disk) s n) (k : HasFileTable s n)
+    (files : Around (Option Files)) (output : Output) (is : files.before ≡ Some before) where
+  abbrev d : Disk
+  d = disk_in before disk
+
+  flush_leaves : (done : Flushed) (after : KernelState) → Flushes done disk n s after files output → FlushLeaves disk d s after n files.after
+  flush_leaves done after it =
+      let kept = it.cache before is h.cache in
+      let e : Disk = disk_in kept.0 disk in
+      let left : CacheLeaves s after n =
+      step_leaves d (caller s n disk) (server_of d s n h.cache) (flush_state s n) before files.after it.made.0 after output h.request k h.cache.words
+      (flush_stands d (cache_seen s n) (cache_state s n).place (cache_state s n).hand h.cache.stands) (flush_goes (cache_state s n).place)
+      (subst (λ (f : Option Files). HasGone (flush_state s n) (caller s n disk) (from_to f files.after) it.made.0 after output) is it.made.2) in
+      let same = values_same d e (cached_in s n) (cached_in after n) refl kept.3 in
+      record {
+        now = kept.0;
+        told = kept.1;
+        tree = record { cache = kept.2; request = left.request; count = h.count };
+        table = table_there s after n left.table k;
+        sees = sees_left s after n left.table d e (memory_in d s n) (λ i. record { disk = same i; page = left.bytes i }) left.rendezvous;
+        server = left.server;
+      }
+
+  -- ---- the server serves so
+
+  module _ (count : ℕ) (a : AbstractState) (flushing : (server_at s n).step ≡ step.Flushing) (small : AreSmall (memory_in d s n))
+      (stands : StandsServing count a (serving_in d s n)) where
+    abbrev it : Serving
+    it = serving_in d s n
+
+    goes_on_so : let next = next_at (server_at s n) 0 in Follows count a next.seen (gone_on it next it.view)
+    goes_on_so =
+        subst (λ (at : ServerStep). GoesOnBy (ask_for (server_at s n) at) count a it) flushing
+        (all_servers_serve count a it (subst (λ (at : ServerStep). is_serving at ≡ true) (sym flushing) refl) small stands)
+
+    idle : is_working (server_at s n).step ≡ false
+    idle = ap is_working flushing
+
+    abbrev Served : KernelState → Progress → Type 0
+    Served after done = (now : Files) × (files.after ≡ Some now) × HasServed count a (disk_in now disk) after n done
+
+    goes_further : (after : KernelState) → FlushLeaves disk d s after n files.after → Served after progress.Hidden
+    goes_further after left =
+        let e : Disk = disk_in left.now disk in (
+          left.now,
+          left.told,
+          record {
+            follows = serves_as count a (seeing it (view_in e after n)) (serving_in e after n)
+                (record {
+                  at_step = λ i. (sym left.server i).step;
+                  kind = λ i. (sym left.server i).kind;
+                  client = λ i. (sym left.server i).client;
+                  number = λ i. (sym left.server i).number;
+                  words = λ off. sym left.server;
+                  job = λ on. absurd (let contradiction : true ≡ false = sym on ∙ idle in cc);
+                  view = refl;
+                })
+                (sees_as count a it (view_in e after n) left.sees stands);
+            tree = left.tree;
+            table = left.table;
+          },
+        )
+
+    ends_so : (mid after : KernelState) → IsInOrder after → FlushLeaves disk d s mid n files.after →
+        after ≡ server.gone_on mid n (next_at (server_at s n) 0) → Served after (next_at (server_at s n) 0).seen
+    ends_so mid after order left gone_is =
+        let e : Disk = disk_in left.now disk in
+        let next : ServerNext = next_at (server_at s n) 0 in
+        let gone =
+        has_gone_on mid n next e (goes_well (server_at s n) (server_at s n).step 0 (number_below s n)) left.tree left.table (job_in s n) after gone_is
+        order in (
+          left.now,
+          left.told,
+          record {
+            follows = follows_as count a next.seen (going_to next (job_in s n) (view_in e mid n)) (serving_in e after n) gone.stands_as
+                (follows_seen count a next.seen (going_to next (job_in s n) (view_in d s n)) (view_in e mid n) left.sees goes_on_so);
+            tree = gone.tree;
+            table = gone.table;
+          },
+        )
+
+    has_flushed : (after : KernelState) (done : Progress) → IsInOrder after → HasFlushed (server_at s n) disk s after n files output done →
+        Served after done
+    has_flushed after _ order (goes flushes) = goes_further after (flush_leaves _ after flushes)
+    has_flushed after _ order (ends mid flushes gone_is) = ends_so mid after order (flush_leaves _ mid flushes) gone_is
+
+pub flushes_serve : FlushesServe
+flushes_serve count a disk before s after files output done flushing small all stands order is flushed =
+    has_flushed disk before s 0 all.tree all.table files output is count a flushing small stands after done order flushed

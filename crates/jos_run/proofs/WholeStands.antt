@@ -1,0 +1,378 @@
+-- Whose step it is, and where the file server stands while others make their steps, and where turns begin and end.
+use Rattle.std.proofs.Common.{◌≡◌, ◌≢◌, ◌∙◌, ℕ, ◌+◌, ◌%◌, ◌^◌, ◌==◌, ◌<◌, Bool, true, false, List, [], Option, Some, None, length, if◌then◌else◌, refl, sym, ap, subst, arith}
+use Rattle.std.specs.Prelude.{IfSome}
+use Rattle.std.proofs.lemmas.Bool.Decides.{nat_tests}
+use Rattle.std.proofs.lemmas.Bool.{false≢true}
+use Rattle.std.proofs.lemmas.Option.{none-some, same_Some}
+use Rattle.jos_base.specs.declared.environment.EnvType.{EnvType}
+use Rattle.jos_base.specs.declared.environment.Status.{Status}
+use Rattle.jos_base.specs.declared.environment.Status.TheVariants.{NotRunnable, Runnable, Running}
+use Rattle.jos_base.specs.declared.numbers.TheConstants.{FIRST_ENV_ID, NENV}
+use Rattle.jos_base.specs.declared.registers.Regs.{Regs}
+use Rattle.jos_base.specs.Environments.{Slot, is_live, is_running}
+use Rattle.jos_base.specs.KernelState.{KernelState, slot_at, turn_begun, turn_ended, with_slot_at, with_status}
+use Rattle.jos_base.specs.Messages.{Rendezvous}
+use Rattle.fs_layout.specs.FileTree.{open_path, sync_files}
+use Rattle.fs_blocks.specs.CachePlaces.{state_in}
+use Rattle.fs_requests.specs.declared.state.ServerState.{ServerState}
+use Rattle.fs_requests.specs.declared.state.ServerStep.{ServerStep}
+use Rattle.fs_requests.specs.declared.state.ServerStep.TheVariants as server_at
+use Rattle.fs_requests.specs.ServerWords.{server_in}
+use Rattle.lib_os.specs.declared.place.Place.{Place}
+use Rattle.lib_os.specs.declared.place.Place.TheVariants as place
+use Rattle.lib_os.specs.declared.place.Step.TheVariants as step_at
+use Rattle.lib_os.specs.Places.{place_of}
+use Rattle.lib_os.specs.declared.progress.Progress.{Progress}
+use Rattle.lib_os.specs.declared.progress.Progress.TheVariants as progress
+use Rattle.lib_os.specs.declared.service.Service.TheVariants as service
+use Rattle.lib_os.specs.AbstractLaws.{AsksOrLeaves, LeavesFiles, ServesWhoAsked, asks, client_served, has_asked, leaves}
+use Rattle.lib_os.specs.AbstractRun.{abs_step, program_step, slot_step}
+use Rattle.lib_os.specs.AbstractState.{AbstractSlot, AbstractState, Born, Request, Server, act, acted, asked, awaiting, born, busy, entered, guest, idle, in_service, leaving, looking, Phase, seek, slot_id}
+use Rattle.lib_os.specs.Answers.{at_stage}
+use Rattle.lib_os.specs.FileServer.{await_reply, request_begun, request_taken}
+use Rattle.lib_os.specs.LibraryCall.{library_step}
+use Rattle.lib_os.specs.LibrarySteps.{AbstractFollows, AsksServer, GoesOn, KeepsPlaces, KeepsServer, KeepsStanding, LeavesOrAsks, LeavesServer, Stands, Stays}
+use Rattle.lib_os.specs.LibrarySteps.{asked_it, left_alone}
+use Rattle.lib_os.specs.Rows.{Names}
+use Rattle.lib_os.specs.StandsFor.{AwaitsRequest, IsIn, IsServerStatus, IsStatusFor, StandsAt, StandsFor, StandsForBorn, StandsForServer, StandsForSlot, view_of}
+use Rattle.lib_os.specs.UserCalls.{is_file_server}
+use Rattle.lib_os.proofs.AskedPlaces.{IsRequesting, asks as asks_it, expects, is_request, requesting}
+use Rattle.lib_os.proofs.FilesLeft.{clients_leave_files}
+use Rattle.lib_os.proofs.ServedStay.{HasClient, client_is, served_clients_stay}
+use Rattle.lib_os.proofs.SlotsStand.{born_at, born_live}
+use Rattle.jos_run.specs.AbstractTurns.{turn_begun as begun_at}
+use Rattle.jos_run.specs.ServerStands.{IsBareCache, IsClient, IsLeavingStep, IsReplyingStep, IsServerAt, IsSyncing, KeepsWhole, ServerStands, StandsWhole}
+use Rattle.jos_run.specs.ServerStands.{WholeFollows, WholeGoesOn, WholeStays, acting, flushing, kind_of, reading_client, reading_kind, serving_at, step_of}
+use Rattle.jos_run.specs.Steps.{is_servers}
+use Rattle.jos_base.proofs.Maps.{upd-all, upd-at}
+
+-- ---- whose step it is
+
+-- the file server stands in slot 0,
+pub servers_first : {names : Names} {s : KernelState} {a : AbstractState} → StandsFor names s a → (n : ℕ) → is_servers s n ≡ true → n ≡ 0
+servers_first {s = s} h n is = by_test (n == 0) refl
+  where
+    by_test : (c : Bool) → (n == 0) ≡ c → n ≡ 0
+    by_test true test = grind (arith, nat_tests)
+    by_test false test =
+        let other : n ≢ 0 = grind (arith, nat_tests) in
+        absurd (let contradiction : true ≡ false = sym is ∙ ap (λ (t : EnvType). is_file_server t) (h.tabled.servers n other) in cc)
+
+pub first_serves : {names : Names} {s : KernelState} {a : AbstractState} → StandsFor names s a → StandsForServer (slot_at s 0) FIRST_ENV_ID
+first_serves {names = names} {s = s} h = subst (λ (slot : AbstractSlot). StandsForSlot names s.spaces (slot_at s 0) slot) h.first (h.slots 0)
+
+-- and no other
+pub others_slot : {names : Names} {s : KernelState} {a : AbstractState} → StandsFor names s a → (n : ℕ) → is_servers s n ≡ false → n ≢ 0
+others_slot {s = s} h n is zero =
+    absurd (let contradiction : true ≡ false = sym (ap (λ (t : EnvType). is_file_server t) (first_serves h).env_type) ∙ ap (λ (m : ℕ). is_servers s m) (sym zero) ∙ is in cc)
+
+-- ---- the file server's slot
+
+-- what tells its step, and the message that came to it
+pub record SameServing (k after : Slot) : Type 0 where
+  pub registers : after.registers ≡ k.registers
+  pub words : after.extra ≡ k.extra
+  pub message : after.rendezvous ≡ k.rendezvous
+  pub space : after.directory ≡ k.directory
+
+pub same_serving : {k after : Slot} → after ≡ k → SameServing k after
+same_serving same = record {
+  registers = ap (λ (x : Slot). x.registers) same;
+  words = ap (λ (x : Slot). x.extra) same;
+  message = ap (λ (x : Slot). x.rendezvous) same;
+  space = ap (λ (x : Slot). x.directory) same;
+}
+
+-- the client that it serves has the id that it had
+abbrev pub SameClient : Server → AbstractState → AbstractState → Type 0
+SameClient server a b = (client : ℕ) → client_served server ≡ Some client → slot_id (b.slots client) ≡ slot_id (a.slots client)
+
+client_kept : {a b : AbstractState} {client id other : ℕ} → other ≡ id → slot_id (b.slots client) ≡ slot_id (a.slots client) → IsClient a client id →
+    IsClient b client other
+client_kept same ids h = record { slot = h.slot ∙ ap (λ (x : ℕ). x % NENV) (sym same); same = ids ∙ h.same ∙ sym same }
+
+at_kept : (server : Server) (a b : AbstractState) (k after : Slot) → SameServing k after → SameClient server a b → IsServerAt a server k →
+    IsServerAt b server after
+at_kept server a b k after same ids at = by_server server ids at
+  where
+    serving : serving_at after ≡ serving_at k
+    serving = λ i. server_in (same.registers i) (same.words i)
+
+    step_is : step_of after ≡ step_of k
+    step_is = ap (λ (x : ServerState). x.step) serving
+
+    kind_is : kind_of after ≡ kind_of k
+    kind_is = ap (λ (x : ServerState). x.kind) serving
+
+    who_is : (serving_at after).client ≡ (serving_at k).client
+    who_is = ap (λ (x : ServerState). x.client) serving
+
+    sender_is : after.rendezvous.sender ≡ k.rendezvous.sender
+    sender_is = ap (λ (r : Rendezvous). r.sender) same.message
+
+    syncing : (client : ℕ) → slot_id (b.slots client) ≡ slot_id (a.slots client) → IsSyncing a client k → IsSyncing b client after
+    syncing client ids (reading_kind at value who) =
+        reading_kind (step_is ∙ at) (ap (λ (r : Rendezvous). r.value) same.message ∙ value) (client_kept sender_is ids who)
+    syncing client ids (reading_client at kind who) = reading_client (step_is ∙ at) (kind_is ∙ kind) (client_kept sender_is ids who)
+    syncing client ids (flushing at kind who) = flushing (step_is ∙ at) (kind_is ∙ kind) (client_kept who_is ids who)
+    syncing client ids (acting at kind who count) =
+        acting (step_is ∙ at) (kind_is ∙ kind) (client_kept who_is ids who) (ap (λ (x : ServerState). x.count) serving ∙ count)
+
+    by_server : (x : Server) → SameClient x a b → IsServerAt a x k → IsServerAt b x after
+    by_server leaving ids is = subst (λ (x : ServerStep). IsLeavingStep x) (sym step_is) is
+    by_server idle ids is = step_is ∙ is
+    by_server (busy client (act sync_files None) None) ids is = syncing client (ids client refl) is
+    by_server (acted client answer [] None) ids is = record {
+      at_step = subst (λ (x : ServerStep). IsReplyingStep x) (sym step_is) is.at_step;
+      kind_is = kind_is ∙ is.kind_is;
+      is_client = client_kept who_is (ids client refl) is.is_client;
+      count_is = (ap (λ (x : ServerState). x.count) serving ∙ is.count_is.0, is.count_is.1);
+    }
+    by_server _ ids is = absurd is
+
+-- It stands where it stood, in its space, and does what it did.
+pub server_kept : {s t : KernelState} {a b : AbstractState} → SameServing (slot_at s 0) (slot_at t 0) →
+    ((r : ℕ) → t.spaces.regions (slot_at s 0).directory r ≡ s.spaces.regions (slot_at s 0).directory r) → b.server ≡ a.server → SameClient a.server a b →
+    ServesWhoAsked b → ServerStands s a → ServerStands t b
+server_kept {s = s} {t = t} {a = a} {b = b} same regions server ids serves h = record {
+  at = subst (λ (x : Server). IsServerAt b x (slot_at t 0)) (sym server) (at_kept a.server a b (slot_at s 0) (slot_at t 0) same ids h.at);
+  twelve = ap (λ (words : List ℕ). length words) same.words ∙ h.twelve;
+  bare = λ r. ap (λ (d : ℕ). t.spaces.regions d r) same.space ∙ regions r ∙ h.bare r;
+  cache = subst (λ (words : List ℕ). IsBareCache (state_in words).place) (sym same.words) h.cache;
+  asked = serves;
+}
+
+-- whatever a slot's status and however often it has run
+set_serving : (s : KernelState) (n : ℕ) (status : Status) (runs : ℕ) →
+    SameServing (slot_at s 0) (slot_at (with_slot_at s n (record (slot_at s n) { status = status; runs = runs })) 0)
+set_serving s n status runs =
+    upd-all (λ m (x : Slot). SameServing (slot_at s m) x) s.environments.slots n (record (slot_at s n) { status = status; runs = runs })
+    (record { registers = refl; words = refl; message = refl; space = refl }) (λ m ne. same_serving refl) 0
+
+-- where a turn begins,
+pub begun_server : (s : KernelState) (n : ℕ) (a : AbstractState) → ServerStands s a → ServerStands (turn_begun s n) (begun_at a n)
+begun_server s n a h =
+    server_kept (set_serving s n Running (((slot_at s n).runs + 1) % 2 ^ 32)) (λ r. refl) refl (λ client is. refl) (record { asked = h.asked.asked; given = h.asked.given }) h
+
+-- and where one ends
+pub ended_server : (s : KernelState) (n : ℕ) (a : AbstractState) → ServerStands s a → ServerStands (turn_ended s n) a
+ended_server s n a h = by_test (is_running (slot_at s n).status)
+  where
+    by_test : (c : Bool) → ServerStands (if c then with_status s n Runnable else s) a
+    by_test true = server_kept (set_serving s n Runnable (slot_at s n).runs) (λ r. refl) refl (λ client is. refl) h.asked h
+    by_test false = h
+
+-- ---- the steps of others
+
+-- the server is asked for sync
+sync_asked : (a c : AbstractState) (n : ℕ) (b : Born) (regs : Regs) → a.server ≡ idle → a.slots n ≡ born b → b.blocked ≡ false → b.program ≡ guest regs →
+    b.phase ≡ in_service service.Sync entered → abs_step a n ≡ Some c →
+    (c.server ≡ busy n (act sync_files None) None) × (slot_id (c.slots n) ≡ b.id)
+unfolding abs_step library_step
+sync_asked a c n b regs server at awake program phase step =
+    let asks : Option AbstractState = request_taken a n b service.Sync (act sync_files None) idle in
+    let is : abs_step a n ≡ asks =
+    ap (λ (slot : AbstractSlot). slot_step a n slot) at
+    ∙ (λ i. if awake i then None else program_step a n b (program i) (phase i))
+    ∙ ap (λ (x : Server). request_taken a n b service.Sync (act sync_files None) x) server in
+    let same : c ≡ at_stage (record a { server = request_begun n (act sync_files None) }) n b service.Sync asked =
+    sym (same_Some (at_stage (record a { server = request_begun n (act sync_files None) }) n b service.Sync asked) c (sym is ∙ step)) in (
+      ap (λ (x : AbstractState). x.server) same,
+      ap (λ (x : AbstractState). slot_id (x.slots n)) same
+          ∙ ap (λ (slot : AbstractSlot). slot_id slot) (upd-at a.slots n (born (record b { phase = in_service service.Sync asked }))),
+    )
+
+-- one that has asked goes on to wait for the reply, and then has no step
+awaits_own : (a c : AbstractState) (n : ℕ) (b : Born) (regs : Regs) → a.slots n ≡ born b → b.blocked ≡ false → b.program ≡ guest regs →
+    b.phase ≡ in_service service.Sync asked → abs_step a n ≡ Some c → slot_id (c.slots n) ≡ b.id
+unfolding abs_step library_step
+awaits_own a c n b regs at awake program phase step =
+    let is : abs_step a n ≡ Some (await_reply a n b service.Sync) =
+    ap (λ (slot : AbstractSlot). slot_step a n slot) at ∙ (λ i. if awake i then None else program_step a n b (program i) (phase i)) in
+    ap (λ (x : AbstractState). slot_id (x.slots n)) (sym (same_Some (await_reply a n b service.Sync) c (sym is ∙ step)))
+    ∙ ap (λ (slot : AbstractSlot). slot_id slot) (upd-at a.slots n (born (record b { phase = in_service service.Sync awaiting; blocked = true })))
+
+no_step : (a : AbstractState) (n : ℕ) (b : Born) → a.slots n ≡ born b → b.blocked ≡ true → abs_step a n ≡ None
+unfolding abs_step
+no_step a n b at blocked =
+    ap (λ (slot : AbstractSlot). slot_step a n slot) at ∙ ap (λ (t : Bool). if t then None else program_step a n b b.program b.phase) blocked
+
+-- its id stands in its place
+abbrev request_id : Place → ℕ
+request_id (place.InService service.Sync (step_at.Awaiting id)) = id
+request_id (place.InService service.Sync (step_at.ReadingReply id)) = id
+request_id _ = 0
+
+requests : (p : Phase) → has_asked p ≡ true → is_request p ≡ true
+requests (in_service s asked) is = refl
+requests (in_service s awaiting) is = refl
+requests _ is = absurd (false≢true is)
+
+id_told : {p : Place} {k : Slot} {b : Born} → IsRequesting p k b → request_id p ≡ k.id
+id_told (asks_it id at self so) = ap request_id at ∙ self
+id_told (expects id at self so) = ap request_id at ∙ self
+
+-- A step of another leaves the file server where it stands, or asks it while it waits.
+module _ (n : ℕ) (s after : KernelState) (other : n ≢ 0) (live : is_live (slot_at s n) ≡ true) (server : KeepsServer n s after)
+    (places : KeepsPlaces n s after) (a : AbstractState) (h : StandsWhole s a) (b : Born) (at : a.slots n ≡ born b) where
+  way : (c : AbstractState) → Stands after c → LeavesOrAsks n s after
+  way c stands = server stands.1.in_order other live a h.0
+
+  below : n < NENV
+  below = let id : (slot_at s n).id % NENV ≡ n = h.0.1.tabled.ids n live in omega (arith, id)
+
+  -- who waits for a request is idle
+  waits_idle : AwaitsRequest (slot_at s 0) → a.server ≡ idle
+  waits_idle waited = by_server a.server h.0.1.server.status
+    where
+      none : {X : Type 0} → IsStatusFor (slot_at s 0).status false → X
+      none is = absurd (subst (λ (x : Status). IsStatusFor x false) waited.status is)
+
+      by_server : (x : Server) → IsServerStatus x (slot_at s 0) → x ≡ idle
+      by_server idle is = refl
+      by_server leaving is = none is.0
+      by_server (looking client request number) is = none is.0
+      by_server (busy client request place) is = none is.0
+      by_server (acted client answer bytes object) is = none is.0
+
+  -- and one that is asked does not wait
+  asked_wakes : AsksServer n s after → (slot_at after 0).status ≡ NotRunnable → ⊥
+  asked_wakes it is =
+      let contradiction : Runnable ≡ NotRunnable = sym (ap (λ (x : Slot). x.status) it.slot) ∙ is in cc
+
+  pub whole_stays : (written : List ℕ) → Stays after a written → WholeStays after a written
+  whole_stays written stays = (stays.0, (stays.1, by_way (way a stays.1)))
+    where
+      by_way : LeavesOrAsks n s after → ServerStands after a
+      by_way (left_alone it) = server_kept (same_serving it.slot) it.regions refl (λ client is. refl) h.1.asked h.1
+      by_way (asked_it it) =
+          let status = subst (λ (x : Server). IsServerStatus x (slot_at after 0)) (waits_idle it.waited) stays.1.1.server.status in
+          absurd (asked_wakes it status.status)
+
+  nobody_asks : (k : Slot) (request : Request) (x : Server) → x ≡ request_begun n request → IsServerStatus x k → k.status ≡ NotRunnable → {X : Type 0} → X
+  nobody_asks k request x is status waits = by_request request (subst (λ (y : Server). IsServerStatus y k) is status)
+    where
+      none : {X : Type 0} → IsStatusFor k.status false → X
+      none runs = absurd (subst (λ (y : Status). IsStatusFor y false) waits runs)
+
+      by_request : {X : Type 0} → (r : Request) → IsServerStatus (request_begun n r) k → X
+      by_request (act (open_path path mode) object) so = none so.0
+      by_request (act _ object) so = none so.0
+      by_request (seek name offset) so = none so.0
+
+  -- the server as it is in the abstract system behind a step that leaves it alone
+  same_abstract : LeavesServer s after → (c : AbstractState) → abs_step a n ≡ Some c → Stands after c → c.server ≡ a.server
+  same_abstract it c step stands =
+      let left : LeavesFiles a c × AsksOrLeaves a c n = subst (λ (o : Option AbstractState). IfSome o (λ (x : AbstractState). LeavesFiles a x × AsksOrLeaves a x n)) step
+      (clients_leave_files a n b below at) in
+      by_way left.1
+    where
+      by_way : AsksOrLeaves a c n → c.server ≡ a.server
+      by_way (leaves same) = same
+      by_way (asks request was now) =
+          let waited = subst (λ (x : Server). IsServerStatus x (slot_at s 0)) was h.0.1.server.status in
+          nobody_asks (slot_at after 0) request c.server now stands.1.server.status (ap (λ (x : Slot). x.status) it.slot ∙ waited.status)
+
+  -- the client that it serves has the id that it had
+  ids_kept : (c : AbstractState) → abs_step a n ≡ Some c → Stands after c → c.server ≡ a.server → SameClient a.server a c
+  ids_kept c step stands same_server client is = by_slot (client == n) refl
+    where
+      it : HasClient a client
+      it = client_is a h.1.asked client is
+
+      then_it : HasClient c client
+      then_it = client_is c (served_clients_stay a c n below h.1.asked step) client (ap (λ (x : Server). client_served x) same_server ∙ is)
+
+      own : StandsForBorn h.0.0 s.spaces (slot_at s client) it.b
+      own = born_at h.0.1 client it.b it.is
+
+      then_own : StandsForBorn stands.0 after.spaces (slot_at after client) then_it.b
+      then_own = born_at stands.1 client then_it.b then_it.is
+
+      stood : IsRequesting (place_of (slot_at s client)) (slot_at s client) it.b
+      stood =
+          requesting (place_of (slot_at s client)) (view_of s.spaces (slot_at s client).directory) (slot_at s client) it.b own.at
+          (requests it.b.phase it.has_asked)
+
+      stands_so : IsRequesting (place_of (slot_at after client)) (slot_at after client) then_it.b
+      stands_so =
+          requesting (place_of (slot_at after client)) (view_of after.spaces (slot_at after client).directory) (slot_at after client) then_it.b then_own.at
+          (requests then_it.b.phase then_it.has_asked)
+
+      by_id : then_it.b.id ≡ it.b.id → slot_id (c.slots client) ≡ slot_id (a.slots client)
+      by_id same = ap (λ (slot : AbstractSlot). slot_id slot) then_it.is ∙ same ∙ sym (ap (λ (slot : AbstractSlot). slot_id slot) it.is)
+
+      itself : IsRequesting (place_of (slot_at s client)) (slot_at s client) it.b → client ≡ n → slot_id (c.slots client) ≡ slot_id (a.slots client)
+      itself (asks_it id place_is self so) same =
+          ap (λ (m : ℕ). slot_id (c.slots m)) same
+          ∙ awaits_own a c n it.b (slot_at s client).registers (ap (λ (m : ℕ). a.slots m) (sym same) ∙ it.is) so.awake so.program so.phase step
+          ∙ sym (ap (λ (slot : AbstractSlot). slot_id slot) it.is)
+      itself (expects id place_is self so) same =
+          absurd (none-some c (sym (no_step a n it.b (ap (λ (m : ℕ). a.slots m) (sym same) ∙ it.is) so.blocked) ∙ step))
+
+      by_slot : (t : Bool) → (client == n) ≡ t → slot_id (c.slots client) ≡ slot_id (a.slots client)
+      by_slot true test = itself stood (grind (arith, nat_tests))
+      by_slot false test =
+          let ne : client ≢ n = grind (arith, nat_tests) in
+          let same_place = places h.0.1.in_order stands.1.in_order live client ne (born_live own) (born_live then_own) in
+          by_id (sym then_own.id ∙ sym (id_told stands_so) ∙ ap request_id same_place ∙ id_told stood ∙ own.id)
+
+  asked_whole : (it : AsksServer n s after) (c : AbstractState) → abs_step a n ≡ Some c → Stands after c → ServerStands after c
+  unfolding server_in
+  asked_whole it c step stands = record {
+    at = subst (λ (x : Server). IsServerAt c x (slot_at after 0)) (sym is.0) (reading_kind step_is (ap (λ (x : Slot). x.rendezvous.value) it.slot) client);
+    twelve = ap (λ (x : Slot). length x.extra) it.slot ∙ h.1.twelve;
+    bare = λ r. (λ i. (it.spaces i).regions (it.slot i).directory r) ∙ h.1.bare r;
+    cache = subst (λ (words : List ℕ). IsBareCache (state_in words).place) (sym (ap (λ (x : Slot). x.extra) it.slot)) h.1.cache;
+    asked = served_clients_stay a c n below h.1.asked step;
+  }
+    where
+      own : StandsForBorn h.0.0 s.spaces (slot_at s n) b
+      own = born_at h.0.1 n b at
+
+      asking : IsIn (slot_at s n) b service.Sync entered
+      asking = (subst (λ (p : Place). StandsAt p (view_of s.spaces (slot_at s n).directory) (slot_at s n) b) it.at own.at).1
+
+      is : (c.server ≡ busy n (act sync_files None) None) × (slot_id (c.slots n) ≡ b.id)
+      is = sync_asked a c n b (slot_at s n).registers (waits_idle it.waited) at asking.awake asking.program asking.phase step
+
+      step_is : step_of (slot_at after 0) ≡ server_at.ReadingKind
+      step_is = ap (λ (x : Slot). step_of x) it.slot ∙ subst (λ (x : Server). IsServerAt a x (slot_at s 0)) (waits_idle it.waited) h.1.at
+
+      client : IsClient c n (slot_at after 0).rendezvous.sender
+      client = record {
+        slot = sym (h.0.1.tabled.ids n live) ∙ ap (λ (x : Slot). x.rendezvous.sender % NENV) (sym it.slot);
+        same = is.1 ∙ sym own.id ∙ ap (λ (x : Slot). x.rendezvous.sender) (sym it.slot);
+      }
+
+  pub whole_goes_on : (written : List ℕ) → GoesOn n after a written → WholeGoesOn n after a written
+  whole_goes_on written goes = (goes.0, goes.1, goes.2, (goes.3, by_way (way goes.0 goes.3)))
+    where
+      by_way : LeavesOrAsks n s after → ServerStands after goes.0
+      by_way (left_alone it) =
+          let same = same_abstract it goes.0 goes.1 goes.3 in
+          server_kept (same_serving it.slot) it.regions same (ids_kept goes.0 goes.1 goes.3 same)
+          (served_clients_stay a goes.0 n below h.1.asked goes.1) h.1
+      by_way (asked_it it) = asked_whole it goes.0 goes.1 goes.3
+
+-- So it keeps the whole.
+pub whole_kept : (n : ℕ) (s after : KernelState) (done : Progress) (written : List ℕ) → is_servers s n ≡ false →
+    ((names : Names) (a : AbstractState) → StandsFor names s a → n ≢ 0 → (b : Born) × (a.slots n ≡ born b)) → KeepsServer n s after → KeepsPlaces n s after →
+    KeepsStanding done n s after written → KeepsWhole done n s after written
+whole_kept n s after done written user who server places keeps a h none_refused = by_done done (keeps a h.0 none_refused)
+  where
+    other : n ≢ 0
+    other = others_slot h.0.1 n user
+
+    b : (x : Born) × (a.slots n ≡ born x)
+    b = who h.0.0 a h.0.1 other
+
+    live : is_live (slot_at s n) ≡ true
+    live = born_live (born_at h.0.1 n b.0 b.1)
+
+    by_done : (d : Progress) → AbstractFollows d n after a written → WholeFollows d n after a written
+    by_done progress.Hidden stays = whole_stays n s after other live server places a h b.0 b.1 written stays
+    by_done progress.Waited stays = (whole_stays n s after other live server places a h b.0 b.1 written stays.0, stays.1)
+    by_done progress.Visible goes = whole_goes_on n s after other live server places a h b.0 b.1 written goes
+    by_done progress.Finished goes = whole_goes_on n s after other live server places a h b.0 b.1 written goes
+    by_done progress.Ended goes = whole_goes_on n s after other live server places a h b.0 b.1 written goes

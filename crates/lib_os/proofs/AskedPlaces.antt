@@ -1,0 +1,228 @@
+-- One that has asked the file server stands where it will wait for the reply, and one that waits stands where it will read it: no other place
+-- has such a phase.
+use Rattle.std.proofs.Common.{◌≡◌, ◌∙◌, ◌⊎◌, inl, inr, ℕ, Bool, true, false, List, [], ◌∷◌, Option, Some, None, refl, sym, ap}
+use Rattle.jos_base.specs.declared.memory.PageFault.{PageFault}
+use Rattle.jos_base.specs.declared.registers.Regs.{Regs}
+use Rattle.jos_base.specs.Environments.{Slot}
+use Rattle.lib_os.specs.declared.place.HandlerStep.{HandlerStep}
+use Rattle.lib_os.specs.declared.place.Place.{Place}
+use Rattle.lib_os.specs.declared.place.Place.TheVariants as place
+use Rattle.lib_os.specs.declared.place.Step.{Step}
+use Rattle.lib_os.specs.declared.place.Step.TheVariants as step
+use Rattle.lib_os.specs.declared.service.Service.{Service}
+use Rattle.lib_os.specs.declared.service.Service.TheVariants as service
+use Rattle.lib_os.specs.AbstractState.{Born, Phase, Stage, asked, awaiting, entered, in_service}
+use Rattle.lib_os.specs.LibraryPages.{View}
+use Rattle.lib_os.specs.Rows.{EntryRow}
+use Rattle.lib_os.specs.StandsFor.{AwaitsOrHas, HasAsked, HasReceived, IsAwaiting, IsBearing, IsIn, IsTaking, StandsAt, StandsAtDevice}
+use Rattle.lib_os.specs.StandsFor.{StandsAtStep, StandsBefore, WaitsOrHas, awaits, descriptor_given, has, has_reply, waits}
+use Rattle.lib_os.specs.StandsInHandler.{CopiesOrEnds, IsStoppedAt, StandsBeneath, StandsDelivering, at_program, copies, ends, in_delivery}
+use Rattle.lib_os.specs.StandsInHandler.{marked, reading, stage_with, telling, writing}
+
+-- ---- phases
+
+-- the file server is asked, and has not replied
+abbrev pub is_request : Phase → Bool
+is_request (in_service s asked) = true
+is_request (in_service s awaiting) = true
+is_request _ = false
+
+-- the service in it
+abbrev pub requester : Phase → Option Service
+requester (in_service s stage) = Some s
+requester _ = None
+
+-- it waits for the reply
+abbrev pub waits_for_reply : Phase → Bool
+waits_for_reply (in_service s awaiting) = true
+waits_for_reply _ = false
+
+-- ---- at each place
+
+-- It has asked for a sync, or waits for the reply, and this is its place.
+pub data IsRequesting (p : Place) (k : Slot) (c : Born) : Type 0 where
+  asks : (id : ℕ) → p ≡ place.InService service.Sync (step.Awaiting id) → id ≡ k.id → HasAsked k c service.Sync → IsRequesting p k c
+  expects : (id : ℕ) → p ≡ place.InService service.Sync (step.ReadingReply id) → id ≡ k.id → IsAwaiting k c service.Sync → IsRequesting p k c
+
+-- nothing is asked
+record NoRequest (k : Slot) (c : Born) : Type 0 where
+  none : is_request c.phase ≡ false
+
+phase_is : {k : Slot} {c : Born} (q : Phase) → c.phase ≡ q → is_request q ≡ false → NoRequest k c
+phase_is q same none = record { none = ap (λ (p : Phase). is_request p) same ∙ none }
+
+in_silence : {k : Slot} {c : Born} (s : Service) → IsIn k c s entered → NoRequest k c
+in_silence s h = phase_is _ h.phase refl
+
+bearing_none : {k : Slot} {c : Born} (id : ℕ) → IsBearing k c id → NoRequest k c
+bearing_none id h = phase_is _ h.phase refl
+
+has_come : {k : Slot} {c : Born} {va from : ℕ} → HasReceived k c va from → NoRequest k c
+has_come h = phase_is _ h.phase refl
+
+-- it moves bytes
+delivers : {k : Slot} {c : Born} (s : Service) (done word : ℕ) → StandsDelivering s done word k c → NoRequest k c
+delivers (service.Read fd va len) done word h = phase_is _ h.phase refl
+delivers (service.Stat fd va) done word h = phase_is _ h.phase refl
+delivers _ done word h = absurd h
+
+taking_none : (s : Service) (bytes : List ℕ) → is_request (in_service s (stage_with bytes)) ≡ false
+taking_none s [] = refl
+taking_none s (byte ∷ rest) = refl
+
+takes_bytes : {v : View} {k : Slot} {c : Born} (fd va len done : ℕ) → IsTaking v k c fd va len done → NoRequest k c
+takes_bytes fd va len done h = phase_is _ h.wants.phase (taking_none (service.Write fd va len) h.bytes)
+
+before_byte : (so : Type 0) (v : View) {k : Slot} {c : Born} (s : Service) (done word : ℕ) → StandsBefore so v k c s done word → NoRequest k c
+before_byte so v (service.Read fd va len) done word h = delivers (service.Read fd va len) done word h.0
+before_byte so v (service.Stat fd va) done word h = delivers (service.Stat fd va) done word h.0
+before_byte so v (service.Write fd va len) done word h = takes_bytes fd va len done h.0
+before_byte so v _ done word h = absurd h
+
+at_device : (v : View) {k : Slot} {c : Born} (s : Service) (o : Option ℕ) → StandsAtDevice v k c s o → NoRequest k c
+at_device v s None h = absurd h
+at_device v s (Some fd) h = in_silence s h.is_in
+
+at_step : (v : View) (k : Slot) (c : Born) (s : Service) (stands : Step) → StandsAtStep v k c s stands →
+    NoRequest k c ⊎ IsRequesting (place.InService s stands) k c
+at_step v k c s step.Entered h = inl (in_silence s h)
+at_step v k c s step.ReadingDevice h = inl (at_device v s (descriptor_given s) h)
+at_step v k c s (step.BufferRegion done word) h = inl (before_byte _ v s done word h)
+at_step v k c s (step.BufferEntry done word) h = inl (before_byte _ v s done word h)
+at_step v k c s (step.Faulting done word) h = inl (before_byte _ v s done word h)
+at_step v k c (service.Read fd va len) (step.Delivering done word) h = inl (delivers (service.Read fd va len) done word h.0)
+at_step v k c (service.Stat fd va) (step.Delivering done word) h = inl (delivers (service.Stat fd va) done word h.0)
+at_step v k c (service.Read fd va len) (step.DescriptorEntry at) h = inl (in_silence _ h.is_in)
+at_step v k c (service.Write fd va len) (step.DescriptorEntry at) h = inl (in_silence _ h.is_in)
+at_step v k c (service.Seek fd offset) (step.DescriptorEntry at) h = inl (in_silence _ h.is_in)
+at_step v k c (service.Stat fd va) (step.DescriptorEntry at) h = inl (in_silence _ h.is_in)
+at_step v k c (service.SetSize fd size) (step.DescriptorEntry at) h = inl (in_silence _ h.is_in)
+at_step v k c (service.Read fd va len) step.Getting h = inl (in_silence _ h.is_in)
+at_step v k c (service.Write fd va len) step.TakingPage h = inl (in_silence _ h.0)
+at_step v k c (service.Write fd va len) (step.Gathering done) h = inl (takes_bytes fd va len done h.0)
+at_step v k c (service.Write fd va len) (step.Keeping done word left) h = inl (phase_is _ h.is_in.phase refl)
+at_step v k c (service.Write fd va len) step.Printing h = inl (phase_is _ h.is_in.phase refl)
+at_step v k c (service.Write fd va len) step.Releasing h = inl (phase_is _ h.phase refl)
+at_step v k c (service.Wait id) (step.Trying perm) h = inl (in_silence _ h.is_in)
+at_step v k c (service.Wait id) (step.Pausing perm) h = inl (in_silence _ h.is_in)
+at_step v k c (service.Send id value va) (step.Trying perm) h = inl (in_silence _ h.is_in)
+at_step v k c (service.Send id value va) (step.Pausing perm) h = inl (in_silence _ h.is_in)
+at_step v k c (service.Send id value va) step.ReadingRegion h = inl (in_silence _ h.is_in)
+at_step v k c (service.Send id value va) step.ReadingEntry h = inl (in_silence _ h.0.is_in)
+at_step v k c (service.Receive va from) (step.Receiving id) h = inl (in_silence _ h.is_in)
+at_step v k c (service.Receive va from) (step.ReadingValue id) h = inl (by_message h.1)
+  where
+    by_message : WaitsOrHas k c va from → NoRequest k c
+    by_message (waits so) = phase_is _ so.phase refl
+    by_message (has come) = has_come come
+at_step v k c (service.Receive va from) (step.ReadingSender id value) h = inl (has_come h.2)
+at_step v k c (service.Receive va from) (step.ReadingPerm id value sender) h = inl (has_come h.3)
+at_step v k c service.Sync (step.Asking id) h = inl (in_silence _ h.1)
+at_step v k c service.Sync (step.Pausing id) h = inl (in_silence _ h.1)
+at_step v k c service.Sync (step.Awaiting id) h = inr (asks id refl h.0 h.1)
+at_step v k c service.Sync (step.ReadingReply id) h = by_reply h.1
+  where
+    by_reply : AwaitsOrHas k c service.Sync → NoRequest k c ⊎ IsRequesting (place.InService service.Sync (step.ReadingReply id)) k c
+    by_reply (awaits so) = inr (expects id refl h.0 so)
+    by_reply (has_reply so) = inl (phase_is _ so.phase refl)
+at_step v k c service.Fork (step.ForkRegion id region) h = inl (bearing_none id h.0)
+at_step v k c service.Fork (step.ForkEntry id page) h = inl (bearing_none id h.0)
+at_step v k c service.Fork (step.MapChild id page perm) h = inl (bearing_none id h.0)
+at_step v k c service.Fork (step.Remap id page) h = inl (bearing_none id h.0)
+at_step v k c service.Fork (step.ChildStack id) h = inl (bearing_none id h)
+at_step v k c service.Fork (step.ChildUpcall id) h = inl (bearing_none id h)
+at_step v k c service.Fork (step.ChildRuns id) h = inl (bearing_none id h)
+at_step v k c service.Exit (step.DescriptorEntry fd) h = inl (in_silence _ h.0)
+at_step v k c service.Exit (step.DroppingDescriptor fd) h = inl (in_silence _ h.0)
+at_step v k c service.Exit step.Ending h = inl (in_silence _ h.0)
+at_step v k c (service.Close fd) (step.DescriptorEntry at) h = inl (in_silence _ h.0)
+at_step v k c (service.Close fd) (step.DroppingDescriptor at) h = inl (in_silence _ h.0)
+at_step v k c (service.Dup old new) (step.DescriptorEntry at) h = inl (in_silence _ h.0)
+at_step v k c (service.Dup old new) step.TargetEntry h = inl (in_silence _ h.0)
+at_step v k c (service.Dup old new) (step.DroppingDescriptor at) h = inl (in_silence _ h.0)
+at_step v k c (service.Dup old new) step.MappingDescriptor h = inl (in_silence _ h.0)
+at_step v k c _ _ h = absurd h
+
+-- its page is copied, or it is on the way to its end
+beneath_handler : {row : EntryRow} {k : Slot} {c : Born} → StandsBeneath row k c → NoRequest k c
+beneath_handler (at_program h) = phase_is _ h.phase refl
+beneath_handler (in_delivery s done word at h) = delivers s done word h.0
+
+stopped_none : {write : Bool} {row : EntryRow} (k : Slot) {c : Born} {va ip : ℕ} → IsStoppedAt write row c va ip → NoRequest k c
+stopped_none k (marked phase) = phase_is _ phase refl
+stopped_none k (reading fd buffer len bytes answer writes phase some) = phase_is _ phase refl
+stopped_none k (telling fd buffer bytes answer writes phase some) = phase_is _ phase refl
+stopped_none k (writing fd buffer len bytes reads wants there) = phase_is _ wants.phase (taking_none (service.Write fd buffer len) bytes)
+
+in_handler : (stands : HandlerStep) (v : View) {k : Slot} {c : Born} (fault : PageFault) (regs : Regs) →
+    CopiesOrEnds stands v k c fault regs → NoRequest k c
+in_handler stands v fault regs (copies way) = let off = beneath_handler way.beneath in record { none = off.none }
+in_handler stands v {k = k} fault regs (ends way) = stopped_none k way.stopped
+
+requests_or_not : (p : Place) (v : View) (k : Slot) (c : Born) → StandsAt p v k c → NoRequest k c ⊎ IsRequesting p k c
+requests_or_not place.Guest v k c h = inl (phase_is _ h.phase refl)
+requests_or_not (place.InService s stands) v k c h = at_step v k c s stands h
+requests_or_not (place.InHandler stands) v k c h = inl (in_handler stands v h.fault h.regs h.way)
+
+-- ---- by the phase
+
+pub requesting : (p : Place) (v : View) (k : Slot) (c : Born) → StandsAt p v k c → is_request c.phase ≡ true → IsRequesting p k c
+requesting p v k c h is = by_case (requests_or_not p v k c h)
+  where
+    by_case : NoRequest k c ⊎ IsRequesting p k c → IsRequesting p k c
+    by_case (inl off) = absurd (let contradiction : false ≡ true = sym off.none ∙ is in cc)
+    by_case (inr so) = so
+
+-- It has asked, and stands where it will begin to wait.
+pub record AskedPlace (p : Place) (k : Slot) (c : Born) (s : Service) : Type 0 where
+  pub id : ℕ
+  pub at : p ≡ place.InService service.Sync (step.Awaiting id)
+  pub self : id ≡ k.id
+  pub so : HasAsked k c service.Sync
+  pub service_is : s ≡ service.Sync
+
+-- It waits for the reply, and stands where it will read it.
+pub record AwaitingPlace (p : Place) (k : Slot) (c : Born) (s : Service) : Type 0 where
+  pub id : ℕ
+  pub at : p ≡ place.InService service.Sync (step.ReadingReply id)
+  pub self : id ≡ k.id
+  pub so : IsAwaiting k c service.Sync
+  pub service_is : s ≡ service.Sync
+
+-- the service of a phase that is told twice
+same_service : {q : Phase} (s t : Service) (stage other : Stage) → q ≡ in_service s stage → q ≡ in_service t other → s ≡ t
+same_service s t stage other first second =
+    let same : Some s ≡ Some t = sym (ap (λ (p : Phase). requester p) first) ∙ ap (λ (p : Phase). requester p) second in cc
+
+-- one that waits has not only asked
+apart : {q : Phase} (s t : Service) → q ≡ in_service s asked → q ≡ in_service t awaiting → ⊥
+apart s t first second =
+    let contradiction : false ≡ true = sym (ap (λ (p : Phase). waits_for_reply p) first) ∙ ap (λ (p : Phase). waits_for_reply p) second in cc
+
+pub asked_place : (p : Place) (v : View) (k : Slot) (c : Born) (s : Service) → StandsAt p v k c → c.phase ≡ in_service s asked →
+    AskedPlace p k c s
+asked_place p v k c s h phase = by_case (requesting p v k c h (ap (λ (q : Phase). is_request q) phase))
+  where
+    by_case : IsRequesting p k c → AskedPlace p k c s
+    by_case (asks id at self so) = record {
+      id = id;
+      at = at;
+      self = self;
+      so = so;
+      service_is = same_service s service.Sync asked asked phase so.phase;
+    }
+    by_case (expects id at self so) = absurd (apart s service.Sync phase so.phase)
+
+pub awaiting_place : (p : Place) (v : View) (k : Slot) (c : Born) (s : Service) → StandsAt p v k c → c.phase ≡ in_service s awaiting →
+    AwaitingPlace p k c s
+awaiting_place p v k c s h phase = by_case (requesting p v k c h (ap (λ (q : Phase). is_request q) phase))
+  where
+    by_case : IsRequesting p k c → AwaitingPlace p k c s
+    by_case (asks id at self so) = absurd (apart service.Sync s so.phase phase)
+    by_case (expects id at self so) = record {
+      id = id;
+      at = at;
+      self = self;
+      so = so;
+      service_is = same_service s service.Sync awaiting awaiting phase so.phase;
+    }

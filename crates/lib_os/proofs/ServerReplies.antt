@@ -1,0 +1,354 @@
+-- The steps of the file server that are seen: it waits for the next request, it has done what a sync asks for, and its reply comes to the client
+-- that waits for it. Behind each of them the kernel's state stands for the abstract one behind the server's step.
+use Rattle.std.proofs.Common.{◌≡◌, ◌≢◌, ◌∙◌, ◌⊎◌, inl, inr, ◌<◌, ◌%◌, ◌^◌, ◌==◌, ◌&&◌, ◌||◌, ℕ, Bool, true, false, List, [], ◌∷◌, Option, Some, None}
+use Rattle.std.proofs.Common.{Ok, refl, sym, ap, subst, arith, length}
+use Rattle.jos_base.specs.declared.called.Called.{Called}
+use Rattle.jos_base.specs.declared.called.Called.TheVariants.{Answered, Blocked}
+use Rattle.jos_base.specs.declared.environment.Status.TheVariants.{NotRunnable}
+use Rattle.jos_base.specs.declared.numbers.TheConstants.{E_IPC_NOT_RECV, FIRST_ENV_ID, NENV, SYS_IPC_RECV, SYS_IPC_TRY_SEND, UTOP}
+use Rattle.jos_base.specs.Environments.{Slot, found, is_live as is_live_slot}
+use Rattle.jos_base.specs.KernelState.{KernelState, slot_at, with_slot_at}
+use Rattle.jos_base.specs.Messages.{Rendezvous, accepts, wanting}
+use Rattle.jos_base.specs.SpacesState.{SpacesState}
+use Rattle.jos_base.specs.Words.{negated}
+use Rattle.fs_layout.specs.FileActs.{file_act}
+use Rattle.fs_layout.specs.FileTree.{sync_files}
+use Rattle.lib_os.specs.declared.numbers.TheConstants.{REQUEST, SHORT_QUANTUM}
+use Rattle.lib_os.specs.declared.place.Place.{Place}
+use Rattle.lib_os.specs.declared.service.Service.{Service}
+use Rattle.lib_os.specs.declared.service.Service.TheVariants as service
+use Rattle.lib_os.specs.AbstractRun.{abs_step, may_wait, reply_may_wait, slot_may_wait, slot_step}
+use Rattle.lib_os.specs.AbstractState.{AbstractSlot, AbstractState, Born, Phase, Server, act, acted, asked, awaiting, born, busy, idle, in_service}
+use Rattle.lib_os.specs.AbstractState.{leaving, replied, with_born}
+use Rattle.lib_os.specs.FileServer.{act_done, reply, reply_at, reply_to, served, server_step}
+use Rattle.lib_os.specs.GuestStep.{born_in}
+use Rattle.lib_os.specs.LibraryPages.{has_copy, has_working}
+use Rattle.lib_os.specs.MadeCalls.{SetsWords}
+use Rattle.lib_os.specs.Places.{handler_step_in, place_in_words, place_of}
+use Rattle.lib_os.specs.Rows.{Names, rows_of}
+use Rattle.lib_os.specs.StandsFor.{HasReply, IsServerStatus, StandsAt, StandsFor, StandsForBorn, StandsForServer, has_reply, upcall_at}
+use Rattle.lib_os.specs.StandsFor.{view_of}
+use Rattle.lib_os.specs.UserCalls.{CallStep, IsCallStep, Output, Prints, got, giving, system}
+use Rattle.lib_os.proofs.AskedPlaces.{AskedPlace, AwaitingPlace, asked_place, awaiting_place}
+use Rattle.lib_os.proofs.Calls.{comes_to, ipc_recv_is, receives_at, waits_is}
+use Rattle.lib_os.proofs.Logical.{is_plain}
+use Rattle.lib_os.proofs.Sends.{found_where, not_waited_for, received_in, with_message, word_comes}
+use Rattle.lib_os.proofs.ServersCalls.{CallLeaves}
+use Rattle.lib_os.proofs.ServerStands.{first_slot, words_stand}
+use Rattle.lib_os.proofs.Serving.{library_moved}
+use Rattle.lib_os.proofs.Slots.{slot_kept}
+use Rattle.lib_os.proofs.SlotsSet.{both_set}
+use Rattle.lib_os.proofs.SlotsStand.{born_at, born_live}
+use Rattle.lib_os.proofs.StatesStand.{born_not_first, server_set, slot_changed, stopped_settles}
+use Rattle.jos_base.proofs.Maps.{upd-at}
+
+-- ---- the server's step
+
+-- the step of slot 0
+pub served_is : {names : Names} {s : KernelState} {a : AbstractState} → StandsFor names s a → (server : Server) → a.server ≡ server →
+    abs_step a 0 ≡ served a server
+unfolding abs_step server_step
+served_is {a = a} h server is = ap (λ (slot : AbstractSlot). slot_step a 0 slot) h.first ∙ ap (λ (x : Server). served a x) is
+
+-- It does something else, and the kernel's state is the same.
+pub server_goes_on : {names : Names} {s : KernelState} {a : AbstractState} → StandsFor names s a → (server : Server) →
+    IsServerStatus server (slot_at s 0) → StandsFor names s (record a { server = server })
+server_goes_on h server status = record {
+  slots = h.slots;
+  children = h.children;
+  apart = h.apart;
+  named = h.named;
+  users = h.users;
+  whole = h.whole;
+  beside = h.beside;
+  free_slots = h.free_slots;
+  first = h.first;
+  server = record { status = status; pages = h.server.pages; tables = h.server.tables };
+  input = h.input;
+  last = h.last;
+  turns = h.turns;
+  tabled = h.tabled;
+  in_order = h.in_order;
+}
+
+-- its status, where it is known what it does
+status_at : {names : Names} {s : KernelState} {a : AbstractState} → StandsFor names s a → (server : Server) → a.server ≡ server →
+    IsServerStatus server (slot_at s 0)
+status_at {s = s} h server is = subst (λ (x : Server). IsServerStatus x (slot_at s 0)) is h.server.status
+
+-- ---- it waits for a request
+
+-- its slot, and the state, where it waits for anybody's
+abbrev pub ready_slot : Slot → Slot
+ready_slot k = record k { rendezvous = wanting k.rendezvous REQUEST 0; status = NotRunnable }
+
+abbrev pub ready_state : KernelState → KernelState
+ready_state s = with_slot_at s 0 (ready_slot (slot_at s 0))
+
+-- the call
+pub receive_is : (s : KernelState) (rest : List ℕ) → is_live_slot (slot_at s 0) ≡ true →
+    system s 0 SYS_IPC_RECV (REQUEST ∷ 0 ∷ rest) ≡ record { state = ready_state s; gives = got Blocked; written = [] }
+receive_is s rest live =
+    ipc_recv_is s 0 live REQUEST 0 rest (receives_at REQUEST refl)
+    ∙ (λ i. record { state = waits_is s 0 (wanting (slot_at s 0).rendezvous REQUEST 0) NotRunnable i; gives = got Blocked; written = [] })
+
+module _ {names : Names} {s : KernelState} {a : AbstractState} (h : StandsFor names s a) where
+  pub receives_stand : StandsFor names (ready_state s) (record a { server = idle })
+  receives_stand =
+      server_set h (ready_slot (slot_at s 0)) idle refl (stopped_settles (slot_at s 0) (ready_slot (slot_at s 0)) refl refl refl) so (record {
+        status = record { status = refl; receiving = refl; anybody = refl; destination = refl };
+        pages = h.server.pages;
+        tables = h.server.tables;
+      })
+    where
+      so : StandsForServer (ready_slot (slot_at s 0)) FIRST_ENV_ID
+      so = let was = first_slot h in record {
+        first = was.first;
+        id_is = was.id_is;
+        lives = refl;
+        parent = was.parent;
+        env_type = was.env_type;
+        words = was.words;
+        stack = was.stack;
+      }
+
+  pub receives_step : a.server ≡ leaving → abs_step a 0 ≡ Some (record a { server = idle })
+  receives_step is = served_is h leaving is
+
+  -- ---- it has done what is asked
+
+  -- what a sync does to the files can't be seen
+  pub sync_done : (client : ℕ) → act_done a client (act sync_files None) None ≡ record a { server = acted client 0 [] None }
+  unfolding file_act
+  sync_done client = refl
+
+  pub acts_stand : (client : ℕ) → a.server ≡ busy client (act sync_files None) None →
+      StandsFor names s (act_done a client (act sync_files None) None)
+  acts_stand client is =
+      subst (λ (z : AbstractState). StandsFor names s z) (sym (sync_done client))
+      (server_goes_on h (acted client 0 [] None) (status_at h (busy client (act sync_files None) None) is))
+
+  -- nothing is printed
+  pub acts_console : (client : ℕ) → (act_done a client (act sync_files None) None).console ≡ a.console
+  acts_console client = ap (λ (z : AbstractState). z.console) (sync_done client)
+
+  pub acts_step : (client : ℕ) → a.server ≡ busy client (act sync_files None) None →
+      abs_step a 0 ≡ Some (act_done a client (act sync_files None) None)
+  acts_step client is = served_is h (busy client (act sync_files None) None) is
+
+-- ---- it replies
+
+-- where the client's slot stands behind the reply
+told_at : (k : Slot) (sender value perm : ℕ) → place_of (received_in k sender value perm) ≡ place_of k
+unfolding place_in_words handler_step_in
+told_at k sender value perm = refl
+
+-- the client to which the reply has come
+abbrev pub replied_born : Born → ℕ → Born
+replied_born b answer = record b { phase = in_service service.Sync (replied [] answer); blocked = false }
+
+replied_own : {names : Names} {s : SpacesState} {k : Slot} {b : Born} (sender answer : ℕ) → AwaitingPlace (place_of k) k b service.Sync →
+    StandsForBorn names s k b → answer < 2 ^ 32 → StandsForBorn names s (received_in k sender answer 0) (replied_born b answer)
+replied_own {s = s} {k = k} {b = b} sender answer there own_part small =
+    let j : Slot = received_in k sender answer 0 in
+    let after : Born = replied_born b answer in
+    let same : place_of j ≡ place_of k = told_at k sender answer 0 in
+    let came : HasReply j after service.Sync = record {
+      regs = k.registers;
+      program = there.so.program;
+      registers = refl;
+      phase = refl;
+      awake = refl;
+      silent = refl;
+      small = small;
+    } in
+    record {
+      id = own_part.id;
+      id_small = own_part.id_small;
+      parent = own_part.parent;
+      env_type = own_part.env_type;
+      runs = tt;
+      upcall = own_part.upcall ∙ sym (ap upcall_at same);
+      descriptors = own_part.descriptors;
+      memory = own_part.memory;
+      library = library_moved (place_of k) (place_of j) k.extra j.extra (rows_of s k.directory) (sym (ap has_copy same))
+          (sym (ap (λ (p : Place). has_working p k.extra) same)) own_part.library;
+      regions_have = own_part.regions_have;
+      regions_only = own_part.regions_only;
+      stack = own_part.stack;
+      flags = own_part.flags;
+      at = subst (λ (p : Place). StandsAt p (view_of s k.directory) j after) (sym (same ∙ there.at)) (there.self, has_reply came);
+    }
+
+-- the call with which it replies: a word, with no page
+abbrev pub reply_call : KernelState → ℕ → ℕ → CallStep Called
+reply_call s id answer = system s 0 SYS_IPC_TRY_SEND (id ∷ answer ∷ UTOP ∷ 0 ∷ 0 ∷ [])
+
+-- the abstract state behind the reply
+abbrev pub replied_state : AbstractState → ℕ → Born → ℕ → AbstractState
+replied_state a client b answer = reply_to a client service.Sync [] (b, answer)
+
+-- The client waits: the word has come to it.
+pub record HasReplied (names : Names) (s : KernelState) (a : AbstractState) (client : ℕ) (b : Born) (answer : ℕ) : Type 0 where
+  pub call : reply_call s b.id answer ≡ giving (with_message s 0 client answer 0) (Answered 0)
+  pub step : abs_step a 0 ≡ Some (replied_state a client b answer)
+  pub stands : StandsFor names (with_message s 0 client answer 0) (replied_state a client b answer)
+
+-- It does not wait yet, and neither is the reply taken.
+pub record HasToWait (s : KernelState) (a : AbstractState) (b : Born) (answer : ℕ) : Type 0 where
+  pub call : reply_call s b.id answer ≡ giving s (Answered (negated E_IPC_NOT_RECV))
+  pub step : abs_step a 0 ≡ None
+  pub waits : may_wait a 0 SHORT_QUANTUM ≡ true
+
+-- the client is there for the reply, by its phase
+abbrev pub IsThere : Born → Service → Type 0
+IsThere b s = (b.phase ≡ in_service s asked) ⊎ (b.phase ≡ in_service s awaiting)
+
+module _ {names : Names} {s : KernelState} {a : AbstractState} (h : StandsFor names s a) (client answer : ℕ)
+    (is : a.server ≡ acted client answer [] None) (b : Born) (at : a.slots client ≡ born b) where
+  own : StandsForBorn names s.spaces (slot_at s client) b
+  own = born_at h client b at
+
+  status : IsServerStatus (acted client answer [] None) (slot_at s 0)
+  status = status_at h (acted client answer [] None) is
+
+  -- it is found by its id
+  names_client : found s.environments b.id 0 false ≡ Some client
+  names_client =
+      subst (λ (m : ℕ). found s.environments b.id 0 false ≡ Some m) number
+      (found_where s.environments b.id 0 some (ap (λ (m : ℕ). is_live_slot (slot_at s m)) number ∙ born_live own)
+      (ap (λ (m : ℕ). (slot_at s m).id) number ∙ own.id))
+    where
+      number : b.id % NENV ≡ client
+      number = sym (ap (λ (i : ℕ). i % NENV) own.id) ∙ h.tabled.ids client (born_live own)
+
+      some : b.id ≢ 0
+      some zero_is = born_not_first h client b at (sym (ap (λ (i : ℕ). i % NENV) zero_is) ∙ number)
+
+  -- what is asked of the client, by its phase
+  replied_is : (phase : Phase) → b.phase ≡ phase → abs_step a 0 ≡ reply_at a client b answer [] None phase
+  replied_is phase same =
+      served_is h (acted client answer [] None) is
+      ∙ ap (λ (slot : AbstractSlot). reply a client answer [] None (born_in slot)) at
+      ∙ ap (λ (p : Phase). reply_at a client b answer [] None p) same
+
+  pub reply_comes : b.phase ≡ in_service service.Sync awaiting → answer < 2 ^ 32 → HasReplied names s a client b answer
+  reply_comes phase small = record {
+    call = word_comes s 0 b.id answer UTOP 0 (0 ∷ []) (first_slot h).lives status.1 client names_client waits (omega arith);
+    step = replied_is (in_service service.Sync awaiting) phase;
+    stands = server_goes_on come leaving still;
+  }
+    where
+      there : AwaitingPlace (place_of (slot_at s client)) (slot_at s client) b service.Sync
+      there =
+          let k : Slot = slot_at s client in awaiting_place (place_of k) (view_of s.spaces k.directory) k b service.Sync own.at phase
+
+      waits : accepts (slot_at s client).rendezvous (slot_at s 0).id ≡ true
+      waits = λ i. there.so.rendezvous i && ((there.so.wanted i == 0) || (there.so.wanted i == (first_slot h).id_is i))
+
+      k : Slot
+      k = received_in (slot_at s client) (slot_at s 0).id answer 0
+
+      come : StandsFor names (with_message s 0 client answer 0) (with_born a client (replied_born b answer))
+      come =
+          slot_changed h client b at k (replied_born b answer) refl (stopped_settles (slot_at s client) k refl refl refl)
+          (ap is_plain there.at) (ap is_plain (told_at (slot_at s client) (slot_at s 0).id answer 0 ∙ there.at))
+          (replied_own (slot_at s 0).id answer there own small)
+
+      still : IsServerStatus leaving (slot_at (with_message s 0 client answer 0) 0)
+      still = subst (λ (x : Slot). IsServerStatus leaving x) (sym (slot_kept s client k 0 (born_not_first h client b at))) status
+
+  pub reply_waits : b.phase ≡ in_service service.Sync asked → HasToWait s a b answer
+  unfolding may_wait
+  reply_waits phase = record {
+    call = not_waited_for s 0 b.id answer UTOP 0 (0 ∷ []) (first_slot h).lives status.1 client names_client deaf;
+    step = none;
+    waits = ap (λ (slot : AbstractSlot). slot_may_wait a 0 slot SHORT_QUANTUM) h.first
+        ∙ ap (λ (o : Option AbstractState). reply_may_wait a.server o) none
+        ∙ ap (λ (x : Server). reply_may_wait x None) is;
+  }
+    where
+      there : AskedPlace (place_of (slot_at s client)) (slot_at s client) b service.Sync
+      there =
+          let k : Slot = slot_at s client in asked_place (place_of k) (view_of s.spaces k.directory) k b service.Sync own.at phase
+
+      deaf : accepts (slot_at s client).rendezvous (slot_at s 0).id ≡ false
+      deaf =
+          let r : Rendezvous = (slot_at s client).rendezvous in
+          ap (λ (waiting : Bool). waiting && ((r.wanted == 0) || (r.wanted == (slot_at s 0).id))) there.so.silent
+
+      none : abs_step a 0 ≡ None
+      none = replied_is (in_service service.Sync asked) phase
+
+  pub replies_stand : IsThere b service.Sync → answer < 2 ^ 32 → HasReplied names s a client b answer ⊎ HasToWait s a b answer
+  replies_stand (inl phase) small = inr (reply_waits phase)
+  replies_stand (inr phase) small = inl (reply_comes phase small)
+
+-- ---- behind the call, where the server's own words are set
+
+left_stands : {names : Names} {a : AbstractState} (state mid after : KernelState) → mid ≡ state → StandsFor names state a →
+    length (slot_at state 0).extra ≡ 12 → (after ≡ mid) ⊎ SetsWords mid after 0 → CallLeaves names after a
+left_stands {names = names} {a = a} state mid after same stands twelve left = by_left left
+  where
+    here : StandsFor names mid a
+    here = subst (λ (z : KernelState). StandsFor names z a) (sym same) stands
+
+    many : length (slot_at mid 0).extra ≡ 12
+    many = ap (λ (z : KernelState). length (slot_at z 0).extra) same ∙ twelve
+
+    by_left : (after ≡ mid) ⊎ SetsWords mid after 0 → CallLeaves names after a
+    by_left (inl is) = record {
+      stands = subst (λ (z : KernelState). StandsFor names z a) (sym is) here;
+      twelve = ap (λ (z : KernelState). length (slot_at z 0).extra) is ∙ many;
+    }
+    by_left (inr sets) =
+        let k : Slot = record (slot_at mid 0) { registers = sets.registers; extra = sets.words } in
+        record {
+          stands = words_stand here after sets many;
+          twelve = ap (λ (z : KernelState). length (slot_at z 0).extra) (sets.set ∙ both_set mid 0 sets.registers sets.words)
+              ∙ ap (λ (x : Slot). length x.extra) (upd-at mid.environments.slots 0 k) ∙ sets.long many;
+        }
+
+-- The reply came, or the client does not wait for it yet.
+pub data ReplyLeaves (names : Names) (a : AbstractState) (client : ℕ) (b : Born) (answer : ℕ) (called : Called) (after : KernelState) : Type 0 where
+  came : called ≡ Answered 0 → abs_step a 0 ≡ Some (replied_state a client b answer) → CallLeaves names after (replied_state a client b answer) →
+      ReplyLeaves names a client b answer called after
+  not_yet : called ≡ Answered (negated E_IPC_NOT_RECV) → abs_step a 0 ≡ None → may_wait a 0 SHORT_QUANTUM ≡ true → CallLeaves names after a →
+      ReplyLeaves names a client b answer called after
+
+module _ {names : Names} {s : KernelState} {a : AbstractState} (h : StandsFor names s a) (twelve : length (slot_at s 0).extra ≡ 12) where
+  pub receive_leaves : (mid after : KernelState) (called : Called) (output : Output) →
+      IsCallStep (system s 0 SYS_IPC_RECV (REQUEST ∷ 0 ∷ 0 ∷ 0 ∷ 0 ∷ [])) (Ok called) mid output → (after ≡ mid) ⊎ SetsWords mid after 0 →
+      (called ≡ Blocked) × Prints output [] × CallLeaves names after (record a { server = idle })
+  receive_leaves mid after called output call left =
+      let it = comes_to (system s 0 SYS_IPC_RECV (REQUEST ∷ 0 ∷ 0 ∷ 0 ∷ 0 ∷ [])) Blocked called (ready_state s) mid [] output
+      (receive_is s (0 ∷ 0 ∷ 0 ∷ []) (first_slot h).lives) call in (
+        it.0,
+        it.2,
+        left_stands (ready_state s) mid after it.1 (receives_stand h)
+            (ap (λ (x : Slot). length x.extra) (upd-at s.environments.slots 0 (ready_slot (slot_at s 0))) ∙ twelve) left,
+      )
+
+  pub reply_leaves : (client answer : ℕ) → a.server ≡ acted client answer [] None → (b : Born) → a.slots client ≡ born b →
+      IsThere b service.Sync → answer < 2 ^ 32 → (mid after : KernelState) (called : Called) (output : Output) →
+      IsCallStep (reply_call s b.id answer) (Ok called) mid output → (after ≡ mid) ⊎ SetsWords mid after 0 →
+      Prints output [] × ReplyLeaves names a client b answer called after
+  reply_leaves client answer is b at there small mid after called output call left = by_phase (replies_stand h client answer is b at there small)
+    where
+      kept : length (slot_at (with_message s 0 client answer 0) 0).extra ≡ 12
+      kept =
+          let k : Slot = received_in (slot_at s client) (slot_at s 0).id answer 0 in
+          ap (λ (x : Slot). length x.extra) (slot_kept s client k 0 (born_not_first h client b at)) ∙ twelve
+
+      by_phase : HasReplied names s a client b answer ⊎ HasToWait s a b answer → Prints output [] × ReplyLeaves names a client b answer called after
+      by_phase (inl so) =
+          let it = comes_to (reply_call s b.id answer) (Answered 0) called (with_message s 0 client answer 0) mid [] output so.call call in
+          (it.2, came it.0 so.step (left_stands (with_message s 0 client answer 0) mid after it.1 so.stands kept left))
+      by_phase (inr so) =
+          let it = comes_to (reply_call s b.id answer) (Answered (negated E_IPC_NOT_RECV)) called s mid [] output so.call call in
+          (it.2, not_yet it.0 so.step so.waits (left_stands s mid after it.1 h twelve left))
+
+-- what it leaves where it stands for the server that is about to act, it leaves where it stands for the one that has acted
+pub acts_leave : {names : Names} {after : KernelState} {a : AbstractState} → CallLeaves names after a → (client : ℕ) →
+    a.server ≡ busy client (act sync_files None) None → CallLeaves names after (act_done a client (act sync_files None) None)
+acts_leave it client is = record { stands = acts_stand it.stands client is; twelve = it.twelve }
