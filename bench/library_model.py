@@ -34,6 +34,7 @@ NOT_SUPPORTED = 15
 SERVER, PROGRAM = 0x1000, 0x1001
 SYNC = 8  # the word of the only request
 CACHED_REGIONS = 64  # the regions of the server's cache, which has no page
+OPEN_RECORDS = 0x0FFFE  # where the server has its page for the records of open files
 FENCE = [(0x00200000, 0x00400000), (0x00800000, 0xD0000000), (0xD0400000, 0xEEBFE000)]
 RESIDENT = range(0xEEBFE800, 0xEEC00000)
 CPUTS_MAX, TURN_MAX, QUANTUM = 4096, 1048576, 1000
@@ -143,7 +144,9 @@ class Run:
         self.output, self.traps = bytearray(), []
         self.slots, self.last_ids, self.free_slots = [None] * SLOTS, [0] * SLOTS, list(range(SLOTS))
         self.last, self.now = -1, None
-        self.make(0).status = "runnable"  # the server, which has no pages
+        server = self.make(0)
+        assert self.frames.allocate(server.directory, OPEN_RECORDS, P | U | W)
+        server.status = "runnable"
         self.now = self.make(0)
         self.load(image)
         self.begin(words)

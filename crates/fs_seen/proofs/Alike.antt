@@ -7,15 +7,16 @@ use Rattle.jos_base.specs.Reach.{Entry}
 use Rattle.jos_base.specs.SpacesState.{SpacesState, reference_count}
 use Rattle.lib_os.specs.declared.numbers.TheConstants.{MAXOPEN}
 use Rattle.lib_os.specs.Disk.{Disk}
-use Rattle.fs_tree.specs.TreeSteps.{TreeAt, memory_in}
+use Rattle.fs_tree.specs.TreeSteps.{memory_in}
 use Rattle.fs_serving.specs.ServerViews.{View, word_of}
-use Rattle.fs_seen.specs.ServerMemory.{HasFileTable, bytes_by, entry_of, frame_by, home_in, is_table_page, place_entry, place_page, records_page, view_in}
+use Rattle.fs_seen.specs.ServerMemory.{StandsOver, bytes_by, entry_of, frame_by, has_request, home_in, is_table_page, place_entry, place_page}
+use Rattle.fs_seen.specs.ServerMemory.{records_page, view_in}
 use Rattle.fs_seen.proofs.Changes.{place_table, records_table}
 
 -- what is so behind a call
-pub record IsBehind (d : Disk) (mid : KernelState) (n : ℕ) (v : View) : Type 0 where
-  pub tree : TreeAt d mid n
-  pub table : HasFileTable mid n
+pub record IsBehind (d : Disk) (s mid : KernelState) (n : ℕ) (v : View) : Type 0 where
+  pub over : StandsOver d mid n
+  pub request_stays : has_request mid n ≡ has_request s n
   pub view : view_in d mid n ≡ v
 
 -- the entry of a place is that of its page, or there is none

@@ -34,8 +34,8 @@ use Rattle.fs_server.specs.ServerSteps.{server_at}
 use Rattle.fs_tree.specs.TreeSteps.{HasRequest, request_bytes}
 use Rattle.fs_tree.proofs.TiesCalls.{RequestKept, entry_asked, map_asked, page_asked_of, read_asked, region_asked, sent_asked, unmap_asked}
 use Rattle.fs_tree.proofs.TiesWords.{request_bytes_set, request_set}
-use Rattle.fs_seen.specs.ServerMemory.{HasFileTable}
-use Rattle.fs_seen.proofs.CallsLeave.{entry_left, map_left, page_left, read_left, region_left, sent_left, unmap_left}
+use Rattle.fs_seen.specs.ServerMemory.{HasFileTable, request_page}
+use Rattle.fs_seen.proofs.CallsLeave.{LeavesCall, entry_left, map_left, page_left, read_left, region_left, sent_left, unmap_left}
 use Rattle.fs_seen.proofs.TableLeft.{LeavesTable}
 
 -- ---- the call
@@ -44,10 +44,10 @@ used_there : (o : Option Entry) → was_used o ≡ true → is_some o ≡ true
 used_there None used = used
 used_there (Some e) used = refl
 
--- what a call leaves
+-- what a call leaves: the page of a request, where there is one
 record CallLeaves (s mid : KernelState) (n : ℕ) : Type 0 where
-  kept : RequestKept s mid n
-  table : LeavesTable s mid n
+  kept : HasRequest s n → RequestKept s mid n
+  left : LeavesCall s mid n
 
 module _ (d : Disk) (c : Caller) (server : IsServer c.state c.slot) (files : Option Files) (mid : KernelState) (output : Output) where
   -- no call is stopped
@@ -86,32 +86,32 @@ module _ (d : Disk) (c : Caller) (server : IsServer c.state c.slot) (files : Opt
   never_stopped (at.FlushWriting b) hand why s goes other reply = no_sent why other (block_of b) reply
   never_stopped (at.FlushSettling b) hand why s goes other reply = reply
 
-  module _ (h : HasRequest c.state c.slot) (k : HasFileTable c.state c.slot) (word : ℕ) where
+  module _ (k : HasFileTable c.state c.slot) (word : ℕ) where
     abbrev Leaves : Type 0
     Leaves = CallLeaves c.state mid c.slot
 
     region : (b : ℕ) → IsReply (ask_region b) c files (Ok word) mid output → Leaves
     region b reply = record {
-      kept = (region_asked c server h files word mid output b reply).0;
-      table = region_left c server k files word mid output b reply;
+      kept = λ h. (region_asked c server h files word mid output b reply).0;
+      left = region_left c server k files word mid output b reply;
     }
 
     entry : (b : ℕ) → IsReply (ask_entry b) c files (Ok word) mid output → Leaves
     entry b reply = record {
-      kept = (entry_asked c server h files word mid output b reply).0;
-      table = entry_left c server k files word mid output b reply;
+      kept = λ h. (entry_asked c server h files word mid output b reply).0;
+      left = entry_left c server k files word mid output b reply;
     }
 
     page : (b : ℕ) → b < CACHE_BLOCKS → IsReply (ask_page b) c files (Ok word) mid output → Leaves
     page b below reply = record {
-      kept = (page_asked_of c server h files word mid output b below reply).0;
-      table = page_left c server k files word mid output b below reply;
+      kept = λ h. (page_asked_of c server h files word mid output b below reply).0;
+      left = page_left c server k files word mid output b below reply;
     }
 
     unmap : (b : ℕ) → b < CACHE_BLOCKS → IsReply (ask_unmap b) c files (Ok word) mid output → Leaves
     unmap b below reply = record {
-      kept = (unmap_asked c server h files word mid output b below reply).0;
-      table = unmap_left c server k files word mid output b below reply;
+      kept = λ h. (unmap_asked c server h files word mid output b below reply).0;
+      left = unmap_left c server k files word mid output b below reply;
     }
 
     module _ (place : CachePlace) (hand : ℕ) (s : CacheStands d (view_in c.state c.slot) place hand) where
@@ -121,8 +121,8 @@ module _ (d : Disk) (c : Caller) (server : IsServer c.state c.slot) (files : Opt
           let found = some_is ((view_in c.state c.slot).row b) there in
           let is = s.entries b found.0 found.1 in
           record {
-            kept = (read_asked c server h files word mid output b below found.0 found.1 is reply).0;
-            table = read_left c server k files word mid output b below found.0 found.1 is reply;
+            kept = λ h. (read_asked c server h files word mid output b below found.0 found.1 is reply).0;
+            left = read_left c server k files word mid output b below found.0 found.1 is reply;
           }
 
       sent : (b : ℕ) → b < CACHE_BLOCKS → is_some ((view_in c.state c.slot).row b) ≡ true →
@@ -131,8 +131,8 @@ module _ (d : Disk) (c : Caller) (server : IsServer c.state c.slot) (files : Opt
           let found = some_is ((view_in c.state c.slot).row b) there in
           let is = s.entries b found.0 found.1 in
           record {
-            kept = (sent_asked c server h files word mid output b below found.0 found.1 is reply).0;
-            table = sent_left c server k files word mid output b below found.0 found.1 is reply;
+            kept = λ h. (sent_asked c server h files word mid output b below found.0 found.1 is reply).0;
+            left = sent_left c server k files word mid output b below found.0 found.1 is reply;
           }
 
       map : (from to : ℕ) → from < CACHE_BLOCKS → to < CACHE_BLOCKS → HoldsBlock d (view_in c.state c.slot) from →
@@ -140,8 +140,8 @@ module _ (d : Disk) (c : Caller) (server : IsServer c.state c.slot) (files : Opt
       map from to from_below to_below holds reply =
           let is = s.entries from holds.entry holds.stands in
           record {
-            kept = (map_asked c server h files word mid output from to holds.entry holds.stands is from_below to_below reply).0;
-            table = map_left c server k files word mid output from to holds.entry holds.stands is from_below to_below reply;
+            kept = λ h. (map_asked c server h files word mid output from to holds.entry holds.stands is from_below to_below reply).0;
+            left = map_left c server k files word mid output from to holds.entry holds.stands is from_below to_below reply;
           }
 
     call_leaves : (place : CachePlace) (hand : ℕ) → CacheStands d (view_in c.state c.slot) place hand → IsUnderWay place →
@@ -169,10 +169,14 @@ module _ (d : Disk) (c : Caller) (server : IsServer c.state c.slot) (files : Opt
 
 -- ---- the step
 
--- all that it leaves
-pub record CacheLeaves (s after : KernelState) (n : ℕ) : Type 0 where
+-- the page of a request stays
+pub record RequestLeft (s after : KernelState) (n : ℕ) : Type 0 where
   pub request : HasRequest after n
   pub bytes : request_bytes after n ≡ request_bytes s n
+
+-- all that it leaves
+pub record CacheLeaves (s after : KernelState) (n : ℕ) : Type 0 where
+  pub kept : HasRequest s n → RequestLeft s after n
   pub table : LeavesTable s after n
   pub server : server_at after n ≡ server_at s n
   pub rendezvous : (slot_at after n).rendezvous ≡ (slot_at s n).rendezvous
@@ -199,11 +203,14 @@ words_behind : (s mid : KernelState) (n : ℕ) (next : CacheState) → length (s
 words_behind s mid n next twelve left =
     let words : List ℕ = with_state (slot_at mid n).extra next in
     let slot : Slot = record (slot_at mid n) { extra = words } in
-    let there : slot_at mid n ≡ slot_at s n = ap (λ (e : Environments). e.slots n) left.kept.environments in
+    let there : slot_at mid n ≡ slot_at s n = ap (λ (e : Environments). e.slots n) left.left.environments in
     let long : length (slot_at mid n).extra ≡ 12 = ap (λ (x : Slot). length x.extra) there ∙ twelve in
     record {
-      request = request_set mid n slot refl left.kept.request;
-      bytes = request_bytes_set mid n slot refl left.kept.request ∙ left.kept.bytes;
+      kept = λ h.
+          (let kept = left.kept h in record {
+            request = request_set mid n slot refl kept.request;
+            bytes = request_bytes_set mid n slot refl kept.request ∙ kept.bytes;
+          });
       table = table_set slot refl;
       server =
           ap (λ (x : Slot). server_in x.registers x.extra) (slot_put mid n slot)
@@ -218,19 +225,20 @@ words_behind s mid n next twelve left =
         let same : (slot_at (with_slot_at mid n slot) n).directory ≡ (slot_at mid n).directory =
         ap (λ (x : Slot). x.directory) (slot_put mid n slot) ∙ directory in
         record {
-          entries = λ p is. ap (λ (q : ℕ). mid.spaces.entries q p) same ∙ left.table.entries p is;
-          bytes = left.table.bytes;
-          counts = left.table.counts;
-          apart = λ p q x y is own x_is y_is. left.table.apart p q x y is own x_is (ap (λ (r : ℕ). mid.spaces.entries r q) (sym same) ∙ y_is);
+          entries = λ p is. ap (λ (q : ℕ). mid.spaces.entries q p) same ∙ left.left.table.entries p is;
+          bytes = left.left.table.bytes;
+          counts = left.left.table.counts;
+          apart = λ p q x y is own x_is y_is. left.left.table.apart p q x y is own x_is (ap (λ (r : ℕ). mid.spaces.entries r q) (sym same) ∙ y_is);
+          lacks = λ none. ap (λ (q : ℕ). mid.spaces.entries q request_page) same ∙ left.left.table.lacks none;
         }
 
 pub step_leaves : (d : Disk) (c : Caller) (server : IsServer c.state c.slot) (state : CacheState) (before : Files) (behind : Option Files)
-    (tells : Told) (after : KernelState) (output : Output) → HasRequest c.state c.slot → HasFileTable c.state c.slot →
+    (tells : Told) (after : KernelState) (output : Output) → HasFileTable c.state c.slot →
     length (slot_at c.state c.slot).extra ≡ 12 → CacheStands d (view_in c.state c.slot) state.place state.hand → IsUnderWay state.place →
     HasGone state c (from_to (Some before) behind) tells after output → CacheLeaves c.state after c.slot
-step_leaves d c server state before behind tells after output h k twelve stands goes (by_word word mid reply files tells_is is) =
+step_leaves d c server state before behind tells after output k twelve stands goes (by_word word mid reply files tells_is is) =
     subst (λ (m : KernelState). CacheLeaves c.state m c.slot) (sym is)
     (words_behind c.state mid c.slot _ twelve
-    (call_leaves d c server (Some before) mid output h k word state.place state.hand stands goes reply))
-step_leaves d c server state before behind tells after output h k twelve stands goes (stopped why other reply files tells_is) =
+    (call_leaves d c server (Some before) mid output k word state.place state.hand stands goes reply))
+step_leaves d c server state before behind tells after output k twelve stands goes (stopped why other reply files tells_is) =
     absurd (never_stopped d c server (Some before) after output state.place state.hand why stands goes other reply)

@@ -39,7 +39,7 @@ use Rattle.fs_cache.proofs.Interfaces.{IsServer}
 use Rattle.fs_cache.proofs.Loads.{number_below, number_of, own_number, row_below}
 use Rattle.fs_cache.proofs.PagesPut.{address_is, block_is}
 use Rattle.fs_tree.proofs.TiesPages.{HasAccessed, accessed_to_read, accessed_to_write}
-use Rattle.fs_seen.specs.ServerMemory.{HasFileTable, entry_of, is_table_page, records_page}
+use Rattle.fs_seen.specs.ServerMemory.{HasFileTable, entry_of, is_table_page, records_page, request_page}
 use Rattle.fs_seen.proofs.Changes.{block_server, table_no_block}
 use Rattle.fs_seen.proofs.OneEntry.{OneEntry, one_accessed, one_inserted, one_taken, one_unmapped, uses_put, uses_touched}
 use Rattle.fs_seen.proofs.PagesTaken.{page_not_free}
@@ -47,24 +47,51 @@ use Rattle.fs_seen.proofs.TableLeft.{LeavesTable}
 
 -- ---- in the kernel's state
 
+-- A call leaves the table, and no slot changes.
+pub record LeavesCall (s mid : KernelState) (n : ℕ) : Type 0 where
+  pub table : LeavesTable s mid n
+  pub environments : mid.environments ≡ s.environments
+
 module _ (s : KernelState) (n : ℕ) (uses : HasOneUse s.spaces) (k : HasFileTable s n) where
   abbrev dir : ℕ
   dir = (slot_at s n).directory
 
-  pub itself : LeavesTable s s n
-  itself = record { entries = λ p is. refl; bytes = λ p e is there. refl; counts = λ p e is there. refl; apart = k.apart }
+  pub itself : LeavesCall s s n
+  itself = record {
+    table = record {
+      entries = λ p is. refl;
+      bytes = λ p e is there. refl;
+      counts = λ p e is there. refl;
+      apart = k.apart;
+      lacks = λ none. none;
+    };
+    environments = refl;
+  }
 
-  pub by_refusal : LeavesTable s (with_refusal s) n
-  by_refusal = record { entries = λ p is. refl; bytes = λ p e is there. refl; counts = λ p e is there. refl; apart = k.apart }
+  pub by_refusal : LeavesCall s (with_refusal s) n
+  by_refusal = record {
+    table = record {
+      entries = λ p is. refl;
+      bytes = λ p e is there. refl;
+      counts = λ p e is there. refl;
+      apart = k.apart;
+      lacks = λ none. none;
+    };
+    environments = refl;
+  }
 
   -- where no entry changes
   pub by_bits : (t : SpacesState) → t.entries ≡ s.spaces.entries → t.pages ≡ s.spaces.pages → t.uses ≡ s.spaces.uses →
-      LeavesTable s (with_spaces s t) n
+      LeavesCall s (with_spaces s t) n
   by_bits t entries pages same = record {
-    entries = λ p is i. entries i dir p;
-    bytes = λ p e is there i. pages i e.frame;
-    counts = λ p e is there i. page_count (entries i) e.frame + own_count (same i e.frame);
-    apart = λ p q x y is own x_is y_is. k.apart p q x y is own x_is ((λ i. sym entries i dir q) ∙ y_is);
+    table = record {
+      entries = λ p is i. entries i dir p;
+      bytes = λ p e is there i. pages i e.frame;
+      counts = λ p e is there i. page_count (entries i) e.frame + own_count (same i e.frame);
+      apart = λ p q x y is own x_is y_is. k.apart p q x y is own x_is ((λ i. sym entries i dir q) ∙ y_is);
+      lacks = λ none. (λ i. entries i dir request_page) ∙ none;
+    };
+    environments = refl;
   }
 
   -- the records' page is there, so the directory is one
@@ -75,7 +102,8 @@ module _ (s : KernelState) (n : ℕ) (uses : HasOneUse s.spaces) (k : HasFileTab
   owned = (uses.within dir records_page records.0 records.1).0
 
   -- another page of the server's
-  module _ (at : ℕ) (own : is_server_page at ≡ true) (lone : (p : ℕ) → is_table_page p ≡ true → p ≢ at) where
+  module _ (at : ℕ) (own : is_server_page at ≡ true) (lone : (p : ℕ) → is_table_page p ≡ true → p ≢ at)
+      (lacks_it : entry_of s n request_page ≡ None → request_page ≢ at) where
     -- no page of the table has its frame
     pub page_apart : (e : Entry) → entry_of s n at ≡ Some e → (p : ℕ) (x : Entry) → is_table_page p ≡ true → entry_of s n p ≡ Some x →
         x.frame ≢ e.frame
@@ -103,25 +131,29 @@ module _ (s : KernelState) (n : ℕ) (uses : HasOneUse s.spaces) (k : HasFileTab
       in_use : (p : ℕ) (x : Entry) → entry_of s n p ≡ Some x → s.spaces.uses x.frame ≢ free
       in_use p x there = page_not_free (s.spaces.uses x.frame) (uses.pages dir p x there)
 
-      pub by_page : LeavesTable s now n
+      pub by_page : LeavesCall s now n
       by_page = record {
-        entries = λ p is. other p (lone p is);
-        bytes = λ p x is there. (one.kept x.frame (in_use p x there) (old p x is there) (apart p x is there)).0;
-        counts = λ p x is there. (one.kept x.frame (in_use p x there) (old p x is there) (apart p x is there)).1;
-        apart = λ p q x y is q_own x_is y_is same. elim (cases_eq q at) [
-          | inl equal ↦
-              let it : o ≡ Some y = sym here ∙ ap (entry_of now n) (sym equal) ∙ y_is in
-              absurd (apart p x is x_is (ap frame_of it ∙ ap (λ (f : ℕ). Some f) (sym same)))
-          | inr ne ↦ k.apart p q x y is q_own x_is (sym (other q ne) ∙ y_is) same
-        ];
+        table = record {
+          entries = λ p is. other p (lone p is);
+          bytes = λ p x is there. (one.kept x.frame (in_use p x there) (old p x is there) (apart p x is there)).0;
+          counts = λ p x is there. (one.kept x.frame (in_use p x there) (old p x is there) (apart p x is there)).1;
+          apart = λ p q x y is q_own x_is y_is same. elim (cases_eq q at) [
+            | inl equal ↦
+                let it : o ≡ Some y = sym here ∙ ap (entry_of now n) (sym equal) ∙ y_is in
+                absurd (apart p x is x_is (ap frame_of it ∙ ap (λ (f : ℕ). Some f) (sym same)))
+            | inr ne ↦ k.apart p q x y is q_own x_is (sym (other q ne) ∙ y_is) same
+          ];
+          lacks = λ none. other request_page (lacks_it none) ∙ none;
+        };
+        environments = refl;
       }
 
     -- where it is accessed
     pub by_access : (low : at < page_limit) (mid : KernelState) (e : Entry) (bytes : List ℕ) → entry_of s n at ≡ Some e →
-        HasAccessed s mid n at e bytes → mid.spaces.uses ≡ s.spaces.uses → LeavesTable s mid n
+        HasAccessed s mid n at e bytes → mid.spaces.uses ≡ s.spaces.uses → LeavesCall s mid n
     by_access low mid e bytes stands a same =
         let kept : a.spaces.uses ≡ s.spaces.uses = ap (λ (m : KernelState). m.spaces.uses) (sym a.is) ∙ same in
-        subst (λ (m : KernelState). LeavesTable s m n) (sym a.is)
+        subst (λ (m : KernelState). LeavesCall s m n) (sym a.is)
         (by_page a.spaces (Some a.accessed.entry) (one_accessed s.spaces uses dir at owned low a.spaces e bytes stands a.accessed kept)
         (λ p x is there frames. page_apart e stands p x is there (sym (same_Some a.accessed.entry.frame x.frame frames) ∙ a.accessed.frame)))
 
@@ -130,17 +162,20 @@ module _ (s : KernelState) (n : ℕ) (uses : HasOneUse s.spaces) (k : HasFileTab
     abbrev no_table : (p : ℕ) → is_table_page p ≡ true → p ≢ number_of b
     no_table p is = table_no_block p b is below
 
+    no_request : entry_of s n request_page ≡ None → request_page ≢ number_of b
+    no_request none same = absurd (omega (arith, same))
+
     pub block_apart : (e : Entry) → entry_of s n (number_of b) ≡ Some e → (p : ℕ) (x : Entry) → is_table_page p ≡ true →
         entry_of s n p ≡ Some x → x.frame ≢ e.frame
-    block_apart = page_apart (number_of b) (block_server b below) no_table
+    block_apart = page_apart (number_of b) (block_server b below) no_table no_request
 
     pub by_block : (t : SpacesState) (o : Option Entry) → OneEntry s.spaces t dir (number_of b) o →
-        ((p : ℕ) (x : Entry) → is_table_page p ≡ true → entry_of s n p ≡ Some x → frame_of o ≢ Some x.frame) → LeavesTable s (with_spaces s t) n
-    by_block = by_page (number_of b) (block_server b below) no_table
+        ((p : ℕ) (x : Entry) → is_table_page p ≡ true → entry_of s n p ≡ Some x → frame_of o ≢ Some x.frame) → LeavesCall s (with_spaces s t) n
+    by_block = by_page (number_of b) (block_server b below) no_table no_request
 
     pub by_block_access : (mid : KernelState) (e : Entry) (bytes : List ℕ) → entry_of s n (number_of b) ≡ Some e →
-        HasAccessed s mid n (number_of b) e bytes → mid.spaces.uses ≡ s.spaces.uses → LeavesTable s mid n
-    by_block_access = by_access (number_of b) (block_server b below) no_table (number_below b below)
+        HasAccessed s mid n (number_of b) e bytes → mid.spaces.uses ≡ s.spaces.uses → LeavesCall s mid n
+    by_block_access = by_access (number_of b) (block_server b below) no_table no_request (number_below b below)
 
 -- ---- what is asked
 
@@ -192,7 +227,7 @@ module _ (c : Caller) (server : IsServer c.state c.slot) (k : HasFileTable c.sta
   d = (slot_at s n).directory
 
   abbrev Left : Type 0
-  Left = LeavesTable s mid n
+  Left = LeavesCall s mid n
 
   abbrev one_use : HasOneUse s.spaces
   one_use = server.in_order.frames
@@ -200,7 +235,7 @@ module _ (c : Caller) (server : IsServer c.state c.slot) (k : HasFileTable c.sta
   load_left : (va : ℕ) → page_limit ≤ page_number va → IsStep (load s n va) (Ok word) mid output → Left
   load_left va above call =
       let same = window_untouched s.spaces d va above in
-      subst (λ (m : KernelState). LeavesTable s m n) (sym (loaded_state s mid n va word output call))
+      subst (λ (m : KernelState). LeavesCall s m n) (sym (loaded_state s mid n va word output call))
       (by_bits s n one_use k (touched s.spaces d va Read) same.0 same.1 (uses_touched s.spaces d va Read))
 
   pub region_left : (b : ℕ) → IsReply (ask_region b) c files (Ok word) mid output → Left
@@ -218,14 +253,14 @@ module _ (c : Caller) (server : IsServer c.state c.slot) (k : HasFileTable c.sta
       elim (page_made_or_refused s n (block_address b) page_perm tail server.live (address_is b below) refl) [
         | inl made ↦
             let came = comes_to step (Answered 0) reply.0 (with_spaces s made.spaces) mid [] output made.step call in
-            subst (λ (m : KernelState). LeavesTable s m n) (sym came.1)
+            subst (λ (m : KernelState). LeavesCall s m n) (sym came.1)
             (taken_left made.spaces made.frame (ap (λ (p : ℕ). allocated s.spaces d p page_perm) (sym (own_number b)) ∙ made.is))
         | inr refused ↦
             let came = comes_to step (Answered (negated E_NO_MEM)) reply.0 (with_refusal s) mid [] output refused.step call in
-            subst (λ (m : KernelState). LeavesTable s m n) (sym came.1) (by_refusal s n one_use k)
+            subst (λ (m : KernelState). LeavesCall s m n) (sym came.1) (by_refusal s n one_use k)
       ]
     where
-      taken_left : (t : SpacesState) (f : ℕ) → allocated s.spaces d (number_of b) page_perm ≡ Some (f, t) → LeavesTable s (with_spaces s t) n
+      taken_left : (t : SpacesState) (f : ℕ) → allocated s.spaces d (number_of b) page_perm ≡ Some (f, t) → LeavesCall s (with_spaces s t) n
       taken_left t f is =
           let it = one_taken s.spaces one_use d (number_of b) (owned s n one_use k) (number_below b below) t page_perm f is in
           by_block s n one_use k b below t (Some (record { frame = f; perm = page_perm })) it.1
@@ -253,10 +288,10 @@ module _ (c : Caller) (server : IsServer c.state c.slot) (k : HasFileTable c.sta
         let whole = step ∙ ap (λ (p : ℕ). made_step s (inserted s.spaces d p given)) (own_number to) in
         let state : mid ≡ (made_step s (inserted s.spaces d (number_of to) given)).state =
         call.1 ∙ ap (λ (z : CallStep Called). z.state) whole in
-        subst (λ (m : KernelState). LeavesTable s m n) (sym state) (inserted_left there from_below to_below (inserted s.spaces d (number_of to) given) refl)
+        subst (λ (m : KernelState). LeavesCall s m n) (sym state) (inserted_left there from_below to_below (inserted s.spaces d (number_of to) given) refl)
       where
         inserted_left : s.spaces.entries d (number_of from) ≡ Some x → from < CACHE_BLOCKS → to < CACHE_BLOCKS →
-            (o : Option SpacesState) → inserted s.spaces d (number_of to) given ≡ o → LeavesTable s (made_step s o).state n
+            (o : Option SpacesState) → inserted s.spaces d (number_of to) given ≡ o → LeavesCall s (made_step s o).state n
         inserted_left there from_below to_below None none = by_refusal s n one_use k
         inserted_left there from_below to_below (Some t) some =
             by_block s n one_use k to to_below t (Some given)
@@ -272,7 +307,7 @@ module _ (c : Caller) (server : IsServer c.state c.slot) (k : HasFileTable c.sta
       let step = page_unmap_is s n server.live (block_address b) tail (address_is b below) in
       let state : mid ≡ with_spaces s (unmapped s.spaces d (number_of b)) =
       call.1 ∙ ap (λ (z : CallStep Called). z.state) step ∙ ap (λ (p : ℕ). with_spaces s (unmapped s.spaces d p)) (own_number b) in
-      subst (λ (m : KernelState). LeavesTable s m n) (sym state)
+      subst (λ (m : KernelState). LeavesCall s m n) (sym state)
       (by_block s n one_use k b below (unmapped s.spaces d (number_of b)) None
       (one_unmapped s.spaces one_use d (number_of b) (owned s n one_use k) (number_below b below))
       (λ p x table there same. none-some x.frame same))
@@ -286,7 +321,7 @@ module _ (c : Caller) (server : IsServer c.state c.slot) (k : HasFileTable c.sta
 
     read_by : (t : Bool) → IsReadBy t (of_block c b) files word mid → Left
     unfolding block_put
-    read_by false call = subst (λ (m : KernelState). LeavesTable s m n) (sym call.1) (itself s n one_use k)
+    read_by false call = subst (λ (m : KernelState). LeavesCall s m n) (sym call.1) (itself s n one_use k)
     read_by true call =
         let came = call.2 in
         access_left _
@@ -299,7 +334,7 @@ module _ (c : Caller) (server : IsServer c.state c.slot) (k : HasFileTable c.sta
         fits bytes long = let first : page_offset (block_address b) ≡ 0 = omega arith in omega (arith, first, long)
 
     sent_by : (t : Bool) → IsSentBy t (of_block c b) word mid → Left
-    sent_by false call = subst (λ (m : KernelState). LeavesTable s m n) (sym call.1) (itself s n one_use k)
+    sent_by false call = subst (λ (m : KernelState). LeavesCall s m n) (sym call.1) (itself s n one_use k)
     sent_by true call =
         access_left (s.spaces.pages x.frame)
         (accessed_to_read s n (number_of b) x (number_below b below) entry_there is (block_address b) (own_number b) mid call.1)

@@ -23,18 +23,18 @@ use Rattle.lib_os.proofs.BytesPut.{bytes_put, put_whole}
 use Rattle.lib_os.proofs.Calls.{comes_to, getenvid_is, yield_is}
 use Rattle.lib_os.proofs.PageBytes.{word_bytes}
 use Rattle.fs_cache.proofs.BlockMoves.{block_allows}
-use Rattle.fs_tree.specs.TreeSteps.{request_bytes}
+use Rattle.fs_tree.specs.TreeSteps.{HasRequest, request_bytes}
 use Rattle.fs_tree.proofs.TiesBlocks.{request_holds, request_low, request_number}
-use Rattle.fs_tree.proofs.TiesWords.{memory_set, tree_set}
 use Rattle.fs_requests.specs.ServerPlans.{open_page, open_record}
 use Rattle.fs_serving.specs.ServerViews.{View, page_word, request_word, with_page_word, word_of}
-use Rattle.fs_seen.specs.ServerMemory.{bytes_by, entry_of, frame_by, is_table_page, place_entry, place_page, records_page, view_in}
+use Rattle.fs_seen.specs.ServerMemory.{bytes_by, entry_of, frame_by, has_request, is_table_page, place_entry, place_page, records_page, view_in}
 use Rattle.fs_seen.specs.ServerSees.{AllStands}
 use Rattle.fs_seen.proofs.Accesses.{load_gives, store_gives, word_loaded, word_stored}
 use Rattle.fs_seen.proofs.Alike.{IsBehind}
 use Rattle.fs_seen.proofs.Changes.{place_table, records_table, table_below}
 use Rattle.fs_seen.proofs.OwnPages.{place_stored, record_stored, request_loaded, table_loaded}
-use Rattle.fs_seen.proofs.Setting.{table_set, view_set}
+use Rattle.fs_seen.proofs.Over.{tree_of}
+use Rattle.fs_seen.proofs.Setting.{memory_over, over_set, requested_set, view_set}
 use Rattle.fs_seen.proofs.WindowsSeen.{stands_still}
 
 module _ (d : Disk) (s : KernelState) (n : ℕ) (h : AllStands d s n) where
@@ -45,16 +45,19 @@ module _ (d : Disk) (s : KernelState) (n : ℕ) (h : AllStands d s n) where
   dir = (slot_at s n).directory
 
   in_order : IsInOrder s
-  in_order = h.tree.cache.in_order
+  in_order = h.stands.cache.in_order
 
-  -- ---- words of the request
+  -- ---- words of the request, where its page is there
 
-  module _ (at : ℕ) (fits : at + 4 ≤ PGSIZE) where
+  module _ (there : has_request s n ≡ true) (at : ℕ) (fits : at + 4 ≤ PGSIZE) where
+    abbrev pub request : HasRequest s n
+    request = (tree_of d s n h.stands there).request
+
     abbrev pub request_va : ℕ
     request_va = REQUEST + at
 
     abbrev pub request_page : List ℕ
-    request_page = s.spaces.pages h.tree.request.entry.frame
+    request_page = s.spaces.pages request.entry.frame
 
     in_request : page_number request_va ≡ request_number
     in_request = omega (arith, fits)
@@ -65,13 +68,13 @@ module _ (d : Disk) (s : KernelState) (n : ℕ) (h : AllStands d s n) where
     request_fits : page_offset request_va + 4 ≤ PGSIZE
     request_fits = omega (arith, fits)
 
-    may_request : (access : Access) → allows h.tree.request.entry.perm access ≡ true
-    may_request = block_allows h.tree.request.entry h.tree.request.bits
+    may_request : (access : Access) → allows request.entry.perm access ≡ true
+    may_request = block_allows request.entry request.bits
 
     request_byte : (k : ℕ) → k < PGSIZE → request_bytes s n k ≡ slice_index request_page k
     request_byte k below =
         let inside : nat_lt k PGSIZE ≡ true = grind (arith, nat_tests) in
-        rw inside (request_holds s n h.tree.request.entry h.tree.request.stands h.tree.request.bits k below)
+        rw inside (request_holds s n request.entry request.stands request.bits k below)
 
     request_word_is : word_at (slice_index request_page) (page_offset request_va) ≡ request_word v at
     request_word_is =
@@ -80,18 +83,18 @@ module _ (d : Disk) (s : KernelState) (n : ℕ) (h : AllStands d s n) where
         ∷ sym (request_byte (at + 2) (omega (arith, fits))) i ∷ sym (request_byte (at + 3) (omega (arith, fits))) i ∷ []))
 
     pub request_gives : (load s n request_va).gives ≡ got (word_at (slice_index request_page) (page_offset request_va))
-    request_gives = load_gives s n request_number h.tree.request.entry request_low h.tree.request.stands may_request request_va in_request
+    request_gives = load_gives s n request_number request.entry request_low request.stands may_request request_va in_request
         request_fits
 
     pub load_request : (word : ℕ) (mid : KernelState) (output : Output) → IsStep (load s n request_va) (Ok word) mid output → IsInOrder mid →
-        (word ≡ request_word v at) × IsBehind d mid n v
+        (word ≡ request_word v at) × IsBehind d s mid n v
     load_request word mid output call order =
-        let loaded = word_loaded s n request_number h.tree.request.entry request_low h.tree.request.stands may_request request_va in_request
+        let loaded = word_loaded s n request_number request.entry request_low request.stands may_request request_va in_request
         request_fits word mid output call in
         let accessed = loaded.1 in (
           loaded.0 ∙ request_word_is,
-          subst (λ (m : KernelState). IsBehind d m n v) (sym accessed.is)
-              (request_loaded d s n h.tree h.table accessed.spaces accessed.accessed (subst (λ (m : KernelState). IsInOrder m) accessed.is order)),
+          subst (λ (m : KernelState). IsBehind d s m n v) (sym accessed.is)
+              (request_loaded d s n h.stands request.entry request.stands accessed.spaces accessed.accessed (subst (λ (m : KernelState). IsInOrder m) accessed.is order)),
         )
 
   -- ---- words of the records
@@ -101,19 +104,19 @@ module _ (d : Disk) (s : KernelState) (n : ℕ) (h : AllStands d s n) where
   record_there (Some e) is = (e, refl)
 
   abbrev pub records : Entry
-  records = (record_there (entry_of s n records_page) h.table.records).0
+  records = (record_there (entry_of s n records_page) h.stands.table.records).0
 
   records_stand : entry_of s n records_page ≡ Some records
-  records_stand = (record_there (entry_of s n records_page) h.table.records).1
+  records_stand = (record_there (entry_of s n records_page) h.stands.table.records).1
 
   abbrev pub records_bytes : List ℕ
   records_bytes = s.spaces.pages records.frame
 
   may_records : (access : Access) → allows records.perm access ≡ true
-  may_records = (h.table.pages records_page records records_table records_stand).allowed
+  may_records = (h.stands.table.pages records_page records records_table records_stand).allowed
 
   records_whole : IsPage records_bytes
-  records_whole = (h.table.pages records_page records records_table records_stand).whole
+  records_whole = (h.stands.table.pages records_page records records_table records_stand).whole
 
   records_low : records_page < page_limit
   records_low = table_below records_page records_table
@@ -137,14 +140,14 @@ module _ (d : Disk) (s : KernelState) (n : ℕ) (h : AllStands d s n) where
     record_read_gives = load_gives s n records_page records records_low records_stand may_records (open_record number) in_records record_fits
 
     pub load_record : (word : ℕ) (mid : KernelState) (output : Output) → IsStep (load s n (open_record number)) (Ok word) mid output → IsInOrder mid →
-        (word ≡ v.homes number) × IsBehind d mid n v
+        (word ≡ v.homes number) × IsBehind d s mid n v
     load_record word mid output call order =
         let loaded = word_loaded s n records_page records records_low records_stand may_records
         (open_record number) in_records record_fits word mid output call in
         let accessed = loaded.1 in (
           loaded.0 ∙ home_is,
-          subst (λ (m : KernelState). IsBehind d m n v) (sym accessed.is)
-              (table_loaded d s n h.tree h.table records_page records_table records records_stand records_bytes records_whole accessed.spaces
+          subst (λ (m : KernelState). IsBehind d s m n v) (sym accessed.is)
+              (table_loaded d s n h.stands records_page records_table records records_stand records_bytes records_whole accessed.spaces
               accessed.accessed
               (subst (λ (m : KernelState). IsInOrder m) accessed.is order) refl),
         )
@@ -154,12 +157,12 @@ module _ (d : Disk) (s : KernelState) (n : ℕ) (h : AllStands d s n) where
 
     pub store_record : (word : ℕ) → word < 2 ^ 32 → (mid : KernelState) (output : Output) →
         IsStep (store s n (open_record number) word) (Ok tt) mid output →
-        IsInOrder mid → IsBehind d mid n (record v { homes = upd v.homes number word })
+        IsInOrder mid → IsBehind d s mid n (record v { homes = upd v.homes number word })
     store_record word small mid output call order =
         let accessed = word_stored s n records_page records records_low records_stand may_records
         (open_record number) in_records record_fits word mid output call in
-        subst (λ (m : KernelState). IsBehind d m n (record v { homes = upd v.homes number word })) (sym accessed.is)
-        (record_stored d s n h.tree h.table records_page records_table records records_stand
+        subst (λ (m : KernelState). IsBehind d s m n (record v { homes = upd v.homes number word })) (sym accessed.is)
+        (record_stored d s n h.stands records_page records_table records records_stand
         (bytes_put records_bytes (page_offset (open_record number)) (to_le_bytes w32 word))
         (put_whole records_bytes (page_offset (open_record number)) (to_le_bytes w32 word) (word_bytes word) records_whole)
         accessed.spaces accessed.accessed (subst (λ (m : KernelState). IsInOrder m) accessed.is order) number below refl word small
@@ -199,10 +202,10 @@ module _ (d : Disk) (s : KernelState) (n : ℕ) (h : AllStands d s n) where
     place_bytes = s.spaces.pages e.frame
 
     may_place : (access : Access) → allows e.perm access ≡ true
-    may_place = (h.table.pages p e is_table e_stands).allowed
+    may_place = (h.stands.table.pages p e is_table e_stands).allowed
 
     place_whole : IsPage place_bytes
-    place_whole = (h.table.pages p e is_table e_stands).whole
+    place_whole = (h.stands.table.pages p e is_table e_stands).whole
 
     pub frame_is : v.frames number ≡ e.frame
     frame_is = ap frame_by (entry_is ∙ e_stands)
@@ -229,13 +232,13 @@ module _ (d : Disk) (s : KernelState) (n : ℕ) (h : AllStands d s n) where
       place_gives = load_gives s n p e p_low e_stands may_place place_va in_place place_fits
 
       pub load_place : (word : ℕ) (mid : KernelState) (output : Output) → IsStep (load s n place_va) (Ok word) mid output → IsInOrder mid →
-          (word ≡ page_word v number at) × IsBehind d mid n v
+          (word ≡ page_word v number at) × IsBehind d s mid n v
       load_place word mid output call order =
           let loaded = word_loaded s n p e p_low e_stands may_place place_va in_place place_fits word mid output call in
           let accessed = loaded.1 in (
             loaded.0 ∙ word_is,
-            subst (λ (m : KernelState). IsBehind d m n v) (sym accessed.is)
-                (table_loaded d s n h.tree h.table p is_table e e_stands place_bytes place_whole accessed.spaces accessed.accessed
+            subst (λ (m : KernelState). IsBehind d s m n v) (sym accessed.is)
+                (table_loaded d s n h.stands p is_table e e_stands place_bytes place_whole accessed.spaces accessed.accessed
                 (subst (λ (m : KernelState). IsInOrder m) accessed.is order) refl),
           )
 
@@ -243,11 +246,11 @@ module _ (d : Disk) (s : KernelState) (n : ℕ) (h : AllStands d s n) where
       place_store_gives = store_gives s n p e p_low e_stands may_place place_va in_place place_fits
 
       pub store_place : (word : ℕ) (mid : KernelState) (output : Output) → IsStep (store s n place_va word) (Ok tt) mid output → IsInOrder mid →
-          IsBehind d mid n (with_page_word v number at word)
+          IsBehind d s mid n (with_page_word v number at word)
       store_place word mid output call order =
           let accessed = word_stored s n p e p_low e_stands may_place place_va in_place place_fits word mid output call in
-          subst (λ (m : KernelState). IsBehind d m n (with_page_word v number at word)) (sym accessed.is)
-          (place_stored d s n h.tree h.table p is_table e e_stands
+          subst (λ (m : KernelState). IsBehind d s m n (with_page_word v number at word)) (sym accessed.is)
+          (place_stored d s n h.stands p is_table e e_stands
           (bytes_put place_bytes (page_offset place_va) (to_le_bytes w32 word))
           (put_whole place_bytes (page_offset place_va) (to_le_bytes w32 word) (word_bytes word) place_whole)
           accessed.spaces accessed.accessed (subst (λ (m : KernelState). IsInOrder m) accessed.is order) number below refl at word fits
@@ -257,23 +260,23 @@ module _ (d : Disk) (s : KernelState) (n : ℕ) (h : AllStands d s n) where
 
   pub getenvid_made : (args : List ℕ) (called : Called) (mid : KernelState) (output : Output) →
       IsCallStep (system s n SYS_GETENVID args) (Ok called) mid output →
-      IsBehind d mid n v
+      IsBehind d s mid n v
   getenvid_made args called mid output call =
       let came = comes_to (system s n SYS_GETENVID args) (Answered (slot_at s n).id) called s mid [] output
-      (getenvid_is s n h.tree.cache.live args) call in
-      stands_still d s n h.tree h.table mid s.spaces came.1 refl
+      (getenvid_is s n h.stands.cache.live args) call in
+      stands_still d s n h.stands mid s.spaces came.1 refl
 
   pub yield_made : (args : List ℕ) (called : Called) (mid : KernelState) (output : Output) →
       IsCallStep (system s n SYS_YIELD args) (Ok called) mid output →
-      IsInOrder mid → IsBehind d mid n v
+      IsInOrder mid → IsBehind d s mid n v
   yield_made args called mid output call order =
       let came = comes_to (system s n SYS_YIELD args) (Answered 0) called (with_status s n Runnable) mid [] output
-      (yield_is s n h.tree.cache.live args) call in
+      (yield_is s n h.stands.cache.live args) call in
       let slot : Slot = record (slot_at s n) { status = Runnable } in
       let set = subst (λ (m : KernelState). IsInOrder m) came.1 order in
-      subst (λ (m : KernelState). IsBehind d m n v) (sym came.1)
+      subst (λ (m : KernelState). IsBehind d s m n v) (sym came.1)
       (record {
-        tree = tree_set s n slot refl d h.tree set refl refl h.tree.cache.words refl;
-        table = table_set s n slot refl h.table;
-        view = view_set s n slot refl d (memory_set s n slot refl d h.tree set refl refl h.tree.cache.words refl) refl;
+        over = over_set s n slot refl d h.stands set refl refl h.stands.cache.words refl;
+        request_stays = requested_set s n slot refl;
+        view = view_set s n slot refl d (memory_over s n slot refl d h.stands set refl refl h.stands.cache.words refl) refl;
       })

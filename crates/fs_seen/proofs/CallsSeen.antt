@@ -22,8 +22,8 @@ use Rattle.fs_requests.specs.ServerWords.{server_in}
 use Rattle.fs_serving.specs.ServerViews.{IsReplyFor, IsSeenBehind, View, called, gone_on, request_word, with_page_word}
 use Rattle.fs_server.specs.ServerSteps as server
 use Rattle.fs_server.specs.ServerSteps.{HasCalled, IsReply, by_word, server_at, was_stopped}
-use Rattle.fs_seen.specs.ServerMemory.{serving_in, view_in}
-use Rattle.fs_seen.specs.ServerSees.{CallsAreSeen, CallsGoOn, HasPlace, IsSeen, NeedsAt, AllStands, ServesAlike, is_quiet}
+use Rattle.fs_seen.specs.ServerMemory.{has_request, serving_in, view_in}
+use Rattle.fs_seen.specs.ServerSees.{CallsAreSeen, CallsGoOn, HasPlace, IsSeen, NeedsAt, AllStands, ServesAlike, is_quiet, reads_request}
 use Rattle.fs_seen.proofs.Accesses.{never_stops}
 use Rattle.fs_seen.proofs.Alike.{IsBehind}
 use Rattle.fs_seen.proofs.CallsMade.{e, e_stands, frame_is, getenvid_made, is_table, load_place, load_record, load_request, place_gives}
@@ -42,7 +42,7 @@ pub record HasGiven (d : Disk) (s mid : KernelState) (n : ℕ) (at : ServerStep)
   pub view : View
   pub gives : IsReplyFor at st (view_in d s n) word
   pub seen : IsSeenBehind at st (view_in d s n) view
-  pub behind : IsBehind d mid n view
+  pub behind : IsBehind d s mid n view
 
 -- the words of a message in a record
 value_at : (slot : Slot) → get_or (record_words slot) 10 0 ≡ slot.rendezvous.value
@@ -78,11 +78,11 @@ module _ (d : Disk) (s : KernelState) (n : ℕ) (h : AllStands d s n) (st : Serv
     same_frame = frame ∙ frame_is d s n h st.number below there
 
     load_count : (word : ℕ) (mid : KernelState) → IsStep (load s n (count_at (st.at / PGSIZE))) (Ok word) mid output →
-        (word ≡ v.holders (st.at / PGSIZE)) × IsBehind d mid n v
+        (word ≡ v.holders (st.at / PGSIZE)) × IsBehind d s mid n v
     load_count word mid reply =
-        let loaded = count_loaded d s n h.tree h.table (place_page st.number) (is_table d s n h st.number below there)
+        let loaded = count_loaded d s n h.stands (place_page st.number) (is_table d s n h st.number below there)
         (e d s n h st.number below there)
-        (e_stands d s n h st.number below there) h.tree.cache.in_order.frames h.words word mid output
+        (e_stands d s n h st.number below there) h.stands.cache.in_order.frames h.words word mid output
         (subst (λ (f : ℕ). IsStep (load s n (count_at f)) (Ok word) mid output) same_frame reply) in
         (loaded.0 ∙ ap v.holders (sym same_frame), loaded.1)
 
@@ -90,37 +90,37 @@ module _ (d : Disk) (s : KernelState) (n : ℕ) (h : AllStands d s n) (st : Serv
     count_goes why mid reply =
         let f : ℕ = (e d s n h st.number below there).frame in
         never_stops (load s n (count_at f)) _ why mid output
-        (count_gives d s n h.tree h.table (place_page st.number) (is_table d s n h st.number below there) (e d s n h st.number below there)
-        (e_stands d s n h st.number below there) h.tree.cache.in_order.frames h.words)
+        (count_gives d s n h.stands (place_page st.number) (is_table d s n h st.number below there) (e d s n h st.number below there)
+        (e_stands d s n h st.number below there) h.stands.cache.in_order.frames h.words)
         (subst (λ (g : ℕ). IsStep (load s n (count_at g)) (Err why) mid output) same_frame reply)
 
   load_entry : (there : HasPlace st v) (word : ℕ) (mid : KernelState) →
       IsStep (load s n (UVPT + 4 * (open_page st.number / PGSIZE))) (Ok word) mid output →
-      IsInOrder mid → (word / PGSIZE ≡ v.frames st.number) × IsBehind d mid n v
+      IsInOrder mid → (word / PGSIZE ≡ v.frames st.number) × IsBehind d s mid n v
   load_entry there word mid reply order =
-      let loaded = entry_loaded d s n h.tree h.table (place_page st.number) (is_table d s n h st.number below there) (e d s n h st.number below there)
-      (e_stands d s n h st.number below there) h.tree.cache.in_order.frames word mid output reply order in
+      let loaded = entry_loaded d s n h.stands (place_page st.number) (is_table d s n h st.number below there) (e d s n h st.number below there)
+      (e_stands d s n h st.number below there) h.stands.cache.in_order.frames word mid output reply order in
       (loaded.0 ∙ sym (frame_is d s n h st.number below there), loaded.1)
 
   entry_goes : (there : HasPlace st v) (why : Stop) (mid : KernelState) →
       IsStep (load s n (UVPT + 4 * (open_page st.number / PGSIZE))) (Err why) mid output → ⊥
   entry_goes there why mid reply =
       never_stops (load s n (UVPT + 4 * place_page st.number)) _ why mid output
-      (entry_gives d s n h.tree h.table (place_page st.number) (is_table d s n h st.number below there) (e d s n h st.number below there)
-      (e_stands d s n h st.number below there) h.tree.cache.in_order.frames)
+      (entry_gives d s n h.stands (place_page st.number) (is_table d s n h st.number below there) (e d s n h st.number below there)
+      (e_stands d s n h st.number below there) h.stands.cache.in_order.frames)
       reply
 
   -- ---- what is given
 
   module _ (mid : KernelState) (order : IsInOrder mid) (word : ℕ) where
     -- what changes nothing that is seen
-    still : (at : ServerStep) → IsReplyFor at st v word → IsSeenBehind at st v v → IsBehind d mid n v → HasGiven d s mid n at st word
+    still : (at : ServerStep) → IsReplyFor at st v word → IsSeenBehind at st v v → IsBehind d s mid n v → HasGiven d s mid n at st word
     still at gives seen behind = record { view = v; gives = gives; seen = seen; behind = behind }
 
-    of_request : (at : ServerStep) (place : ℕ) → place + 4 ≤ PGSIZE → IsStep (load s n (REQUEST + place)) (Ok word) mid output →
+    of_request : (at : ServerStep) (place : ℕ) → has_request s n ≡ true → place + 4 ≤ PGSIZE → IsStep (load s n (REQUEST + place)) (Ok word) mid output →
         ((word ≡ request_word v place) → IsReplyFor at st v word) → IsSeenBehind at st v v → HasGiven d s mid n at st word
-    of_request at place fits reply gives seen =
-        let loaded = load_request d s n h place fits word mid output reply order in still at (gives loaded.0) seen loaded.1
+    of_request at place there fits reply gives seen =
+        let loaded = load_request d s n h there place fits word mid output reply order in still at (gives loaded.0) seen loaded.1
 
     of_record : (at : ServerStep) → IsStep (load s n (open_record st.number)) (Ok word) mid output →
         ((word ≡ v.homes st.number) → IsReplyFor at st v word) → IsSeenBehind at st v v → HasGiven d s mid n at st word
@@ -137,64 +137,64 @@ module _ (d : Disk) (s : KernelState) (n : ℕ) (h : AllStands d s n) (st : Serv
       behind = store_place d s n h st.number below there place fits put mid output reply order;
     }
 
-    pub given : (at : ServerStep) → is_quiet at ≡ true → NeedsAt at st v n → st.home < 2 ^ 32 → IsReply (call_for st at) s n (Ok word) mid output →
-        HasGiven d s mid n at st word
-    given step.ReadingKind quiet first small reply =
-        let loaded = record_loaded d s n h.tree h.table 10 (omega arith) (value_small first) word mid output reply in
+    pub given : (at : ServerStep) → is_quiet at ≡ true → NeedsAt at st v n → (reads_request at ≡ true → has_request s n ≡ true) → st.home < 2 ^ 32 →
+        IsReply (call_for st at) s n (Ok word) mid output → HasGiven d s mid n at st word
+    given step.ReadingKind quiet first reads small reply =
+        let loaded = record_loaded d s n h.stands 10 (omega arith) (value_small first) word mid output reply in
         still step.ReadingKind (loaded.0 ∙ value_is first) refl loaded.1
-    given step.ReadingClient quiet first small reply =
-        let loaded = record_loaded d s n h.tree h.table 11 (omega arith) (sender_small first) word mid output reply in
+    given step.ReadingClient quiet first reads small reply =
+        let loaded = record_loaded d s n h.stands 11 (omega arith) (sender_small first) word mid output reply in
         still step.ReadingClient (loaded.0 ∙ sender_is first) refl loaded.1
-    given step.ReadingFile quiet need small reply = of_request step.ReadingFile REQUEST_FILE (omega arith) reply (λ is. is) refl
-    given step.ReadingOffset quiet there small reply =
+    given step.ReadingFile quiet need reads small reply = of_request step.ReadingFile REQUEST_FILE (reads refl) (omega arith) reply (λ is. is) refl
+    given step.ReadingOffset quiet there reads small reply =
         let loaded = load_place d s n h st.number below there FD_OFFSET (omega arith) word mid output reply order in
         still step.ReadingOffset loaded.0 refl loaded.1
-    given step.ReadingCount quiet need small reply = of_request step.ReadingCount REQUEST_COUNT (omega arith) reply (λ is. is) refl
-    given step.ReadingRecord quiet need small reply = of_record step.ReadingRecord reply (λ is. is) refl
-    given step.LookingRecord quiet need small reply = of_record step.LookingRecord reply (λ is. is) refl
-    given step.LookingEntry quiet there small reply =
+    given step.ReadingCount quiet need reads small reply = of_request step.ReadingCount REQUEST_COUNT (reads refl) (omega arith) reply (λ is. is) refl
+    given step.ReadingRecord quiet need reads small reply = of_record step.ReadingRecord reply (λ is. is) refl
+    given step.LookingRecord quiet need reads small reply = of_record step.LookingRecord reply (λ is. is) refl
+    given step.LookingEntry quiet there reads small reply =
         let loaded = load_entry there word mid reply order in still step.LookingEntry loaded.0 refl loaded.1
-    given step.LookingHolders quiet need small reply =
+    given step.LookingHolders quiet need reads small reply =
         let loaded = load_count need.0 need.1 word mid reply in still step.LookingHolders loaded.0 refl loaded.1
-    given step.ReadingMode quiet need small reply = of_request step.ReadingMode REQUEST_MODE (omega arith) reply (λ is. is) refl
-    given step.StoringRecord quiet need small reply = record {
+    given step.ReadingMode quiet need reads small reply = of_request step.ReadingMode REQUEST_MODE (reads refl) (omega arith) reply (λ is. is) refl
+    given step.StoringRecord quiet need reads small reply = record {
       view = record v { homes = upd v.homes st.number st.home };
       gives = tt;
       seen = refl;
       behind = store_record d s n h st.number below st.home small mid output reply.1 order;
     }
-    given step.StoringDevice quiet there small reply =
+    given step.StoringDevice quiet there reads small reply =
         of_store step.StoringDevice FD_DEVICE DEVICE_FILE (omega arith) there reply.1 tt (λ w is. is)
-    given step.ReadingModeAgain quiet need small reply = of_request step.ReadingModeAgain REQUEST_MODE (omega arith) reply (λ is. is) refl
-    given step.StoringMode quiet there small reply =
+    given step.ReadingModeAgain quiet need reads small reply = of_request step.ReadingModeAgain REQUEST_MODE (reads refl) (omega arith) reply (λ is. is) refl
+    given step.StoringMode quiet there reads small reply =
         of_store step.StoringMode FD_MODE (st.count % 4) (omega arith) there reply.1 tt (λ w is. is)
-    given step.StoringFile quiet there small reply = of_store step.StoringFile FD_FILE st.number (omega arith) there reply.1 tt (λ w is. is)
-    given step.Advancing quiet there small reply =
+    given step.StoringFile quiet there reads small reply = of_store step.StoringFile FD_FILE st.number (omega arith) there reply.1 tt (λ w is. is)
+    given step.Advancing quiet there reads small reply =
         let loaded = load_place d s n h st.number below there FD_OFFSET (omega arith) word mid output reply order in
         still step.Advancing loaded.0 refl loaded.1
-    given step.StoringOffset quiet there small reply = of_store step.StoringOffset FD_OFFSET st.at (omega arith) there reply.1 tt (λ w is. is)
-    given step.CheckingRecord quiet need small reply = of_record step.CheckingRecord reply (λ is. is) refl
-    given step.CheckingEntry quiet there small reply =
+    given step.StoringOffset quiet there reads small reply = of_store step.StoringOffset FD_OFFSET st.at (omega arith) there reply.1 tt (λ w is. is)
+    given step.CheckingRecord quiet need reads small reply = of_record step.CheckingRecord reply (λ is. is) refl
+    given step.CheckingEntry quiet there reads small reply =
         let loaded = load_entry there word mid reply order in still step.CheckingEntry loaded.0 refl loaded.1
-    given step.CheckingHolders quiet need small reply =
+    given step.CheckingHolders quiet need reads small reply =
         let loaded = load_count need.0 need.1 word mid reply in still step.CheckingHolders loaded.0 refl loaded.1
-    given step.Acting quiet need small (answer, told, call) =
+    given step.Acting quiet need reads small (answer, told, call) =
         still step.Acting tt refl (getenvid_made d s n h (0 ∷ 0 ∷ 0 ∷ 0 ∷ 0 ∷ []) answer mid output call)
-    given step.Pausing quiet need small (answer, told, call) =
+    given step.Pausing quiet need reads small (answer, told, call) =
         still step.Pausing tt refl (yield_made d s n h (0 ∷ 0 ∷ 0 ∷ 0 ∷ 0 ∷ []) answer mid output call order)
-    given step.Releasing quiet need small reply = absurd (let contradiction : false ≡ true = quiet in cc)
-    given step.Receiving quiet need small reply = absurd (let contradiction : false ≡ true = quiet in cc)
-    given step.TakingPage quiet need small reply = absurd (let contradiction : false ≡ true = quiet in cc)
-    given step.Working quiet need small reply = absurd (let contradiction : false ≡ true = quiet in cc)
-    given step.Finding quiet need small reply = absurd (let contradiction : false ≡ true = quiet in cc)
-    given step.Flushing quiet need small reply = absurd (let contradiction : false ≡ true = quiet in cc)
-    given step.Replying quiet need small reply = absurd (let contradiction : false ≡ true = quiet in cc)
+    given step.Releasing quiet need reads small reply = absurd (let contradiction : false ≡ true = quiet in cc)
+    given step.Receiving quiet need reads small reply = absurd (let contradiction : false ≡ true = quiet in cc)
+    given step.TakingPage quiet need reads small reply = absurd (let contradiction : false ≡ true = quiet in cc)
+    given step.Working quiet need reads small reply = absurd (let contradiction : false ≡ true = quiet in cc)
+    given step.Finding quiet need reads small reply = absurd (let contradiction : false ≡ true = quiet in cc)
+    given step.Flushing quiet need reads small reply = absurd (let contradiction : false ≡ true = quiet in cc)
+    given step.Replying quiet need reads small reply = absurd (let contradiction : false ≡ true = quiet in cc)
 
   -- ---- no fault
 
   module _ (mid : KernelState) (why : Stop) where
-    request_goes : (place : ℕ) → place + 4 ≤ PGSIZE → IsStep (load s n (REQUEST + place)) (Err why) mid output → ⊥
-    request_goes place fits = never_stops (load s n (REQUEST + place)) _ why mid output (request_gives d s n h place fits)
+    request_goes : (place : ℕ) → has_request s n ≡ true → place + 4 ≤ PGSIZE → IsStep (load s n (REQUEST + place)) (Err why) mid output → ⊥
+    request_goes place there fits = never_stops (load s n (REQUEST + place)) _ why mid output (request_gives d s n h there place fits)
 
     record_goes : IsStep (load s n (open_record st.number)) (Err why) mid output → ⊥
     record_goes = never_stops (load s n (open_record st.number)) _ why mid output (record_read_gives d s n h st.number below)
@@ -208,41 +208,42 @@ module _ (d : Disk) (s : KernelState) (n : ℕ) (h : AllStands d s n) (st : Serv
     store_goes there place put fits =
         never_stops (store s n (open_page st.number + place) put) tt why mid output (place_store_gives d s n h st.number below there place fits put)
 
-    pub goes : (at : ServerStep) → is_quiet at ≡ true → NeedsAt at st v n → IsReply (call_for st at) s n (Err why) mid output → ⊥
-    goes step.ReadingKind quiet first reply =
+    pub goes : (at : ServerStep) → is_quiet at ≡ true → NeedsAt at st v n → (reads_request at ≡ true → has_request s n ≡ true) →
+        IsReply (call_for st at) s n (Err why) mid output → ⊥
+    goes step.ReadingKind quiet first reads reply =
         never_stops (load s n (UENVS + 64 * 0 + 4 * 10)) _ why mid output
-        (record_gives d s n h.tree h.table 10 (omega arith) (value_small first)) reply
-    goes step.ReadingClient quiet first reply =
+        (record_gives d s n h.stands 10 (omega arith) (value_small first)) reply
+    goes step.ReadingClient quiet first reads reply =
         never_stops (load s n (UENVS + 64 * 0 + 4 * 11)) _ why mid output
-        (record_gives d s n h.tree h.table 11 (omega arith) (sender_small first)) reply
-    goes step.ReadingFile quiet need reply = request_goes REQUEST_FILE (omega arith) reply
-    goes step.ReadingOffset quiet there reply = place_goes there reply
-    goes step.ReadingCount quiet need reply = request_goes REQUEST_COUNT (omega arith) reply
-    goes step.ReadingRecord quiet need reply = record_goes reply
-    goes step.LookingRecord quiet need reply = record_goes reply
-    goes step.LookingEntry quiet there reply = entry_goes there why mid reply
-    goes step.LookingHolders quiet need reply = count_goes need.0 need.1 why mid reply
-    goes step.ReadingMode quiet need reply = request_goes REQUEST_MODE (omega arith) reply
-    goes step.StoringRecord quiet need reply =
+        (record_gives d s n h.stands 11 (omega arith) (sender_small first)) reply
+    goes step.ReadingFile quiet need reads reply = request_goes REQUEST_FILE (reads refl) (omega arith) reply
+    goes step.ReadingOffset quiet there reads reply = place_goes there reply
+    goes step.ReadingCount quiet need reads reply = request_goes REQUEST_COUNT (reads refl) (omega arith) reply
+    goes step.ReadingRecord quiet need reads reply = record_goes reply
+    goes step.LookingRecord quiet need reads reply = record_goes reply
+    goes step.LookingEntry quiet there reads reply = entry_goes there why mid reply
+    goes step.LookingHolders quiet need reads reply = count_goes need.0 need.1 why mid reply
+    goes step.ReadingMode quiet need reads reply = request_goes REQUEST_MODE (reads refl) (omega arith) reply
+    goes step.StoringRecord quiet need reads reply =
         never_stops (store s n (open_record st.number) st.home) tt why mid output (record_store_gives d s n h st.number below st.home) reply
-    goes step.StoringDevice quiet there reply = store_goes there FD_DEVICE DEVICE_FILE (omega arith) reply
-    goes step.ReadingModeAgain quiet need reply = request_goes REQUEST_MODE (omega arith) reply
-    goes step.StoringMode quiet there reply = store_goes there FD_MODE (st.count % 4) (omega arith) reply
-    goes step.StoringFile quiet there reply = store_goes there FD_FILE st.number (omega arith) reply
-    goes step.Advancing quiet there reply = place_goes there reply
-    goes step.StoringOffset quiet there reply = store_goes there FD_OFFSET st.at (omega arith) reply
-    goes step.CheckingRecord quiet need reply = record_goes reply
-    goes step.CheckingEntry quiet there reply = entry_goes there why mid reply
-    goes step.CheckingHolders quiet need reply = count_goes need.0 need.1 why mid reply
-    goes step.Acting quiet need reply = reply
-    goes step.Pausing quiet need reply = reply
-    goes step.Releasing quiet need reply = reply
-    goes step.Receiving quiet need reply = reply
-    goes step.TakingPage quiet need reply = reply
-    goes step.Working quiet need reply = reply
-    goes step.Finding quiet need reply = reply
-    goes step.Flushing quiet need reply = reply
-    goes step.Replying quiet need reply = reply
+    goes step.StoringDevice quiet there reads reply = store_goes there FD_DEVICE DEVICE_FILE (omega arith) reply
+    goes step.ReadingModeAgain quiet need reads reply = request_goes REQUEST_MODE (reads refl) (omega arith) reply
+    goes step.StoringMode quiet there reads reply = store_goes there FD_MODE (st.count % 4) (omega arith) reply
+    goes step.StoringFile quiet there reads reply = store_goes there FD_FILE st.number (omega arith) reply
+    goes step.Advancing quiet there reads reply = place_goes there reply
+    goes step.StoringOffset quiet there reads reply = store_goes there FD_OFFSET st.at (omega arith) reply
+    goes step.CheckingRecord quiet need reads reply = record_goes reply
+    goes step.CheckingEntry quiet there reads reply = entry_goes there why mid reply
+    goes step.CheckingHolders quiet need reads reply = count_goes need.0 need.1 why mid reply
+    goes step.Acting quiet need reads reply = reply
+    goes step.Pausing quiet need reads reply = reply
+    goes step.Releasing quiet need reads reply = reply
+    goes step.Receiving quiet need reads reply = reply
+    goes step.TakingPage quiet need reads reply = reply
+    goes step.Working quiet need reads reply = reply
+    goes step.Finding quiet need reads reply = reply
+    goes step.Flushing quiet need reads reply = reply
+    goes step.Replying quiet need reads reply = reply
 
 -- ---- the laws
 
@@ -269,7 +270,7 @@ module _ (d : Disk) (s : KernelState) (n : ℕ) (output : Output) (h : AllStands
       after ≡ server.gone_on mid n (next_at st word) →
       IsSeen d s after n (next_at st word).seen
   seen_by mid after word g order is =
-      let gone = has_gone_on mid n (next_at st word) d (goes_well st st.step word own_below) g.behind.tree g.behind.table
+      let gone = has_gone_on mid n (next_at st word) d (goes_well st st.step word own_below) g.behind.over
       (job_in s n) after is order in
       record {
         next = next_at st word;
@@ -277,20 +278,20 @@ module _ (d : Disk) (s : KernelState) (n : ℕ) (output : Output) (h : AllStands
         calls = called word g.view g.gives g.seen refl;
         stands_as = subst (λ (w : View). ServesAlike (going_to (next_at st word) (job_in s n) w) (serving_in d after n)) g.behind.view gone.stands_as;
         shows = refl;
-        tree = gone.tree;
-        table = gone.table;
+        stands = gone.over;
+        request_stays = gone.request_stays ∙ g.behind.request_stays;
       }
 
 pub calls_go_on : CallsGoOn
-calls_go_on d s mid n output why quiet need h reply =
-    goes d s n h (server_at s n) (own_below d s n output h) output mid why (server_at s n).step quiet need reply
+calls_go_on d s mid n output why quiet need reads h reply =
+    goes d s n h (server_at s n) (own_below d s n output h) output mid why (server_at s n).step quiet need reads reply
 
 pub calls_are_seen : CallsAreSeen
-calls_are_seen d s after n output _ quiet need h order (by_word word mid reply is) =
+calls_are_seen d s after n output _ quiet need reads h order (by_word word mid reply is) =
     let st : ServerState = server_at s n in
     seen_by d s n output h mid after word
-    (given d s n h st (own_below d s n output h) output mid (was_in_order mid n (next_at st word) after is order) word st.step quiet need
+    (given d s n h st (own_below d s n output h) output mid (was_in_order mid n (next_at st word) after is order) word st.step quiet need reads
     (home_small d s n output h) reply)
     order is
-calls_are_seen d s after n output _ quiet need h order (was_stopped why done reply stopped) =
-    absurd (goes d s n h (server_at s n) (own_below d s n output h) output after why (server_at s n).step quiet need reply)
+calls_are_seen d s after n output _ quiet need reads h order (was_stopped why done reply stopped) =
+    absurd (goes d s n h (server_at s n) (own_below d s n output h) output after why (server_at s n).step quiet need reads reply)

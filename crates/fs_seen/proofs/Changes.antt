@@ -1,7 +1,7 @@
 -- What stays of the server's tree and table where a space changes: the cache where nothing of it does, the page of the request and those of the
 -- table by what is there then.
-use Rattle.std.proofs.Common.{◌≡◌, ◌≢◌, ◌∙◌, ◌⊎◌, ◌<◌, ◌≤◌, ◌+◌, ◌==◌, ◌&&◌, ◌||◌, inl, inr, ℕ, Bool, true, false, List, Option, Some, None}
-use Rattle.std.proofs.Common.{refl, sym, subst, arith}
+use Rattle.std.proofs.Common.{◌≡◌, ◌≢◌, ◌∙◌, ◌⊎◌, ◌<◌, ◌≤◌, ◌+◌, ◌==◌, ◌&&◌, ◌||◌, inl, inr, ℕ, Bool, true, false, Option, Some, None}
+use Rattle.std.proofs.Common.{refl, sym, arith}
 use Rattle.std.proofs.lemmas.Bool.{cases_lt}
 use Rattle.std.proofs.lemmas.Bool.Decides.{nat_tests}
 use Rattle.std.specs.Prelude.{nat_le, nat_lt}
@@ -15,16 +15,16 @@ use Rattle.lib_os.specs.declared.numbers.TheConstants.{CACHE_BLOCKS, DISKMAP, MA
 use Rattle.lib_os.specs.BlockCache.{block_row, own_addresses}
 use Rattle.lib_os.specs.Disk.{Disk}
 use Rattle.lib_os.specs.InOrder.{IsInOrder}
-use Rattle.lib_os.specs.Rows.{IsPage}
-use Rattle.fs_cache.specs.CacheStands.{CacheAt, IsBlockEntry, cache_view, cached_in}
+use Rattle.fs_cache.specs.CacheStands.{CacheAt, cache_view, cached_in}
 use Rattle.fs_cache.specs.CacheSteps.{cache_state}
 use Rattle.fs_cache.proofs.Loads.{number_of, row_below, row_past}
 use Rattle.fs_cache.proofs.Views.{ViewKept}
-use Rattle.fs_tree.specs.TreeSteps.{HasRequest, TreeAt, disk_bytes, memory_in}
-use Rattle.fs_tree.proofs.TiesBlocks.{request_number, request_same}
-use Rattle.fs_seen.specs.ServerMemory.{is_table_page, place_page, records_page}
+use Rattle.fs_tree.specs.TreeSteps.{disk_bytes, memory_in}
+use Rattle.fs_tree.proofs.TiesBlocks.{request_number}
+use Rattle.fs_seen.specs.ServerMemory.{HasFileTable, StandsOver, is_table_page, place_page, records_page}
 use Rattle.lib_os.specs.MadeCalls.{is_page_from, is_server_page}
 use Rattle.fs_seen.proofs.CacheKept.{cached_kept, stands_kept}
+use Rattle.fs_seen.proofs.Over.{RequestAlike, bytes_alike, request_alike}
 
 -- ---- the numbers of the pages
 
@@ -142,7 +142,7 @@ rows_kept s t d same m = elim (cases_lt m CACHE_BLOCKS) [
 
 -- ---- a state with other spaces
 
-module _ (d : Disk) (s : KernelState) (n : ℕ) (h : TreeAt d s n) (t : SpacesState) (in_order : IsInOrder (with_spaces s t))
+module _ (d : Disk) (s : KernelState) (n : ℕ) (h : StandsOver d s n) (t : SpacesState) (in_order : IsInOrder (with_spaces s t))
     (kept : ViewKept (cache_view s.spaces (slot_at s n).directory) (cache_view t (slot_at s n).directory)) where
   abbrev dir : ℕ
   dir = (slot_at s n).directory
@@ -162,21 +162,16 @@ module _ (d : Disk) (s : KernelState) (n : ℕ) (h : TreeAt d s n) (t : SpacesSt
   cached_is : cached_in now n ≡ cached_in s n
   cached_is = cached_kept d (cache_view s.spaces dir) (cache_view t dir) kept (cache_state s n).place
 
-  -- the page of the request is that of this entry
-  module _ (entry : Entry) (stands : t.entries dir request_number ≡ Some entry) (bits : IsBlockEntry entry)
-      (frame : entry.frame ≡ h.request.entry.frame)
-      (same : t.pages entry.frame ≡ s.spaces.pages h.request.entry.frame) where
-    abbrev has_request : HasRequest now n
-    has_request = record {
-      entry = entry;
-      stands = stands;
-      bits = bits;
-      whole = subst (λ (page : List ℕ). IsPage page) (sym same) h.request.whole;
-      apart = λ m x is frames. h.request.apart m x (sym (kept.row m) ∙ is) (frames ∙ frame);
+  -- the page of the request stays
+  module _ (alike : RequestAlike s now n) where
+    pub over_kept : HasFileTable now n → StandsOver d now n
+    over_kept table = record {
+      cache = cache_at;
+      count = h.count;
+      bytes = h.bytes;
+      request = request_alike s now n kept.row h.request alike;
+      table = table;
     }
 
-    pub tree_kept : TreeAt d now n
-    tree_kept = record { cache = cache_at; request = has_request; count = h.count }
-
     pub memory_kept : memory_in d now n ≡ memory_in d s n
-    memory_kept = λ i. record { disk = disk_bytes d (cached_is i); page = request_same s now n h.request has_request same i }
+    memory_kept = λ i. record { disk = disk_bytes d (cached_is i); page = bytes_alike s now n (λ x is. (h.request x is).bits) alike i }

@@ -1,6 +1,7 @@
 -- A step of the job leaves the table of open files: its call is one of the cache's, or an access to the page of a block or of the request.
 use Rattle.std.proofs.Common.{◌≡◌, ◌≢◌, ◌∙◌, ◌+◌, ◌-◌, ◌%◌, ◌<◌, ◌≤◌, ℕ, true, List, [], ◌∷◌, Option, Some, None, Result, Ok, Err}
 use Rattle.std.proofs.Common.{refl, sym, ap, arith}
+use Rattle.std.proofs.lemmas.Option.{none-some}
 use Rattle.std.specs.Int.{w32, to_le_bytes}
 use Rattle.jos_host.specs.Files.{Files}
 use Rattle.jos_base.specs.declared.memory.Access.{Access}
@@ -32,15 +33,14 @@ use Rattle.fs_cache.proofs.Loads.{number_below, number_of, row_below}
 use Rattle.fs_jobs.specs.declared.asks.TreeAsk.{TreeAsk}
 use Rattle.fs_jobs.specs.declared.asks.TreeAsk.TheVariants as ask
 use Rattle.fs_jobs.specs.TreeTests.{low_byte}
-use Rattle.fs_tree.specs.TreeMakes.{IsAccess}
+use Rattle.fs_tree.specs.TreeMakes.{IsAccess, IsTreeCall, IsTreeStep, asks_block, asks_request, fetches}
 use Rattle.fs_tree.specs.TreeSteps.{TreeAt}
 use Rattle.fs_tree.proofs.TiesBlocks.{found_entry, found_stands, request_low, request_number}
 use Rattle.fs_tree.proofs.TiesLaw.{access_slot}
 use Rattle.fs_tree.proofs.TiesPages.{byte_loaded, byte_stored, word_loaded, word_stored}
-use Rattle.fs_seen.specs.BlockSteps.{IsJobsCall, IsJobsStep, asks_block, asks_request, fetches}
-use Rattle.fs_seen.specs.ServerMemory.{HasFileTable, entry_of, is_table_page}
+use Rattle.fs_seen.specs.ServerMemory.{HasFileTable, entry_of, is_table_page, request_page}
 use Rattle.fs_seen.proofs.CacheLeaves.{CacheLeaves, step_leaves}
-use Rattle.fs_seen.proofs.CallsLeave.{by_access}
+use Rattle.fs_seen.proofs.CallsLeave.{LeavesCall, by_access}
 use Rattle.fs_seen.proofs.Changes.{block_server, request_server, table_no_block, table_no_request}
 use Rattle.fs_seen.proofs.OneEntry.{uses_put, uses_touched}
 use Rattle.fs_seen.proofs.TableLeft.{LeavesRest, LeavesTable}
@@ -96,7 +96,7 @@ module _ (s mid : KernelState) (n va : ℕ) (output : Output) where
 -- ---- an access to another page of the server's
 
 module _ (s mid : KernelState) (n : ℕ) (uses : HasOneUse s.spaces) (k : HasFileTable s n) (p : ℕ) (own : is_server_page p ≡ true)
-    (lone : (q : ℕ) → is_table_page q ≡ true → q ≢ p) (low : p < page_limit) (e : Entry) (stands : entry_of s n p ≡ Some e) (is : IsBlockEntry e)
+    (lone : (q : ℕ) → is_table_page q ≡ true → q ≢ p) (lacks_it : entry_of s n request_page ≡ None → request_page ≢ p) (low : p < page_limit) (e : Entry) (stands : entry_of s n p ≡ Some e) (is : IsBlockEntry e)
     (va : ℕ) (at : page_number va ≡ p) (output : Output) where
   abbrev word_va : ℕ
   word_va = va - va % 4
@@ -110,23 +110,23 @@ module _ (s mid : KernelState) (n : ℕ) (uses : HasOneUse s.spaces) (k : HasFil
   byte_fits : page_offset va + 1 ≤ PGSIZE
   byte_fits = omega arith
 
-  byte_read : (w : ℕ) → IsStep (load_byte s n va) (Ok w) mid output → LeavesTable s mid n
+  byte_read : (w : ℕ) → IsStep (load_byte s n va) (Ok w) mid output → LeavesCall s mid n
   byte_read w call =
-      by_access s n uses k p own lone low mid e _ stands (byte_loaded s n p e low stands is va at mid output (Ok w) call).1
+      by_access s n uses k p own lone lacks_it low mid e _ stands (byte_loaded s n p e low stands is va at mid output (Ok w) call).1
       (byte_loads s mid n va output w call)
 
-  byte_written : (value : ℕ) → IsStep (store_byte s n va value) (Ok tt) mid output → LeavesTable s mid n
+  byte_written : (value : ℕ) → IsStep (store_byte s n va value) (Ok tt) mid output → LeavesCall s mid n
   byte_written value call =
-      by_access s n uses k p own lone low mid e _ stands (byte_stored s n p e low stands is va at mid output value byte_fits (Ok tt) call).1
+      by_access s n uses k p own lone lacks_it low mid e _ stands (byte_stored s n p e low stands is va at mid output value byte_fits (Ok tt) call).1
       (byte_stores s mid n va output value call)
 
-  pub access_left : (a : TreeAsk) (w : ℕ) → IsAccess a va s n (Ok w) mid output → LeavesTable s mid n
+  pub access_left : (a : TreeAsk) (w : ℕ) → IsAccess a va s n (Ok w) mid output → LeavesCall s mid n
   access_left (ask.Load place) w call =
-      by_access s n uses k p own lone low mid e _ stands
+      by_access s n uses k p own lone lacks_it low mid e _ stands
       (word_loaded s n p e low stands is word_va word_at_page mid output word_fits (Ok w) call).1 (word_loads s mid n word_va output w call)
   access_left (ask.LoadByte place) w call = byte_read w call
   access_left (ask.Store place value) w call =
-      by_access s n uses k p own lone low mid e _ stands
+      by_access s n uses k p own lone lacks_it low mid e _ stands
       (word_stored s n p e low stands is word_va word_at_page mid output value word_fits (Ok tt) call.1).1
       (word_stores s mid n word_va output value call.1)
   access_left (ask.StoreByte place value) w call = byte_written (low_byte value) call.1
@@ -149,10 +149,10 @@ module _ (disk : DiskFile) (before now : Files) (s : KernelState) (n : ℕ) (h :
   abbrev Left : KernelState → Type 0
   Left mid = LeavesTable s mid n × ((slot_at mid n).directory ≡ dir)
 
-  call_left : (mid : KernelState) (output : Output) → IsJobsCall disk before now s mid n output → Left mid
+  call_left : (mid : KernelState) (output : Output) → IsTreeCall disk before now s mid n output → Left mid
   call_left mid output (fetches block told below done) =
       let left : CacheLeaves s mid n =
-      step_leaves d (caller s n disk) (server_of d s n h.cache) (fetch_state s n block) before (Some now) told mid output h.request k h.cache.words
+      step_leaves d (caller s n disk) (server_of d s n h.cache) (fetch_state s n block) before (Some now) told mid output k h.cache.words
       (fetch_stands d (view_in s n) (cache_state s n).place (cache_state s n).hand block below h.cache.stands)
       (fetch_goes (cache_state s n).place block) done in
       (left.table, left.directory)
@@ -162,18 +162,20 @@ module _ (disk : DiskFile) (before now : Files) (s : KernelState) (n : ℕ) (h :
       let entry = found_entry d s n block h found in
       let there : entry_of s n (number_of block) ≡ Some entry.0 = sym (row_below s.spaces dir block below) ∙ entry.1 in
       let number : page_number (block_address block + at) ≡ number_of block = omega (arith, small) in (
-        access_left s mid n uses k (number_of block) (block_server block below) (λ q is. table_no_block q block is below) (number_below block below)
-            entry.0 there (stands.entries block entry.0 entry.1) (block_address block + at) number output a word call,
+        (access_left s mid n uses k (number_of block) (block_server block below) (λ q is. table_no_block q block is below)
+            (λ none same. absurd (omega (arith, same))) (number_below block below)
+            entry.0 there (stands.entries block entry.0 entry.1) (block_address block + at) number output a word call).table,
         ap (λ (x : Slot). x.directory) (access_slot a s mid n (block_address block + at) word output call),
       )
   call_left mid output (asks_request at word a small call) =
       let number : page_number (REQUEST + at) ≡ request_number = omega (arith, small) in (
-        access_left s mid n uses k request_number request_server table_no_request request_low h.request.entry h.request.stands h.request.bits
-            (REQUEST + at) number output a word call,
+        (access_left s mid n uses k request_number request_server table_no_request
+            (λ none. absurd (none-some h.request.entry (sym none ∙ h.request.stands))) request_low h.request.entry h.request.stands h.request.bits
+            (REQUEST + at) number output a word call).table,
         ap (λ (x : Slot). x.directory) (access_slot a s mid n (REQUEST + at) word output call),
       )
 
-  pub job_leaves : (after : KernelState) → IsJobsStep disk before now s after n → LeavesRest s after n
+  pub job_leaves : (after : KernelState) → IsTreeStep disk before now s after n → LeavesRest s after n
   job_leaves after it = record { table = table_now; rest = it.rest }
     where
       left : Left it.mid
@@ -191,4 +193,5 @@ module _ (disk : DiskFile) (before now : Files) (s : KernelState) (n : ℕ) (h :
         bytes = λ p x is there. (λ i. (it.spaces i).pages x.frame) ∙ left.0.bytes p x is there;
         counts = λ p x is there. (λ i. reference_count (it.spaces i) x.frame) ∙ left.0.counts p x is there;
         apart = λ p q x y is own x_is y_is. left.0.apart p q x y is own x_is (sym (entries_same q) ∙ y_is);
+        lacks = λ none. entries_same request_page ∙ left.0.lacks none;
       }

@@ -30,16 +30,19 @@ use Rattle.fs_requests.specs.declared.state.ServerStep.{ServerStep}
 use Rattle.fs_requests.specs.declared.state.ServerStep.TheVariants as step
 use Rattle.fs_requests.specs.ServerPlans.{ask_for, next_at}
 use Rattle.fs_requests.specs.ServerWords.{server_in}
-use Rattle.fs_serving.specs.ServerRuns.{Follows, GoesOnBy, StandsServing, WorksOn, is_serving, memory_worked, worked}
+use Rattle.fs_serving.specs.ServerRuns.{Follows, GoesOnBy, IsWorking, StandsAtStep, StandsServing, WorksOn, is_serving, memory_worked, worked}
 use Rattle.fs_serving.specs.ServerViews.{Serving, View}
 use Rattle.fs_serving.proofs.ServedWhole.{all_servers_serve}
 use Rattle.fs_server.specs.ServerSteps as server
-use Rattle.fs_server.specs.ServerSteps.{server_at}
-use Rattle.fs_seen.specs.BlockSteps.{HasWorkedAlone, JobsAreLawful, JobsServe, LacksBlock, SeesAlike, answers, goes}
-use Rattle.fs_seen.specs.ServerMemory.{HasFileTable, serving_in, view_in}
+use Rattle.fs_server.specs.ServerSteps.{HasWorked, answers, goes, server_at}
+use Rattle.fs_seen.specs.BlockSteps.{JobsAreLawful, JobsServe, LacksBlock, SeesAlike}
+use Rattle.fs_seen.specs.ServerMemory.{AreDiskBytes, HasRequested, StandsOver, has_request, serving_in, view_in}
 use Rattle.fs_seen.specs.ServerSees.{AllStands, HasServed, ServesAlike, is_working}
 use Rattle.fs_seen.proofs.GoesOn.{goes_well}
+use Rattle.fs_seen.proofs.DiskStays.{bytes_behind}
 use Rattle.fs_seen.proofs.JobsLeave.{job_leaves}
+use Rattle.fs_seen.proofs.Needs.{finding_page, working_page}
+use Rattle.fs_seen.proofs.Over.{all_small, over_of, tree_of, tree_requested}
 use Rattle.fs_seen.proofs.SeenAlike.{seeing, sees_as}
 use Rattle.fs_seen.proofs.ServesAs.{follows_as, serves_as}
 use Rattle.fs_seen.proofs.Setting.{HasGoneOn, going_to, has_gone_on}
@@ -123,9 +126,23 @@ works_on count a it on small h =
     served : is_serving it.state.step ≡ true → GoesOnBy (ask_for it.state it.state.step) count a it
     served serving = all_servers_serve count a it serving small h
 
+-- the page of the request is there
+page_at_work : (count : ℕ) (a : AbstractState) (it : Serving) (s : KernelState) (n : ℕ) → is_working it.state.step ≡ true → HasRequested a.server s n →
+    StandsServing count a it → has_request s n ≡ true
+page_at_work count a it s n on requested h = elim (working_or_finding it.state.step on) [
+  | inl is ↦
+      let works : IsWorking count a it h.before = subst (λ (at : ServerStep). StandsAtStep at count a it h.before) is h.at in
+      working_page a it h.before s n requested works
+  | inr is ↦
+      finding_page count a it h.before s n requested (subst (λ (at : ServerStep). StandsAtStep at count a it h.before) is h.at)
+]
+
 pub jobs_are_lawful : JobsAreLawful
-jobs_are_lawful a d s n on small h =
-    let works = works_on d.count a (serving_in d s n) on small h in record { bounded = works.bounded; inside = works.inside }
+jobs_are_lawful a d s n on requested over h =
+    let works = works_on d.count a (serving_in d s n) on (all_small d s n over) h in (
+      tree_of d s n over (page_at_work d.count a (serving_in d s n) s n on requested h),
+      record { bounded = works.bounded; inside = works.inside },
+    )
 
 -- ---- what follows where the same is seen
 
@@ -149,9 +166,18 @@ refusals_kept mid n next = refl
 -- ---- the job goes on
 
 module _ (count : ℕ) (a : AbstractState) (d e : Disk) (s : KernelState) (n : ℕ) (on : is_working (server_at s n).step ≡ true)
-    (small : AreSmall (memory_in d s n)) (table : HasFileTable s n) (h : StandsServing count a (serving_in d s n)) where
+    (requested : has_request s n ≡ true) (over : StandsOver d s n) (bytes : AreDiskBytes e) (h : StandsServing count a (serving_in d s n)) where
   abbrev it : Serving
   it = serving_in d s n
+
+  small : AreSmall (memory_in d s n)
+  small = all_small d s n over
+
+  stands_over : (after : KernelState) → LeavesRest s after n → TreeAt e after n → StandsOver e after n
+  stands_over after left tree = over_of e after n tree bytes (table_there s after n left.table over.table)
+
+  stays_there : (after : KernelState) → TreeAt e after n → has_request after n ≡ has_request s n
+  stays_there after tree = tree_requested e after n tree ∙ sym requested
 
   works : WorksOn count a it
   works = works_on count a it on small h
@@ -177,19 +203,19 @@ module _ (count : ℕ) (a : AbstractState) (d e : Disk) (s : KernelState) (n : �
       (sees_as count a (with_job job m) (view_in e after n) (sees_left s after n left.table d e m memory (rendezvous_still s after n left.rest)) stands)
 
   abbrev Served : KernelState → Progress → Type 0
-  Served after done = HasServed count a e after n done
+  Served after done = HasServed count a e s after n done
 
   goes_further : (told : Acted) (after : KernelState) → told ≡ acted.Going → HasStepped d e s after n told → LeavesRest s after n →
       Served after progress.Hidden
   goes_further _ after is (steps.waits waiting) left = record {
     follows = lands after (job_in s n) (memory_in d s n) left waiting.job waiting.memory h;
-    tree = waiting.stands;
-    table = table_there s after n left.table table;
+    stands = stands_over after left waiting.stands;
+    request_stays = stays_there after waiting.stands;
   }
   goes_further _ after is (steps.goes next moved by there) left = record {
     follows = lands after next (memory_worked it) left there moved.memory (works.goes next by);
-    tree = moved.stands;
-    table = table_there s after n left.table table;
+    stands = stands_over after left moved.stands;
+    request_stays = stays_there after moved.stands;
   }
   goes_further _ after is (steps.answers word moved by) left = absurd (let contradiction : acted.Answer word ≡ acted.Going = is in cc)
   goes_further _ after is (steps.lacks waiting refusal) left =
@@ -202,12 +228,9 @@ module _ (count : ℕ) (a : AbstractState) (d e : Disk) (s : KernelState) (n : �
     abbrev next : ServerNext
     next = next_at (server_at s n) word
 
-    abbrev there : HasFileTable mid n
-    there = table_there s mid n left.table table
-
     gone : TreeAt e mid n → HasGoneOn e mid after n next (job_in s n)
     gone stands =
-        has_gone_on mid n next e (goes_well (server_at s n) (server_at s n).step word (number_below s n)) stands there (job_in s n) after is order
+        has_gone_on mid n next e (goes_well (server_at s n) (server_at s n).step word (number_below s n)) (stands_over mid left stands) (job_in s n) after is order
 
     answers_so : HasMoved d e s mid n → tree.next_at (job_in s n) (reply_in d s n) ≡ Answer word → Served after next.seen
     answers_so moved by =
@@ -218,8 +241,8 @@ module _ (count : ℕ) (a : AbstractState) (d e : Disk) (s : KernelState) (n : �
               (follows_seen count a next.seen (going_to next (job_in s n) (worked it).view) (view_in e mid n)
               (sees_left s mid n left.table d e (memory_worked it) moved.memory (rendezvous_still s mid n left.rest))
               (works.answers word (still_small (tree.ask_at (job_in s n)) (memory_in d s n) small) by));
-          tree = behind.tree;
-          table = behind.table;
+          stands = behind.over;
+          request_stays = behind.request_stays ∙ stays_there mid moved.stands;
         }
 
     lacks_so : IsWaiting d e s mid n → (s.refusals < 2 ^ 64 - 1 → s.refusals < mid.refusals) → word ≡ negated E_NO_MEM →
@@ -235,8 +258,8 @@ module _ (count : ℕ) (a : AbstractState) (d e : Disk) (s : KernelState) (n : �
               (subst (λ (v : View). ServesAlike (going_to next (job_in s n) v) (serving_in e after n)) view behind.stands_as);
           sees = subst (λ (v : View). SeesAlike (view_in d s n) v) view sees;
           shows = ap (λ (w : ℕ). (next_at (server_at s n) w).seen) told;
-          tree = behind.tree;
-          table = behind.table;
+          stands = behind.over;
+          request_stays = behind.request_stays ∙ stays_there mid waiting.stands;
         }
 
     has_answered : (told : Acted) → told ≡ acted.Answer word → HasStepped d e s mid n told → Served after next.seen ⊎ LacksBlock d e s after n next.seen
@@ -254,7 +277,7 @@ module _ (count : ℕ) (a : AbstractState) (d e : Disk) (s : KernelState) (n : �
 -- ---- the law
 
 module _ (count : ℕ) (a : AbstractState) (disk : DiskFile) (before now : Files) (s : KernelState) (n : ℕ) (on : is_working (server_at s n).step ≡ true)
-    (small : AreSmall (memory_in (disk_in before disk) s n)) (all : AllStands (disk_in before disk) s n)
+    (requested : HasRequested a.server s n) (all : AllStands (disk_in before disk) s n)
     (h : StandsServing count a (serving_in (disk_in before disk) s n)) where
   abbrev d : Disk
   d = disk_in before disk
@@ -262,15 +285,22 @@ module _ (count : ℕ) (a : AbstractState) (disk : DiskFile) (before now : Files
   abbrev e : Disk
   e = disk_in now disk
 
-  has_worked : (after : KernelState) (done : Progress) → IsInOrder after → HasWorkedAlone (server_at s n) disk before now s after n done →
-      HasServed count a e after n done ⊎ LacksBlock d e s after n done
-  has_worked after _ order (goes stepped alone) =
-      inl (goes_further count a d e s n on small all.table h acted.Going after refl stepped
-      (job_leaves disk before now s n all.tree all.table after alone))
-  has_worked after _ order (answers word mid stepped alone is) =
-      has_answered count a d e s n on small all.table h mid after word (job_leaves disk before now s n all.tree all.table mid alone) order is
+  there : has_request s n ≡ true
+  there = page_at_work count a (serving_in d s n) s n on requested h
+
+  tree_there : TreeAt d s n
+  tree_there = tree_of d s n all.stands there
+
+  has_worked : (after : KernelState) (done : Progress) → AreDiskBytes e → IsInOrder after → HasWorked (server_at s n) disk before now s after n done →
+      HasServed count a e s after n done ⊎ LacksBlock d e s after n done
+  has_worked after _ bytes order (goes stepped alone) =
+      inl (goes_further count a d e s n on there all.stands bytes h acted.Going after refl stepped
+      (job_leaves disk before now s n tree_there all.stands.table after alone))
+  has_worked after _ bytes order (answers word mid stepped alone is) =
+      has_answered count a d e s n on there all.stands bytes h mid after word (job_leaves disk before now s n tree_there all.stands.table mid alone) order is
       (acted.Answer word) refl stepped
 
 pub jobs_serve : JobsServe
-jobs_serve count a disk before now s after done on small all h order worked =
-    has_worked count a disk before now s 0 on small all h after done order worked
+jobs_serve count a disk before now s after files output done on requested all h order is told made worked =
+    has_worked count a disk before now s 0 on requested all h after done
+    (bytes_behind disk before s 0 all.stands files is now told after output made) order worked

@@ -1,3 +1,5 @@
+pub mod Over
+pub mod DiskStays
 pub mod WordsBack
 pub mod GoesOn
 pub mod CacheKept
@@ -25,3 +27,15 @@ pub mod CacheLeaves
 pub mod JobsLeave
 pub mod JobsServed
 pub mod FlushesServed
+pub mod Unopened
+pub mod StaysSo
+pub mod TablesAlike
+pub mod StaysGone
+pub mod ServesFor
+pub mod Between
+pub mod BetweenRequests
+pub mod AskedNow
+pub mod RepliesNow
+pub mod TableStays
+pub mod OthersNow
+pub mod FirstServes

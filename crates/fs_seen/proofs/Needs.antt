@@ -1,23 +1,25 @@
 -- Where the server stands for the abstract one, its next call has what it needs: the page of the place at hand is there, and the frame that is
 -- looked at is that of the page.
-use Rattle.std.proofs.Common.{◌≡◌, ◌≢◌, ◌∙◌, ◌*◌, ◌<◌, ℕ, true, refl, ap, arith}
+use Rattle.std.proofs.Common.{◌≡◌, ◌≢◌, ◌∙◌, ◌*◌, ◌<◌, ℕ, true, false, Option, refl, ap, subst, arith}
 use Rattle.std.specs.Prelude.{is_some}
+use Rattle.jos_base.specs.KernelState.{KernelState}
 use Rattle.jos_base.specs.Words.{word_at}
 use Rattle.fs_layout.specs.declared.numbers.TheConstants.{BLKSIZE}
 use Rattle.fs_runs.specs.TreeRuns.{Memory}
 use Rattle.lib_os.specs.declared.numbers.TheConstants.{MAXOPEN, REQUEST_FILE}
 use Rattle.lib_os.specs.declared.request.RequestKind.{RequestKind}
 use Rattle.lib_os.specs.declared.request.RequestKind.TheVariants as kind
-use Rattle.lib_os.specs.AbstractState.{AbstractState, Request}
+use Rattle.lib_os.specs.AbstractState.{AbstractState, Request, Server, busy}
 use Rattle.fs_requests.specs.declared.state.ServerStep.{ServerStep}
 use Rattle.fs_requests.specs.declared.state.ServerStep.TheVariants as step
-use Rattle.fs_serving.specs.ServerRuns.{AsksFor, HasFiles, HasMoved, IsChecking, IsMoving, IsStoring, IsTold, OfFile, StandsAtStep}
-use Rattle.fs_serving.specs.ServerRuns.{StandsServing, TableStands}
-use Rattle.fs_serving.specs.ServerRuns.{is_of_file, moved, opened, sought}
+use Rattle.fs_serving.specs.ServerRuns.{AsksFor, HasFiles, HasMoved, IsBusy, IsChecking, IsFound, IsMoving, IsStoring, IsTold, IsWorking, OfFile}
+use Rattle.fs_serving.specs.ServerRuns.{StandsAtStep, StandsServing, TableStands, client_of, is_of_file, moved, opened, opens, over, reads, removed}
+use Rattle.fs_serving.specs.ServerRuns.{removes, seeks, sizes, sought, stats, syncs, writes}
 use Rattle.fs_serving.specs.ServerViews.{Serving, request_word}
 use Rattle.fs_serving.proofs.HeldFiles.{led-stands, place-past}
 use Rattle.fs_serving.proofs.OfFiles.{names_file}
-use Rattle.fs_seen.specs.ServerSees.{HasPlace, NeedsAt}
+use Rattle.fs_seen.specs.ServerMemory.{HasRequested, has_request, sends_page}
+use Rattle.fs_seen.specs.ServerSees.{HasPlace, NeedsAt, reads_request}
 
 moves_file : (k : RequestKind) → IsMoving k ≡ true → is_of_file k ≡ true
 moves_file kind.Read is = refl
@@ -100,3 +102,75 @@ module _ (count : ℕ) (a : AbstractState) (it : Serving) (before : Memory) (fil
 pub has_needs : (count : ℕ) (a : AbstractState) (it : Serving) (n : ℕ) → n ≡ 0 → StandsServing count a it →
     NeedsAt it.state.step it.state it.view n
 has_needs count a it n first h = needs_at count a it h.before h.files h.table n first it.state.step h.at
+
+-- ---- the page of the request
+
+asks_page : (a : AbstractState) (page : ℕ → ℕ) (k : RequestKind) (request : Request) → AsksFor a page k request → k ≢ kind.Sync →
+    sends_page request ≡ true
+asks_page a page _ _ (opens path mode has mode_is) other = refl
+asks_page a page _ _ (removes path has) other = refl
+asks_page a page _ _ (reads name f so) other = refl
+asks_page a page _ _ (writes name f so within) other = refl
+asks_page a page _ _ (sizes name f so) other = refl
+asks_page a page _ _ (stats name f so) other = refl
+asks_page a page _ _ (seeks name f so within) other = refl
+asks_page a page _ _ syncs other = absurd (other refl)
+
+module _ (a : AbstractState) (it : Serving) (before : Memory) (s : KernelState) (n : ℕ) (requested : HasRequested a.server s n) where
+  -- who is busy with another request than a sync has its page
+  pub busy_page : {place : Option ℕ} {k : RequestKind} {request : Request} → IsBusy a it before place k request → k ≢ kind.Sync →
+      has_request s n ≡ true
+  busy_page {place} {k} {request} h other =
+      let page : HasRequested (busy (client_of it.state) request place) s n =
+      subst (λ (server : Server). HasRequested server s n) h.server requested in
+      page (asks_page a before.page k request h.asks other)
+
+  of_file_page : OfFile a it before → has_request s n ≡ true
+  of_file_page h = busy_page h.is_busy (λ same. no_file (subst (λ (k : RequestKind). is_of_file k ≡ true) same h.of_file))
+    where
+      no_file : is_of_file kind.Sync ≡ true → ⊥
+      no_file is = let contradiction : false ≡ true = is in cc
+
+  pub working_page : {count : ℕ} → IsWorking count a it before → has_request s n ≡ true
+  working_page h = busy_page h.is_busy h.no_sync
+
+  reads_at : (count : ℕ) (at : ServerStep) → StandsAtStep at count a it before → reads_request at ≡ true → has_request s n ≡ true
+  reads_at count step.Releasing h is = absurd (let contradiction : false ≡ true = is in cc)
+  reads_at count step.Receiving h is = absurd (let contradiction : false ≡ true = is in cc)
+  reads_at count step.ReadingKind h is = absurd (let contradiction : false ≡ true = is in cc)
+  reads_at count step.ReadingClient h is = absurd (let contradiction : false ≡ true = is in cc)
+  reads_at count step.ReadingFile h is = of_file_page h
+  reads_at count step.ReadingOffset h is = absurd (let contradiction : false ≡ true = is in cc)
+  reads_at count step.ReadingCount h is = of_file_page h.0
+  reads_at count step.ReadingRecord h is = absurd (let contradiction : false ≡ true = is in cc)
+  reads_at count step.LookingRecord h is = absurd (let contradiction : false ≡ true = is in cc)
+  reads_at count step.LookingEntry h is = absurd (let contradiction : false ≡ true = is in cc)
+  reads_at count step.LookingHolders h is = absurd (let contradiction : false ≡ true = is in cc)
+  reads_at count step.TakingPage h is = absurd (let contradiction : false ≡ true = is in cc)
+  reads_at count step.ReadingMode h is = busy_page h.2.is_busy (λ e. cc)
+  reads_at count step.Working h is = absurd (let contradiction : false ≡ true = is in cc)
+  reads_at count step.Finding h is = absurd (let contradiction : false ≡ true = is in cc)
+  reads_at count step.StoringRecord h is = absurd (let contradiction : false ≡ true = is in cc)
+  reads_at count step.StoringDevice h is = absurd (let contradiction : false ≡ true = is in cc)
+  reads_at count step.ReadingModeAgain h is = busy_page h.opened.opening.is_busy (λ e. cc)
+  reads_at count step.StoringMode h is = absurd (let contradiction : false ≡ true = is in cc)
+  reads_at count step.StoringFile h is = absurd (let contradiction : false ≡ true = is in cc)
+  reads_at count step.Advancing h is = absurd (let contradiction : false ≡ true = is in cc)
+  reads_at count step.StoringOffset h is = absurd (let contradiction : false ≡ true = is in cc)
+  reads_at count step.CheckingRecord h is = absurd (let contradiction : false ≡ true = is in cc)
+  reads_at count step.CheckingEntry h is = absurd (let contradiction : false ≡ true = is in cc)
+  reads_at count step.CheckingHolders h is = absurd (let contradiction : false ≡ true = is in cc)
+  reads_at count step.Flushing h is = absurd (let contradiction : false ≡ true = is in cc)
+  reads_at count step.Acting h is = absurd (let contradiction : false ≡ true = is in cc)
+  reads_at count step.Replying h is = absurd (let contradiction : false ≡ true = is in cc)
+  reads_at count step.Pausing h is = absurd (let contradiction : false ≡ true = is in cc)
+
+pub finding_page : (count : ℕ) (a : AbstractState) (it : Serving) (before : Memory) (s : KernelState) (n : ℕ) → HasRequested a.server s n →
+    IsFound count a it before → has_request s n ≡ true
+finding_page count a it before s n requested (opened path mode home {m} so running) =
+    busy_page a (over it m) before s n requested so.opening.is_busy (λ e. cc)
+finding_page count a it before s n requested (removed so) = busy_page a it before s n requested so.is_busy (λ e. cc)
+
+pub reads_page : (count : ℕ) (a : AbstractState) (it : Serving) (s : KernelState) (n : ℕ) → HasRequested a.server s n → StandsServing count a it →
+    reads_request it.state.step ≡ true → has_request s n ≡ true
+reads_page count a it s n requested h = reads_at a it h.before s n requested count it.state.step h.at

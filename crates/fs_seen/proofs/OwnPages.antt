@@ -23,17 +23,18 @@ use Rattle.lib_os.proofs.Slots.{upd-back}
 use Rattle.fs_cache.specs.CacheStands.{cache_view}
 use Rattle.fs_cache.proofs.Loads.{number_of}
 use Rattle.fs_cache.proofs.Views.{ViewKept}
-use Rattle.fs_tree.specs.TreeSteps.{TreeAt, memory_in}
+use Rattle.fs_tree.specs.TreeSteps.{memory_in}
 use Rattle.fs_tree.proofs.TiesBlocks.{request_number}
 use Rattle.fs_serving.specs.ServerViews.{with_page_word, with_word, word_of}
-use Rattle.fs_seen.specs.ServerMemory.{HasFileTable, IsOpenPage, bytes_by, entry_of, frame_by, home_in, is_table_page, place_entry}
+use Rattle.fs_seen.specs.ServerMemory.{HasFileTable, IsOpenPage, StandsOver, bytes_by, entry_of, frame_by, has_request, home_in, is_table_page}
 use Rattle.lib_os.specs.MadeCalls.{is_server_page}
-use Rattle.fs_seen.specs.ServerMemory.{place_page, records_page, view_in}
+use Rattle.fs_seen.specs.ServerMemory.{place_entry, place_page, records_page, view_in}
 use Rattle.fs_seen.proofs.Accesses.{Accessed, counts_stay}
 use Rattle.fs_seen.proofs.Alike.{IsBehind, frames_alike, place_alike, view_alike}
-use Rattle.fs_seen.proofs.Changes.{block_entry, block_server, memory_kept, place_number, place_table, records_table, request_server, rows_kept}
+use Rattle.fs_seen.proofs.Changes.{block_entry, block_server, memory_kept, over_kept, place_number, place_table, records_table, request_server, rows_kept}
 use Rattle.fs_seen.proofs.Changes.{table_no_block}
-use Rattle.fs_seen.proofs.Changes.{table_no_request, table_server, tree_kept}
+use Rattle.fs_seen.proofs.Changes.{table_no_request, table_server}
+use Rattle.fs_seen.proofs.Over.{RequestAlike, has_alike, page_there, same_entry}
 use Rattle.fs_seen.proofs.WordsPut.{put_stored, word_beside, word_here}
 
 -- ---- the entries behind an access
@@ -108,9 +109,12 @@ module _ (s : KernelState) (n p : ℕ) (e : Entry) (stands : entry_of s n p ≡ 
 
 -- ---- a page of the table
 
-module _ (d : Disk) (s : KernelState) (n : ℕ) (h : TreeAt d s n) (k : HasFileTable s n) (p : ℕ) (is : is_table_page p ≡ true) (e : Entry)
+module _ (d : Disk) (s : KernelState) (n : ℕ) (h : StandsOver d s n) (p : ℕ) (is : is_table_page p ≡ true) (e : Entry)
     (stands : entry_of s n p ≡ Some e) (bytes : List ℕ) (whole : IsPage bytes) (t : SpacesState)
     (a : Accessed s.spaces t (slot_at s n).directory p e bytes) (in_order : IsInOrder (with_spaces s t)) where
+  abbrev k : HasFileTable s n
+  k = h.table
+
   abbrev own_dir : ℕ
   own_dir = (slot_at s n).directory
 
@@ -134,18 +138,18 @@ module _ (d : Disk) (s : KernelState) (n : ℕ) (h : TreeAt d s n) (k : HasFileT
     tables = λ r there. a.regions own_dir (region_index DISKMAP + r) ∙ there;
   }
 
-  request_there : entry_of after n request_number ≡ Some h.request.entry
-  request_there = other request_number (λ same. table_no_request p is (sym same)) ∙ h.request.stands
+  off_request : request_number ≢ p
+  off_request same = table_no_request p is (sym same)
 
-  request_bytes_kept : t.pages h.request.entry.frame ≡ s.spaces.pages h.request.entry.frame
-  request_bytes_kept =
-      bytes_kept request_number h.request.entry request_server (λ same. table_no_request p is (sym same)) h.request.stands
+  alike_behind : RequestAlike s after n
+  alike_behind = same_entry s after n (other request_number off_request)
+      (λ x there. bytes_kept request_number x request_server off_request there)
 
-  tree_behind : TreeAt d after n
-  tree_behind = tree_kept d s n h t in_order cache_kept h.request.entry request_there h.request.bits refl request_bytes_kept
+  stays_behind : has_request after n ≡ has_request s n
+  stays_behind = has_alike s after n alike_behind
 
   memory_behind : memory_in d after n ≡ memory_in d s n
-  memory_behind = memory_kept d s n h t in_order cache_kept h.request.entry request_there h.request.bits refl request_bytes_kept
+  memory_behind = memory_kept d s n h t in_order cache_kept alike_behind
 
   open_here : IsOpenPage after a.entry
   open_here = record {
@@ -171,6 +175,9 @@ module _ (d : Disk) (s : KernelState) (n : ℕ) (h : TreeAt d s n) (k : HasFileT
     apart = table_apart s n p e stands bytes t a k;
   }
 
+  over_behind : StandsOver d after n
+  over_behind = over_kept d s n h t in_order cache_kept alike_behind table_behind
+
   bytes_beside : (q : ℕ) → is_table_page q ≡ true → q ≢ p → bytes_by after (entry_of after n q) ≡ bytes_by s (entry_of s n q)
   bytes_beside q q_is ne = ap (bytes_by after) (other q ne) ∙ by_entry (entry_of s n q) refl
     where
@@ -184,10 +191,10 @@ module _ (d : Disk) (s : KernelState) (n : ℕ) (h : TreeAt d s n) (k : HasFileT
       (bytes_here s n p e stands bytes t a)
 
   -- a load
-  pub table_loaded : bytes ≡ s.spaces.pages e.frame → IsBehind d after n (view_in d s n)
+  pub table_loaded : bytes ≡ s.spaces.pages e.frame → IsBehind d s after n (view_in d s n)
   table_loaded unchanged = record {
-    tree = tree_behind;
-    table = table_behind;
+    over = over_behind;
+    request_stays = stays_behind;
     view = view_alike s n t (λ q q_is. frame_same s n p e stands bytes t a q)
         (λ q q_is. bytes_same s n p e stands bytes t a unchanged q) d memory_behind
         (counts_stay s.spaces t own_dir p e bytes stands a);
@@ -218,10 +225,10 @@ module _ (d : Disk) (s : KernelState) (n : ℕ) (h : TreeAt d s n) (k : HasFileT
         ap (λ (b : Bool). if b then entry_of m n (place_page number) else None) inside ∙ sym (ap (entry_of m n) place)
 
     pub place_stored : (at word : ℕ) → at + 4 ≤ PGSIZE → bytes ≡ bytes_put (s.spaces.pages e.frame) at (to_le_bytes w32 word) →
-        IsBehind d after n (with_page_word (view_in d s n) number at word)
+        IsBehind d s after n (with_page_word (view_in d s n) number at word)
     place_stored at word fits put = record {
-      tree = tree_behind;
-      table = table_behind;
+      over = over_behind;
+      request_stays = stays_behind;
       view = λ i. record {
         memory = memory_behind i;
         homes = λ j. homes_stay j i;
@@ -270,10 +277,10 @@ module _ (d : Disk) (s : KernelState) (n : ℕ) (h : TreeAt d s n) (k : HasFileT
         (λ same. let far = place_number j inside in absurd (omega (arith, same, place, far))))
 
     pub record_stored : (word : ℕ) → word < 2 ^ 32 → bytes ≡ bytes_put (s.spaces.pages e.frame) (4 * number) (to_le_bytes w32 word) →
-        IsBehind d after n (record (view_in d s n) { homes = upd (view_in d s n).homes number word })
+        IsBehind d s after n (record (view_in d s n) { homes = upd (view_in d s n).homes number word })
     record_stored word small put = record {
-      tree = tree_behind;
-      table = table_behind;
+      over = over_behind;
+      request_stays = stays_behind;
       view = λ i. record {
         memory = memory_behind i;
         homes = λ j. home_now j i;
@@ -336,12 +343,9 @@ module _ (d : Disk) (s : KernelState) (n : ℕ) (h : TreeAt d s n) (k : HasFileT
 
 -- ---- the page of the request
 
-module _ (d : Disk) (s : KernelState) (n : ℕ) (h : TreeAt d s n) (k : HasFileTable s n) (t : SpacesState)
-    (a : Accessed s.spaces t (slot_at s n).directory request_number h.request.entry (s.spaces.pages h.request.entry.frame))
+module _ (d : Disk) (s : KernelState) (n : ℕ) (h : StandsOver d s n) (entry : Entry) (stands : entry_of s n request_number ≡ Some entry) (t : SpacesState)
+    (a : Accessed s.spaces t (slot_at s n).directory request_number entry (s.spaces.pages entry.frame))
     (in_order : IsInOrder (with_spaces s t)) where
-  abbrev entry : Entry
-  entry = h.request.entry
-
   abbrev page : List ℕ
   page = s.spaces.pages entry.frame
 
@@ -352,10 +356,10 @@ module _ (d : Disk) (s : KernelState) (n : ℕ) (h : TreeAt d s n) (k : HasFileT
   behind = with_spaces s t
 
   no_request : (q : ℕ) → q ≢ request_number → entry_of behind n q ≡ entry_of s n q
-  no_request = entry_other s n request_number entry h.request.stands page t a
+  no_request = entry_other s n request_number entry stands page t a
 
   same_bytes : t.pages ≡ s.spaces.pages
-  same_bytes = pages_same s n request_number entry h.request.stands page t a refl
+  same_bytes = pages_same s n request_number entry stands page t a refl
 
   cache_stays : ViewKept (cache_view s.spaces home) (cache_view t home)
   cache_stays = record {
@@ -365,24 +369,29 @@ module _ (d : Disk) (s : KernelState) (n : ℕ) (h : TreeAt d s n) (k : HasFileT
   }
 
   request_here : entry_of behind n request_number ≡ Some a.entry
-  request_here = entry_here s n request_number entry h.request.stands page t a
+  request_here = entry_here s n request_number entry stands page t a
 
   here_bytes : t.pages a.entry.frame ≡ page
-  here_bytes = bytes_here s n request_number entry h.request.stands page t a
+  here_bytes = bytes_here s n request_number entry stands page t a
 
-  pub request_loaded : IsBehind d behind n (view_in d s n)
+  alike : RequestAlike s behind n
+  alike = page_there entry a.entry stands request_here a.block a.frame here_bytes
+
+  still_table : HasFileTable behind n
+  still_table = record {
+    records = some_same s n request_number entry stands page t a records_page h.table.records;
+    pages = λ q x q_is there.
+        let was : entry_of s n q ≡ Some x = sym (no_request q (table_no_request q q_is)) ∙ there in
+        let old = h.table.pages q x q_is was in
+        record { allowed = old.allowed; whole = subst (λ (bytes : List ℕ). IsPage bytes) (λ i. sym same_bytes i x.frame) old.whole };
+    apart = table_apart s n request_number entry stands page t a h.table;
+  }
+
+  pub request_loaded : IsBehind d s behind n (view_in d s n)
   request_loaded = record {
-    tree = tree_kept d s n h t in_order cache_stays a.entry request_here (a.block h.request.bits) a.frame here_bytes;
-    table = record {
-      records = some_same s n request_number entry h.request.stands page t a records_page k.records;
-      pages = λ q x q_is there.
-          let was : entry_of s n q ≡ Some x = sym (no_request q (table_no_request q q_is)) ∙ there in
-          let old = k.pages q x q_is was in
-          record { allowed = old.allowed; whole = subst (λ (bytes : List ℕ). IsPage bytes) (λ i. sym same_bytes i x.frame) old.whole };
-      apart = table_apart s n request_number entry h.request.stands page t a k;
-    };
-    view = view_alike s n t (λ q q_is. frame_same s n request_number entry h.request.stands page t a q)
-        (λ q q_is. bytes_same s n request_number entry h.request.stands page t a refl q) d
-        (memory_kept d s n h t in_order cache_stays a.entry request_here (a.block h.request.bits) a.frame here_bytes)
-        (counts_stay s.spaces t home request_number entry page h.request.stands a);
+    over = over_kept d s n h t in_order cache_stays alike still_table;
+    request_stays = has_alike s behind n alike;
+    view = view_alike s n t (λ q q_is. frame_same s n request_number entry stands page t a q)
+        (λ q q_is. bytes_same s n request_number entry stands page t a refl q) d (memory_kept d s n h t in_order cache_stays alike)
+        (counts_stay s.spaces t home request_number entry page stands a);
   }

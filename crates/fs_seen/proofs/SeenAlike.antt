@@ -192,6 +192,7 @@ module _ (blocks : ℕ) (a : AbstractState) (it : Serving) (before : Memory) (ho
         (let o = h.opening is in (o.0, o.1, opening_now a it before holders same o.2, page_now a it before holders same o.3));
     moving = h.moving;
     no_place = h.no_place;
+    no_sync = h.no_sync;
   }
 
   finding_now : IsFinding blocks a it before → IsFinding blocks a (counted it holders) before

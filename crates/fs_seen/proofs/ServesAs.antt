@@ -69,6 +69,7 @@ module _ (blocks : ℕ) (a : AbstractState) (it : Serving) (before : Memory) (ho
     opening = λ is. (let o = h.opening is in (o.0, o.1, opening_alt a it before home at count it.job o.2, o.3));
     moving = h.moving;
     no_place = h.no_place;
+    no_sync = h.no_sync;
   }
 
   found_alt : IsFound blocks a it before → IsFound blocks a (altered it home at count it.job) before

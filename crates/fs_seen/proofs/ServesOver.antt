@@ -17,7 +17,8 @@ use Rattle.fs_server.specs.ServerSteps.{server_at}
 use Rattle.fs_seen.specs.ServerMemory.{serving_in}
 use Rattle.fs_seen.specs.ServerSees.{CallsServe, HasServed, IsSeen, is_quiet, makes_call}
 use Rattle.fs_seen.proofs.CallsSeen.{calls_are_seen}
-use Rattle.fs_seen.proofs.Needs.{has_needs}
+use Rattle.fs_seen.proofs.Needs.{has_needs, reads_page}
+use Rattle.fs_seen.proofs.Over.{all_small}
 use Rattle.fs_seen.proofs.ServesAs.{follows_as}
 use Rattle.fs_seen.proofs.TakingLaw.{pages_are_taken}
 
@@ -120,23 +121,25 @@ quiet_or_taking step.Pausing is = inl refl
 
 -- what is seen of the server is what the server by itself does
 seen_serves : (count : ℕ) (a : AbstractState) (d : Disk) (s after : KernelState) (done : Progress) → makes_call (server_at s 0).step ≡ true →
-    AreSmall (serving_in d s 0).view.memory → StandsServing count a (serving_in d s 0) → IsSeen d s after 0 done → HasServed count a d after 0 done
+    AreSmall (serving_in d s 0).view.memory → StandsServing count a (serving_in d s 0) → IsSeen d s after 0 done → HasServed count a d s after 0 done
 seen_serves count a d s after done is small h seen =
     let goes = all_servers_serve count a (serving_in d s 0) (call_serves (server_at s 0).step is) small h in
     let behind = called_so count a (serving_in d s 0) seen.next seen.behind seen.calls (server_at s 0) (server_at s 0).step is goes in
     record {
       follows = subst (λ (p : Progress). Follows count a p (serving_in d after 0)) (sym seen.shows)
           (follows_as count a seen.next.seen seen.behind (serving_in d after 0) seen.stands_as behind);
-      tree = seen.tree;
-      table = seen.table;
+      stands = seen.stands;
+      request_stays = seen.request_stays;
     }
 
 pub calls_serve : CallsServe
-calls_serve count a d s after output done is small stands h order called =
+calls_serve count a d s after output done is requested stands h order called =
+    let small = all_small d s 0 stands.stands in
     elim (quiet_or_taking (server_at s 0).step is) [
       | inl quiet ↦
           inl (seen_serves count a d s after done is small h
-          (calls_are_seen d s after 0 output done quiet (has_needs count a (serving_in d s 0) 0 refl h) stands order called))
+          (calls_are_seen d s after 0 output done quiet (has_needs count a (serving_in d s 0) 0 refl h)
+          (reads_page count a (serving_in d s 0) s 0 requested h) stands order called))
       | inr taking ↦ elim (pages_are_taken d s after 0 output done taking
           (λ number below used. (h.table.places number below).there used) stands order called) [
             | inl seen ↦ inl (seen_serves count a d s after done is small h seen)

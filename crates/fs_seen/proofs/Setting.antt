@@ -2,29 +2,37 @@
 use Rattle.std.proofs.Common.{◌≡◌, ◌∙◌, ℕ, true, false, List, length, Option, Some, None, refl, sym, ap, subst, if◌then◌else◌}
 use Rattle.std.specs.Prelude.{◌*◌, is_some, nat_lt}
 use Rattle.lib_os.specs.declared.numbers.TheConstants.{MAXOPEN}
+use Rattle.jos_base.specs.declared.environment.EnvType.{EnvType}
 use Rattle.jos_base.specs.declared.registers.Regs.{Regs}
 use Rattle.jos_base.specs.Environments.{Slot, is_live}
 use Rattle.jos_base.specs.KernelState.{KernelState, slot_at, with_slot_at}
 use Rattle.jos_base.specs.Reach.{Entry}
 use Rattle.jos_base.specs.SpacesState.{directories}
+use Rattle.lib_os.specs.BlockCache.{block_row, own_addresses}
 use Rattle.lib_os.specs.Disk.{Disk}
 use Rattle.lib_os.specs.InOrder.{IsInOrder}
+use Rattle.lib_os.specs.UserCalls.{is_file_server}
 use Rattle.lib_os.proofs.Slots.{slot_put, slots_alike}
 use Rattle.lib_os.proofs.SlotsSet.{both_set}
+use Rattle.fs_blocks.specs.declared.place.CacheState.{CacheState}
 use Rattle.fs_blocks.specs.CachePlaces.{state_in as cache_in}
+use Rattle.fs_cache.specs.CacheStands.{CacheAt, CacheStands, cache_view, cached_at, cached_in}
 use Rattle.fs_jobs.specs.declared.place.Job.{Job}
 use Rattle.fs_jobs.specs.declared.place.TreeState.{TreeState}
 use Rattle.fs_places.specs.TreePlaces as places
-use Rattle.fs_tree.specs.TreeSteps.{TreeAt, job_in, memory_in}
-use Rattle.fs_tree.proofs.TiesWords.{cache_alike, directory_set, memory_set, tree_set}
+use Rattle.fs_tree.specs.TreeSteps.{disk_bytes, job_in, memory_in}
+use Rattle.fs_tree.proofs.TiesBlocks.{request_number}
+use Rattle.fs_tree.proofs.TiesWords.{cache_alike, directory_set}
 use Rattle.fs_requests.specs.declared.plan.ServerNext.{ServerNext}
 use Rattle.fs_requests.specs.ServerWords.{registers_with, server_in, words_with}
 use Rattle.fs_serving.specs.ServerViews.{Serving, View, job_begun, word_of}
 use Rattle.fs_server.specs.ServerSteps as server
 use Rattle.fs_server.specs.ServerSteps.{registers_begun, server_at, words_begun}
-use Rattle.fs_seen.specs.ServerMemory.{HasFileTable, bytes_by, entry_of, frame_by, place_page, records_page, serving_in, view_in}
+use Rattle.fs_seen.specs.ServerMemory.{HasFileTable, StandsOver, bytes_by, entry_of, frame_by, has_request, place_page, records_page, serving_in}
+use Rattle.fs_seen.specs.ServerMemory.{view_in}
 use Rattle.fs_seen.specs.ServerSees.{ServesAlike}
 use Rattle.fs_seen.proofs.GoesOn.{GoesWell}
+use Rattle.fs_seen.proofs.Over.{RequestAlike, bytes_alike, has_alike, request_alike, same_entry}
 use Rattle.fs_seen.proofs.WordsBack.{begun_long, begun_rest, job_told, stands_in, stands_whole}
 
 -- ---- a slot that is set
@@ -48,7 +56,7 @@ module _ (s : KernelState) (n : ℕ) (slot : Slot) (directory : slot.directory �
         };
       }
 
-  entry_set : (p : ℕ) → entry_of set n p ≡ entry_of s n p
+  pub entry_set : (p : ℕ) → entry_of set n p ≡ entry_of s n p
   entry_set p = ap (λ (q : ℕ). s.spaces.entries q p) (directory_set s n slot directory)
 
   pub table_set : HasFileTable s n → HasFileTable set n
@@ -73,6 +81,48 @@ module _ (s : KernelState) (n : ℕ) (slot : Slot) (directory : slot.directory �
       same : (slot_at set n).rendezvous ≡ (slot_at s n).rendezvous
       same = ap (λ (x : Slot). x.rendezvous) (slot_put s n slot) ∙ rendezvous
 
+  -- what stands over the disk
+  alike_set : RequestAlike s set n
+  alike_set = same_entry s set n (entry_set request_number) (λ x is. refl)
+
+  pub requested_set : has_request set n ≡ has_request s n
+  requested_set = has_alike s set n alike_set
+
+  module _ (d : Disk) (h : StandsOver d s n) (in_order : IsInOrder set) (live : is_live slot ≡ true) (env_type : slot.env_type ≡ (slot_at s n).env_type)
+      (words : length slot.extra ≡ 12) (cache : cache_in slot.extra ≡ cache_in (slot_at s n).extra) where
+    abbrev same_directory : (slot_at set n).directory ≡ (slot_at s n).directory
+    same_directory = directory_set s n slot directory
+
+    cache_set : cache_in (slot_at set n).extra ≡ cache_in (slot_at s n).extra
+    cache_set = ap (λ (x : Slot). cache_in x.extra) (slot_put s n slot) ∙ cache
+
+    cache_at : CacheAt d set n
+    cache_at = record {
+      in_order = in_order;
+      live = ap (λ (x : Slot). is_live x) (slot_put s n slot) ∙ live;
+      server = ap (λ (x : Slot). is_file_server x.env_type) (slot_put s n slot) ∙ ap (λ (t : EnvType). is_file_server t) env_type ∙ h.cache.server;
+      words = ap (λ (x : Slot). length x.extra) (slot_put s n slot) ∙ words;
+      stands =
+          subst (λ (k : ℕ). CacheStands d (cache_view s.spaces k) (cache_in (slot_at set n).extra).place (cache_in (slot_at set n).extra).hand)
+          (sym same_directory)
+          (subst (λ (k : CacheState). CacheStands d (cache_view s.spaces (slot_at s n).directory) k.place k.hand) (sym cache_set) h.cache.stands);
+    }
+
+    pub over_set : StandsOver d set n
+    over_set = record {
+      cache = cache_at;
+      count = h.count;
+      bytes = h.bytes;
+      request = request_alike s set n (λ b i. block_row s.spaces (same_directory i) own_addresses b) h.request alike_set;
+      table = table_set h.table;
+    }
+
+    cached_set : cached_in set n ≡ cached_in s n
+    cached_set = λ i. cached_at (cache_view s.spaces (same_directory i)) (cache_set i).place
+
+    pub memory_over : memory_in d set n ≡ memory_in d s n
+    memory_over = λ i. record { disk = disk_bytes d (cached_set i); page = bytes_alike s set n (λ x is. (h.request x is).bits) alike_set i }
+
 -- ---- the server goes on
 
 -- where it goes, whatever job stood there
@@ -81,8 +131,8 @@ going_to next job v = record { state = next.state; job = job_begun next.begins j
 
 -- all stands, and the server as it does by itself
 pub record HasGoneOn (d : Disk) (mid after : KernelState) (n : ℕ) (next : ServerNext) (job : TreeState) : Type 0 where
-  pub tree : TreeAt d after n
-  pub table : HasFileTable after n
+  pub over : StandsOver d after n
+  pub request_stays : has_request after n ≡ has_request mid n
   pub stands_as : ServesAlike (going_to next job (view_in d mid n)) (serving_in d after n)
 
 module _ (mid : KernelState) (n : ℕ) (next : ServerNext) where
@@ -103,7 +153,7 @@ module _ (mid : KernelState) (n : ℕ) (next : ServerNext) where
   pub was_in_order : (after : KernelState) → after ≡ server.gone_on mid n next → IsInOrder after → IsInOrder mid
   was_in_order after is h = in_order_back mid n slot refl refl (subst (λ (k : KernelState). IsInOrder k) (is ∙ gone_is) h)
 
-  module _ (d : Disk) (well : GoesWell next) (h : TreeAt d mid n) (t : HasFileTable mid n) (job : TreeState)
+  module _ (d : Disk) (well : GoesWell next) (h : StandsOver d mid n) (job : TreeState)
       (in_order : IsInOrder (with_slot_at mid n slot)) where
     abbrev gone : KernelState
     gone = with_slot_at mid n slot
@@ -128,7 +178,7 @@ module _ (mid : KernelState) (n : ℕ) (next : ServerNext) where
           number = sym (ap (λ (x : Slot). (server_in x.registers x.extra).number) there ∙ so.number);
           words = λ off. sym (ap (λ (x : Slot). server_in x.registers x.extra) there ∙ whole (none_there next.begins (sym well.begins ∙ off)));
           job = λ on. job_there next.begins refl (sym well.begins ∙ on);
-          view = sym (view_set mid n slot refl d (memory_set mid n slot refl d h in_order h.cache.live refl long cache) refl);
+          view = sym (view_set mid n slot refl d (memory_over mid n slot refl d h in_order h.cache.live refl long cache) refl);
         }
       where
         whole : next.begins ≡ None → server_in regs words ≡ next.state
@@ -147,15 +197,15 @@ module _ (mid : KernelState) (n : ℕ) (next : ServerNext) where
 
     set_done : HasGoneOn d mid gone n next job
     set_done = record {
-      tree = tree_set mid n slot refl d h in_order h.cache.live refl long cache;
-      table = table_set mid n slot refl t;
+      over = over_set mid n slot refl d h in_order h.cache.live refl long cache;
+      request_stays = requested_set mid n slot refl;
       stands_as = stands_so;
     }
 
   -- by the state that is reached
-  pub has_gone_on : (d : Disk) → GoesWell next → TreeAt d mid n → HasFileTable mid n → (job : TreeState) → (after : KernelState) →
+  pub has_gone_on : (d : Disk) → GoesWell next → StandsOver d mid n → (job : TreeState) → (after : KernelState) →
       after ≡ server.gone_on mid n next → IsInOrder after → HasGoneOn d mid after n next job
-  has_gone_on d well h t job after is in_order =
+  has_gone_on d well h job after is in_order =
       let whole : after ≡ with_slot_at mid n slot = is ∙ gone_is in
       subst (λ (k : KernelState). HasGoneOn d mid k n next job) (sym whole)
-      (set_done d well h t job (subst (λ (k : KernelState). IsInOrder k) whole in_order))
+      (set_done d well h job (subst (λ (k : KernelState). IsInOrder k) whole in_order))

@@ -20,12 +20,12 @@ use Rattle.fs_serving.specs.ServerViews.{word_of}
 use Rattle.fs_server.specs.ServerSteps.{server_at}
 use Rattle.fs_seen.specs.BlockSteps.{SeesAlike}
 use Rattle.fs_seen.specs.ServerMemory.{HasFileTable, bytes_by, entry_of, frame_by, home_in, is_table_page, place_entry, place_page, records_page}
-use Rattle.fs_seen.specs.ServerMemory.{view_in}
+use Rattle.fs_seen.specs.ServerMemory.{request_page, view_in}
 use Rattle.fs_seen.proofs.Alike.{place_alike}
 use Rattle.fs_seen.proofs.Changes.{place_table, records_table}
 
 -- The pages of the table of open files are as they were: their entries, the bytes and the counts of their frames. No other page of the server's is in
--- such a frame.
+-- such a frame. And where no page of a request was there none is.
 pub record LeavesTable (s after : KernelState) (n : ℕ) : Type 0 where
   pub entries : (p : ℕ) → is_table_page p ≡ true → entry_of after n p ≡ entry_of s n p
   pub bytes : (p : ℕ) (e : Entry) → is_table_page p ≡ true → entry_of s n p ≡ Some e → after.spaces.pages e.frame ≡ s.spaces.pages e.frame
@@ -33,6 +33,7 @@ pub record LeavesTable (s after : KernelState) (n : ℕ) : Type 0 where
       reference_count after.spaces e.frame ≡ reference_count s.spaces e.frame
   pub apart : (p q : ℕ) (x y : Entry) → is_table_page p ≡ true → is_server_page q ≡ true → entry_of s n p ≡ Some x → entry_of after n q ≡ Some y →
       x.frame ≡ y.frame → p ≡ q
+  pub lacks : entry_of s n request_page ≡ None → entry_of after n request_page ≡ None
 
 -- So is the rest of the slots, but for the words of the job and of the cache.
 pub record LeavesRest (s after : KernelState) (n : ℕ) : Type 0 where

@@ -46,7 +46,7 @@ module _ (d : Disk) (s mid after : KernelState) (n : ℕ) (output : Output) (wor
       }))
       order is)
   taken_or_refused (refused told behind refusal) =
-      let gone = has_gone_on mid n next d (goes_well st st.step word (own_below d s n output h)) behind.tree behind.table
+      let gone = has_gone_on mid n next d (goes_well st st.step word (own_below d s n output h)) behind.over
       (job_in s n) after is order in
       inr (record {
         counted = λ small. (let count = ap (λ (k : KernelState). k.refusals) is ∙ refusals_stay mid n next ∙ ap
@@ -54,8 +54,8 @@ module _ (d : Disk) (s mid after : KernelState) (n : ℕ) (output : Output) (wor
         stands_as = subst (λ (w : ℕ). ServesAlike (going_to (next_at st w) (job_in s n) (view_in d s n)) (serving_in d after n)) told
             (subst (λ (v : View). ServesAlike (going_to next (job_in s n) v) (serving_in d after n)) behind.view gone.stands_as);
         shows = ap (λ (w : ℕ). (next_at st w).seen) told;
-        tree = gone.tree;
-        table = gone.table;
+        stands = gone.over;
+        request_stays = gone.request_stays ∙ behind.request_stays;
       })
 
 pub pages_are_taken : PagesAreTaken
@@ -63,7 +63,7 @@ pages_are_taken d s after n output _ taking have h order (by_word word mid reply
     let st : ServerState = server_at s n in
     let told = subst (λ (at : ServerStep). IsReply (call_for st at) s n (Ok word) mid output) taking reply in
     taken_or_refused d s mid after n output word taking have h order is
-    (page_asked_for d s mid n output st.number word (own_below d s n output h) h.tree h.table
+    (page_asked_for d s mid n output st.number word (own_below d s n output h) h.stands
     (was_in_order mid n (next_at st word) after is order) told.0 told.1 told.2)
 pages_are_taken d s after n output _ taking have h order (was_stopped why done reply stopped) =
     absurd (subst (λ (at : ServerStep). IsReply (call_for (server_at s n) at) s n (Err why) after output) taking reply)

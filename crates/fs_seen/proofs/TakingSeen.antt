@@ -29,17 +29,18 @@ use Rattle.lib_os.proofs.PageBytes.{zero_page_whole}
 use Rattle.fs_cache.specs.CacheStands.{cache_view}
 use Rattle.fs_cache.proofs.Loads.{number_of}
 use Rattle.fs_cache.proofs.Views.{ViewKept}
-use Rattle.fs_tree.specs.TreeSteps.{TreeAt, memory_in}
+use Rattle.fs_tree.specs.TreeSteps.{memory_in}
 use Rattle.fs_tree.proofs.TiesBlocks.{request_number}
 use Rattle.fs_requests.specs.ServerPlans.{open_page, open_perm}
 use Rattle.fs_serving.specs.ServerViews.{with_new_page, word_of}
-use Rattle.fs_seen.specs.ServerMemory.{HasFileTable, IsOpenPage, bytes_by, entry_of, frame_by, home_in, is_table_page}
+use Rattle.fs_seen.specs.ServerMemory.{HasFileTable, IsOpenPage, StandsOver, bytes_by, entry_of, frame_by, home_in, is_table_page}
 use Rattle.lib_os.specs.MadeCalls.{is_server_page}
 use Rattle.fs_seen.specs.ServerMemory.{place_entry}
 use Rattle.fs_seen.specs.ServerMemory.{place_page, records_page, view_in}
 use Rattle.fs_seen.proofs.Alike.{IsBehind}
-use Rattle.fs_seen.proofs.Changes.{block_entry, block_server, memory_kept, place_number, place_table, records_table, request_server, rows_kept}
-use Rattle.fs_seen.proofs.Changes.{table_below, table_no_block, table_no_request, table_server, tree_kept}
+use Rattle.fs_seen.proofs.Changes.{block_entry, block_server, memory_kept, over_kept, place_number, place_table, records_table, request_server, rows_kept}
+use Rattle.fs_seen.proofs.Changes.{table_below, table_no_block, table_no_request, table_server}
+use Rattle.fs_seen.proofs.Over.{RequestAlike, has_alike, same_entry}
 use Rattle.fs_seen.proofs.PagesTaken.{Taken, page_taken}
 
 -- ---- the page
@@ -62,9 +63,12 @@ page_is_not_free u one two = let contradiction : page ≡ free = sym one ∙ two
 
 -- ---- what is so behind it
 
-module _ (d : Disk) (s : KernelState) (n : ℕ) (h : TreeAt d s n) (k : HasFileTable s n) (number : ℕ) (below : number < MAXOPEN)
+module _ (d : Disk) (s : KernelState) (n : ℕ) (h : StandsOver d s n) (number : ℕ) (below : number < MAXOPEN)
     (t : SpacesState) (g : ℕ) (it : Taken s.spaces t (slot_at s n).directory (place_page number) open_perm g)
     (in_order : IsInOrder (with_spaces s t)) where
+  abbrev k : HasFileTable s n
+  k = h.table
+
   abbrev dir : ℕ
   dir = (slot_at s n).directory
 
@@ -106,7 +110,7 @@ module _ (d : Disk) (s : KernelState) (n : ℕ) (h : TreeAt d s n) (k : HasFileT
   stays q x own ne there =
       it.kept x.frame (page_is_not_free (s.spaces.uses x.frame) (uses.pages dir q x there)) (not_old q x own ne there)
 
-  -- ---- the tree
+  -- ---- the disk and the request
 
   cache_kept : ViewKept (cache_view s.spaces dir) (cache_view t dir)
   cache_kept = record {
@@ -120,17 +124,11 @@ module _ (d : Disk) (s : KernelState) (n : ℕ) (h : TreeAt d s n) (k : HasFileT
   no_request : request_number ≢ p
   no_request same = table_no_request p is_table (sym same)
 
-  request_there : entry_of now n request_number ≡ Some h.request.entry
-  request_there = other request_number no_request ∙ h.request.stands
-
-  request_kept : t.pages h.request.entry.frame ≡ s.spaces.pages h.request.entry.frame
-  request_kept = (stays request_number h.request.entry request_server no_request h.request.stands).0
-
-  tree_behind : TreeAt d now n
-  tree_behind = tree_kept d s n h t in_order cache_kept h.request.entry request_there h.request.bits refl request_kept
+  alike_behind : RequestAlike s now n
+  alike_behind = same_entry s now n (other request_number no_request) (λ x there. (stays request_number x request_server no_request there).0)
 
   memory_behind : memory_in d now n ≡ memory_in d s n
-  memory_behind = memory_kept d s n h t in_order cache_kept h.request.entry request_there h.request.bits refl request_kept
+  memory_behind = memory_kept d s n h t in_order cache_kept alike_behind
 
   -- ---- the table
 
@@ -242,10 +240,10 @@ module _ (d : Disk) (s : KernelState) (n : ℕ) (h : TreeAt d s n) (k : HasFileT
       by_entry None at is = absurd (let contradiction : false ≡ true = is in cc)
       by_entry (Some x) there is = (stays (place_page j) x (table_server (place_page j) (place_table j inside)) far there).1
 
-  pub taken_behind : IsBehind d now n (with_new_page (view_in d s n) number g (λ frame. reference_count t frame))
+  pub taken_behind : IsBehind d s now n (with_new_page (view_in d s n) number g (λ frame. reference_count t frame))
   taken_behind = record {
-    tree = tree_behind;
-    table = table_behind;
+    over = over_kept d s n h t in_order cache_kept alike_behind table_behind;
+    request_stays = has_alike s now n alike_behind;
     view = λ i. record {
       memory = memory_behind i;
       homes = λ j. home_stays j i;
@@ -259,9 +257,9 @@ module _ (d : Disk) (s : KernelState) (n : ℕ) (h : TreeAt d s n) (k : HasFileT
 
 -- ---- where none was to be had
 
-pub refused_behind : (d : Disk) (s : KernelState) (n : ℕ) → TreeAt d s n → HasFileTable s n → IsBehind d (with_refusal s) n (view_in d s n)
-refused_behind d s n h k = record {
-  tree = record {
+pub refused_behind : (d : Disk) (s : KernelState) (n : ℕ) → StandsOver d s n → IsBehind d s (with_refusal s) n (view_in d s n)
+refused_behind d s n h = record {
+  over = record {
     cache = record {
       in_order = record { frames = h.cache.in_order.frames; spaces = h.cache.in_order.spaces };
       live = h.cache.live;
@@ -269,20 +267,16 @@ refused_behind d s n h k = record {
       words = h.cache.words;
       stands = h.cache.stands;
     };
-    request = record {
-      entry = h.request.entry;
-      stands = h.request.stands;
-      bits = h.request.bits;
-      whole = h.request.whole;
-      apart = h.request.apart;
-    };
     count = h.count;
+    bytes = h.bytes;
+    request = λ e is. (let old = h.request e is in record { bits = old.bits; whole = old.whole; apart = old.apart });
+    table = record {
+      records = h.table.records;
+      pages = λ p e is there. (let old = h.table.pages p e is there in record { allowed = old.allowed; whole = old.whole });
+      apart = h.table.apart;
+    };
   };
-  table = record {
-    records = k.records;
-    pages = λ p e is there. (let old = k.pages p e is there in record { allowed = old.allowed; whole = old.whole });
-    apart = k.apart;
-  };
+  request_stays = refl;
   view = refl;
 }
 
@@ -290,17 +284,16 @@ refused_behind d s n h k = record {
 
 -- the page was made, of this frame, or refused
 pub data HasAsked (d : Disk) (s mid : KernelState) (n number word : ℕ) : Type 0 where
-  made : (frame : ℕ) (holders : ℕ → ℕ) → word ≡ 0 → IsBehind d mid n (with_new_page (view_in d s n) number frame holders) → holders frame ≡ 1 →
+  made : (frame : ℕ) (holders : ℕ → ℕ) → word ≡ 0 → IsBehind d s mid n (with_new_page (view_in d s n) number frame holders) → holders frame ≡ 1 →
       ((j : ℕ) → j < MAXOPEN → j ≢ number → is_some ((view_in d s n).pages j) ≡ true → holders ((view_in d s n).frames j) ≡
       (view_in d s n).holders ((view_in d s n).frames j)) →
       HasAsked d s mid n number word
-  refused : word ≡ negated E_NO_MEM → IsBehind d mid n (view_in d s n) → mid ≡ with_refusal s → HasAsked d s mid n number word
+  refused : word ≡ negated E_NO_MEM → IsBehind d s mid n (view_in d s n) → mid ≡ with_refusal s → HasAsked d s mid n number word
 
-pub page_asked_for : (d : Disk) (s mid : KernelState) (n : ℕ) (output : Output) (number word : ℕ) → number < MAXOPEN → TreeAt d s n →
-    HasFileTable s n →
+pub page_asked_for : (d : Disk) (s mid : KernelState) (n : ℕ) (output : Output) (number word : ℕ) → number < MAXOPEN → StandsOver d s n →
     IsInOrder mid → (called : Called) → word ≡ answer_of called →
     IsCallStep (system s n SYS_PAGE_ALLOC (0 ∷ open_page number ∷ open_perm ∷ 0 ∷ 0 ∷ [])) (Ok called) mid output → HasAsked d s mid n number word
-page_asked_for d s mid n output number word below h k order called told call =
+page_asked_for d s mid n output number word below h order called told call =
     elim (page_made_or_refused s n (open_page number) open_perm (0 ∷ 0 ∷ []) h.cache.live address refl) [
       | inl it ↦
           let came = comes_to asked (Answered 0) called (with_spaces s it.spaces) mid [] output it.step call in
@@ -308,13 +301,13 @@ page_asked_for d s mid n output number word below h k order called told call =
           (table_below (place_page number) (place_table number below)) it.is in
           subst (λ (m : KernelState). HasAsked d s m n number word) (sym came.1)
           (made it.frame (λ (f : ℕ). reference_count it.spaces f) (told ∙ ap answer_of came.0)
-          (taken_behind d s n h k number below it.spaces it.frame taken (subst (λ (m : KernelState). IsInOrder m) came.1 order))
+          (taken_behind d s n h number below it.spaces it.frame taken (subst (λ (m : KernelState). IsInOrder m) came.1 order))
           taken.once
-          (holders_stay d s n h k number below it.spaces it.frame taken (subst (λ (m : KernelState). IsInOrder m) came.1 order)))
+          (holders_stay d s n h number below it.spaces it.frame taken (subst (λ (m : KernelState). IsInOrder m) came.1 order)))
       | inr none ↦
           let came = comes_to asked (Answered (negated E_NO_MEM)) called (with_refusal s) mid [] output none.step call in
           subst (λ (m : KernelState). HasAsked d s m n number word) (sym came.1)
-          (refused (told ∙ ap answer_of came.0) (refused_behind d s n h k) refl)
+          (refused (told ∙ ap answer_of came.0) (refused_behind d s n h) refl)
     ]
   where
     address : is_page_address (open_page number) ≡ true
@@ -328,4 +321,4 @@ page_asked_for d s mid n output number word below h k order called told call =
     records_there (Some e) at is = (h.cache.in_order.frames.within (slot_at s n).directory records_page e at).0
 
     below_d : (slot_at s n).directory < frame_limit
-    below_d = records_there (entry_of s n records_page) refl k.records
+    below_d = records_there (entry_of s n records_page) refl h.table.records

@@ -18,36 +18,37 @@ use Rattle.lib_os.specs.UserCalls.{CallStep, IsStep, Output, got, load}
 use Rattle.lib_os.proofs.Loading.{loaded_state}
 use Rattle.lib_os.proofs.WindowWords.{load_record_word, load_table_word, read_at, record_touched, table_touched}
 use Rattle.fs_cache.proofs.Loads.{region_kept}
-use Rattle.fs_tree.specs.TreeSteps.{TreeAt}
-use Rattle.fs_seen.specs.ServerMemory.{HasFileTable, HasWords, entry_of, is_table_page, view_in}
+use Rattle.fs_seen.specs.ServerMemory.{HasWords, StandsOver, entry_of, is_table_page, view_in}
 use Rattle.fs_seen.proofs.Accesses.{gives_value}
 use Rattle.fs_seen.proofs.Alike.{IsBehind, view_alike}
-use Rattle.fs_seen.proofs.Changes.{memory_kept, table_below, tree_kept}
+use Rattle.fs_seen.proofs.Changes.{memory_kept, over_kept, table_below}
 use Rattle.fs_seen.proofs.CountWords.{count_at, count_touched, load_count_word}
+use Rattle.fs_seen.proofs.Over.{RequestAlike, same_entry}
 
 -- ---- all stands
 
-module _ (d : Disk) (s : KernelState) (n : ℕ) (h : TreeAt d s n) (k : HasFileTable s n) where
+module _ (d : Disk) (s : KernelState) (n : ℕ) (h : StandsOver d s n) where
   -- where nothing changes
-  pub stands_still : (mid : KernelState) (t : SpacesState) → mid ≡ with_spaces s t → t ≡ s.spaces → IsBehind d mid n (view_in d s n)
+  pub stands_still : (mid : KernelState) (t : SpacesState) → mid ≡ with_spaces s t → t ≡ s.spaces → IsBehind d s mid n (view_in d s n)
   stands_still mid t is same =
-      subst (λ (m : KernelState). IsBehind d m n (view_in d s n)) (sym (is ∙ ap (with_spaces s) same)) (record { tree = h; table = k; view = refl })
+      subst (λ (m : KernelState). IsBehind d s m n (view_in d s n)) (sym (is ∙ ap (with_spaces s) same)) (record { over = h; request_stays = refl; view = refl })
 
   -- where the bit of a region is set
   region_stands : (r : ℕ) → IsInOrder (with_spaces s (with_region_bit s.spaces (slot_at s n).directory r)) →
-      IsBehind d (with_spaces s (with_region_bit s.spaces (slot_at s n).directory r)) n (view_in d s n)
+      IsBehind d s (with_spaces s (with_region_bit s.spaces (slot_at s n).directory r)) n (view_in d s n)
   region_stands r in_order =
       let t : SpacesState = with_region_bit s.spaces (slot_at s n).directory r in
       let kept = region_kept s.spaces (slot_at s n).directory r in
+      let alike : RequestAlike s (with_spaces s t) n = same_entry s (with_spaces s t) n refl (λ x is. refl) in
       record {
-        tree = tree_kept d s n h t in_order kept h.request.entry h.request.stands h.request.bits refl refl;
-        table = record {
-          records = k.records;
-          pages = λ p e is there. (let old = k.pages p e is there in record { allowed = old.allowed; whole = old.whole });
-          apart = k.apart;
-        };
-        view = view_alike s n t (λ q q_is. refl) (λ q q_is. refl) d
-            (memory_kept d s n h t in_order kept h.request.entry h.request.stands h.request.bits refl refl) (λ frame. refl);
+        over = over_kept d s n h t in_order kept alike
+            (record {
+              records = h.table.records;
+              pages = λ p e is there. (let old = h.table.pages p e is there in record { allowed = old.allowed; whole = old.whole });
+              apart = h.table.apart;
+            });
+        request_stays = refl;
+        view = view_alike s n t (λ q q_is. refl) (λ q q_is. refl) d (memory_kept d s n h t in_order kept alike) (λ frame. refl);
       }
 
   -- ---- the message
@@ -63,7 +64,7 @@ module _ (d : Disk) (s : KernelState) (n : ℕ) (h : TreeAt d s n) (k : HasFileT
     record_gives = ap (λ (z : CallStep ℕ). z.gives) record_is
 
     pub record_loaded : (word : ℕ) (mid : KernelState) (output : Output) → IsStep (load s n va) (Ok word) mid output →
-        (word ≡ get_or (record_words (slot_at s 0)) i 0) × IsBehind d mid n (view_in d s n)
+        (word ≡ get_or (record_words (slot_at s 0)) i 0) × IsBehind d s mid n (view_in d s n)
     record_loaded word mid output call = (
       (gives_value (load s n va) (get_or (record_words (slot_at s 0)) i 0) word mid output record_gives call).0,
       stands_still mid (touched s.spaces (slot_at s n).directory va Read) (loaded_state s mid n va word output call)
@@ -83,7 +84,7 @@ module _ (d : Disk) (s : KernelState) (n : ℕ) (h : TreeAt d s n) (k : HasFileT
     entry_gives = ap (λ (z : CallStep ℕ). z.gives) (load_table_word s n uses p (table_below p is) tabled)
 
     pub entry_loaded : (word : ℕ) (mid : KernelState) (output : Output) → IsStep (load s n (UVPT + 4 * p)) (Ok word) mid output → IsInOrder mid →
-        (word / PGSIZE ≡ e.frame) × IsBehind d mid n (view_in d s n)
+        (word / PGSIZE ≡ e.frame) × IsBehind d s mid n (view_in d s n)
     entry_loaded word mid output call in_order = (frame_is, behind)
       where
         told : word ≡ e.frame * PGSIZE + e.perm
@@ -100,9 +101,9 @@ module _ (d : Disk) (s : KernelState) (n : ℕ) (h : TreeAt d s n) (k : HasFileT
             loaded_state s mid n (UVPT + 4 * p) word output call
             ∙ ap (with_spaces s) (table_touched s.spaces dir p found.0 (table_below p is) found.1)
 
-        behind : IsBehind d mid n (view_in d s n)
+        behind : IsBehind d s mid n (view_in d s n)
         behind =
-            subst (λ (m : KernelState). IsBehind d m n (view_in d s n)) (sym comes_to)
+            subst (λ (m : KernelState). IsBehind d s m n (view_in d s n)) (sym comes_to)
             (region_stands (p / NPTENTRIES) (subst (λ (m : KernelState). IsInOrder m) comes_to in_order))
 
     -- ---- how often its frame is mapped
@@ -119,7 +120,7 @@ module _ (d : Disk) (s : KernelState) (n : ℕ) (h : TreeAt d s n) (k : HasFileT
       count_gives = ap (λ (z : CallStep ℕ). z.gives) (load_count_word s n e.frame low recorded (words.counts e.frame (uses.pages dir p e stands)))
 
       pub count_loaded : (word : ℕ) (mid : KernelState) (output : Output) → IsStep (load s n (count_at e.frame)) (Ok word) mid output →
-          (word ≡ reference_count s.spaces e.frame) × IsBehind d mid n (view_in d s n)
+          (word ≡ reference_count s.spaces e.frame) × IsBehind d s mid n (view_in d s n)
       count_loaded word mid output call = (
         (gives_value (load s n (count_at e.frame)) (reference_count s.spaces e.frame) word mid output count_gives call).0,
         stands_still mid (touched s.spaces dir (count_at e.frame) Read) (loaded_state s mid n (count_at e.frame) word output call)

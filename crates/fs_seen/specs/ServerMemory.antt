@@ -1,6 +1,6 @@
 -- What the file server sees of the kernel's state: its view, by the pages of its space, by how often the kernel counts that a frame is mapped, and by
 -- the message that came.
-use Rattle.std.specs.Prelude.{◌≡◌, ◌<◌, ℕ, ◌+◌, ◌*◌, ◌^◌, ◌==◌, ◌&&◌, ◌||◌, nat_le, nat_lt, Bool, true, is_some, get_or, slice_index}
+use Rattle.std.specs.Prelude.{◌≡◌, ◌≢◌, ◌<◌, ◌≤◌, ℕ, ◌+◌, ◌*◌, ◌^◌, ◌==◌, ◌&&◌, ◌||◌, nat_le, nat_lt, Bool, true, false, is_some, get_or, slice_index}
 use Rattle.std.specs.Prelude.{Option, Some, None, option_map, if◌then◌else◌}
 use Rattle.jos_base.specs.declared.memory.Access.{Access}
 use Rattle.jos_base.specs.declared.numbers.TheConstants.{FDTABLE}
@@ -8,10 +8,15 @@ use Rattle.jos_base.specs.KernelState.{KernelState, slot_at}
 use Rattle.jos_base.specs.Reach.{Entry, allows}
 use Rattle.jos_base.specs.SpacesState.{page, reference_count}
 use Rattle.jos_base.specs.Words.{page_number}
-use Rattle.lib_os.specs.declared.numbers.TheConstants.{MAXOPEN, OPEN_RECORDS}
+use Rattle.fs_layout.specs.declared.numbers.TheConstants.{MAXBLOCKS}
+use Rattle.fs_layout.specs.FileTree.{sync_files}
+use Rattle.lib_os.specs.declared.numbers.TheConstants.{MAXOPEN, OPEN_RECORDS, REQUEST}
+use Rattle.lib_os.specs.AbstractState.{Request, act, Server, looking, busy}
 use Rattle.lib_os.specs.Disk.{Disk}
 use Rattle.lib_os.specs.MadeCalls.{is_server_page}
 use Rattle.lib_os.specs.Rows.{IsPage}
+use Rattle.fs_cache.specs.CacheStands.{CacheAt, IsBlockEntry}
+use Rattle.fs_cache.specs.CacheSteps.{row_in}
 use Rattle.fs_tree.specs.TreeSteps.{job_in, memory_in}
 use Rattle.fs_requests.specs.ServerPlans.{open_page}
 use Rattle.fs_serving.specs.ServerViews.{Serving, View, word_of}
@@ -19,7 +24,10 @@ use Rattle.fs_server.specs.ServerSteps.{server_at}
 
 -- ---- the pages
 
--- the page of the records, and that of a place
+-- the page of a request, that of the records, and that of a place
+abbrev pub request_page : ℕ
+request_page = page_number REQUEST
+
 abbrev pub records_page : ℕ
 records_page = page_number OPEN_RECORDS
 
@@ -33,6 +41,10 @@ is_table_page p = (p == records_page) || (nat_le (page_number FDTABLE) p && nat_
 -- the entry of a page in the space of a slot's environment
 abbrev pub entry_of : KernelState → ℕ → ℕ → Option Entry
 entry_of s n p = s.spaces.entries (slot_at s n).directory p
+
+-- the page of a request is there
+abbrev pub has_request : KernelState → ℕ → Bool
+has_request s n = is_some (entry_of s n request_page)
 
 -- that of the page of a place
 abbrev pub place_entry : KernelState → ℕ → ℕ → Option Entry
@@ -78,6 +90,43 @@ pub record HasFileTable (s : KernelState) (n : ℕ) : Type 0 where
   pub pages : (p : ℕ) (e : Entry) → is_table_page p ≡ true → entry_of s n p ≡ Some e → IsOpenPage s e
   pub apart : (p q : ℕ) (x y : Entry) → is_table_page p ≡ true → is_server_page q ≡ true → entry_of s n p ≡ Some x → entry_of s n q ≡ Some y →
       x.frame ≡ y.frame → p ≡ q
+
+-- ---- over the disk
+
+-- The page of a request may be written, and is no block's.
+pub record IsRequestPage (s : KernelState) (n : ℕ) (e : Entry) : Type 0 where
+  pub bits : IsBlockEntry e
+  pub whole : IsPage (s.spaces.pages e.frame)
+  pub apart : (b : ℕ) (x : Entry) → row_in s n b ≡ Some x → x.frame ≢ e.frame
+
+-- what the disk holds is bytes
+abbrev pub AreDiskBytes : Disk → Type 0
+AreDiskBytes d = (n k : ℕ) → slice_index (d.block n) k < 256
+
+-- The cache stands over the disk, which has no more blocks than there may be, and so does the table; and so does the page of a request, if one is
+-- there.
+pub record StandsOver (d : Disk) (s : KernelState) (n : ℕ) : Type 0 where
+  pub cache : CacheAt d s n
+  pub count : d.count ≤ MAXBLOCKS
+  pub bytes : AreDiskBytes d
+  pub request : (e : Entry) → entry_of s n request_page ≡ Some e → IsRequestPage s n e
+  pub table : HasFileTable s n
+
+-- ---- who sends a page
+
+-- All that is asked for but a sync is told in a page.
+abbrev pub sends_page : Request → Bool
+sends_page (act sync_files object) = false
+sends_page _ = true
+
+abbrev pub HasPageFor : Request → KernelState → ℕ → Type 0
+HasPageFor request s n = sends_page request ≡ true → has_request s n ≡ true
+
+-- until the act is made the page of the request is there, where one was sent
+abbrev pub HasRequested : Server → KernelState → ℕ → Type 0
+HasRequested (looking client request place) s n = HasPageFor request s n
+HasRequested (busy client request place) s n = HasPageFor request s n
+HasRequested _ s n = Unit {0}
 
 -- ---- what the kernel keeps
 

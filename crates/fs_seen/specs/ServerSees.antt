@@ -11,8 +11,6 @@ use Rattle.lib_os.specs.Disk.{Disk}
 use Rattle.lib_os.specs.InOrder.{IsInOrder}
 use Rattle.lib_os.specs.UserCalls.{Output}
 use Rattle.lib_os.specs.AbstractState.{AbstractState}
-use Rattle.fs_runs.specs.TreeRuns.{AreSmall}
-use Rattle.fs_tree.specs.TreeSteps.{TreeAt, memory_in}
 use Rattle.fs_requests.specs.declared.plan.ServerNext.{ServerNext}
 use Rattle.fs_requests.specs.declared.state.ServerState.{ServerState}
 use Rattle.fs_requests.specs.declared.state.ServerStep.{ServerStep}
@@ -21,7 +19,7 @@ use Rattle.fs_requests.specs.ServerPlans.{call_at, next_at}
 use Rattle.fs_serving.specs.ServerRuns.{Follows, StandsServing}
 use Rattle.fs_serving.specs.ServerViews.{Calls, Serving, View, gone_on}
 use Rattle.fs_server.specs.ServerSteps.{HasCalled, IsReply, server_at}
-use Rattle.fs_seen.specs.ServerMemory.{HasFileTable, HasWords, serving_in, view_in}
+use Rattle.fs_seen.specs.ServerMemory.{HasRequested, HasWords, StandsOver, has_request, serving_in, view_in}
 
 -- ---- what is the same of two
 
@@ -80,10 +78,21 @@ NeedsAt step.CheckingEntry st v n = HasPlace st v
 NeedsAt step.CheckingHolders st v n = HasPlace st v × (st.at / PGSIZE ≡ v.frames st.number)
 NeedsAt _ st v n = Unit {0}
 
--- The kernel's state is in order, the cache stands, and so does the table; and what is kept is words.
+-- the steps that read the page of the request
+abbrev pub reads_request : ServerStep → Bool
+reads_request step.ReadingFile = true
+reads_request step.ReadingCount = true
+reads_request step.ReadingMode = true
+reads_request step.ReadingModeAgain = true
+reads_request _ = false
+
+-- a step that reads the page of the request has one
+abbrev pub ReadsPage : KernelState → ℕ → Type 0
+ReadsPage s n = reads_request (server_at s n).step ≡ true → has_request s n ≡ true
+
+-- The kernel's state is in order, the cache stands, and so do the table and the page of a request; and what is kept is words.
 pub record AllStands (d : Disk) (s : KernelState) (n : ℕ) : Type 0 where
-  pub tree : TreeAt d s n
-  pub table : HasFileTable s n
+  pub stands : StandsOver d s n
   pub words : HasWords s n
 
 -- ---- what is so behind one
@@ -95,16 +104,16 @@ pub record IsSeen (d : Disk) (s after : KernelState) (n : ℕ) (done : Progress)
   pub calls : Calls (serving_in d s n) next behind
   pub stands_as : ServesAlike behind (serving_in d after n)
   pub shows : done ≡ next.seen
-  pub tree : TreeAt d after n
-  pub table : HasFileTable after n
+  pub stands : StandsOver d after n
+  pub request_stays : has_request after n ≡ has_request s n
 
 -- No page was to be had: that is counted, the server goes on by the error's number, and sees what it saw.
 pub record LacksPage (d : Disk) (s after : KernelState) (n : ℕ) (done : Progress) : Type 0 where
   pub counted : s.refusals < 2 ^ 64 - 1 → s.refusals < after.refusals
   pub stands_as : ServesAlike (gone_on (serving_in d s n) (next_at (server_at s n) (negated E_NO_MEM)) (view_in d s n)) (serving_in d after n)
   pub shows : done ≡ (next_at (server_at s n) (negated E_NO_MEM)).seen
-  pub tree : TreeAt d after n
-  pub table : HasFileTable after n
+  pub stands : StandsOver d after n
+  pub request_stays : has_request after n ≡ has_request s n
 
 -- ---- the laws
 
@@ -115,13 +124,14 @@ HasCalledAt s after n output done = HasCalled (call_at (server_at s n)) (server_
 -- What a quiet call gives and does is seen.
 abbrev pub CallsAreSeen : Type 0
 CallsAreSeen = (d : Disk) (s after : KernelState) (n : ℕ) (output : Output) (done : Progress) → is_quiet (server_at s n).step ≡ true →
-    NeedsAt (server_at s n).step (server_at s n) (view_in d s n) n → AllStands d s n → IsInOrder after → HasCalledAt s after n output done →
-    IsSeen d s after n done
+    NeedsAt (server_at s n).step (server_at s n) (view_in d s n) n → ReadsPage s n → AllStands d s n → IsInOrder after →
+    HasCalledAt s after n output done → IsSeen d s after n done
 
 -- No fault stops it, nor does the host.
 abbrev pub CallsGoOn : Type 0
 CallsGoOn = (d : Disk) (s mid : KernelState) (n : ℕ) (output : Output) (why : Stop) → is_quiet (server_at s n).step ≡ true →
-    NeedsAt (server_at s n).step (server_at s n) (view_in d s n) n → AllStands d s n → IsReply (call_at (server_at s n)) s n (Err why) mid output → ⊥
+    NeedsAt (server_at s n).step (server_at s n) (view_in d s n) n → ReadsPage s n → AllStands d s n →
+    IsReply (call_at (server_at s n)) s n (Err why) mid output → ⊥
 
 -- A page that is taken for a place is one of zeros that nobody else has; or none was to be had.
 abbrev pub PagesAreTaken : Type 0
@@ -139,14 +149,15 @@ makes_call at = is_quiet at
 
 -- The server over the kernel stands for the same abstract state behind a hidden step, and behind a visible one for that after the abstract
 -- server's step.
-pub record HasServed (count : ℕ) (a : AbstractState) (d : Disk) (after : KernelState) (n : ℕ) (done : Progress) : Type 0 where
+pub record HasServed (count : ℕ) (a : AbstractState) (d : Disk) (s after : KernelState) (n : ℕ) (done : Progress) : Type 0 where
   pub follows : Follows count a done (serving_in d after n)
-  pub tree : TreeAt d after n
-  pub table : HasFileTable after n
+  pub stands : StandsOver d after n
+  pub request_stays : has_request after n ≡ has_request s n
 
 -- The server, which is in slot 0, serves by its own calls as the abstract one does. Where it stands for that, no call needs more. A page may not be
 -- had for a place.
 abbrev pub CallsServe : Type 0
 CallsServe = (count : ℕ) (a : AbstractState) (d : Disk) (s after : KernelState) (output : Output) (done : Progress) →
-    makes_call (server_at s 0).step ≡ true → AreSmall (memory_in d s 0) → AllStands d s 0 → StandsServing count a (serving_in d s 0) → IsInOrder after →
-    HasCalledAt s after 0 output done → HasServed count a d after 0 done ⊎ (((server_at s 0).step ≡ step.TakingPage) × LacksPage d s after 0 done)
+    makes_call (server_at s 0).step ≡ true → HasRequested a.server s 0 → AllStands d s 0 → StandsServing count a (serving_in d s 0) →
+    IsInOrder after → HasCalledAt s after 0 output done →
+    HasServed count a d s after 0 done ⊎ (((server_at s 0).step ≡ step.TakingPage) × LacksPage d s after 0 done)

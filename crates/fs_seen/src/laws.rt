@@ -2,6 +2,10 @@
 
 ghost use Rattle.fs_seen.specs.BlockSteps.{FlushesServe, JobsAreLawful, JobsServe};
 ghost use Rattle.fs_seen.specs.ServerSees.{CallsAreSeen, CallsGoOn, CallsServe, PagesAreTaken};
+ghost use Rattle.fs_seen.specs.ServerWhole.{AskedByWord, AskedServes, CallsLeaveTable, FlushesLeaveTable};
+ghost use Rattle.fs_seen.specs.ServerWhole.{OthersServe, PausesServe, ReceivesServe, ReleasesServe, RepliesServe};
+ghost use Rattle.fs_seen.specs.ServerWhole.{RepliesWithWord, ServedIsKept, ServersStand, StartsServe, UnopenedAlike};
+ghost use Rattle.fs_seen.specs.ServerWhole.{UnopenedStays, UnopenedTables, UnopenedViews, WaitsServe};
 
 /// What comes of a call that concerns nobody else is what the server sees, and the call does what it is to do.
 #[tactic(auto, using(crate::proofs::CallsSeen::calls_are_seen))]
@@ -43,4 +47,112 @@ pub fn server_jobs_serve()
 #[tactic(auto, using(crate::proofs::FlushesServed::flushes_serve))]
 pub fn server_flushes_serve()
     ensures { FlushesServe }
+{}
+
+/// While it is not idle the server stands by itself for the abstract state.
+#[tactic(auto, using(crate::proofs::ServesFor::servers_stand))]
+pub fn server_stands_where_it_serves()
+    ensures { ServersStand }
+{}
+
+/// What it has served by a step is kept of it behind that.
+#[tactic(auto, using(crate::proofs::ServesFor::served_is_kept))]
+pub fn server_serves_on()
+    ensures { ServedIsKept }
+{}
+
+/// A call that stores nothing leaves the table of open files as it was.
+#[tactic(auto, using(crate::proofs::TableStays::calls_leave_table))]
+pub fn server_calls_leave_the_table()
+    ensures { CallsLeaveTable }
+{}
+
+/// And so does a step of a flush.
+#[tactic(auto, using(crate::proofs::TableStays::flushes_leave_table))]
+pub fn server_flushes_leave_the_table()
+    ensures { FlushesLeaveTable }
+{}
+
+/// At its start it serves for an abstract state that has the files of the disk.
+#[tactic(auto, using(crate::proofs::FirstServes::starts_serve))]
+pub fn server_starts()
+    ensures { StartsServe }
+{}
+
+/// Behind a request the server gives back its page.
+#[tactic(auto, using(crate::proofs::BetweenRequests::releases_serve))]
+pub fn server_releases_its_page()
+    ensures { ReleasesServe }
+{}
+
+/// And waits for the next, over the disk and the table.
+#[tactic(auto, using(crate::proofs::BetweenRequests::receives_serve))]
+pub fn server_waits_for_a_request()
+    ensures { ReceivesServe }
+{}
+
+/// A request that comes then is one of the abstract server's.
+#[tactic(auto, using(crate::proofs::AskedNow::asked_serves))]
+pub fn server_is_asked()
+    ensures { AskedServes }
+{}
+
+/// A word that comes alone asks it so.
+#[tactic(auto, using(crate::proofs::AskedNow::asked_by_word))]
+pub fn server_is_asked_by_a_word()
+    ensures { AskedByWord }
+{}
+
+/// Where nothing was opened its reply is a word alone.
+#[tactic(auto, using(crate::proofs::RepliesNow::replies_with_word))]
+pub fn server_replies_with_a_word()
+    ensures { RepliesWithWord }
+{}
+
+/// Behind the reply it is about to give back the page of the request.
+#[tactic(auto, using(crate::proofs::RepliesNow::replies_serve))]
+pub fn server_replies()
+    ensures { RepliesServe }
+{}
+
+/// Where the client does not wait yet it goes on to reply.
+#[tactic(auto, using(crate::proofs::RepliesNow::waits_serve))]
+pub fn server_waits_to_reply()
+    ensures { WaitsServe }
+{}
+
+/// And gives up its turn until then.
+#[tactic(auto, using(crate::proofs::RepliesNow::pauses_serve))]
+pub fn server_pauses()
+    ensures { PausesServe }
+{}
+
+/// A step of another that leaves its pages leaves it where it serves.
+#[tactic(auto, using(crate::proofs::OthersNow::others_serve))]
+pub fn server_is_left_alone()
+    ensures { OthersServe }
+{}
+
+/// Where the page of the records holds zeros, and no place has a page, nothing was opened.
+#[tactic(auto, using(crate::proofs::Unopened::unopened_views))]
+pub fn unopened_tables_are_empty()
+    ensures { UnopenedViews }
+{}
+
+/// It is so as long as the table stays.
+#[tactic(auto, using(crate::proofs::Unopened::unopened_stays))]
+pub fn unopened_tables_stay()
+    ensures { UnopenedStays }
+{}
+
+/// So the table stands, over any disk, where each object is the console.
+#[tactic(auto, using(crate::proofs::Unopened::unopened_tables))]
+pub fn unopened_tables_stand()
+    ensures { UnopenedTables }
+{}
+
+/// Of the abstract state the server, the files and the table count there, and nothing else.
+#[tactic(auto, using(crate::proofs::Unopened::unopened_alike))]
+pub fn unopened_states_are_alike()
+    ensures { UnopenedAlike }
 {}

@@ -11,7 +11,7 @@ use Rattle.lib_os.specs.declared.progress.Progress.{Progress}
 use Rattle.lib_os.specs.declared.progress.Progress.TheVariants as progress
 use Rattle.lib_os.specs.declared.user_os.Stop.{Stop}
 use Rattle.lib_os.specs.declared.user_os.Stop.TheVariants as stop
-use Rattle.lib_os.specs.Disk.{Disk, DiskFile, disk_in}
+use Rattle.lib_os.specs.Disk.{DiskFile, disk_in}
 use Rattle.lib_os.specs.LibrarySteps.{IsStopped}
 use Rattle.lib_os.specs.UserCalls as user
 use Rattle.lib_os.specs.UserCalls.{IsCallStep, IsStep, Output, answer_of}
@@ -22,6 +22,7 @@ use Rattle.fs_jobs.specs.declared.place.Job.{Job}
 use Rattle.fs_places.specs.TreePlaces as places
 use Rattle.fs_runs.specs.TreeRuns.{begun_with}
 use Rattle.fs_tree.specs.declared.steps.Acted.TheVariants as acted
+use Rattle.fs_tree.specs.TreeMakes.{IsTreeStep}
 use Rattle.fs_tree.specs.TreeSteps.{HasStepped, IsLawful, TreeAt}
 use Rattle.fs_requests.specs.declared.plan.ServerAsk.{ServerAsk}
 use Rattle.fs_requests.specs.declared.plan.ServerAsk.TheVariants as ask
@@ -76,17 +77,18 @@ IsCalled it state (Err _) n states output = IsReply it states.before n (Err stop
 
 -- ---- a step of the job on files
 
--- The job goes on; or it has answered, and the server goes on by that.
-pub data HasWorked (state : ServerState) (d e : Disk) (s after : KernelState) (n : ℕ) : Progress → Type 0 where
-  goes : HasStepped d e s after n acted.Going → HasWorked state d e s after n progress.Hidden
-  answers : (word : ℕ) (mid : KernelState) → HasStepped d e s mid n (acted.Answer word) → after ≡ gone_on mid n (next_at state word) →
-      HasWorked state d e s after n (next_at state word).seen
+-- The job goes on; or it has answered, and the server goes on by that. Its step is one of the job's calls (`fs_tree`).
+pub data HasWorked (state : ServerState) (disk : DiskFile) (before now : Files) (s after : KernelState) (n : ℕ) : Progress → Type 0 where
+  goes : HasStepped (disk_in before disk) (disk_in now disk) s after n acted.Going → IsTreeStep disk before now s after n →
+      HasWorked state disk before now s after n progress.Hidden
+  answers : (word : ℕ) (mid : KernelState) → HasStepped (disk_in before disk) (disk_in now disk) s mid n (acted.Answer word) →
+      IsTreeStep disk before now s mid n → after ≡ gone_on mid n (next_at state word) →
+      HasWorked state disk before now s after n (next_at state word).seen
 
 abbrev pub WorksWhereTold : ServerState → Result Progress Failed → DiskFile → ℕ → Around KernelState → Around (Option Files) → Type 0
 WorksWhereTold state (Ok done) disk n states files =
     (before : Files) → files.before ≡ Some before → TreeAt (disk_in before disk) states.before n → IsLawful (disk_in before disk) states.before n →
-    (after : Files) × (files.after ≡ Some after)
-    × HasWorked state (disk_in before disk) (disk_in after disk) states.before states.after n done
+    (after : Files) × (files.after ≡ Some after) × HasWorked state disk before after states.before states.after n done
 WorksWhereTold state (Err _) disk n states files = Unit {0}
 
 -- ---- a step of a flush

@@ -252,11 +252,11 @@ module _ (count : ℕ) (a : AbstractState) (it : Serving) (before : Memory) (fil
     at_is = offset ∙ there.offset
 
   -- behind this the job of the act is under way
-  works : (k : RequestKind) (f : FileAct) (object : Option ℕ) → IsBusy a it before None k (act f object) → k ≢ kind.Open →
+  works : (k : RequestKind) (f : FileAct) (object : Option ℕ) → IsBusy a it before None k (act f object) → k ≢ kind.Open → k ≢ kind.Sync →
       OpenAlike (is_file_open a) (is_file_open a) before.disk f →
       IsOnItsWay count (is_file_open a) f before (begun_with (job_by (Some k) it.state word)) it.view.memory →
       StandsServing count a (gone_on it (begun it.state step.Working (job_by (Some k) it.state word)) it.view)
-  works k f object is_busy other alike on_its_way =
+  works k f object is_busy other no_sync alike on_its_way =
       record {
         before = before;
         files = files;
@@ -274,6 +274,7 @@ module _ (count : ℕ) (a : AbstractState) (it : Serving) (before : Memory) (fil
               opening = λ e. absurd (other e);
               moving = λ moves. numbered;
               no_place = λ moves. refl;
+              no_sync = no_sync;
             };
       }
 
@@ -286,21 +287,21 @@ module _ (count : ℕ) (a : AbstractState) (it : Serving) (before : Memory) (fil
   begins _ _ is other server (seeks name f so within) of_file = absurd (other refl)
   begins _ _ is other server (reads name f so) of_file =
       works kind.Read (read_file f.way f.offset (word_at before.page REQUEST_COUNT)) (Some name)
-      (record { server = server; kind_is = is; asks = reads name f so }) (λ e. cc) tt
+      (record { server = server; kind_is = is; asks = reads name f so }) (λ e. cc) (λ e. cc) tt
       (reads_begin count (is_file_open a) f.way word f.offset (word_at before.page REQUEST_COUNT) before it.view.memory it.state.at it.state.count
       whole (stands name f so) (there name f so).small memory (at_is name f so) counted-so)
   begins _ _ is other server (writes name f so within) of_file =
       works kind.Write (write_file f.way f.offset (bytes_given before.page (word_at before.page REQUEST_COUNT))) (Some name)
-      (record { server = server; kind_is = is; asks = writes name f so within }) (λ e. cc) tt
+      (record { server = server; kind_is = is; asks = writes name f so within }) (λ e. cc) (λ e. cc) tt
       (writes_begin count (is_file_open a) f.way word f.offset (word_at before.page REQUEST_COUNT) before it.view.memory it.state.at it.state.count
       whole (stands name f so) (there name f so).small within memory (at_is name f so) counted-so)
   begins _ _ is other server (sizes name f so) of_file =
       works kind.SetSize (set_file_size f.way (word_at before.page REQUEST_COUNT)) None
-      (record { server = server; kind_is = is; asks = sizes name f so }) (λ e. cc) tt
+      (record { server = server; kind_is = is; asks = sizes name f so }) (λ e. cc) (λ e. cc) tt
       (sizes_begin count (is_file_open a) f.way word (word_at before.page REQUEST_COUNT) before it.view.memory it.state.count whole
       (stands name f so) memory counted-so)
   begins _ _ is other server (stats name f so) of_file =
-      works kind.Stat (stat_file f.way) None (record { server = server; kind_is = is; asks = stats name f so }) (λ e. cc) tt
+      works kind.Stat (stat_file f.way) None (record { server = server; kind_is = is; asks = stats name f so }) (λ e. cc) (λ e. cc) tt
       (stats_begin count (is_file_open a) f.way word before it.view.memory whole (stands name f so) memory)
 
 pub reading_record : StepFollows step.ReadingRecord

@@ -470,5 +470,6 @@ reading_mode count a it before small files table (path, mode, so, has_page, memo
             opening = λ is. (path, mode, its, has_page);
             moving = λ is. absurd (false≢true is);
             no_place = λ is. absurd (false≢true is);
+            no_sync = λ e. cc;
           };
     }))

@@ -156,6 +156,7 @@ goes-on count a it before small files table checking not_here = by (plans.is_las
         opening = λ e. removal-opens-none e;
         moving = λ e. absurd (false≢true e);
         no_place = λ e. refl;
+        no_sync = λ e. cc;
       };
     }
     by false is = record {

@@ -346,6 +346,7 @@ further count a it before is next way = record {
   );
   moving = is.moving;
   no_place = is.no_place;
+  no_sync = is.no_sync;
 }
 
 pub working : JobFollows step.Working

@@ -201,7 +201,7 @@ IsMoving kind.Read = true
 IsMoving kind.Write = true
 IsMoving _ = false
 
--- The job of the act is under way.
+-- The job of the act is under way; a sync has none.
 pub record IsWorking (count : ℕ) (a : AbstractState) (it : Serving) (before : Memory) : Type 0 where
   pub k : RequestKind
   pub f : FileAct
@@ -215,6 +215,7 @@ pub record IsWorking (count : ℕ) (a : AbstractState) (it : Serving) (before : 
   pub moving : IsMoving k ≡ true → it.state.number ≡ word_at before.page REQUEST_FILE
   -- there is no place of the table taken for bytes that are moved
   pub no_place : IsMoving k ≡ true → place ≡ None
+  pub no_sync : k ≢ kind.Sync
 
 -- bytes were moved, so many
 pub record HasMoved (a : AbstractState) (it : Serving) (before : Memory) : Type 0 where

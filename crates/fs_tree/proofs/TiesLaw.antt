@@ -46,7 +46,8 @@ use Rattle.fs_tree.specs.declared.steps.Done.{Done}
 use Rattle.fs_tree.specs.declared.steps.Done.TheVariants as done
 use Rattle.lib_os.specs.declared.numbers.TheConstants.{REQUEST}
 use Rattle.fs_jobs.specs.TreeBounds.{is_bounded}
-use Rattle.fs_tree.specs.TreeMakes.{DoesWhereTold, HasDone, IsAccess, IsOfDisk, IsOfRequest, IsStored, LeavesWhereInside, going, no_page, word}
+use Rattle.fs_tree.specs.TreeMakes.{CallsWhereInside, CallsWhereTold, DoesWhereTold, HasDone, IsAccess, IsOfDisk, IsOfRequest, IsStored, IsTreeStep, LeavesWhereInside}
+use Rattle.fs_tree.specs.TreeMakes.{asks_block, asks_request, fetches, going, no_page, word}
 use Rattle.fs_places.specs.TreePlaces.{registers_with, state_in, words_with}
 use Rattle.fs_runs.specs.TreePlans.{ask_at, next_at}
 use Rattle.fs_runs.specs.TreeRuns.{IsInside, memory_after, reply_of}
@@ -261,6 +262,22 @@ module _ (a : TreeAsk) (at : ℕ) (c : Caller) (is : IsOfDisk a at) (mid : Kerne
   ready_leaves files why whole call before told h inside =
       let d = disk_in before c.disk in absurd (not_made d c.state mid c.slot a why (ready_made d h inside (Err why) call))
 
+  pub ready_calls : (files : Around (Option Files)) (x : Done) (w : ℕ) → IsAccess a (va + at % BLKSIZE) c.state c.slot (Ok w) mid output →
+      CallsWhereInside a (Ok x) c.disk c.slot (from_to c.state mid) files
+  ready_calls files x w call before now told behind h inside = record {
+    mid = mid;
+    output = output;
+    call = asks_block (at / BLKSIZE % CACHE_BLOCKS) (at % BLKSIZE) w a (omega arith) found
+        (subst (λ (k : ℕ). IsAccess a (k + at % BLKSIZE) c.state c.slot (Ok w) mid output) address call);
+    spaces = refl;
+    rest = (access_rest a c.state mid c.slot (va + at % BLKSIZE) w output call).1;
+  }
+
+  pub ready_never_calls : (files : Around (Option Files)) (why : Stop) → IsAccess a (va + at % BLKSIZE) c.state c.slot (Err why) mid output →
+      CallsWhereInside a (Ok done.Going) c.disk c.slot (from_to c.state mid) files
+  ready_never_calls files why call before now told behind h inside =
+      let d = disk_in before c.disk in absurd (not_made d c.state mid c.slot a why (ready_made d h inside (Err why) call))
+
 -- of the page of the request
 module _ (a : TreeAsk) (at : ℕ) (c : Caller) (is : IsOfRequest a at) (mid : KernelState) (output : Output) (in_order : IsInOrder mid)
     (files : Around (Option Files)) where
@@ -286,6 +303,20 @@ module _ (a : TreeAsk) (at : ℕ) (c : Caller) (is : IsOfRequest a at) (mid : Ke
       LeavesWhereInside a (Ok done.Going) c.disk c.slot (from_to c.state mid) files.before output
   request_leaves why call before told h inside = absurd (never_stopped (disk_in before c.disk) h inside why call)
 
+  pub request_calls : (x : Done) (w : ℕ) → IsAccess a (REQUEST + at % PGSIZE) c.state c.slot (Ok w) mid output →
+      CallsWhereInside a (Ok x) c.disk c.slot (from_to c.state mid) files
+  request_calls x w call before now told behind h inside = record {
+    mid = mid;
+    output = output;
+    call = asks_request (at % PGSIZE) w a (omega arith) call;
+    spaces = refl;
+    rest = (access_rest a c.state mid c.slot (REQUEST + at % PGSIZE) w output call).1;
+  }
+
+  pub request_never_calls : (why : Stop) → IsAccess a (REQUEST + at % PGSIZE) c.state c.slot (Err why) mid output →
+      CallsWhereInside a (Ok done.Going) c.disk c.slot (from_to c.state mid) files
+  request_never_calls why call before now told behind h inside = absurd (never_stopped (disk_in before c.disk) h inside why call)
+
 -- the cache has made a step
 module _ (a : TreeAsk) (block : ℕ) (c : Caller) (below : block < CACHE_BLOCKS) (files : Around (Option Files)) (after : KernelState)
     (output : Output) where
@@ -307,6 +338,17 @@ module _ (a : TreeAsk) (block : ℕ) (c : Caller) (below : block < CACHE_BLOCKS)
   pub cache_leaves : (step : Told) (x : Done) → HasGone (fetch_state c.state c.slot block) c files step after output →
       LeavesWhereInside a (Ok x) c.disk c.slot (from_to c.state after) files.before output
   cache_leaves step x stepped before is h inside = step_leaves c block below before h step output files after is stepped
+
+  pub cache_calls : (step : Told) (x : Done) → HasGone (fetch_state c.state c.slot block) c files step after output →
+      CallsWhereInside a (Ok x) c.disk c.slot (from_to c.state after) files
+  cache_calls step x stepped before now is told h inside = record {
+    mid = after;
+    output = output;
+    call = fetches block step below
+        (subst (λ (f : Around (Option Files)). HasGone (fetch_state c.state c.slot block) c f step after output) (λ i. from_to (is i) (told i)) stepped);
+    spaces = refl;
+    rest = (step_leaves c block below before h step output files after is stepped).1;
+  }
 
 -- where it had no page for the block, its environment lives
 pub lacking_lives : (block : ℕ) (c : Caller) (files : Around (Option Files)) (step : Told) (after : KernelState) (output : Output) →
@@ -365,6 +407,24 @@ module _ (disk : DiskFile) (n : ℕ) (s mid : KernelState) (files : Around (Opti
         after ≡ with_extra (with_registers mid n (registers_with (slot_at mid n).registers next)) n (words_with (slot_at mid n).extra next) →
         RestWhereTold (Ok acts) disk n (from_to s after) files.before
     set_leaves_rest next after set before is h lawful = rest_set s mid n (leaves before is h (inside before lawful)).1 next after set
+
+  -- which call it makes
+  module _ (x : Done) (calls : CallsWhereInside a (Ok x) disk n (from_to s mid) files) (acts : Acted) where
+    pub step_calls : CallsWhereTold (Ok acts) disk n (from_to s mid) files
+    step_calls before now is told h lawful = calls before now is told h (inside before lawful)
+
+    pub set_calls : (next : TreeState) (after : KernelState) →
+        after ≡ with_extra (with_registers mid n (registers_with (slot_at mid n).registers next)) n (words_with (slot_at mid n).extra next) →
+        CallsWhereTold (Ok acts) disk n (from_to s after) files
+    set_calls next after set before now is told h lawful =
+        let it : IsTreeStep disk before now s mid n = calls before now is told h (inside before lawful) in
+        record {
+          mid = it.mid;
+          output = it.output;
+          call = it.call;
+          spaces = ap (λ (k : KernelState). k.spaces) set ∙ it.spaces;
+          rest = rest_set s mid n it.rest next after set;
+        }
 
   pub step_going : DoesWhereTold a (Ok done.Going) disk n (from_to s mid) files → StepsWhereTold (Ok acted.Going) disk n (from_to s mid) files
   step_going does before is h lawful =

@@ -1,21 +1,28 @@
 -- What a job asks, done over the block cache: an access to a byte or a word of a block that has its page, or of the page of the request; or
 -- the cache makes a step.
-use Rattle.std.specs.Prelude.{◌≡◌, ◌<◌, ℕ, ◌-◌, ◌%◌, ◌^◌, true, [], Option, Some, Result, Ok, Err}
+use Rattle.std.specs.Prelude.{◌≡◌, ◌<◌, ℕ, ◌+◌, ◌-◌, ◌%◌, ◌^◌, true, [], Option, Some, Result, Ok, Err}
 use Rattle.jos_host.specs.declared.host.Failed.{Failed}
 use Rattle.jos_host.specs.Files.{Files}
-use Rattle.jos_host.specs.Frames.{Around}
+use Rattle.jos_host.specs.Frames.{Around, from_to}
+use Rattle.jos_base.specs.declared.numbers.TheConstants.{PGSIZE}
 use Rattle.jos_base.specs.Environments.{is_live}
 use Rattle.jos_base.specs.KernelState.{KernelState, slot_at}
+use Rattle.lib_os.specs.declared.numbers.TheConstants.{CACHE_BLOCKS, REQUEST}
 use Rattle.lib_os.specs.declared.user_os.Stop.{Stop}
+use Rattle.lib_os.specs.BlockCache.{block_address}
 use Rattle.lib_os.specs.Disk.{Disk, DiskFile, disk_in}
 use Rattle.lib_os.specs.UserCalls as call
 use Rattle.lib_os.specs.UserCalls.{CallStep, IsStep, Output, Prints}
+use Rattle.fs_blocks.specs.declared.place.CachePlace.TheVariants as cached_place
+use Rattle.fs_blocks.specs.declared.plan.Told.{Told}
+use Rattle.fs_cache.specs.CacheSteps.{HasGone, cache_state, caller, fetch_state}
 use Rattle.fs_jobs.specs.declared.asks.TreeAsk.{TreeAsk}
 use Rattle.fs_jobs.specs.declared.asks.TreeAsk.TheVariants as ask
+use Rattle.fs_tree.specs.declared.steps.Acted.{Acted}
 use Rattle.fs_tree.specs.declared.steps.Done.{Done}
 use Rattle.fs_tree.specs.declared.steps.Done.TheVariants as done
 use Rattle.fs_runs.specs.TreeRuns.{IsInside}
-use Rattle.fs_tree.specs.TreeSteps.{IsWaiting, KeepsRest, TreeAt, memory_in}
+use Rattle.fs_tree.specs.TreeSteps.{IsLawful, IsWaiting, KeepsRest, TreeAt, memory_in}
 use Rattle.fs_runs.specs.TreeRuns.{memory_after, reply_of}
 use Rattle.fs_jobs.specs.TreeTests.{low_byte}
 
@@ -83,3 +90,35 @@ abbrev pub KeepsSlot : Result Done Failed → ℕ → Around KernelState → Typ
 KeepsSlot (Ok (done.Word w)) n states = slot_at states.after n ≡ slot_at states.before n
 KeepsSlot (Ok done.NoPage) n states = is_live (slot_at states.after n) ≡ true
 KeepsSlot _ n states = Unit {0}
+
+-- ---- which call it is
+
+-- One of the cache's on its way to a block; or what the job asks, of the page of the block that was found, or of the page of the request.
+pub data IsTreeCall (disk : DiskFile) (before now : Files) (s mid : KernelState) (n : ℕ) (output : Output) : Type 0 where
+  fetches : (block : ℕ) (told : Told) → block < CACHE_BLOCKS →
+      HasGone (fetch_state s n block) (caller s n disk) (from_to (Some before) (Some now)) told mid output → IsTreeCall disk before now s mid n output
+  asks_block : (block at w : ℕ) (a : TreeAsk) → at < PGSIZE → (cache_state s n).place ≡ cached_place.Found block →
+      IsAccess a (block_address block + at) s n (Ok w) mid output → IsTreeCall disk before now s mid n output
+  asks_request : (at w : ℕ) (a : TreeAsk) → at < PGSIZE → IsAccess a (REQUEST + at) s n (Ok w) mid output → IsTreeCall disk before now s mid n output
+
+-- It is such a call, and behind that no more is set than the words of the job and of the cache.
+pub record IsTreeStep (disk : DiskFile) (before now : Files) (s after : KernelState) (n : ℕ) : Type 0 where
+  pub mid : KernelState
+  pub output : Output
+  pub call : IsTreeCall disk before now s mid n output
+  pub spaces : after.spaces ≡ mid.spaces
+  pub rest : KeepsRest s after n
+
+-- So it is where the host tells its files, all stands, and what is asked lies within the disk and its page;
+abbrev pub CallsWhereInside : TreeAsk → Result Done Failed → DiskFile → ℕ → Around KernelState → Around (Option Files) → Type 0
+CallsWhereInside a (Ok told) disk n states files =
+    (before now : Files) → files.before ≡ Some before → files.after ≡ Some now → TreeAt (disk_in before disk) states.before n → IsInside disk.blocks a →
+    IsTreeStep disk before now states.before states.after n
+CallsWhereInside a (Err _) disk n states files = Unit {0}
+
+-- and where the job's next step is lawful.
+abbrev pub CallsWhereTold : Result Acted Failed → DiskFile → ℕ → Around KernelState → Around (Option Files) → Type 0
+CallsWhereTold (Ok told) disk n states files =
+    (before now : Files) → files.before ≡ Some before → files.after ≡ Some now → TreeAt (disk_in before disk) states.before n →
+    IsLawful (disk_in before disk) states.before n → IsTreeStep disk before now states.before states.after n
+CallsWhereTold (Err _) disk n states files = Unit {0}

@@ -86,6 +86,7 @@ fn make_at_block<O: UserOs, H: Host>(
     requires place { makes.IsOfDisk ask at }
     ensures told { makes.DoesWhereTold ask result (O.disk os.old) (O.slot os.old) (around O.state os.old os.new) (around H.files host.old host.new) }
     ensures leaves { makes.LeavesWhereInside ask result (O.disk os.old) (O.slot os.old) (around O.state os.old os.new) (H.files host.old) (output H.console O.written (from_to host.old host.new) (from_to os.old os.new)) }
+    ensures call { makes.CallsWhereInside ask result (O.disk os.old) (O.slot os.old) (around O.state os.old os.new) (around H.files host.old host.new) }
     ensures kept { makes.KeepsSlot result (O.slot os.old) (around O.state os.old os.new) }
     ensures made { OnOk result (MakesServersCall (around O.state os.old os.new) (O.slot os.old) (O.disk os.old) (around H.files host.old host.new) (output H.console O.written (from_to host.old host.new) (from_to os.old os.new))) }
     ensures disk_only { TouchesDisk (O.disk os.old) (around H.files host.old host.new) (around H.asked host.old host.new) }
@@ -125,6 +126,7 @@ fn make_at_request<O: UserOs, H: Host>(
     requires place { makes.IsOfRequest ask at }
     ensures told { makes.DoesWhereTold ask result (O.disk os.old) (O.slot os.old) (around O.state os.old os.new) (around H.files host.old host.new) }
     ensures leaves { makes.LeavesWhereInside ask result (O.disk os.old) (O.slot os.old) (around O.state os.old os.new) (H.files host.old) (output H.console O.written (from_to host.old host.new) (from_to os.old os.new)) }
+    ensures call { makes.CallsWhereInside ask result (O.disk os.old) (O.slot os.old) (around O.state os.old os.new) (around H.files host.old host.new) }
     ensures kept { makes.KeepsSlot result (O.slot os.old) (around O.state os.old os.new) }
     ensures made { OnOk result (MakesServersCall (around O.state os.old os.new) (O.slot os.old) (O.disk os.old) (around H.files host.old host.new) (output H.console O.written (from_to host.old host.new) (from_to os.old os.new))) }
     ensures disk_only { TouchesDisk (O.disk os.old) (around H.files host.old host.new) (around H.asked host.old host.new) }
@@ -153,6 +155,7 @@ fn make<O: UserOs, H: Host>(os: &mut O, host: &mut H, ask: TreeAsk) -> Result<Do
     requires whole { HasBlocks (H.files host.old) (O.disk os.old) }
     ensures told { makes.DoesWhereTold ask result (O.disk os.old) (O.slot os.old) (around O.state os.old os.new) (around H.files host.old host.new) }
     ensures leaves { makes.LeavesWhereInside ask result (O.disk os.old) (O.slot os.old) (around O.state os.old os.new) (H.files host.old) (output H.console O.written (from_to host.old host.new) (from_to os.old os.new)) }
+    ensures call { makes.CallsWhereInside ask result (O.disk os.old) (O.slot os.old) (around O.state os.old os.new) (around H.files host.old host.new) }
     ensures kept { makes.KeepsSlot result (O.slot os.old) (around O.state os.old os.new) }
     ensures made { OnOk result (MakesServersCall (around O.state os.old os.new) (O.slot os.old) (O.disk os.old) (around H.files host.old host.new) (output H.console O.written (from_to host.old host.new) (from_to os.old os.new))) }
     ensures disk_only { TouchesDisk (O.disk os.old) (around H.files host.old host.new) (around H.asked host.old host.new) }
@@ -219,8 +222,9 @@ fn refuse<O: UserOs, H: Host>(os: &mut O, host: &mut H) -> Result<Acted, Failed>
 }
 
 /// Makes a step of the job: the block that it wants comes nearer, or it does what it asks and goes on by the reply. Each step is one call, one of
-/// those that the file server makes, whatever stands and whether or not the host tells its files (`made`). Of the host's files at most a block of
-/// the disk's is read or written, whether or not the host fails (`disk_only`).
+/// those that the file server makes, whatever stands and whether or not the host tells its files (`made`). Where it tells them and all stands, the
+/// call is one of the cache's or an access to the page of a block or of the request, and no space is changed behind it (`call`). Of the host's files
+/// at most a block of the disk's is read or written, whether or not the host fails (`disk_only`).
 ///
 /// # Errors
 /// The host failed. The console keeps what it has, and at most a part of some bytes came behind that (`failed`).
@@ -231,6 +235,7 @@ pub fn tree_step<O: UserOs, H: Host>(os: &mut O, host: &mut H) -> Result<Acted, 
     ensures told { StepsWhereTold result (O.disk os.old) (O.slot os.old) (around O.state os.old os.new) (around H.files host.old host.new) }
     ensures quiet { QuietWhereTold result (O.disk os.old) (O.slot os.old) (around O.state os.old os.new) (H.files host.old) (output H.console O.written (from_to host.old host.new) (from_to os.old os.new)) }
     ensures rest { RestWhereTold result (O.disk os.old) (O.slot os.old) (around O.state os.old os.new) (H.files host.old) }
+    ensures call { makes.CallsWhereTold result (O.disk os.old) (O.slot os.old) (around O.state os.old os.new) (around H.files host.old host.new) }
     ensures made { OnOk result (MakesServersCall (around O.state os.old os.new) (O.slot os.old) (O.disk os.old) (around H.files host.old host.new) (output H.console O.written (from_to host.old host.new) (from_to os.old os.new))) }
     ensures disk_only { TouchesDisk (O.disk os.old) (around H.files host.old host.new) (around H.asked host.old host.new) }
     ensures failed { OnErr result (PrintsPartOfSome (output H.console O.written (from_to host.old host.new) (from_to os.old os.new))) }

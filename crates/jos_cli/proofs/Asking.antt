@@ -11,7 +11,8 @@ use Rattle.jos_words.specs.Arguments.{Word}
 use Rattle.jos_words.specs.Commands.{Command, exo, run, demo, mkfs, ls, cat}
 use Rattle.fs_image.specs.DiskHeld.{IsReadInPieces}
 use Rattle.jos_cli.specs.Found.{sources_of_exo}
-use Rattle.jos_cli.specs.FilesAsked.{AsksFor, AsksAll, AsksFiles, read_calls, schedule_calls, write_calls, files_calls, source_calls, mkfs_calls}
+use Rattle.jos_run.specs.DiskTouches.{AreDiskCalls}
+use Rattle.jos_cli.specs.FilesAsked.{AsksFor, AsksAll, MovesBlocks, AsksFiles, read_calls, schedule_calls, write_calls, files_calls, source_calls, mkfs_calls}
 use Rattle.jos_cli.specs.FilesAsked.{note_calls, AsksNotes, AsksSomeNotes, AsksNote}
 
 -- none is made
@@ -81,11 +82,17 @@ reads_none : (name : List ℕ) (old new : Option (List Asked)) → new ≡ old �
 reads_none name None new same = (0, same)
 reads_none name (Some asked) new same = (0, same ∙ ap (λ l. Some l) (sym (append-nil asked)))
 
+-- no block is moved
+pub moves_none : (disk : List ℕ) (old new : Option (List Asked)) → new ≡ old → MovesBlocks disk (from_to old new)
+unfolding AreDiskCalls
+moves_none disk None new same = ([], tt, same)
+moves_none disk (Some asked) new same = ([], tt, same ∙ ap (λ l. Some l) (sym (append-nil asked)))
+
 -- a command may make no call
 pub asks_no_more : (command : Option Command) (old new : Option (List Asked)) → new ≡ old → AsksFiles command (from_to old new)
 asks_no_more None old new same = same
 asks_no_more (Some (exo e)) old new same = asks_none (source_calls (sources_of_exo e)) old new same
-asks_no_more (Some (run r)) old new same = inl (asks_none (schedule_calls r.schedule) old new same)
+asks_no_more (Some (run r)) old new same = (old, inl (asks_none (schedule_calls r.schedule) old old refl), moves_none r.disk.text old new same)
 asks_no_more (Some (demo d)) old new same = asks_none (write_calls d.file.text) old new same
 asks_no_more (Some (mkfs m)) old new same = asks_none (mkfs_calls m) old new same
 asks_no_more (Some (ls l)) old new same = reads_none l.disk.text old new same

@@ -3,7 +3,7 @@ use Rattle.std.proofs.Common.{◌≡◌, ℕ, ◌≤◌, List, [], ◌∷◌, le
 use Rattle.std.specs.Prelude.{IsOk, IsSome}
 use Rattle.jos_host.specs.Files.{Files}
 use Rattle.jos_host.specs.Told.{Rose}
-use Rattle.jos_host.specs.Frames.{Around}
+use Rattle.jos_host.specs.Frames.{Around, from_to}
 use Rattle.jos_base.specs.declared.numbers.TheConstants.{INPUT_MAX}
 use Rattle.jos_base.specs.KernelState.{KernelState}
 use Rattle.jos_words.specs.Arguments.{Word}
@@ -25,13 +25,14 @@ use Rattle.jos_cli.specs.Found.{FileAt, file_at, Found, found_in, RunFound, run_
 use Rattle.jos_cli.specs.Answer.{Judged, schedule_of, images_of, Gathered, gathered, Expected, expected_if, expected_of_run, expected_of_images, expected_of_exo}
 use Rattle.jos_cli.specs.Answer.{made, expected_of_writing}
 use Rattle.jos_cli.specs.Making.{named_files, made_unless, disk_made, expected_of_mkfs}
-use Rattle.jos_cli.specs.Disks.{held_at, checked, checked_by, disk_of, tree_of, if_there, path_of, listing, expected_of_printed}
+use Rattle.jos_cli.specs.Disks.{held_at, checked, checked_by, disk_of, tree_of, blocks_on, if_there, path_of, listing, expected_of_printed}
 use Rattle.jos_cli.specs.Disks.{expected_of_listing, expected_of_bytes, expected_of_ls, expected_of_cat}
 use Rattle.jos_cli.specs.Kinds.{Kind, kind_of, Answers}
+use Rattle.lib_os.specs.Disk.{Disk}
 use Rattle.jos_run.specs.RunEnds.{Job, CanBegin}
 use Rattle.jos_cli.specs.declared.outcome.Which.{Which}
 use Rattle.jos_cli.specs.declared.outcome.Which.TheVariants as which
-use Rattle.jos_cli.specs.RunAnswers.{GatheredProgram, gathered_program, job_of, RunsAs, AnswersRun}
+use Rattle.jos_cli.specs.RunAnswers.{GatheredProgram, gathered_program, job_of, disks_of, RunsAs, AnswersRun}
 use Rattle.jos_cli.specs.Outcomes.{AnswersCommand, HasOutcomeCause, HasRunCauseOf, HasCommandCause, CanRun, CanRunProgram, IsRunCase, CanMake, CanList, CanPrint, IsMadeCase}
 use Rattle.jos_cli.specs.Stages.{AreFilesAt}
 use Rattle.jos_cli.proofs.Finding.{run_found_is}
@@ -84,13 +85,13 @@ run_case trace r faults (outcome.NotThere errno) console h cause calm = absurd (
 run_case trace r faults (outcome.BadMake fault) console h cause calm = absurd (let e = h.0 in cc)
 
 -- images are run where they can be
-pub is_run : (told : Option Files) (told_input : Option (List ℕ)) (command : Option Command) (faults : Around ℕ) (own : Outcome) (console : Around (Option (List ℕ))) →
-    AnswersCommand told told_input command own console → HasCommandCause command faults own → (files : Files) (input : List ℕ) (e : Exo) → told ≡ Some files →
+pub is_run : (told : Around (Option Files)) (told_input : Option (List ℕ)) (command : Option Command) (faults : Around ℕ) (own : Outcome) (console : Around (Option (List ℕ))) →
+    AnswersCommand told told_input command own console → HasCommandCause command faults own → (files : Files) (input : List ℕ) (e : Exo) → told.before ≡ Some files →
     told_input ≡ Some input → command ≡ Some (exo e) → CanRun e (found_in files e) input → (Rose faults.before faults.after → ⊥) → IsRunCase own
 is_run told told_input command faults own console h cause files input e f i c can calm =
-    let answers = subst (λ (o : Option Command). AnswersCommand (Some files) (Some input) o own console) c
-    (subst (λ (o : Option (List ℕ)). AnswersCommand (Some files) o command own console) i
-    (subst (λ (o : Option Files). AnswersCommand o told_input command own console) f h)) in
+    let answers = subst (λ (o : Option Command). AnswersCommand (from_to (Some files) told.after) (Some input) o own console) c
+    (subst (λ (o : Option (List ℕ)). AnswersCommand (from_to (Some files) told.after) o command own console) i
+    (subst (λ (o : Option Files). AnswersCommand (from_to o told.after) told_input command own console) f h)) in
     let run = runs e (found_in files e) input can in
     run_case (trace_of (numbers_of_exo e)) run.0 faults own console
     (subst (λ (x : Expected). Answers x own console) ((λ k. expected_of_exo e (answers.2 k) (answers.3 k)) ∙ run.1) answers.4)
@@ -102,56 +103,58 @@ none_booted : {X : Type 0} (state : Option X) → state ≡ None → IsSome stat
 none_booted None e h = let some = h in cc
 none_booted (Some x) e h = cc
 
-program_case : (p : Job) (faults : Around ℕ) (own : Outcome) (console : Around (Option (List ℕ))) → RunsAs p (kind_of own) console → CanBegin p →
+program_case : (p : Job) (disks : Around (Option Disk)) (faults : Around ℕ) (own : Outcome) (console : Around (Option (List ℕ))) → RunsAs p disks (kind_of own) console → CanBegin p →
     HasRunCauseOf faults (kind_of own) → (Rose faults.before faults.after → ⊥) → IsRunCase own
-program_case p faults (outcome.Ran report last) console h can cause calm = tt
-program_case p faults outcome.NoMemory console h can cause calm = tt
-program_case p faults (outcome.HostFault stopped) console h can cause calm = absurd (calm cause)
-program_case p faults (outcome.Limit which.Boot) console h can cause calm = absurd (none_booted _ h.0 can)
-program_case p faults (outcome.Limit which.Frames) console h can cause calm = absurd h
-program_case p faults (outcome.Limit which.Steps) console h can cause calm = absurd h
-program_case p faults (outcome.Limit which.Trace) console h can cause calm = absurd h
-program_case p faults (outcome.Limit which.Images) console h can cause calm = absurd h
-program_case p faults (outcome.Limit which.Schedule) console h can cause calm = absurd h
-program_case p faults (outcome.Limit which.Image) console h can cause calm = absurd h
-program_case p faults (outcome.Limit which.Input) console h can cause calm = absurd h
-program_case p faults (outcome.Limit which.Blocks) console h can cause calm = absurd h
-program_case p faults (outcome.Limit which.File) console h can cause calm = absurd h
-program_case p faults (outcome.Limit which.Args) console h can cause calm = absurd h
-program_case p faults outcome.Usage console h can cause calm = absurd h
-program_case p faults (outcome.Absent word) console h can cause calm = absurd h
-program_case p faults (outcome.BadSchedule fault) console h can cause calm = absurd h
-program_case p faults (outcome.BadImage word fault) console h can cause calm = absurd h
-program_case p faults (outcome.Made bytes) console h can cause calm = absurd h
-program_case p faults (outcome.BadDisk fault) console h can cause calm = absurd h
-program_case p faults (outcome.NotThere errno) console h can cause calm = absurd h
-program_case p faults (outcome.BadMake fault) console h can cause calm = absurd h
+program_case p disks faults (outcome.Ran report last) console h can cause calm = tt
+program_case p disks faults outcome.NoMemory console h can cause calm = tt
+program_case p disks faults (outcome.HostFault stopped) console h can cause calm = absurd (calm cause)
+program_case p disks faults (outcome.Limit which.Boot) console h can cause calm = absurd (none_booted _ h.0 can)
+program_case p disks faults (outcome.Limit which.Frames) console h can cause calm = absurd h
+program_case p disks faults (outcome.Limit which.Steps) console h can cause calm = absurd h
+program_case p disks faults (outcome.Limit which.Trace) console h can cause calm = absurd h
+program_case p disks faults (outcome.Limit which.Images) console h can cause calm = absurd h
+program_case p disks faults (outcome.Limit which.Schedule) console h can cause calm = absurd h
+program_case p disks faults (outcome.Limit which.Image) console h can cause calm = absurd h
+program_case p disks faults (outcome.Limit which.Input) console h can cause calm = absurd h
+program_case p disks faults (outcome.Limit which.Blocks) console h can cause calm = absurd h
+program_case p disks faults (outcome.Limit which.File) console h can cause calm = absurd h
+program_case p disks faults (outcome.Limit which.Args) console h can cause calm = absurd h
+program_case p disks faults outcome.Usage console h can cause calm = absurd h
+program_case p disks faults (outcome.Absent word) console h can cause calm = absurd h
+program_case p disks faults (outcome.BadSchedule fault) console h can cause calm = absurd h
+program_case p disks faults (outcome.BadImage word fault) console h can cause calm = absurd h
+program_case p disks faults (outcome.Made bytes) console h can cause calm = absurd h
+program_case p disks faults (outcome.BadDisk fault) console h can cause calm = absurd h
+program_case p disks faults (outcome.NotThere errno) console h can cause calm = absurd h
+program_case p disks faults (outcome.BadMake fault) console h can cause calm = absurd h
 
 -- what is answered where a program can be run
-runs_program : (r : Run) (found : RunFound) (input : List ℕ) (kind : Kind) (console : Around (Option (List ℕ))) (can : CanRunProgram r found input) →
-    AnswersRun r found input kind console → (p : Job) × CanBegin p × RunsAs p kind console
-runs_program r found input kind console can h =
+runs_program : (r : Run) (found : RunFound) (input : List ℕ) (files : Around (Option Files)) (kind : Kind) (console : Around (Option (List ℕ))) (can : CanRunProgram r found input) →
+    AnswersRun r found input files kind console → (p : Job) × (disks : Around (Option Disk)) × CanBegin p × RunsAs p disks kind console
+runs_program r found input files kind console can h =
     let schedule = is_ok (schedule_of found.schedule) can.schedule in
-    let read : GatheredProgram = record { schedule = schedule.0; program = can.image; input = input } in
+    let read : GatheredProgram = record { schedule = schedule.0; program = can.image; blocks = blocks_on found.disk; input = input } in
     let all : gathered_program r found input ≡ Ok read =
-    programs.all_read r found input can.words schedule.0 schedule.1 can.image can.read input (within_limit input can.short) in (
+    programs.all_read r found input can.words schedule.0 schedule.1 can.image can.read (blocks_on found.disk) refl input (within_limit input can.short) in (
       job_of r read,
+      disks_of r read files,
       can.frames,
-      program_runs r found input kind console read all h,
+      program_runs r found input files kind console read all h,
     )
 
 -- a program is run where it can be
-pub is_run_program : (told : Option Files) (told_input : Option (List ℕ)) (command : Option Command) (faults : Around ℕ) (own : Outcome) (console : Around (Option (List ℕ))) →
-    AnswersCommand told told_input command own console → HasCommandCause command faults own → (files : Files) (input : List ℕ) (r : Run) → told ≡ Some files →
+pub is_run_program : (told : Around (Option Files)) (told_input : Option (List ℕ)) (command : Option Command) (faults : Around ℕ) (own : Outcome) (console : Around (Option (List ℕ))) →
+    AnswersCommand told told_input command own console → HasCommandCause command faults own → (files : Files) (input : List ℕ) (r : Run) → told.before ≡ Some files →
     told_input ≡ Some input → command ≡ Some (run r) → CanRunProgram r (run_found_in files r) input → (Rose faults.before faults.after → ⊥) → IsRunCase own
 is_run_program told told_input command faults own console h cause files input r f i c can calm =
-    let answers = subst (λ (o : Option Command). AnswersCommand (Some files) (Some input) o own console) c
-    (subst (λ (o : Option (List ℕ)). AnswersCommand (Some files) o command own console) i
-    (subst (λ (o : Option Files). AnswersCommand o told_input command own console) f h)) in
-    let same = subst (λ (x : List ℕ). AnswersRun r (run_found_in files r) x (kind_of own) console) answers.3
-    (subst (λ (x : RunFound). AnswersRun r x answers.1 (kind_of own) console) (run_found_is files r answers.0 answers.2) answers.4) in
-    let runs = runs_program r (run_found_in files r) input (kind_of own) console can same in
-    program_case runs.0 faults own console runs.2 runs.1 (subst (λ (o : Option Command). HasCommandCause o faults own) c cause) calm
+    let answers = subst (λ (o : Option Command). AnswersCommand (from_to (Some files) told.after) (Some input) o own console) c
+    (subst (λ (o : Option (List ℕ)). AnswersCommand (from_to (Some files) told.after) o command own console) i
+    (subst (λ (o : Option Files). AnswersCommand (from_to o told.after) told_input command own console) f h)) in
+    let behind = from_to (Some files) told.after in
+    let same = subst (λ (x : List ℕ). AnswersRun r (run_found_in files r) x behind (kind_of own) console) answers.3
+    (subst (λ (x : RunFound). AnswersRun r x answers.1 behind (kind_of own) console) (run_found_is files r answers.0 answers.2) answers.5) in
+    let runs = runs_program r (run_found_in files r) input behind (kind_of own) console can same in
+    program_case runs.0 runs.1 faults own console runs.3 runs.2 (subst (λ (o : Option Command). HasCommandCause o faults own) c cause) calm
 
 -- ---- something made
 
@@ -221,14 +224,14 @@ prints c files can =
           ∙ ap (λ (r : Result (List ℕ) Errno). expected_if (if_there r) expected_of_printed) bytes.1),
     )
 
-module _ (told : Option Files) (told_input : Option (List ℕ)) (command : Option Command) (faults : Around ℕ) (own : Outcome) (console : Around (Option (List ℕ)))
+module _ (told : Around (Option Files)) (told_input : Option (List ℕ)) (command : Option Command) (faults : Around ℕ) (own : Outcome) (console : Around (Option (List ℕ)))
     (h : AnswersCommand told told_input command own console) (cause : HasCommandCause command faults own) (calm : Rose faults.before faults.after → ⊥) (files : Files)
-    (f : told ≡ Some files) where
+    (f : told.before ≡ Some files) where
   -- the same of the files and the command that there are
-  of_command : (one : Command) → command ≡ Some one → AnswersCommand (Some files) told_input (Some one) own console
+  of_command : (one : Command) → command ≡ Some one → AnswersCommand (from_to (Some files) told.after) told_input (Some one) own console
   of_command one is =
-      subst (λ (o : Option Command). AnswersCommand (Some files) told_input o own console) is
-      (subst (λ (o : Option Files). AnswersCommand o told_input command own console) f h)
+      subst (λ (o : Option Command). AnswersCommand (from_to (Some files) told.after) told_input o own console) is
+      (subst (λ (o : Option Files). AnswersCommand (from_to o told.after) told_input command own console) f h)
 
   cause_of_command : (one : Command) → command ≡ Some one → HasCommandCause (Some one) faults own
   cause_of_command one is = subst (λ (o : Option Command). HasCommandCause o faults own) is cause

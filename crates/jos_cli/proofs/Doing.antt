@@ -1,7 +1,9 @@
 -- What the functions of a command do, one after another, as it is seen from outside.
 use Rattle.std.proofs.Common.{◌≡◌, ℕ, List, [], ◌∷◌, ◌++◌, Option, Some, None, Result, Ok, Err, refl, sym, ap, subst, ◌∙◌, arith, MatchResult}
 use Rattle.std.specs.Option.{option_map}
+use Rattle.std.specs.Prelude.{OnErr}
 use Rattle.jos_host.specs.Asked.{Asked, and_noted}
+use Rattle.jos_host.specs.Files.{Files}
 use Rattle.jos_host.specs.Told.{HasCause}
 use Rattle.jos_host.specs.Frames.{Unchanged, from_to, around}
 use Rattle.jos_host.specs.declared.host.Host.{Ghosts}
@@ -10,7 +12,10 @@ use Rattle.jos_words.specs.Arguments.{Word}
 use Rattle.fs_image.specs.DiskHeld.{IsReadInPieces}
 use Rattle.jos_words.specs.Commands.{Command, Exo, Run, exo, run}
 use Rattle.jos_kernel.specs.declared.kernel.BootFault.{BootFault}
+use Rattle.jos_kernel.specs.declared.kernel.BootFault.TheVariants as boot_fault
 use Rattle.jos_run.specs.declared.programs.RunEnd.{RunEnd}
+use Rattle.jos_run.specs.declared.programs.RunEnd.TheVariants as end
+use Rattle.jos_run.specs.DiskTouches.{KeepsFiles, TouchesDiskOnly}
 use Rattle.jos_cli.specs.declared.outcome.Which.{Which}
 use Rattle.jos_cli.specs.declared.outcome.Outcome.{Outcome}
 use Rattle.jos_cli.specs.declared.outcome.Outcome.TheVariants as outcome
@@ -18,18 +23,20 @@ use Rattle.jos_cli.specs.Limits.{numbers_of_exo, limit_of_words}
 use Rattle.jos_cli.specs.Found.{sources_of_exo, Found, IsFound, RunFound, IsRunFound, IsInput}
 use Rattle.jos_cli.specs.Answer.{Gathered, gathered, expected_of_images}
 use Rattle.jos_cli.specs.Kinds.{kind_of, Answers}
-use Rattle.jos_cli.specs.RunAnswers.{GatheredProgram, gathered_program, job_of, RunsAs}
+use Rattle.jos_cli.specs.RunAnswers.{GatheredProgram, gathered_program, job_of, disk_file_of, disks_of, RunsAs}
 use Rattle.jos_cli.specs.Outcomes.{IsUsageCase, HasOutcomeCause, HasRunCauseOf, LeavesInputBy}
 use Rattle.jos_cli.specs.FilesAsked.{AsksFor, AsksAll, AsksScheduleAndDisk, read_calls, schedule_calls, files_calls, source_calls, AsksSomeNotes, AsksNote}
+use Rattle.jos_cli.specs.FilesLeft.{LeavesBlocks}
 use Rattle.jos_cli.specs.Stages.{RefusesBy, IsOfWords, outcome_of_run}
 use Rattle.jos_cli.specs.Outside.{Outside, outside}
 use Rattle.jos_cli.specs.Effects.{DoesCommand, ReadsFiles, Gathers, ReadsDisk, GathersProgram, WritesNotes}
-use Rattle.jos_cli.proofs.Asking.{asks_no_more, asks_none, asks_first, asks_then, asks_both, asks_all, asks_nothing, asks_file, asks_part, asks_part_whole}
+use Rattle.jos_cli.proofs.Asking.{asks_no_more, asks_none, asks_first, asks_then, asks_both, asks_all, asks_nothing, asks_file, asks_part, asks_part_whole, moves_none}
 use Rattle.jos_cli.proofs.Asking.{notes_none, notes_done, notes_then, notes_then_last}
 use Rattle.jos_cli.proofs.Judging.{exo_refused, exo_goes_on}
 use Rattle.jos_cli.proofs.Leaving.{left_no_memory, left_words, left_unread, left_unread_on_disk, left_ran, unread_no_usage, unread_on_disk_no_usage, ran_no_usage}
 use Rattle.jos_cli.proofs.RunAnswered.{run_refused, run_goes_on}
-use Rattle.jos_cli.proofs.FilesWritten.{keeps_files, no_disk}
+use Rattle.jos_cli.proofs.RunDisks.{begins_with_disk}
+use Rattle.jos_cli.proofs.FilesWritten.{keeps_files, no_blocks, no_disk}
 use Rattle.jos_cli.proofs.Tops.{run_cause, command_cause, at_no_memory}
 
 -- the count was the same before
@@ -255,13 +262,20 @@ module _ (o : Outcome) (seen : Outside) (input : List ℕ) (i : IsInput seen.inp
   pub run_unread : (found : RunFound) (r : Run) → IsRunFound seen.files.before r found → RefusesBy (gathered_program r found input) (kind_of o) →
       GathersProgram r.schedule r.disk.text (Some o) seen → DoesCommand (Some (run r)) o seen
   run_unread found r f refusal h = record {
-    answer = (found, input, f, i, run_refused r found input (kind_of o) seen.console seen.faults refusal h.cause h.console);
+    answer = (
+      found,
+      input,
+      f,
+      i,
+      begins_with_disk r found input seen.files.before f,
+      run_refused r found input seen.files (kind_of o) seen.console seen.faults refusal h.cause h.console,
+    );
     usage = h.usage;
-    files = h.files;
+    files = no_blocks r.disk.text seen.files.before seen.files.after o h.files;
     disk = tt;
     input = h.input;
     notes = h.notes;
-    asked = h.asked;
+    asked = (seen.asked.after, h.asked, moves_none r.disk.text seen.asked.after seen.asked.after refl);
     cause = run_cause seen.faults (kind_of o) h.cause;
   }
 
@@ -298,24 +312,39 @@ module _ {H : Type 0} (host : Ghosts H) (a b c : H) (input : List ℕ) (i : IsIn
     cause = cause_after (outcome_of_run ran) (host.faults a) (host.faults b) (host.faults c) h.cause cause;
   }
 
+-- the same of the program of a disk, of which blocks were moved
+module _ {H : Type 0} (host : Ghosts H) (a b c : H) (input : List ℕ) (i : IsInput (host.input a) input) (ran : Result RunEnd BootFault) where
+  ran_files : (result : Result RunEnd BootFault) (name : List ℕ) → KeepsFiles name (host.files b) (host.files c) → OnErr result (c ≡ b) →
+      LeavesBlocks name (outcome_of_run result) (around host.files b c)
+  ran_files (Ok (end.Ended report trace)) name keeps same = keeps
+  ran_files (Ok (end.HostFault stopped)) name keeps same = keeps
+  ran_files (Err boot_fault.Pool) name keeps same = ap host.files same
+  ran_files (Err boot_fault.NoMemory) name keeps same = ap host.files same
+
   pub run_ran : (found : RunFound) (read : GatheredProgram) (r : Run) → IsRunFound (host.files a) r found → gathered_program r found input ≡ Ok read →
-      GathersProgram r.schedule r.disk.text None (outside host a b) → RunsAs (job_of r read) (kind_of (outcome_of_run ran)) (around host.console b c) →
-      HasRunCauseOf (around host.faults b c) (kind_of (outcome_of_run ran)) → DoesCommand (Some (run r)) (outcome_of_run ran) (outside host a c)
-  run_ran found read r f judged h told cause = record {
+      GathersProgram r.schedule r.disk.text None (outside host a b) →
+      RunsAs (job_of r read) (disks_of r read (around host.files b c)) (kind_of (outcome_of_run ran)) (around host.console b c) →
+      TouchesDiskOnly (disk_file_of r read) (around host.files b c) (around host.asked b c) → host.input c ≡ host.input b → host.notes c ≡ host.notes b →
+      OnErr ran (c ≡ b) → HasRunCauseOf (around host.faults b c) (kind_of (outcome_of_run ran)) → DoesCommand (Some (run r)) (outcome_of_run ran) (outside host a c)
+  run_ran found read r f judged h told touches taken noted unasked cause = record {
     answer = (
       found,
       input,
       f,
       i,
-      run_goes_on r found input (kind_of (outcome_of_run ran)) (around host.console a c) read judged
-          (subst (λ (console : Option (List ℕ)). RunsAs (job_of r read) (kind_of (outcome_of_run ran)) (from_to console (host.console c))) h.console told),
+      begins_with_disk r found input (host.files a) f,
+      run_goes_on r found input (around host.files a c) (kind_of (outcome_of_run ran)) (around host.console a c) read judged
+          (subst (λ (console : Option (List ℕ)). RunsAs (job_of r read) (disks_of r read (around host.files a c)) (kind_of (outcome_of_run ran)) (from_to console (host.console c))) h.console
+          (subst (λ (files : Option Files). RunsAs (job_of r read) (disks_of r read (from_to files (host.files c))) (kind_of (outcome_of_run ran)) (around host.console b c)) h.files told)),
     );
     usage = ran_no_usage ran;
-    files = rest.first ∙ h.files;
+    files =
+        subst (λ (files : Option Files). LeavesBlocks r.disk.text (outcome_of_run ran) (from_to files (host.files c))) h.files
+        (ran_files ran r.disk.text touches.keeps unasked);
     disk = tt;
-    input = left (host.input b) h.input rest.second;
-    notes = rest.fourth ∙ h.notes;
-    asked = subst (λ (log : Option (List Asked)). AsksScheduleAndDisk r.schedule r.disk.text (from_to (host.asked a) log)) (sym rest.third) h.asked;
+    input = left_ran ran (host.input a) (host.input c) (taken ∙ h.input);
+    notes = noted ∙ h.notes;
+    asked = (host.asked b, h.asked, (touches.calls, touches.of_disk, touches.asked_are));
     cause = subst (λ (n : ℕ). HasRunCauseOf (from_to n (host.faults c)) (kind_of (outcome_of_run ran))) h.cause cause;
   }
 
@@ -328,7 +357,7 @@ no_memory_no_usage (Some c) = λ e. cc
 -- nothing was done
 pub did_nothing : {H : Type 0} (host : Ghosts H) (a : H) (command : Option Command) → DoesCommand command outcome.NoMemory (outside host a a)
 did_nothing host a command = record {
-  answer = at_no_memory (host.files a) (host.input a) command (around host.console a a) refl;
+  answer = at_no_memory (around host.files a a) (host.input a) command (around host.console a a) refl;
   usage = no_memory_no_usage command;
   files = keeps_files command (host.files a);
   disk = no_disk command (around host.files a a);

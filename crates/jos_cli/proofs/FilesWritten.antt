@@ -14,7 +14,8 @@ use Rattle.jos_host.specs.Frames.{Around, from_to}
 use Rattle.jos_words.specs.Commands.{Command, Mkfs, exo, run, demo, mkfs, ls, cat}
 use Rattle.jos_cli.specs.Commands.{program_file}
 use Rattle.jos_cli.specs.Making.{disk_in}
-use Rattle.jos_cli.specs.FilesLeft.{KeepsOthers, told_with, told_with_disk, LeavesBy, LeavesFiles, LeavesGoodDisk}
+use Rattle.jos_run.specs.DiskTouches.{KeepsFiles}
+use Rattle.jos_cli.specs.FilesLeft.{KeepsOthers, told_with, told_with_disk, LeavesBy, LeavesBlocks, LeavesFiles, LeavesGoodDisk}
 
 pub itself : (name : List ℕ) → bytes_eq name name ≡ true
 itself name = (bytes_eq-Decides name name).1 refl
@@ -73,11 +74,47 @@ module _ (old new : Option Files) (name : List ℕ) (made : Option Files) (other
   by_fault (outcome.NotThere errno) h = keeps_all old new name h
   by_fault (outcome.BadMake fault) h = keeps_all old new name h
 
+-- ---- the disk of a run
+
+pub keeps_disk : (name : List ℕ) (old new : Option Files) → new ≡ old → KeepsFiles name old new
+keeps_disk name None new e = e
+keeps_disk name (Some files) new e = (files, e, (λ q apart. refl), refl)
+
+-- no block was moved
+pub no_blocks : (name : List ℕ) (old new : Option Files) (result : Outcome) → new ≡ old → LeavesBlocks name result (from_to old new)
+no_blocks name old new (outcome.Ran report trace) e = keeps_disk name old new e
+no_blocks name old new (outcome.HostFault stopped) e = keeps_disk name old new e
+no_blocks name old new outcome.Usage e = e
+no_blocks name old new (outcome.Absent word) e = e
+no_blocks name old new (outcome.Limit which) e = e
+no_blocks name old new (outcome.BadImage word fault) e = e
+no_blocks name old new outcome.NoMemory e = e
+no_blocks name old new (outcome.BadSchedule fault) e = e
+no_blocks name old new (outcome.Made bytes) e = e
+no_blocks name old new (outcome.BadDisk fault) e = e
+no_blocks name old new (outcome.NotThere errno) e = e
+no_blocks name old new (outcome.BadMake fault) e = e
+
+blocks_kept : (name : List ℕ) (old new : Option Files) (result : Outcome) → LeavesBlocks name result (from_to old new) → KeepsFiles name old new
+blocks_kept name old new (outcome.Ran report trace) h = h
+blocks_kept name old new (outcome.HostFault stopped) h = h
+blocks_kept name old new outcome.Usage h = keeps_disk name old new h
+blocks_kept name old new (outcome.Absent word) h = keeps_disk name old new h
+blocks_kept name old new (outcome.Limit which) h = keeps_disk name old new h
+blocks_kept name old new (outcome.BadImage word fault) h = keeps_disk name old new h
+blocks_kept name old new outcome.NoMemory h = keeps_disk name old new h
+blocks_kept name old new (outcome.BadSchedule fault) h = keeps_disk name old new h
+blocks_kept name old new (outcome.Made bytes) h = keeps_disk name old new h
+blocks_kept name old new (outcome.BadDisk fault) h = keeps_disk name old new h
+blocks_kept name old new (outcome.NotThere errno) h = keeps_disk name old new h
+blocks_kept name old new (outcome.BadMake fault) h = keeps_disk name old new h
+
 pub leaves_fault : (old new later : Option Files) (command : Option Command) (result : Outcome) (stopped : Stopped) → LeavesFiles command result (from_to old new) → later ≡ new →
     LeavesFiles command (outcome.HostFault stopped) (from_to old later)
 leaves_fault old new later None result stopped h same = same ∙ h
 leaves_fault old new later (Some (exo e)) result stopped h same = same ∙ h
-leaves_fault old new later (Some (run r)) result stopped h same = same ∙ h
+leaves_fault old new later (Some (run r)) result stopped h same =
+    subst (λ (f : Option Files). KeepsFiles r.disk.text old f) (sym same) (blocks_kept r.disk.text old new result h)
 leaves_fault old new later (Some (demo d)) result stopped h same =
     let file = d.file.text in let bytes = program_file d.name.text in
     subst (λ (f : Option Files). KeepsOthers file (from_to old f)) (sym same)

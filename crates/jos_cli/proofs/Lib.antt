@@ -8,6 +8,7 @@ pub mod AllRead
 pub mod Gathering
 pub mod ProgramsRead
 pub mod RunAnswered
+pub mod RunDisks
 pub mod WordsRead
 pub mod ImagesRead
 pub mod FileNames

@@ -14,7 +14,7 @@ use Rattle.jos_cli.specs.Commands.{path_word}
 use Rattle.jos_cli.specs.Limits.{limit_of_run}
 use Rattle.jos_cli.specs.Found.{FileAt, RunFound}
 use Rattle.jos_cli.specs.Answer.{Judged, limit, not_there, within, schedule_of, loadable_of, input_within}
-use Rattle.jos_cli.specs.Disks.{disk_of, tree_of, if_there}
+use Rattle.jos_cli.specs.Disks.{disk_of, tree_of, blocks_on, if_there}
 use Rattle.jos_cli.specs.Kinds.{Kind, answered}
 use Rattle.jos_cli.specs.RunAnswers.{image_on, program_on, GatheredProgram, gathered_program}
 use Rattle.jos_cli.specs.Stages.{RefusesBy}
@@ -50,7 +50,7 @@ module _ (path : Word) (disk : FileAt) where
 
 module _ (r : Run) (found : RunFound) (input : List ℕ) where
   abbrev pub read_all : List ℕ → Loadable → List ℕ → Judged GatheredProgram
-  read_all schedule program bytes = Ok (record { schedule = schedule; program = program; input = bytes })
+  read_all schedule program bytes = Ok (record { schedule = schedule; program = program; blocks = blocks_on found.disk; input = bytes })
 
   abbrev pub from_input : List ℕ → Loadable → Judged GatheredProgram
   from_input schedule program = input_within input >>= read_all schedule program
@@ -92,8 +92,9 @@ module _ (r : Run) (found : RunFound) (input : List ℕ) where
             (refused_then (input_within input) (read_all schedule program) kind h)))
 
         -- all is read
-        pub all_read : (bytes : List ℕ) → input_within input ≡ Ok bytes →
-            gathered_program r found input ≡ Ok (record { schedule = schedule; program = program; input = bytes })
-        all_read bytes b =
+        pub all_read : (blocks : ℕ) → blocks ≡ blocks_on found.disk → (bytes : List ℕ) → input_within input ≡ Ok bytes →
+            gathered_program r found input ≡ Ok (record { schedule = schedule; program = program; blocks = blocks; input = bytes })
+        all_read blocks count bytes b =
             from_words ∙ ap (λ (j : Judged (List ℕ)). j >>= from_program) s ∙ ap (λ (j : Judged Loadable). j >>= from_input schedule) p
             ∙ ap (λ (j : Judged (List ℕ)). j >>= read_all schedule program) b
+            ∙ ap (λ (n : ℕ). Ok (record { schedule = schedule; program = program; blocks = n; input = bytes })) (sym count)

@@ -1,9 +1,7 @@
 -- What `run` answers, stage by stage.
 use Rattle.std.proofs.Common.{◌≡◌, ℕ, nat_lt, Bool, true, false, cond, List, [], ◌∷◌, ◌++◌, length, Option, Some, None, Result, Ok, Err, refl, sym, ap, subst, ◌∙◌, arith}
 use mathlib.Core.Logic.{inl, inr}
-use Rattle.std.specs.Prelude.{unwrap_or, ◌⊎◌, ◌+◌}
-use Rattle.std.specs.Option.{option_map}
-use Rattle.std.proofs.lemmas.List.{length-append}
+use Rattle.jos_host.specs.Files.{Files}
 use Rattle.jos_host.specs.Frames.{Around}
 use Rattle.jos_elf.specs.declared.fault.ElfFault.{ElfFault}
 use Rattle.jos_elf.specs.Parsed.{Layout, parsed}
@@ -11,18 +9,11 @@ use Rattle.jos_words.specs.Arguments.{Word}
 use Rattle.jos_words.specs.Commands.{Run}
 use Rattle.jos_kernel.specs.declared.kernel.BootFault.{BootFault}
 use Rattle.jos_kernel.specs.declared.kernel.BootFault.TheVariants as boot_fault
-use Rattle.jos_kernel.specs.declared.report.Refusal.{Refusal}
-use Rattle.jos_kernel.specs.declared.report.Turn.{Turn}
-use Rattle.jos_kernel.specs.Books.{turn_of}
-use Rattle.jos_kernel.specs.Reports.{Reported, CutOff}
-use Rattle.jos_kernel.proofs.ToldBytes.{gains_none}
-use Rattle.lib_os.specs.AbstractState.{AbstractState}
-use Rattle.jos_run.specs.AbstractTurns.{abs_run}
-use Rattle.jos_run.specs.RunReports.{ToldBy, CutOffBy}
+use Rattle.jos_kernel.specs.Reports.{CutOff}
+use Rattle.lib_os.specs.Disk.{Disk}
 use Rattle.jos_run.specs.declared.programs.RunEnd.{RunEnd}
 use Rattle.jos_run.specs.declared.programs.RunEnd.TheVariants as end
-use Rattle.jos_run.specs.RunEnds.{Job, HasRun, IsCut, AnswersFor, HasRunCause}
-use Rattle.jos_kernel.specs.declared.trace.TrapLine.{TrapLine}
+use Rattle.jos_run.specs.RunEnds.{Job, IsCut, AnswersFor, HasRunCause}
 use Rattle.jos_cli.specs.declared.limits.Settings.{Settings}
 use Rattle.jos_cli.specs.Commands.{path_word, texts_of}
 use Rattle.jos_cli.specs.declared.outcome.Which.TheVariants as which
@@ -41,90 +32,47 @@ use Rattle.jos_sched.specs.declared.fault.ScheduleFault.{ScheduleFault}
 use Rattle.jos_sched.specs.Schedule as schedule
 use Rattle.jos_cli.specs.declared.outcome.Which.{Which}
 use Rattle.jos_cli.specs.Kinds.{Kind, answered, cut_off, no_memory, kind_of}
-use Rattle.jos_cli.specs.RunAnswers.{image_on, program_on, GatheredProgram, gathered_program, job_of, IsCutBehind, IsCutBy, IsRefusal, AnswersAs, RunsAs, Then, AnswersRun}
+use Rattle.jos_cli.specs.RunAnswers.{image_on, program_on, GatheredProgram, gathered_program, job_of, disks_of, IsRefusal, AnswersAs, RunsAs, Then, AnswersRun}
 use Rattle.jos_cli.specs.Outcomes.{HasCauseOf, HasRunCauseOf}
 use Rattle.jos_cli.specs.Stages.{RefusesBy, settings_of, outcome_of_run, nothing_done, cut_of}
 use Rattle.jos_cli.proofs.ProgramsRead.{read_all, from_input, from_program, from_schedule}
 
--- ---- a run that took no turn has written nothing
-
-nothing_more : (a b : List ℕ) → a ≡ a ++ b → b ≡ []
-nothing_more a [] e = refl
-nothing_more a (x ∷ b) e = absurd (omega (arith, ap length e ∙ length-append a (x ∷ b)))
-
-no_turn : (before later turns : List Turn) (turn : Turn) → turns ≡ before ++ turn ∷ later → turns ≡ [] → ⊥
-no_turn before later turns turn are none = omega (arith, ap length are ∙ length-append before (turn ∷ later), ap length none)
-
-told_nothing : (refusal : Option Refusal) (schedule : List ℕ) (first : AbstractState) (frames budget : ℕ) (report : Reported) (printed : List ℕ) →
-    ToldBy refusal schedule first frames budget report printed → report.turns ≡ [] → printed ≡ []
-unfolding abs_run
-told_nothing None schedule first frames budget report printed h none =
-    let taken = h.1.taken in
-    let at_first : ◌≡◌ {A = Option AbstractState} (Some first) (Some h.1.now) = ap (abs_run first) (sym none) ∙ taken.ran in
-    nothing_more first.console printed (ap (λ (a : Option AbstractState). (unwrap_or a first).console) at_first ∙ taken.console)
-told_nothing (Some refusal) schedule first frames budget report printed h none =
-    absurd (no_turn h.1.before h.1.later report.turns h.1.turn h.1.turns_are none)
-
-no_refusal : (refusal : Option Refusal) (schedule : List ℕ) (first : AbstractState) (frames budget : ℕ) (report : Reported) (printed : List ℕ) →
-    ToldBy refusal schedule first frames budget report printed → report.turns ≡ [] → refusal ≡ None
-no_refusal None schedule first frames budget report printed h none = refl
-no_refusal (Some refusal) schedule first frames budget report printed h none =
-    absurd (no_turn h.1.before h.1.later report.turns h.1.turn h.1.turns_are none)
-
-ran_nothing : (p : Job) (report : Reported) (traps : List TrapLine) (console : Around (Option (List ℕ))) → HasRun p report traps console → report.turns ≡ [] → console.after ≡ console.before
-ran_nothing p report traps console h none =
-    h.1.1
-    ∙ ap (λ (l : List ℕ). option_map (λ (told : List ℕ). told ++ l) console.before) (told_nothing report.first_refused _ _ _ _ report h.1.0 h.1.2.by_refusal none)
-    ∙ sym (gains_none console.before)
-
-cut_turn : (refusal : Option Refusal) (schedule : List ℕ) (first : AbstractState) (frames : ℕ) (turns : List Turn) (printed : List ℕ) →
-    CutOffBy refusal schedule first frames turns printed → turns ≡ [] → ⊥
-cut_turn None schedule first frames turns printed h none = no_turn h.before [] turns (turn_of h.slot (h.visible + 1) h.hidden) h.turns_are none
-cut_turn (Some refusal) schedule first frames turns printed h none = no_turn h.before h.later turns h.turn h.turns_are none
-
 -- ---- what a failed call of the host left
 
-cut_is : (turns : List Turn) (p : Job) (cut : CutOff) (console : Around (Option (List ℕ))) → cut.turns ≡ turns →
-    IsCut p cut console ⊎ IsCutBehind p cut console → IsCutBy turns p cut console
-cut_is [] p cut console are (inl h) = absurd (cut_turn cut.first_refused _ _ _ cut.turns h.1.0 h.1.2 are)
-cut_is [] p cut console are (inr h) =
-    let none = sym h.turns ∙ are in
-    (h.first_refused ∙ no_refusal h.report.first_refused _ _ _ _ h.report h.run.1.0 h.run.1.2.by_refusal none, ran_nothing p h.report h.traps console h.run none)
-cut_is (turn ∷ turns) p cut console are h = h
-
 -- in a turn
-pub in_turn : (p : Job) (cut : CutOff) (console : Around (Option (List ℕ))) → IsCut p cut console → RunsAs p (cut_off cut) console
-in_turn p cut console h = cut_is cut.turns p cut console refl (inl h)
+pub in_turn : (p : Job) (cut : CutOff) (disks : Around (Option Disk)) (console : Around (Option (List ℕ))) → IsCut p cut disks console → RunsAs p disks (cut_off cut) console
+in_turn p cut disks console h = inr (inl h)
 
 -- behind the run
-answer_behind : (p : Job) (answer : Answer) (console : Around (Option (List ℕ))) → AnswersAs p answer console → RunsAs p (cut_off (cut_of (answered answer))) console
-answer_behind p (ran report traps) console h =
-    cut_is report.turns p (record { turns = report.turns; first_refused = report.first_refused }) console refl
-    (inr (record { report = report; traps = traps; run = h; turns = refl; first_refused = refl }))
-answer_behind p (limit which.Boot) console h = (refl, h.1)
-answer_behind p (limit which.Frames) console h = absurd h
-answer_behind p (limit which.Steps) console h = absurd h
-answer_behind p (limit which.Trace) console h = absurd h
-answer_behind p (limit which.Images) console h = absurd h
-answer_behind p (limit which.Schedule) console h = absurd h
-answer_behind p (limit which.Image) console h = absurd h
-answer_behind p (limit which.Input) console h = absurd h
-answer_behind p (limit which.Blocks) console h = absurd h
-answer_behind p (limit which.File) console h = absurd h
-answer_behind p (limit which.Args) console h = absurd h
-answer_behind p usage console h = absurd h
-answer_behind p (absent word) console h = absurd h
-answer_behind p (bad_schedule fault) console h = absurd h
-answer_behind p (bad_image word fault) console h = absurd h
-answer_behind p (made bytes) console h = absurd h
-answer_behind p (bad_disk fault) console h = absurd h
-answer_behind p (not_there errno) console h = absurd h
-answer_behind p (bad_make fault) console h = absurd h
+answer_behind : (p : Job) (answer : Answer) (disks : Around (Option Disk)) (console : Around (Option (List ℕ))) → AnswersAs p answer disks console →
+    RunsAs p disks (cut_off (cut_of (answered answer))) console
+answer_behind p (ran report traps) disks console h =
+    inr (inr (record { report = report; traps = traps; run = h; turns = refl; first_refused = refl }))
+answer_behind p (limit which.Boot) disks console h = inl (record { turns = refl; first_refused = refl; unwritten = h.1 })
+answer_behind p (limit which.Frames) disks console h = absurd h
+answer_behind p (limit which.Steps) disks console h = absurd h
+answer_behind p (limit which.Trace) disks console h = absurd h
+answer_behind p (limit which.Images) disks console h = absurd h
+answer_behind p (limit which.Schedule) disks console h = absurd h
+answer_behind p (limit which.Image) disks console h = absurd h
+answer_behind p (limit which.Input) disks console h = absurd h
+answer_behind p (limit which.Blocks) disks console h = absurd h
+answer_behind p (limit which.File) disks console h = absurd h
+answer_behind p (limit which.Args) disks console h = absurd h
+answer_behind p usage disks console h = absurd h
+answer_behind p (absent word) disks console h = absurd h
+answer_behind p (bad_schedule fault) disks console h = absurd h
+answer_behind p (bad_image word fault) disks console h = absurd h
+answer_behind p (made bytes) disks console h = absurd h
+answer_behind p (bad_disk fault) disks console h = absurd h
+answer_behind p (not_there errno) disks console h = absurd h
+answer_behind p (bad_make fault) disks console h = absurd h
 
-run_behind : (p : Job) (kind : Kind) (console : Around (Option (List ℕ))) → RunsAs p kind console → RunsAs p (cut_off (cut_of kind)) console
-run_behind p (answered answer) console h = answer_behind p answer console h
-run_behind p (cut_off cut) console h = h
-run_behind p no_memory console h = (refl, h)
+run_behind : (p : Job) (disks : Around (Option Disk)) (kind : Kind) (console : Around (Option (List ℕ))) → RunsAs p disks kind console →
+    RunsAs p disks (cut_off (cut_of kind)) console
+run_behind p disks (answered answer) console h = answer_behind p answer disks console h
+run_behind p disks (cut_off cut) console h = h
+run_behind p disks no_memory console h = inl (record { turns = refl; first_refused = refl; unwritten = h })
 
 -- ---- no turn is told of what is refused
 
@@ -239,12 +187,12 @@ refusal_stage refusal none = record {
   behind = λ kind console h. refusal_behind refusal kind console none h;
 }
 
-run_stage : (p : Job) → IsStage (RunsAs p)
-run_stage p = record {
-  cut = λ c console turns page same. subst (λ (t : List Turn). IsCutBy t p c console) (sym turns) (page, same);
+run_stage : (p : Job) (disks : Around (Option Disk)) → IsStage (RunsAs p disks)
+run_stage p disks = record {
+  cut = λ c console turns page same. inl (record { turns = turns; first_refused = page; unwritten = same });
   memory = λ console same. same;
   unwritten = λ console h. h;
-  behind = λ kind console h. run_behind p kind console h;
+  behind = λ kind console h. run_behind p disks kind console h;
 }
 
 then_stage : {X : Type 0} (judged : Judged X) (next : X → Kind → Around (Option (List ℕ)) → Type 0) → TellsNoTurn judged → ((x : X) → IsStage (next x)) →
@@ -254,38 +202,45 @@ then_stage (Ok x) next none stage = let s = stage x in record { cut = s.cut; mem
 then_stage (Err refusal) next none stage =
     let s = refusal_stage refusal none in record { cut = s.cut; memory = s.memory; unwritten = s.unwritten; behind = s.behind }
 
-pub words_stage : (r : Run) (found : RunFound) (input : List ℕ) → IsStage (AnswersRun r found input)
-words_stage r found input =
-    then_stage (gathered_program r found input) (λ read. RunsAs (job_of r read)) (all_tell_none r found input) (λ read. run_stage (job_of r read))
+-- what follows where all is read
+abbrev from_here : Run → Around (Option Files) → GatheredProgram → Kind → Around (Option (List ℕ)) → Type 0
+from_here r files read = RunsAs (job_of r read) (disks_of r read files)
+
+pub words_stage : (r : Run) (found : RunFound) (input : List ℕ) (files : Around (Option Files)) → IsStage (AnswersRun r found input files)
+words_stage r found input files =
+    then_stage (gathered_program r found input) (from_here r files) (all_tell_none r found input) (λ read. run_stage (job_of r read) (disks_of r read files))
 
 -- ---- the program of `run`
 
-module _ (r : Run) (found : RunFound) (input : List ℕ) (kind : Kind) (console : Around (Option (List ℕ))) where
+module _ (r : Run) (found : RunFound) (input : List ℕ) (files : Around (Option Files)) (kind : Kind) (console : Around (Option (List ℕ))) where
   -- it is refused, and nothing was written
   pub run_refused : (faults : Around ℕ) → RefusesBy (gathered_program r found input) kind → HasCauseOf faults kind → console.after ≡ console.before →
-      AnswersRun r found input kind console
+      AnswersRun r found input files kind console
   run_refused faults h cause same = by_kind kind h cause
     where
-      by_kind : (k : Kind) → RefusesBy (gathered_program r found input) k → HasCauseOf faults k → AnswersRun r found input k console
+      by_kind : (k : Kind) → RefusesBy (gathered_program r found input) k → HasCauseOf faults k → AnswersRun r found input files k console
       by_kind (answered answer) h cause =
-          subst (λ (j : Judged GatheredProgram). Then j (λ read. RunsAs (job_of r read)) (answered answer) console) (sym h) (refl, same)
-      by_kind (cut_off c) h cause = (words_stage r found input).cut c console cause.1 cause.2 same
-      by_kind no_memory h cause = (words_stage r found input).memory console same
+          subst (λ (j : Judged GatheredProgram). Then j (from_here r files) (answered answer) console) (sym h) (refl, same)
+      by_kind (cut_off c) h cause = (words_stage r found input files).cut c console cause.1 cause.2 same
+      by_kind no_memory h cause = (words_stage r found input files).memory console same
 
   -- it is run
-  pub run_goes_on : (read : GatheredProgram) → gathered_program r found input ≡ Ok read → RunsAs (job_of r read) kind console → AnswersRun r found input kind console
-  run_goes_on read h answer = subst (λ (j : Judged GatheredProgram). Then j (λ read. RunsAs (job_of r read)) kind console) (sym h) answer
+  pub run_goes_on : (read : GatheredProgram) → gathered_program r found input ≡ Ok read → RunsAs (job_of r read) (disks_of r read files) kind console →
+      AnswersRun r found input files kind console
+  run_goes_on read h answer = subst (λ (j : Judged GatheredProgram). Then j (from_here r files) kind console) (sym h) answer
 
   -- the same backwards
-  pub program_runs : (read : GatheredProgram) → gathered_program r found input ≡ Ok read → AnswersRun r found input kind console → RunsAs (job_of r read) kind console
-  program_runs read h answer = subst (λ (j : Judged GatheredProgram). Then j (λ read. RunsAs (job_of r read)) kind console) h answer
+  pub program_runs : (read : GatheredProgram) → gathered_program r found input ≡ Ok read → AnswersRun r found input files kind console →
+      RunsAs (job_of r read) (disks_of r read files) kind console
+  program_runs read h answer = subst (λ (j : Judged GatheredProgram). Then j (from_here r files) kind console) h answer
 
 -- what `jos_run` answers
-pub runs_as : (p : Job) (run : Result RunEnd BootFault) (console : Around (Option (List ℕ))) → AnswersFor p run console → RunsAs p (kind_of (outcome_of_run run)) console
-runs_as p (Ok (end.Ended report trace)) console h = h
-runs_as p (Ok (end.HostFault stopped)) console h = in_turn p stopped console h
-runs_as p (Err boot_fault.Pool) console h = h
-runs_as p (Err boot_fault.NoMemory) console h = h
+pub runs_as : (p : Job) (run : Result RunEnd BootFault) (disks : Around (Option Disk)) (console : Around (Option (List ℕ))) → AnswersFor p run disks console →
+    RunsAs p disks (kind_of (outcome_of_run run)) console
+runs_as p (Ok (end.Ended report trace)) disks console h = h
+runs_as p (Ok (end.HostFault stopped)) disks console h = in_turn p stopped disks console h
+runs_as p (Err boot_fault.Pool) disks console h = h
+runs_as p (Err boot_fault.NoMemory) disks console h = h
 
 pub ran_cause : (run : Result RunEnd BootFault) (faults : Around ℕ) → HasRunCause faults run → HasRunCauseOf faults (kind_of (outcome_of_run run))
 ran_cause (Ok (end.Ended report trace)) faults h = h
@@ -294,7 +249,7 @@ ran_cause (Err boot_fault.Pool) faults h = h
 ran_cause (Err boot_fault.NoMemory) faults h = h
 
 -- its program is the one that was read
-pub given_is : (r : Run) (schedule input : List ℕ) (words : List (List ℕ)) (settings : Settings) (image : Layout) (file bytes : List ℕ) → words ≡ texts_of r →
+pub given_is : (r : Run) (blocks : ℕ) (schedule input : List ℕ) (words : List (List ℕ)) (settings : Settings) (image : Layout) (file bytes : List ℕ) → words ≡ texts_of r →
     settings ≡ settings_of (numbers_of_run r) → bytes ≡ file →
     record {
       image = image;
@@ -306,8 +261,8 @@ pub given_is : (r : Run) (schedule input : List ℕ) (words : List (List ℕ)) (
       steps = settings.steps;
       trace = settings.trace;
     }
-    ≡ job_of r (record { schedule = schedule; program = record { image = image; file = file }; input = input })
-given_is r schedule input words settings image file bytes are is same = λ k. record {
+    ≡ job_of r (record { schedule = schedule; program = record { image = image; file = file }; blocks = blocks; input = input })
+given_is r blocks schedule input words settings image file bytes are is same = λ k. record {
   image = image;
   file = same k;
   words = are k;

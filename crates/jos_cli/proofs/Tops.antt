@@ -22,6 +22,7 @@ use Rattle.jos_cli.specs.Notes.{note_of, IsNoted}
 use Rattle.jos_cli.specs.FaultNotes.{IfHostFault, IfNoFault, FaultIsNoted}
 use Rattle.jos_cli.proofs.Judging.{part_of}
 use Rattle.jos_cli.proofs.RunAnswered.{words_stage}
+use Rattle.jos_cli.proofs.RunDisks.{begins_with_disk}
 use Rattle.jos_cli.proofs.Finding.{some_found, some_run_found, some_input, some_file, some_are_found}
 
 part : (e : Expected) (kind : Kind) (console : Around (Option (List ℕ))) (later : Option (List ℕ)) → AnswersBy e kind console → later ≡ console.after →
@@ -29,26 +30,28 @@ part : (e : Expected) (kind : Kind) (console : Around (Option (List ℕ))) (late
 part e kind console later h same =
     subst (λ (c : Option (List ℕ)). GainsPart (from_to console.before c) e.console) (sym same) (part_of e kind console h)
 
-pub answers_behind : (told : Option Files) (input : Option (List ℕ)) (command : Option Command) (own : Outcome) (console : Around (Option (List ℕ)))
-    (later : Option (List ℕ)) → AnswersCommand told input command own console → later ≡ console.after →
-    AnswersCommand told input command (outcome.HostFault (cut_behind command own)) (from_to console.before later)
-answers_behind told input None own console later h same = part (refused usage) (kind_of own) console later h same
-answers_behind told input (Some (demo d)) own console later h same = part (expected_of_demo d.name.text) (kind_of own) console later h same
-answers_behind told input (Some (exo e)) own console later h same =
+pub answers_behind : (files : Around (Option Files)) (input : Option (List ℕ)) (command : Option Command) (own : Outcome) (console : Around (Option (List ℕ)))
+    (left : Option Files) (later : Option (List ℕ)) → AnswersCommand files input command own console → left ≡ files.after → later ≡ console.after →
+    AnswersCommand (from_to files.before left) input command (outcome.HostFault (cut_behind command own)) (from_to console.before later)
+answers_behind files input None own console left later h stays same = part (refused usage) (kind_of own) console later h same
+answers_behind files input (Some (demo d)) own console left later h stays same = part (expected_of_demo d.name.text) (kind_of own) console later h same
+answers_behind files input (Some (exo e)) own console left later h stays same =
     (h.0, h.1, h.2, h.3, part (expected_of_exo e h.0 h.1) (kind_of own) console later h.4 same)
-answers_behind told input (Some (run r)) own console later h same = (
+answers_behind files input (Some (run r)) own console left later h stays same = (
   h.0,
   h.1,
   h.2,
   h.3,
-  subst (λ (c : Option (List ℕ)). AnswersRun r h.0 h.1 (cut_off (cut_of (kind_of own))) (from_to console.before c)) (sym same)
-      ((words_stage r h.0 h.1).behind (kind_of own) console h.4),
+  h.4,
+  subst (λ (f : Option Files). AnswersRun r h.0 h.1 (from_to files.before f) (cut_off (cut_of (kind_of own))) (from_to console.before later)) (sym stays)
+      (subst (λ (c : Option (List ℕ)). AnswersRun r h.0 h.1 files (cut_off (cut_of (kind_of own))) (from_to console.before c)) (sym same)
+      ((words_stage r h.0 h.1 files).behind (kind_of own) console h.5)),
 )
-answers_behind told input (Some (mkfs m)) own console later h same =
+answers_behind files input (Some (mkfs m)) own console left later h stays same =
     (h.0, h.1, part (expected_of_mkfs m h.0) (kind_of own) console later h.2 same)
-answers_behind told input (Some (ls l)) own console later h same =
+answers_behind files input (Some (ls l)) own console left later h stays same =
     (h.0, h.1, part (expected_of_ls l h.0) (kind_of own) console later h.2 same)
-answers_behind told input (Some (cat c)) own console later h same =
+answers_behind files input (Some (cat c)) own console left later h stays same =
     (h.0, h.1, part (expected_of_cat c h.0) (kind_of own) console later h.2 same)
 
 -- no turns are told where there was no memory
@@ -113,7 +116,7 @@ cause_behind command own a b c h rose later fits =
 -- ---- the note where a call of the host failed
 
 -- the note is written
-pub noted : (files : Option Files) (input : Option (List ℕ)) (words : List (List ℕ)) (outcome : Outcome) (faults : Around ℕ) (console notes : Around (Option (List ℕ))) →
+pub noted : (files : Around (Option Files)) (input : Option (List ℕ)) (words : List (List ℕ)) (outcome : Outcome) (faults : Around ℕ) (console notes : Around (Option (List ℕ))) →
     Gains notes (note_of words outcome) → IfHostFault outcome (FaultIsNoted files input words faults console notes)
 unfolding FaultIsNoted
 noted files input words (outcome.HostFault stopped) faults console notes h = inl h
@@ -144,19 +147,21 @@ is_noted words (outcome.NotThere errno) notes h = h
 is_noted words (outcome.BadMake fault) notes h = h
 
 -- or it failed
-module _ (files : Option Files) (input : Option (List ℕ)) (words : List (List ℕ)) (faults : Around ℕ) (now : ℕ) (console notes : Around (Option (List ℕ)))
-    (later : Option (List ℕ)) (rose : Rose faults.after now) (same : later ≡ console.after) where
-  others : (own : Outcome) → IfNoFault own (AnswersCommand files input (command_of words) own (from_to console.before later)) →
-      GainsPart notes (note_of words own) → FaultIsNoted files input words (from_to faults.before now) (from_to console.before later) notes
+module _ (files : Around (Option Files)) (input : Option (List ℕ)) (words : List (List ℕ)) (faults : Around ℕ) (now : ℕ) (console notes : Around (Option (List ℕ)))
+    (left : Option Files) (later : Option (List ℕ)) (rose : Rose faults.after now) (stays : left ≡ files.after) (same : later ≡ console.after) where
+  others : (own : Outcome) → IfNoFault own (AnswersCommand (from_to files.before left) input (command_of words) own (from_to console.before later)) →
+      GainsPart notes (note_of words own) → FaultIsNoted (from_to files.before left) input words (from_to faults.before now) (from_to console.before later) notes
   unfolding FaultIsNoted
   others own answer part = inr (inr (own, answer, part))
 
-  moved : (own : Outcome) → AnswersCommand files input (command_of words) own console → AnswersCommand files input (command_of words) own (from_to console.before later)
+  moved : (own : Outcome) → AnswersCommand files input (command_of words) own console →
+      AnswersCommand (from_to files.before left) input (command_of words) own (from_to console.before later)
   moved own answer =
-      subst (λ (c : Option (List ℕ)). AnswersCommand files input (command_of words) own (from_to console.before c)) (sym same) answer
+      subst (λ (f : Option Files). AnswersCommand (from_to files.before f) input (command_of words) own (from_to console.before later)) (sym stays)
+      (subst (λ (c : Option (List ℕ)). AnswersCommand files input (command_of words) own (from_to console.before c)) (sym same) answer)
 
   pub not_noted : (own : Outcome) → HasCommandCause (command_of words) faults own → AnswersCommand files input (command_of words) own console → GainsPart notes (note_of words own) →
-      FaultIsNoted files input words (from_to faults.before now) (from_to console.before later) notes
+      FaultIsNoted (from_to files.before left) input words (from_to faults.before now) (from_to console.before later) notes
   unfolding FaultIsNoted
   not_noted (outcome.HostFault stopped) cause answer part = inr (inl ((faults.after, cause_of (command_of words) faults (outcome.HostFault stopped) cause, rose), part))
   not_noted (outcome.Ran report trace) cause answer part = others (outcome.Ran report trace) (moved (outcome.Ran report trace) answer) part
@@ -172,26 +177,32 @@ module _ (files : Option Files) (input : Option (List ℕ)) (words : List (List 
   not_noted (outcome.BadMake fault) cause answer part = others (outcome.BadMake fault) (moved (outcome.BadMake fault) answer) part
 
 -- there was no memory
-pub at_no_memory : (files : Option Files) (input : Option (List ℕ)) (command : Option Command) (console : Around (Option (List ℕ))) →
+pub at_no_memory : (files : Around (Option Files)) (input : Option (List ℕ)) (command : Option Command) (console : Around (Option (List ℕ))) →
     console.after ≡ console.before → AnswersCommand files input command outcome.NoMemory console
 at_no_memory files input None console same = same
 at_no_memory files input (Some (demo d)) console same = same
 at_no_memory files input (Some (exo e)) console same =
-    let found = some_found files (sources_of_exo e) in let given = some_input input in (found.0, given.0, found.1, given.1, same)
+    let found = some_found files.before (sources_of_exo e) in let given = some_input input in (found.0, given.0, found.1, given.1, same)
 at_no_memory files input (Some (run r)) console same =
-    let found = some_run_found files r in let given = some_input input in
-    (found.0, given.0, found.1, given.1, (words_stage r found.0 given.0).memory console same)
-at_no_memory files input (Some (mkfs m)) console same = let found = some_are_found files m.files in (found.0, found.1, same)
-at_no_memory files input (Some (ls l)) console same = let file = some_file files l.disk in (file.0, file.1, same)
-at_no_memory files input (Some (cat c)) console same = let file = some_file files c.disk in (file.0, file.1, same)
+    let found = some_run_found files.before r in let given = some_input input in (
+      found.0,
+      given.0,
+      found.1,
+      given.1,
+      begins_with_disk r found.0 given.0 files.before found.1,
+      (words_stage r found.0 given.0 files).memory console same,
+    )
+at_no_memory files input (Some (mkfs m)) console same = let found = some_are_found files.before m.files in (found.0, found.1, same)
+at_no_memory files input (Some (ls l)) console same = let file = some_file files.before l.disk in (file.0, file.1, same)
+at_no_memory files input (Some (cat c)) console same = let file = some_file files.before c.disk in (file.0, file.1, same)
 
 -- and then nothing was written
-pub unwritten : (files : Option Files) (input : Option (List ℕ)) (command : Option Command) (console : Around (Option (List ℕ))) →
+pub unwritten : (files : Around (Option Files)) (input : Option (List ℕ)) (command : Option Command) (console : Around (Option (List ℕ))) →
     AnswersCommand files input command outcome.NoMemory console → console.after ≡ console.before
 unwritten files input None console h = h
 unwritten files input (Some (demo d)) console h = h
 unwritten files input (Some (exo e)) console h = h.4
-unwritten files input (Some (run r)) console h = (words_stage r h.0 h.1).unwritten console h.4
+unwritten files input (Some (run r)) console h = (words_stage r h.0 h.1 files).unwritten console h.5
 unwritten files input (Some (mkfs m)) console h = h.2
 unwritten files input (Some (ls l)) console h = h.2
 unwritten files input (Some (cat c)) console h = h.2

@@ -1,12 +1,12 @@
 -- What `ls` and `cat` tell of a disk. (This system's own.)
-use Rattle.std.specs.Prelude.{ℕ, List, [], ◌∷◌, ◌++◌, length, codes, decimal, slice_index, Option, Some, None, Result, Ok, Err}
+use Rattle.std.specs.Prelude.{ℕ, List, [], ◌∷◌, ◌++◌, length, codes, decimal, slice_index, Option, Some, None, unwrap_or, Result, Ok, Err}
 use Rattle.std.specs.Prelude.{if◌then◌else◌}
 use Rattle.jos_base.specs.declared.errno.Errno.{Errno}
 use Rattle.jos_base.specs.Words.{◌>>=◌}
 use Rattle.jos_words.specs.Arguments.{Word}
 use Rattle.jos_words.specs.Commands.{Ls, Cat}
 use Rattle.fs_layout.specs.FileTree.{FileSystem}
-use Rattle.fs_layout.specs.DiskImage.{ImageFault}
+use Rattle.fs_layout.specs.DiskImage.{ImageFault, block_count}
 use Rattle.fs_layout.specs.DiskFiles.{file_system_of}
 use Rattle.fs_image.specs.DiskHeld.{HeldDisk, held_of, fault_in}
 use Rattle.fs_contents.specs.Contents.{Told, listed_at, read_at}
@@ -32,6 +32,18 @@ disk_of file = held_at file.word.place file.bytes >>= checked
 
 abbrev pub tree_of : HeldDisk → FileSystem
 tree_of held = file_system_of (slice_index held.bytes)
+
+-- what is looked at of a file that is there
+abbrev pub held_on : FileAt → HeldDisk
+held_on file = held_of (unwrap_or file.bytes [])
+
+-- how many blocks its super block counts
+abbrev pub blocks_on : FileAt → ℕ
+blocks_on file = block_count (slice_index (held_on file).bytes)
+
+-- the files that stand on it
+abbrev pub files_on : FileAt → FileSystem
+files_on file = tree_of (held_on file)
 
 abbrev pub if_there : {X : Type 0} → Result X Errno → Judged X
 if_there (Ok x) = Ok x

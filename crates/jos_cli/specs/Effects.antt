@@ -17,7 +17,7 @@ use Rattle.jos_cli.specs.Stages.{IsUnread, IsUnreadOnDisk}
 
 -- What a command does, but for its note.
 pub record DoesCommand (command : Option Command) (outcome : Outcome) (seen : Outside) : Type 0 where
-  pub answer : AnswersCommand seen.files.before seen.input.before command outcome seen.console
+  pub answer : AnswersCommand seen.files seen.input.before command outcome seen.console
   pub usage : IsUsageCase command outcome
   pub files : LeavesFiles command outcome seen.files
   pub disk : LeavesGoodDisk command outcome seen.files

@@ -26,7 +26,7 @@ RoseTwice faults = (between : ℕ) × Rose faults.before between × Rose between
 
 -- The line `host fault` is noted; or a part of it, where a second call failed; or a part of the line of the answer that
 -- the words and the files decide, where it was its note that failed.
-unfoldable pub FaultIsNoted : Option Files → Option (List ℕ) → List (List ℕ) → Around ℕ → Around (Option (List ℕ)) → Around (Option (List ℕ)) → Type 0
+unfoldable pub FaultIsNoted : Around (Option Files) → Option (List ℕ) → List (List ℕ) → Around ℕ → Around (Option (List ℕ)) → Around (Option (List ℕ)) → Type 0
 FaultIsNoted files input words faults console notes =
     Gains notes (codes "host fault\n")
     ⊎ ((RoseTwice faults × GainsPart notes (codes "host fault\n"))

@@ -6,6 +6,7 @@ use Rattle.jos_host.specs.Frames.{Around, from_to}
 use Rattle.fs_image.specs.DiskHeld.{IsReadInPieces}
 use Rattle.jos_words.specs.Arguments.{Word}
 use Rattle.jos_words.specs.Commands.{Command, Mkfs, exo, run, demo, mkfs, ls, cat}
+use Rattle.jos_run.specs.DiskTouches.{AreDiskCalls}
 use Rattle.jos_cli.specs.Found.{Sources, sources_of_exo}
 
 -- a file is asked for its size, and read whole by one call
@@ -48,11 +49,20 @@ AsksScheduleAndDisk schedule disk log =
     ⊎ ((between : Option (List Asked)) × AsksAll (schedule_calls schedule) (from_to log.before between)
     × IsReadInPieces disk (from_to between log.after))
 
--- the calls on files of a command; `run`, `ls` and `cat` read the disk in pieces
+-- Blocks of a disk are read and written.
+abbrev pub MovesBlocks : List ℕ → Around (Option (List Asked)) → Type 0
+MovesBlocks disk log = (calls : List Asked) × AreDiskCalls disk calls × (log.after ≡ option_map (λ told. told ++ calls) log.before)
+
+-- the same behind all that is read for a run
+abbrev pub AsksProgramAndBlocks : Option Word → List ℕ → Around (Option (List Asked)) → Type 0
+AsksProgramAndBlocks schedule disk log =
+    (between : Option (List Asked)) × AsksScheduleAndDisk schedule disk (from_to log.before between) × MovesBlocks disk (from_to between log.after)
+
+-- the calls on files of a command; `run`, `ls` and `cat` read the disk in pieces, and the run itself moves blocks of it
 abbrev pub AsksFiles : Option Command → Around (Option (List Asked)) → Type 0
 AsksFiles None log = AsksFor [] log
 AsksFiles (Some (exo e)) log = AsksFor (source_calls (sources_of_exo e)) log
-AsksFiles (Some (run r)) log = AsksScheduleAndDisk r.schedule r.disk.text log
+AsksFiles (Some (run r)) log = AsksProgramAndBlocks r.schedule r.disk.text log
 AsksFiles (Some (demo d)) log = AsksFor (write_calls d.file.text) log
 AsksFiles (Some (mkfs m)) log = AsksFor (mkfs_calls m) log
 AsksFiles (Some (ls l)) log = IsReadInPieces l.disk.text log

@@ -6,9 +6,10 @@ use Rattle.jos_host.specs.MemHost.{Named}
 use Rattle.fs_layout.specs.DiskFiles.{IsDiskImage, file_system_of}
 use Rattle.fs_make.specs.MadeImage.{made_files}
 use Rattle.jos_cli.specs.declared.outcome.Outcome.{Outcome}
-use Rattle.jos_cli.specs.declared.outcome.Outcome.TheVariants.{Made, HostFault}
+use Rattle.jos_cli.specs.declared.outcome.Outcome.TheVariants.{Ran, Made, HostFault}
 use Rattle.jos_host.specs.Frames.{Around}
 use Rattle.jos_words.specs.Commands.{Command, Mkfs, exo, run, demo, mkfs, ls, cat}
+use Rattle.jos_run.specs.DiskTouches.{KeepsFiles}
 use Rattle.jos_cli.specs.Commands.{program_file}
 use Rattle.jos_cli.specs.Making.{named_in, disk_in}
 
@@ -40,11 +41,17 @@ told_with_disk told m = option_map (λ files. with_bytes files m.disk.text (disk
 abbrev pub LeavesDisk : Mkfs → Outcome → Around (Option Files) → Type 0
 LeavesDisk m outcome told = LeavesBy m.disk.text (told_with_disk told.before m) outcome told
 
--- Only `demo` and `mkfs` write a file.
+-- A run may change bytes of its disk: every other name keeps its bytes, and the disk its length.
+abbrev pub LeavesBlocks : List ℕ → Outcome → Around (Option Files) → Type 0
+LeavesBlocks disk (Ran report trace) told = KeepsFiles disk told.before told.after
+LeavesBlocks disk (HostFault stopped) told = KeepsFiles disk told.before told.after
+LeavesBlocks disk outcome told = told.after ≡ told.before
+
+-- Only `demo`, `mkfs` and `run` write a file.
 abbrev pub LeavesFiles : Option Command → Outcome → Around (Option Files) → Type 0
 LeavesFiles None outcome told = told.after ≡ told.before
 LeavesFiles (Some (exo e)) outcome told = told.after ≡ told.before
-LeavesFiles (Some (run r)) outcome told = told.after ≡ told.before
+LeavesFiles (Some (run r)) outcome told = LeavesBlocks r.disk.text outcome told
 LeavesFiles (Some (demo d)) outcome told = LeavesProgram d.name.text d.file.text outcome told
 LeavesFiles (Some (mkfs m)) outcome told = LeavesDisk m outcome told
 LeavesFiles (Some (ls l)) outcome told = told.after ≡ told.before

@@ -26,27 +26,27 @@ use Rattle.jos_cli.specs.Answer.{schedule_of, images_of, expected_of_exo, expect
 use Rattle.jos_cli.specs.Making.{named_files, named_in, expected_of_mkfs}
 use Rattle.jos_cli.specs.Disks.{tree_of, path_of, expected_of_ls, expected_of_cat}
 use Rattle.jos_cli.specs.Kinds.{Kind, answered, cut_off, no_memory, kind_of, Answers}
-use Rattle.jos_cli.specs.RunAnswers.{program_on, AnswersRun}
+use Rattle.jos_cli.specs.RunAnswers.{program_on, BeginsWithDisk, AnswersRun}
 
 -- ---- the answer
 
--- What a command answers, of the files and the input that the host tells. Of those that it does not tell there are
--- some for which it holds.
-abbrev pub AnswersCommand : Option Files → Option (List ℕ) → Option Command → Outcome → Around (Option (List ℕ)) → Type 0
-AnswersCommand told told_input None outcome console = Answers (refused usage) outcome console
-AnswersCommand told told_input (Some (demo d)) outcome console = Answers (expected_of_demo d.name.text) outcome console
-AnswersCommand told told_input (Some (exo e)) outcome console =
-    (found : Found) × (input : List ℕ) × IsFound told (sources_of_exo e) found × IsInput told_input input
+-- What a command answers, of the files and the input that the host tells, before it and behind it. Of those that it does not tell
+-- there are some for which it holds.
+abbrev pub AnswersCommand : Around (Option Files) → Option (List ℕ) → Option Command → Outcome → Around (Option (List ℕ)) → Type 0
+AnswersCommand files told_input None outcome console = Answers (refused usage) outcome console
+AnswersCommand files told_input (Some (demo d)) outcome console = Answers (expected_of_demo d.name.text) outcome console
+AnswersCommand files told_input (Some (exo e)) outcome console =
+    (found : Found) × (input : List ℕ) × IsFound files.before (sources_of_exo e) found × IsInput told_input input
     × Answers (expected_of_exo e found input) outcome console
-AnswersCommand told told_input (Some (run r)) outcome console =
-    (found : RunFound) × (input : List ℕ) × IsRunFound told r found × IsInput told_input input
-    × AnswersRun r found input (kind_of outcome) console
-AnswersCommand told told_input (Some (mkfs m)) outcome console =
-    (found : List FileAt) × AreFound told m.files found × Answers (expected_of_mkfs m found) outcome console
-AnswersCommand told told_input (Some (ls l)) outcome console =
-    (file : FileAt) × IsFileAt told l.disk file × Answers (expected_of_ls l file) outcome console
-AnswersCommand told told_input (Some (cat c)) outcome console =
-    (file : FileAt) × IsFileAt told c.disk file × Answers (expected_of_cat c file) outcome console
+AnswersCommand files told_input (Some (run r)) outcome console =
+    (found : RunFound) × (input : List ℕ) × IsRunFound files.before r found × IsInput told_input input
+    × BeginsWithDisk r found input files.before × AnswersRun r found input files (kind_of outcome) console
+AnswersCommand files told_input (Some (mkfs m)) outcome console =
+    (found : List FileAt) × AreFound files.before m.files found × Answers (expected_of_mkfs m found) outcome console
+AnswersCommand files told_input (Some (ls l)) outcome console =
+    (file : FileAt) × IsFileAt files.before l.disk file × Answers (expected_of_ls l file) outcome console
+AnswersCommand files told_input (Some (cat c)) outcome console =
+    (file : FileAt) × IsFileAt files.before c.disk file × Answers (expected_of_cat c file) outcome console
 
 -- the words alone decide this answer, whatever the host tells
 abbrev pub IsUsageCase : Option Command → Outcome → Type 0

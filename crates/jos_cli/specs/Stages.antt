@@ -85,6 +85,7 @@ abbrev pub gathered_program_of : ReadProgram → GatheredProgram
 gathered_program_of read = record {
   schedule = read.schedule;
   program = record { image = read.image; file = read.file.items };
+  blocks = read.blocks;
   input = read.input.items;
 }
 

@@ -54,14 +54,14 @@ use std::alloc::Global;
 pub fn top<'a, H: Host>(alloc: Global, words: &'a [&'a str], host: &mut H) -> Outcome
     // The answer and the console are what the words decide with the files that they name and, of a run, the input: those
     // that the host tells, and else some; where a call of the host failed, the console has a part of that. What `run`
-    // answers and prints is told by the turns of its report.
-    ensures answer { AnswersCommand (H.files host.old) (H.input host.old) (command_of (map (λ w. w.now) words.now)) result
+    // answers and prints is told by the turns of its report, by the abstract system that begins with the files of its disk.
+    ensures answer { AnswersCommand (around H.files host.old host.new) (H.input host.old) (command_of (map (λ w. w.now) words.now)) result
         (around H.console host.old host.new) }
     // The notes are the lines of the traps that are told, and the line of the answer.
     ensures notes { IsNoted (map (λ w. w.now) words.now) result (around H.notes host.old host.new) }
     // Where a call of the host failed, it is the line `host fault`, or a part of that or of the answer's own line where
     // the note failed.
-    ensures fault { IfHostFault result (FaultIsNoted (H.files host.old) (H.input host.old) (map (λ w. w.now) words.now)
+    ensures fault { IfHostFault result (FaultIsNoted (around H.files host.old host.new) (H.input host.old) (map (λ w. w.now) words.now)
         (around H.faults host.old host.new) (around H.console host.old host.new) (around H.notes host.old host.new)) }
 
     // Each answer has its cause.
@@ -93,14 +93,15 @@ pub fn top<'a, H: Host>(alloc: Global, words: &'a [&'a str], host: &mut H) -> Ou
         H.files host.old ≡ Some files → command_of (map (λ w. w.now) words.now) ≡ Some (cat c) → CanPrint c files →
         (Rose (H.faults host.old) (H.faults host.new) → ⊥) → IsMadeCase result }
 
-    // Every name keeps its bytes but the one that `demo` or `mkfs` writes, which has those of the program or the disk.
+    // Every name keeps its bytes but the one that `demo` or `mkfs` writes, which has those of the program or the disk, and the
+    // disk of `run`, which keeps its length.
     ensures files { LeavesFiles (command_of (map (λ w. w.now) words.now)) result (around H.files host.old host.new) }
     // What `mkfs` writes is a disk without a fault, and it has the files that the words name.
     ensures disk { LeavesGoodDisk (command_of (map (λ w. w.now) words.now)) result (around H.files host.old host.new) }
     // Only `exo` and `run` read input, once they have read all files: all of it, up to one byte past the limit.
     ensures input { LeavesInput (command_of (map (λ w. w.now) words.now)) result (around H.input host.old host.new) }
-    // Only files that the words name are asked for, in their order, each call once, but that a disk is read in pieces;
-    // and behind them notes are written, whatever is answered.
+    // Only files that the words name are asked for, in their order, each call once, but that a disk is read in pieces, and that a run
+    // reads and writes blocks of its disk; and behind them notes are written, whatever is answered.
     ensures asked { AsksOnly (command_of (map (λ w. w.now) words.now)) (around H.asked host.old host.new) }
 {
     let (outcome, is_run) = answer_words(alloc, words, host);
@@ -137,10 +138,10 @@ fn note_fault(alloc: Global, own: Outcome, is_run: bool) -> Outcome
 /// The answer where there is no memory for the words, with its note.
 pub(crate) fn refuse_words<H: Host>(alloc: Global, host: &mut H) -> Outcome
     // This is an answer to any words, with the note that it has for any.
-    ensures answer { (words : List (List ℕ)) → AnswersCommand (H.files host.old) (H.input host.old) (command_of words) result
+    ensures answer { (words : List (List ℕ)) → AnswersCommand (around H.files host.old host.new) (H.input host.old) (command_of words) result
         (around H.console host.old host.new) }
     ensures notes { (words : List (List ℕ)) → IsNoted words result (around H.notes host.old host.new) }
-    ensures fault { (words : List (List ℕ)) → IfHostFault result (FaultIsNoted (H.files host.old) (H.input host.old) words
+    ensures fault { (words : List (List ℕ)) → IfHostFault result (FaultIsNoted (around H.files host.old host.new) (H.input host.old) words
         (around H.faults host.old host.new) (around H.console host.old host.new) (around H.notes host.old host.new)) }
     ensures cause { HasOutcomeCause (around H.faults host.old host.new) result }
     ensures files { H.files host.new ≡ H.files host.old }

@@ -52,11 +52,11 @@ fn exit_code(outcome: &Outcome) -> ExitCode
 pub fn answer_arguments<H: Host>(alloc: Global, read: io::Result<Args>, host: &mut H) -> ExitCode
     // It is the exit status of the outcome that these words have.
     ensures answered { (outcome : Outcome) × (exit_status result ≡ status_of outcome)
-        × AnswersCommand (H.files host.old) (H.input host.old) (command_of (given_words read)) outcome (around H.console host.old host.new)
+        × AnswersCommand (around H.files host.old host.new) (H.input host.old) (command_of (given_words read)) outcome (around H.console host.old host.new)
         × IsNoted (given_words read) outcome (around H.notes host.old host.new)
         × HasCommandCause (command_of (given_words read)) (around H.faults host.old host.new) outcome
         × IsUsageCase (command_of (given_words read)) outcome
-        × IfHostFault outcome (FaultIsNoted (H.files host.old) (H.input host.old) (given_words read) (around H.faults host.old host.new)
+        × IfHostFault outcome (FaultIsNoted (around H.files host.old host.new) (H.input host.old) (given_words read) (around H.faults host.old host.new)
         (around H.console host.old host.new) (around H.notes host.old host.new))
         × LeavesFiles (command_of (given_words read)) outcome (around H.files host.old host.new)
         × LeavesGoodDisk (command_of (given_words read)) outcome (around H.files host.old host.new)

@@ -4,11 +4,13 @@ ghost use Rattle.std.specs.Prelude.{◌≡◌, ℕ, Ok, None, List, IfOk, IfErr,
 ghost use Rattle.std.specs.Result.{result_err};
 ghost use Rattle.jos_host.specs.Frames.{from_to};
 ghost use Rattle.fs_layout.specs.DiskFiles.{IsDiskImage};
+ghost use Rattle.fs_layout.specs.DiskImage.{block_count};
 ghost use Rattle.jos_words.specs.Arguments.{texts, word_in_bytes};
 ghost use Rattle.jos_words.specs.Commands.{run_in_bytes};
 ghost use Rattle.jos_elf.specs.Parsed.{parsed};
 ghost use Rattle.jos_cli.specs.Commands.{path_word, texts_of};
 ghost use Rattle.jos_cli.specs.Found.{FileAt, IsFileAt, RunFound, IsRunFound, IsInput};
+ghost use Rattle.jos_cli.specs.Disks.{blocks_on};
 ghost use Rattle.jos_cli.specs.RunAnswers.{image_on, program_on, gathered_program};
 ghost use Rattle.jos_cli.specs.Outcomes.{HasOutcomeCause};
 ghost use Rattle.jos_cli.specs.Stages.{Judges, gathered_program_of, IsUnreadOnDisk, MayRun};
@@ -21,7 +23,8 @@ use crate::limits::limit_of_run;
 use crate::loading::read_schedule;
 use crate::outcome::Outcome;
 use fs_contents::{ReadFault, read_file};
-use fs_image::DiskBytes;
+use fs_image::{DiskBytes, MemoryDisk};
+use fs_layout::BLKSIZE;
 use jos_elf::{Image, parse};
 use jos_host::Host;
 use jos_sched::Schedule;
@@ -51,20 +54,53 @@ fn image_on<'a>(
     }
 }
 
-/// The image that stands at a path on the disk that a word names, and the bytes of its file.
+/// How many blocks a disk says that it has.
+fn block_count(disk: &DiskBytes) -> u32
+    ensures { result ≡ block_count (slice_index disk.now.bytes) }
+{
+    let bytes = MemoryDisk::new(disk.bytes());
+    let place = BLKSIZE as u64 + 4;
+    u32::from_le_bytes([
+        bytes.byte(place),
+        bytes.byte(place + 1),
+        bytes.byte(place + 2),
+        bytes.byte(place + 3),
+    ])
+}
+
+/// A program that stands on a disk.
+#[derive(Drop)]
+struct OnDisk {
+    image: Image,
+    /// The bytes that the image was read from.
+    file: Vec<u8>,
+    /// How many blocks the disk has.
+    blocks: u32,
+}
+
+/// The program that stands at a path on the disk that a word names.
 fn read_program<'a, H: Host>(
     alloc: Global,
     disk: WordAt<'a>,
     path: WordAt<'a>,
     host: &mut H,
-) -> Result<(Image, Vec<u8>), Outcome>
+) -> Result<OnDisk, Outcome>
     ensures told { (file : FileAt) × IsFileAt (H.files host.old) (word_in_bytes disk.entry) file
-        × Judges (program_on (word_in_bytes path.entry) file) (λ read. record { image = read.0; file = read.1.items }) result }
-    ensures read { IfOk result (λ read. parsed read.1.items ≡ Ok read.0) }
+        × Judges (program_on (word_in_bytes path.entry) file) (λ read. record { image = read.image; file = read.file.items }) result
+        × IfOk result (λ read. read.blocks ≡ blocks_on file) }
+    ensures read { IfOk result (λ read. parsed read.file.items ≡ Ok read.image) }
     ensures did { ReadsDisk disk.entry.text.now (result_err result) (outside H.Host host.old host.new) }
 {
-    match read_checked(alloc, disk, host) {
-        Ok(disk) => image_on(alloc, &disk, path),
+    let disk = match read_checked(alloc, disk, host) {
+        Ok(disk) => disk,
+        Err(outcome) => return Err(outcome),
+    };
+    match image_on(alloc, &disk, path) {
+        Ok((image, file)) => Ok(OnDisk {
+            image,
+            file,
+            blocks: block_count(&disk),
+        }),
         Err(outcome) => Err(outcome),
     }
 }
@@ -86,6 +122,8 @@ pub(crate) struct ReadProgram {
     pub(crate) image: Image,
     /// The bytes that the image was read from.
     pub(crate) file: Vec<u8>,
+    /// How many blocks the disk has.
+    pub(crate) blocks: u32,
     /// The console's input.
     pub(crate) input: Vec<u8>,
 }
@@ -114,15 +152,16 @@ pub(crate) fn gather_program<'a, H: Host>(
         Ok(schedule) => schedule,
         Err(outcome) => return Err(outcome),
     };
-    let (image, file) = match read_program(alloc, words.disk, path_word(words), host) {
+    let program = match read_program(alloc, words.disk, path_word(words), host) {
         Ok(program) => program,
         Err(outcome) => return Err(outcome),
     };
     match read_input(alloc, host) {
         Ok(input) => Ok(ReadProgram {
             schedule,
-            image,
-            file,
+            image: program.image,
+            file: program.file,
+            blocks: program.blocks,
             input,
         }),
         Err(outcome) => Err(outcome),

@@ -1,12 +1,14 @@
 //! What is answered of a run, and `run`: a program of a disk under the library.
 
-ghost use Rattle.std.specs.Prelude.{◌≡◌, IfOk, Ok, Some, map};
-ghost use Rattle.jos_host.specs.Frames.{Unchanged, around};
+ghost use Rattle.std.specs.Prelude.{◌≡◌, IfOk, OnErr, Ok, Some, map};
+ghost use Rattle.jos_host.specs.Frames.{around};
 ghost use Rattle.jos_words.specs.Arguments.{texts, word_in_bytes};
 ghost use Rattle.jos_words.specs.Commands.{run, run_in_bytes};
 ghost use Rattle.jos_elf.specs.Parsed.{parsed};
+ghost use Rattle.lib_os.specs.Disk.{HasBlocks};
+ghost use Rattle.jos_run.specs.DiskTouches.{TouchesDiskOnly};
 ghost use Rattle.jos_run.specs.RunEnds.{AnswersFor, HasRunCause};
-ghost use Rattle.jos_cli.specs.RunAnswers.{job_of};
+ghost use Rattle.jos_cli.specs.RunAnswers.{job_of, disk_file_of, disks_of};
 ghost use Rattle.jos_cli.specs.Stages.{gathered_program_of, outcome_of_run, MayRun};
 ghost use Rattle.jos_cli.specs.Outside.{outside};
 ghost use Rattle.jos_cli.specs.Effects.{DoesCommand};
@@ -17,7 +19,7 @@ use crate::programs::{ReadProgram, gather_program};
 use jos_base::NoMemory;
 use jos_host::Host;
 use jos_kernel::BootFault;
-use jos_run::{RunEnd, Setup, run};
+use jos_run::{HostDisk, RunEnd, Setup, run};
 use jos_words::{RunWords, WordAt};
 use std::alloc::Global;
 
@@ -40,7 +42,17 @@ fn arguments_of<'a>(alloc: Global, words: &[WordAt<'a>]) -> Result<Vec<&'a str>,
     Ok(words.iter().map(|word| word.text).collect(alloc)?)
 }
 
-/// Runs the program that was read, with its words as arguments.
+/// The disk that a file is, of so many blocks.
+fn disk_named(alloc: Global, name: &str, blocks: u32) -> Result<HostDisk, NoMemory>
+    ensures { IfOk result (λ disk. disk ≡ record { name = name.now; blocks = blocks }) }
+{
+    Ok(HostDisk {
+        name: String::from_str(alloc, name)?,
+        blocks,
+    })
+}
+
+/// Runs the program that was read, with its words as arguments, over the disk on which it stands.
 fn run_loaded<H: Host>(
     alloc: Global,
     words: &RunWords,
@@ -50,10 +62,20 @@ fn run_loaded<H: Host>(
 ) -> Result<RunEnd, BootFault>
     requires may { MayRun (run_in_bytes words.now) (texts arguments.now) }
     requires read { parsed read.file.items ≡ Ok read.image }
-    ensures told { AnswersFor (job_of (run_in_bytes words.now) (gathered_program_of read)) result (around H.console host.old host.new) }
-    ensures rest { Unchanged H.files H.input H.asked H.notes host.old host.new }
+    requires whole { HasBlocks (H.files host.old) (disk_file_of (run_in_bytes words.now) (gathered_program_of read)) }
+    ensures told { AnswersFor (job_of (run_in_bytes words.now) (gathered_program_of read)) result
+        (disks_of (run_in_bytes words.now) (gathered_program_of read) (around H.files host.old host.new)) (around H.console host.old host.new) }
+    ensures disk_only { TouchesDiskOnly (disk_file_of (run_in_bytes words.now) (gathered_program_of read))
+        (around H.files host.old host.new) (around H.asked host.old host.new) }
+    ensures input { H.input host.new ≡ H.input host.old }
+    ensures notes { H.notes host.new ≡ H.notes host.old }
     ensures cause { HasRunCause (around H.faults host.old host.new) result }
+    // Where no program is booted, nothing is asked of the host.
+    ensures unasked { OnErr result (host.new ≡ host.old) }
 {
+    let Ok(disk) = disk_named(alloc, words.disk.text, read.blocks) else {
+        return Err(BootFault::NoMemory);
+    };
     let settings = settings_of(numbers_of_run(words));
     let setup = Setup {
         frames: settings.frames,
@@ -62,7 +84,7 @@ fn run_loaded<H: Host>(
         budget: settings.steps,
         trace: settings.trace,
     };
-    run(alloc, &read.image, &read.file, arguments, host, setup)
+    run(alloc, &read.image, &read.file, arguments, host, disk, setup)
 }
 
 /// Does what the words of `run` ask, but for the note.

@@ -51,10 +51,10 @@ fn words_of<'a>(alloc: Global, texts: &'a [String]) -> Result<Vec<&'a str>, NoMe
 /// Does what the words ask that std hands out, as `top` does. Words of which one is no text are no command.
 pub fn answer_texts<H: Host>(alloc: Global, read: io::Result<Args>, host: &mut H) -> Outcome
     // These are the clauses of `top`, of the words that std hands out.
-    ensures answer { AnswersCommand (H.files host.old) (H.input host.old) (command_of (given_words read)) result
+    ensures answer { AnswersCommand (around H.files host.old host.new) (H.input host.old) (command_of (given_words read)) result
         (around H.console host.old host.new) }
     ensures notes { IsNoted (given_words read) result (around H.notes host.old host.new) }
-    ensures fault { IfHostFault result (FaultIsNoted (H.files host.old) (H.input host.old) (given_words read)
+    ensures fault { IfHostFault result (FaultIsNoted (around H.files host.old host.new) (H.input host.old) (given_words read)
         (around H.faults host.old host.new) (around H.console host.old host.new) (around H.notes host.old host.new)) }
     ensures usage { IsUsageCase (command_of (given_words read)) result }
     ensures cause { HasCommandCause (command_of (given_words read)) (around H.faults host.old host.new) result }

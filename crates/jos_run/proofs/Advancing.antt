@@ -32,6 +32,7 @@ use Rattle.lib_os.proofs.SlotsStand.{born_at}
 use Rattle.jos_run.specs.AbstractTurns.{turn_begun, is_yielding, may_end, stands_waiting, waits_to_reply}
 use Rattle.jos_run.specs.LibraryRuns.{IsBetween, IsInTurn, visible_steps}
 use Rattle.jos_run.specs.ServerStands.{KeepsWhole, MayGiveUpServing, ServerLeaves, WaitsToReply}
+use Rattle.jos_run.specs.Worlds.{World, with_state}
 use Rattle.jos_run.proofs.RunsKept.{step_hidden, step_visible, stopped_cannot, stopped_may_end, running_born}
 use Rattle.jos_run.proofs.RunsKept.{turn_ends_whole, turn_ends_early, waiting_may_end, pausing_waits, yielded_may_end}
 use Rattle.jos_run.proofs.RunsKept.{yielded_further, yield_tells}
@@ -146,29 +147,29 @@ running_silent {s = s} h n other runs =
 -- ---- a step
 
 -- In the turn under way the abstract system has come so far, and where its environment is not RUNNING any more the turn may end.
-pub record Comes (schedule : List ℕ) (first : AbstractState) (turns : List Turn) (n visible hidden : ℕ) (s : KernelState)
+pub record Comes (schedule : List ℕ) (first : AbstractState) (turns : List Turn) (n visible hidden : ℕ) (w : World)
     (written : List ℕ) : Type 0 where
-  pub in_turn : IsInTurn schedule first turns n visible s written
-  pub early : is_running (slot_at s n).status ≡ false → may_end in_turn.before (turn_of n visible hidden) in_turn.now ≡ true
+  pub in_turn : IsInTurn schedule first turns n visible w written
+  pub early : is_running (slot_at w.state n).status ≡ false → may_end in_turn.before (turn_of n visible hidden) in_turn.now ≡ true
 
 -- it can't run on
-stopped : {schedule : List ℕ} {first : AbstractState} {turns : List Turn} {n visible : ℕ} {s : KernelState} {written : List ℕ} →
-    (h : IsInTurn schedule first turns n visible s written) → (hidden : ℕ) → is_running (slot_at s n).status ≡ false →
-    is_runnable (slot_at s n).status ≡ false → may_end h.before (turn_of n visible hidden) h.now ≡ true
+stopped : {schedule : List ℕ} {first : AbstractState} {turns : List Turn} {n visible : ℕ} {w : World} {written : List ℕ} →
+    (h : IsInTurn schedule first turns n visible w written) → (hidden : ℕ) → is_running (slot_at w.state n).status ≡ false →
+    is_runnable (slot_at w.state n).status ≡ false → may_end h.before (turn_of n visible hidden) h.now ≡ true
 stopped {n = n} {visible = visible} h hidden idle_now asleep =
     stopped_may_end h.before h.now (turn_of n visible hidden) (stopped_cannot h.stands.0.1 n idle_now asleep)
 
 -- where it is not even RUNNABLE, or may give up its turn
-comes_by : {schedule : List ℕ} {first : AbstractState} {turns : List Turn} {n visible hidden : ℕ} {s : KernelState} {written : List ℕ} →
-    (h : IsInTurn schedule first turns n visible s written) →
-    (is_runnable (slot_at s n).status ≡ true → may_end h.before (turn_of n visible hidden) h.now ≡ true) →
-    Comes schedule first turns n visible hidden s written
-comes_by {n = n} {visible = visible} {hidden = hidden} {s = s} h may = record {
+comes_by : {schedule : List ℕ} {first : AbstractState} {turns : List Turn} {n visible hidden : ℕ} {w : World} {written : List ℕ} →
+    (h : IsInTurn schedule first turns n visible w written) →
+    (is_runnable (slot_at w.state n).status ≡ true → may_end h.before (turn_of n visible hidden) h.now ≡ true) →
+    Comes schedule first turns n visible hidden w written
+comes_by {n = n} {visible = visible} {hidden = hidden} {w = w} h may = record {
   in_turn = h;
-  early = λ idle_now. by_test (is_runnable (slot_at s n).status) refl idle_now;
+  early = λ idle_now. by_test (is_runnable (slot_at w.state n).status) refl idle_now;
 }
   where
-    by_test : (c : Bool) → is_runnable (slot_at s n).status ≡ c → is_running (slot_at s n).status ≡ false →
+    by_test : (c : Bool) → is_runnable (slot_at w.state n).status ≡ c → is_running (slot_at w.state n).status ≡ false →
         may_end h.before (turn_of n visible hidden) h.now ≡ true
     by_test true is idle_now = may is
     by_test false is idle_now = stopped h hidden idle_now is
@@ -179,11 +180,11 @@ MayEndBy progress.Hidden a n = stands_waiting a n (a.slots n) ≡ true
 MayEndBy progress.Finished a n = is_yielding (a.slots n) ≡ true
 MayEndBy _ a n = ⊥
 
-comes : {schedule : List ℕ} {first : AbstractState} {turns : List Turn} {n visible : ℕ} {s after : KernelState} {written : List ℕ}
+comes : {schedule : List ℕ} {first : AbstractState} {turns : List Turn} {n visible : ℕ} {w after : World} {written : List ℕ}
     (bytes : List ℕ) →
-    (h : IsInTurn schedule first turns n visible s written) → (done : Progress) → KeepsWhole done n s after bytes → NothingRefused s after →
-    after.last ≡ Some n → is_running (slot_at s n).status ≡ true →
-    (is_runnable (slot_at after n).status ≡ true → MayEndBy done h.now n) → (hidden : ℕ) →
+    (h : IsInTurn schedule first turns n visible w written) → (done : Progress) → KeepsWhole done n w after bytes → NothingRefused w.state after.state →
+    after.state.last ≡ Some n → is_running (slot_at w.state n).status ≡ true →
+    (is_runnable (slot_at after.state n).status ≡ true → MayEndBy done h.now n) → (hidden : ℕ) →
     Comes schedule first turns n (visible + visible_steps done) hidden after (written ++ bytes)
 unfolding step_hidden step_visible
 comes {n = n} {visible = visible} bytes h progress.Hidden keeps none_refused last runs gives hidden =
@@ -222,37 +223,37 @@ server_may a id first progress.Hidden may = ap (λ (slot : AbstractSlot). stands
 server_may a id first _ may = absurd may
 
 -- A step of the slot that has its turn, where nothing was refused: of another than the file server,
-pub stepped : {schedule : List ℕ} {first : AbstractState} {turns : List Turn} {n visible : ℕ} {s after : KernelState}
+pub stepped : {schedule : List ℕ} {first : AbstractState} {turns : List Turn} {n visible : ℕ} {w after : World}
     {written : List ℕ} (bytes : List ℕ) →
-    n ≢ 0 → IsInTurn schedule first turns n visible s written → (done : Progress) → KeepsWhole done n s after bytes → NothingRefused s after →
-    after.last ≡ Some n → is_running (slot_at s n).status ≡ true →
-    ((a : AbstractState) → Stands s a → KeepsTurn done (slot_at s n) (slot_at after n)) → (hidden : ℕ) →
+    n ≢ 0 → IsInTurn schedule first turns n visible w written → (done : Progress) → KeepsWhole done n w after bytes → NothingRefused w.state after.state →
+    after.state.last ≡ Some n → is_running (slot_at w.state n).status ≡ true →
+    ((a : AbstractState) → Stands w.state a → KeepsTurn done (slot_at w.state n) (slot_at after.state n)) → (hidden : ℕ) →
     Comes schedule first turns n (visible + visible_steps done) hidden after (written ++ bytes)
 stepped {n = n} bytes other h done keeps none_refused last runs turn hidden =
     comes bytes h done keeps none_refused last runs
     (λ ready. others_may h.stands.0.1 n other runs done (turn h.now h.stands.0 runs (running_silent h.stands.0.1 n other runs) ready)) hidden
 
 -- or of the file server
-pub server_stepped : {schedule : List ℕ} {first : AbstractState} {turns : List Turn} {n visible : ℕ} {s after : KernelState}
+pub server_stepped : {schedule : List ℕ} {first : AbstractState} {turns : List Turn} {n visible : ℕ} {w after : World}
     {written : List ℕ} (bytes : List ℕ) →
-    n ≡ 0 → IsInTurn schedule first turns n visible s written → (done : Progress) → KeepsWhole done n s after bytes → NothingRefused s after →
-    after.last ≡ Some n → is_running (slot_at s n).status ≡ true → ServerLeaves done s after → (hidden : ℕ) →
+    n ≡ 0 → IsInTurn schedule first turns n visible w written → (done : Progress) → KeepsWhole done n w after bytes → NothingRefused w.state after.state →
+    after.state.last ≡ Some n → is_running (slot_at w.state n).status ≡ true → ServerLeaves done w.state after.state → (hidden : ℕ) →
     Comes schedule first turns n (visible + visible_steps done) hidden after (written ++ bytes)
-server_stepped {n = n} {s = s} {after = after} bytes zero h done keeps none_refused last runs left hidden =
+server_stepped {n = n} {w = w} {after = after} bytes zero h done keeps none_refused last runs left hidden =
     comes bytes h done keeps none_refused last runs
     (λ ready. subst (λ (m : ℕ). MayEndBy done h.now m) (sym zero) (server_may h.now FIRST_ENV_ID h.stands.0.1.first done
-    (left.turn h.now h.stands (ap (λ (m : ℕ). is_running (slot_at s m).status) (sym zero) ∙ runs)
-    (ap (λ (m : ℕ). is_runnable (slot_at after m).status) (sym zero) ∙ ready)))) hidden
+    (left.turn w.disk h.now h.stands.0 h.stands.1 (ap (λ (m : ℕ). is_running (slot_at w.state m).status) (sym zero) ∙ runs)
+    (ap (λ (m : ℕ). is_runnable (slot_at after.state m).status) (sym zero) ∙ ready)))) hidden
 
 -- ---- the turn behind the step
 
 -- It goes on where its environment is RUNNING and has steps left; else it is over.
-pub turn_over : {schedule : List ℕ} {first : AbstractState} {turns : List Turn} {n visible hidden : ℕ} {s : KernelState}
+pub turn_over : {schedule : List ℕ} {first : AbstractState} {turns : List Turn} {n visible hidden : ℕ} {w : World}
     {written : List ℕ} →
-    Comes schedule first turns n visible hidden s written → 0 < visible + hidden → visible + hidden ≤ quantum schedule (length turns) →
-    (is_running (slot_at s n).status && nat_lt (visible + hidden) (quantum schedule (length turns))) ≡ false →
-    IsBetween schedule first (turns ++ turn_of n visible hidden ∷ []) (kernel.turn_ended s n) written
-turn_over {schedule = schedule} {first = first} {turns = turns} {n = n} {visible = visible} {hidden = hidden} {s = s}
+    Comes schedule first turns n visible hidden w written → 0 < visible + hidden → visible + hidden ≤ quantum schedule (length turns) →
+    (is_running (slot_at w.state n).status && nat_lt (visible + hidden) (quantum schedule (length turns))) ≡ false →
+    IsBetween schedule first (turns ++ turn_of n visible hidden ∷ []) (with_state w (kernel.turn_ended w.state n)) written
+turn_over {schedule = schedule} {first = first} {turns = turns} {n = n} {visible = visible} {hidden = hidden} {w = w}
     {written = written} h some within over =
     by_whole (nat_lt (visible + hidden) (quantum schedule (length turns))) refl
   where
@@ -261,10 +262,10 @@ turn_over {schedule = schedule} {first = first} {turns = turns} {n = n} {visible
     over_and false d e is = refl
 
     by_whole : (c : Bool) → nat_lt (visible + hidden) (quantum schedule (length turns)) ≡ c →
-        IsBetween schedule first (turns ++ turn_of n visible hidden ∷ []) (kernel.turn_ended s n) written
+        IsBetween schedule first (turns ++ turn_of n visible hidden ∷ []) (with_state w (kernel.turn_ended w.state n)) written
     by_whole true is =
         turn_ends_early h.in_turn hidden some within
-        (h.early (over_and (is_running (slot_at s n).status) (nat_lt (visible + hidden) (quantum schedule (length turns))) over is))
+        (h.early (over_and (is_running (slot_at w.state n).status) (nat_lt (visible + hidden) (quantum schedule (length turns))) over is))
     by_whole false is =
         let whole : visible + hidden ≡ quantum schedule (length turns) = grind (arith, nat_tests) in
         turn_ends_whole h.in_turn hidden some whole

@@ -1,5 +1,5 @@
--- The pages that a space is given at the beginning. Each is of its environment's own, no frame stands twice, and no other space
--- has any; and so where one page more is given to it.
+-- The pages that a space is given at the beginning. Each is of its environment's own, no frame stands twice, and what other spaces have is as
+-- it was; and so where one page more is given to it.
 use Rattle.std.proofs.Common.{◌≡◌, ◌≢◌, ◌∙◌, ◌⊎◌, inl, inr, ◌/◌, ◌==◌, ◌&&◌, ◌||◌, ℕ, Bool, true, false, List, [], Option, Some, None}
 use Rattle.std.proofs.Common.{refl, sym, ap, arith}
 use Rattle.std.specs.Prelude.{is_some}
@@ -9,17 +9,17 @@ use Rattle.std.proofs.lemmas.Bool.Decides.{nat_tests}
 use Rattle.std.proofs.lemmas.Option.{same_Some}
 use Rattle.jos_base.specs.declared.numbers.TheConstants.{NPTENTRIES}
 use Rattle.jos_base.specs.Reach.{Entry}
-use Rattle.jos_base.specs.SpacesState.{SpacesState, Region, with_page_bytes}
+use Rattle.jos_base.specs.SpacesState.{SpacesState, Region, put, with_page_bytes}
 use Rattle.jos_base.specs.SystemCalls.{has_write}
 use Rattle.jos_base.specs.Words.{upd}
 use Rattle.jos_kernel.specs.Boot.{perm_of}
 use Rattle.lib_os.specs.AbstractMemory.{has_page_in}
 use Rattle.lib_os.specs.AbstractState.{Page, own}
-use Rattle.lib_os.specs.Rows.{rows_of}
+use Rattle.lib_os.specs.Rows.{lasting, rows_of}
 use Rattle.lib_os.proofs.Effects.{Made, Placed}
 use Rattle.lib_os.proofs.PagesStand.{other_regions, row_elsewhere, row_placed}
 use Rattle.jos_base.proofs.Maps.{upd-at, upd-other, upd-true}
-use Rattle.jos_base.proofs.Puts.{Elsewhere}
+use Rattle.jos_base.proofs.Puts.{Elsewhere, put-at, put-other}
 use Rattle.jos_run.proofs.PagesFilled.{has_page-put}
 
 -- the page of its own that an entry is to an environment
@@ -30,14 +30,19 @@ own_by bytes e = own (bytes e.frame) (has_write e.perm)
 abbrev pub IsPlain : ℕ → Type 0
 IsPlain perm = (writable : Bool) × (perm ≡ perm_of writable)
 
--- the space has these pages, and no other space has any
+-- the space has these pages
 pub record HasPages (space : ℕ) (memory : ℕ → Option Page) (t : SpacesState) : Type 0 where
   pub pages : (p : ℕ) → memory p ≡ option_map (own_by t.pages) (rows_of t space p)
   pub plain : (p : ℕ) (x : Entry) → rows_of t space p ≡ Some x → IsPlain x.perm
   pub alone : (p q : ℕ) (x y : Entry) → p ≢ q → rows_of t space p ≡ Some x → rows_of t space q ≡ Some y → x.frame ≢ y.frame
-  pub elsewhere : (d p : ℕ) → d ≢ space → rows_of t d p ≡ None
   pub tables : (r : ℕ) → has_page_in memory r ≡ is_some (t.regions space r)
-  pub tables_elsewhere : (d r : ℕ) → d ≢ space → t.regions d r ≡ None
+
+-- What other spaces had first they have still, and no page of the space is in a frame of theirs.
+pub record OthersKept (space : ℕ) (first t : SpacesState) : Type 0 where
+  pub entries : (d p : ℕ) → d ≢ space → t.entries d p ≡ first.entries d p
+  pub tables : (d r : ℕ) → d ≢ space → is_some (t.regions d r) ≡ is_some (first.regions d r)
+  pub bytes : (d p : ℕ) (x : Entry) → d ≢ space → first.entries d p ≡ Some x → t.pages x.frame ≡ first.pages x.frame
+  pub apart : (d p q : ℕ) (x y : Entry) → d ≢ space → first.entries d p ≡ Some x → t.entries space q ≡ Some y → x.frame ≢ y.frame
 
 -- the region of an entry that is put has a table
 region_placed : {s t : SpacesState} {d p : ℕ} {e : Entry} → Placed s t d p e → (tables : ℕ → Bool) →
@@ -123,11 +128,59 @@ module _ {space : ℕ} {memory : ℕ → Option Page} {t v : SpacesState} (h : H
     pages = page_is;
     plain = λ p x is. plain_after p x (new_or_old p x is);
     alone = λ p q x y ne is js. alone_after p q x y ne (new_or_old p x is) (new_or_old q y js);
-    elsewhere = λ d p ne. there d p (λ e. absurd (ne e)) ∙ h.elsewhere d p ne;
     tables = λ r. has_page-put memory number (own bytes writable) r
         ∙ region_placed made.placed (has_page_in memory) h.tables r;
-    tables_elsewhere = λ d r ne. no_region (v.regions d r) (other_regions made.placed d r ne ∙ ap is_some (h.tables_elsewhere d r ne));
   }
+
+-- ---- the others
+
+-- one page more
+pub others_more : {space : ℕ} {first t v : SpacesState} → OthersKept space first t → (number f perm : ℕ) (bytes : List ℕ)
+    (made : Made t v space number perm) → made.frame ≡ f → v.entries ≡ put t.entries space number (Some (record { frame = f; perm = perm })) →
+    OthersKept space first (with_page_bytes v f bytes)
+unfolding rows_of
+others_more {space = space} {first = first} {t = t} {v = v} h number f perm bytes made at_frame entries_are = record {
+  entries = λ d p ne. kept d p ne ∙ h.entries d p ne;
+  tables = λ d r ne. other_regions made.placed d r ne ∙ h.tables d r ne;
+  bytes = λ d p x ne is.
+      upd-other v.pages f bytes x.frame (new d p x ne is)
+      ∙ made.placed.bytes d p (lasting x) (ap (option_map lasting) (kept d p ne ∙ h.entries d p ne ∙ is)) (new_frame d p x ne is)
+      ∙ h.bytes d p x ne is;
+  apart = λ d p q x y ne is js. elim (cases_eq q number) [
+    | inl same ↦ λ e. new d p x ne is
+        (e ∙ ap (λ (z : Entry). z.frame) (same_Some y entry_put (sym js ∙ (λ i. entries_are i space q) ∙ ap (put t.entries space number (Some entry_put) space) same
+        ∙ put-at t.entries space number (Some entry_put))))
+    | inr other ↦ h.apart d p q x y ne is
+        (sym (put-other t.entries space number (Some entry_put) space q (λ e. other)) ∙ sym (λ i. entries_are i space q) ∙ js)
+  ];
+}
+  where
+    entry_put : Entry
+    entry_put = record { frame = f; perm = perm }
+
+    kept : (d p : ℕ) → d ≢ space → v.entries d p ≡ t.entries d p
+    kept d p ne = (λ i. entries_are i d p) ∙ put-other t.entries space number (Some entry_put) d p (λ e. absurd (ne e))
+
+    new_frame : (d p : ℕ) (x : Entry) → d ≢ space → first.entries d p ≡ Some x → x.frame ≢ made.frame
+    new_frame d p x ne is = made.new d p (lasting x) (ap (option_map lasting) (h.entries d p ne ∙ is))
+
+    new : (d p : ℕ) (x : Entry) → d ≢ space → first.entries d p ≡ Some x → x.frame ≢ f
+    new d p x ne is same = new_frame d p x ne is (same ∙ sym at_frame)
+
+-- and one more entry of a page that stands there
+pub others_beside : {space : ℕ} {first t : SpacesState} → OthersKept space first t → (q number : ℕ) (e : Entry) → t.entries space q ≡ Some e →
+    OthersKept space first (record t { entries = put t.entries space number (Some e) })
+others_beside {space = space} {first = first} {t = t} h q number e stands = record {
+  entries = λ d p ne. put-other t.entries space number (Some e) d p (λ here. absurd (ne here)) ∙ h.entries d p ne;
+  tables = h.tables;
+  bytes = h.bytes;
+  apart = λ d p r x y ne is js. elim (cases_eq r number) [
+    | inl same ↦ λ e_is. h.apart d p q x e ne is stands
+        (e_is ∙ ap (λ (z : Entry). z.frame) (same_Some y e (sym js ∙ ap (put t.entries space number (Some e) space) same
+        ∙ put-at t.entries space number (Some e))))
+    | inr other ↦ h.apart d p r x y ne is (sym (put-other t.entries space number (Some e) space r (λ here. other)) ∙ js)
+  ];
+}
 
 -- ---- what stands there
 

@@ -18,7 +18,7 @@ use Rattle.lib_os.specs.InOrder.{HasOneUse, IsInOrder}
 use Rattle.lib_os.specs.Need.{EachHasUse}
 use Rattle.lib_os.specs.Rows.{descriptor_page, descriptor_perm, rows_of}
 use Rattle.lib_os.proofs.Effects.{Given, Made}
-use Rattle.lib_os.proofs.PagesStand.{other_regions, row_elsewhere, row_placed}
+use Rattle.lib_os.proofs.PagesStand.{row_elsewhere, row_placed}
 use Rattle.lib_os.proofs.Placing.{allocated_made, inserted_given}
 use Rattle.lib_os.proofs.UsesFound.{bytes_found}
 use Rattle.lib_os.proofs.UsesPlaced.{allocated_found, inserted_found}
@@ -27,9 +27,9 @@ use Rattle.jos_base.proofs.Maps.{upd-at, upd-other}
 use Rattle.jos_base.proofs.Uses.{directory_is}
 use Rattle.jos_run.specs.Boot.{console_bytes, console_in, console_loaded, handler_page, handler_stack_loaded, program_loaded, space_loaded}
 use Rattle.jos_run.specs.Start.{first_memory}
-use Rattle.jos_run.proofs.BootedPages.{HasPages, no_region, no_row}
+use Rattle.jos_run.proofs.BootedPages.{HasPages, OthersKept, no_row, others_beside, others_more}
 use Rattle.jos_run.proofs.BootedSpace.{is_inside_fence, outside_no_page}
-use Rattle.jos_run.proofs.FramesTaken.{Takes, allocated_entry, allocated_takes, entry_put, inserted_beside}
+use Rattle.jos_run.proofs.FramesTaken.{Takes, allocated_entries, allocated_entry, allocated_takes, entry_put, inserted_beside}
 use Rattle.jos_run.proofs.PagesBegin.{Stage, handler_stage, made_frame, no_entry, space_memory, spaces_kept}
 use Rattle.jos_run.proofs.PagesFilled.{filled_one_use}
 
@@ -41,7 +41,7 @@ console_page = overlaid zero_page 0 console_bytes
 abbrev pub descriptor_entry : ℕ → Entry
 descriptor_entry f = record { frame = f; perm = descriptor_perm }
 
--- The space has these pages, and beside them the console's, by two entries. No other space has any.
+-- The space has these pages, and beside them the console's, by two entries.
 pub record HasConsole (space : ℕ) (memory : ℕ → Option Page) (u : SpacesState) : Type 0 where
   pub frame : ℕ
   pub first : rows_of u space (descriptor_page 0) ≡ Some (descriptor_entry frame)
@@ -54,9 +54,6 @@ pub record HasConsole (space : ℕ) (memory : ℕ → Option Page) (u : SpacesSt
   pub others : (p : ℕ) (x : Entry) → rows_of before space p ≡ Some x → x.frame ≢ frame
   pub bytes : (p : ℕ) (x : Entry) → rows_of before space p ≡ Some x → u.pages x.frame ≡ before.pages x.frame
   pub tables : (r : ℕ) → is_some (u.regions space r) ≡ ((r == descriptor_page 0 / NPTENTRIES) || is_some (before.regions space r))
-  -- other spaces
-  pub elsewhere : (d p : ℕ) → d ≢ space → rows_of u d p ≡ None
-  pub tables_elsewhere : (d r : ℕ) → d ≢ space → u.regions d r ≡ None
 
 first_small : descriptor_page 0 < page_limit
 unfolding page_limit
@@ -82,6 +79,7 @@ module _ (frames : ℕ) (base : KernelState) (live : is_live (slot_at base 1) �
   -- the space has the console, and the frames are in order
   pub record Begins (memory : ℕ → Option Page) (u : SpacesState) : Type 0 where
     pub has : HasConsole d memory u
+    pub others : OthersKept d base.spaces u
     pub in_order : IsInOrder (with_spaces base u)
     pub frames_are : u.frames ≡ frames
     pub used : EachHasUse u
@@ -158,11 +156,6 @@ module _ (frames : ℕ) (base : KernelState) (live : is_live (slot_at base 1) �
     unfolding rows_of
     rows_are p other other_too = row_elsewhere given.placed d p (λ e. other_too) ∙ row_elsewhere made.placed d p (λ e. other)
 
-    no_others : (q p : ℕ) → q ≢ d → rows_of last q p ≡ None
-    unfolding rows_of
-    no_others q p ne =
-        row_elsewhere given.placed q p (λ e. absurd (ne e)) ∙ row_elsewhere made.placed q p (λ e. absurd (ne e)) ∙ h.has.elsewhere q p ne
-
     new : (p : ℕ) (x : Entry) → rows_of t d p ≡ Some x → x.frame ≢ f
     new p x there same = made.new d p x there (same ∙ sym frame_is)
 
@@ -191,9 +184,11 @@ module _ (frames : ℕ) (base : KernelState) (live : is_live (slot_at base 1) �
         others = new;
         bytes = old_bytes;
         tables = tables_are;
-        elsewhere = no_others;
-        tables_elsewhere = λ q r ne. no_region (v.regions q r) (other_regions made.placed q r ne ∙ ap is_some (h.has.tables_elsewhere q r ne));
       };
+      others = others_beside
+          (others_more h.others (descriptor_page 0) f descriptor_perm console_page made frame_is
+          (allocated_entries t v d (descriptor_page 0) descriptor_perm f is))
+          (descriptor_page 0) (descriptor_page 1) entry stands;
       in_order = record {
         frames = last_one_use;
         spaces = spaces_kept t last base.environments takes.directories h.in_order.spaces;

@@ -26,7 +26,7 @@ use Rattle.jos_run.proofs.Booted.{booted-enough}
 use Rattle.jos_run.proofs.BootedPages.{no_row}
 use Rattle.jos_run.proofs.ConsoleLoaded.{last, no_descriptor, no_descriptor_too, second_inserted}
 use Rattle.jos_run.proofs.FirstState.{base, base_stage, booted_with, space_small}
-use Rattle.jos_run.proofs.FirstSpaces.{HasFrames, has_frames, spaces_two}
+use Rattle.jos_run.proofs.FirstSpaces.{HasFrames, has_frames, second_at, spaces_two}
 use Rattle.jos_run.proofs.FramesTaken.{allocated_some, allocated_spends}
 use Rattle.jos_run.proofs.PagesBegin.{Stage, no_entry, memory_below, below-at, below-none, touched_next, untouched_next}
 use Rattle.jos_run.proofs.PagesBegin.{pages_stage, program_stage, handler_stage, space_memory, limit_small, no_stack, no_handler}
@@ -251,7 +251,7 @@ length-rising first (suc n) = ap suc (length-rising (first + 1) n)
 -- where its space is loaded, the program is booted
 booted_enough : (image : Layout) (file : List ℕ) (words : List (List ℕ)) (frames : ℕ) (input : List ℕ) (first n : ℕ)
     (has : HasFrames frames first n) → boot_frames image ≤ frames → (u : SpacesState) →
-    space_loaded image.segments file words (first + 1) (spaces_two frames first n has) ≡ Some u →
+    space_loaded image.segments file words (second_at first) (spaces_two frames first n has) ≡ Some u →
     (s : KernelState) × (booted_within image file words frames input ≡ Some s)
 booted_enough image file words frames input first n has least u is = (
   with_spaces (base image words input frames first n has) u,
@@ -264,8 +264,8 @@ programs_boot image file words frames input read fit least most =
     let h = fits words fit in
     let has = has_frames frames (omega arith) most in
     let first = reserved_frames frames in
-    let n = frames - reserved_frames frames - 2 in
-    let left = length-rising (first + 1 + 1) n in
+    let n = frames - reserved_frames frames - 4 in
+    let left = length-rising (second_at first + 1) n in
     let kernel = base image words input frames first n has in
     let small = space_small image words input frames first n has in
     let loaded = space_suffices frames kernel refl small image words file (read_lie file image read) (fits-some words h) h.size

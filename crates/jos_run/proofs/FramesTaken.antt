@@ -9,7 +9,7 @@ use Rattle.std.proofs.lemmas.Bool.{false≢true, cases_eq, or_right}
 use Rattle.std.proofs.lemmas.List.Elements.{All-tail}
 use Rattle.std.proofs.lemmas.Option.{same_Some}
 use Rattle.jos_base.specs.declared.numbers.TheConstants.{NPTENTRIES}
-use Rattle.jos_base.specs.Counting.{frame_limit, page_limit}
+use Rattle.jos_base.specs.Counting.{Entries, frame_limit, page_limit}
 use Rattle.jos_base.specs.Environments.{bit_of}
 use Rattle.jos_base.specs.Reach.{Entry}
 use Rattle.jos_base.specs.SpacesState.{SpacesState, Region, Use, reserved, free, fresh, page, directory, table, is_directory, put}
@@ -234,7 +234,7 @@ tabled_takes s t d i h below space is = by_region (s.regions d i) refl is
         })
 
 -- a page where none stood
-mapped_new : (s : SpacesState) (d p : ℕ) (e : Entry) → s.entries d p ≡ None → mapped s d p e ≡ with_entry s d p e
+pub mapped_new : (s : SpacesState) (d p : ℕ) (e : Entry) → s.entries d p ≡ None → mapped s d p e ≡ with_entry s d p e
 unfolding mapped
 mapped_new s d p e none = ap (λ (o : Option Entry). released (with_entry s d p e) (frame_of o)) none
 
@@ -298,41 +298,82 @@ module _ (s : SpacesState) (h : HasOneUse s) (below : AreBelow s.free) (d p perm
               let same : u ≡ t = ap (λ (z : ℕ × SpacesState). z.1) (same_Some (g, u) (f, t) found) in
               subst (λ (z : SpacesState). Takes s z) same (inserted_takes g rest at u ins)
 
+-- ---- a table takes a frame
+
+-- so many frames are left
+record Spends (s t : SpacesState) (d i : ℕ) : Type 0 where
+  entries : t.entries ≡ s.entries
+  left : length t.free + bit_of (not (is_some (s.regions d i))) ≡ length s.free
+
+tabled_spends : (s t : SpacesState) (d i : ℕ) → tabled s d i ≡ Some t → Spends s t d i
+unfolding tabled
+tabled_spends s t d i is = by_region (s.regions d i) refl is
+  where
+    by_list : (list : List ℕ) → s.free ≡ list → s.regions d i ≡ None → tabled_new s list d i ≡ Some t → Spends s t d i
+    by_list [] at no_table none = absurd cc
+    by_list (g ∷ rest) at no_table some =
+        subst (λ (z : SpacesState). Spends s z d i) (same_Some (with_table (record s { free = rest }) d i g) t some)
+        (record {
+          entries = refl;
+          left = let one : bit_of (not (is_some (s.regions d i))) ≡ 1 = ap (λ (o : Option Region). bit_of (not (is_some o))) no_table in
+              let all = ap length at in omega (arith, one, all);
+        })
+
+    by_region : (o : Option Region) → s.regions d i ≡ o → tabled_by s o d i ≡ Some t → Spends s t d i
+    by_region None at some = by_list s.free refl at some
+    by_region (Some region) at some =
+        subst (λ (z : SpacesState). Spends s z d i) (same_Some s t some)
+        (record {
+          entries = refl;
+          left = let none : bit_of (not (is_some (s.regions d i))) ≡ 0 = ap (λ (o : Option Region). bit_of (not (is_some o))) at in
+              omega (arith, none);
+        })
+
 -- ---- the entry that is put
 
-mapped_entry : (s : SpacesState) (d p : ℕ) (e : Entry) → (mapped s d p e).entries d p ≡ Some e
+mapped_entries : (s : SpacesState) (d p : ℕ) (e : Entry) → (mapped s d p e).entries ≡ put s.entries d p (Some e)
 unfolding mapped
-mapped_entry s d p e =
-    (λ i. released_entries (with_entry s d p e) (frame_of (s.entries d p)) i d p) ∙ put-at s.entries d p (Some e)
+mapped_entries s d p e = released_entries (with_entry s d p e) (frame_of (s.entries d p))
 
-inserted_entry : (s t : SpacesState) (d p : ℕ) (e : Entry) → inserted s d p e ≡ Some t → t.entries d p ≡ Some e
+tabled_entries : (s t : SpacesState) (d i : ℕ) → tabled s d i ≡ Some t → t.entries ≡ s.entries
+tabled_entries s t d i is = let spends = tabled_spends s t d i is in spends.entries
+
+inserted_entries : (s t : SpacesState) (d p : ℕ) (e : Entry) → inserted s d p e ≡ Some t → t.entries ≡ put s.entries d p (Some e)
 unfolding inserted
-inserted_entry s t d p e is = by_table (tabled s d (p / NPTENTRIES)) is
+inserted_entries s t d p e is = by_table (tabled s d (p / NPTENTRIES)) refl is
   where
-    by_table : (o : Option SpacesState) → option_map (λ u. mapped u d p e) o ≡ Some t → t.entries d p ≡ Some e
-    by_table None none = absurd cc
-    by_table (Some u) found =
-        subst (λ (z : SpacesState). z.entries d p ≡ Some e) (same_Some (mapped u d p e) t found) (mapped_entry u d p e)
+    by_table : (o : Option SpacesState) → tabled s d (p / NPTENTRIES) ≡ o → option_map (λ u. mapped u d p e) o ≡ Some t →
+        t.entries ≡ put s.entries d p (Some e)
+    by_table None at none = absurd cc
+    by_table (Some u) at found =
+        subst (λ (z : SpacesState). z.entries ≡ put s.entries d p (Some e)) (same_Some (mapped u d p e) t found)
+        (mapped_entries u d p e ∙ ap (λ (entries : Entries). put entries d p (Some e)) (tabled_entries s u d (p / NPTENTRIES) at))
 
-pub allocated_entry : (s t : SpacesState) (d p perm f : ℕ) → allocated s d p perm ≡ Some (f, t) →
-    t.entries d p ≡ Some (record { frame = f; perm = perm })
-unfolding allocated
-allocated_entry s t d p perm f is = by_fresh (fresh_of s) is
+-- no others differ
+pub allocated_entries : (s t : SpacesState) (d p perm f : ℕ) → allocated s d p perm ≡ Some (f, t) →
+    t.entries ≡ put s.entries d p (Some (record { frame = f; perm = perm }))
+unfolding allocated fresh_of
+allocated_entries s t d p perm f is = by_list s.free is
   where
-    by_fresh : (o : Option (ℕ × SpacesState)) → allocated_in o d p perm ≡ Some (f, t) →
-        t.entries d p ≡ Some (record { frame = f; perm = perm })
-    by_fresh None none = absurd cc
-    by_fresh (Some (g, first)) some = by_insertion (inserted first d p (record { frame = g; perm = perm })) refl some
+    by_list : (list : List ℕ) → allocated_in (fresh_from s list) d p perm ≡ Some (f, t) →
+        t.entries ≡ put s.entries d p (Some (record { frame = f; perm = perm }))
+    by_list [] none = absurd cc
+    by_list (g ∷ rest) some = by_insertion (inserted (taken s g rest zero_page) d p (record { frame = g; perm = perm })) refl some
       where
-        by_insertion : (o : Option SpacesState) → inserted first d p (record { frame = g; perm = perm }) ≡ o →
+        by_insertion : (o : Option SpacesState) → inserted (taken s g rest zero_page) d p (record { frame = g; perm = perm }) ≡ o →
             option_map (λ (u : SpacesState). let pair : ℕ × SpacesState = (g, u) in pair) o ≡ Some (f, t) →
-            t.entries d p ≡ Some (record { frame = f; perm = perm })
+            t.entries ≡ put s.entries d p (Some (record { frame = f; perm = perm }))
         by_insertion None ins found = absurd cc
         by_insertion (Some u) ins found =
             let both = same_Some (g, u) (f, t) found in
-            let at : u.entries d p ≡ Some (record { frame = g; perm = perm }) = inserted_entry first u d p
-            (record { frame = g; perm = perm }) ins in
-            subst (λ (z : ℕ × SpacesState). z.1.entries d p ≡ Some (record { frame = z.0; perm = perm })) both at
+            let at : u.entries ≡ put s.entries d p (Some (record { frame = g; perm = perm })) =
+            inserted_entries (taken s g rest zero_page) u d p (record { frame = g; perm = perm }) ins in
+            subst (λ (z : ℕ × SpacesState). z.1.entries ≡ put s.entries d p (Some (record { frame = z.0; perm = perm }))) both at
+
+pub allocated_entry : (s t : SpacesState) (d p perm f : ℕ) → allocated s d p perm ≡ Some (f, t) →
+    t.entries d p ≡ Some (record { frame = f; perm = perm })
+allocated_entry s t d p perm f is =
+    (λ i. allocated_entries s t d p perm f is i d p) ∙ put-at s.entries d p (Some (record { frame = f; perm = perm }))
 
 -- ---- a page that stands somewhere gets one more entry
 
@@ -377,35 +418,6 @@ allocated_some s d p perm enough = by_list s.free enough
         by_region : (o : Option Region) → (r : ℕ × SpacesState) × (whole o ≡ Some r)
         by_region None = ((g, mapped (with_table (record first { free = rest }) d (p / NPTENTRIES) h) d p entry), refl)
         by_region (Some region) = ((g, mapped first d p entry), refl)
-
--- so many frames are left
-record Spends (s t : SpacesState) (d i : ℕ) : Type 0 where
-  entries : t.entries ≡ s.entries
-  left : length t.free + bit_of (not (is_some (s.regions d i))) ≡ length s.free
-
-tabled_spends : (s t : SpacesState) (d i : ℕ) → tabled s d i ≡ Some t → Spends s t d i
-unfolding tabled
-tabled_spends s t d i is = by_region (s.regions d i) refl is
-  where
-    by_list : (list : List ℕ) → s.free ≡ list → s.regions d i ≡ None → tabled_new s list d i ≡ Some t → Spends s t d i
-    by_list [] at no_table none = absurd cc
-    by_list (g ∷ rest) at no_table some =
-        subst (λ (z : SpacesState). Spends s z d i) (same_Some (with_table (record s { free = rest }) d i g) t some)
-        (record {
-          entries = refl;
-          left = let one : bit_of (not (is_some (s.regions d i))) ≡ 1 = ap (λ (o : Option Region). bit_of (not (is_some o))) no_table in
-              let all = ap length at in omega (arith, one, all);
-        })
-
-    by_region : (o : Option Region) → s.regions d i ≡ o → tabled_by s o d i ≡ Some t → Spends s t d i
-    by_region None at some = by_list s.free refl at some
-    by_region (Some region) at some =
-        subst (λ (z : SpacesState). Spends s z d i) (same_Some s t some)
-        (record {
-          entries = refl;
-          left = let none : bit_of (not (is_some (s.regions d i))) ≡ 0 = ap (λ (o : Option Region). bit_of (not (is_some o))) at in
-              omega (arith, none);
-        })
 
 -- a page where none stood takes a frame, and one more where its region has no table
 pub allocated_spends : (s t : SpacesState) (d p perm f : ℕ) → s.entries d p ≡ None → allocated s d p perm ≡ Some (f, t) →

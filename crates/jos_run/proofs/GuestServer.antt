@@ -1,5 +1,6 @@
--- A step of a program leaves to the file server what it has: its slot, its space and the bytes of its pages. The instruction reaches bytes
--- and stores bytes in the program's own space, a page fault is handled there or ends the environment, and any other trap ends it.
+-- A step of a program leaves to the file server what it has: its slot, its space and the bytes of its pages which the program has not. The
+-- instruction reaches bytes and stores bytes in the program's own space, a page fault is handled there or ends the environment, and any other
+-- trap ends it.
 use Rattle.std.proofs.Common.{◌≡◌, ◌≢◌, ◌∙◌, ◌==◌, ℕ, Bool, true, false, Option, Some, None, Result, Ok, Err, IfSome, refl, sym, subst}
 use Rattle.std.proofs.Common.{if◌then◌else◌}
 use Rattle.std.proofs.lemmas.Option.{same_Some}
@@ -11,7 +12,7 @@ use Rattle.jos_base.specs.declared.memory.PageFault.{PageFault}
 use Rattle.jos_base.specs.declared.numbers.TheConstants.{T_BRKPT, T_GPFLT, T_PGFLT, T_SERVICE}
 use Rattle.jos_base.specs.Environments.{Slot, free_slot, is_live}
 use Rattle.jos_base.specs.KernelState.{KernelState, slot_at, with_slot_at, with_registers}
-use Rattle.jos_base.specs.Reach.{FrameOffset}
+use Rattle.jos_base.specs.Reach.{Entry, FrameOffset}
 use Rattle.jos_base.specs.SpacesState.{SpacesState}
 use Rattle.jos_base.specs.SystemCalls.{Trapped, handled, delivered_to, deliver_fault, trapped_by, killed}
 use Rattle.jos_base.specs.UserMemory.{reach_in, stored_byte, with_byte_at}
@@ -28,7 +29,8 @@ use Rattle.lib_os.specs.InOrder.{HasOneUse}
 use Rattle.lib_os.specs.LibrarySteps.{KeepsServer}
 use Rattle.lib_os.specs.Places.{words_entered}
 use Rattle.lib_os.proofs.ServerLeft.{IsAside, ServerStays, aside_asked, asked_before, handled_server, keeps_server}
-use Rattle.lib_os.proofs.SpacesLeft.{SpaceLeft, IsBesidePages, destroyed_left, same_left, stored_beside, stored_left, touched_beside, touched_left}
+use Rattle.lib_os.proofs.SpacesLeft.{SpaceLeft, IsBesidePages, IsNoneLeft, begins_beside, destroyed_left, same_left, stored_beside, stored_left}
+use Rattle.lib_os.proofs.SpacesLeft.{touched_beside, touched_left}
 use Rattle.lib_os.proofs.UsesKept.{stored_kept, touched_kept}
 use Rattle.jos_run.specs.FencedMemory.{fenced_memory}
 use Rattle.jos_run.specs.GuestSteps.{after_event, guest_instruction}
@@ -43,14 +45,17 @@ stored_uses s d va byte = by_outcome (reach_in s d va Write)
     by_outcome (Ok location) = refl
     by_outcome (Err refusal) = refl
 
--- what is left after one step and after the next
-stays_then : (d : ℕ) (s t u : KernelState) → ServerStays d s t → ServerStays d t u → ServerStays d s u
-stays_then d s t u h k = record {
+-- what is left after one step and after the next, where none of the pages that are left is one of the program's in between
+stays_then : (d n : ℕ) (s t u : KernelState) →
+    ((p : ℕ) (e : Entry) → t.spaces.entries (slot_at t n).directory p ≡ Some e → IsNoneLeft (slot_at s n).directory d s.spaces e.frame) →
+    ServerStays d n s t → ServerStays d n t u → ServerStays d n s u
+stays_then d n s t u none h k = record {
   slot = k.slot ∙ h.slot;
   space = record {
     entries = λ p. k.space.entries p ∙ h.space.entries p;
     regions = λ r. k.space.regions r ∙ h.space.regions r;
-    pages = λ p e is. k.space.pages p e (h.space.entries p ∙ is) ∙ h.space.pages p e is;
+    pages = λ p e is lacks.
+        k.space.pages p e (h.space.entries p ∙ is) (λ q x there same. none q x there p e is lacks (sym same)) ∙ h.space.pages p e is lacks;
   };
 }
 
@@ -58,18 +63,18 @@ stays_then d s t u h k = record {
 
 module _ (d : ℕ) (s : KernelState) (n : ℕ) (h : IsAside d s n) where
   abbrev Left : KernelState → Type 0
-  Left t = ServerStays d s t
+  Left t = ServerStays d n s t
 
   home_apart : (slot_at s n).directory ≢ d
   home_apart = let it = h.homes n h.other h.live in it.0
 
   stays_so : Left s
-  stays_so = record { slot = refl; space = same_left d s.spaces h.frames }
+  stays_so = record { slot = refl; space = same_left (slot_at s n).directory d s.spaces h.frames }
 
   put_stays : (slot : Slot) → Left (with_slot_at s n slot)
   put_stays slot = record {
     slot = upd-other s.environments.slots n slot 0 (λ same. h.other (sym same));
-    space = same_left d s.spaces h.frames;
+    space = same_left (slot_at s n).directory d s.spaces h.frames;
   }
 
   killed_stays : (why : Line) → Left (killed s n why).state
@@ -78,7 +83,7 @@ module _ (d : ℕ) (s : KernelState) (n : ℕ) (h : IsAside d s n) where
       let it = h.homes n h.other h.live in
       record {
         slot = upd-other s.environments.slots n (free_slot (slot_at s n).id) 0 (λ same. h.other (sym same));
-        space = destroyed_left d s.spaces h.frames (slot_at s n).directory it.0 it.1;
+        space = destroyed_left (slot_at s n).directory d s.spaces h.frames (slot_at s n).directory it.0 it.1;
       }
 
   delivered_stays : (fault : PageFault) (after : Option KernelState) → IfSome after Left → Left (delivered_to s n fault after).state
@@ -122,8 +127,8 @@ module _ (d : ℕ) (s : KernelState) (n : ℕ) (h : IsAside d s n) where
     directory : x.directory ≡ Some home
     uses : x.state.spaces.uses ≡ s.spaces.uses
     frames : HasOneUse x.state.spaces
-    space : SpaceLeft d s.spaces x.state.spaces
-    pages : IsBesidePages d s.spaces h.frames home apart x.state.spaces
+    space : SpaceLeft home d s.spaces x.state.spaces
+    pages : IsBesidePages home d s.spaces h.frames x.state.spaces
 
   touched_walks : (x : Running) → Walks x → (o : Option ℕ) → o ≡ Some home → (va : ℕ) (access : Access) →
       Walks (with_state x (touched_in x.state o va access))
@@ -134,8 +139,8 @@ module _ (d : ℕ) (s : KernelState) (n : ℕ) (h : IsAside d s n) where
         directory = w.directory;
         uses = touched_uses x.state.spaces home va access ∙ w.uses;
         frames = touched_kept x.state.spaces home va access w.frames;
-        space = touched_left d s.spaces h.frames home apart x.state.spaces va access w.space;
-        pages = touched_beside d s.spaces h.frames home apart x.state.spaces va access w.pages;
+        space = touched_left home d s.spaces h.frames home apart x.state.spaces va access w.space;
+        pages = touched_beside home d s.spaces h.frames x.state.spaces va access w.pages;
       })
 
   stored_walks : (x : Running) → Walks x → (o : Option ℕ) → o ≡ Some home → (va byte : ℕ) →
@@ -147,8 +152,8 @@ module _ (d : ℕ) (s : KernelState) (n : ℕ) (h : IsAside d s n) where
         directory = w.directory;
         uses = stored_uses x.state.spaces home va byte ∙ w.uses;
         frames = stored_kept x.state.spaces home va byte w.frames;
-        space = stored_left d s.spaces h.frames home apart x.state.spaces va byte w.pages w.space;
-        pages = stored_beside d s.spaces h.frames home apart x.state.spaces va byte w.pages;
+        space = stored_left home d s.spaces h.frames x.state.spaces va byte w.pages w.space;
+        pages = stored_beside home d s.spaces h.frames x.state.spaces va byte w.pages;
       })
 
   walks : Agrees fenced_memory fenced_memory (λ (x : Running). x) Walks
@@ -176,12 +181,9 @@ module _ (d : ℕ) (s : KernelState) (n : ℕ) (h : IsAside d s n) where
           λ same. it.0 ((λ i. ((sym w.environments i).slots m).directory) ∙ same),
           (λ i. w.uses i ((w.environments i).slots m).directory) ∙ it.1,
         );
-    pages = λ p e is q y stands.
-        w.pages.none p e ((λ i. x.state.spaces.entries ((sym w.environments i).slots n).directory p) ∙ is) q y
-        (sym (w.space.entries q) ∙ stands);
   }
 
-  walked_stays : (x : Running) → Walks x → ServerStays d s x.state
+  walked_stays : (x : Running) → Walks x → ServerStays d n s x.state
   walked_stays x w = record { slot = λ i. (w.environments i).slots 0; space = w.space }
 
   begins : Walks (loaded_in s home)
@@ -190,11 +192,11 @@ module _ (d : ℕ) (s : KernelState) (n : ℕ) (h : IsAside d s n) where
     directory = refl;
     uses = refl;
     frames = h.frames;
-    space = same_left d s.spaces h.frames;
-    pages = record { none = h.pages };
+    space = same_left home d s.spaces h.frames;
+    pages = begins_beside home d s.spaces h.frames;
   }
 
-  instruction_stays : ServerStays d s (guest_instruction s n).state
+  instruction_stays : ServerStays d n s (guest_instruction s n).state
   unfolding guest_instruction
   instruction_stays =
       let regs = (slot_at s n).registers in
@@ -203,7 +205,8 @@ module _ (d : ℕ) (s : KernelState) (n : ℕ) (h : IsAside d s n) where
       let t = step.memory.state in
       let u = with_registers t n step.regs in
       let aside = aside_asked d t n step.regs (aside_walked step.memory w) in
-      stays_then d s t (after_event u n regs.eip step.event).state (walked_stays step.memory w)
+      stays_then d n s t (after_event u n regs.eip step.event).state
+      (λ p e there. w.pages.none p e ((λ i. t.spaces.entries ((sym w.environments i).slots n).directory p) ∙ there)) (walked_stays step.memory w)
       (asked_before d t n step.regs (after_event u n regs.eip step.event).state h.other (event_stays d u n aside regs.eip step.event))
 
 pub guest_server : (s : KernelState) (n : ℕ) → KeepsServer n s (guest_instruction s n).state

@@ -8,7 +8,7 @@ use Rattle.jos_host.specs.Frames.{Around, from_to}
 use Rattle.jos_base.specs.KernelState.{KernelState, slot_at}
 use Rattle.jos_kernel.specs.declared.trace.TrapLine.{TrapLine}
 use Rattle.lib_os.specs.declared.progress.Progress.{Progress}
-use Rattle.lib_os.specs.Disk.{DiskFile}
+use Rattle.lib_os.specs.Disk.{Disk, DiskFile}
 use Rattle.lib_os.specs.MadeCalls.{MakesServersCall}
 use Rattle.lib_os.specs.LibrarySteps.{IsLibraryStep, Leaves, LeavesRest, Lowers, GivesUp, TakesByPlace}
 use Rattle.lib_os.specs.Places.{place_of}
@@ -17,13 +17,20 @@ use Rattle.jos_run.specs.declared.steps.StepOutcome.{StepOutcome}
 use Rattle.jos_run.specs.ServerStands.{IsWholeStep, LeavesServed}
 use Rattle.jos_run.specs.Steps.{LeavesAs, Raises, RaisesAs, is_awake, is_servers, step_progress}
 use Rattle.jos_run.specs.StepsAtOnce.{MakesSteps}
+use Rattle.jos_run.specs.Worlds.{World, beside}
 use Rattle.jos_run.proofs.ServerLeavings.{server_call_leaves}
 use Rattle.jos_run.proofs.ProgramSteps.{leaves_as, raises_as, whole_step}
 
 -- ---- a step alone, by what it has come to
 
-module _ (s after : KernelState) (n : ℕ) (output : Output) (did : Result Progress Failed) (trap : Option TrapLine)
-    (raised : RaisesAs (is_servers s n) n s trap after) where
+module _ (v w : World) (n : ℕ) (output : Output) (did : Result Progress Failed) (trap : Option TrapLine)
+    (raised : RaisesAs (is_servers v.state n) n v.state trap w.state) where
+  abbrev s : KernelState
+  s = v.state
+
+  abbrev after : KernelState
+  after = w.state
+
   raises_it : (last : Result StepOutcome Failed) → IfOk last (λ stepped. stepped.trap ≡ trap) →
       IfOk last (λ stepped. RaisesAs (is_servers s n) n s stepped.trap after)
   raises_it (Ok stepped) told = subst (λ (t : Option TrapLine). RaisesAs (is_servers s n) n s t after) (sym told) raised
@@ -35,13 +42,13 @@ module _ (s after : KernelState) (n : ℕ) (output : Output) (did : Result Progr
   rest_it (Err failed) told rest = tt
 
   made_alone : (last : Result StepOutcome Failed) → step_progress last ≡ did → IfOk last (λ stepped. stepped.trap ≡ trap) →
-      IsWholeStep did n s after output → IfOk did (λ done. LeavesRest s after) → LeavesAs (is_servers s n) did n s after →
-      MakesSteps n 0 last s after output
+      IsWholeStep did n v w output → IfOk did (λ done. LeavesRest s after) → LeavesAs (is_servers s n) did n s after →
+      MakesSteps n 0 last v w output
   made_alone last told with_trap step rest leaves = record {
     reached = s;
     went = refl;
     is_guest = λ some. absurd (omega (arith, some));
-    step = subst (λ (r : Result Progress Failed). IsWholeStep r n s after output) (sym told) step;
+    step = subst (λ (r : Result Progress Failed). IsWholeStep r n v w output) (sym told) step;
     rest = rest_it last told rest;
     leaves = subst (λ (r : Result Progress Failed). LeavesAs (is_servers s n) r n s after) (sym told) leaves;
     raises = raises_it last with_trap;
@@ -49,11 +56,12 @@ module _ (s after : KernelState) (n : ℕ) (output : Output) (did : Result Progr
 
 -- ---- of the library
 
-module _ (s after : KernelState) (n : ℕ) (output : Output) (user : is_servers s n ≡ false) (awake : is_awake (slot_at s n).status ≡ true)
+module _ (disk : Option Disk) (s after : KernelState) (n : ℕ) (output : Output) (user : is_servers s n ≡ false) (awake : is_awake (slot_at s n).status ≡ true)
     (trap : Option TrapLine) (raised : Raises (place_of (slot_at s n)) n s trap after) where
-  step_whole : (did : Result Progress Failed) → IsLibraryStep did n s after output → Leaves did n s after → IsWholeStep did n s after output
-  step_whole (Ok done) step leaves = whole_step s after n output user awake (Ok done) (leaves.server, leaves.places) step
-  step_whole (Err failed) step leaves = whole_step s after n output user awake (Err failed) tt step
+  step_whole : (did : Result Progress Failed) → IsLibraryStep did n s after output → Leaves did n s after →
+      IsWholeStep did n (beside s disk) (beside after disk) output
+  step_whole (Ok done) step leaves = whole_step disk s after n output user awake (Ok done) (leaves.server, leaves.places) step
+  step_whole (Err failed) step leaves = whole_step disk s after n output user awake (Err failed) tt step
 
   step_rest : (did : Result Progress Failed) → Leaves did n s after → IfOk did (λ done. LeavesRest s after)
   step_rest (Ok done) leaves = leaves.rest
@@ -61,15 +69,16 @@ module _ (s after : KernelState) (n : ℕ) (output : Output) (user : is_servers 
 
   pub library_made : (did : Result Progress Failed) (last : Result StepOutcome Failed) → step_progress last ≡ did →
       IfOk last (λ stepped. stepped.trap ≡ trap) → IsLibraryStep did n s after output → Leaves did n s after → Lowers did n s after →
-      GivesUp did (slot_at s n) (slot_at after n) → IfOk did (λ done. TakesByPlace n s after) → MakesSteps n 0 last s after output
+      GivesUp did (slot_at s n) (slot_at after n) → IfOk did (λ done. TakesByPlace n s after) →
+      MakesSteps n 0 last (beside s disk) (beside after disk) output
   library_made did last told with_trap step leaves lowers gives_up takes =
-      made_alone s after n output did trap (raises_as (is_servers s n) s after n trap user raised) last told with_trap (step_whole did step leaves)
+      made_alone (beside s disk) (beside after disk) n output did trap (raises_as (is_servers s n) s after n trap user raised) last told with_trap (step_whole did step leaves)
       (step_rest did leaves)
       (leaves_as (is_servers s n) did s after n user (record { each = leaves; lowers = lowers; gives_up = gives_up; takes = takes }))
 
 -- ---- of the file server
 
-module _ (s after : KernelState) (n : ℕ) (output : Output) (server : is_servers s n ≡ true) where
+module _ (before behind : Option Disk) (s after : KernelState) (n : ℕ) (output : Output) (server : is_servers s n ≡ true) where
   raises_none : RaisesAs (is_servers s n) n s None after
   raises_none = by_test (is_servers s n) server
     where
@@ -91,7 +100,7 @@ module _ (s after : KernelState) (n : ℕ) (output : Output) (server : is_server
   server_rest (Err failed) disk files made = tt
 
   pub server_made : (did : Result Progress Failed) (last : Result StepOutcome Failed) → step_progress last ≡ did →
-      IfOk last (λ stepped. stepped.trap ≡ None) → IsWholeStep did n s after output → IfOk did (λ done. LeavesRest s after) →
-      (n ≡ 0 → LeavesServed did s after) → MakesSteps n 0 last s after output
+      IfOk last (λ stepped. stepped.trap ≡ None) → IsWholeStep did n (beside s before) (beside after behind) output →
+      IfOk did (λ done. LeavesRest s after) → (n ≡ 0 → LeavesServed did s after) → MakesSteps n 0 last (beside s before) (beside after behind) output
   server_made did last told no_trap step rest served =
-      made_alone s after n output did None raises_none last told no_trap step rest (served_as did served)
+      made_alone (beside s before) (beside after behind) n output did None raises_none last told no_trap step rest (served_as did served)

@@ -1,4 +1,5 @@
--- The pages of a program are loaded one after another, and after each its space has the pages that are loaded.
+-- The pages of a program are loaded one after another, and after each its space has the pages that are loaded, and what other spaces had they have
+-- still.
 use Rattle.std.proofs.Common.{◌≡◌, ◌≢◌, ◌∙◌, ◌<◌, ◌≤◌, ◌==◌, ◌⊎◌, inl, inr, ℕ, zero, suc, Bool, true, false, List, [], ◌∷◌, Option}
 use Rattle.std.proofs.Common.{Some, None}
 use Rattle.std.proofs.Common.{length, refl, sym, ap, subst, arith, if◌then◌else◌}
@@ -32,8 +33,8 @@ use Rattle.lib_os.proofs.UsesPlaced.{allocated_found}
 use Rattle.lib_spawn.specs.StackPage.{stack_contents, stack_size}
 use Rattle.jos_run.specs.Boot.{handler_page, handler_stack_loaded, program_loaded, stack_segment}
 use Rattle.jos_run.specs.Start.{first_memory, page_of, stack_of}
-use Rattle.jos_run.proofs.BootedPages.{HasPages, no_row, page_more}
-use Rattle.jos_run.proofs.FramesTaken.{AreBelow, Takes, allocated_entry, allocated_takes}
+use Rattle.jos_run.proofs.BootedPages.{HasPages, OthersKept, no_row, others_more, page_more}
+use Rattle.jos_run.proofs.FramesTaken.{AreBelow, Takes, allocated_entries, allocated_entry, allocated_takes}
 use Rattle.jos_run.proofs.PagesFilled.{filled_one_use}
 use Rattle.jos_run.proofs.StackLoaded.{stack-touched, stack-writes}
 use Rattle.jos_base.proofs.Maps.{upd-at, upd-other, upd-stays}
@@ -102,6 +103,7 @@ module _ (frames : ℕ) (base : KernelState) (live : is_live (slot_at base 1) �
   -- the space has these pages, and the frames are in order
   pub record Stage (memory : ℕ → Option Page) (t : SpacesState) : Type 0 where
     pub has : HasPages space memory t
+    pub others : OthersKept space base.spaces t
     pub in_order : IsInOrder (with_spaces base t)
     pub below : AreBelow t.free
     pub frames_are : t.frames ≡ frames
@@ -130,6 +132,7 @@ module _ (frames : ℕ) (base : KernelState) (live : is_live (slot_at base 1) �
     pub stage_next : (bytes : List ℕ) → Stage (upd memory number (Some (own bytes writable))) (with_page_bytes v f bytes)
     stage_next bytes = record {
       has = page_more h.has number f writable bytes made frame_is;
+      others = others_more h.others number f perm bytes made frame_is (allocated_entries t v space number perm f is);
       in_order = record {
         frames = filled_one_use v f bytes takes.one_use;
         spaces = spaces_kept t (with_page_bytes v f bytes) base.environments takes.directories h.in_order.spaces;

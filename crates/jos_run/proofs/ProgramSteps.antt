@@ -15,6 +15,7 @@ use Rattle.lib_os.specs.declared.place.Place.TheVariants as place
 use Rattle.lib_os.specs.declared.progress.Progress.{Progress}
 use Rattle.lib_os.specs.declared.progress.Progress.TheVariants as progress
 use Rattle.lib_os.specs.AbstractState.{AbstractState, Born, AbstractSlot, free, unborn, born, serving}
+use Rattle.lib_os.specs.Disk.{Disk}
 use Rattle.lib_os.specs.InOrder.{IsInOrder}
 use Rattle.lib_os.specs.AbstractRun.{abs_step}
 use Rattle.lib_os.specs.LibrarySteps.{Stands, GoesOn, IsLibraryStep, KeepsPlaces, KeepsServer, Lowers, hidden_left}
@@ -25,6 +26,7 @@ use Rattle.lib_os.specs.UserCalls.{Output, is_file_server}
 use Rattle.jos_run.specs.Guest.{Follows}
 use Rattle.jos_run.specs.GuestSteps.{guest_instruction, is_handed_over}
 use Rattle.jos_run.specs.ServerStands.{IsWholeStep}
+use Rattle.jos_run.specs.Worlds.{beside}
 use Rattle.jos_run.specs.Steps.{is_awake, is_servers, LeavesAs, LeavesByPlace, Raises, RaisesAs}
 use Rattle.jos_run.proofs.Choices.{serving_first}
 use Rattle.jos_run.proofs.WholeStands.{others_slot, whole_kept}
@@ -56,12 +58,12 @@ awake_born names s a h n other awake = by_slot (a.slots n) refl (h.slots n)
     by_slot (serving id) is k = absurd (other (sym (serving_first h n id k)))
 
 -- A step of another than the file server that keeps what the library's steps promise keeps the whole, where it leaves the file server what it has.
-pub whole_step : (s after : KernelState) (n : ℕ) (output : Output) → is_servers s n ≡ false → is_awake (slot_at s n).status ≡ true →
-    (did : Result Progress Failed) → IfOk did (λ done. KeepsServer n s after × KeepsPlaces n s after) → IsLibraryStep did n s after output →
-    IsWholeStep did n s after output
-whole_step s after n output user awake (Ok done) left h =
-    (h.0, h.1, whole_kept n s after done h.0 user (λ names a stands other. awake_born names s a stands n other awake) left.0 left.1 h.2)
-whole_step s after n output user awake (Err failed) left h = (h.0, h.1, λ a stands. h.2 a stands.0)
+pub whole_step : (disk : Option Disk) (s after : KernelState) (n : ℕ) (output : Output) → is_servers s n ≡ false →
+    is_awake (slot_at s n).status ≡ true → (did : Result Progress Failed) → IfOk did (λ done. KeepsServer n s after × KeepsPlaces n s after) →
+    IsLibraryStep did n s after output → IsWholeStep did n (beside s disk) (beside after disk) output
+whole_step disk s after n output user awake (Ok done) left h =
+    (h.0, h.1, whole_kept disk n s after done h.0 user (λ names a stands other. awake_born names s a stands n other awake) left.0 left.1 h.2)
+whole_step disk s after n output user awake (Err failed) left h = (h.0, h.1, λ a stands. h.2 a stands.0)
 
 module _ (s after : KernelState) (n : ℕ) (output : Output) (user : is_servers s n ≡ false) (awake : is_awake (slot_at s n).status ≡ true)
     (is_guest : place_of (slot_at s n) ≡ place.Guest) (small : SmallAtFault (slot_at s n).registers (instruction_step s n).event)

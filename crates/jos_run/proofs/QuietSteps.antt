@@ -25,6 +25,7 @@ use Rattle.lib_os.specs.declared.place.Place.TheVariants as place
 use Rattle.lib_os.specs.declared.progress.Progress.TheVariants as progress
 use Rattle.lib_os.specs.AbstractState.{AbstractState}
 use Rattle.lib_os.specs.Fence.{is_resident}
+use Rattle.lib_os.specs.Disk.{Disk}
 use Rattle.lib_os.specs.InOrder.{IsInOrder}
 use Rattle.lib_os.specs.LibrarySteps.{GoesOn, KeepsStanding, LeavesEach, NothingRefused}
 use Rattle.lib_os.specs.Need.{EachHasUse}
@@ -37,6 +38,7 @@ use Rattle.jos_run.specs.FencedMemory.{fenced_memory}
 use Rattle.jos_run.specs.GuestSteps.{quietly, service_entered, after_event, after_instruction, guest_instruction, is_copying}
 use Rattle.jos_run.specs.LibraryRuns.{IsInTurn}
 use Rattle.jos_run.specs.ServerStands.{KeepsWhole}
+use Rattle.jos_run.specs.Worlds.{beside}
 use Rattle.jos_run.specs.Steps.{is_awake, is_servers}
 use Rattle.jos_run.specs.StepsAtOnce.{GuestGoesOn}
 use Rattle.jos_run.proofs.Choices.{only_runs}
@@ -185,10 +187,10 @@ module _ (s after : KernelState) (n : ℕ) (is : guest_instruction s n ≡ quiet
       subst (λ (step : EnvStep). GoesOn n step.state a step.written) is
       (guest_goes_on h.0 s a n b.0 h.1 b.1 guest none.small none.seen (subst IsInOrder (sym state_is) (quiet_calm.in_order h.1.in_order)))
 
-  pub quiet_keeps : is_servers s n ≡ false → is_awake (slot_at s n).status ≡ true → place_of (slot_at s n) ≡ place.Guest →
-      KeepsWhole progress.Visible n s after []
-  quiet_keeps user awake guest =
-      whole_kept n s after progress.Visible [] user (λ names a stands other. awake_born names s a stands n other awake)
+  pub quiet_keeps : (disk : Option Disk) → is_servers s n ≡ false → is_awake (slot_at s n).status ≡ true → place_of (slot_at s n) ≡ place.Guest →
+      KeepsWhole progress.Visible n (beside s disk) (beside after disk) []
+  quiet_keeps disk user awake guest =
+      whole_kept disk n s after progress.Visible [] user (λ names a stands other. awake_born names s a stands n other awake)
       left.server left.places (quiet_stands user awake guest)
     where
       left : LeavesEach progress.Visible n s after
@@ -236,26 +238,26 @@ pub running_awake : (status : Status) → is_running status ≡ true → is_awak
 running_awake status runs = ap (λ (c : Bool). is_runnable status || c) runs ∙ or-true (is_runnable status)
 
 -- The abstract system has taken as many visible steps, and has printed nothing in them.
-pub quiet_in_turn : {schedule : List ℕ} {first : AbstractState} {turns : List Turn} {n : ℕ} {printed : List ℕ} (k visible : ℕ)
-    (s t : KernelState) → GuestGoesOn n k s t → IsInTurn schedule first turns n visible s printed →
+pub quiet_in_turn : {schedule : List ℕ} {first : AbstractState} {turns : List Turn} {n : ℕ} {printed : List ℕ} (disk : Option Disk) (k visible : ℕ)
+    (s t : KernelState) → GuestGoesOn n k s t → IsInTurn schedule first turns n visible (beside s disk) printed →
     (0 < k → (is_servers s n ≡ false) × (place_of (slot_at s n) ≡ place.Guest)) → is_running (slot_at s n).status ≡ true → s.last ≡ Some n →
-    s.refusals < 2 ^ 64 - 1 → IsInTurn schedule first turns n (visible + k) t printed
-quiet_in_turn {schedule = schedule} {first = first} {turns = turns} {n = n} {printed = printed} zero visible s t same h guest runs last few =
+    s.refusals < 2 ^ 64 - 1 → IsInTurn schedule first turns n (visible + k) (beside t disk) printed
+quiet_in_turn {schedule = schedule} {first = first} {turns = turns} {n = n} {printed = printed} disk zero visible s t same h guest runs last few =
     let none : visible ≡ visible + 0 = omega arith in
-    subst (λ (x : ℕ). IsInTurn schedule first turns n x t printed) none
-    (subst (λ (x : KernelState). IsInTurn schedule first turns n visible x printed) (sym same) h)
-quiet_in_turn {schedule = schedule} {first = first} {turns = turns} {n = n} {printed = printed} (suc k) visible s t g h guest runs last few =
+    subst (λ (x : ℕ). IsInTurn schedule first turns n x (beside t disk) printed) none
+    (subst (λ (x : KernelState). IsInTurn schedule first turns n visible (beside x disk) printed) (sym same) h)
+quiet_in_turn {schedule = schedule} {first = first} {turns = turns} {n = n} {printed = printed} disk (suc k) visible s t g h guest runs last few =
     let next = g.0 in
     let left = quiet_left s next n g.1 in
     let none_refused : NothingRefused s next = record { stays = left.refusals; could = few } in
     let who = guest (omega arith) in
-    let goes_on = quiet_keeps s next n g.1 who.0 (running_awake (slot_at s n).status runs) who.1 h.now h.stands none_refused in
-    let one : IsInTurn schedule first turns n (visible + 1) next printed =
-    subst (λ (l : List ℕ). IsInTurn schedule first turns n (visible + 1) next l) (append-nil printed)
+    let goes_on = quiet_keeps s next n g.1 disk who.0 (running_awake (slot_at s n).status runs) who.1 h.now h.stands none_refused in
+    let one : IsInTurn schedule first turns n (visible + 1) (beside next disk) printed =
+    subst (λ (l : List ℕ). IsInTurn schedule first turns n (visible + 1) (beside next disk) l) (append-nil printed)
     (step_visible [] h goes_on (only_runs goes_on.3.0.1 n (left.last ∙ last))) in
     let all : (visible + 1) + k ≡ visible + suc k = omega arith in
-    subst (λ (x : ℕ). IsInTurn schedule first turns n x t printed) all
-    (quiet_in_turn k (visible + 1) next t g.3 one (λ some. (still_user s next n g.1 who.0, g.2)) (ap (λ (x : Status). is_running x) (quiet_calm s next n g.1).status ∙ runs)
+    subst (λ (x : ℕ). IsInTurn schedule first turns n x (beside t disk) printed) all
+    (quiet_in_turn disk k (visible + 1) next t g.3 one (λ some. (still_user s next n g.1 who.0, g.2)) (ap (λ (x : Status). is_running x) (quiet_calm s next n g.1).status ∙ runs)
     (left.last ∙ last) (subst (λ (x : ℕ). x < 2 ^ 64 - 1) (sym left.refusals) few))
 
 -- Each frame that is handed out keeps a use.

@@ -24,6 +24,7 @@ use Rattle.jos_kernel.specs.declared.trace.TrapLine.{TrapLine}
 use Rattle.jos_kernel.specs.Books.{turn_of, made, HasRoom}
 use Rattle.jos_kernel.proofs.ToldBytes.{gains_none, gains_more}
 use Rattle.lib_os.specs.AbstractState.{AbstractState, AbstractSlot, can_run, can_run_as}
+use Rattle.lib_os.specs.Disk.{Disk}
 use Rattle.lib_os.specs.Rows.{Names}
 use Rattle.lib_os.specs.StandsFor.{StandsFor}
 use Rattle.lib_os.proofs.SlotsStand.{born_at}
@@ -37,6 +38,7 @@ use Rattle.jos_run.specs.RunReports.{HasEnded, CutOffBy, ToldBy, IsTold, IsToldC
 use Rattle.jos_run.specs.RunSteps.{traps_of, turns_with, end_at, HasGone}
 use Rattle.jos_run.specs.Running.{state_of, turns_so_far, Holds, StandsBy, RunsBy, Runs, IsChosen, Went, HasFailed}
 use Rattle.jos_run.specs.Running.{EndsBy, HasRunToEnd, report_of, cut_off_of}
+use Rattle.jos_run.specs.Worlds.{beside}
 use Rattle.jos_run.proofs.Advancing.{awake_running}
 use Rattle.jos_run.proofs.Choices.{any_live_stands, end_stands, ended_none, next_stands, runs_stand, only_first_serves}
 use Rattle.jos_run.proofs.RunsKept.{run_begins, between_fits, in_turn_ran, in_turn_fits, running_born}
@@ -63,33 +65,34 @@ next_other s n is other =
 -- ---- steps after steps
 
 -- none was made yet
-pub none_yet : (r : LibraryRun) (console : Option (List ℕ)) → Went 0 (from_to r r) (from_to console console)
-none_yet r console = record {
+pub none_yet : (r : LibraryRun) (disk : Option Disk) (console : Option (List ℕ)) → Went 0 (from_to r r) (from_to disk disk) (from_to console console)
+none_yet r disk console = record {
   printed = [];
   gains = gains_none console;
   steps_are = omega arith;
   schedule = refl;
   steps_made = [];
   long = refl;
-  lead = no_step (state_of r);
+  lead = no_step (beside (state_of r) disk);
   printed_are = sym none_written;
   turns = no_turn_more (turns_so_far r);
   kept = λ most traps is.
       is ∙ ap (λ (l : List TrapLine). buffer (keep_last most l) most)
       (sym (append-nil traps) ∙ ap (λ (l : List TrapLine). traps ++ l) (sym no_trap));
-  runs = λ first frames before h. subst (λ (l : List ℕ). Runs first frames r l) (sym (append-nil before)) h;
+  runs = λ first frames before h. subst (λ (l : List ℕ). Runs first frames disk r l) (sym (append-nil before)) h;
 }
 
-pub went_further : {steps more : ℕ} {r s t : LibraryRun} {a b c : Option (List ℕ)} → Went steps (from_to r s) (from_to a b) →
-    Went more (from_to s t) (from_to b c) → Went (steps + more) (from_to r t) (from_to a c)
-went_further {steps = steps} {more = more} {r = r} {s = s} {t = t} {a = a} {b = b} {c = c} v w = record {
+pub went_further : {steps more : ℕ} {r s t : LibraryRun} {d e f : Option Disk} {a b c : Option (List ℕ)} →
+    Went steps (from_to r s) (from_to d e) (from_to a b) → Went more (from_to s t) (from_to e f) (from_to b c) →
+    Went (steps + more) (from_to r t) (from_to d f) (from_to a c)
+went_further {steps = steps} {more = more} {r = r} {s = s} {t = t} {d = d} {e = e} {f = f} {a = a} {b = b} {c = c} v w = record {
   printed = v.printed ++ w.printed;
   gains = gains_more a b c v.printed w.printed v.gains w.gains;
   steps_are = omega (arith, v.steps_are, w.steps_are);
   schedule = w.schedule ∙ v.schedule;
   steps_made = v.steps_made ++ w.steps_made;
   long = length-append v.steps_made w.steps_made ∙ (λ i. v.long i + w.long i);
-  lead = lead_further v.steps_made w.steps_made (state_of r) (state_of s) (state_of t) v.lead w.lead;
+  lead = lead_further v.steps_made w.steps_made (beside (state_of r) d) (beside (state_of s) e) (beside (state_of t) f) v.lead w.lead;
   printed_are =
       (λ i. v.printed_are i ++ w.printed_are i) ∙ sym (written_further v.steps_made w.steps_made);
   turns = w.turns ∙ ap (λ (l : List Turn). turns_with l w.steps_made) v.turns
@@ -99,52 +102,55 @@ went_further {steps = steps} {more = more} {r = r} {s = s} {t = t} {a = a} {b = 
       ∙ ap (λ (l : List TrapLine). buffer (keep_last most l) most)
       (append_assoc traps (traps_of v.steps_made) (traps_of w.steps_made)
       ∙ ap (λ (l : List TrapLine). traps ++ l) (sym (traps_further v.steps_made w.steps_made)));
-  runs = λ first frames before h. subst (λ (l : List ℕ). Runs first frames t l) (append_assoc before v.printed w.printed)
+  runs = λ first frames before h. subst (λ (l : List ℕ). Runs first frames f t l) (append_assoc before v.printed w.printed)
       (w.runs first frames (before ++ v.printed) (v.runs first frames before h));
 }
 
 -- the host failed after steps that were made
-pub fails_further : {steps : ℕ} {r s t : LibraryRun} {a b c : Option (List ℕ)} → Went steps (from_to r s) (from_to a b) →
-    HasFailed (from_to s t) (from_to b c) → HasFailed (from_to r t) (from_to a c)
-fails_further {r = r} {s = s} {t = t} {a = a} {b = b} {c = c} v f = record {
-  printed = v.printed ++ f.printed;
-  gains = gains_more a b c v.printed f.printed v.gains f.gains;
+pub fails_further : {steps : ℕ} {r s t : LibraryRun} {d e f : Option Disk} {a b c : Option (List ℕ)} →
+    Went steps (from_to r s) (from_to d e) (from_to a b) → HasFailed (from_to s t) (from_to e f) (from_to b c) →
+    HasFailed (from_to r t) (from_to d f) (from_to a c)
+fails_further {r = r} {s = s} {t = t} {a = a} {b = b} {c = c} v x = record {
+  printed = v.printed ++ x.printed;
+  gains = gains_more a b c v.printed x.printed v.gains x.gains;
   cut_off = λ first frames before h.
       subst (λ (schedule : List ℕ). CutOffBy t.book.first_refused schedule first frames (turns_so_far t)
-      (before ++ (v.printed ++ f.printed))) v.schedule
+      (before ++ (v.printed ++ x.printed))) v.schedule
       (subst (λ (l : List ℕ). CutOffBy t.book.first_refused s.book.schedule first frames (turns_so_far t) l)
-      (append_assoc before v.printed f.printed)
-      (f.cut_off first frames (before ++ v.printed) (v.runs first frames before h)));
+      (append_assoc before v.printed x.printed)
+      (x.cut_off first frames (before ++ v.printed) (v.runs first frames before h)));
 }
 
 -- ---- the end
 
 -- Between two turns the end tests tell it.
-between_end : (r : LibraryRun) (spent : Bool) (end : End) → made r.book ≡ 0 → end_seen (state_of r) (vec_len r.book.turns) spent ≡ Some end →
-    (first : AbstractState) (frames : ℕ) (printed : List ℕ) → Runs first frames r printed →
-    EndsBy r.book.first_refused first spent r printed end
-between_end r spent end none seen first frames printed = by_first r.book.first_refused
+between_end : (r : LibraryRun) (disk : Option Disk) (spent : Bool) (end : End) → made r.book ≡ 0 →
+    end_seen (state_of r) (vec_len r.book.turns) spent ≡ Some end →
+    (first : AbstractState) (frames : ℕ) (printed : List ℕ) → Runs first frames disk r printed →
+    EndsBy r.book.first_refused first spent disk r printed end
+between_end r disk spent end none seen first frames printed = by_first r.book.first_refused
   where
     test : true ≡ (made r.book == 0)
     test = grind (arith, nat_tests)
 
-    told : IsBetween r.book.schedule first r.book.turns.items (state_of r) printed →
-        HasEnded r.book.schedule first r.book.turns.items printed spent end
+    told : IsBetween r.book.schedule first r.book.turns.items (beside (state_of r) disk) printed →
+        HasEnded r.book.schedule first r.book.turns.items printed spent (beside (state_of r) disk) end
     told h = record {
       now = h.now;
+      stands = h.stands;
       taken = record { ran = h.ran; fit = between_fits h; console = h.console };
       whole = λ other. h.fit;
       over = ap (λ (k : ℕ). end_of h.now k spent) (sym r.book.turns.ok.0)
           ∙ end_stands h.stands.0.1 h.none (only_first_serves h.stands.0.1) (vec_len r.book.turns) spent ∙ seen;
     }
 
-    by_made : (c : Bool) → true ≡ c → StandsBy c r.book.schedule first r printed →
+    by_made : (c : Bool) → true ≡ c → StandsBy c r.book.schedule first disk r printed →
         HasEnded r.book.schedule first (if c then r.book.turns.items else r.book.turns.items ++ turn_of r.served.slot r.book.visible r.book.hidden ∷ [])
-        printed spent end
+        printed spent (beside (state_of r) disk) end
     by_made true is h = told h
     by_made false is h = absurd (let contradiction : true ≡ false = is in cc)
 
-    by_first : (o : Option Refusal) → RunsBy o first frames r printed → EndsBy o first spent r printed end
+    by_first : (o : Option Refusal) → RunsBy o first frames disk r printed → EndsBy o first spent disk r printed end
     by_first None h = by_made (made r.book == 0) test h.stands
     by_first (Some refusal) h = tt
 
@@ -205,23 +211,25 @@ spent_end a turns live ready =
     ∙ ap (λ (c : Bool). if c then Some Stuck else Some Budget) ready
 
 -- Where the steps are used up in a turn, it is the budget that ends the run.
-in_turn_end : (r : LibraryRun) → Holds r → 0 < made r.book →
-    (first : AbstractState) (frames : ℕ) (printed : List ℕ) → Runs first frames r printed →
-    EndsBy r.book.first_refused first true r printed Budget
-in_turn_end r holds some first frames printed = by_first r.book.first_refused
+in_turn_end : (r : LibraryRun) (disk : Option Disk) → Holds r → 0 < made r.book →
+    (first : AbstractState) (frames : ℕ) (printed : List ℕ) → Runs first frames disk r printed →
+    EndsBy r.book.first_refused first true disk r printed Budget
+in_turn_end r disk holds some first frames printed = by_first r.book.first_refused
   where
     test : false ≡ (made r.book == 0)
     test = grind (arith, nat_tests)
 
     told : (r.served.slot ≡ 0 → others_live (state_of r) ≡ true) →
-        IsInTurn r.book.schedule first r.book.turns.items r.served.slot r.book.visible (state_of r) printed →
-        HasEnded r.book.schedule first (r.book.turns.items ++ turn_of r.served.slot r.book.visible r.book.hidden ∷ []) printed true Budget
+        IsInTurn r.book.schedule first r.book.turns.items r.served.slot r.book.visible (beside (state_of r) disk) printed →
+        HasEnded r.book.schedule first (r.book.turns.items ++ turn_of r.served.slot r.book.visible r.book.hidden ∷ []) printed true
+        (beside (state_of r) disk) Budget
     told others h =
         let left : made r.book < quantum r.book.schedule (length r.book.turns.items) = holds.left some in
         let within : r.served.slot < NENV = holds.last r.served.slot (holds.current some) in
         let runs = holds.running some in
         record {
           now = h.now;
+          stands = h.stands;
           taken = record { ran = in_turn_ran h r.book.hidden; fit = in_turn_fits h r.book.hidden some (omega arith); console = h.console };
           whole = λ other. absurd (other refl);
           over = spent_end h.now (length (r.book.turns.items ++ turn_of r.served.slot r.book.visible r.book.hidden ∷ []))
@@ -229,13 +237,13 @@ in_turn_end r holds some first frames printed = by_first r.book.first_refused
               (goes_on_next h.stands.0.1 r.served.slot within holds.last h.only runs);
         }
 
-    by_made : (c : Bool) → false ≡ c → (r.served.slot ≡ 0 → others_live (state_of r) ≡ true) → StandsBy c r.book.schedule first r printed →
+    by_made : (c : Bool) → false ≡ c → (r.served.slot ≡ 0 → others_live (state_of r) ≡ true) → StandsBy c r.book.schedule first disk r printed →
         HasEnded r.book.schedule first (if c then r.book.turns.items else r.book.turns.items ++ turn_of r.served.slot r.book.visible r.book.hidden ∷ [])
-        printed true Budget
+        printed true (beside (state_of r) disk) Budget
     by_made true is others h = absurd (let contradiction : false ≡ true = is in cc)
     by_made false is others h = told others h
 
-    by_first : (o : Option Refusal) → RunsBy o first frames r printed → EndsBy o first true r printed Budget
+    by_first : (o : Option Refusal) → RunsBy o first frames disk r printed → EndsBy o first true disk r printed Budget
     by_first None h = by_made (made r.book == 0) test (λ is_first. h.others some is_first) h.stands
     by_first (Some refusal) h = tt
 
@@ -259,32 +267,32 @@ stops_between r holds spent end none seen =
     ∙ ap (λ (k : ℕ). end_seen (state_of r) k spent) told ∙ seen
 
 -- An end test holds while steps are left.
-pub on_end : {budget left : ℕ} {r t : LibraryRun} {a b : Option (List ℕ)} → Went (budget - left) (from_to r t) (from_to a b) →
-    0 < left → left ≤ budget → Holds t →
+pub on_end : {budget left : ℕ} {r t : LibraryRun} {d e : Option Disk} {a b : Option (List ℕ)} →
+    Went (budget - left) (from_to r t) (from_to d e) (from_to a b) → 0 < left → left ≤ budget → Holds t →
     (end : End) → made t.book ≡ 0 → end_seen (state_of t) (vec_len t.book.turns) false ≡ Some end →
-    HasRunToEnd budget (Ok end) (from_to r t) (from_to a b)
-on_end {budget = budget} {left = left} {t = t} went some within holds end none seen =
+    HasRunToEnd budget (Ok end) (from_to r t) (from_to d e) (from_to a b)
+on_end {budget = budget} {left = left} {t = t} {e = e} went some within holds end none seen =
     let test : false ≡ (budget - left == budget) = grind (arith, nat_tests) in (
       budget - left,
       omega arith,
       went,
-      λ first frames before h. subst (λ (spent : Bool). EndsBy t.book.first_refused first spent t (before ++ went.printed) end) test
-          (between_end t false end none seen first frames (before ++ went.printed) (went.runs first frames before h)),
+      λ first frames before h. subst (λ (spent : Bool). EndsBy t.book.first_refused first spent e t (before ++ went.printed) end) test
+          (between_end t e false end none seen first frames (before ++ went.printed) (went.runs first frames before h)),
       subst (λ (spent : Bool). end_at (state_of t) (length (turns_so_far t)) spent ≡ Some end) test
           (stops_between t holds false end none seen),
     )
 
 -- The steps are used up.
-pub on_budget : {budget left : ℕ} {r t : LibraryRun} {a b : Option (List ℕ)} → Went (budget - left) (from_to r t) (from_to a b) →
-    left ≡ 0 →
+pub on_budget : {budget left : ℕ} {r t : LibraryRun} {d e : Option Disk} {a b : Option (List ℕ)} →
+    Went (budget - left) (from_to r t) (from_to d e) (from_to a b) → left ≡ 0 →
     Holds t → (end : End) → (made t.book ≡ 0 → end_seen (state_of t) (vec_len t.book.turns) true ≡ Some end) → (0 < made t.book → end ≡ Budget) →
-    HasRunToEnd budget (Ok end) (from_to r t) (from_to a b)
-on_budget {budget = budget} {left = left} {t = t} went none holds end between in_turn =
+    HasRunToEnd budget (Ok end) (from_to r t) (from_to d e) (from_to a b)
+on_budget {budget = budget} {left = left} {t = t} {e = e} went none holds end between in_turn =
     let test : true ≡ (budget - left == budget) = grind (arith, nat_tests) in (
       budget - left,
       omega arith,
       went,
-      λ first frames before h. subst (λ (spent : Bool). EndsBy t.book.first_refused first spent t (before ++ went.printed) end) test
+      λ first frames before h. subst (λ (spent : Bool). EndsBy t.book.first_refused first spent e t (before ++ went.printed) end) test
           (by_made (made t.book == 0) refl first frames (before ++ went.printed) (went.runs first frames before h)),
       subst (λ (spent : Bool). end_at (state_of t) (length (turns_so_far t)) spent ≡ Some end) test (stops (made t.book == 0) refl),
     )
@@ -295,25 +303,26 @@ on_budget {budget = budget} {left = left} {t = t} went none holds end between in
         end_in_turn (state_of t) (length (turns_so_far t)) t.served.slot (holds.current (some_made t is)) (holds.running (some_made t is))
         ∙ ap (λ (e : End). Some e) (sym (in_turn (some_made t is)))
 
-    by_made : (c : Bool) → (made t.book == 0) ≡ c → (first : AbstractState) (frames : ℕ) (printed : List ℕ) → Runs first frames t printed →
-        EndsBy t.book.first_refused first true t printed end
+    by_made : (c : Bool) → (made t.book == 0) ≡ c → (first : AbstractState) (frames : ℕ) (printed : List ℕ) → Runs first frames e t printed →
+        EndsBy t.book.first_refused first true e t printed end
     by_made true is first frames printed h =
-        between_end t true end (none_made t is) (between (none_made t is)) first frames printed h
+        between_end t e true end (none_made t is) (between (none_made t is)) first frames printed h
     by_made false is first frames printed h =
-        subst (λ (e : End). EndsBy t.book.first_refused first true t printed e) (sym (in_turn (some_made t is)))
-        (in_turn_end t holds (some_made t is) first frames printed h)
+        subst (λ (x : End). EndsBy t.book.first_refused first true e t printed x) (sym (in_turn (some_made t is)))
+        (in_turn_end t e holds (some_made t is) first frames printed h)
 
 -- ---- what is told
 
 -- A run has not begun to make steps.
 pub begins : (r : LibraryRun) → r.book.turns.items ≡ [] → made r.book ≡ 0 → r.book.first_refused ≡ None → r.served.written ≡ 0 →
-    (first : AbstractState) (frames : ℕ) → StandsWhole (state_of r) first → IsNew (state_of r) frames → Runs first frames r []
-begins r empty none quiet written first frames stands h =
+    (first : AbstractState) (frames : ℕ) (disk : Option Disk) → StandsWhole (beside (state_of r) disk) first → IsNew (state_of r) frames →
+    Runs first frames disk r []
+begins r empty none quiet written first frames disk stands h =
     let test : true ≡ (made r.book == 0) = grind (arith, nat_tests) in
-    subst (λ (o : Option Refusal). RunsBy o first frames r []) (sym quiet) (record {
-      stands = subst (λ (c : Bool). StandsBy c r.book.schedule first r []) test
-          (subst (λ (turns : List Turn). IsBetween r.book.schedule first turns (state_of r) []) (sym empty)
-          (run_begins r.book.schedule first (state_of r) stands h.none_runs));
+    subst (λ (o : Option Refusal). RunsBy o first frames disk r []) (sym quiet) (record {
+      stands = subst (λ (c : Bool). StandsBy c r.book.schedule first disk r []) test
+          (subst (λ (turns : List Turn). IsBetween r.book.schedule first turns (beside (state_of r) disk) []) (sym empty)
+          (run_begins r.book.schedule first (beside (state_of r) disk) stands h.none_runs));
       quiet = h.refusals;
       frames_are = h.frames_are;
       used = h.used;
@@ -330,15 +339,15 @@ turns_within r h = subst (λ (n : ℕ). n ≤ TURN_MAX) (sym (turns_are r)) (by_
     by_test false is = let below : vec_len r.book.turns < TURN_MAX = h.place (some_made r is) in omega (arith, below)
 
 -- What the kernel has gone through.
-gone_whole : {budget : ℕ} {r t : LibraryRun} {a b : Option (List ℕ)} (end : End) (most : ℕ) →
-    (ran : HasRunToEnd budget (Ok end) (from_to r t) (from_to a b)) → r.book.steps ≡ 0 → r.book.trace ≡ buffer [] most → turns_so_far r ≡ [] → Holds t →
-    HasGone (state_of r) budget most (report_of t end) t.book.trace.items ran.2.printed
+gone_whole : {budget : ℕ} {r t : LibraryRun} {d e : Option Disk} {a b : Option (List ℕ)} (end : End) (most : ℕ) →
+    (ran : HasRunToEnd budget (Ok end) (from_to r t) (from_to d e) (from_to a b)) → r.book.steps ≡ 0 → r.book.trace ≡ buffer [] most →
+    turns_so_far r ≡ [] → Holds t →
+    HasGone (beside (state_of r) d) (beside (state_of t) e) budget most (report_of t end) t.book.trace.items ran.2.printed
 gone_whole {budget = budget} {r = r} {t = t} end most ran none empty no_turns holds =
     let went = ran.2 in
     let steps : t.book.steps ≡ ran.0 = (let all : t.book.steps ≡ r.book.steps + ran.0 = went.steps_are in omega arith) in
     record {
       steps = went.steps_made;
-      now = state_of t;
       lead = went.lead;
       steps_are = steps ∙ sym went.long;
       turns = went.turns ∙ ap (λ (l : List Turn). turns_with l went.steps_made) no_turns;
@@ -352,12 +361,14 @@ gone_whole {budget = budget} {r = r} {t = t} end most ran none empty no_turns ho
     }
 
 -- The report of a run that has ended by itself.
-pub told_whole : {budget : ℕ} {r t : LibraryRun} {a b : Option (List ℕ)} (end : End) (most : ℕ) →
-    HasRunToEnd budget (Ok end) (from_to r t) (from_to a b) → r.book.steps ≡ 0 → r.book.trace ≡ buffer [] most → turns_so_far r ≡ [] → Holds t →
-    (first : AbstractState) (frames : ℕ) → Runs first frames r [] →
-    (printed : List ℕ) × Gains (from_to a b) printed × IsTold r.book.schedule first frames budget (report_of t end) printed
-    × HasGone (state_of r) budget most (report_of t end) t.book.trace.items printed
-told_whole {budget = budget} {r = r} {t = t} end most ran none empty no_turns holds first frames h =
+pub told_whole : {budget : ℕ} {r t : LibraryRun} {d e : Option Disk} {a b : Option (List ℕ)} (end : End) (most : ℕ) →
+    HasRunToEnd budget (Ok end) (from_to r t) (from_to d e) (from_to a b) → r.book.steps ≡ 0 → r.book.trace ≡ buffer [] most →
+    turns_so_far r ≡ [] → Holds t → (frames : ℕ) →
+    ((first : AbstractState) → StandsWhole (beside (state_of r) d) first → Runs first frames d r []) →
+    (printed : List ℕ) × Gains (from_to a b) printed
+    × IsTold r.book.schedule (StandsWhole (beside (state_of r) d)) frames budget (report_of t end) printed (beside (state_of t) e)
+    × HasGone (beside (state_of r) d) (beside (state_of t) e) budget most (report_of t end) t.book.trace.items printed
+told_whole {budget = budget} {r = r} {t = t} {d = d} {e = e} end most ran none empty no_turns holds frames h =
     let went = ran.2 in
     let within : ran.0 ≤ budget = ran.1 in
     let steps : t.book.steps ≡ ran.0 = (let all : t.book.steps ≡ r.book.steps + ran.0 = went.steps_are in omega arith) in (
@@ -367,12 +378,12 @@ told_whole {budget = budget} {r = r} {t = t} end most ran none empty no_turns ho
         steps = holds.steps;
         within = omega arith;
         spent = λ is. spent_all steps (budget_spent (state_of t) (length (turns_so_far t)) (ran.0 == budget)
-            (ran.4 ∙ ap (λ (e : End). Some e) is));
+            (ran.4 ∙ ap (λ (x : End). Some x) is));
         most = turns_within t holds.has_room;
         closing = refl;
-        by_refusal = subst (λ (schedule : List ℕ). ToldBy t.book.first_refused schedule first frames budget (report_of t end)
-            went.printed) went.schedule
-            (by_first steps t.book.first_refused (went.runs first frames [] h) (ran.3 first frames [] h));
+        by_refusal = λ first stands. subst (λ (schedule : List ℕ). ToldBy t.book.first_refused schedule first frames budget (report_of t end)
+            went.printed (beside (state_of t) e)) went.schedule
+            (by_first first steps t.book.first_refused (went.runs first frames [] (h first stands)) (ran.3 first frames [] (h first stands)));
       },
       gone_whole end most ran none empty no_turns holds,
     )
@@ -380,18 +391,21 @@ told_whole {budget = budget} {r = r} {t = t} end most ran none empty no_turns ho
     spent_all : t.book.steps ≡ ran.0 → (ran.0 == budget) ≡ true → t.book.steps ≡ budget
     spent_all steps spent = grind (arith, nat_tests)
 
-    by_first : t.book.steps ≡ ran.0 → (o : Option Refusal) → RunsBy o first frames t ran.2.printed →
-        EndsBy o first (ran.0 == budget) t ran.2.printed end →
-        ToldBy o t.book.schedule first frames budget (report_of t end) ran.2.printed
-    by_first steps None runs ends =
-        (runs.quiet, subst (λ (n : ℕ). HasEnded t.book.schedule first (turns_so_far t) ran.2.printed (n == budget) end) (sym steps) ends)
-    by_first steps (Some refusal) runs ends = runs
+    by_first : (first : AbstractState) → t.book.steps ≡ ran.0 → (o : Option Refusal) → RunsBy o first frames e t ran.2.printed →
+        EndsBy o first (ran.0 == budget) e t ran.2.printed end →
+        ToldBy o t.book.schedule first frames budget (report_of t end) ran.2.printed (beside (state_of t) e)
+    by_first first steps None runs ends = (
+      runs.quiet,
+      subst (λ (n : ℕ). HasEnded t.book.schedule first (turns_so_far t) ran.2.printed (n == budget) (beside (state_of t) e) end) (sym steps) ends,
+    )
+    by_first first steps (Some refusal) runs ends = runs
 
 -- What is told of one that was cut off.
-pub told_cut_off : {r t : LibraryRun} {a b : Option (List ℕ)} → HasFailed (from_to r t) (from_to a b) → HasRoom t.book →
-    (first : AbstractState) (frames : ℕ) → Runs first frames r [] → IsToldCutOff r.book.schedule first frames (cut_off_of t) (from_to a b)
-told_cut_off {t = t} failed room first frames h =
-    (failed.printed, failed.gains, failed.cut_off first frames [] h, turns_within t room)
+pub told_cut_off : {r t : LibraryRun} {d e : Option Disk} {a b : Option (List ℕ)} → HasFailed (from_to r t) (from_to d e) (from_to a b) →
+    HasRoom t.book → (frames : ℕ) → ((first : AbstractState) → StandsWhole (beside (state_of r) d) first → Runs first frames d r []) →
+    IsToldCutOff r.book.schedule (StandsWhole (beside (state_of r) d)) frames (cut_off_of t) (from_to a b)
+told_cut_off {t = t} failed room frames h =
+    (failed.printed, failed.gains, (λ first stands. failed.cut_off first frames [] (h first stands)), turns_within t room)
 
 -- ---- the next step
 

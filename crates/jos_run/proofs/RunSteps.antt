@@ -18,18 +18,19 @@ use Rattle.lib_os.specs.declared.progress.Progress.{Progress}
 use Rattle.jos_kernel.proofs.TrapsKept.{kept_more}
 use Rattle.lib_os.proofs.Slots.{slot_put}
 use Rattle.jos_run.specs.LibraryRuns.{visible_steps, hidden_steps, others_live, end_seen}
+use Rattle.jos_run.specs.Worlds.{World}
 use Rattle.jos_run.specs.RunSteps.{StepMade, passed, LeadTo, one_if, traps_of, written_in, with_step, with_last_step, counted_in, turns_with, is_in_turn, end_at}
 
 -- ---- one behind the other
 
-pub no_step : (s : KernelState) → LeadTo [] s s
+pub no_step : (w : World) → LeadTo [] w w
 unfolding LeadTo
-no_step s = refl
+no_step w = refl
 
-pub lead_further : (steps more : List StepMade) (s t u : KernelState) → LeadTo steps s t → LeadTo more t u → LeadTo (steps ++ more) s u
+pub lead_further : (steps more : List StepMade) (u v w : World) → LeadTo steps u v → LeadTo more v w → LeadTo (steps ++ more) u w
 unfolding LeadTo
-lead_further [] more s t u same h = subst (λ (x : KernelState). LeadTo more x u) (sym same) h
-lead_further (step ∷ rest) more s t u h k = (h.0, lead_further rest more (passed step) t u h.1 k)
+lead_further [] more u v w same h = subst (λ (x : World). LeadTo more x w) (sym same) h
+lead_further (step ∷ rest) more u v w h k = (h.0, lead_further rest more (passed step) v w h.1 k)
 
 -- ---- traps
 

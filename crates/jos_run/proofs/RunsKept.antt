@@ -26,17 +26,19 @@ use Rattle.lib_os.specs.declared.service.Service.TheVariants as service
 use Rattle.lib_os.specs.AbstractState.{AbstractState, Born, AbstractSlot, free, unborn, born, idle, serving, Stage, entered, guest, Phase, in_service, can_run, is_idle}
 use Rattle.lib_os.specs.AbstractRun.{abs_step, program_step, slot_step}
 use Rattle.lib_os.specs.LibraryCall.{library_step}
-use Rattle.lib_os.specs.LibrarySteps.{NothingRefused, is_pausing, is_yield}
+use Rattle.lib_os.specs.LibrarySteps.{NothingRefused, Stands, is_pausing, is_yield}
 use Rattle.lib_os.specs.Places.{place_of}
 use Rattle.lib_os.specs.LibraryPages.{View}
 use Rattle.lib_os.specs.Rows.{Names}
 use Rattle.lib_os.specs.StandsFor.{StandsFor, StandsForSlot, StandsAt, StandsAtStep, IsStatusFor, view_of}
+use Rattle.lib_os.specs.Disk.{Disk}
 use Rattle.lib_os.proofs.SlotsStand.{born_at}
 use Rattle.lib_os.proofs.StatesStand.{turn_begun_stands, turn_ended_stands}
 use Rattle.jos_run.specs.AbstractTurns.{turn_begun, steps_taken, abs_run, asks, asks_behind, waits_in, stands_waiting}
 use Rattle.jos_run.specs.AbstractTurns.{yields_in, is_yielding, has_yielded, has_yielded_after, may_end, turn_fits, fits, all_fit}
 use Rattle.jos_run.specs.LibraryRuns.{NoneRuns, OnlyRuns, IsBetween, IsInTurn, visible_steps}
-use Rattle.jos_run.specs.ServerStands.{KeepsWhole, StandsWhole, WholeGoesOn, WholeStays}
+use Rattle.jos_run.specs.ServerStands.{KeepsWhole, ServesOver, StandsWhole, WholeGoesOn, WholeStays}
+use Rattle.jos_run.specs.Worlds.{World, with_state}
 use Rattle.jos_run.proofs.Choices.{runs_stand, serving_first, next_stands, begun_only, ended_none}
 use Rattle.jos_run.proofs.ServerTurns.{awake_serves, server_begun_stands}
 use Rattle.jos_run.proofs.TurnsTaken.{run_with_turn, taken_is, no_steps, one_more_step, all_fit_append, fits_append, all_fit_fits}
@@ -46,10 +48,10 @@ use Rattle.std.proofs.Math.Bool.{or-true}
 -- ---- the beginning
 
 -- before the first turn
-pub run_begins : (schedule : List ℕ) (first : AbstractState) (s : KernelState) → StandsWhole s first → NoneRuns s →
-    IsBetween schedule first [] s []
+pub run_begins : (schedule : List ℕ) (first : AbstractState) (w : World) → StandsWhole w first → NoneRuns w.state →
+    IsBetween schedule first [] w []
 unfolding abs_run all_fit
-run_begins schedule first s h none = record {
+run_begins schedule first w h none = record {
   now = first;
   ran = refl;
   stands = h;
@@ -90,32 +92,42 @@ begun_stands h none n (environment b at awake) = turn_begun_stands h n b at awak
 begun_stands {names = names} {s = s} {a = a} h none n (server first busy_now) =
     subst (λ (m : ℕ). StandsFor names (kernel.turn_begun s m) (turn_begun a m)) first (server_begun_stands h busy_now none)
 
+-- the file server stands as it stood
+pub serves_begun : (disk : Option Disk) (s : KernelState) (n : ℕ) (a : AbstractState) → Stands s a → Stands (kernel.turn_begun s n) (turn_begun a n) →
+    ServesOver disk s a → ServesOver disk (kernel.turn_begun s n) (turn_begun a n)
+serves_begun None s n a before behind h = h
+serves_begun (Some d) s n a before behind h = begun_server d s n a before behind h
+
+pub serves_ended : (disk : Option Disk) (s : KernelState) (n : ℕ) (a : AbstractState) → Stands s a → Stands (kernel.turn_ended s n) a →
+    ServesOver disk s a → ServesOver disk (kernel.turn_ended s n) a
+serves_ended None s n a before behind h = h
+serves_ended (Some d) s n a before behind h = ended_server d s n a before behind h
+
 -- the turn of the slot that the kernel chooses
-unfoldable pub turn_begins : {schedule : List ℕ} {first : AbstractState} {turns : List Turn} {s : KernelState} {written : List ℕ} →
-    IsBetween schedule first turns s written → (n : ℕ) → next s.environments s.last ≡ Some n →
-    IsInTurn schedule first turns n 0 (kernel.turn_begun s n) written
-turn_begins {s = s} h n chosen =
+unfoldable pub turn_begins : {schedule : List ℕ} {first : AbstractState} {turns : List Turn} {w : World} {written : List ℕ} →
+    IsBetween schedule first turns w written → (n : ℕ) → next w.state.environments w.state.last ≡ Some n →
+    IsInTurn schedule first turns n 0 (with_state w (kernel.turn_begun w.state n)) written
+turn_begins {w = w} h n chosen =
     let stands = h.stands.0.1 in
+    let begun : Stands (kernel.turn_begun w.state n) (turn_begun h.now n) =
+    (h.stands.0.0, begun_stands stands h.none n (runnable_who stands n (next_runs w.state.environments w.state.last n chosen).1)) in
     record {
       before = h.now;
       ran = h.ran;
       chosen = sym (next_stands stands h.none) ∙ chosen;
       now = turn_begun h.now n;
       taken = no_steps (turn_begun h.now n) n;
-      stands = (
-        (h.stands.0.0, begun_stands stands h.none n (runnable_who stands n (next_runs s.environments s.last n chosen).1)),
-        begun_server s n h.now h.stands.1,
-      );
+      stands = (begun, serves_begun w.disk w.state n h.now h.stands.0 begun h.stands.1);
       console = h.console;
-      only = begun_only s n h.none;
+      only = begun_only w.state n h.none;
       fit = h.fit;
     }
 
 -- ---- a step
 
 -- one that nobody sees
-unfoldable pub step_hidden : {schedule : List ℕ} {first : AbstractState} {turns : List Turn} {n visible : ℕ} {s after : KernelState}
-    {written : List ℕ} (bytes : List ℕ) → (h : IsInTurn schedule first turns n visible s written) → WholeStays after h.now bytes → OnlyRuns after n →
+unfoldable pub step_hidden : {schedule : List ℕ} {first : AbstractState} {turns : List Turn} {n visible : ℕ} {w after : World}
+    {written : List ℕ} (bytes : List ℕ) → (h : IsInTurn schedule first turns n visible w written) → WholeStays after h.now bytes → OnlyRuns after.state n →
     IsInTurn schedule first turns n (visible + 0) after (written ++ bytes)
 step_hidden {first = first} {n = n} {visible = visible} {written = written} bytes h stays only = record {
   before = h.before;
@@ -130,8 +142,9 @@ step_hidden {first = first} {n = n} {visible = visible} {written = written} byte
 }
 
 -- one that is a step of the abstract system
-unfoldable pub step_visible : {schedule : List ℕ} {first : AbstractState} {turns : List Turn} {n visible : ℕ} {s after : KernelState}
-    {written : List ℕ} (bytes : List ℕ) → (h : IsInTurn schedule first turns n visible s written) → WholeGoesOn n after h.now bytes → OnlyRuns after n →
+unfoldable pub step_visible : {schedule : List ℕ} {first : AbstractState} {turns : List Turn} {n visible : ℕ} {w after : World}
+    {written : List ℕ} (bytes : List ℕ) → (h : IsInTurn schedule first turns n visible w written) → WholeGoesOn n after h.now bytes →
+    OnlyRuns after.state n →
     IsInTurn schedule first turns n (visible + 1) after (written ++ bytes)
 step_visible {first = first} {n = n} {visible = visible} {written = written} bytes h goes_on only = record {
   before = h.before;
@@ -146,9 +159,9 @@ step_visible {first = first} {n = n} {visible = visible} {written = written} byt
 }
 
 -- whatever the step has come to
-pub step_kept : {schedule : List ℕ} {first : AbstractState} {turns : List Turn} {n visible : ℕ} {s after : KernelState}
-    {written : List ℕ} (bytes : List ℕ) → IsInTurn schedule first turns n visible s written → (progress : Progress) →
-    KeepsWhole progress n s after bytes → NothingRefused s after → OnlyRuns after n →
+pub step_kept : {schedule : List ℕ} {first : AbstractState} {turns : List Turn} {n visible : ℕ} {w after : World}
+    {written : List ℕ} (bytes : List ℕ) → IsInTurn schedule first turns n visible w written → (progress : Progress) →
+    KeepsWhole progress n w after bytes → NothingRefused w.state after.state → OnlyRuns after.state n →
     IsInTurn schedule first turns n (visible + visible_steps progress) after (written ++ bytes)
 step_kept bytes h progress.Hidden keeps none_refused only = step_hidden bytes h (keeps h.now h.stands none_refused) only
 step_kept bytes h progress.Waited keeps none_refused only = step_hidden bytes h (keeps h.now h.stands none_refused).0 only
@@ -158,18 +171,19 @@ step_kept bytes h progress.Ended keeps none_refused only = step_visible bytes h 
 
 -- ---- a turn ends
 
-pub turn_ends : {schedule : List ℕ} {first : AbstractState} {turns : List Turn} {n visible : ℕ} {s : KernelState} {written : List ℕ} →
-    (h : IsInTurn schedule first turns n visible s written) → (hidden : ℕ) →
+pub turn_ends : {schedule : List ℕ} {first : AbstractState} {turns : List Turn} {n visible : ℕ} {w : World} {written : List ℕ} →
+    (h : IsInTurn schedule first turns n visible w written) → (hidden : ℕ) →
     turn_fits schedule (length turns) false h.before (turn_of n visible hidden) h.now ≡ true →
-    IsBetween schedule first (turns ++ turn_of n visible hidden ∷ []) (kernel.turn_ended s n) written
-turn_ends {schedule = schedule} {first = first} {turns = turns} {n = n} {visible = visible} {s = s} h hidden fit =
+    IsBetween schedule first (turns ++ turn_of n visible hidden ∷ []) (with_state w (kernel.turn_ended w.state n)) written
+turn_ends {schedule = schedule} {first = first} {turns = turns} {n = n} {visible = visible} {w = w} h hidden fit =
     let same : length turns ≡ 0 + length turns = omega arith in
+    let ended : Stands (kernel.turn_ended w.state n) h.now = (h.stands.0.0, turn_ended_stands h.stands.0.1 n) in
     record {
       now = h.now;
       ran = run_with_turn first h.before h.now turns n visible hidden h.ran h.chosen h.taken;
-      stands = ((h.stands.0.0, turn_ended_stands h.stands.0.1 n), ended_server s n h.now h.stands.1);
+      stands = (ended, serves_ended w.disk w.state n h.now h.stands.0 ended h.stands.1);
       console = h.console;
-      none = ended_none s n h.only;
+      none = ended_none w.state n h.only;
       fit = all_fit_append schedule 0 first h.before h.now turns (turn_of n visible hidden) h.fit h.ran
           (taken_is h.before n visible hidden h.chosen ∙ h.taken)
           (subst (λ (k : ℕ). turn_fits schedule k false h.before (turn_of n visible hidden) h.now ≡ true) same fit);
@@ -289,18 +303,18 @@ yield_tells {s = s} h n other runs yields =
     ∙ yield_phase (view_of s.spaces (slot_at s n).directory) (slot_at s n) who.0 (place_of (slot_at s n)) (born_at h n who.0 who.1).at yields
 
 -- A turn ends where its steps are as many as the schedule gives it.
-pub turn_ends_whole : {schedule : List ℕ} {first : AbstractState} {turns : List Turn} {n visible : ℕ} {s : KernelState} {written : List ℕ} →
-    IsInTurn schedule first turns n visible s written → (hidden : ℕ) → 0 < visible + hidden →
+pub turn_ends_whole : {schedule : List ℕ} {first : AbstractState} {turns : List Turn} {n visible : ℕ} {w : World} {written : List ℕ} →
+    IsInTurn schedule first turns n visible w written → (hidden : ℕ) → 0 < visible + hidden →
     visible + hidden ≡ quantum schedule (length turns) →
-    IsBetween schedule first (turns ++ turn_of n visible hidden ∷ []) (kernel.turn_ended s n) written
+    IsBetween schedule first (turns ++ turn_of n visible hidden ∷ []) (with_state w (kernel.turn_ended w.state n)) written
 turn_ends_whole {schedule = schedule} {turns = turns} {n = n} {visible = visible} h hidden some whole =
     turn_ends h hidden (whole_turn_fits schedule (length turns) h.before h.now (turn_of n visible hidden) some whole)
 
 -- or before that, where it may
-pub turn_ends_early : {schedule : List ℕ} {first : AbstractState} {turns : List Turn} {n visible : ℕ} {s : KernelState} {written : List ℕ} →
-    (h : IsInTurn schedule first turns n visible s written) → (hidden : ℕ) → 0 < visible + hidden →
+pub turn_ends_early : {schedule : List ℕ} {first : AbstractState} {turns : List Turn} {n visible : ℕ} {w : World} {written : List ℕ} →
+    (h : IsInTurn schedule first turns n visible w written) → (hidden : ℕ) → 0 < visible + hidden →
     visible + hidden ≤ quantum schedule (length turns) → may_end h.before (turn_of n visible hidden) h.now ≡ true →
-    IsBetween schedule first (turns ++ turn_of n visible hidden ∷ []) (kernel.turn_ended s n) written
+    IsBetween schedule first (turns ++ turn_of n visible hidden ∷ []) (with_state w (kernel.turn_ended w.state n)) written
 turn_ends_early {schedule = schedule} {turns = turns} {n = n} {visible = visible} h hidden some within may =
     turn_ends h hidden (short_turn_fits schedule (length turns) h.before h.now (turn_of n visible hidden) some within may)
 
@@ -313,19 +327,19 @@ yielded_further n begun b visible taken yields =
 
 -- ---- what is told
 
-pub between_fits : {schedule : List ℕ} {first : AbstractState} {turns : List Turn} {s : KernelState} {written : List ℕ} →
-    IsBetween schedule first turns s written → fits schedule 0 first turns ≡ true
+pub between_fits : {schedule : List ℕ} {first : AbstractState} {turns : List Turn} {w : World} {written : List ℕ} →
+    IsBetween schedule first turns w written → fits schedule 0 first turns ≡ true
 between_fits {schedule = schedule} {first = first} {turns = turns} h = all_fit_fits schedule 0 first turns h.fit
 
 -- the turn under way is told too, whichever way it would end
-pub in_turn_ran : {schedule : List ℕ} {first : AbstractState} {turns : List Turn} {n visible : ℕ} {s : KernelState} {written : List ℕ} →
-    (h : IsInTurn schedule first turns n visible s written) → (hidden : ℕ) →
+pub in_turn_ran : {schedule : List ℕ} {first : AbstractState} {turns : List Turn} {n visible : ℕ} {w : World} {written : List ℕ} →
+    (h : IsInTurn schedule first turns n visible w written) → (hidden : ℕ) →
     abs_run first (turns ++ turn_of n visible hidden ∷ []) ≡ Some h.now
 in_turn_ran {first = first} {turns = turns} {n = n} {visible = visible} h hidden =
     run_with_turn first h.before h.now turns n visible hidden h.ran h.chosen h.taken
 
-pub in_turn_fits : {schedule : List ℕ} {first : AbstractState} {turns : List Turn} {n visible : ℕ} {s : KernelState} {written : List ℕ} →
-    IsInTurn schedule first turns n visible s written → (hidden : ℕ) → 0 < visible + hidden → visible + hidden ≤ quantum schedule (length turns) →
+pub in_turn_fits : {schedule : List ℕ} {first : AbstractState} {turns : List Turn} {n visible : ℕ} {w : World} {written : List ℕ} →
+    IsInTurn schedule first turns n visible w written → (hidden : ℕ) → 0 < visible + hidden → visible + hidden ≤ quantum schedule (length turns) →
     fits schedule 0 first (turns ++ turn_of n visible hidden ∷ []) ≡ true
 in_turn_fits {schedule = schedule} {first = first} {turns = turns} {n = n} {visible = visible} h hidden some within =
     let same : length turns ≡ 0 + length turns = omega arith in
@@ -335,9 +349,9 @@ in_turn_fits {schedule = schedule} {first = first} {turns = turns} {n = n} {visi
     (last_turn_fits schedule (length turns) h.before h.now (turn_of n visible hidden) some within))
 
 -- Where the host fails in a step, what was written is the beginning of what the abstract system has written after that step.
-pub step_failed : {schedule : List ℕ} {first : AbstractState} {turns : List Turn} {n visible : ℕ} {s : KernelState}
-    {written : List ℕ} (bytes : List ℕ) → IsInTurn schedule first turns n visible s written → (hidden : ℕ) →
-    ((a : AbstractState) → StandsWhole s a → (b : AbstractState) × (abs_step a n ≡ Some b) × (b.console ≡ a.console ++ bytes)) →
+pub step_failed : {schedule : List ℕ} {first : AbstractState} {turns : List Turn} {n visible : ℕ} {w : World}
+    {written : List ℕ} (bytes : List ℕ) → IsInTurn schedule first turns n visible w written → (hidden : ℕ) →
+    ((a : AbstractState) → StandsWhole w a → (b : AbstractState) × (abs_step a n ≡ Some b) × (b.console ≡ a.console ++ bytes)) →
     (b : AbstractState) × (abs_run first (turns ++ turn_of n (visible + 1) hidden ∷ []) ≡ Some b) × (b.console ≡ first.console ++ (written ++ bytes))
 step_failed {first = first} {turns = turns} {n = n} {visible = visible} {written = written} bytes h hidden would =
     let b = would h.now h.stands in (
@@ -348,9 +362,9 @@ step_failed {first = first} {turns = turns} {n = n} {visible = visible} {written
     )
 
 -- and its turns fit
-pub failed_fits : {schedule : List ℕ} {first : AbstractState} {turns : List Turn} {n visible : ℕ} {s : KernelState}
-    {written bytes : List ℕ} → (h : IsInTurn schedule first turns n visible s written) → (hidden : ℕ) →
-    ((a : AbstractState) → StandsWhole s a → (b : AbstractState) × (abs_step a n ≡ Some b) × (b.console ≡ a.console ++ bytes)) →
+pub failed_fits : {schedule : List ℕ} {first : AbstractState} {turns : List Turn} {n visible : ℕ} {w : World}
+    {written bytes : List ℕ} → (h : IsInTurn schedule first turns n visible w written) → (hidden : ℕ) →
+    ((a : AbstractState) → StandsWhole w a → (b : AbstractState) × (abs_step a n ≡ Some b) × (b.console ≡ a.console ++ bytes)) →
     0 < visible + 1 + hidden → visible + 1 + hidden ≤ quantum schedule (length turns) →
     fits schedule 0 first (turns ++ turn_of n (visible + 1) hidden ∷ []) ≡ true
 failed_fits {schedule = schedule} {first = first} {turns = turns} {n = n} {visible = visible} h hidden would some within =

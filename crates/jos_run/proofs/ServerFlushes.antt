@@ -1,10 +1,11 @@
 -- A step of the flush that the file server makes for a sync, where its space has no tables: it reads that a region has none, and goes on to the next
 -- region; or all regions are looked at, and the server is about to show that all is done.
-use Rattle.std.proofs.Common.{◌≡◌, ◌∙◌, ◌+◌, ◌*◌, ◌/◌, ◌%◌, ◌<◌, ◌==◌, inr, ℕ, Bool, true, false, List, [], ◌∷◌, length, get_or}
-use Rattle.std.proofs.Common.{nat_le, is_some, Option, Some, None}
+use Rattle.std.proofs.Common.{◌≡◌, ◌≢◌, ◌∙◌, ◌+◌, ◌*◌, ◌/◌, ◌%◌, ◌<◌, ◌==◌, inr, ℕ, Bool, true, false, List, [], ◌∷◌, length, get_or}
+use Rattle.std.proofs.Common.{nat_le, Option, Some, None}
 use Rattle.std.proofs.Common.{Ok, Err, refl, sym, ap, subst, arith}
 use Rattle.std.proofs.lemmas.Bool.Decides.{nat_tests}
 use Rattle.std.specs.Option.{option_map}
+use Rattle.std.proofs.lemmas.Option.{same_Some}
 use Rattle.jos_host.specs.declared.host.Failed.{Failed}
 use Rattle.jos_host.specs.Files.{Files}
 use Rattle.jos_host.specs.Frames.{Around}
@@ -18,10 +19,10 @@ use Rattle.fs_layout.specs.FileTree.{sync_files}
 use Rattle.lib_os.specs.declared.numbers.TheConstants.{CACHE_BLOCKS, MAXOPEN, UVPD}
 use Rattle.lib_os.specs.declared.progress.Progress.{Progress}
 use Rattle.lib_os.specs.declared.progress.Progress.TheVariants as progress
-use Rattle.lib_os.specs.declared.request.RequestKind.TheVariants as kind
 use Rattle.lib_os.specs.declared.user_os.Stop.TheVariants as stop
-use Rattle.lib_os.specs.AbstractState.{AbstractState, Server, act, busy}
-use Rattle.lib_os.specs.Disk.{DiskFile}
+use Rattle.lib_os.specs.AbstractState.{AbstractState, act, busy, idle}
+use Rattle.lib_os.specs.Disk.{Disk, DiskFile, disk_in}
+use Rattle.lib_os.specs.InOrder.{IsInOrder}
 use Rattle.lib_os.specs.MadeCalls.{MakesCall, SetsWords, gave, loads}
 use Rattle.lib_os.specs.UserCalls.{CallStep, IsStep, Output, load}
 use Rattle.lib_os.proofs.CallsMade.{sets_extra, sets_twice}
@@ -49,11 +50,17 @@ use Rattle.fs_requests.specs.ServerPlans.{acting as about_to_act, next_at, next_
 use Rattle.fs_requests.specs.ServerWords.{server_in}
 use Rattle.fs_server.specs.ServerSteps.{HasFlushed, ends, goes, gone_on, server_at}
 use Rattle.fs_server.proofs.ServerMade.{server_sets}
-use Rattle.jos_run.specs.ServerStands.{IsBareCache, IsClient, IsServerAt, IsSyncing, StandsWhole, acting, flushing, kind_of}
-use Rattle.jos_run.specs.ServerStands.{serving_at, step_of}
-use Rattle.jos_run.proofs.ServerGoes.{CallBehind, behind_slot, behind_stands, gone_to, number_below, state_told, still_bare}
+use Rattle.fs_seen.specs.ServerMemory.{HasWords}
+use Rattle.fs_seen.specs.ServerSees.{HasServed}
+use Rattle.fs_seen.specs.ServerWhole.{GoesOnServing, IsServing}
+use Rattle.fs_seen.proofs.FlushesServed.{flushes_serve}
+use Rattle.fs_seen.proofs.ServesFor.{served_is_kept, servers_stand}
+use Rattle.jos_run.specs.ServerStands.{IsBareCache, IsClient, StandsWhole, client_id, serving_at, step_of}
+use Rattle.jos_run.specs.Worlds.{beside}
+use Rattle.jos_run.proofs.RecordsKept.{records_kept, spaces_alike, window_read}
+use Rattle.jos_run.proofs.ServerGoes.{CallBehind, ServesClient, behind_slot, behind_stands, gone_to, number_below, state_told}
 use Rattle.jos_run.proofs.ServerPrints.{flush_bytes}
-use Rattle.jos_run.proofs.ServerStepped.{Stepped, loaded_bare, never_stops, unseen}
+use Rattle.jos_run.proofs.ServerStepped.{Stepped, never_stops, unseen}
 
 -- ---- where the flush goes
 
@@ -109,7 +116,8 @@ hand_below words = omega arith
 
 -- ---- a step of the flush
 
-module _ (disk : DiskFile) (before : KernelState) (files : Around (Option Files)) (output : Output) (a : AbstractState) (whole : StandsWhole before a) where
+module _ (disk : DiskFile) (before : KernelState) (files : Around (Option Files)) (output : Output) (d : Disk) (a : AbstractState)
+    (whole : StandsWhole (beside before (Some d)) a) where
   abbrev k : Slot
   k = slot_at before 0
 
@@ -126,7 +134,8 @@ module _ (disk : DiskFile) (before : KernelState) (files : Around (Option Files)
   reads : load before 0 va ≡ read_at before 0 va 0
   reads =
       load_directory_word before 0 whole.0.1.in_order.frames (page_of region.block / NPTENTRIES) (omega arith)
-      ∙ ap (λ (o : Option Region). read_at before 0 va (entry_word (option_map region_entry o))) (whole.1.bare (page_of region.block / NPTENTRIES))
+      ∙ ap (λ (o : Option Region). read_at before 0 va (entry_word (option_map region_entry o)))
+      (whole.1.records.tables (page_of region.block / NPTENTRIES) (λ same. omega (arith, same)))
 
   -- where the cache stands then
   abbrev k_with : CacheState → Slot
@@ -189,8 +198,8 @@ module _ (disk : DiskFile) (before : KernelState) (files : Around (Option Files)
     looked_behind : CallBehind after
     looked_behind = record {
       twelve = looked_twelve;
-      bare = still_bare (loaded before 0 va) after (ap (λ (x : Slot). x.directory) looked_slot)
-          (λ d r i. is_some ((it.is i).spaces.regions d r)) (loaded_bare before va whole.1.bare);
+      records = records_kept (spaces_alike (ap (λ (x : Slot). x.directory) looked_slot) (ap (λ (z : KernelState). z.spaces) it.is))
+          (records_kept (window_read before va (omega arith)) whole.1.records);
       cache = subst (λ (x : CacheState). IsBareCache x.place) (sym (ap (λ (x : Slot). state_in x.extra) looked_slot ∙ stands_so))
           (bare_at (record { state = it.state; told = tells }) it.goes).0;
     }
@@ -213,66 +222,106 @@ module _ (disk : DiskFile) (before : KernelState) (files : Around (Option Files)
   flush_quiet =
       ap (λ (p : CachePlace). flush_bytes (ask_by p hand) before) region.is ∙ ap (λ (z : CallStep ℕ). z.written) reads
 
-  module _ (client : ℕ) (server : a.server ≡ busy client (act sync_files None) None) (sync : kind_of k ≡ Some kind.Sync)
-      (named : IsClient a client (serving_at k).client) (at_step : step_of k ≡ step.Flushing) (after : KernelState) where
+  module _ (client : ℕ) (server : a.server ≡ busy client (act sync_files None) None) (at_step : step_of k ≡ step.Flushing) (after : KernelState) where
     abbrev state : ServerState
     state = server_at before 0
-
-    syncs : (x : Slot) → IsSyncing a client x → IsServerAt a a.server x
-    syncs x it = subst (λ (y : Server). IsServerAt a y x) (sym server) it
 
     abbrev written : List ℕ
     written = flush_bytes (ask_by (flush_place (cache_state before 0).place) hand) before
 
-    pub flush_steps : (done : Progress) → HasFlushed state disk before after 0 files output done → Stepped before after a done written
-    flush_steps done (goes flushes) =
+    -- it keeps its status, whether it goes on or ends
+    pub flush_calm : (done : Progress) → HasFlushed state disk before after 0 files output done → (slot_at after 0).status ≡ k.status
+    flush_calm done (goes flushes) =
+        let made = flushes.made in ap (λ (x : Slot). x.status) (looked_slot made.0 after (has_looked made.0 after made.2))
+    flush_calm done (ends mid flushes is) =
         let made = flushes.made in
-        let it = has_looked made.0 after made.2 in
-        let slot = looked_slot made.0 after it in
-        let serves = looked_serves made.0 after it in
-        let behind = looked_behind made.0 after it in
-        unseen before after a progress.Hidden written refl flush_quiet
-        (λ in_order. let left = server_call_stands whole.0.1 (loads va) (omega arith) after disk files output (looked_makes made.0 after it)
-        (0, ap (λ (z : CallStep ℕ). z.gives) reads) whole.1.twelve in_order in (
-          (whole.0.0, left.stands),
-          record {
-            at = syncs (slot_at after 0) (flushing (ap (λ (x : ServerState). x.step) serves ∙ at_step) (ap (λ (x : ServerState). x.kind) serves ∙ sync)
-                (subst (λ (i : ℕ). IsClient a client i) (sym (ap (λ (x : ServerState). x.client) serves)) named));
-            twelve = behind.twelve;
-            bare = behind.bare;
-            cache = behind.cache;
-            asked = whole.1.asked;
-          },
-        ))
-        (ap (λ (x : Slot). x.status) slot)
-    flush_steps done (ends mid flushes is) =
-        let made = flushes.made in
-        let it = has_looked made.0 mid made.2 in
-        let goes : next_at state 0 ≡ next = ap (λ (x : ServerStep). next_for state x 0) at_step in
-        let here : after ≡ gone_on mid 0 next = is ∙ ap (λ (x : ServerNext). gone_on mid 0 x) goes in
-        let behind = looked_behind made.0 mid it in
-        let told = state_told (slot_at mid 0) next refl below behind.twelve in
-        let makes : MakesCall (loads va) before after 0 disk files output =
-        record {
-          mid = it.mid;
-          made = (gave 0 it.reply, it.same);
-          left = inr (sets_twice it.mid mid after 0 it.sets (server_sets mid after 0 next here));
-        } in
-        unseen before after a (next_at state 0).seen written (ap (λ (x : ServerNext). x.seen) (sym goes)) flush_quiet
-        (λ in_order. let left = server_call_stands whole.0.1 (loads va) (omega arith) after disk files output makes
-        (0, ap (λ (z : CallStep ℕ). z.gives) reads) whole.1.twelve in_order in (
-          (whole.0.0, left.stands),
-          behind_stands mid after next a here refl below behind whole.1.asked
-              (syncs (gone_to (slot_at mid 0) next) (acting (ap (λ (x : ServerState). x.step) told) (ap (λ (x : ServerState). x.kind) told ∙ sync)
-              (subst (λ (i : ℕ). IsClient a client i) (sym (ap (λ (x : ServerState). x.client) told)) named) (ap (λ (x : ServerState). x.count) told))),
-        ))
-        (ap (λ (x : Slot). x.status) (behind_slot mid after next here ∙ ap (λ (x : Slot). gone_to x next) (looked_slot made.0 mid it)))
-      where
-        next : ServerNext
-        next = about_to_act state 0
+        ap (λ (x : Slot). x.status) (behind_slot mid after (next_at state 0) is)
+        ∙ ap (λ (x : Slot). x.status) (looked_slot made.0 mid (has_looked made.0 mid made.2))
 
-        below : state.number < MAXOPEN
-        below = number_below k.registers k.extra
+    not_idle : a.server ≢ idle
+    not_idle is = let contradiction : busy client (act sync_files None) None ≡ idle = sym server ∙ is in cc
+
+    -- What it serves is kept over the disk that the host tells, which is as it was.
+    module _ (f : Files) (told_files : files.before ≡ Some f) (disk_is : d ≡ disk_in f disk) (words : HasWords before 0) where
+      told_served : (done : Progress) → HasFlushed state disk before after 0 files output done → files.after ≡ files.before → IsInOrder after →
+          IsServing (disk_in f disk) before 0 a → GoesOnServing done (disk_in f disk) after 0 a
+      told_served done flushed same in_order serving =
+          let it = flushes_serve (disk_in f disk).count a disk f before after files output done at_step (record { stands = serving.stands; words = words })
+          (servers_stand a (disk_in f disk) before serving not_idle) in_order told_files flushed in
+          let now_is : it.0 ≡ f = same_Some it.0 f (sym it.1 ∙ same ∙ told_files) in
+          served_is_kept a (disk_in f disk) before after done serving.requested
+          (subst (λ (g : Files). HasServed (disk_in f disk).count a (disk_in g disk) before after 0 done) now_is it.2)
+
+      flush_served : (done : Progress) → HasFlushed state disk before after 0 files output done → files.after ≡ files.before → IsInOrder after →
+          GoesOnServing done d after 0 a
+      flush_served done flushed same in_order =
+          subst (λ (e : Disk). IsServing e before 0 a → GoesOnServing done e after 0 a) (sym disk_is) (told_served done flushed same in_order)
+          whole.1.serving
+
+      -- the client that it serves
+      serves_as : (x : ServerStep) (j : Slot) → client_id x j ≡ (serving_at k).client → ServesClient a x j
+      serves_as x j same who served =
+          subst (λ (i : ℕ). IsClient a who i) (sym same) (subst (λ (y : ServerStep). ServesClient a y k) at_step whole.1.client who served)
+
+      pub flush_steps : (done : Progress) → HasFlushed state disk before after 0 files output done →
+          (files.after ≡ files.before) × Stepped before (beside after (Some d)) a done written
+      flush_steps done (goes flushes) =
+          let made = flushes.made in
+          let it = has_looked made.0 after made.2 in
+          let slot = looked_slot made.0 after it in
+          let serves = looked_serves made.0 after it in
+          let behind = looked_behind made.0 after it in (
+            it.same,
+            unseen before (beside after (Some d)) a progress.Hidden written refl flush_quiet
+                (λ in_order. let left = server_call_stands whole.0.1 (loads va) (omega arith) after disk files output (looked_makes made.0 after it)
+                (0, ap (λ (z : CallStep ℕ). z.gives) reads) whole.1.twelve in_order in (
+                  (whole.0.0, left.stands),
+                  record {
+                    serving = flush_served progress.Hidden (goes flushes) it.same in_order;
+                    twelve = behind.twelve;
+                    client = subst (λ (y : ServerStep). ServesClient a y (slot_at after 0)) (sym (ap (λ (x : ServerState). x.step) serves ∙ at_step))
+                        (serves_as step.Flushing (slot_at after 0) (ap (λ (x : ServerState). x.client) serves));
+                    asked = whole.1.asked;
+                    built = whole.1.built;
+                    records = behind.records;
+                    cache = behind.cache;
+                    unheld = whole.1.unheld;
+                  },
+                ))
+                (ap (λ (x : Slot). x.status) slot),
+          )
+      flush_steps done (ends mid flushes is) =
+          let made = flushes.made in
+          let it = has_looked made.0 mid made.2 in
+          let goes_to : next_at state 0 ≡ next = ap (λ (x : ServerStep). next_for state x 0) at_step in
+          let here : after ≡ gone_on mid 0 next = is ∙ ap (λ (x : ServerNext). gone_on mid 0 x) goes_to in
+          let behind = looked_behind made.0 mid it in
+          let told = state_told (slot_at mid 0) next refl below behind.twelve in
+          let makes : MakesCall (loads va) before after 0 disk files output =
+          record {
+            mid = it.mid;
+            made = (gave 0 it.reply, it.same);
+            left = inr (sets_twice it.mid mid after 0 it.sets (server_sets mid after 0 next here));
+          } in (
+            it.same,
+            unseen before (beside after (Some d)) a (next_at state 0).seen written (ap (λ (x : ServerNext). x.seen) (sym goes_to)) flush_quiet
+                (λ in_order. let left = server_call_stands whole.0.1 (loads va) (omega arith) after disk files output makes
+                (0, ap (λ (z : CallStep ℕ). z.gives) reads) whole.1.twelve in_order in (
+                  (whole.0.0, left.stands),
+                  behind_stands d mid after next a here refl below behind
+                      (subst (λ (p : Progress). GoesOnServing p d after 0 a) (ap (λ (x : ServerNext). x.seen) goes_to)
+                      (flush_served (next_at state 0).seen (ends mid flushes is) it.same in_order))
+                      (serves_as step.Acting (gone_to (slot_at mid 0) next) (ap (λ (x : ServerState). x.client) told))
+                      whole.1.asked whole.1.built whole.1.unheld,
+                ))
+                (ap (λ (x : Slot). x.status) (behind_slot mid after next here ∙ ap (λ (x : Slot). gone_to x next) (looked_slot made.0 mid it))),
+          )
+        where
+          next : ServerNext
+          next = about_to_act state 0
+
+          below : state.number < MAXOPEN
+          below = number_below k.registers k.extra
 
   -- no host fails in it
   pub flush_never_fails : (failed : Failed) (after : KernelState) → IsFlushStep (caller before 0 disk) (Err failed) files after output → ⊥

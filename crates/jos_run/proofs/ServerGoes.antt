@@ -1,15 +1,14 @@
 -- Where the file server goes, by its registers and words: they tell the state in which it goes on, and the cache's words stay. And what is known of
 -- it there, by what the kernel has left behind its call.
-use Rattle.std.proofs.Common.{◌≡◌, ◌∙◌, ◌<◌, ℕ, true, false, List, [], ◌∷◌, length, Option, Some, None, refl, sym, ap, subst, arith}
-use Rattle.std.specs.Prelude.{is_some}
+use Rattle.std.proofs.Common.{◌≡◌, ◌∙◌, ◌<◌, ℕ, true, false, List, [], ◌∷◌, length, Some, None, refl, sym, ap, subst, arith}
 use Rattle.jos_base.specs.declared.registers.Regs.{Regs}
 use Rattle.jos_base.specs.Environments.{Slot, is_runnable, is_running}
 use Rattle.jos_base.specs.declared.environment.Status.{Status}
 use Rattle.jos_base.specs.KernelState.{KernelState, slot_at}
-use Rattle.jos_base.specs.SpacesState.{Region, SpacesState}
 use Rattle.lib_os.specs.declared.numbers.TheConstants.{MAXOPEN}
-use Rattle.lib_os.specs.AbstractLaws.{ServesWhoAsked}
+use Rattle.lib_os.specs.AbstractLaws.{ServesWhoAsked, client_served}
 use Rattle.lib_os.specs.AbstractState.{AbstractState}
+use Rattle.lib_os.specs.Disk.{Disk}
 use Rattle.lib_os.proofs.Leaving.{running_calm}
 use Rattle.lib_os.proofs.Slots.{slot_put}
 use Rattle.lib_os.proofs.SlotsSet.{both_set}
@@ -17,10 +16,13 @@ use Rattle.fs_blocks.specs.declared.place.CacheState.{CacheState}
 use Rattle.fs_blocks.specs.CachePlaces.{state_in}
 use Rattle.fs_requests.specs.declared.plan.ServerNext.{ServerNext}
 use Rattle.fs_requests.specs.declared.state.ServerState.{ServerState}
+use Rattle.fs_requests.specs.declared.state.ServerStep.{ServerStep}
 use Rattle.fs_requests.specs.ServerWords.{registers_with, server_in, words_with}
+use Rattle.fs_seen.specs.ServerWhole.{IsServing}
 use Rattle.fs_seen.proofs.WordsBack.{begun_long, stands_whole}
 use Rattle.fs_server.specs.ServerSteps.{gone_on, registers_begun, words_begun}
-use Rattle.jos_run.specs.ServerStands.{IsBareCache, IsServerAt, ServerStands, serving_at}
+use Rattle.jos_run.specs.ServerStands.{HasRecordsAlone, IsBareCache, IsBuiltRequest, IsClient, ServerStands, client_id, serving_at, step_of}
+use Rattle.jos_run.proofs.RecordsKept.{records_kept, spaces_alike}
 
 -- ---- its slot
 
@@ -71,52 +73,40 @@ module _ (k : Slot) (next : ServerNext) (none : next.begins ≡ None) (below : n
   pub twelve_told : length (gone_to k next).extra ≡ 12
   twelve_told = begun_long k.registers k.extra next.state below twelve next.begins
 
--- ---- its tables
-
--- its space has no tables
-abbrev pub IsBare : KernelState → Type 0
-IsBare s = (r : ℕ) → s.spaces.regions (slot_at s 0).directory r ≡ None
-
--- there are tables in the same places
-abbrev pub SameTables : SpacesState → SpacesState → Type 0
-SameTables s t = (d r : ℕ) → is_some (t.regions d r) ≡ is_some (s.regions d r)
-
-still_none : (o p : Option Region) → is_some p ≡ is_some o → o ≡ None → p ≡ None
-still_none o None same none = refl
-still_none o (Some x) same none = absurd (let contradiction : true ≡ false = same ∙ ap is_some none in cc)
-
-pub still_bare : (s t : KernelState) → (slot_at t 0).directory ≡ (slot_at s 0).directory → SameTables s.spaces t.spaces → IsBare s → IsBare t
-still_bare s t directory same bare r =
-    still_none (s.spaces.regions (slot_at s 0).directory r) (t.spaces.regions (slot_at t 0).directory r)
-    (ap (λ (d : ℕ). is_some (t.spaces.regions d r)) directory ∙ same (slot_at s 0).directory r) (bare r)
-
 -- ---- where it stands behind its call
 
 -- The kernel's state behind the call, without the words that the server sets then.
 pub record CallBehind (mid : KernelState) : Type 0 where
   pub twelve : length (slot_at mid 0).extra ≡ 12
-  pub bare : IsBare mid
+  pub records : HasRecordsAlone mid
   pub cache : IsBareCache (state_in (slot_at mid 0).extra).place
-
-pub behind_stands : (mid after : KernelState) (next : ServerNext) (a : AbstractState) → after ≡ gone_on mid 0 next → next.begins ≡ None →
-    next.state.number < MAXOPEN → CallBehind mid → ServesWhoAsked a → IsServerAt a a.server (gone_to (slot_at mid 0) next) → ServerStands after a
-behind_stands mid after next a is none below call asked at =
-    subst (λ (z : KernelState). ServerStands z a) (sym is) (record {
-      at = subst (λ (x : Slot). IsServerAt a a.server x) (sym slot) at;
-      twelve = ap (λ (x : Slot). length x.extra) slot ∙ twelve_told (slot_at mid 0) next none below call.twelve;
-      bare = still_bare mid (gone_on mid 0 next) (ap (λ (x : Slot). x.directory) slot)
-          (λ d r. ap (λ (t : SpacesState). is_some (t.regions d r)) (gone_spaces mid next)) call.bare;
-      cache = subst (λ (x : CacheState). IsBareCache x.place)
-          (sym (ap (λ (x : Slot). state_in x.extra) slot ∙ cache_told (slot_at mid 0) next none below call.twelve)) call.cache;
-      asked = asked;
-    })
-  where
-    slot : slot_at (gone_on mid 0 next) 0 ≡ gone_to (slot_at mid 0) next
-    slot = gone_slot mid next
 
 -- and its slot there
 pub behind_slot : (mid after : KernelState) (next : ServerNext) → after ≡ gone_on mid 0 next → slot_at after 0 ≡ gone_to (slot_at mid 0) next
 behind_slot mid after next is = ap (λ (z : KernelState). slot_at z 0) is ∙ gone_slot mid next
+
+-- whom it serves, by the step at which it stands there
+abbrev pub ServesClient : AbstractState → ServerStep → Slot → Type 0
+ServesClient b x k = (client : ℕ) → client_served b.server ≡ Some client → IsClient b client (client_id x k)
+
+pub behind_stands : (d : Disk) (mid after : KernelState) (next : ServerNext) (b : AbstractState) → after ≡ gone_on mid 0 next → next.begins ≡ None →
+    next.state.number < MAXOPEN → CallBehind mid → IsServing d after 0 b → ServesClient b next.state.step (gone_to (slot_at mid 0) next) →
+    ServesWhoAsked b → IsBuiltRequest b.server → ((number : ℕ) → (b.opened number).held_by ≡ None) → ServerStands d after b
+behind_stands d mid after next b is none below call serving named asked built unheld = record {
+  serving = serving;
+  twelve = ap (λ (x : Slot). length x.extra) slot ∙ twelve_told (slot_at mid 0) next none below call.twelve;
+  client = subst (λ (x : Slot). ServesClient b (step_of x) x) (sym slot)
+      (subst (λ (x : ServerState). ServesClient b x.step (gone_to (slot_at mid 0) next)) (sym (state_told (slot_at mid 0) next none below call.twelve)) named);
+  asked = asked;
+  built = built;
+  records = records_kept (spaces_alike (ap (λ (x : Slot). x.directory) slot) (ap (λ (z : KernelState). z.spaces) is ∙ gone_spaces mid next)) call.records;
+  cache = subst (λ (x : CacheState). IsBareCache x.place)
+      (sym (ap (λ (x : Slot). state_in x.extra) slot ∙ cache_told (slot_at mid 0) next none below call.twelve)) call.cache;
+  unheld = unheld;
+}
+  where
+    slot : slot_at after 0 ≡ gone_to (slot_at mid 0) next
+    slot = behind_slot mid after next is
 
 -- ---- its turn
 

@@ -1,13 +1,12 @@
 -- What a call of the file server's leaves, whatever the state stands for: as many frames, of which each that is handed out has a use; each other
 -- environment where it stood, with no more pages that wait to be copied; and it takes two frames at most.
-use Rattle.std.proofs.Common.{◌≡◌, ◌∙◌, ◌⊎◌, inl, inr, ◌+◌, ◌≤◌, ◌||◌, not, ℕ, Bool, true, false, List, [], ◌∷◌, Option, Result, Ok, Err}
-use Rattle.std.proofs.Common.{refl, sym, ap, subst, arith, length, nat_lt}
+use Rattle.std.proofs.Common.{◌≡◌, ◌∙◌, ◌⊎◌, inl, inr, ◌+◌, ◌≤◌, ℕ, Bool, true, false, List, [], ◌∷◌, Option, Result, Ok, Err}
+use Rattle.std.proofs.Common.{refl, sym, ap, subst, arith, length}
 use Rattle.jos_host.specs.Files.{Files}
 use Rattle.jos_host.specs.Frames.{Around}
 use Rattle.jos_base.specs.declared.memory.Access.{Access}
 use Rattle.jos_base.specs.declared.memory.Access.TheVariants.{Read, Write}
 use Rattle.jos_base.specs.declared.memory.PageFault.{PageFault}
-use Rattle.jos_base.specs.declared.numbers.TheConstants.{UTOP}
 use Rattle.jos_base.specs.Environments.{Slot}
 use Rattle.jos_base.specs.KernelState.{KernelState, slot_at, with_slot_at, with_spaces}
 use Rattle.jos_base.specs.Reach.{FrameOffset}
@@ -17,7 +16,7 @@ use Rattle.lib_os.specs.declared.user_os.Stop.TheVariants as stop
 use Rattle.lib_os.specs.Disk.{DiskFile}
 use Rattle.lib_os.specs.LibrarySteps.{KeepsNumbers, KeepsPlaces, KeepsUses, LeavesRest, TakesAtMost, frames_asked}
 use Rattle.lib_os.specs.MadeCalls.{HasCome, IsMade, IsServersCall, IsServersSystemCall, MakesCall, SetsWords, UserCall, asks_id, calls, faulted, gave}
-use Rattle.lib_os.specs.MadeCalls.{loads, loads_byte, maps_block, place_address, reads_block, receives, sends, sends_place, stores, stores_byte}
+use Rattle.lib_os.specs.MadeCalls.{loads, loads_byte, maps_block, reads_block, receives, sends, sends_place, stores, stores_byte}
 use Rattle.lib_os.specs.MadeCalls.{takes_block, takes_place, unmaps_block, unmaps_request, writes_block, yields}
 use Rattle.lib_os.specs.Need.{EachHasUse}
 use Rattle.lib_os.specs.UserCalls.{CallStep, IsBlockRead, IsBlockWrite, IsReadBy, IsSentBy, Output, Prints, block_call, block_put, load, load_byte}
@@ -27,8 +26,8 @@ use Rattle.lib_os.proofs.FramesAsked.{load_byte_takes, load_takes, store_byte_ta
 use Rattle.lib_os.proofs.FramesKept.{touched_frames}
 use Rattle.lib_os.proofs.FreeFrames.{stored_free, touched_free}
 use Rattle.lib_os.proofs.Leaving.{load_byte_left, load_left, store_byte_left, store_left, system_left}
-use Rattle.lib_os.proofs.NumbersKept.{copies_kept, numbers_kept, places_kept}
-use Rattle.lib_os.proofs.OthersCopies.{IsBeside, NoMoreWait, both_wait, load_byte_wait, load_wait, maps_no_copy, plain_wait, same_wait, store_byte_wait}
+use Rattle.lib_os.proofs.NumbersKept.{KeepsCopies, copies_kept, numbers_kept, places_kept, sent_copies}
+use Rattle.lib_os.proofs.OthersCopies.{IsBeside, NoMoreWait, both_wait, load_byte_wait, load_wait, maps_no_copy, not_beside, plain_wait, same_wait, store_byte_wait}
 use Rattle.lib_os.proofs.OthersCopies.{store_wait, stored_wait, touched_wait}
 use Rattle.lib_os.proofs.OthersKept.{OthersStay, load_byte_stay, load_stay, own_stay, sets_others, store_byte_stay, store_stay, system_stay}
 use Rattle.lib_os.proofs.SlotsSet.{both_set}
@@ -41,7 +40,7 @@ pub record CallLeft (s : KernelState) (n : ℕ) (after : KernelState) : Type 0 w
   pub rest : LeavesRest s after
   pub uses : KeepsUses n s after
   pub others : OthersStay s n after
-  pub wait : NoMoreWait (IsBeside s n) s.spaces after.spaces
+  pub copies : KeepsCopies n s after
   pub takes : TakesAtMost 2 s.spaces after.spaces
 
 -- so the places and the numbers of the others are kept
@@ -49,7 +48,7 @@ pub places_left : {s : KernelState} {n : ℕ} {after : KernelState} → CallLeft
 places_left {s = s} {n = n} {after = after} h = places_kept s after n (λ before then_so live. h.others)
 
 pub numbers_left : {s : KernelState} {n : ℕ} {after : KernelState} → CallLeft s n after → KeepsNumbers n s after
-numbers_left {s = s} {n = n} {after = after} h = numbers_kept s after n (λ before then_so live. h.others) (copies_kept s after n h.wait)
+numbers_left {s = s} {n = n} {after = after} h = numbers_kept s after n (λ before then_so live. h.others) h.copies
 
 -- its own slot is another behind it
 pub own_left : (s : KernelState) (n : ℕ) (mid : KernelState) (slot : Slot) → CallLeft s n mid → CallLeft s n (with_slot_at mid n slot)
@@ -57,7 +56,7 @@ own_left s n mid slot h = record {
   rest = record { last = h.rest.last; turns = h.rest.turns; frames = h.rest.frames; refused = h.rest.refused; told = h.rest.told };
   uses = h.uses;
   others = own_stay s n mid h.others slot;
-  wait = h.wait;
+  copies = h.copies;
   takes = h.takes;
 }
 
@@ -76,7 +75,7 @@ module _ (s : KernelState) (n : ℕ) where
     rest = record { last = refl; turns = refl; frames = h.frames; refused = λ two some. refl; told = λ some. some };
     uses = λ in_order live each. h.uses each;
     others = record { stay = λ m ne was lives. record { place = refl; directory = refl } };
-    wait = h.wait;
+    copies = copies_kept s (with_spaces s t) n h.wait;
     takes = let same : length t.free ≡ length s.spaces.free = ap (λ (l : List ℕ). length l) h.list in omega (arith, same);
   }
 
@@ -154,7 +153,7 @@ module _ (s : KernelState) (n : ℕ) where
     rest = let h = load_left (Unit {0}) s n va in h.rest;
     uses = λ in_order live each. load_found s n in_order.frames each va;
     others = load_stay s n va;
-    wait = load_wait (IsBeside s n) s n va;
+    copies = copies_kept s (load s n va).state n (load_wait (IsBeside s n) s n (not_beside s n) va);
     takes = load_takes s n 2 va;
   }
 
@@ -163,7 +162,7 @@ module _ (s : KernelState) (n : ℕ) where
     rest = let h = load_byte_left (Unit {0}) s n va in h.rest;
     uses = λ in_order live each. load_byte_found s n in_order.frames each va;
     others = load_byte_stay s n va;
-    wait = load_byte_wait (IsBeside s n) s n va;
+    copies = copies_kept s (load_byte s n va).state n (load_byte_wait (IsBeside s n) s n (not_beside s n) va);
     takes = load_byte_takes s n 2 va;
   }
 
@@ -172,7 +171,7 @@ module _ (s : KernelState) (n : ℕ) where
     rest = let h = store_left (Unit {0}) s n va word in h.rest;
     uses = λ in_order live each. store_found s n in_order.frames each va word;
     others = store_stay s n va word;
-    wait = store_wait (IsBeside s n) s n va word;
+    copies = copies_kept s (store s n va word).state n (store_wait (IsBeside s n) s n (not_beside s n) va word);
     takes = store_takes s n 2 va word;
   }
 
@@ -181,25 +180,26 @@ module _ (s : KernelState) (n : ℕ) where
     rest = let h = store_byte_left (Unit {0}) s n va byte in h.rest;
     uses = λ in_order live each. store_byte_found s n in_order.frames each va byte;
     others = store_byte_stay s n va byte;
-    wait = store_byte_wait (IsBeside s n) s n va byte;
+    copies = copies_kept s (store_byte s n va byte).state n (store_byte_wait (IsBeside s n) s n (not_beside s n) va byte);
     takes = store_byte_takes s n 2 va byte;
   }
 
   -- ---- system calls
 
-  system_leaves : (number : ℕ) (args : List ℕ) → sets_others number ≡ false → maps_no_copy number args ≡ true →
+  system_by : (number : ℕ) (args : List ℕ) → sets_others number ≡ false → KeepsCopies n s (system s n number args).state →
       frames_asked number ≤ 2 → CallLeft s n (system s n number args).state
-  system_leaves number args calm plain few = record {
+  system_by number args calm copies few = record {
     rest = let h = system_left s n number args in h.rest;
     uses = λ in_order live each. system_found s n number args in_order live each;
     others = system_stay s n number args calm;
-    wait = plain_wait s n number args plain;
+    copies = copies;
     takes = let takes = system_takes s n number args in omega (arith, few, takes);
   }
 
-  either : (t : Bool) → (t || true) ≡ true
-  either true = refl
-  either false = refl
+  system_leaves : (number : ℕ) (args : List ℕ) → sets_others number ≡ false → maps_no_copy number args ≡ true →
+      frames_asked number ≤ 2 → CallLeft s n (system s n number args).state
+  system_leaves number args calm plain few =
+      system_by number args calm (copies_kept s (system s n number args).state n (plain_wait s n number args plain)) few
 
   of_kind : (number : ℕ) (args : List ℕ) → IsServersSystemCall number args → CallLeft s n (system s n number args).state
   of_kind number args asks_id = system_leaves number args refl refl (omega arith)
@@ -212,7 +212,7 @@ module _ (s : KernelState) (n : ℕ) where
   of_kind number args receives = system_leaves number args refl refl (omega arith)
   of_kind number args (sends client word) = system_leaves number args refl refl (omega arith)
   of_kind number args (sends_place client word k below) =
-      system_leaves number args refl (either (not (nat_lt (place_address k) UTOP))) (omega arith)
+      system_by number args refl (sent_copies s n args (λ a h low. refl)) (omega arith)
 
   -- ---- each call
 

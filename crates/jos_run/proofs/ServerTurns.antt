@@ -15,14 +15,15 @@ use Rattle.lib_os.specs.Places.{place_of}
 use Rattle.lib_os.specs.Rows.{Names, counted, is_clients, logical, logical_by, rows_of}
 use Rattle.lib_os.specs.StandsFor.{StandsFor, StandsForSlot, StandsForServer, IsServerStatus}
 use Rattle.lib_os.proofs.Children.{BearsNone, children_kept}
-use Rattle.lib_os.proofs.EntriesStand.{rows_same, rows_stand}
+use Rattle.lib_os.proofs.EntriesStand.{rows_same, rows_stand, rows_turned}
 use Rattle.lib_os.proofs.SlotsStand.{SeenAlike}
-use Rattle.lib_os.proofs.StatesStand.{beside_same, server_same, slot_in_order}
+use Rattle.lib_os.proofs.StatesStand.{server_same, slot_in_order}
 use Rattle.lib_os.specs.declared.progress.Progress.{Progress}
 use Rattle.lib_os.specs.declared.progress.Progress.TheVariants as progress
 use Rattle.lib_os.specs.AbstractRun.{abs_step, slot_step}
 use Rattle.fs_layout.specs.FileTree.{sync_files}
 use Rattle.lib_os.specs.Descriptors.{lowest_free}
+use Rattle.lib_os.specs.Disk.{Disk}
 use Rattle.lib_os.specs.FileServer.{given, reply, reply_at, reply_to, served, server_step}
 use Rattle.lib_os.specs.GuestStep.{born_in}
 use Rattle.lib_os.specs.LibrarySteps.{NothingRefused}
@@ -30,7 +31,8 @@ use Rattle.std.proofs.lemmas.Option.{none-some, same_Some}
 use Rattle.jos_base.specs.Below.{some_below}
 use Rattle.jos_run.specs.AbstractTurns.{any_live, is_client}
 use Rattle.jos_run.specs.LibraryRuns.{others_live}
-use Rattle.jos_run.specs.ServerStands.{IsServerAt, KeepsWhole, StandsWhole, WholeFollows, WholeGoesOn, WholeStays}
+use Rattle.jos_run.specs.ServerStands.{IsBuiltRequest, KeepsWhole, ServesOver, StandsWhole, WholeFollows, WholeGoesOn, WholeStays}
+use Rattle.jos_run.specs.Worlds.{World}
 use Rattle.jos_run.proofs.Choices.{any_live_stands, only_first_serves}
 use Rattle.jos_base.proofs.Maps.{upd-all, upd-at, upd-other}
 
@@ -39,6 +41,7 @@ same_space names sp d = record {
   rows = refl;
   bytes = λ p x is own_page. refl;
   named_so = λ p x is shared_page. refl;
+  devices = λ p x descriptor is shared_page. refl;
   regions = λ r. refl;
 }
 
@@ -52,7 +55,8 @@ bears_none k slot id is = record {
 pub server_begun_stands : {names : Names} {s : KernelState} {a : AbstractState} → StandsFor names s a → is_idle a.server ≡ false →
     ((m : ℕ) → is_running (slot_at s m).status ≡ false) → StandsFor names (turn_begun s 0) (record a { last = Some 0; turns = a.turns + 1 })
 server_begun_stands {names = names} {s = s} {a = a} h busy_now none =
-    let rows = rows_same (logical s.spaces s.environments.slots) (logical s.spaces (upd s.environments.slots 0 k)) counts (rows_stand h) in
+    let rows = rows_turned (ap (λ (x : Slot). rows_of s.spaces x.directory) (upd-at s.environments.slots 0 k))
+    (rows_same (logical s.spaces s.environments.slots) (logical s.spaces (upd s.environments.slots 0 k)) counts (rows_stand h)) in
     record {
       slots = upd-all (λ m (x : Slot). StandsForSlot names s.spaces x (a.slots m)) s.environments.slots 0 k
           (subst (λ (y : AbstractSlot). StandsForSlot names s.spaces k y) (sym h.first) begun) (λ m ne. h.slots m);
@@ -63,11 +67,12 @@ server_begun_stands {names = names} {s = s} {a = a} h busy_now none =
       named = rows.named;
       users = rows.users;
       whole = rows.whole;
-      beside = beside_same (ap (λ (x : Slot). rows_of s.spaces x.directory) (upd-at s.environments.slots 0 k)) rows.beside;
+      beside = rows.beside;
       free_slots = h.free_slots;
       first = h.first;
       server = server_same (upd-at s.environments.slots 0 k)
-          (record { status = ready; pages = h.server.pages; tables = h.server.tables });
+          (record { status = ready; pages = h.server.pages; tables = h.server.tables; alone = h.server.alone });
+      consoles = h.consoles;
       input = h.input;
       last = refl;
       turns = ap (λ (t : ℕ). t + 1) h.turns;
@@ -168,40 +173,44 @@ replied_alike a b client answer (Some c) there is n = by_phase c.phase is
         (same_Some b (reply_to a client service [] to) (sym same))
     by_phase _ same = absurd (none-some b same)
 
-served_alike : (a b : AbstractState) (k : Slot) (server : Server) → a.server ≡ server → IsServerAt a server k → served a server ≡ Some b → (n : ℕ) →
+served_alike : (a b : AbstractState) (server : Server) → IsBuiltRequest server → served a server ≡ Some b → (n : ℕ) →
     is_client (b.slots n) ≡ is_client (a.slots n)
-served_alike a b k leaving is at step n =
+served_alike a b leaving built step n =
     ap (λ (o : Option AbstractState). is_client ((unwrap_or o a).slots n)) (sym step)
-served_alike a b k idle is at step n = absurd (none-some b step)
-served_alike a b k (busy client (act sync_files None) None) is at step n =
+served_alike a b idle built step n = absurd (none-some b step)
+served_alike a b (busy client (act sync_files None) None) built step n =
     ap (λ (o : Option AbstractState). is_client ((unwrap_or o a).slots n)) (sym step)
-served_alike a b k (acted client answer [] None) is at step n = replied_alike a b client answer (born_in (a.slots client)) refl step n
-served_alike a b k _ is at step n = absurd at
+served_alike a b (acted client answer [] None) built step n = replied_alike a b client answer (born_in (a.slots client)) refl step n
+served_alike a b _ built step n = absurd built
 
-server_leaves : (a b : AbstractState) (k : Slot) (id : ℕ) → a.slots 0 ≡ serving id → IsServerAt a a.server k → abs_step a 0 ≡ Some b → any_live b ≡ any_live a
+server_leaves : (a b : AbstractState) (id : ℕ) → a.slots 0 ≡ serving id → IsBuiltRequest a.server → abs_step a 0 ≡ Some b → any_live b ≡ any_live a
 unfolding abs_step server_step
-server_leaves a b k id first at step =
-    let alike = served_alike a b k a.server refl at (sym (ap (λ (slot : AbstractSlot). slot_step a 0 slot) first) ∙ step) in
+server_leaves a b id first built step =
+    let alike = served_alike a b a.server built (sym (ap (λ (slot : AbstractSlot). slot_step a 0 slot) first) ∙ step) in
     λ i. some_below NENV (λ n. alike n i)
 
+built_over : (disk : Option Disk) (s : KernelState) (a : AbstractState) → ServesOver disk s a → IsBuiltRequest a.server
+built_over None s a h = absurd h
+built_over (Some d) s a h = h.built
+
 -- Where another environment is there, it is there still behind a step of the file server.
-pub server_others : (n : ℕ) (s after : KernelState) (done : Progress) (bytes : List ℕ) → n ≡ 0 → (a : AbstractState) → StandsWhole s a →
-    is_running (slot_at s n).status ≡ true → NothingRefused s after → KeepsWhole done n s after bytes → others_live s ≡ true → others_live after ≡ true
-server_others n s after done bytes is_first a h runs none_refused keeps live = by_done done (keeps a h none_refused)
+pub server_others : (n : ℕ) (w after : World) (done : Progress) (bytes : List ℕ) → n ≡ 0 → (a : AbstractState) → StandsWhole w a →
+    NothingRefused w.state after.state → KeepsWhole done n w after bytes → others_live w.state ≡ true → others_live after.state ≡ true
+server_others n w after done bytes is_first a h none_refused keeps live = by_done done (keeps a h none_refused)
   where
     stood : any_live a ≡ true
     stood = any_live_stands h.0.1 (only_first_serves h.0.1) ∙ live
 
-    stays : WholeStays after a bytes → others_live after ≡ true
+    stays : WholeStays after a bytes → others_live after.state ≡ true
     stays x = sym (any_live_stands x.1.0.1 (only_first_serves x.1.0.1)) ∙ stood
 
-    goes_on : WholeGoesOn n after a bytes → others_live after ≡ true
+    goes_on : WholeGoesOn n after a bytes → others_live after.state ≡ true
     goes_on x =
         sym (any_live_stands x.3.0.1 (only_first_serves x.3.0.1))
-        ∙ server_leaves a x.0 (slot_at s 0) FIRST_ENV_ID h.0.1.first h.1.at (ap (λ (m : ℕ). abs_step a m) (sym is_first) ∙ x.1)
+        ∙ server_leaves a x.0 FIRST_ENV_ID h.0.1.first (built_over w.disk w.state a h.1) (ap (λ (m : ℕ). abs_step a m) (sym is_first) ∙ x.1)
         ∙ stood
 
-    by_done : (d : Progress) → WholeFollows d n after a bytes → others_live after ≡ true
+    by_done : (d : Progress) → WholeFollows d n after a bytes → others_live after.state ≡ true
     by_done progress.Hidden x = stays x
     by_done progress.Waited x = stays x.0
     by_done progress.Visible x = goes_on x

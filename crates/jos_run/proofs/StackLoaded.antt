@@ -1,4 +1,4 @@
--- The page of a program's stack is loaded, that of the stack of its handler of page faults, and that of the console, and then the
+-- The page of the file server's records is loaded, that of a program's stack, that of the stack of its handler of page faults, and that of the console, and then the
 -- program begins.
 use Rattle.std.proofs.Common.{◌≡◌, ◌∙◌, ℕ, ◌+◌, ◌-◌, ◌/◌, ◌<◌, ◌≤◌, ◌&&◌, ◌||◌, Bool, true, false, List, [], ◌∷◌, Option, Some}
 use Rattle.std.proofs.Common.{None, Result, Ok, Err}
@@ -26,7 +26,7 @@ use Rattle.lib_os.specs.declared.numbers.TheConstants.{PGFAULT_UPCALL}
 use Rattle.lib_spawn.specs.StackPage.{stack_contents, stack_pointer, stack_size}
 use Rattle.lib_spawn.proofs.StackPages.{Fits, stack-has_size}
 use Rattle.jos_run.specs.Boot.{stack_segment, program_loaded, handler_stack_loaded, console_bytes, console_in, console_loaded, space_loaded}
-use Rattle.jos_run.specs.Boot.{program_registers, program_started, program_in, server_in}
+use Rattle.jos_run.specs.Boot.{program_registers, program_started, program_in, records_loaded, server_in, server_started}
 
 -- ---- the page of the stack
 
@@ -132,14 +132,26 @@ module _ (segments : List Segment) (file : List ℕ) (words : List (List ℕ)) (
       then-loads console_loaded handler_pages slot s u (then-loads handler_stack_loaded program_pages slot s t h true u more) some v last
 
 module _ (s t : KernelState) (d : ℕ) (rest : t ≡ with_spaces s t.spaces) where
+  -- a page of zeros
+  zeros-load : (number : ℕ) (page : Option Frame) (some : Bool) → some ≡ is_some page →
+      IfSome page (λ frame. allocated s.spaces d number 7 ≡ Some (frame.0, t.spaces)) →
+      (IsNone page → allocated s.spaces d number 7 ≡ None) → Loads (only_state (allocated s.spaces d number 7)) some s t
+  zeros-load number (Some frame) some is found absent =
+      subst (λ (b : Bool). Loads (only_state (allocated s.spaces d number 7)) b s t) (sym is) (ap only_state found, rest)
+  zeros-load number None some is found absent =
+      subst (λ (b : Bool). Loads (only_state (allocated s.spaces d number 7)) b s t) (sym is) (ap only_state (absent refl), rest)
+
   pub handler-loads : (page : Option Frame) (some : Bool) → some ≡ is_some page →
       IfSome page (λ frame. allocated s.spaces d 977919 7 ≡ Some (frame.0, t.spaces)) →
       (IsNone page → allocated s.spaces d 977919 7 ≡ None) → Loads (handler_stack_loaded d s.spaces) some s t
   unfolding handler_stack_loaded
-  handler-loads (Some frame) some is found absent =
-      subst (λ (b : Bool). Loads (handler_stack_loaded d s.spaces) b s t) (sym is) (ap only_state found, rest)
-  handler-loads None some is found absent =
-      subst (λ (b : Bool). Loads (handler_stack_loaded d s.spaces) b s t) (sym is) (ap only_state (absent refl), rest)
+  handler-loads = zeros-load 977919
+
+  pub records-load : (page : Option Frame) (some : Bool) → some ≡ is_some page →
+      IfSome page (λ frame. allocated s.spaces d 65534 7 ≡ Some (frame.0, t.spaces)) →
+      (IsNone page → allocated s.spaces d 65534 7 ≡ None) → Loads (records_loaded d s.spaces) some s t
+  unfolding records_loaded
+  records-load = zeros-load 65534
 
 -- ---- the page of the console
 
@@ -214,7 +226,13 @@ module _ (image : Layout) (file : List ℕ) (words : List (List ℕ)) (s : Kerne
         ap (program_in image file words) made ∙ ap (option_map (program_started t n image.entry words)) (loaded_at loads.0)
         ∙ ap Some (sym state)
 
-pub server-made : (s t u v : KernelState) (n : ℕ) → environment_made s 0 ≡ Ok (n, t) → u ≡ with_env_type t n FileServer →
-    v ≡ with_status u n Runnable → server_in (environment_made s 0) ≡ Some v
-server-made s t u v n made typed runs =
-    ap server_in made ∙ ap Some (sym (runs ∙ ap (λ (k : KernelState). with_status k n Runnable) typed))
+module _ (s t u : KernelState) (n : ℕ) (made : environment_made s 0 ≡ Ok (n, t)) where
+  pub server-none : Loads (records_loaded (slot_at t n).directory t.spaces) false t u → server_in (environment_made s 0) ≡ None
+  server-none loads = ap server_in made ∙ ap (option_map (server_started t n)) loads.0
+
+  pub server-made : (v w : KernelState) → Loads (records_loaded (slot_at t n).directory t.spaces) true t u → v ≡ with_env_type u n FileServer →
+      w ≡ with_status v n Runnable → server_in (environment_made s 0) ≡ Some w
+  server-made v w loads typed runs =
+      let state : w ≡ server_started t n u.spaces =
+      runs ∙ ap (λ (k : KernelState). with_status k n Runnable) (typed ∙ ap (λ (k : KernelState). with_env_type k n FileServer) loads.1) in
+      ap server_in made ∙ ap (option_map (server_started t n)) loads.0 ∙ ap Some (sym state)

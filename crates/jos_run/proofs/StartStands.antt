@@ -2,7 +2,7 @@
 use Rattle.std.proofs.Common.{◌≡◌, ◌≢◌, ◌∙◌, ◌⊎◌, inl, inr, ◌+◌, ◌-◌, ◌*◌, ◌<◌, ◌≤◌, ◌==◌, ◌||◌, ◌&&◌, ℕ, not, Bool, true, false, List, [], ◌∷◌}
 use Rattle.std.proofs.Common.{Option, Some, None, Ok, All, length}
 use Rattle.std.proofs.Common.{refl, sym, ap, subst, arith, if◌then◌else◌}
-use Rattle.std.specs.Prelude.{nat_le, nat_lt}
+use Rattle.std.specs.Prelude.{is_some, nat_le, nat_lt}
 use Rattle.std.specs.Option.{option_map}
 use Rattle.std.proofs.lemmas.Bool.{cases_eq, false≢true}
 use Rattle.std.proofs.lemmas.Bool.Decides.{nat_tests}
@@ -12,7 +12,7 @@ use Rattle.jos_base.specs.declared.registers.Regs.{Regs}
 use Rattle.jos_base.specs.Environments.{Slot, free_slot, is_live, no_extra, zero_registers}
 use Rattle.jos_base.specs.KernelState.{KernelState, with_spaces}
 use Rattle.jos_base.specs.Reach.{Entry}
-use Rattle.jos_base.specs.SpacesState.{SpacesState, reserved_frames, zero_page}
+use Rattle.jos_base.specs.SpacesState.{Region, SpacesState, reserved_frames, zero_page}
 use Rattle.jos_base.specs.SystemCalls.{has_write}
 use Rattle.jos_base.specs.TrapFrames.{bytes_of_words}
 use Rattle.jos_elf.specs.Parsed.{Layout, Lies, parsed}
@@ -23,30 +23,40 @@ use Rattle.lib_os.specs.declared.place.Place.{Place}
 use Rattle.lib_os.specs.declared.place.Place.TheVariants as place
 use Rattle.lib_os.specs.AbstractMemory.{has_page_in}
 use Rattle.lib_os.specs.AbstractState.{Born, Page, free, own, named, terminal, unborn}
-use Rattle.lib_os.specs.DescriptorPages.{device_of}
+use Rattle.lib_os.specs.Disk.{Disk}
+use Rattle.lib_os.specs.DescriptorPages.{Things, device_of}
 use Rattle.lib_os.specs.Fence.{in_fence, is_resident}
 use Rattle.lib_os.specs.LibraryPages.{LibraryPages, region_index}
 use Rattle.lib_os.specs.Places.{is_handlers, place_of}
 use Rattle.lib_os.specs.Rows.{Agree, EntryRow, IsNamed, IsPage, IsUsers, Names, counted, is_clients, is_programs, is_shared, logical, logical_by}
 use Rattle.lib_os.specs.Rows.{may_write}
-use Rattle.lib_os.specs.Rows.{descriptor_page, descriptor_perm, descriptor_seen, is_descriptor, name_of, page_by, page_seen, rows_of, seen_where}
+use Rattle.lib_os.specs.Rows.{descriptor_page, descriptor_perm, descriptor_seen, is_descriptor, lasting, name_of, page_by, page_seen, rows_of}
+use Rattle.lib_os.specs.Rows.{seen_where}
 use Rattle.lib_os.specs.Rows.{shown_at}
 use Rattle.lib_os.specs.StandsFor.{HasChildren, StandsFor, StandsForBorn, borne_in, upcall_at, view_of}
 use Rattle.lib_os.proofs.Logical.{programs_no_descriptor}
 use Rattle.lib_os.proofs.PageBytes.{page_overlaid, words_bytes, zero_page_whole}
+use Rattle.lib_os.proofs.Releasing.{row_entry}
 use Rattle.lib_os.proofs.Serving.{words_of_none}
 use Rattle.lib_spawn.specs.StackPage.{fits_stack, stack_pointer, stack_size, strings_of}
 use Rattle.lib_spawn.proofs.StackPages.{fits}
 use Rattle.lib_os.specs.Rows.{AreBytes}
+use Rattle.fs_layout.specs.FileTree.{FileSystem}
+use Rattle.fs_blocks.specs.declared.place.CachePlace.{CachePlace}
+use Rattle.fs_seen.specs.ServerMemory.{records_page}
+use Rattle.fs_seen.specs.ServerWhole.{IsFirst}
+use Rattle.fs_seen.proofs.FirstServes.{starts_serve}
 use Rattle.jos_run.specs.Begun.{IsNew, ProgramsBegin}
 use Rattle.jos_run.specs.Boot.{booted_within, console_bytes, handler_page}
-use Rattle.jos_run.specs.ServerStands.{ServerStands, StandsWhole}
-use Rattle.jos_run.specs.Start.{first_descriptors, first_memory, program_with, start_state}
+use Rattle.jos_run.specs.ServerStands.{HasRecordsAlone, IsBareCache, ServerStands, StandsWhole}
+use Rattle.jos_run.specs.Start.{HoldsFiles, first_descriptors, first_memory, no_place, program_with, start_state}
+use Rattle.jos_run.specs.Worlds.{beside}
 use Rattle.jos_run.proofs.Booted.{within-booted}
-use Rattle.jos_run.proofs.BootedPages.{IsPlain, own_by}
+use Rattle.jos_run.proofs.BootedPages.{IsPlain, no_region, own_by}
 use Rattle.jos_run.proofs.BootedSpace.{flags_are, handler_row, inside_pages, outside_no_page, outside_no_row, pages_whole, tables_are}
 use Rattle.jos_run.proofs.ConsoleLoaded.{Begins, console_page, descriptor_entry}
-use Rattle.jos_run.proofs.FirstSpaces.{HasFrames, has_frames, rising-slots}
+use Rattle.jos_run.proofs.DiskBegins.{count_on, count_small, files_on, first_held, image_on}
+use Rattle.jos_run.proofs.FirstSpaces.{HasFrames, has_frames, one_table, records_alone, records_entry, records_stand, records_zero, rising-slots, second_at}
 use Rattle.jos_run.proofs.FirstState.{base, begun_new, has_begun, registers, space_small}
 use Rattle.jos_run.proofs.PagesBegin.{space_memory}
 use Rattle.jos_run.proofs.StackLoaded.{fits-some}
@@ -152,10 +162,10 @@ module _ (image : Layout) (words : List (List ℕ)) (input : List ℕ) (frames f
       ap (λ (b : Bool). b && nat_lt (stack_pointer words) 0xeec00000) test
 
   abbrev program : Slot
-  program = two.the_program first (first + 1) regs
+  program = two.the_program first (second_at first) regs
 
   abbrev server : Slot
-  server = two.the_server first (first + 1) regs
+  server = two.the_server first (second_at first) regs
 
   program_place : place_of program ≡ place.Guest
   program_place = words_of_none regs no_extra no_handler refl
@@ -171,14 +181,14 @@ module _ (image : Layout) (words : List (List ℕ)) (input : List ℕ) (frames f
     names = the_names h.has.frame
 
     abbrev row : EntryRow
-    row = rows_of u (first + 1)
+    row = rows_of u (second_at first)
 
     abbrev before : SpacesState
     before = h.has.before
 
     -- what stood there before the console
     abbrev row_before : EntryRow
-    row_before = rows_of before (first + 1)
+    row_before = rows_of before (second_at first)
 
     abbrev console : Entry
     console = descriptor_entry h.has.frame
@@ -226,10 +236,10 @@ module _ (image : Layout) (words : List (List ℕ)) (input : List ℕ) (frames f
             ap (λ (bytes : List ℕ). Some (own bytes (has_write x.perm))) (sym (h.has.bytes p x at))
             ∙ ap (λ (page : Page). Some page) (plain_page x.perm (h.has.had.plain p x at) (u.pages x.frame) 0)
 
-    memory_seen : (p : ℕ) → first_memory image file words p ≡ page_seen names u (first + 1) p
+    memory_seen : (p : ℕ) → first_memory image file words p ≡ page_seen names u (second_at first) p
     memory_seen p = by_test (is_programs p) refl
       where
-        by_test : (t : Bool) → is_programs p ≡ t → first_memory image file words p ≡ page_seen names u (first + 1) p
+        by_test : (t : Bool) → is_programs p ≡ t → first_memory image file words p ≡ page_seen names u (second_at first) p
         by_test true inside =
             inside_pages image file words lie h.has.had p inside ∙ seen_own p
             ∙ sym (ap (option_map (page_by names u.pages)) (row_is p (programs_no_descriptor p inside)))
@@ -259,19 +269,19 @@ module _ (image : Layout) (words : List (List ℕ)) (input : List ℕ) (frames f
 
     -- the first two descriptors name the console, and there are no others
     abbrev Seen : ℕ → Type 0
-    Seen fd = first_descriptors fd ≡ descriptor_seen names u (first + 1) fd
+    Seen fd = first_descriptors fd ≡ descriptor_seen names u (second_at first) fd
 
-    named_there : row (descriptor_page 0) ≡ Some console → Some 0 ≡ name_of (shown_at names u (first + 1) (descriptor_page 0))
+    named_there : row (descriptor_page 0) ≡ Some console → Some 0 ≡ name_of (shown_at names u (second_at first) (descriptor_page 0))
     named_there is = sym (ap (λ (o : Option Entry). name_of (option_map (page_by names u.pages) o)) is)
 
-    named_there_too : row (descriptor_page 1) ≡ Some console → Some 0 ≡ name_of (shown_at names u (first + 1) (descriptor_page 1))
+    named_there_too : row (descriptor_page 1) ≡ Some console → Some 0 ≡ name_of (shown_at names u (second_at first) (descriptor_page 1))
     named_there_too is = sym (ap (λ (o : Option Entry). name_of (option_map (page_by names u.pages) o)) is)
 
     no_more : (fd : ℕ) → 2 ≤ fd → Seen fd
     no_more fd le = by_tests (nat_lt fd 2) (nat_lt fd 32) refl refl
       where
         by_tests : (s t : Bool) → nat_lt fd 2 ≡ s → nat_lt fd 32 ≡ t →
-            (if s then Some 0 else None) ≡ (if t then name_of (shown_at names u (first + 1) (descriptor_page fd)) else None)
+            (if s then Some 0 else None) ≡ (if t then name_of (shown_at names u (second_at first) (descriptor_page fd)) else None)
         by_tests true t low below = absurd (let less : fd < 2 = grind (arith, nat_tests) in omega (arith, less, le))
         by_tests false false low below = refl
         by_tests false true low below =
@@ -308,26 +318,51 @@ module _ (image : Layout) (words : List (List ℕ)) (input : List ℕ) (frames f
           (ap (λ (t : Bool). (r == 832) || t) (tables_are image file words lie h.has.had r) ∙ sym (h.has.tables r) ∙ is);
       stack = λ i. no_handler i || not (not_resident i);
       flags = flags_are image.entry words;
-      at = two.at_start first (first + 1) regs no_handler (view_of u (first + 1)) born refl refl refl;
+      at = two.at_start first (second_at first) regs no_handler (view_of u (second_at first)) born refl refl refl;
     }
 
     -- ---- the entries of both
 
-    no_server_row : (p : ℕ) → rows_of u first p ≡ None
-    no_server_row p = h.has.elsewhere first p (λ same. omega (arith, same))
+    other_space : first ≢ second_at first
+    other_space same = omega (arith, same)
+
+    -- the server has the page of the records alone
+    has_records : HasRecordsAlone (with_spaces (base image words input frames first n has) u)
+    has_records = record {
+      entry = records_entry frames first n has;
+      stands = h.others.entries first records_page other_space ∙ records_stand frames first n has;
+      bits = refl;
+      zeros = h.others.bytes first records_page (records_entry frames first n has) other_space (records_stand frames first n has)
+          ∙ records_zero frames first n has;
+      alone = λ p other. h.others.entries first p other_space ∙ records_alone frames first n has first p (λ here. other);
+      tables = λ r other. no_region (u.regions first r)
+          (h.others.tables first r other_space ∙ ap (λ (o : Option Region). is_some o) (one_table frames first n has first r (λ here. other)));
+    }
+
+    no_server_row : (p : ℕ) → p ≢ records_page → rows_of u first p ≡ None
+    unfolding rows_of
+    no_server_row p other = ap (option_map lasting) (has_records.alone p other)
+
+    -- and the program has no page in its frame
+    server_apart : (q p : ℕ) (e x : Entry) → rows_of u first q ≡ Some e → row p ≡ Some x → e.frame ≢ x.frame
+    server_apart q p e x stands there same =
+        let its = row_entry u first q e stands in
+        let programs = row_entry u (second_at first) p x there in
+        h.others.apart first q p its.0 programs.0 other_space (sym (h.others.entries first q other_space) ∙ its.1) programs.1
+        (its.2 ∙ same ∙ sym programs.2)
 
     abbrev IsPrograms : ℕ → ℕ → Entry → Type 0
     IsPrograms m p x = (m ≡ 1) × (row p ≡ Some x)
 
     abbrev entries : ℕ → EntryRow
-    entries = logical u (two.slots first (first + 1) regs)
+    entries = logical u (two.slots first (second_at first) regs)
 
     -- all are the program's
     found : (m p : ℕ) (x : Entry) → entries m p ≡ Some x → IsPrograms m p x
     found m p x is = by_slot m p x is
       where
         by_slot : (m p : ℕ) (x : Entry) → entries m p ≡ Some x → IsPrograms m p x
-        by_slot = two.each_slot first (first + 1) regs
+        by_slot = two.each_slot first (second_at first) regs
             (λ m k. (p : ℕ) (x : Entry) → logical_by (is_clients m k) (counted (place_of k) (rows_of u k.directory)) p ≡ Some x → IsPrograms m p x)
             (λ p x is. absurd cc)
             (λ p x is. (refl, sym (ap (λ (at : Place). counted at row p) program_place ∙ guests_count row p) ∙ is))
@@ -345,16 +380,16 @@ module _ (image : Layout) (words : List (List ℕ)) (input : List ℕ) (frames f
 
     -- ---- there are no children
 
-    bears_none : (m : ℕ) → borne_in (place_of (two.slots first (first + 1) regs m)) ≡ None
-    bears_none = two.each_slot first (first + 1) regs (λ m k. borne_in (place_of k) ≡ None) (ap borne_in server_place)
+    bears_none : (m : ℕ) → borne_in (place_of (two.slots first (second_at first) regs m)) ≡ None
+    bears_none = two.each_slot first (second_at first) regs (λ m k. borne_in (place_of k) ≡ None) (ap borne_in server_place)
         (ap borne_in program_place) (λ m a b. ap borne_in (words_of_none zero_registers no_extra refl refl))
 
     no_child : (m id parent : ℕ) → two.slot_of born m ≡ unborn id parent → ⊥
-    no_child = two.each_slot first (first + 1) regs (λ m k. (id parent : ℕ) → two.slot_of born m ≡ unborn id parent → ⊥)
+    no_child = two.each_slot first (second_at first) regs (λ m k. (id parent : ℕ) → two.slot_of born m ≡ unborn id parent → ⊥)
         (λ id parent is. absurd cc) (λ id parent is. absurd cc)
         (λ m a b id parent is. let none : free 0 ≡ unborn id parent = rw (a, b) at is in absurd cc)
 
-    no_children : HasChildren names u (two.slots first (first + 1) regs) (two.slot_of born)
+    no_children : HasChildren names u (two.slots first (second_at first) regs) (two.slot_of born)
     no_children = record {
       borne = λ m id parent is. absurd (no_child m id parent is);
       have = λ m id b is bears. absurd (none-some id (sym (bears_none m) ∙ bears));
@@ -372,12 +407,19 @@ module _ (image : Layout) (words : List (List ℕ)) (input : List ℕ) (frames f
     agree p q x y ne same (inr a) (inl b) = absurd (h.has.others p x a.1 (same ∙ ap (λ (e : Entry). e.frame) b.1))
     agree p q x y ne same (inr a) (inr b) = absurd (h.has.had.alone p q x y ne a.1 b.1 same)
 
+    abbrev things : Things
+    things = record { objects = λ name. terminal; opened = λ number. no_place; row = rows_of u first }
+
     named_so : (p : ℕ) (x : Entry) → is_shared x.perm ≡ true → IsConsoles p x ⊎ StoodBefore p x →
-        IsNamed names u.pages (λ name. []) (λ name. terminal) 1 p x.frame
+        IsNamed names u.pages (λ name. []) things 1 p x.frame
     named_so p x shared_page (inl consoles) = record {
       home = sym (ap (λ (e : Entry). e.frame) consoles.1);
       kind = sym consoles.0;
-      shows = ap (λ (e : Entry). device_of (u.pages e.frame)) consoles.1 ∙ ap (λ (bytes : List ℕ). device_of bytes) h.has.shows ∙ console_device;
+      shows = record {
+        device = ap (λ (e : Entry). device_of (u.pages e.frame)) consoles.1 ∙ ap (λ (bytes : List ℕ). device_of bytes) h.has.shows ∙ console_device;
+        apart = λ q e stands same. server_apart q (descriptor_page 0) e console stands h.has.first
+            (same ∙ ap (λ (y : Entry). y.frame) consoles.1);
+      };
       old = omega arith;
     }
     named_so p x shared_page (inr stood) = absurd (false≢true (sym (plain_own x.perm (h.has.had.plain p x stood.1)) ∙ shared_page))
@@ -395,65 +437,92 @@ module _ (image : Layout) (words : List (List ℕ)) (input : List ℕ) (frames f
 
     -- ---- the whole
 
-    pub state_stands : AreBytes input → StandsFor names (with_spaces (base image words input frames first n has) u) (start_state image file words input)
-    state_stands input_bytes = record {
-      slots = two.slot_stands first (first + 1) regs names u born
-          (two.server_stands first (first + 1) regs) program_stands;
-      children = no_children;
-      apart = λ d p e q x y ne is js same. let a = found d p x is in let b = found e q y js in
-          agree p q x y (ne (a.0 ∙ sym b.0)) same (which p x a.1) (which q y b.1);
-      named = λ d p x is shared_page. let a = found d p x is in named_so p x shared_page (which p x a.1);
-      users = λ d p x is. let a = found d p x is in users_are p x (which p x a.1);
-      whole = λ d p x is. let a = found d p x is in whole_page p x (which p x a.1);
-      free_slots = record { same = refl; within = rising-slots 2 1022 (omega arith) };
-      first = refl;
-      beside = λ n p q x e is stands. absurd (none-some e (sym (no_server_row q) ∙ stands));
-      server = two.server_has first (first + 1) regs u no_server_row (λ r. h.has.tables_elsewhere first r (λ same. omega (arith, same)))
-          (start_state image file words input).opened (start_state image file words input).files.blocks;
-      input = (refl, input_bytes);
-      last = refl;
-      turns = refl;
-      tabled = two.are_tabled first (first + 1) regs None;
-      in_order = h.in_order;
-    }
+    module _ (files : FileSystem) where
+      abbrev first_whole : KernelState
+      first_whole = with_spaces (base image words input frames first n has) u
 
-    -- the file server stands at its first step
-    pub server_begins : ServerStands (with_spaces (base image words input frames first n has) u) (start_state image file words input)
-    server_begins = record {
-      at = two.server_leaves first (first + 1) regs;
-      twelve = refl;
-      bare = λ r. h.has.tables_elsewhere first r (λ same. omega (arith, same));
-      cache = two.cache_rests first (first + 1) regs;
-      asked = record {
-        asked = λ client is. absurd (none-some client is);
-        given = two.given_apart born refl;
-      };
-    }
+      pub state_stands : AreBytes input → StandsFor names first_whole (start_state image file words input files)
+      state_stands input_bytes = record {
+        slots = two.slot_stands first (second_at first) regs names u born
+            (two.server_stands first (second_at first) regs) program_stands;
+        children = no_children;
+        apart = λ d p e q x y ne is js same. let a = found d p x is in let b = found e q y js in
+            agree p q x y (ne (a.0 ∙ sym b.0)) same (which p x a.1) (which q y b.1);
+        named = λ d p x is shared_page. let a = found d p x is in named_so p x shared_page (which p x a.1);
+        users = λ d p x is. let a = found d p x is in users_are p x (which p x a.1);
+        whole = λ d p x is. let a = found d p x is in whole_page p x (which p x a.1);
+        free_slots = record { same = refl; within = rising-slots 2 1022 (omega arith) };
+        first = refl;
+        beside = λ m p q x e is stands same. let a = found m p x is in absurd (server_apart q p e x stands a.1 (sym same));
+        server = two.server_has first (second_at first) regs u no_server_row has_records.tables (λ number. no_place) files.blocks;
+        consoles = λ name. refl;
+        input = (refl, input_bytes);
+        last = refl;
+        turns = refl;
+        tabled = two.are_tabled first (second_at first) regs None;
+        in_order = h.in_order;
+      }
+
+      -- the file server is about to begin
+      server_first : IsFirst first_whole 0
+      server_first = record {
+        in_order = h.in_order;
+        lives = refl;
+        server = refl;
+        long = refl;
+        rests = two.cache_rests first (second_at first) regs;
+        at = two.server_leaves first (second_at first) regs;
+        entry = has_records.entry;
+        stands = has_records.stands;
+        bits = has_records.bits;
+        zeros = has_records.zeros;
+        alone = has_records.alone;
+      }
+
+      -- so it stands over a disk that has the files
+      pub server_begins : (d : Disk) → HoldsFiles d files → ServerStands d first_whole (start_state image file words input files)
+      server_begins d holds = record {
+        serving = starts_serve (start_state image file words input files) d first_whole server_first (count_small d files holds) holds.bytes
+            (record { disk = image_on d files holds; count_is = count_on d files holds; are = files_on d files holds }) refl (λ number. refl)
+            (λ name. refl) (first_held image file words input files);
+        twelve = refl;
+        client = λ client is. absurd (none-some client is);
+        asked = record {
+          asked = λ client is. absurd (none-some client is);
+          given = two.given_apart born refl;
+        };
+        built = tt;
+        records = has_records;
+        cache = subst (λ (at : CachePlace). IsBareCache at) (sym (two.cache_rests first (second_at first) regs)) tt;
+        unheld = λ number. refl;
+      }
 
 pub programs_begin : ProgramsBegin
 programs_begin image file words frames input s file_bytes word_bytes input_bytes read fit least most is =
     let h = fits words fit in
     let has = has_frames frames least most in
     let first = reserved_frames frames in
-    let n = frames - reserved_frames frames - 2 in
+    let n = frames - reserved_frames frames - 4 in
     let begun = has_begun image words input frames first n has file s read (fits-some words h) h.size is in (
-      (
+      begun_new image words input frames first n has file s begun,
+      λ d files holds. (
         (
           the_names begun.begins.has.frame,
-          subst (λ (k : KernelState). StandsFor (the_names begun.begins.has.frame) k (start_state image file words input)) (sym begun.state)
+          subst (λ (k : KernelState). StandsFor (the_names begun.begins.has.frame) k (start_state image file words input files)) (sym begun.state)
               (state_stands image words input frames first n has h.size file file_bytes word_bytes (read_lie file image read) begun.loaded
-              begun.begins input_bytes),
+              begun.begins files input_bytes),
         ),
-        subst (λ (k : KernelState). ServerStands k (start_state image file words input)) (sym begun.state)
-            (server_begins image words input frames first n has h.size file file_bytes word_bytes (read_lie file image read) begun.loaded begun.begins),
+        subst (λ (k : KernelState). ServerStands d k (start_state image file words input files)) (sym begun.state)
+            (server_begins image words input frames first n has h.size file file_bytes word_bytes (read_lie file image read) begun.loaded begun.begins
+            files d holds),
       ),
-      begun_new image words input frames first n has file s begun,
     )
 
 -- the same where the frames that the program wants are there
 pub begun_within : (image : Layout) (file : List ℕ) (words : List (List ℕ)) (frames : ℕ) (input : List ℕ) (s : KernelState) →
     AreBytes file → AreBytes (strings_of words) → AreBytes input → parsed file ≡ Ok image → fits_stack words ≡ true → 64 ≤ frames → frames ≤ 65536 →
-    booted_within image file words frames input ≡ Some s → StandsWhole s (start_state image file words input) × IsNew s frames
+    booted_within image file words frames input ≡ Some s → IsNew s frames
+    × ((d : Disk) (files : FileSystem) → HoldsFiles d files → StandsWhole (beside s (Some d)) (start_state image file words input files))
 begun_within image file words frames input s file_bytes word_bytes input_bytes read fit least most is =
     programs_begin image file words frames input s file_bytes word_bytes input_bytes read fit least most
     (within-booted image file words frames input s is)
@@ -466,6 +535,6 @@ new_within image file words frames input s read fit least most is =
     let h = fits words fit in
     let has = has_frames frames least most in
     let first = reserved_frames frames in
-    let n = frames - reserved_frames frames - 2 in
+    let n = frames - reserved_frames frames - 4 in
     begun_new image words input frames first n has file s
     (has_begun image words input frames first n has file s read (fits-some words h) h.size (within-booted image file words frames input s is))

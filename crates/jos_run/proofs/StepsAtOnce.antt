@@ -23,6 +23,7 @@ use Rattle.lib_os.specs.declared.place.Place.TheVariants as place
 use Rattle.lib_os.specs.declared.progress.Progress.{Progress}
 use Rattle.lib_os.specs.declared.progress.Progress.TheVariants as progress
 use Rattle.lib_os.specs.LibrarySteps.{IsLibraryStep, Leaves, LeavesRest, Lowers, TakesByPlace, is_pausing}
+use Rattle.lib_os.specs.Disk.{Disk}
 use Rattle.lib_os.specs.InOrder.{IsInOrder}
 use Rattle.lib_os.specs.Places.{place_of}
 use Rattle.lib_os.specs.UserCalls.{Output, is_file_server}
@@ -38,6 +39,7 @@ use Rattle.jos_run.specs.RunSteps.{StepMade, IsMade, LeadTo, traps_of, written_i
 use Rattle.jos_run.specs.ServerStands.{KeepsWhole}
 use Rattle.jos_run.specs.Steps.{LeavesAs, Raises, RaisesAs, is_awake, is_servers, step_progress}
 use Rattle.jos_run.specs.StepsAtOnce.{GuestGoesOn, came_to, MakesSteps}
+use Rattle.jos_run.specs.Worlds.{World, beside}
 use Rattle.jos_run.proofs.GuestLeaves.{guest_leaves}
 use Rattle.jos_run.proofs.GuestStands.{SmallAtFault, copying_at, instruction_end, instruction_step}
 use Rattle.jos_run.proofs.GuestTakes.{guest_takes}
@@ -63,7 +65,7 @@ small_before (Soft vector) old new left small = tt
 small_before (Raised trap error va) old new left small = λ is. subst AreSmall left small
 
 -- so it is as many steps of its environment
-module _ {n going ip : ℕ} {event : Event} (s mid after : KernelState) (output : Output) (b : IsGuestBurst n going s mid ip event)
+module _ {n going ip : ℕ} {event : Event} (disk : Option Disk) (s mid after : KernelState) (output : Output) (b : IsGuestBurst n going s mid ip event)
     (user : is_servers s n ≡ false) (awake : is_awake (slot_at s n).status ≡ true) (guest : place_of (slot_at s n) ≡ place.Guest) (small : AreSmall (slot_at mid n).registers)
     (order : IsInOrder after) where
   still_awake : is_awake (slot_at b.reached n).status ≡ true
@@ -84,12 +86,12 @@ module _ {n going ip : ℕ} {event : Event} (s mid after : KernelState) (output 
 
   makes : (last : Result StepOutcome Failed) → IsLibraryStep (step_progress last) n b.reached after output →
       Leaves (step_progress last) n b.reached after → Lowers (step_progress last) n b.reached after → IfOk (step_progress last) (λ done. TakesByPlace n b.reached after) →
-      IfOk last (λ stepped. Raises (place_of (slot_at b.reached n)) n b.reached stepped.trap after) → MakesSteps n going last s after output
+      IfOk last (λ stepped. Raises (place_of (slot_at b.reached n)) n b.reached stepped.trap after) → MakesSteps n going last (beside s disk) (beside after disk) output
   makes (Ok stepped) step leaves lowers takes raises = record {
     reached = b.reached;
     went = b.went;
     is_guest = λ some. (user, guest);
-    step = whole_step b.reached after n output reached_user still_awake (Ok stepped.progress) (leaves.server, leaves.places) step;
+    step = whole_step disk b.reached after n output reached_user still_awake (Ok stepped.progress) (leaves.server, leaves.places) step;
     rest = leaves.rest;
     leaves = leaves_as (is_servers b.reached n) (Ok stepped.progress) b.reached after n reached_user (record {
       each = leaves;
@@ -103,7 +105,7 @@ module _ {n going ip : ℕ} {event : Event} (s mid after : KernelState) (output 
     reached = b.reached;
     went = b.went;
     is_guest = λ some. (user, guest);
-    step = whole_step b.reached after n output reached_user still_awake (Err failed) tt step;
+    step = whole_step disk b.reached after n output reached_user still_awake (Err failed) tt step;
     rest = tt;
     leaves = leaves_as (is_servers b.reached n) (Err failed) b.reached after n reached_user
         (record { each = tt; lowers = tt; gives_up = tt; takes = tt });
@@ -113,7 +115,7 @@ module _ {n going ip : ℕ} {event : Event} (s mid after : KernelState) (output 
   by_followed : (copying live : Bool) → copying_at b.reached n ≡ copying → (followed : Result (Option TrapLine) Failed) →
       Follows followed (guest_instruction b.reached n) after output →
       OnErr followed (is_handed_over (instruction_end b.reached n) n step.event ≡ false) →
-      MakesSteps n going (came_to copying live followed) s after output
+      MakesSteps n going (came_to copying live followed) (beside s disk) (beside after disk) output
   by_followed true live is (Ok trap) told ended =
       makes (Ok (record { progress = progress.Hidden; trap = trap }))
       (program_copies b.reached after n output reached_user still_awake b.is_guest still_small order is trap told)
@@ -135,7 +137,7 @@ module _ {n going ip : ℕ} {event : Event} (s mid after : KernelState) (output 
 
   pub program_made : (copying live : Bool) → copying ≡ is_copying mid n event → (followed : Result (Option TrapLine) Failed) →
       Follows followed (after_event mid n ip event) after output → OnErr followed (is_handed_over mid n event ≡ false) →
-      MakesSteps n going (came_to copying live followed) s after output
+      MakesSteps n going (came_to copying live followed) (beside s disk) (beside after disk) output
   program_made copying live is followed told ended =
       by_followed copying live ((λ i. is_copying (b.end_is i) n (b.event_is i)) ∙ sym is) followed
       (subst (λ (step : EnvStep). Follows followed step after output) (sym b.last) told)
@@ -144,7 +146,7 @@ module _ {n going ip : ℕ} {event : Event} (s mid after : KernelState) (output 
 -- ---- steps of a run
 
 -- a step of the environment in slot n
-abbrev pub made_step : ℕ → Bool → Bool → Progress → List ℕ → Option TrapLine → KernelState → StepMade
+abbrev pub made_step : ℕ → Bool → Bool → Progress → List ℕ → Option TrapLine → World → StepMade
 made_step n begins goes_on done bytes trap left = record {
   slot = n;
   begins = begins;
@@ -156,21 +158,21 @@ made_step n begins goes_on done bytes trap left = record {
 }
 
 -- an instruction that goes on
-abbrev quiet_step : ℕ → Bool → KernelState → StepMade
-quiet_step n begins left = made_step n begins true progress.Visible [] None left
+abbrev quiet_step : Option Disk → ℕ → Bool → KernelState → StepMade
+quiet_step disk n begins left = made_step n begins true progress.Visible [] None (beside left disk)
 
--- So many of them, and the last step, given whether it is the first of its turn.
-pub steps_with : (begins : Bool) (n k : ℕ) (s t : KernelState) → GuestGoesOn n k s t → (Bool → StepMade) → List StepMade
-steps_with begins n zero s t g last = last begins ∷ []
-steps_with begins n (suc k) s t g last = quiet_step n begins g.0 ∷ steps_with false n k g.0 t g.3 last
+-- So many of them beside a disk, and the last step, given whether it is the first of its turn.
+pub steps_with : (disk : Option Disk) (begins : Bool) (n k : ℕ) (s t : KernelState) → GuestGoesOn n k s t → (Bool → StepMade) → List StepMade
+steps_with disk begins n zero s t g last = last begins ∷ []
+steps_with disk begins n (suc k) s t g last = quiet_step disk n begins g.0 ∷ steps_with disk false n k g.0 t g.3 last
 
 -- ---- one that goes on
 
 -- whether it is the first of its turn or not
-quiet_made : (begins : Bool) (n : ℕ) (s u after : KernelState) → guest_instruction s n ≡ quietly after → is_servers s n ≡ false →
+quiet_made : (disk : Option Disk) (begins : Bool) (n : ℕ) (s u after : KernelState) → guest_instruction s n ≡ quietly after → is_servers s n ≡ false →
     place_of (slot_at s n) ≡ place.Guest → is_running (slot_at s n).status ≡ true → (if begins then turn_begun u n else u) ≡ s →
-    (begins ≡ true → next u.environments u.last ≡ Some n) → IsMade u (quiet_step n begins after)
-quiet_made begins n s u after g user guest runs is chosen =
+    (begins ≡ true → next u.environments u.last ≡ Some n) → IsMade (beside u disk) (quiet_step disk n begins after)
+quiet_made disk begins n s u after g user guest runs is chosen =
     let state_is : after ≡ (guest_instruction s n).state = ap (λ (step : EnvStep). step.state) (sym g) in
     let left : Leaves (Ok progress.Visible) n s after = guest_leaves s after n progress.Visible state_is in
     record {
@@ -179,8 +181,8 @@ quiet_made begins n s u after g user guest runs is chosen =
       raises = subst (λ (x : KernelState). RaisesAs (is_servers x n) n x None after) (sym is)
           (raises_as (is_servers s n) s after n None user
           (guest_raises s after n None guest state_is (ap (λ (step : EnvStep). step.trap) (sym g))));
-      keeps = subst (λ (x : KernelState). KeepsWhole progress.Visible n x after []) (sym is)
-          (quiet_keeps s after n g user (running_awake (slot_at s n).status runs) guest);
+      keeps = subst (λ (x : KernelState). KeepsWhole progress.Visible n (beside x disk) (beside after disk) []) (sym is)
+          (quiet_keeps s after n g disk user (running_awake (slot_at s n).status runs) guest);
       rest = subst (λ (x : KernelState). LeavesRest x after) (sym is) left.rest;
       leaves = subst (λ (x : KernelState). LeavesAs (is_servers x n) (Ok progress.Visible) n x after) (sym is)
           (leaves_as (is_servers s n) (Ok progress.Visible) s after n user (record {
@@ -193,39 +195,40 @@ quiet_made begins n s u after g user guest runs is chosen =
 
 -- ---- all of them
 
-module _ (n : ℕ) (goes_on : Bool) (done : Progress) (bytes : List ℕ) (trap : Option TrapLine) (left : KernelState) where
+module _ (disk : Option Disk) (n : ℕ) (goes_on : Bool) (done : Progress) (bytes : List ℕ) (trap : Option TrapLine) (left : World) where
   abbrev last : Bool → StepMade
   last begins = made_step n begins goes_on done bytes trap left
 
   pub steps_long : (begins : Bool) (k : ℕ) (s t : KernelState) (g : GuestGoesOn n k s t) →
-      length (steps_with begins n k s t g last) ≡ k + 1
+      length (steps_with disk begins n k s t g last) ≡ k + 1
   unfolding steps_with
   steps_long begins zero s t g = refl
   steps_long begins (suc k) s t g =
-      let rest : length (steps_with false n k g.0 t g.3 last) ≡ k + 1 = steps_long false k g.0 t g.3 in omega arith
+      let rest : length (steps_with disk false n k g.0 t g.3 last) ≡ k + 1 = steps_long false k g.0 t g.3 in omega arith
 
   -- they lead on to where the last one leads
-  module _ (t v : KernelState) (raises : RaisesAs (is_servers t n) n t trap left) (keeps : KeepsWhole done n t left bytes)
-      (rest : LeavesRest t left) (leaves : LeavesAs (is_servers t n) (Ok done) n t left)
-      (passed_is : (if goes_on then left else turn_ended left n) ≡ v) where
+  module _ (t v : KernelState) (raises : RaisesAs (is_servers t n) n t trap left.state) (keeps : KeepsWhole done n (beside t disk) left bytes)
+      (rest : LeavesRest t left.state) (leaves : LeavesAs (is_servers t n) (Ok done) n t left.state)
+      (passed_is : (if goes_on then left.state else turn_ended left.state n) ≡ v) where
     pub steps_lead : (begins : Bool) (k : ℕ) (s u : KernelState) (g : GuestGoesOn n k s t) → (if begins then turn_begun u n else u) ≡ s →
         (begins ≡ true → next u.environments u.last ≡ Some n) → is_running (slot_at s n).status ≡ true →
-        (0 < k → (is_servers s n ≡ false) × (place_of (slot_at s n) ≡ place.Guest)) → LeadTo (steps_with begins n k s t g last) u v
+        (0 < k → (is_servers s n ≡ false) × (place_of (slot_at s n) ≡ place.Guest)) →
+        LeadTo (steps_with disk begins n k s t g last) (beside u disk) (beside v left.disk)
     unfolding steps_with LeadTo
     steps_lead begins zero s u g is chosen runs guest =
         let at_last : (if begins then turn_begun u n else u) ≡ t = is ∙ sym g in (
           record {
             chosen = chosen;
             running = (λ i. is_running (slot_at (is i) n).status) ∙ runs;
-            raises = subst (λ (x : KernelState). RaisesAs (is_servers x n) n x trap left) (sym at_last) raises;
-            keeps = subst (λ (x : KernelState). KeepsWhole done n x left bytes) (sym at_last) keeps;
-            rest = subst (λ (x : KernelState). LeavesRest x left) (sym at_last) rest;
-            leaves = subst (λ (x : KernelState). LeavesAs (is_servers x n) (Ok done) n x left) (sym at_last) leaves;
+            raises = subst (λ (x : KernelState). RaisesAs (is_servers x n) n x trap left.state) (sym at_last) raises;
+            keeps = subst (λ (x : KernelState). KeepsWhole done n (beside x disk) left bytes) (sym at_last) keeps;
+            rest = subst (λ (x : KernelState). LeavesRest x left.state) (sym at_last) rest;
+            leaves = subst (λ (x : KernelState). LeavesAs (is_servers x n) (Ok done) n x left.state) (sym at_last) leaves;
           },
-          passed_is,
+          ap (λ (x : KernelState). beside x left.disk) passed_is,
         )
     steps_lead begins (suc k) s u g is chosen runs guest = (
-      quiet_made begins n s u g.0 g.1 (guest (omega arith)).0 (guest (omega arith)).1 runs is chosen,
+      quiet_made disk begins n s u g.0 g.1 (guest (omega arith)).0 (guest (omega arith)).1 runs is chosen,
       steps_lead false k g.0 g.0 g.3 refl (λ so. absurd (let contradiction : false ≡ true = so in cc))
           (ap (λ (x : Status). is_running x) (quiet_calm s g.0 n g.1).status ∙ runs)
           (λ some. (still_user s g.0 n g.1 (guest (omega arith)).0, g.2)),
@@ -233,13 +236,13 @@ module _ (n : ℕ) (goes_on : Bool) (done : Progress) (bytes : List ℕ) (trap :
 
   -- none of those that go on raises a trap or writes
   pub steps_traps : (begins : Bool) (k : ℕ) (s t : KernelState) (g : GuestGoesOn n k s t) →
-      traps_of (steps_with begins n k s t g last) ≡ traps_of (last begins ∷ [])
+      traps_of (steps_with disk begins n k s t g last) ≡ traps_of (last begins ∷ [])
   unfolding steps_with traps_of
   steps_traps begins zero s t g = refl
   steps_traps begins (suc k) s t g = steps_traps false k g.0 t g.3
 
   pub steps_written : (begins : Bool) (k : ℕ) (s t : KernelState) (g : GuestGoesOn n k s t) →
-      written_in (steps_with begins n k s t g last) ≡ written_in (last begins ∷ [])
+      written_in (steps_with disk begins n k s t g last) ≡ written_in (last begins ∷ [])
   unfolding steps_with written_in
   steps_written begins zero s t g = refl
   steps_written begins (suc k) s t g = steps_written false k g.0 t g.3
@@ -247,7 +250,7 @@ module _ (n : ℕ) (goes_on : Bool) (done : Progress) (bytes : List ℕ) (trap :
   -- the turn with them
   pub steps_turns : (begins : Bool) (k : ℕ) (s t : KernelState) (g : GuestGoesOn n k s t) (turns : List Turn) (slot visible hidden : ℕ) →
       (begins ≡ true → (slot ≡ n) × (visible ≡ 0) × (hidden ≡ 0)) →
-      turns_with (if begins then turns else turns ++ turn_of slot visible hidden ∷ []) (steps_with begins n k s t g last)
+      turns_with (if begins then turns else turns ++ turn_of slot visible hidden ∷ []) (steps_with disk begins n k s t g last)
       ≡ turns ++ turn_of slot (visible + (k + visible_steps done)) (hidden + hidden_steps done) ∷ []
   unfolding steps_with
   steps_turns begins zero s t g turns slot visible hidden begun =
@@ -255,11 +258,11 @@ module _ (n : ℕ) (goes_on : Bool) (done : Progress) (bytes : List ℕ) (trap :
       turn_longer begins turns (last begins) slot visible hidden refl begun
       ∙ (λ i. turns ++ turn_of slot (none i) (hidden + hidden_steps done) ∷ [])
   steps_turns begins (suc k) s t g turns slot visible hidden begun =
-      let first = quiet_step n begins g.0 in
+      let first = quiet_step disk n begins g.0 in
       let none : hidden + 0 ≡ hidden = omega arith in
       let all : (visible + 1) + (k + visible_steps done) ≡ visible + (suc k + visible_steps done) = omega arith in
-      turns_further (if begins then turns else turns ++ turn_of slot visible hidden ∷ []) (first ∷ []) (steps_with false n k g.0 t g.3 last)
-      ∙ ap (λ (l : List Turn). turns_with l (steps_with false n k g.0 t g.3 last))
+      turns_further (if begins then turns else turns ++ turn_of slot visible hidden ∷ []) (first ∷ []) (steps_with disk false n k g.0 t g.3 last)
+      ∙ ap (λ (l : List Turn). turns_with l (steps_with disk false n k g.0 t g.3 last))
       (turn_longer begins turns first slot visible hidden refl begun ∙ (λ i. turns ++ turn_of slot (visible + 1) (none i) ∷ []))
       ∙ steps_turns false k g.0 t g.3 turns slot (visible + 1) hidden (λ so. absurd (let contradiction : false ≡ true = so in cc))
       ∙ (λ i. turns ++ turn_of slot (all i) (hidden + hidden_steps done) ∷ [])

@@ -29,7 +29,8 @@ use Rattle.lib_os.specs.declared.progress.Progress.{Progress}
 use Rattle.lib_os.specs.declared.progress.Progress.TheVariants as progress
 use Rattle.lib_os.specs.AbstractState.{AbstractState}
 use Rattle.lib_os.specs.AbstractRun.{abs_step}
-use Rattle.lib_os.specs.LibrarySteps.{KeepsUses, LeavesEach, LeavesRest, NothingRefused}
+use Rattle.lib_os.specs.Disk.{Disk}
+use Rattle.lib_os.specs.LibrarySteps.{KeepsUses, LeavesEach, LeavesRest, NothingRefused, Stands}
 use Rattle.lib_os.specs.Need.{EachHasUse, NeedIsReached, need}
 use Rattle.lib_os.specs.Places.{place_of}
 use Rattle.lib_os.specs.UserCalls.{Output}
@@ -43,6 +44,7 @@ use Rattle.jos_run.specs.RunSteps.{StepMade, LeadTo, traps_of, written_in, turns
 use Rattle.jos_run.specs.ServerStands.{KeepsWhole, ServerLeaves, StandsWhole}
 use Rattle.jos_run.specs.Steps.{LeavesAs, RaisesAs, is_servers}
 use Rattle.jos_run.specs.StepsAtOnce.{GuestGoesOn, MakesSteps}
+use Rattle.jos_run.specs.Worlds.{World, beside}
 use Rattle.jos_run.specs.Running.{state_of, turns_so_far, Holds, StandsBy, StandsSo, RunsBy, Runs, IsChosen, entered}
 use Rattle.jos_run.specs.Running.{goes_on_after, turn_after, CountedBy, Counted, Went, HasFailed}
 use Rattle.jos_run.proofs.Advancing.{Comes, server_stepped, stepped, turn_over}
@@ -109,27 +111,28 @@ entered_turns r n holds = by_test (made r.book == 0) refl holds.turns
     by_test true is h = ap (λ (k : ℕ). k + 1) h
     by_test false is h = h
 
-in_turn_of : (first : AbstractState) (r : LibraryRun) (n : ℕ) (printed : List ℕ) → IsChosen r n →
-    StandsBy (made r.book == 0) r.book.schedule first r printed →
-    IsInTurn r.book.schedule first r.book.turns.items n r.book.visible (entered r n) printed
-in_turn_of first r n printed chosen stands = by_test (made r.book == 0) refl stands
+in_turn_of : (first : AbstractState) (disk : Option Disk) (r : LibraryRun) (n : ℕ) (printed : List ℕ) → IsChosen r n →
+    StandsBy (made r.book == 0) r.book.schedule first disk r printed →
+    IsInTurn r.book.schedule first r.book.turns.items n r.book.visible (beside (entered r n) disk) printed
+in_turn_of first disk r n printed chosen stands = by_test (made r.book == 0) refl stands
   where
-    by_test : (c : Bool) → (made r.book == 0) ≡ c → StandsBy c r.book.schedule first r printed →
-        IsInTurn r.book.schedule first r.book.turns.items n r.book.visible (if c then turn_begun (state_of r) n else state_of r) printed
+    by_test : (c : Bool) → (made r.book == 0) ≡ c → StandsBy c r.book.schedule first disk r printed →
+        IsInTurn r.book.schedule first r.book.turns.items n r.book.visible (beside (if c then turn_begun (state_of r) n else state_of r) disk) printed
     by_test true is h =
         let none : 0 ≡ r.book.visible = (let all : made r.book ≡ 0 = none_made r is in omega arith) in
-        subst (λ (visible : ℕ). IsInTurn r.book.schedule first r.book.turns.items n visible (turn_begun (state_of r) n) printed) none
+        subst (λ (visible : ℕ). IsInTurn r.book.schedule first r.book.turns.items n visible (beside (turn_begun (state_of r) n) disk) printed) none
         (turn_begins h n (chosen.next_is (none_made r is)))
     by_test false is h =
-        subst (λ (m : ℕ). IsInTurn r.book.schedule first r.book.turns.items m r.book.visible (state_of r) printed) (sym (chosen.turn (some_made r is))) h
+        subst (λ (m : ℕ). IsInTurn r.book.schedule first r.book.turns.items m r.book.visible (beside (state_of r) disk) printed)
+        (sym (chosen.turn (some_made r is))) h
 
 -- Where the file server's turn is under way, or begins, there is another environment.
-entered_others : {frames : ℕ} (first : AbstractState) (r : LibraryRun) (n : ℕ) (printed : List ℕ) → IsChosen r n →
-    StandsSo first frames r printed → n ≡ 0 → others_live (entered r n) ≡ true
+entered_others : {frames : ℕ} (first : AbstractState) (disk : Option Disk) (r : LibraryRun) (n : ℕ) (printed : List ℕ) → IsChosen r n →
+    StandsSo first frames disk r printed → n ≡ 0 → others_live (entered r n) ≡ true
 unfolding turn_begins
-entered_others first r n printed chosen so is_first = by_test (made r.book == 0) refl so.stands
+entered_others first disk r n printed chosen so is_first = by_test (made r.book == 0) refl so.stands
   where
-    by_test : (c : Bool) → (made r.book == 0) ≡ c → StandsBy c r.book.schedule first r printed →
+    by_test : (c : Bool) → (made r.book == 0) ≡ c → StandsBy c r.book.schedule first disk r printed →
         others_live (if c then turn_begun (state_of r) n else state_of r) ≡ true
     by_test true is h =
         let none = none_made r is in
@@ -154,9 +157,9 @@ pub record Reaches (r : LibraryRun) (n going : ℕ) : Type 0 where
   pub reached : KernelState
   pub went : GuestGoesOn n going (entered r n) reached
 
-abbrev pub reaches : {r : LibraryRun} {n going : ℕ} {last : Result StepOutcome Failed} {after : KernelState} {output : Output} → Holds r → IsChosen r n →
-    made r.book + going < quantum r.book.schedule (length r.book.turns.items) → is_running (slot_at (entered r n) n).status ≡ true →
-    MakesSteps n going last (entered r n) after output → Reaches r n going
+abbrev pub reaches : {r : LibraryRun} {n going : ℕ} {last : Result StepOutcome Failed} {disk : Option Disk} {after : World} {output : Output} →
+    Holds r → IsChosen r n → made r.book + going < quantum r.book.schedule (length r.book.turns.items) →
+    is_running (slot_at (entered r n) n).status ≡ true → MakesSteps n going last (beside (entered r n) disk) after output → Reaches r n going
 reaches holds chosen left running b = record {
   holds = holds;
   chosen = chosen;
@@ -168,9 +171,9 @@ reaches holds chosen left running b = record {
 }
 
 -- what the calls of steps have done before they are counted
-pub record Makes (r m : LibraryRun) (n going : ℕ) (done : Progress) (bytes : List ℕ) : Type 0 where
+pub record Makes (r m : LibraryRun) (disks : Around (Option Disk)) (n going : ℕ) (done : Progress) (bytes : List ℕ) : Type 0 where
   pub before : Reaches r n going
-  pub keeps : KeepsWhole done n before.reached (state_of m) bytes
+  pub keeps : KeepsWhole done n (beside before.reached disks.before) (beside (state_of m) disks.after) bytes
   pub rest : LeavesRest before.reached (state_of m)
   pub leaves : LeavesAs (is_servers before.reached n) (Ok done) n before.reached (state_of m)
   pub trap : Option TrapLine
@@ -232,45 +235,46 @@ told_turns false m after visible hidden more k =
 -- ---- nothing was refused
 
 -- the same in other words
-between_is : {schedule schedule' : List ℕ} {first : AbstractState} {turns turns' : List Turn} {s s' : KernelState} {printed : List ℕ} →
-    schedule ≡ schedule' → turns ≡ turns' → s ≡ s' → IsBetween schedule first turns s printed →
-    IsBetween schedule' first turns' s' printed
-between_is {schedule' = schedule'} {first = first} {turns = turns} {turns' = turns'} {s = s} {printed = printed} a b c h =
-    subst (λ (x : KernelState). IsBetween schedule' first turns' x printed) c
-    (subst (λ (x : List Turn). IsBetween schedule' first x s printed) b (subst (λ (x : List ℕ). IsBetween x first turns s printed) a h))
+between_is : {schedule schedule' : List ℕ} {first : AbstractState} {turns turns' : List Turn} {s s' : KernelState} {disk : Option Disk}
+    {printed : List ℕ} → schedule ≡ schedule' → turns ≡ turns' → s ≡ s' → IsBetween schedule first turns (beside s disk) printed →
+    IsBetween schedule' first turns' (beside s' disk) printed
+between_is {schedule' = schedule'} {first = first} {turns = turns} {turns' = turns'} {s = s} {disk = disk} {printed = printed} a b c h =
+    subst (λ (x : KernelState). IsBetween schedule' first turns' (beside x disk) printed) c
+    (subst (λ (x : List Turn). IsBetween schedule' first x (beside s disk) printed) b
+    (subst (λ (x : List ℕ). IsBetween x first turns (beside s disk) printed) a h))
 
 in_turn_is : {schedule schedule' : List ℕ} {first : AbstractState} {turns turns' : List Turn} {n n' visible visible' : ℕ}
-    {s s' : KernelState}
+    {s s' : KernelState} {disk : Option Disk}
     {printed : List ℕ} → schedule ≡ schedule' → turns ≡ turns' → n ≡ n' → visible ≡ visible' → s ≡ s' →
-    IsInTurn schedule first turns n visible s printed → IsInTurn schedule' first turns' n' visible' s' printed
+    IsInTurn schedule first turns n visible (beside s disk) printed → IsInTurn schedule' first turns' n' visible' (beside s' disk) printed
 in_turn_is {schedule' = schedule'} {first = first} {turns = turns} {turns' = turns'} {n = n} {n' = n'} {visible = visible}
-    {visible' = visible'} {s = s}
+    {visible' = visible'} {s = s} {disk = disk}
     {printed = printed} a b c d e h =
-    subst (λ (x : KernelState). IsInTurn schedule' first turns' n' visible' x printed) e
-    (subst (λ (x : ℕ). IsInTurn schedule' first turns' n' x s printed) d
-    (subst (λ (x : ℕ). IsInTurn schedule' first turns' x visible s printed) c
-    (subst (λ (x : List Turn). IsInTurn schedule' first x n visible s printed) b
-    (subst (λ (x : List ℕ). IsInTurn x first turns n visible s printed) a h))))
+    subst (λ (x : KernelState). IsInTurn schedule' first turns' n' visible' (beside x disk) printed) e
+    (subst (λ (x : ℕ). IsInTurn schedule' first turns' n' x (beside s disk) printed) d
+    (subst (λ (x : ℕ). IsInTurn schedule' first turns' x visible (beside s disk) printed) c
+    (subst (λ (x : List Turn). IsInTurn schedule' first x n visible (beside s disk) printed) b
+    (subst (λ (x : List ℕ). IsInTurn x first turns n visible (beside s disk) printed) a h))))
 
-stands_after : (c : Bool) (schedule : List ℕ) (first : AbstractState) (m after : LibraryRun) (visible hidden : ℕ) (printed : List ℕ) →
+stands_after : (c : Bool) (schedule : List ℕ) (first : AbstractState) (disk : Option Disk) (m after : LibraryRun) (visible hidden : ℕ) (printed : List ℕ) →
     goes_on_after m (visible + hidden) ≡ c → CountedBy c m after visible hidden → m.book.schedule ≡ schedule → 0 < visible + hidden →
     made m.book + (visible + hidden) ≤ quantum schedule (length m.book.turns.items) →
-    Comes schedule first m.book.turns.items m.served.slot (m.book.visible + visible) (m.book.hidden + hidden) (state_of m) printed →
-    StandsBy (made after.book == 0) after.book.schedule first after printed
-stands_after true schedule first m after visible hidden printed goes_on k by more within h =
+    Comes schedule first m.book.turns.items m.served.slot (m.book.visible + visible) (m.book.hidden + hidden) (beside (state_of m) disk)
+    printed → StandsBy (made after.book == 0) after.book.schedule first disk after printed
+stands_after true schedule first disk m after visible hidden printed goes_on k by more within h =
     let some : false ≡ (made after.book == 0) =
     (let all : made after.book ≡ (m.book.visible + visible) + (m.book.hidden + hidden) = (λ i. k.book.visible_are i + k.book.hidden_are i) in
     grind (arith, nat_tests)) in
-    subst (λ (b : Bool). StandsBy b after.book.schedule first after printed) some
+    subst (λ (b : Bool). StandsBy b after.book.schedule first disk after printed) some
     (in_turn_is (sym (k.book.schedule ∙ by)) (sym k.book.turns) (sym k.slot) (sym k.book.visible_are) (sym k.state) h.in_turn)
-stands_after false schedule first m after visible hidden printed goes_on k by more within h =
+stands_after false schedule first disk m after visible hidden printed goes_on k by more within h =
     let none : true ≡ (made after.book == 0) =
     (let all : made after.book ≡ 0 = (λ i. k.book.visible_are i + k.book.hidden_are i) in grind (arith, nat_tests)) in
     let all : (m.book.visible + visible) + (m.book.hidden + hidden) ≡ made m.book + (visible + hidden) = omega arith in
     let over : (is_running (slot_at (state_of m) m.served.slot).status && nat_lt ((m.book.visible + visible) + (m.book.hidden + hidden))
     (quantum schedule (length m.book.turns.items))) ≡ false =
     (λ i. is_running (slot_at (state_of m) m.served.slot).status && nat_lt (all i) (quantum (sym by i) (length m.book.turns.items))) ∙ goes_on in
-    subst (λ (b : Bool). StandsBy b after.book.schedule first after printed) none
+    subst (λ (b : Bool). StandsBy b after.book.schedule first disk after printed) none
     (between_is (sym (k.book.schedule ∙ by)) (sym k.book.turns) (sym k.state) (turn_over h (omega (arith, more)) (omega (arith, within)) over))
 
 -- counting leaves the frames and the refusals
@@ -316,32 +320,33 @@ module _ {r : LibraryRun} {n going : ℕ} (k : Reaches r n going) where
   turns_are = gone.turns ∙ entered_turns r n k.holds
 
   -- The abstract system has come so far with them, where nothing was refused yet.
-  before_stands : (first : AbstractState) (printed : List ℕ) → StandsBy (made r.book == 0) r.book.schedule first r printed →
-      (state_of r).refusals ≡ 0 → IsInTurn r.book.schedule first r.book.turns.items n (r.book.visible + going) k.reached printed
-  before_stands first printed stands quiet =
+  before_stands : (first : AbstractState) (disk : Option Disk) (printed : List ℕ) →
+      StandsBy (made r.book == 0) r.book.schedule first disk r printed → (state_of r).refusals ≡ 0 →
+      IsInTurn r.book.schedule first r.book.turns.items n (r.book.visible + going) (beside k.reached disk) printed
+  before_stands first disk printed stands quiet =
       let few : (entered r n).refusals ≡ 0 = (entered_rest r n).1 ∙ quiet in
-      quiet_in_turn going r.book.visible (entered r n) k.reached k.went (in_turn_of first r n printed k.chosen stands) k.is_guest k.running
+      quiet_in_turn disk going r.book.visible (entered r n) k.reached k.went (in_turn_of first disk r n printed k.chosen stands) k.is_guest k.running
       (entered_last r n k.holds k.chosen) (omega (arith, few))
 
   -- each frame that is handed out has a use
-  before_used : (first : AbstractState) (printed : List ℕ) → StandsBy (made r.book == 0) r.book.schedule first r printed →
-      EachHasUse (state_of r).spaces → EachHasUse k.reached.spaces
-  before_used first printed stands used =
-      let begun = in_turn_of first r n printed k.chosen stands in
+  before_used : (first : AbstractState) (disk : Option Disk) (printed : List ℕ) →
+      StandsBy (made r.book == 0) r.book.schedule first disk r printed → EachHasUse (state_of r).spaces → EachHasUse k.reached.spaces
+  before_used first disk printed stands used =
+      let begun = in_turn_of first disk r n printed k.chosen stands in
       quiet_each n going (entered r n) k.reached k.went begun.stands.0.1.in_order (running_live (slot_at (entered r n) n) k.running)
       (subst (λ (x : SpacesState). EachHasUse x) (sym (entered_rest r n).0) used)
 
   -- In a turn of the file server there is another environment: no instruction of a program goes before its step.
-  reached_others : {first : AbstractState} {frames : ℕ} {printed : List ℕ} → StandsSo first frames r printed → n ≡ 0 →
+  reached_others : {first : AbstractState} {frames : ℕ} {disk : Option Disk} {printed : List ℕ} → StandsSo first frames disk r printed → n ≡ 0 →
       others_live k.reached ≡ true
-  reached_others {first = first} {printed = printed} h is_first = by_going going k.went k.is_guest
+  reached_others {first = first} {disk = disk} {printed = printed} h is_first = by_going going k.went k.is_guest
     where
-      begun : IsInTurn r.book.schedule first r.book.turns.items n r.book.visible (entered r n) printed
-      begun = in_turn_of first r n printed k.chosen h.stands
+      begun : IsInTurn r.book.schedule first r.book.turns.items n r.book.visible (beside (entered r n) disk) printed
+      begun = in_turn_of first disk r n printed k.chosen h.stands
 
       by_going : (count : ℕ) → GuestGoesOn n count (entered r n) k.reached →
           (0 < count → (is_servers (entered r n) n ≡ false) × (place_of (slot_at (entered r n) n) ≡ place.Guest)) → others_live k.reached ≡ true
-      by_going zero went guest = ap others_live went ∙ entered_others first r n printed k.chosen h is_first
+      by_going zero went guest = ap others_live went ∙ entered_others first disk r n printed k.chosen h is_first
       by_going (suc count) went guest = absurd (others_slot begun.stands.0.1 n (guest (omega arith)).0 is_first)
 
 -- ---- the steps
@@ -351,30 +356,37 @@ data LeftBy (n : ℕ) (done : Progress) (before after : KernelState) : Type 0 wh
   served : n ≡ 0 → ServerLeaves done before after → LeftBy n done before after
   another : n ≢ 0 → LeavesEach done n before after → LeftBy n done before after
 
-module _ {r m : LibraryRun} {n going : ℕ} {done : Progress} {bytes : List ℕ} (k : Makes r m n going done bytes) where
+module _ {r m : LibraryRun} {disks : Around (Option Disk)} {n going : ℕ} {done : Progress} {bytes : List ℕ} (k : Makes r m disks n going done bytes) where
   abbrev reached : KernelState
   reached = k.before.reached
 
-  left_by : (a : AbstractState) → StandsWhole reached a → LeftBy n done reached (state_of m)
+  -- where the last of them begins, and where it leads
+  abbrev reached_whole : World
+  reached_whole = beside reached disks.before
+
+  abbrev left_whole : World
+  left_whole = beside (state_of m) disks.after
+
+  left_by : (a : AbstractState) → Stands reached a → LeftBy n done reached (state_of m)
   left_by a h = by_test (is_servers reached n) refl k.leaves
     where
       by_test : (c : Bool) → is_servers reached n ≡ c → LeavesAs c (Ok done) n reached (state_of m) → LeftBy n done reached (state_of m)
-      by_test true is leaves = let is_first = servers_first h.0.1 n is in served is_first (leaves is_first)
-      by_test false is leaves = another (others_slot h.0.1 n is) leaves.each
+      by_test true is leaves = let is_first = servers_first h.1 n is in served is_first (leaves is_first)
+      by_test false is leaves = another (others_slot h.1 n is) leaves.each
 
   uses_by : LeftBy n done reached (state_of m) → KeepsUses n reached (state_of m)
   uses_by (served is_first left) = subst (λ (x : ℕ). KeepsUses x reached (state_of m)) (sym is_first) left.uses
   uses_by (another other left) = left.uses
 
   -- in a turn of the file server there is another environment still
-  others_further : {first : AbstractState} {frames : ℕ} {printed : List ℕ} → StandsSo first frames r printed →
-      IsInTurn r.book.schedule first r.book.turns.items n (r.book.visible + going) reached printed → NothingRefused reached (state_of m) →
+  others_further : {first : AbstractState} {frames : ℕ} {printed : List ℕ} → StandsSo first frames disks.before r printed →
+      IsInTurn r.book.schedule first r.book.turns.items n (r.book.visible + going) reached_whole printed → NothingRefused reached (state_of m) →
       (c : Bool) (after : LibraryRun) (visible hidden : ℕ) → CountedBy c m after visible hidden → 0 < made after.book → after.served.slot ≡ 0 →
       others_live (state_of after) ≡ true
   others_further h t none_refused true after visible hidden counts some slot =
       let is_first : n ≡ 0 = sym k.slot ∙ sym counts.slot ∙ slot in
       (λ i. others_live (counts.state i))
-      ∙ server_others n reached (state_of m) done bytes is_first t.now t.stands (still_runs k.before) none_refused k.keeps (reached_others k.before h is_first)
+      ∙ server_others n reached_whole left_whole done bytes is_first t.now t.stands none_refused k.keeps (reached_others k.before h is_first)
   others_further h t none_refused false after visible hidden counts some slot =
       let none : made after.book ≡ 0 = (λ i. counts.book.visible_are i + counts.book.hidden_are i) in
       absurd (omega (arith, none, some))
@@ -398,16 +410,16 @@ module _ {r m : LibraryRun} {n going : ℕ} {done : Progress} {bytes : List ℕ}
 
   -- the abstract system has come so far, where nothing was refused
   comes_with : {first : AbstractState} {printed : List ℕ} →
-      IsInTurn r.book.schedule first r.book.turns.items n (r.book.visible + going) reached printed → NothingRefused reached (state_of m) →
+      IsInTurn r.book.schedule first r.book.turns.items n (r.book.visible + going) reached_whole printed → NothingRefused reached (state_of m) →
       Comes r.book.schedule first m.book.turns.items m.served.slot (m.book.visible + seen_with going done) (m.book.hidden + hidden_steps done)
-      (state_of m) (printed ++ bytes)
+      left_whole (printed ++ bytes)
   comes_with {first = first} {printed = printed} t none_refused =
       comes_is (λ i. (sym k.book i).turns.items) (sym k.slot) seen_is (λ i. (sym k.book i).hidden + hidden_steps done)
-      (by_left (left_by t.now t.stands))
+      (by_left (left_by t.now t.stands.0))
     where
       by_left : LeftBy n done reached (state_of m) →
           Comes r.book.schedule first r.book.turns.items n ((r.book.visible + going) + visible_steps done) (r.book.hidden + hidden_steps done)
-          (state_of m) (printed ++ bytes)
+          left_whole (printed ++ bytes)
       by_left (served is_first left) =
           server_stepped bytes is_first t done k.keeps none_refused (k.rest.last ∙ last_is k.before) (still_runs k.before) left
           (r.book.hidden + hidden_steps done)
@@ -416,32 +428,32 @@ module _ {r m : LibraryRun} {n going : ℕ} {done : Progress} {bytes : List ℕ}
           (r.book.hidden + hidden_steps done)
 
       comes_is : {turns turns' : List Turn} {n n' visible visible' hidden hidden' : ℕ} → turns ≡ turns' → n ≡ n' → visible ≡ visible' →
-          hidden ≡ hidden' → Comes r.book.schedule first turns n visible hidden (state_of m) (printed ++ bytes) →
-          Comes r.book.schedule first turns' n' visible' hidden' (state_of m) (printed ++ bytes)
+          hidden ≡ hidden' → Comes r.book.schedule first turns n visible hidden left_whole (printed ++ bytes) →
+          Comes r.book.schedule first turns' n' visible' hidden' left_whole (printed ++ bytes)
       comes_is {turns = turns} {turns' = turns'} {n = n} {n' = n'} {visible = visible} {visible' = visible'} {hidden = hidden} a b c d h =
-          subst (λ (x : ℕ). Comes r.book.schedule first turns' n' visible' x (state_of m) (printed ++ bytes)) d
-          (subst (λ (x : ℕ). Comes r.book.schedule first turns' n' x hidden (state_of m) (printed ++ bytes)) c
-          (subst (λ (x : ℕ). Comes r.book.schedule first turns' x visible hidden (state_of m) (printed ++ bytes)) b
-          (subst (λ (x : List Turn). Comes r.book.schedule first x n visible hidden (state_of m) (printed ++ bytes)) a h)))
+          subst (λ (x : ℕ). Comes r.book.schedule first turns' n' visible' x left_whole (printed ++ bytes)) d
+          (subst (λ (x : ℕ). Comes r.book.schedule first turns' n' x hidden left_whole (printed ++ bytes)) c
+          (subst (λ (x : ℕ). Comes r.book.schedule first turns' x visible hidden left_whole (printed ++ bytes)) b
+          (subst (λ (x : List Turn). Comes r.book.schedule first x n visible hidden left_whole (printed ++ bytes)) a h)))
 
   quiet_further : (after : LibraryRun) → CountsSteps m after going done → (state_of m).refusals ≡ (entered r n).refusals →
-      (first : AbstractState) (frames : ℕ) (printed : List ℕ) → StandsSo first frames r printed →
-      StandsSo first frames after (printed ++ bytes)
+      (first : AbstractState) (frames : ℕ) (printed : List ℕ) → StandsSo first frames disks.before r printed →
+      StandsSo first frames disks.after after (printed ++ bytes)
   quiet_further after counts same first frames printed h =
       let kept = entered_rest r n in
       let rest = counted_rest (goes_on_with m going done) m after (seen_with going done) (hidden_steps done) counts in
-      let t = before_stands k.before first printed h.stands h.quiet in
+      let t = before_stands k.before first disks.before printed h.stands h.quiet in
       let none : reached.refusals ≡ 0 = before_last k.before ∙ h.quiet in
       let none_refused : NothingRefused reached (state_of m) =
       record { stays = same ∙ sym (gone k.before).refusals; could = omega (arith, none) } in
       record {
-        stands = stands_after (goes_on_with m going done) r.book.schedule first m after (seen_with going done) (hidden_steps done)
+        stands = stands_after (goes_on_with m going done) r.book.schedule first disks.after m after (seen_with going done) (hidden_steps done)
             (printed ++ bytes) refl counts (λ i. (k.book i).schedule) (some_steps going done) within_turn (comes_with t none_refused);
         quiet = rest.1 ∙ same ∙ kept.1 ∙ h.quiet;
         frames_are = (λ i. (rest.0 i).frames) ∙ k.rest.frames ∙ (gone k.before).frames ∙ (λ i. (kept.0 i).frames) ∙ h.frames_are;
         used = subst (λ (x : SpacesState). EachHasUse x) (sym rest.0)
-            (uses_by (left_by t.now t.stands) t.stands.0.1.in_order (running_live (slot_at reached n) (still_runs k.before))
-            (before_used k.before first printed h.stands h.used));
+            (uses_by (left_by t.now t.stands.0) t.stands.0.1.in_order (running_live (slot_at reached n) (still_runs k.before))
+            (before_used k.before first disks.before printed h.stands h.used));
         others = others_further h t none_refused (goes_on_with m going done) after (seen_with going done) (hidden_steps done) counts;
         counted_so = counts.written ∙ k.written ∙ (λ i. min (h.counted_so i + length bytes) (2 ^ 64 - 1)) ∙ counted-more printed bytes;
       }
@@ -461,13 +473,13 @@ module _ {r m : LibraryRun} {n going : ℕ} {done : Progress} {bytes : List ℕ}
 
   -- that was the first refusal
   refused_first : NeedIsReached → ((state_of m).refusals == (entered r n).refusals) ≡ false → (first : AbstractState) (frames : ℕ)
-      (printed : List ℕ) → StandsSo first frames r printed →
+      (printed : List ℕ) → StandsSo first frames disks.before r printed →
       IsRefused r.book.schedule first frames (m.book.turns.items ++ turn_with m going done ∷ [])
       (record { turn = vec_len r.book.turns; console_len = r.served.written })
       (printed ++ bytes)
   refused_first needs rose first frames printed h =
-      let t = before_stands k.before first printed h.stands h.quiet in
-      let used : EachHasUse reached.spaces = before_used k.before first printed h.stands h.used in
+      let t = before_stands k.before first disks.before printed h.stands h.quiet in
+      let used : EachHasUse reached.spaces = before_used k.before first disks.before printed h.stands h.used in
       let all : reached.spaces.frames ≡ frames = (gone k.before).frames ∙ (λ i. ((entered_rest r n).0 i).frames) ∙ h.frames_are in
       record {
         before = r.book.turns.items;
@@ -499,7 +511,7 @@ module _ {r m : LibraryRun} {n going : ℕ} {done : Progress} {bytes : List ℕ}
 
   -- The run after the steps.
   runs_further : NeedIsReached → (after : LibraryRun) → CountsSteps m after going done → (first : AbstractState) (frames : ℕ)
-      (printed : List ℕ) → Runs first frames r printed → Runs first frames after (printed ++ bytes)
+      (printed : List ℕ) → Runs first frames disks.before r printed → Runs first frames disks.after after (printed ++ bytes)
   runs_further needs after counts first frames printed = by_first r.book.first_refused refl
     where
       refusal_by : Bool → Option Refusal → Option Refusal
@@ -508,9 +520,9 @@ module _ {r m : LibraryRun} {n going : ℕ} {done : Progress} {bytes : List ℕ}
       -- where what is told of the refusal is known, with the turns as they are told
       refused_so : (refusal : Refusal) → after.book.first_refused ≡ Some refusal → 0 < (state_of m).refusals →
           IsRefused r.book.schedule first frames (m.book.turns.items ++ turn_with m going done ∷ []) refusal (printed ++ bytes) →
-          Runs first frames after (printed ++ bytes)
+          Runs first frames disks.after after (printed ++ bytes)
       refused_so refusal is some h =
-          subst (λ (o : Option Refusal). RunsBy o first frames after (printed ++ bytes)) (sym is) (
+          subst (λ (o : Option Refusal). RunsBy o first frames disks.after after (printed ++ bytes)) (sym is) (
             subst (λ (x : ℕ). 0 < x) (sym (counted_rest (goes_on_with m going done) m after (seen_with going done) (hidden_steps done) counts).1) some,
             subst (λ (x : List ℕ). IsRefused x first frames (turns_so_far after) refusal (printed ++ bytes))
                 (sym (counts.book.schedule ∙ (λ i. (k.book i).schedule)))
@@ -519,14 +531,14 @@ module _ {r m : LibraryRun} {n going : ℕ} {done : Progress} {bytes : List ℕ}
           )
 
       by_rose : (c : Bool) → ((state_of m).refusals == (entered r n).refusals) ≡ c → r.book.first_refused ≡ None →
-          StandsSo first frames r printed →
-          Runs first frames after (printed ++ bytes)
+          StandsSo first frames disks.before r printed →
+          Runs first frames disks.after after (printed ++ bytes)
       by_rose true test is h =
           let same : (state_of m).refusals ≡ (entered r n).refusals = grind (arith, nat_tests) in
           let quiet : after.book.first_refused ≡ None =
           counts.book.first_refused ∙ (λ i. (k.book i).first_refused) ∙ ap (λ (b : Bool). refusal_by (not b) r.book.first_refused) test
           ∙ ap (λ (o : Option Refusal). refusal_by false o) is in
-          subst (λ (o : Option Refusal). RunsBy o first frames after (printed ++ bytes)) (sym quiet)
+          subst (λ (o : Option Refusal). RunsBy o first frames disks.after after (printed ++ bytes)) (sym quiet)
           (quiet_further after counts same first frames printed h)
       by_rose false test is h =
           let told : after.book.first_refused ≡ Some (record { turn = vec_len r.book.turns; console_len = r.served.written }) =
@@ -537,7 +549,8 @@ module _ {r m : LibraryRun} {n going : ℕ} {done : Progress} {bytes : List ℕ}
           refused_so (record { turn = vec_len r.book.turns; console_len = r.served.written }) told some
           (refused_first needs test first frames printed h)
 
-      by_first : (o : Option Refusal) → r.book.first_refused ≡ o → RunsBy o first frames r printed → Runs first frames after (printed ++ bytes)
+      by_first : (o : Option Refusal) → r.book.first_refused ≡ o → RunsBy o first frames disks.before r printed →
+          Runs first frames disks.after after (printed ++ bytes)
       by_first None is h = by_rose ((state_of m).refusals == (entered r n).refusals) refl is h
       by_first (Some refusal) is h =
           let told : after.book.first_refused ≡ Some refusal =
@@ -551,20 +564,21 @@ module _ {r m : LibraryRun} {n going : ℕ} {done : Progress} {bytes : List ℕ}
 
   -- the steps themselves
   abbrev last_made : Bool → StepMade
-  last_made begins = made_step n begins (goes_on_with m going done) done bytes k.trap (state_of m)
+  last_made begins = made_step n begins (goes_on_with m going done) done bytes k.trap left_whole
 
   made_all : List StepMade
-  made_all = steps_with (made r.book == 0) n going (entered r n) reached k.before.went last_made
+  made_all = steps_with disks.before (made r.book == 0) n going (entered r n) reached k.before.went last_made
 
   made_long : length made_all ≡ going + 1
   unfolding made_all
   made_long =
-      steps_long n (goes_on_with m going done) done bytes k.trap (state_of m) (made r.book == 0) going (entered r n) reached k.before.went
+      steps_long disks.before n (goes_on_with m going done) done bytes k.trap left_whole (made r.book == 0) going (entered r n) reached k.before.went
 
-  leads_on : (after : LibraryRun) → CountsSteps m after going done → LeadTo made_all (state_of r) (state_of after)
+  leads_on : (after : LibraryRun) → CountsSteps m after going done →
+      LeadTo made_all (beside (state_of r) disks.before) (beside (state_of after) disks.after)
   unfolding made_all
   leads_on after counts =
-      steps_lead n (goes_on_with m going done) done bytes k.trap (state_of m) reached (state_of after) k.raises k.keeps
+      steps_lead disks.before n (goes_on_with m going done) done bytes k.trap left_whole reached (state_of after) k.raises k.keeps
       k.rest k.leaves
       ((λ i. if goes_on_with m going done then state_of m else turn_ended (state_of m) (sym k.slot i)) ∙ sym counts.state)
       (made r.book == 0) going (entered r n) (state_of r) k.before.went refl (λ is. k.before.chosen.next_is (none_made r is)) k.before.running
@@ -574,7 +588,7 @@ module _ {r m : LibraryRun} {n going : ℕ} {done : Progress} {bytes : List ℕ}
       r.book.trace ≡ buffer (keep_last most traps) most → after.book.trace ≡ buffer (keep_last most (traps ++ traps_of made_all)) most
   unfolding made_all
   keeps_traps after counts most traps is =
-      let one = steps_traps n (goes_on_with m going done) done bytes k.trap (state_of m) (made r.book == 0) going (entered r n) reached k.before.went in
+      let one = steps_traps disks.before n (goes_on_with m going done) done bytes k.trap left_whole (made r.book == 0) going (entered r n) reached k.before.went in
       counts.book.trace ∙ (λ i. (k.book i).trace) ∙ ap (λ (b : Buffer TrapLine). traced b k.trap) is
       ∙ kept_one most traps (last_made (made r.book == 0))
       ∙ ap (λ (l : List TrapLine). buffer (keep_last most (traps ++ l)) most) (sym one)
@@ -582,7 +596,7 @@ module _ {r m : LibraryRun} {n going : ℕ} {done : Progress} {bytes : List ℕ}
   writes : bytes ≡ written_in made_all
   unfolding made_all
   writes =
-      sym (steps_written n (goes_on_with m going done) done bytes k.trap (state_of m) (made r.book == 0) going (entered r n) reached k.before.went
+      sym (steps_written disks.before n (goes_on_with m going done) done bytes k.trap left_whole (made r.book == 0) going (entered r n) reached k.before.went
       ∙ written_one (last_made (made r.book == 0)))
 
   -- the turns with them
@@ -604,20 +618,20 @@ module _ {r m : LibraryRun} {n going : ℕ} {done : Progress} {bytes : List ℕ}
 
       by_begins : (c : Bool) → (made r.book == 0) ≡ c →
           turns_with (if c then r.book.turns.items else r.book.turns.items ++ turn_of r.served.slot r.book.visible r.book.hidden ∷ [])
-          (steps_with c n going (entered r n) reached k.before.went last_made)
+          (steps_with disks.before c n going (entered r n) reached k.before.went last_made)
           ≡ r.book.turns.items
           ++ turn_of (if c then n else r.served.slot) (r.book.visible + seen_with going done) (r.book.hidden + hidden_steps done) ∷ []
       by_begins true is =
           let none : made r.book ≡ 0 = none_made r is in
-          steps_turns n (goes_on_with m going done) done bytes k.trap (state_of m) true going (entered r n) reached k.before.went
+          steps_turns disks.before n (goes_on_with m going done) done bytes k.trap left_whole true going (entered r n) reached k.before.went
           r.book.turns.items n r.book.visible r.book.hidden (λ so. (refl, omega (arith, none), omega (arith, none)))
       by_begins false is =
-          steps_turns n (goes_on_with m going done) done bytes k.trap (state_of m) false going (entered r n) reached k.before.went
+          steps_turns disks.before n (goes_on_with m going done) done bytes k.trap left_whole false going (entered r n) reached k.before.went
           r.book.turns.items r.served.slot r.book.visible r.book.hidden (λ so. absurd (let contradiction : false ≡ true = so in cc))
 
   -- so many steps more were made
   pub went_all : NeedIsReached → (after : LibraryRun) (console : Around (Option (List ℕ))) → CountsSteps m after going done →
-      Gains console bytes → Went (going + 1) (from_to r after) console
+      Gains console bytes → Went (going + 1) (from_to r after) disks console
   went_all needs after console counts gains = record {
     printed = bytes;
     gains = gains;
@@ -635,14 +649,14 @@ module _ {r m : LibraryRun} {n going : ℕ} {done : Progress} {bytes : List ℕ}
 -- ---- the host failed
 
 -- what the calls of steps have done, in the last of which the host failed
-pub record Fails (r m : LibraryRun) (n going : ℕ) (bytes : List ℕ) : Type 0 where
+pub record Fails (r m : LibraryRun) (disk : Option Disk) (n going : ℕ) (bytes : List ℕ) : Type 0 where
   pub before : Reaches r n going
-  pub would : (a : AbstractState) → StandsWhole before.reached a →
+  pub would : (a : AbstractState) → StandsWhole (beside before.reached disk) a →
       (b : AbstractState) × (abs_step a n ≡ Some b) × (b.console ≡ a.console ++ bytes)
   pub slot : m.served.slot ≡ n
   pub book : m.book ≡ record r.book { visible = r.book.visible + (going + 1) }
 
-module _ {r m : LibraryRun} {n going : ℕ} {bytes : List ℕ} (k : Fails r m n going bytes) where
+module _ {r m : LibraryRun} {disk : Option Disk} {n going : ℕ} {bytes : List ℕ} (k : Fails r m disk n going bytes) where
   failed_turns : turns_so_far m ≡ r.book.turns.items ++ turn_of n (r.book.visible + going + 1) r.book.hidden ∷ []
   failed_turns =
       let some : (made m.book == 0) ≡ false =
@@ -652,11 +666,11 @@ module _ {r m : LibraryRun} {n going : ℕ} {bytes : List ℕ} (k : Fails r m n 
       ∙ (let all : r.book.visible + (going + 1) ≡ r.book.visible + going + 1 = omega arith in
       (λ i. r.book.turns.items ++ turn_of n (all i) r.book.hidden ∷ []))
 
-  cut_off_in : (first : AbstractState) (frames part : ℕ) (printed : List ℕ) → StandsSo first frames r printed →
+  cut_off_in : (first : AbstractState) (frames part : ℕ) (printed : List ℕ) → StandsSo first frames disk r printed →
       IsCutOff r.book.schedule first (r.book.turns.items ++ turn_of n (r.book.visible + going + 1) r.book.hidden ∷ [])
       (printed ++ take part bytes)
   cut_off_in first frames part printed h =
-      let t = before_stands k.before first printed h.stands h.quiet in
+      let t = before_stands k.before first disk printed h.stands h.quiet in
       let b = step_failed bytes t r.book.hidden k.would in
       let left : made r.book + going < quantum r.book.schedule (length r.book.turns.items) = k.before.left in
       record {
@@ -680,15 +694,16 @@ module _ {r m : LibraryRun} {n going : ℕ} {bytes : List ℕ} (k : Fails r m n 
       }
 
   -- What is told of the run that the failed call has cut off.
-  pub failed_last : (console : Around (Option (List ℕ))) → GainsPart console bytes → HasFailed (from_to r m) console
-  failed_last console gains = record {
+  pub failed_last : (after : Option Disk) (console : Around (Option (List ℕ))) → GainsPart console bytes →
+      HasFailed (from_to r m) (from_to disk after) console
+  failed_last after console gains = record {
     printed = take gains.0 bytes;
     gains = gains.2;
     cut_off = λ first frames printed. by_first first frames printed r.book.first_refused refl;
   }
     where
       by_first : (first : AbstractState) (frames : ℕ) (printed : List ℕ) (o : Option Refusal) → r.book.first_refused ≡ o →
-          RunsBy o first frames r printed →
+          RunsBy o first frames disk r printed →
           CutOffBy m.book.first_refused r.book.schedule first frames (turns_so_far m) (printed ++ take gains.0 bytes)
       by_first first frames printed None is h =
           subst (λ (o : Option Refusal). CutOffBy o r.book.schedule first frames (turns_so_far m) (printed ++ take gains.0 bytes))

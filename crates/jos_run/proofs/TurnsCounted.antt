@@ -5,6 +5,7 @@ use Rattle.std.specs.Prelude.{nat_lt, unwrap_or}
 use Rattle.std.specs.Option.{ForSome}
 use Rattle.std.proofs.lemmas.Bool.Decides.{nat_tests}
 use Rattle.std.proofs.lemmas.List.{length-append}
+use Rattle.jos_host.specs.Frames.{Around}
 use Rattle.jos_base.specs.declared.environment.Status.TheVariants.{Runnable}
 use Rattle.jos_base.specs.declared.numbers.TheConstants.{NENV}
 use Rattle.jos_base.specs.Environments.{is_running}
@@ -13,6 +14,7 @@ use Rattle.jos_sched.specs.Quantum.{quantum}
 use Rattle.jos_kernel.specs.declared.report.Turn.{Turn}
 use Rattle.jos_kernel.specs.Books.{turn_of, made, HasRoom, HasStepsLeft}
 use Rattle.lib_os.specs.declared.progress.Progress.{Progress}
+use Rattle.lib_os.specs.Disk.{Disk}
 use Rattle.jos_run.specs.declared.library_run.LibraryRun.{LibraryRun}
 use Rattle.jos_run.specs.LibraryRuns.{hidden_steps}
 use Rattle.jos_run.specs.RunReports.{steps_of}
@@ -33,8 +35,8 @@ no_last : (o : Option ℕ) → o ≡ None → ForSome o (λ m. m < NENV)
 no_last o is m at = absurd (let contradiction : ◌≡◌ {A = Option ℕ} None (Some m) = sym is ∙ at in cc)
 
 pub begun_holds : (r : LibraryRun) → HasRoom r.book → r.book.turns.items ≡ [] → made r.book ≡ 0 → (state_of r).turns ≡ 0 →
-    (state_of r).last ≡ None → r.book.steps ≡ 0 → r.served.disk.blocks ≡ 0 → Holds r
-begun_holds r room empty none turns last steps no_blocks =
+    (state_of r).last ≡ None → r.book.steps ≡ 0 → Holds r
+begun_holds r room empty none turns last steps =
     let test : true ≡ (made r.book == 0) = grind (arith, nat_tests) in
     let long : vec_len r.book.turns ≡ 0 = r.book.turns.ok.0 ∙ ap (λ (l : List Turn). length l) empty in
     let told : turns_so_far r ≡ r.book.turns.items =
@@ -48,7 +50,6 @@ begun_holds r room empty none turns last steps no_blocks =
       last = no_last (state_of r).last last;
       between = λ so. ap (λ (o : Option ℕ). is_in_turn (state_of r) o) last;
       steps = steps ∙ sym (ap (λ (l : List Turn). steps_of l) (told ∙ empty) ∙ no_steps_yet);
-      no_blocks = no_blocks;
     }
 
 -- ---- a step
@@ -67,7 +68,6 @@ pub record InTurn (r : LibraryRun) : Type 0 where
   pub last : (state_of r).last ≡ Some r.served.slot
   pub within : r.served.slot < NENV
   pub steps : r.book.steps ≡ steps_of r.book.turns.items + made r.book
-  pub no_blocks : r.served.disk.blocks ≡ 0
 
 pub counted_holds : (c : Bool) (old new : LibraryRun) (visible hidden : ℕ) → 0 < visible + hidden → CountedBy c old new visible hidden →
     goes_on_after old (visible + hidden) ≡ c → InTurn old → HasRoom new.book → HasStepsLeft new.book → Holds new
@@ -95,7 +95,6 @@ counted_holds true old new visible hidden more k goes_on t room left =
       last = some_last old.served.slot (state_of new).last ((λ i. (k.state i).last) ∙ t.last) t.within;
       between = λ so. absurd (omega (arith, now_made, more, so));
       steps = omega (arith, told, all, before);
-      no_blocks = (λ i. (k.disk i).blocks) ∙ t.no_blocks;
     }
 counted_holds false old new visible hidden more k goes_on t room left =
     let none : made new.book ≡ 0 = (λ i. k.book.visible_are i + k.book.hidden_are i) in
@@ -120,7 +119,6 @@ counted_holds false old new visible hidden more k goes_on t room left =
       last = some_last old.served.slot (state_of new).last ((λ i. (k.state i).last) ∙ ended.1 ∙ t.last) t.within;
       between = λ so. (λ i. is_in_turn (k.state i) (k.state i).last) ∙ ended_idle (state_of old) old.served.slot t.last;
       steps = omega (arith, told, all, before);
-      no_blocks = (λ i. (k.disk i).blocks) ∙ t.no_blocks;
     }
 
 -- the steps that are told, with those of the turn under way
@@ -133,8 +131,8 @@ steps_told r = by_test (made r.book == 0) refl
     by_test true is = let none : made r.book ≡ 0 = none_made r is in omega arith
     by_test false is = steps_append r.book.turns.items (turn_of r.served.slot r.book.visible r.book.hidden)
 
-pub steps_hold : {r m : LibraryRun} {n going : ℕ} {done : Progress} {bytes : List ℕ} (k : Makes r m n going done bytes) (after : LibraryRun) →
-    CountsSteps m after going done → HasRoom after.book → HasStepsLeft after.book → Holds after
+pub steps_hold : {r m : LibraryRun} {disks : Around (Option Disk)} {n going : ℕ} {done : Progress} {bytes : List ℕ}
+    (k : Makes r m disks n going done bytes) (after : LibraryRun) → CountsSteps m after going done → HasRoom after.book → HasStepsLeft after.book → Holds after
 steps_hold {r = r} {m = m} {going = going} {done = done} k after counts room left =
     let told : r.book.steps ≡ steps_of r.book.turns.items + made r.book = k.before.holds.steps ∙ steps_told r in
     counted_holds _ m after (seen_with going done) (hidden_steps done) (some_steps going done) counts refl (record {
@@ -142,5 +140,4 @@ steps_hold {r = r} {m = m} {going = going} {done = done} k after counts room lef
       last = k.rest.last ∙ last_is k.before ∙ ap (λ (x : ℕ). Some x) (sym k.slot);
       within = subst (λ (x : ℕ). x < NENV) (sym k.slot) k.before.chosen.within;
       steps = (λ i. (k.book i).steps) ∙ told ∙ (λ i. steps_of (sym k.book i).turns.items + made (sym k.book i));
-      no_blocks = (λ i. (k.disk i).blocks) ∙ k.before.holds.no_blocks;
     }) room left

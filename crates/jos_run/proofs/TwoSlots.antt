@@ -3,7 +3,7 @@
 use Rattle.std.proofs.Common.{◌≡◌, ◌≢◌, ◌∙◌, ◌⊎◌, inl, inr, ◌%◌, ◌≤◌, ◌==◌, ℕ, Bool, true, false, List, Option, None}
 use Rattle.std.proofs.Common.{refl, sym, ap, subst, arith, if◌then◌else◌}
 use Rattle.std.specs.Prelude.{is_some}
-use Rattle.std.proofs.lemmas.Bool.{false≢true}
+use Rattle.std.proofs.lemmas.Bool.{cases_eq, false≢true}
 use Rattle.std.proofs.lemmas.Bool.Decides.{nat_tests}
 use Rattle.jos_base.specs.declared.environment.EnvType.TheVariants.{User, FileServer}
 use Rattle.jos_base.specs.declared.environment.Status.TheVariants.{Runnable}
@@ -14,20 +14,24 @@ use Rattle.jos_base.specs.KernelState.{HasSpaces}
 use Rattle.jos_base.specs.Reach.{Entry}
 use Rattle.jos_base.specs.SpacesState.{SpacesState, Region, directories}
 use Rattle.lib_os.specs.AbstractState.{Born, AbstractSlot, free, born, serving, guest, at_guest, leaving, TablePlace}
-use Rattle.lib_os.specs.declared.numbers.TheConstants.{PGFAULT_UPCALL}
+use Rattle.lib_os.specs.declared.numbers.TheConstants.{OPEN_RECORDS, PGFAULT_UPCALL}
 use Rattle.lib_os.specs.declared.place.Place.{Place}
-use Rattle.lib_os.specs.LibraryPages.{View}
+use Rattle.lib_os.specs.DescriptorPages.{place_page}
+use Rattle.lib_os.specs.LibraryPages.{View, region_index}
 use Rattle.lib_os.specs.Places.{place_of, is_handlers}
 use Rattle.lib_os.specs.Rows.{Names, rows_of}
-use Rattle.lib_os.specs.StandsFor.{StandsForSlot, StandsForServer, HasServer, StandsForBorn, StandsAt, IsTabled}
+use Rattle.lib_os.specs.StandsFor.{StandsForSlot, StandsForServer, HasServer, StandsForBorn, StandsAt, IsTabled, is_servers_page, is_servers_region}
 use Rattle.jos_base.specs.SpacesState.{rising}
 use Rattle.lib_os.specs.AbstractLaws.{AreGivenApart, bears_in, borne_by, is_vacant}
 use Rattle.lib_os.proofs.ServedStay.{vacant_rising}
 use Rattle.lib_os.proofs.Serving.{words_of_none}
 use Rattle.std.proofs.lemmas.Option.{none-some}
 use Rattle.fs_requests.specs.ServerWords.{server_in, step_in}
+use Rattle.fs_requests.specs.declared.state.ServerStep.TheVariants as step
+use Rattle.fs_blocks.specs.declared.place.CachePlace.TheVariants as cache
 use Rattle.fs_blocks.specs.CachePlaces.{place_in, state_in}
-use Rattle.jos_run.specs.ServerStands.{IsBareCache, IsLeavingStep, step_of}
+use Rattle.fs_seen.specs.ServerMemory.{records_page}
+use Rattle.jos_run.specs.ServerStands.{step_of}
 
 -- every slot is one of three
 data WhichSlot (n : ℕ) : Type 0 where
@@ -154,22 +158,30 @@ module _ (first second : ℕ) (registers : Regs) where
   }
 
   -- it has yet to take the page of the last request away, of which there is none
-  pub server_leaves : IsLeavingStep (step_of the_server)
+  pub server_leaves : step_of the_server ≡ step.Releasing
   unfolding server_in step_in
-  server_leaves = tt
+  server_leaves = refl
 
   -- and its cache rests
-  pub cache_rests : IsBareCache (state_in the_server.extra).place
+  pub cache_rests : (state_in the_server.extra).place ≡ cache.Resting
   unfolding place_in
-  cache_rests = tt
+  cache_rests = refl
 
-  -- the server has neither pages nor tables
-  pub server_has : (spaces : SpacesState) → ((p : ℕ) → rows_of spaces first p ≡ None) → ((r : ℕ) → spaces.regions first r ≡ None) →
+  -- the server has no pages but that of the records of open files
+  pub server_has : (spaces : SpacesState) → ((p : ℕ) → p ≢ records_page → rows_of spaces first p ≡ None) →
+      ((r : ℕ) → r ≢ region_index OPEN_RECORDS → spaces.regions first r ≡ None) →
       (opened : ℕ → TablePlace) (blocks : ℕ) → HasServer spaces the_server opened blocks leaving
   server_has spaces empty tables opened blocks = record {
     status = (tt, refl);
-    pages = λ p is. absurd (false≢true (sym (ap (λ (o : Option Entry). is_some o) (empty p)) ∙ is));
-    tables = λ r is. absurd (false≢true (sym (ap (λ (o : Option Region). is_some o) (tables r)) ∙ is));
+    pages = λ p is. elim (cases_eq p records_page) [
+      | inl same ↦ subst (λ (q : ℕ). is_servers_page opened blocks q ≡ true) (sym same) refl
+      | inr other ↦ absurd (false≢true (sym (ap (λ (o : Option Entry). is_some o) (empty p other)) ∙ is))
+    ];
+    tables = λ r is. elim (cases_eq r (region_index OPEN_RECORDS)) [
+      | inl same ↦ subst (λ (q : ℕ). is_servers_region q ≡ true) (sym same) refl
+      | inr other ↦ absurd (false≢true (sym (ap (λ (o : Option Region). is_some o) (tables r other)) ∙ is))
+    ];
+    alone = λ j q x y below is there same. absurd (none-some x (sym (empty (place_page j) (λ here. omega (arith, here))) ∙ is));
   }
 
   pub slot_stands : (names : Names) (spaces : SpacesState) (b : Born) → StandsForServer the_server 0x1000 →

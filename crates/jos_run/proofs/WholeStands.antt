@@ -1,5 +1,5 @@
 -- Whose step it is, and where the file server stands while others make their steps, and where turns begin and end.
-use Rattle.std.proofs.Common.{◌≡◌, ◌≢◌, ◌∙◌, ℕ, ◌+◌, ◌%◌, ◌^◌, ◌==◌, ◌<◌, Bool, true, false, List, [], Option, Some, None, length, if◌then◌else◌, refl, sym, ap, subst, arith}
+use Rattle.std.proofs.Common.{◌≡◌, ◌≢◌, ◌∙◌, ℕ, ◌+◌, ◌%◌, ◌^◌, ◌==◌, ◌<◌, Bool, true, false, List, Option, Some, None, length, if◌then◌else◌, refl, sym, ap, subst, arith}
 use Rattle.std.specs.Prelude.{IfSome}
 use Rattle.std.proofs.lemmas.Bool.Decides.{nat_tests}
 use Rattle.std.proofs.lemmas.Bool.{false≢true}
@@ -22,16 +22,20 @@ use Rattle.lib_os.specs.declared.place.Place.{Place}
 use Rattle.lib_os.specs.declared.place.Place.TheVariants as place
 use Rattle.lib_os.specs.declared.place.Step.TheVariants as step_at
 use Rattle.lib_os.specs.Places.{place_of}
+use Rattle.lib_os.specs.declared.numbers.TheConstants.{FSREQ_SYNC}
 use Rattle.lib_os.specs.declared.progress.Progress.{Progress}
 use Rattle.lib_os.specs.declared.progress.Progress.TheVariants as progress
+use Rattle.lib_os.specs.declared.request.RequestKind.TheVariants as kind
 use Rattle.lib_os.specs.declared.service.Service.TheVariants as service
 use Rattle.lib_os.specs.AbstractLaws.{AsksOrLeaves, LeavesFiles, ServesWhoAsked, asks, client_served, has_asked, leaves}
 use Rattle.lib_os.specs.AbstractRun.{abs_step, program_step, slot_step}
-use Rattle.lib_os.specs.AbstractState.{AbstractSlot, AbstractState, Born, Request, Server, act, acted, asked, awaiting, born, busy, entered, guest, idle, in_service, leaving, looking, Phase, seek, slot_id}
+use Rattle.lib_os.specs.AbstractState.{AbstractSlot, AbstractState, Born, Request, Server, act, acted, asked, awaiting, born, busy, entered, guest, idle, in_service, leaving, looking, Phase, seek, slot_id, TablePlace}
 use Rattle.lib_os.specs.Answers.{at_stage}
+use Rattle.lib_os.specs.Disk.{Disk}
 use Rattle.lib_os.specs.FileServer.{await_reply, request_begun, request_taken}
 use Rattle.lib_os.specs.LibraryCall.{library_step}
-use Rattle.lib_os.specs.LibrarySteps.{AbstractFollows, AsksServer, GoesOn, KeepsPlaces, KeepsServer, KeepsStanding, LeavesOrAsks, LeavesServer, Stands, Stays}
+use Rattle.lib_os.specs.LibrarySteps.{AbstractFollows, AsksServer, GoesOn, KeepsPlaces, KeepsServer, KeepsStanding, LacksFrame, LeavesOrAsks}
+use Rattle.lib_os.specs.LibrarySteps.{LeavesServer, Stands, Stays}
 use Rattle.lib_os.specs.LibrarySteps.{asked_it, left_alone}
 use Rattle.lib_os.specs.Rows.{Names}
 use Rattle.lib_os.specs.StandsFor.{AwaitsRequest, IsIn, IsServerStatus, IsStatusFor, StandsAt, StandsFor, StandsForBorn, StandsForServer, StandsForSlot, view_of}
@@ -40,10 +44,21 @@ use Rattle.lib_os.proofs.AskedPlaces.{IsRequesting, asks as asks_it, expects, is
 use Rattle.lib_os.proofs.FilesLeft.{clients_leave_files}
 use Rattle.lib_os.proofs.ServedStay.{HasClient, client_is, served_clients_stay}
 use Rattle.lib_os.proofs.SlotsStand.{born_at, born_live}
+use Rattle.fs_tree.specs.TreeSteps.{memory_in}
+use Rattle.fs_serving.specs.ServerRuns.{syncs}
+use Rattle.fs_seen.specs.ServerMemory.{view_in}
+use Rattle.fs_seen.specs.ServerWhole.{IsServing, LeavesPages, ServesOn}
+use Rattle.fs_seen.proofs.AskedNow.{asked_by_word, asked_serves}
+use Rattle.fs_seen.proofs.StaysGone.{SlotStays}
+use Rattle.fs_seen.proofs.Unopened.{unopened_tables}
 use Rattle.jos_run.specs.AbstractTurns.{turn_begun as begun_at}
-use Rattle.jos_run.specs.ServerStands.{IsBareCache, IsClient, IsLeavingStep, IsReplyingStep, IsServerAt, IsSyncing, KeepsWhole, ServerStands, StandsWhole}
-use Rattle.jos_run.specs.ServerStands.{WholeFollows, WholeGoesOn, WholeStays, acting, flushing, kind_of, reading_client, reading_kind, serving_at, step_of}
+use Rattle.jos_run.specs.ServerStands.{HasRecordsAlone, IsBareCache, IsBuiltRequest, IsClient, KeepsWhole, ServerStands, client_id}
+use Rattle.jos_run.specs.ServerStands.{WholeFollows, WholeGoesOn, WholeStays, serving_at, step_of}
 use Rattle.jos_run.specs.Steps.{is_servers}
+use Rattle.jos_run.specs.Worlds.{beside}
+use Rattle.jos_run.proofs.RecordsKept.{left_records, records_kept, records_lacked, spaces_alike}
+use Rattle.jos_run.proofs.ServingKept.{NamesAreGiven, names_given, names_kept, pages_left, serves_left, serves_still}
+use Rattle.jos_run.proofs.Unopened.{records_unopened}
 use Rattle.jos_base.proofs.Maps.{upd-all, upd-at}
 
 -- ---- whose step it is
@@ -74,6 +89,7 @@ pub record SameServing (k after : Slot) : Type 0 where
   pub words : after.extra ≡ k.extra
   pub message : after.rendezvous ≡ k.rendezvous
   pub space : after.directory ≡ k.directory
+  pub env_type : after.env_type ≡ k.env_type
 
 pub same_serving : {k after : Slot} → after ≡ k → SameServing k after
 same_serving same = record {
@@ -81,6 +97,7 @@ same_serving same = record {
   words = ap (λ (x : Slot). x.extra) same;
   message = ap (λ (x : Slot). x.rendezvous) same;
   space = ap (λ (x : Slot). x.directory) same;
+  env_type = ap (λ (x : Slot). x.env_type) same;
 }
 
 -- the client that it serves has the id that it had
@@ -91,76 +108,79 @@ client_kept : {a b : AbstractState} {client id other : ℕ} → other ≡ id →
     IsClient b client other
 client_kept same ids h = record { slot = h.slot ∙ ap (λ (x : ℕ). x % NENV) (sym same); same = ids ∙ h.same ∙ sym same }
 
-at_kept : (server : Server) (a b : AbstractState) (k after : Slot) → SameServing k after → SameClient server a b → IsServerAt a server k →
-    IsServerAt b server after
-at_kept server a b k after same ids at = by_server server ids at
-  where
-    serving : serving_at after ≡ serving_at k
-    serving = λ i. server_in (same.registers i) (same.words i)
+module _ (k after : Slot) (same : SameServing k after) where
+  serving : serving_at after ≡ serving_at k
+  serving = λ i. server_in (same.registers i) (same.words i)
 
-    step_is : step_of after ≡ step_of k
-    step_is = ap (λ (x : ServerState). x.step) serving
+  id_at : (x : ServerStep) → client_id x after ≡ client_id x k
+  id_at server_at.ReadingKind = ap (λ (r : Rendezvous). r.sender) same.message
+  id_at server_at.ReadingClient = ap (λ (r : Rendezvous). r.sender) same.message
+  id_at _ = ap (λ (x : ServerState). x.client) serving
 
-    kind_is : kind_of after ≡ kind_of k
-    kind_is = ap (λ (x : ServerState). x.kind) serving
+  same_id : client_id (step_of after) after ≡ client_id (step_of k) k
+  same_id = ap (λ (x : ServerState). client_id x.step after) serving ∙ id_at (step_of k)
 
-    who_is : (serving_at after).client ≡ (serving_at k).client
-    who_is = ap (λ (x : ServerState). x.client) serving
-
-    sender_is : after.rendezvous.sender ≡ k.rendezvous.sender
-    sender_is = ap (λ (r : Rendezvous). r.sender) same.message
-
-    syncing : (client : ℕ) → slot_id (b.slots client) ≡ slot_id (a.slots client) → IsSyncing a client k → IsSyncing b client after
-    syncing client ids (reading_kind at value who) =
-        reading_kind (step_is ∙ at) (ap (λ (r : Rendezvous). r.value) same.message ∙ value) (client_kept sender_is ids who)
-    syncing client ids (reading_client at kind who) = reading_client (step_is ∙ at) (kind_is ∙ kind) (client_kept sender_is ids who)
-    syncing client ids (flushing at kind who) = flushing (step_is ∙ at) (kind_is ∙ kind) (client_kept who_is ids who)
-    syncing client ids (acting at kind who count) =
-        acting (step_is ∙ at) (kind_is ∙ kind) (client_kept who_is ids who) (ap (λ (x : ServerState). x.count) serving ∙ count)
-
-    by_server : (x : Server) → SameClient x a b → IsServerAt a x k → IsServerAt b x after
-    by_server leaving ids is = subst (λ (x : ServerStep). IsLeavingStep x) (sym step_is) is
-    by_server idle ids is = step_is ∙ is
-    by_server (busy client (act sync_files None) None) ids is = syncing client (ids client refl) is
-    by_server (acted client answer [] None) ids is = record {
-      at_step = subst (λ (x : ServerStep). IsReplyingStep x) (sym step_is) is.at_step;
-      kind_is = kind_is ∙ is.kind_is;
-      is_client = client_kept who_is (ids client refl) is.is_client;
-      count_is = (ap (λ (x : ServerState). x.count) serving ∙ is.count_is.0, is.count_is.1);
-    }
-    by_server _ ids is = absurd is
-
--- It stands where it stood, in its space, and does what it did.
-pub server_kept : {s t : KernelState} {a b : AbstractState} → SameServing (slot_at s 0) (slot_at t 0) →
-    ((r : ℕ) → t.spaces.regions (slot_at s 0).directory r ≡ s.spaces.regions (slot_at s 0).directory r) → b.server ≡ a.server → SameClient a.server a b →
-    ServesWhoAsked b → ServerStands s a → ServerStands t b
-server_kept {s = s} {t = t} {a = a} {b = b} same regions server ids serves h = record {
-  at = subst (λ (x : Server). IsServerAt b x (slot_at t 0)) (sym server) (at_kept a.server a b (slot_at s 0) (slot_at t 0) same ids h.at);
+-- Where its slot is the same but for its status, it stands for an abstract state that has the same of what it has.
+stands_kept : {d : Disk} {s t : KernelState} {a b : AbstractState} → SameServing (slot_at s 0) (slot_at t 0) → IsServing d t 0 b → HasRecordsAlone t →
+    b.server ≡ a.server → b.opened ≡ a.opened → SameClient a.server a b → ServesWhoAsked b → ServerStands d s a → ServerStands d t b
+stands_kept {s = s} {t = t} {a = a} {b = b} same serves records server opened ids who h = record {
+  serving = serves;
   twelve = ap (λ (words : List ℕ). length words) same.words ∙ h.twelve;
-  bare = λ r. ap (λ (d : ℕ). t.spaces.regions d r) same.space ∙ regions r ∙ h.bare r;
+  client = λ client is.
+      let was : client_served a.server ≡ Some client = ap (λ (x : Server). client_served x) (sym server) ∙ is in
+      client_kept (same_id (slot_at s 0) (slot_at t 0) same) (ids client was) (h.client client was);
+  asked = who;
+  built = subst (λ (x : Server). IsBuiltRequest x) (sym server) h.built;
+  records = records;
   cache = subst (λ (words : List ℕ). IsBareCache (state_in words).place) (sym same.words) h.cache;
-  asked = serves;
+  unheld = λ number. ap (λ (o : ℕ → TablePlace). (o number).held_by) opened ∙ h.unheld number;
 }
+
+-- ---- turns
 
 -- whatever a slot's status and however often it has run
 set_serving : (s : KernelState) (n : ℕ) (status : Status) (runs : ℕ) →
     SameServing (slot_at s 0) (slot_at (with_slot_at s n (record (slot_at s n) { status = status; runs = runs })) 0)
 set_serving s n status runs =
     upd-all (λ m (x : Slot). SameServing (slot_at s m) x) s.environments.slots n (record (slot_at s n) { status = status; runs = runs })
-    (record { registers = refl; words = refl; message = refl; space = refl }) (λ m ne. same_serving refl) 0
+    (record { registers = refl; words = refl; message = refl; space = refl; env_type = refl }) (λ m ne. same_serving refl) 0
+
+-- where the slot is so, and the spaces are the same,
+turned_server : (d : Disk) (s t : KernelState) (a b : AbstractState) → SameServing (slot_at s 0) (slot_at t 0) → t.spaces ≡ s.spaces →
+    Stands s a → Stands t b → b.server ≡ a.server → b.files ≡ a.files → b.opened ≡ a.opened → NamesAreGiven b → SameClient a.server a b →
+    ServesWhoAsked b → ServerStands d s a → ServerStands d t b
+turned_server d s t a b same spaces before behind server files opened names ids who h =
+    stands_kept same
+    (serves_left (serves_still d s t a h.serving slot same.registers same.message behind.1.in_order) behind.1.in_order itself records before.1.consoles
+    behind.1.consoles server files opened (λ number. ap (λ (o : ℕ → TablePlace). (o number).held_by) opened ∙ h.unheld number) names)
+    records server opened ids who h
+  where
+    slot : SlotStays s t 0
+    slot = record { lives = (first_serves behind.1).lives; env_type = same.env_type; directory = same.space; words = same.words; spaces = spaces }
+
+    records : HasRecordsAlone t
+    records = records_kept (spaces_alike same.space spaces) h.records
+
+    itself : LeavesPages t t 0
+    itself = record { slot = refl; entries = λ p. refl; tables = λ r. refl; bytes = λ p e own there. refl; counts = λ number e below there. refl }
 
 -- where a turn begins,
-pub begun_server : (s : KernelState) (n : ℕ) (a : AbstractState) → ServerStands s a → ServerStands (turn_begun s n) (begun_at a n)
-begun_server s n a h =
-    server_kept (set_serving s n Running (((slot_at s n).runs + 1) % 2 ^ 32)) (λ r. refl) refl (λ client is. refl) (record { asked = h.asked.asked; given = h.asked.given }) h
+pub begun_server : (d : Disk) (s : KernelState) (n : ℕ) (a : AbstractState) → Stands s a → Stands (turn_begun s n) (begun_at a n) → ServerStands d s a →
+    ServerStands d (turn_begun s n) (begun_at a n)
+begun_server d s n a before behind h =
+    turned_server d s (turn_begun s n) a (begun_at a n) (set_serving s n Running (((slot_at s n).runs + 1) % 2 ^ 32)) refl before behind refl refl refl
+    (names_given d s a h.serving) (λ client is. refl) (record { asked = h.asked.asked; given = h.asked.given }) h
 
 -- and where one ends
-pub ended_server : (s : KernelState) (n : ℕ) (a : AbstractState) → ServerStands s a → ServerStands (turn_ended s n) a
-ended_server s n a h = by_test (is_running (slot_at s n).status)
+pub ended_server : (d : Disk) (s : KernelState) (n : ℕ) (a : AbstractState) → Stands s a → Stands (turn_ended s n) a → ServerStands d s a →
+    ServerStands d (turn_ended s n) a
+ended_server d s n a before behind h = by_test (is_running (slot_at s n).status) behind
   where
-    by_test : (c : Bool) → ServerStands (if c then with_status s n Runnable else s) a
-    by_test true = server_kept (set_serving s n Runnable (slot_at s n).runs) (λ r. refl) refl (λ client is. refl) h.asked h
-    by_test false = h
+    by_test : (c : Bool) → Stands (if c then with_status s n Runnable else s) a → ServerStands d (if c then with_status s n Runnable else s) a
+    by_test true behind =
+        turned_server d s (with_status s n Runnable) a a (set_serving s n Runnable (slot_at s n).runs) refl before behind refl refl refl
+        (names_given d s a h.serving) (λ client is. refl) h.asked h
+    by_test false behind = h
 
 -- ---- the steps of others
 
@@ -213,17 +233,17 @@ id_told (asks_it id at self so) = ap request_id at ∙ self
 id_told (expects id at self so) = ap request_id at ∙ self
 
 -- A step of another leaves the file server where it stands, or asks it while it waits.
-module _ (n : ℕ) (s after : KernelState) (other : n ≢ 0) (live : is_live (slot_at s n) ≡ true) (server : KeepsServer n s after)
-    (places : KeepsPlaces n s after) (a : AbstractState) (h : StandsWhole s a) (b : Born) (at : a.slots n ≡ born b) where
+module _ (d : Disk) (n : ℕ) (s after : KernelState) (other : n ≢ 0) (live : is_live (slot_at s n) ≡ true) (server : KeepsServer n s after)
+    (places : KeepsPlaces n s after) (a : AbstractState) (h : Stands s a) (k : ServerStands d s a) (b : Born) (at : a.slots n ≡ born b) where
   way : (c : AbstractState) → Stands after c → LeavesOrAsks n s after
-  way c stands = server stands.1.in_order other live a h.0
+  way c stands = server stands.1.in_order other live a h
 
   below : n < NENV
-  below = let id : (slot_at s n).id % NENV ≡ n = h.0.1.tabled.ids n live in omega (arith, id)
+  below = let id : (slot_at s n).id % NENV ≡ n = h.1.tabled.ids n live in omega (arith, id)
 
   -- who waits for a request is idle
   waits_idle : AwaitsRequest (slot_at s 0) → a.server ≡ idle
-  waits_idle waited = by_server a.server h.0.1.server.status
+  waits_idle waited = by_server a.server h.1.server.status
     where
       none : {X : Type 0} → IsStatusFor (slot_at s 0).status false → X
       none is = absurd (subst (λ (x : Status). IsStatusFor x false) waited.status is)
@@ -240,37 +260,55 @@ module _ (n : ℕ) (s after : KernelState) (other : n ≢ 0) (live : is_live (sl
   asked_wakes it is =
       let contradiction : Runnable ≡ NotRunnable = sym (ap (λ (x : Slot). x.status) it.slot) ∙ is in cc
 
-  pub whole_stays : (written : List ℕ) → Stays after a written → WholeStays after a written
+  -- ---- it is left alone
+
+  lacks : LacksFrame s n k.records.entry.frame
+  lacks = records_lacked h.1 n other live k.records
+
+  left_whole : LeavesServer n s after → (c : AbstractState) → Stands after c → c.server ≡ a.server → c.files ≡ a.files → c.opened ≡ a.opened →
+      NamesAreGiven c → SameClient a.server a c → ServesWhoAsked c → ServerStands d after c
+  left_whole it c stands same files opened names ids who =
+      let records : HasRecordsAlone after = left_records it k.records lacks in
+      stands_kept (same_serving it.slot)
+      (serves_left k.serving stands.1.in_order (pages_left it k.records lacks) records h.1.consoles stands.1.consoles same files opened
+      (λ number. ap (λ (o : ℕ → TablePlace). (o number).held_by) opened ∙ k.unheld number) names)
+      records same opened ids who k
+
+  pub whole_stays : (written : List ℕ) → Stays after a written → WholeStays (beside after (Some d)) a written
   whole_stays written stays = (stays.0, (stays.1, by_way (way a stays.1)))
     where
-      by_way : LeavesOrAsks n s after → ServerStands after a
-      by_way (left_alone it) = server_kept (same_serving it.slot) it.regions refl (λ client is. refl) h.1.asked h.1
+      by_way : LeavesOrAsks n s after → ServerStands d after a
+      by_way (left_alone it) = left_whole it a stays.1 refl refl refl (names_given d s a k.serving) (λ client is. refl) k.asked
       by_way (asked_it it) =
           let status = subst (λ (x : Server). IsServerStatus x (slot_at after 0)) (waits_idle it.waited) stays.1.1.server.status in
           absurd (asked_wakes it status.status)
 
-  nobody_asks : (k : Slot) (request : Request) (x : Server) → x ≡ request_begun n request → IsServerStatus x k → k.status ≡ NotRunnable → {X : Type 0} → X
-  nobody_asks k request x is status waits = by_request request (subst (λ (y : Server). IsServerStatus y k) is status)
+  nobody_asks : (x : Slot) (request : Request) (y : Server) → y ≡ request_begun n request → IsServerStatus y x → x.status ≡ NotRunnable →
+      {X : Type 0} → X
+  nobody_asks x request y is status waits = by_request request (subst (λ (z : Server). IsServerStatus z x) is status)
     where
-      none : {X : Type 0} → IsStatusFor k.status false → X
-      none runs = absurd (subst (λ (y : Status). IsStatusFor y false) waits runs)
+      none : {X : Type 0} → IsStatusFor x.status false → X
+      none runs = absurd (subst (λ (z : Status). IsStatusFor z false) waits runs)
 
-      by_request : {X : Type 0} → (r : Request) → IsServerStatus (request_begun n r) k → X
+      by_request : {X : Type 0} → (r : Request) → IsServerStatus (request_begun n r) x → X
       by_request (act (open_path path mode) object) so = none so.0
       by_request (act _ object) so = none so.0
       by_request (seek name offset) so = none so.0
 
-  -- the server as it is in the abstract system behind a step that leaves it alone
-  same_abstract : LeavesServer s after → (c : AbstractState) → abs_step a n ≡ Some c → Stands after c → c.server ≡ a.server
-  same_abstract it c step stands =
-      let left : LeavesFiles a c × AsksOrLeaves a c n = subst (λ (o : Option AbstractState). IfSome o (λ (x : AbstractState). LeavesFiles a x × AsksOrLeaves a x n)) step
-      (clients_leave_files a n b below at) in
-      by_way left.1
+  -- what the file server has in the abstract system behind the step
+  left_of : (c : AbstractState) → abs_step a n ≡ Some c → LeavesFiles a c × AsksOrLeaves a c n
+  left_of c step =
+      subst (λ (o : Option AbstractState). IfSome o (λ (x : AbstractState). LeavesFiles a x × AsksOrLeaves a x n)) step
+      (clients_leave_files a n b below at)
+
+  -- and itself, where it is left alone
+  same_abstract : LeavesServer n s after → (c : AbstractState) → abs_step a n ≡ Some c → Stands after c → c.server ≡ a.server
+  same_abstract it c step stands = by_way (left_of c step).1
     where
       by_way : AsksOrLeaves a c n → c.server ≡ a.server
       by_way (leaves same) = same
       by_way (asks request was now) =
-          let waited = subst (λ (x : Server). IsServerStatus x (slot_at s 0)) was h.0.1.server.status in
+          let waited = subst (λ (x : Server). IsServerStatus x (slot_at s 0)) was h.1.server.status in
           nobody_asks (slot_at after 0) request c.server now stands.1.server.status (ap (λ (x : Slot). x.status) it.slot ∙ waited.status)
 
   -- the client that it serves has the id that it had
@@ -278,13 +316,13 @@ module _ (n : ℕ) (s after : KernelState) (other : n ≢ 0) (live : is_live (sl
   ids_kept c step stands same_server client is = by_slot (client == n) refl
     where
       it : HasClient a client
-      it = client_is a h.1.asked client is
+      it = client_is a k.asked client is
 
       then_it : HasClient c client
-      then_it = client_is c (served_clients_stay a c n below h.1.asked step) client (ap (λ (x : Server). client_served x) same_server ∙ is)
+      then_it = client_is c (served_clients_stay a c n below k.asked step) client (ap (λ (x : Server). client_served x) same_server ∙ is)
 
-      own : StandsForBorn h.0.0 s.spaces (slot_at s client) it.b
-      own = born_at h.0.1 client it.b it.is
+      own : StandsForBorn h.0 s.spaces (slot_at s client) it.b
+      own = born_at h.1 client it.b it.is
 
       then_own : StandsForBorn stands.0 after.spaces (slot_at after client) then_it.b
       then_own = born_at stands.1 client then_it.b then_it.is
@@ -314,21 +352,27 @@ module _ (n : ℕ) (s after : KernelState) (other : n ≢ 0) (live : is_live (sl
       by_slot true test = itself stood (grind (arith, nat_tests))
       by_slot false test =
           let ne : client ≢ n = grind (arith, nat_tests) in
-          let same_place = places h.0.1.in_order stands.1.in_order live client ne (born_live own) (born_live then_own) in
+          let same_place = places h.1.in_order stands.1.in_order live client ne (born_live own) (born_live then_own) in
           by_id (sym then_own.id ∙ sym (id_told stands_so) ∙ ap request_id same_place ∙ id_told stood ∙ own.id)
 
-  asked_whole : (it : AsksServer n s after) (c : AbstractState) → abs_step a n ≡ Some c → Stands after c → ServerStands after c
-  unfolding server_in
+  -- ---- it is asked
+
+  asked_whole : (it : AsksServer n s after) (c : AbstractState) → abs_step a n ≡ Some c → Stands after c → ServerStands d after c
   asked_whole it c step stands = record {
-    at = subst (λ (x : Server). IsServerAt c x (slot_at after 0)) (sym is.0) (reading_kind step_is (ap (λ (x : Slot). x.rendezvous.value) it.slot) client);
-    twelve = ap (λ (x : Slot). length x.extra) it.slot ∙ h.1.twelve;
-    bare = λ r. (λ i. (it.spaces i).regions (it.slot i).directory r) ∙ h.1.bare r;
-    cache = subst (λ (words : List ℕ). IsBareCache (state_in words).place) (sym (ap (λ (x : Slot). x.extra) it.slot)) h.1.cache;
-    asked = served_clients_stay a c n below h.1.asked step;
+    serving = served.serving;
+    twelve = ap (λ (x : Slot). length x.extra) it.slot ∙ k.twelve;
+    client = λ m of.
+        let same : n ≡ m = same_Some n m (sym (ap (λ (x : Server). client_served x) is.0) ∙ of) in
+        subst (λ (x : ℕ). IsClient c x (client_id (step_of (slot_at after 0)) (slot_at after 0))) same client;
+    asked = served_clients_stay a c n below k.asked step;
+    built = subst (λ (x : Server). IsBuiltRequest x) (sym is.0) tt;
+    records = records;
+    cache = subst (λ (words : List ℕ). IsBareCache (state_in words).place) (sym (ap (λ (x : Slot). x.extra) it.slot)) k.cache;
+    unheld = unheld;
   }
     where
-      own : StandsForBorn h.0.0 s.spaces (slot_at s n) b
-      own = born_at h.0.1 n b at
+      own : StandsForBorn h.0 s.spaces (slot_at s n) b
+      own = born_at h.1 n b at
 
       asking : IsIn (slot_at s n) b service.Sync entered
       asking = (subst (λ (p : Place). StandsAt p (view_of s.spaces (slot_at s n).directory) (slot_at s n) b) it.at own.at).1
@@ -336,30 +380,50 @@ module _ (n : ℕ) (s after : KernelState) (other : n ≢ 0) (live : is_live (sl
       is : (c.server ≡ busy n (act sync_files None) None) × (slot_id (c.slots n) ≡ b.id)
       is = sync_asked a c n b (slot_at s n).registers (waits_idle it.waited) at asking.awake asking.program asking.phase step
 
-      step_is : step_of (slot_at after 0) ≡ server_at.ReadingKind
-      step_is = ap (λ (x : Slot). step_of x) it.slot ∙ subst (λ (x : Server). IsServerAt a x (slot_at s 0)) (waits_idle it.waited) h.1.at
+      left : LeavesFiles a c
+      left = (left_of c step).0
 
-      client : IsClient c n (slot_at after 0).rendezvous.sender
-      client = record {
-        slot = sym (h.0.1.tabled.ids n live) ∙ ap (λ (x : Slot). x.rendezvous.sender % NENV) (sym it.slot);
-        same = is.1 ∙ sym own.id ∙ ap (λ (x : Slot). x.rendezvous.sender) (sym it.slot);
-      }
+      records : HasRecordsAlone after
+      records = records_kept (spaces_alike (ap (λ (x : Slot). x.directory) it.slot) it.spaces) k.records
 
-  pub whole_goes_on : (written : List ℕ) → GoesOn n after a written → WholeGoesOn n after a written
+      unheld : (number : ℕ) → (c.opened number).held_by ≡ None
+      unheld number = ap (λ (o : ℕ → TablePlace). (o number).held_by) left.opened ∙ k.unheld number
+
+      sender_is : (slot_at after 0).rendezvous.sender ≡ (slot_at s n).id
+      sender_is = ap (λ (x : Slot). x.rendezvous.sender) it.slot
+
+      served : ServesOn d s after c server_at.ReadingKind
+      served =
+          asked_serves a c d s after n (act sync_files None) kind.Sync (waits_idle it.waited) k.serving stands.1.in_order
+          (asked_by_word d s after 0 (slot_at s n).id FSREQ_SYNC k.serving.stands it.slot it.spaces) left.files is.0
+          (λ sends. absurd (false≢true sends)) syncs (ap (λ (x : Slot). x.rendezvous.value) it.slot)
+          (ap (λ (x : ℕ). x % NENV) sender_is ∙ h.1.tabled.ids n live)
+          (unopened_tables (memory_in d s 0).disk c (view_in d after 0) (records_unopened d c records unheld) stands.1.consoles
+          (names_kept left (names_given d s a k.serving)))
+
+      client : IsClient c n (client_id (step_of (slot_at after 0)) (slot_at after 0))
+      client = subst (λ (x : ServerStep). IsClient c n (client_id x (slot_at after 0))) (sym served.at_step) (record {
+        slot = sym (h.1.tabled.ids n live) ∙ ap (λ (x : ℕ). x % NENV) (sym sender_is);
+        same = is.1 ∙ sym own.id ∙ sym sender_is;
+      })
+
+  pub whole_goes_on : (written : List ℕ) → GoesOn n after a written → WholeGoesOn n (beside after (Some d)) a written
   whole_goes_on written goes = (goes.0, goes.1, goes.2, (goes.3, by_way (way goes.0 goes.3)))
     where
-      by_way : LeavesOrAsks n s after → ServerStands after goes.0
+      by_way : LeavesOrAsks n s after → ServerStands d after goes.0
       by_way (left_alone it) =
           let same = same_abstract it goes.0 goes.1 goes.3 in
-          server_kept (same_serving it.slot) it.regions same (ids_kept goes.0 goes.1 goes.3 same)
-          (served_clients_stay a goes.0 n below h.1.asked goes.1) h.1
+          let left = (left_of goes.0 goes.1).0 in
+          left_whole it goes.0 goes.3 same left.files left.opened (names_kept left (names_given d s a k.serving)) (ids_kept goes.0 goes.1 goes.3 same)
+          (served_clients_stay a goes.0 n below k.asked goes.1)
       by_way (asked_it it) = asked_whole it goes.0 goes.1 goes.3
 
 -- So it keeps the whole.
-pub whole_kept : (n : ℕ) (s after : KernelState) (done : Progress) (written : List ℕ) → is_servers s n ≡ false →
+pub whole_kept : (disk : Option Disk) (n : ℕ) (s after : KernelState) (done : Progress) (written : List ℕ) → is_servers s n ≡ false →
     ((names : Names) (a : AbstractState) → StandsFor names s a → n ≢ 0 → (b : Born) × (a.slots n ≡ born b)) → KeepsServer n s after → KeepsPlaces n s after →
-    KeepsStanding done n s after written → KeepsWhole done n s after written
-whole_kept n s after done written user who server places keeps a h none_refused = by_done done (keeps a h.0 none_refused)
+    KeepsStanding done n s after written → KeepsWhole done n (beside s disk) (beside after disk) written
+whole_kept None n s after done written user who server places keeps a h none_refused = absurd h.1
+whole_kept (Some d) n s after done written user who server places keeps a h none_refused = by_done done (keeps a h.0 none_refused)
   where
     other : n ≢ 0
     other = others_slot h.0.1 n user
@@ -370,9 +434,15 @@ whole_kept n s after done written user who server places keeps a h none_refused 
     live : is_live (slot_at s n) ≡ true
     live = born_live (born_at h.0.1 n b.0 b.1)
 
-    by_done : (d : Progress) → AbstractFollows d n after a written → WholeFollows d n after a written
-    by_done progress.Hidden stays = whole_stays n s after other live server places a h b.0 b.1 written stays
-    by_done progress.Waited stays = (whole_stays n s after other live server places a h b.0 b.1 written stays.0, stays.1)
-    by_done progress.Visible goes = whole_goes_on n s after other live server places a h b.0 b.1 written goes
-    by_done progress.Finished goes = whole_goes_on n s after other live server places a h b.0 b.1 written goes
-    by_done progress.Ended goes = whole_goes_on n s after other live server places a h b.0 b.1 written goes
+    stays_so : Stays after a written → WholeStays (beside after (Some d)) a written
+    stays_so stays = whole_stays d n s after other live server places a h.0 h.1 b.0 b.1 written stays
+
+    goes_so : GoesOn n after a written → WholeGoesOn n (beside after (Some d)) a written
+    goes_so goes = whole_goes_on d n s after other live server places a h.0 h.1 b.0 b.1 written goes
+
+    by_done : (x : Progress) → AbstractFollows x n after a written → WholeFollows x n (beside after (Some d)) a written
+    by_done progress.Hidden stays = stays_so stays
+    by_done progress.Waited stays = (stays_so stays.0, stays.1)
+    by_done progress.Visible goes = goes_so goes
+    by_done progress.Finished goes = goes_so goes
+    by_done progress.Ended goes = goes_so goes

@@ -1,5 +1,5 @@
--- How a run begins: the file server's environment in slot 0, which has no pages and may run, and a program in slot 1,
--- with the pages of its image, a page of stack on which its words stand, a page for the stack of the library's handler of page
+-- How a run begins: the file server's environment in slot 0, which has a page for the records of open files and may run, and a program in
+-- slot 1, with the pages of its image, a page of stack on which its words stand, a page for the stack of the library's handler of page
 -- faults, to which its page faults go, and a page that tells the console, which its first two descriptors name.
 -- (MIT 6.828, env_create and load_icode of kern/env.c, init_stack of lib/spawn.c, and set_pgfault_handler of lib/pgfault.c.)
 use Rattle.std.specs.Prelude.{ℕ, ◌+◌, ◌*◌, ◌/◌, nat_lt, Bool, true, List, [], ◌∷◌, Option, None, Some, Result, Ok, Err, if◌then◌else◌}
@@ -20,7 +20,7 @@ use Rattle.jos_base.specs.TrapFrames.{bytes_of_words}
 use Rattle.jos_elf.specs.declared.image.Segment.{Segment}
 use Rattle.jos_elf.specs.Parsed.{Layout}
 use Rattle.jos_kernel.specs.Boot.{any_touches, first_registers, only_state, page_loaded, pages_loaded, perm_of, stack_page}
-use Rattle.lib_os.specs.declared.numbers.TheConstants.{DEVICE_CONSOLE, O_RDWR, PGFAULT_UPCALL, UXSTACK}
+use Rattle.lib_os.specs.declared.numbers.TheConstants.{DEVICE_CONSOLE, OPEN_RECORDS, O_RDWR, PGFAULT_UPCALL, UXSTACK}
 use Rattle.lib_os.specs.Rows.{descriptor_page, descriptor_perm}
 use Rattle.lib_spawn.specs.StackPage.{stack_contents, stack_pointer, stack_size}
 use Rattle.jos_base.specs.Below.{some_below}
@@ -87,9 +87,17 @@ program_in image file words (Ok made) =
 
 -- ---- the server
 
+-- a page of zeros for the records of open files
+unfoldable pub records_loaded : ℕ → SpacesState → Option SpacesState
+records_loaded space s = only_state (allocated s space (OPEN_RECORDS / PGSIZE) (perm_of true))
+
+-- it has the page, and it may run
+abbrev pub server_started : KernelState → ℕ → SpacesState → KernelState
+server_started s n spaces = with_status (with_env_type (with_spaces s spaces) n FileServer) n Runnable
+
 abbrev pub server_in : Result (ℕ × KernelState) Errno → Option KernelState
 server_in (Err error) = None
-server_in (Ok made) = Some (with_status (with_env_type made.1 made.0 FileServer) made.0 Runnable)
+server_in (Ok made) = option_map (server_started made.1 made.0) (records_loaded (slot_at made.1 made.0).directory made.1.spaces)
 
 -- ---- both
 

@@ -5,6 +5,7 @@ pub mod FencedMemory
 pub mod GuestSteps
 pub mod Guest
 pub mod MemoryProofs
+pub mod Worlds
 pub mod ServerStands
 pub mod Steps
 pub mod StepsAtOnce
@@ -16,4 +17,5 @@ pub mod RunSteps
 pub mod RunReports
 pub mod Running
 pub mod RunEnds
+pub mod DiskTouches
 pub mod Plans

@@ -1,5 +1,5 @@
 -- Where a run of the library's programs stands, between two turns and in one: the abstract system has made the turns so far,
--- with the visible steps of the turn under way, and the kernel's state stands for where it has come to.
+-- with the visible steps of the turn under way, and the kernel's state with the disk stands for where it has come to.
 use Rattle.std.specs.Prelude.{◌≡◌, ◌≢◌, ℕ, ◌==◌, ◌&&◌, nat_le, not, Bool, true, false, List, ◌++◌}
 use Rattle.std.specs.Prelude.{Option, Some, None, is_none, if◌then◌else◌}
 use Rattle.jos_base.specs.declared.environment.EnvType.{EnvType}
@@ -17,6 +17,7 @@ use Rattle.lib_os.specs.declared.progress.Progress.TheVariants as progress
 use Rattle.lib_os.specs.AbstractState.{AbstractState}
 use Rattle.jos_run.specs.AbstractTurns.{next_slot, turn_begun, steps_taken, abs_run, all_fit}
 use Rattle.jos_run.specs.ServerStands.{StandsWhole}
+use Rattle.jos_run.specs.Worlds.{World}
 
 -- ---- the kernel's slots
 
@@ -39,24 +40,24 @@ OnlyFirstServes s = (n : ℕ) → n ≢ 0 → is_user (slot_at s n).env_type ≡
 -- ---- where a run stands
 
 -- After these turns, and in none: these bytes were written.
-pub record IsBetween (schedule : List ℕ) (first : AbstractState) (turns : List Turn) (s : KernelState) (written : List ℕ) : Type 0 where
+pub record IsBetween (schedule : List ℕ) (first : AbstractState) (turns : List Turn) (w : World) (written : List ℕ) : Type 0 where
   pub now : AbstractState
   pub ran : abs_run first turns ≡ Some now
-  pub stands : StandsWhole s now
+  pub stands : StandsWhole w now
   pub console : now.console ≡ first.console ++ written
-  pub none : NoneRuns s
+  pub none : NoneRuns w.state
   pub fit : all_fit schedule 0 first turns ≡ true
 
 -- After these turns, in that of slot n, which has made so many visible steps.
-pub record IsInTurn (schedule : List ℕ) (first : AbstractState) (turns : List Turn) (n visible : ℕ) (s : KernelState) (written : List ℕ) : Type 0 where
+pub record IsInTurn (schedule : List ℕ) (first : AbstractState) (turns : List Turn) (n visible : ℕ) (w : World) (written : List ℕ) : Type 0 where
   pub before : AbstractState
   pub ran : abs_run first turns ≡ Some before
   pub chosen : next_slot before ≡ Some n
   pub now : AbstractState
   pub taken : steps_taken (turn_begun before n) n visible ≡ Some now
-  pub stands : StandsWhole s now
+  pub stands : StandsWhole w now
   pub console : now.console ≡ first.console ++ written
-  pub only : OnlyRuns s n
+  pub only : OnlyRuns w.state n
   pub fit : all_fit schedule 0 first turns ≡ true
 
 -- ---- steps

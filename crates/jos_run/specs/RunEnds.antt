@@ -5,18 +5,22 @@ use Rattle.jos_host.specs.Gains.{Gains}
 use Rattle.jos_host.specs.Told.{Rose}
 use Rattle.jos_base.specs.KernelState.{KernelState}
 use Rattle.jos_elf.specs.Parsed.{Layout}
+use Rattle.fs_layout.specs.FileTree.{FileSystem}
 use Rattle.jos_kernel.specs.declared.kernel.BootFault.{BootFault}
 use Rattle.jos_kernel.specs.declared.kernel.BootFault.TheVariants.{Pool, NoMemory}
 use Rattle.jos_kernel.specs.declared.trace.TrapLine.{TrapLine}
 use Rattle.jos_kernel.specs.Reports.{Reported, CutOff}
 use Rattle.lib_os.specs.AbstractState.{AbstractState}
+use Rattle.lib_os.specs.Disk.{Disk}
 use Rattle.jos_run.specs.declared.programs.RunEnd.{RunEnd}
 use Rattle.jos_run.specs.declared.programs.RunEnd.TheVariants.{Ended, HostFault}
 use Rattle.jos_run.specs.declared.programs.Setup.{Setup}
 use Rattle.jos_run.specs.Boot.{booted_within}
-use Rattle.jos_run.specs.Start.{start_state}
+use Rattle.jos_run.specs.ServerStands.{StandsWhole}
+use Rattle.jos_run.specs.Start.{HoldsFiles, start_state}
 use Rattle.jos_run.specs.RunReports.{IsTold, IsToldCutOff}
 use Rattle.jos_run.specs.RunSteps.{HasGone}
+use Rattle.jos_run.specs.Worlds.{beside}
 
 -- a program that is run: its image with the file that it was read from, its words, and what the run is given
 pub record Job : Type 0 where
@@ -43,9 +47,17 @@ given_job image file words setup = record {
   trace = setup.trace;
 }
 
--- the abstract system in which it begins
-abbrev pub start_of : Job → AbstractState
-start_of p = start_state p.image p.file p.words p.input
+-- the abstract system in which it begins, with these files
+abbrev pub start_of : Job → FileSystem → AbstractState
+start_of p files = start_state p.image p.file p.words p.input files
+
+-- It begins with this one: the host tells a disk without a fault, whose files it has.
+pub record BeginsWith (p : Job) (disk : Option Disk) (first : AbstractState) : Type 0 where
+  pub told : Disk
+  pub files : FileSystem
+  pub is : disk ≡ Some told
+  pub holds : HoldsFiles told files
+  pub starts : first ≡ start_of p files
 
 -- the state of the kernel in which it begins; None where the frames are too few
 abbrev pub begun : Job → Option KernelState
@@ -54,26 +66,29 @@ begun p = booted_within p.image p.file p.words p.frames p.input
 abbrev pub CanBegin : Job → Type 0
 CanBegin p = IsSome (begun p)
 
--- The run is over, and this is told of it, with the last of its traps; the console has gained what it has printed.
-abbrev pub HasRun : Job → Reported → List TrapLine → Around (Option (List ℕ)) → Type 0
-HasRun p report traps console =
-    CanBegin p × ((printed : List ℕ) × Gains console printed × IsTold p.schedule (start_of p) p.frames p.steps report printed
-    × ((s : KernelState) × (begun p ≡ Some s) × HasGone s p.steps p.trace report traps printed))
+-- The run is over, and this is told of it, with the last of its traps; the console has gained what it has printed. With the
+-- abstract system it is compared where the host tells a disk without a fault.
+abbrev pub HasRun : Job → Reported → List TrapLine → Around (Option Disk) → Around (Option (List ℕ)) → Type 0
+HasRun p report traps disks console =
+    CanBegin p × ((printed : List ℕ) × (last : KernelState) × Gains console printed
+    × IsTold p.schedule (BeginsWith p disks.before) p.frames p.steps report printed (beside last disks.after)
+    × ((s : KernelState) × (begun p ≡ Some s)
+    × HasGone (beside s disks.before) (beside last disks.after) p.steps p.trace report traps printed))
 
 -- A call of the host failed in the run.
-abbrev pub IsCut : Job → CutOff → Around (Option (List ℕ)) → Type 0
-IsCut p cut console = CanBegin p × IsToldCutOff p.schedule (start_of p) p.frames cut console
+abbrev pub IsCut : Job → CutOff → Around (Option Disk) → Around (Option (List ℕ)) → Type 0
+IsCut p cut disks console = CanBegin p × IsToldCutOff p.schedule (BeginsWith p disks.before) p.frames cut console
 
 -- How a run that began has ended.
-abbrev pub IsEndOf : Job → RunEnd → Around (Option (List ℕ)) → Type 0
-IsEndOf p (Ended report trace) console = HasRun p report trace.items console
-IsEndOf p (HostFault cut) console = IsCut p cut console
+abbrev pub IsEndOf : Job → RunEnd → Around (Option Disk) → Around (Option (List ℕ)) → Type 0
+IsEndOf p (Ended report trace) disks console = HasRun p report trace.items disks console
+IsEndOf p (HostFault cut) disks console = IsCut p cut disks console
 
 -- What `run` answers for a program. Before the run nothing is printed.
-abbrev pub AnswersFor : Job → Result RunEnd BootFault → Around (Option (List ℕ)) → Type 0
-AnswersFor p (Ok end) console = IsEndOf p end console
-AnswersFor p (Err Pool) console = (begun p ≡ None) × (console.after ≡ console.before)
-AnswersFor p (Err NoMemory) console = console.after ≡ console.before
+abbrev pub AnswersFor : Job → Result RunEnd BootFault → Around (Option Disk) → Around (Option (List ℕ)) → Type 0
+AnswersFor p (Ok end) disks console = IsEndOf p end disks console
+AnswersFor p (Err Pool) disks console = (begun p ≡ None) × (console.after ≡ console.before)
+AnswersFor p (Err NoMemory) disks console = console.after ≡ console.before
 
 -- A failed call of the host is answered only where the count of its faults rose, and every other answer leaves the count.
 abbrev pub HasEndCause : Around ℕ → RunEnd → Type 0
@@ -86,9 +101,11 @@ HasRunCause faults (Err fault) = faults.after ≡ faults.before
 
 -- ---- a program that is booted
 
--- It has run from this state of the kernel and this abstract state on.
-abbrev pub RunsFrom : KernelState → AbstractState → Setup → RunEnd → Around (Option (List ℕ)) → Type 0
-RunsFrom s first setup (Ended report trace) console =
-    (printed : List ℕ) × Gains console printed × IsTold setup.schedule first setup.frames setup.budget report printed
-    × HasGone s setup.budget setup.trace report trace.items printed
-RunsFrom s first setup (HostFault cut) console = IsToldCutOff setup.schedule first setup.frames cut console
+-- It has run from this state of the kernel on, and from each abstract state for which that stands with the disk.
+abbrev pub RunsFrom : KernelState → Setup → RunEnd → Around (Option Disk) → Around (Option (List ℕ)) → Type 0
+RunsFrom s setup (Ended report trace) disks console =
+    (printed : List ℕ) × (last : KernelState) × Gains console printed
+    × IsTold setup.schedule (StandsWhole (beside s disks.before)) setup.frames setup.budget report printed (beside last disks.after)
+    × HasGone (beside s disks.before) (beside last disks.after) setup.budget setup.trace report trace.items printed
+RunsFrom s setup (HostFault cut) disks console =
+    IsToldCutOff setup.schedule (StandsWhole (beside s disks.before)) setup.frames cut console

@@ -15,6 +15,8 @@ use Rattle.jos_kernel.specs.Reports.{Reported, CutOff}
 use Rattle.lib_os.specs.AbstractState.{AbstractState}
 use Rattle.lib_os.specs.Need.{need}
 use Rattle.jos_run.specs.AbstractTurns.{next_slot, turn_begun, steps_taken, abs_run, end_of, fits, all_fit}
+use Rattle.jos_run.specs.ServerStands.{StandsWhole}
+use Rattle.jos_run.specs.Worlds.{World}
 
 -- ---- without a refusal
 
@@ -69,28 +71,32 @@ steps_of [] = 0
 steps_of (turn ∷ rest) = turn.visible + turn.hidden + steps_of rest
 
 -- The end tests on what the abstract system has come to with these turns tell this end; `spent` says whether the steps are
--- used up. Nothing else cuts a turn short.
+-- used up. Nothing else cuts a turn short. The kernel's last state, with the disk as it is then, stands for what the abstract
+-- system has come to.
 pub record HasEnded (schedule : List ℕ) (first : AbstractState) (turns : List Turn) (printed : List ℕ) (spent : Bool)
-    (end : End) : Type 0 where
+    (last : World) (end : End) : Type 0 where
   pub now : AbstractState
+  pub stands : StandsWhole last now
   pub taken : HasTakenTurns schedule first turns printed now
   pub whole : end ≢ Budget → all_fit schedule 0 first turns ≡ true
   pub over : end_of now (length turns) spent ≡ Some end
 
-abbrev pub ToldBy : Option Refusal → List ℕ → AbstractState → ℕ → ℕ → Reported → List ℕ → Type 0
-ToldBy None schedule first frames budget report printed =
-    (report.refused ≡ 0) × HasEnded schedule first report.turns printed (report.steps == budget) report.end
-ToldBy (Some refusal) schedule first frames budget report printed =
+abbrev pub ToldBy : Option Refusal → List ℕ → AbstractState → ℕ → ℕ → Reported → List ℕ → World → Type 0
+ToldBy None schedule first frames budget report printed last =
+    (report.refused ≡ 0) × HasEnded schedule first report.turns printed (report.steps == budget) last report.end
+ToldBy (Some refusal) schedule first frames budget report printed last =
     (0 < report.refused) × IsRefused schedule first frames report.turns refusal printed
 
--- What a report tells of a run from this abstract state on, with so many frames and steps, which has printed these bytes.
-pub record IsTold (schedule : List ℕ) (first : AbstractState) (frames budget : ℕ) (report : Reported) (printed : List ℕ) : Type 0 where
+-- What a report tells of a run with so many frames and steps, which has printed these bytes and has come to this state: from
+-- each abstract state on with which it may begin.
+pub record IsTold (schedule : List ℕ) (Begins : AbstractState → Type 0) (frames budget : ℕ) (report : Reported) (printed : List ℕ)
+    (last : World) : Type 0 where
   pub steps : report.steps ≡ steps_of report.turns
   pub within : report.steps ≤ budget
   pub spent : report.end ≡ Budget → report.steps ≡ budget
   pub most : length report.turns ≤ TURN_MAX
   pub closing : report.closing ≡ 0
-  pub by_refusal : ToldBy report.first_refused schedule first frames budget report printed
+  pub by_refusal : (first : AbstractState) → Begins first → ToldBy report.first_refused schedule first frames budget report printed last
 
 -- ---- a run that a failed call of the host cut off
 
@@ -121,7 +127,8 @@ CutOffBy None schedule first frames turns printed = IsCutOff schedule first turn
 CutOffBy (Some refusal) schedule first frames turns printed = IsRefused schedule first frames turns refusal printed
 
 -- what is told of a run that was cut off: some bytes came to the console
-abbrev pub IsToldCutOff : List ℕ → AbstractState → ℕ → CutOff → Around (Option (List ℕ)) → Type 0
-IsToldCutOff schedule first frames cut console =
-    (printed : List ℕ) × Gains console printed × CutOffBy cut.first_refused schedule first frames cut.turns printed
+abbrev pub IsToldCutOff : List ℕ → (AbstractState → Type 0) → ℕ → CutOff → Around (Option (List ℕ)) → Type 0
+IsToldCutOff schedule Begins frames cut console =
+    (printed : List ℕ) × Gains console printed
+    × ((first : AbstractState) → Begins first → CutOffBy cut.first_refused schedule first frames cut.turns printed)
     × (length cut.turns ≤ TURN_MAX)

@@ -1,4 +1,4 @@
--- A run as the states of the kernel tell it: the steps that were made, the traps that programs raised in them, and the end.
+-- A run as the states of the kernel tell it, with the disk: the steps that were made, the traps that programs raised in them, and the end.
 use Rattle.std.specs.Prelude.{◌≡◌, ℕ, ◌+◌, ◌==◌, ◌++◌, Bool, true, false, List, [], ◌∷◌, length, Option, Some, None, Ok, if◌then◌else◌}
 use Rattle.circular_buffer.specs.Buffer.{keep_last}
 use Rattle.jos_base.specs.Environments.{is_running}
@@ -15,11 +15,12 @@ use Rattle.lib_os.specs.LibrarySteps.{LeavesRest}
 use Rattle.jos_run.specs.LibraryRuns.{visible_steps, hidden_steps, end_seen}
 use Rattle.jos_run.specs.ServerStands.{KeepsWhole}
 use Rattle.jos_run.specs.Steps.{LeavesAs, RaisesAs, is_servers}
+use Rattle.jos_run.specs.Worlds.{World, with_state}
 
 -- ---- steps
 
 -- A step of the environment in a slot: whether its turn begins with it, and goes on behind it; what it comes to, what it
--- writes to the console, the trap that it raises, if it raises one, and the state that it leaves.
+-- writes to the console, the trap that it raises, if it raises one, and the state that it leaves, with the disk.
 pub record StepMade : Type 0 where
   pub slot : ℕ
   pub begins : Bool
@@ -27,29 +28,29 @@ pub record StepMade : Type 0 where
   pub progress : Progress
   pub written : List ℕ
   pub trap : Option TrapLine
-  pub left : KernelState
+  pub left : World
 
 -- the state in which it is made
-abbrev pub entered_by : KernelState → StepMade → KernelState
-entered_by s step = if step.begins then turn_begun s step.slot else s
+abbrev pub entered_by : World → StepMade → World
+entered_by w step = with_state w (if step.begins then turn_begun w.state step.slot else w.state)
 
 -- and the one behind it, or behind its turn, where that is over
-abbrev pub passed : StepMade → KernelState
-passed step = if step.goes_on then step.left else turn_ended step.left step.slot
+abbrev pub passed : StepMade → World
+passed step = with_state step.left (if step.goes_on then step.left.state else turn_ended step.left.state step.slot)
 
 -- The step is made from this state on, by the slot whose turn it is, and is one that the library or the file server promises.
-pub record IsMade (s : KernelState) (step : StepMade) : Type 0 where
-  pub chosen : step.begins ≡ true → next s.environments s.last ≡ Some step.slot
-  pub running : is_running (slot_at (entered_by s step) step.slot).status ≡ true
-  pub raises : RaisesAs (is_servers (entered_by s step) step.slot) step.slot (entered_by s step) step.trap step.left
-  pub keeps : KeepsWhole step.progress step.slot (entered_by s step) step.left step.written
-  pub rest : LeavesRest (entered_by s step) step.left
-  pub leaves : LeavesAs (is_servers (entered_by s step) step.slot) (Ok step.progress) step.slot (entered_by s step) step.left
+pub record IsMade (w : World) (step : StepMade) : Type 0 where
+  pub chosen : step.begins ≡ true → next w.state.environments w.state.last ≡ Some step.slot
+  pub running : is_running (slot_at (entered_by w step).state step.slot).status ≡ true
+  pub raises : RaisesAs (is_servers (entered_by w step).state step.slot) step.slot (entered_by w step).state step.trap step.left.state
+  pub keeps : KeepsWhole step.progress step.slot (entered_by w step) step.left step.written
+  pub rest : LeavesRest (entered_by w step).state step.left.state
+  pub leaves : LeavesAs (is_servers (entered_by w step).state step.slot) (Ok step.progress) step.slot (entered_by w step).state step.left.state
 
 -- These steps lead from one state to another.
-unfoldable pub LeadTo : List StepMade → KernelState → KernelState → Type 0
-LeadTo [] s t = s ≡ t
-LeadTo (step ∷ rest) s t = IsMade s step × LeadTo rest (passed step) t
+unfoldable pub LeadTo : List StepMade → World → World → Type 0
+LeadTo [] v w = v ≡ w
+LeadTo (step ∷ rest) v w = IsMade v step × LeadTo rest (passed step) w
 
 abbrev pub one_if : Option TrapLine → List TrapLine
 one_if None = []
@@ -102,18 +103,17 @@ end_at s turns spent =
 
 -- ---- what is told
 
--- From this state on steps were made, as many as the report counts, which have printed these bytes, with these as the last of
+-- From one state on steps were made, as many as the report counts, which have printed these bytes, with these as the last of
 -- their traps; and the state to which they lead tells the end, the turns, the refusals and the upcalls of the report.
-pub record HasGone (s : KernelState) (budget most_traps : ℕ) (report : Reported) (traps : List TrapLine) (printed : List ℕ) :
+pub record HasGone (first last : World) (budget most_traps : ℕ) (report : Reported) (traps : List TrapLine) (printed : List ℕ) :
     Type 0 where
   pub steps : List StepMade
-  pub now : KernelState
-  pub lead : LeadTo steps s now
+  pub lead : LeadTo steps first last
   pub steps_are : report.steps ≡ length steps
   pub turns : report.turns ≡ turns_with [] steps
-  pub turns_count : length report.turns ≡ now.turns
-  pub refused : report.refused ≡ now.refusals
-  pub upcalls : report.upcalls ≡ now.upcalls
-  pub end : end_at now (length report.turns) (report.steps == budget) ≡ Some report.end
+  pub turns_count : length report.turns ≡ last.state.turns
+  pub refused : report.refused ≡ last.state.refusals
+  pub upcalls : report.upcalls ≡ last.state.upcalls
+  pub end : end_at last.state (length report.turns) (report.steps == budget) ≡ Some report.end
   pub printed_are : printed ≡ written_in steps
   pub last_traps : traps ≡ keep_last most_traps (traps_of steps)

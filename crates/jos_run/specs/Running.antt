@@ -4,7 +4,8 @@ use Rattle.std.specs.Prelude.{Option, Some, None, Result, Ok, Err, vec_len, if�
 use Rattle.std.specs.Option.{ForSome}
 use Rattle.circular_buffer.specs.Buffer.{buffer, keep_last}
 use Rattle.jos_host.specs.declared.host.Failed.{Failed}
-use Rattle.jos_host.specs.Frames.{Around}
+use Rattle.jos_host.specs.Files.{Files}
+use Rattle.jos_host.specs.Frames.{Around, from_to}
 use Rattle.jos_host.specs.Gains.{Gains}
 use Rattle.jos_base.specs.declared.numbers.TheConstants.{NENV, TURN_MAX}
 use Rattle.jos_base.specs.Environments.{is_live, is_running}
@@ -19,12 +20,14 @@ use Rattle.jos_kernel.specs.Books as books
 use Rattle.jos_kernel.specs.ExoRun.{bytes_counted}
 use Rattle.jos_kernel.specs.Reports.{Reported, CutOff}
 use Rattle.lib_os.specs.AbstractState.{AbstractState}
+use Rattle.lib_os.specs.Disk.{Disk}
 use Rattle.lib_os.specs.Need.{EachHasUse}
 use Rattle.jos_run.specs.declared.library_run.LibraryRun.{LibraryRun}
 use Rattle.jos_run.specs.Served.{kernel_state}
 use Rattle.jos_run.specs.LibraryRuns.{IsBetween, IsInTurn, end_seen, others_live}
 use Rattle.jos_run.specs.RunSteps.{StepMade, LeadTo, traps_of, written_in, turns_with, is_in_turn, end_at}
 use Rattle.jos_run.specs.RunReports.{IsRefused, HasEnded, steps_of, CutOffBy}
+use Rattle.jos_run.specs.Worlds.{beside, told_disk}
 
 abbrev pub state_of : LibraryRun → KernelState
 state_of r = kernel_state r.served
@@ -36,7 +39,7 @@ turns_so_far r = books.turns_so_far r.book r.served.slot
 -- ---- what is kept
 
 -- Between two steps there is room for each turn, and a turn that is under way is that of an environment that is RUNNING,
--- with steps left. No disk is served.
+-- with steps left.
 pub record Holds (r : LibraryRun) : Type 0 where
   pub has_room : HasRoom r.book
   pub left : HasStepsLeft r.book
@@ -46,17 +49,18 @@ pub record Holds (r : LibraryRun) : Type 0 where
   pub last : ForSome (state_of r).last (λ n. n < NENV)
   pub between : made r.book ≡ 0 → is_in_turn (state_of r) (state_of r).last ≡ false
   pub steps : r.book.steps ≡ steps_of (turns_so_far r)
-  pub no_blocks : r.served.disk.blocks ≡ 0
 
 -- ---- where it stands beside the abstract system
 
--- no page was refused yet: the abstract system has taken the turns so far, and has come to what the kernel's state stands for
-abbrev pub StandsBy : Bool → List ℕ → AbstractState → LibraryRun → List ℕ → Type 0
-StandsBy true schedule first r printed = IsBetween schedule first r.book.turns.items (state_of r) printed
-StandsBy false schedule first r printed = IsInTurn schedule first r.book.turns.items r.served.slot r.book.visible (state_of r) printed
+-- no page was refused yet: the abstract system has taken the turns so far, and has come to what the kernel's state stands for,
+-- with the disk that the host tells
+abbrev pub StandsBy : Bool → List ℕ → AbstractState → Option Disk → LibraryRun → List ℕ → Type 0
+StandsBy true schedule first disk r printed = IsBetween schedule first r.book.turns.items (beside (state_of r) disk) printed
+StandsBy false schedule first disk r printed =
+    IsInTurn schedule first r.book.turns.items r.served.slot r.book.visible (beside (state_of r) disk) printed
 
-pub record StandsSo (first : AbstractState) (frames : ℕ) (r : LibraryRun) (printed : List ℕ) : Type 0 where
-  pub stands : StandsBy (made r.book == 0) r.book.schedule first r printed
+pub record StandsSo (first : AbstractState) (frames : ℕ) (disk : Option Disk) (r : LibraryRun) (printed : List ℕ) : Type 0 where
+  pub stands : StandsBy (made r.book == 0) r.book.schedule first disk r printed
   pub quiet : (state_of r).refusals ≡ 0
   pub frames_are : (state_of r).spaces.frames ≡ frames
   pub used : EachHasUse (state_of r).spaces
@@ -64,14 +68,18 @@ pub record StandsSo (first : AbstractState) (frames : ℕ) (r : LibraryRun) (pri
   -- in a turn of the file server there is another environment
   pub others : 0 < made r.book → r.served.slot ≡ 0 → others_live (state_of r) ≡ true
 
-abbrev pub RunsBy : Option Refusal → AbstractState → ℕ → LibraryRun → List ℕ → Type 0
-RunsBy None first frames r printed = StandsSo first frames r printed
-RunsBy (Some refusal) first frames r printed =
+abbrev pub RunsBy : Option Refusal → AbstractState → ℕ → Option Disk → LibraryRun → List ℕ → Type 0
+RunsBy None first frames disk r printed = StandsSo first frames disk r printed
+RunsBy (Some refusal) first frames disk r printed =
     (0 < (state_of r).refusals) × IsRefused r.book.schedule first frames (turns_so_far r) refusal printed
 
--- The run has come so far from this abstract state on, with so many frames, and has printed these bytes.
-abbrev pub Runs : AbstractState → ℕ → LibraryRun → List ℕ → Type 0
-Runs first frames r printed = RunsBy r.book.first_refused first frames r printed
+-- The run has come so far from this abstract state on, with so many frames and this disk, and has printed these bytes.
+abbrev pub Runs : AbstractState → ℕ → Option Disk → LibraryRun → List ℕ → Type 0
+Runs first frames disk r printed = RunsBy r.book.first_refused first frames disk r printed
+
+-- the disk before and after, as the host tells its files
+abbrev pub disks_of : Around (Option Files) → Around LibraryRun → Around (Option Disk)
+disks_of files run = from_to (told_disk files.before run.before.served.disk) (told_disk files.after run.after.served.disk)
 
 -- ---- one step
 
@@ -112,49 +120,49 @@ Counted old new visible hidden = CountedBy (goes_on_after old (visible + hidden)
 -- ---- steps that were made
 
 -- So many steps were made, which have printed these bytes; and of the traps that were raised the last are kept.
-pub record Went (steps : ℕ) (run : Around LibraryRun) (console : Around (Option (List ℕ))) : Type 0 where
+pub record Went (steps : ℕ) (run : Around LibraryRun) (disks : Around (Option Disk)) (console : Around (Option (List ℕ))) : Type 0 where
   pub printed : List ℕ
   pub gains : Gains console printed
   pub steps_are : run.after.book.steps ≡ run.before.book.steps + steps
   pub schedule : run.after.book.schedule ≡ run.before.book.schedule
   pub steps_made : List StepMade
   pub long : length steps_made ≡ steps
-  pub lead : LeadTo steps_made (state_of run.before) (state_of run.after)
+  pub lead : LeadTo steps_made (beside (state_of run.before) disks.before) (beside (state_of run.after) disks.after)
   pub printed_are : printed ≡ written_in steps_made
   pub turns : turns_so_far run.after ≡ turns_with (turns_so_far run.before) steps_made
   pub kept : (most : ℕ) (traps : List TrapLine) → run.before.book.trace ≡ buffer (keep_last most traps) most →
       run.after.book.trace ≡ buffer (keep_last most (traps ++ traps_of steps_made)) most
-  pub runs : (first : AbstractState) (frames : ℕ) (before : List ℕ) → Runs first frames run.before before →
-      Runs first frames run.after (before ++ printed)
+  pub runs : (first : AbstractState) (frames : ℕ) (before : List ℕ) → Runs first frames disks.before run.before before →
+      Runs first frames disks.after run.after (before ++ printed)
 
 -- The host failed in a step; the turns are those so far, with that step.
-pub record HasFailed (run : Around LibraryRun) (console : Around (Option (List ℕ))) : Type 0 where
+pub record HasFailed (run : Around LibraryRun) (disks : Around (Option Disk)) (console : Around (Option (List ℕ))) : Type 0 where
   pub printed : List ℕ
   pub gains : Gains console printed
-  pub cut_off : (first : AbstractState) (frames : ℕ) (before : List ℕ) → Runs first frames run.before before →
+  pub cut_off : (first : AbstractState) (frames : ℕ) (before : List ℕ) → Runs first frames disks.before run.before before →
       CutOffBy run.after.book.first_refused run.before.book.schedule first frames (turns_so_far run.after) (before ++ printed)
 
 -- the next steps, one at least and as many as are left at most; or the host failed
-abbrev pub Advances : ℕ → Result ℕ Failed → Around LibraryRun → Around (Option (List ℕ)) → Type 0
-Advances left (Ok steps) run console = (0 < steps) × (steps ≤ left) × Went steps run console
-Advances left (Err _) run console = HasFailed run console
+abbrev pub Advances : ℕ → Result ℕ Failed → Around LibraryRun → Around (Option Disk) → Around (Option (List ℕ)) → Type 0
+Advances left (Ok steps) run disks console = (0 < steps) × (steps ≤ left) × Went steps run disks console
+Advances left (Err _) run disks console = HasFailed run disks console
 
 -- ---- the end
 
 -- The end tests on what the abstract system has come to tell this end, where no page was refused. `spent` says whether the
 -- steps are used up.
-abbrev pub EndsBy : Option Refusal → AbstractState → Bool → LibraryRun → List ℕ → End → Type 0
-EndsBy None first spent r printed end = HasEnded r.book.schedule first (turns_so_far r) printed spent end
-EndsBy (Some refusal) first spent r printed end = Unit {0}
+abbrev pub EndsBy : Option Refusal → AbstractState → Bool → Option Disk → LibraryRun → List ℕ → End → Type 0
+EndsBy None first spent disk r printed end = HasEnded r.book.schedule first (turns_so_far r) printed spent (beside (state_of r) disk) end
+EndsBy (Some refusal) first spent disk r printed end = Unit {0}
 
 -- The run has gone on to the end that the kernel's state tells, with so many steps at most; or the host failed.
-abbrev pub HasRunToEnd : ℕ → Result End Failed → Around LibraryRun → Around (Option (List ℕ)) → Type 0
-HasRunToEnd budget (Ok end) run console =
-    (steps : ℕ) × (steps ≤ budget) × (went : Went steps run console)
-    × ((first : AbstractState) (frames : ℕ) (before : List ℕ) → Runs first frames run.before before →
-    EndsBy run.after.book.first_refused first (steps == budget) run.after (before ++ went.printed) end)
+abbrev pub HasRunToEnd : ℕ → Result End Failed → Around LibraryRun → Around (Option Disk) → Around (Option (List ℕ)) → Type 0
+HasRunToEnd budget (Ok end) run disks console =
+    (steps : ℕ) × (steps ≤ budget) × (went : Went steps run disks console)
+    × ((first : AbstractState) (frames : ℕ) (before : List ℕ) → Runs first frames disks.before run.before before →
+    EndsBy run.after.book.first_refused first (steps == budget) disks.after run.after (before ++ went.printed) end)
     × (end_at (state_of run.after) (length (turns_so_far run.after)) (steps == budget) ≡ Some end)
-HasRunToEnd budget (Err _) run console = HasFailed run console
+HasRunToEnd budget (Err _) run disks console = HasFailed run disks console
 
 -- ---- what is told
 

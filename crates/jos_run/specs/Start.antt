@@ -1,13 +1,18 @@
--- The abstract state in which a run begins: the server, which is not yet ready for a request and has an empty disk, and one program.
-use Rattle.std.specs.Prelude.{ℕ, ◌+◌, ◌-◌, ◌==◌, nat_lt, true, false, List, [], ◌∷◌, Option, Some, None, if◌then◌else◌}
+-- The abstract state in which a run begins: the server, which is not yet ready for a request, with the files of its disk, and one program.
+use Rattle.std.specs.Prelude.{◌≡◌, ℕ, ◌+◌, ◌-◌, ◌*◌, ◌==◌, nat_lt, true, false, List, [], ◌∷◌, Option, Some, None, if◌then◌else◌}
 use Rattle.jos_base.specs.declared.numbers.TheConstants.{FIRST_ENV_ID, NENV}
 use Rattle.jos_base.specs.SpacesState.{rising}
 use Rattle.jos_elf.specs.declared.image.Segment.{Segment}
 use Rattle.jos_elf.specs.Parsed.{Layout}
 use Rattle.jos_kernel.specs.Boot.{any_touches, any_writes, page_bytes, stack_page}
-use Rattle.fs_layout.specs.FileTree.{a_directory, no_more}
+use Rattle.fs_layout.specs.declared.numbers.TheConstants.{BLKSIZE}
+use Rattle.fs_layout.specs.DiskFiles.{IsDiskImage, file_system_of}
+use Rattle.fs_layout.specs.DiskImage.{block_count}
+use Rattle.fs_layout.specs.FileTree.{FileSystem}
 use Rattle.lib_os.specs.AbstractMemory.{has_page_in}
+use Rattle.lib_os.specs.Disk.{Disk, byte_in_blocks}
 use Rattle.lib_os.specs.AbstractState.{AbstractState, Born, Page, own, TablePlace, AbstractSlot, free, born, serving, guest, at_guest, leaving, terminal}
+use Rattle.fs_seen.specs.ServerMemory.{AreDiskBytes}
 use Rattle.lib_spawn.specs.StackPage.{stack_contents}
 use Rattle.jos_run.specs.Boot.{program_registers, stack_segment}
 
@@ -48,15 +53,15 @@ abbrev pub no_place : TablePlace
 no_place = record { held_by = None; used = false }
 
 -- the server and this program alone
-abbrev pub start_with : Born → List ℕ → AbstractState
-start_with b input = record {
+abbrev pub start_with : Born → List ℕ → FileSystem → AbstractState
+start_with b input files = record {
   slots = first_slot b;
   free_slots = rising 2 (NENV - 2);
   shared = λ name. [];
   objects = λ name. terminal;
   pipes = λ name. [];
   next_name = 1;
-  files = record { root = a_directory no_more false; blocks = 0; unnamed = 0 };
+  files = files;
   opened = λ k. no_place;
   server = leaving;
   console = [];
@@ -65,6 +70,13 @@ start_with b input = record {
   turns = 0;
 }
 
--- the program of an image that was read from a file, with its words and the console's input
-abbrev pub start_state : Layout → List ℕ → List (List ℕ) → List ℕ → AbstractState
-start_state image file words input = start_with (program_with image words (first_memory image file words)) input
+-- the program of an image that was read from a file, with its words, the console's input and the files of the disk
+abbrev pub start_state : Layout → List ℕ → List (List ℕ) → List ℕ → FileSystem → AbstractState
+start_state image file words input files = start_with (program_with image words (first_memory image file words)) input files
+
+-- The disk is one without a fault, of bytes, and has these files.
+pub record HoldsFiles (d : Disk) (files : FileSystem) : Type 0 where
+  pub image : IsDiskImage (BLKSIZE * d.count) (byte_in_blocks d.block)
+  pub count : block_count (byte_in_blocks d.block) ≡ d.count
+  pub bytes : AreDiskBytes d
+  pub are : file_system_of (byte_in_blocks d.block) ≡ files

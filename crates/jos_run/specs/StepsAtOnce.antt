@@ -13,6 +13,7 @@ use Rattle.jos_run.specs.declared.steps.StepOutcome.{StepOutcome}
 use Rattle.jos_run.specs.GuestSteps.{quietly, guest_instruction}
 use Rattle.jos_run.specs.ServerStands.{IsWholeStep}
 use Rattle.jos_run.specs.Steps.{LeavesAs, RaisesAs, is_servers, step_progress}
+use Rattle.jos_run.specs.Worlds.{World, with_state}
 
 -- So many instructions of the program in slot n, after each of which it stands at the next one, with nothing told.
 abbrev pub GuestGoesOn : ℕ → ℕ → KernelState → KernelState → Type 0
@@ -29,12 +30,12 @@ came_to copying live (Ok trap) =
 came_to copying live (Err failed) = Err failed
 
 -- The environment in slot n makes so many steps that go on, and one more, which has come to this.
-pub record MakesSteps (n going : ℕ) (last : Result StepOutcome Failed) (before after : KernelState) (output : Output) : Type 0 where
-  -- where the last begins
+pub record MakesSteps (n going : ℕ) (last : Result StepOutcome Failed) (before after : World) (output : Output) : Type 0 where
+  -- where the last begins, beside the disk as it was
   pub reached : KernelState
-  pub went : GuestGoesOn n going before reached
-  pub is_guest : 0 < going → (is_servers before n ≡ false) × (place_of (slot_at before n) ≡ place.Guest)
-  pub step : IsWholeStep (step_progress last) n reached after output
-  pub rest : IfOk last (λ stepped. LeavesRest reached after)
-  pub leaves : LeavesAs (is_servers reached n) (step_progress last) n reached after
-  pub raises : IfOk last (λ stepped. RaisesAs (is_servers reached n) n reached stepped.trap after)
+  pub went : GuestGoesOn n going before.state reached
+  pub is_guest : 0 < going → (is_servers before.state n ≡ false) × (place_of (slot_at before.state n) ≡ place.Guest)
+  pub step : IsWholeStep (step_progress last) n (with_state before reached) after output
+  pub rest : IfOk last (λ stepped. LeavesRest reached after.state)
+  pub leaves : LeavesAs (is_servers reached n) (step_progress last) n reached after.state
+  pub raises : IfOk last (λ stepped. RaisesAs (is_servers reached n) n reached stepped.trap after.state)

@@ -10,12 +10,15 @@ ghost use Rattle.jos_sys.specs.System.{state_of, spaces_of, Keeps, is_live_in};
 ghost use Rattle.jos_kernel.specs.Boot.{page_loaded, stack_page};
 ghost use Rattle.jos_kernel.specs.Loading.{directory_of, Loads};
 ghost use Rattle.lib_spawn.specs.StackPage.{fits_stack, stack_contents, strings_of};
-ghost use Rattle.jos_run.specs.Start.{start_state};
+ghost use Rattle.jos_run.specs.Start.{HoldsFiles, start_state};
+ghost use Rattle.jos_run.specs.Worlds.{beside};
+ghost use Rattle.fs_layout.specs.FileTree.{FileSystem};
+ghost use Rattle.lib_os.specs.Disk.{Disk};
 ghost use Rattle.jos_run.specs.Begun.{IsNew, ProgramsBegin, ProgramsBoot};
 ghost use Rattle.jos_run.specs.ServerStands.{StandsWhole};
 ghost use Rattle.lib_os.specs.Rows.{AreBytes};
 ghost use Rattle.jos_run.specs.Boot.{pages_touched, touches_region, regions_touched, boot_frames, stack_segment, program_loaded};
-ghost use Rattle.jos_run.specs.Boot.{handler_stack_loaded, console_bytes, console_loaded, program_registers, program_in, server_in, booted_within};
+ghost use Rattle.jos_run.specs.Boot.{handler_stack_loaded, records_loaded, console_bytes, console_loaded, program_registers, program_in, server_in, booted_within};
 
 use arrayvec::ArrayVec;
 use jos_base::{
@@ -24,7 +27,7 @@ use jos_base::{
 use jos_elf::{Image, Segment};
 use jos_kernel::{BootFault, first_registers, load_pages, next_touched};
 use jos_sys::System;
-use lib_os::{DEVICE_CONSOLE, O_RDWR, PGFAULT_UPCALL, PTE_SHARE, UXSTACK};
+use lib_os::{DEVICE_CONSOLE, O_RDWR, OPEN_RECORDS, PGFAULT_UPCALL, PTE_SHARE, UXSTACK};
 use lib_spawn::{stack_contents, stack_pointer};
 use std::alloc::Global;
 
@@ -243,9 +246,23 @@ fn start_program(system: &mut System, image: &Image, file: &[u8], words: &[&str]
     true
 }
 
-// ---- both
+// ---- the server
 
-/// The environment of the file server, which may run. False where a frame or a slot is wanted and none is free.
+/// A page of zeros for the records of open files. False where a frame is wanted and none is free.
+fn load_records(system: &mut System, slot: usize) -> bool
+    requires live { is_live_in system.old slot ≡ true }
+    requires spaces { Keeps system.old }
+    ensures loads { (input : List ℕ) →
+        Loads (records_loaded (directory_of system.old slot) (spaces_of system.old)) result
+        (state_of system.old input) (state_of system.new input) }
+    ensures spaces { Keeps system.new }
+{
+    system
+        .allocate(slot, OPEN_RECORDS, Perm(PTE_P + PTE_W + PTE_U))
+        .is_some()
+}
+
+/// The environment of the file server, which has a page for the records of open files and may run. False where a frame or a slot is wanted and none is free.
 fn make_server(system: &mut System) -> bool
     requires { Keeps system.old }
     ensures made { result ≡ true → (input : List ℕ) →
@@ -253,15 +270,19 @@ fn make_server(system: &mut System) -> bool
     ensures full { result ≡ false → (input : List ℕ) → server_in (environment_made (state_of system.old input) 0) ≡ None }
     ensures spaces { Keeps system.new }
 {
-    match system.make_environment(EnvId(0)) {
-        Ok(slot) => {
-            system.set_env_type(slot, EnvType::FileServer);
-            system.set_status(slot, Status::Runnable);
-            true
-        }
-        Err(_) => false,
+    let slot = match system.make_environment(EnvId(0)) {
+        Ok(slot) => slot,
+        Err(_) => return false,
+    };
+    if !load_records(system, slot) {
+        return false;
     }
+    system.set_env_type(slot, EnvType::FileServer);
+    system.set_status(slot, Status::Runnable);
+    true
 }
+
+// ---- both
 
 /// The kernel with the server and a program, which was read from this file, in so many frames.
 ///
@@ -282,8 +303,8 @@ pub fn boot_program(
         booted_within image.now file.now (map (λ w. w.now) words.now) frames input ≡ Some (state_of system input)) }
     ensures pool { IfErr result (λ fault. fault ≡ BootFault.Pool → (input : List ℕ) →
         booted_within image.now file.now (map (λ w. w.now) words.now) frames input ≡ None) }
-    ensures stands { IfOk result (λ system. (input : List ℕ) → AreBytes input →
-        StandsWhole (state_of system input) (start_state image.now file.now (map (λ w. w.now) words.now) input)) }
+    ensures stands { IfOk result (λ system. (input : List ℕ) → AreBytes input → (d : Disk) (files : FileSystem) → HoldsFiles d files →
+        StandsWhole (beside (state_of system input) (Some d)) (start_state image.now file.now (map (λ w. w.now) words.now) input files)) }
     ensures new { IfOk result (λ system. (input : List ℕ) → IsNew (state_of system input) frames) }
     ensures keeps { IfOk result Keeps }
 {

@@ -1,6 +1,6 @@
-//! What turns of the kernel are to the abstract system. Nothing here is to be run: each clause is a theorem.
+//! What turns of the kernel, and the disk, are to the abstract system. Nothing here is to be run: each clause is a theorem.
 
-ghost use Rattle.jos_run.specs.RunLaws.{ChoicesAgree, EndsAgree, RunsBegin, TurnsBegin, StepsLeadOn, TurnsEnd, RunsFit};
+ghost use Rattle.jos_run.specs.RunLaws.{ChoicesAgree, EndsAgree, RunsBegin, TurnsBegin, StepsLeadOn, TurnsEnd, RunsFit, FilesStand};
 
 /// Between two turns the kernel chooses the slot that the abstract system chooses, and ends where that does.
 pub fn turns_are_chosen_alike()
@@ -16,4 +16,10 @@ pub fn runs_go_on_alike()
     ensures step { StepsLeadOn }
     ensures turn_ends { TurnsEnd }
     ensures fit { RunsFit }
+{}
+
+/// Where the kernel's state stands for an abstract one beside the disk that the host tells, the files are those of the disk itself, which has no
+/// fault.
+pub fn files_are_those_of_the_disk()
+    ensures { FilesStand }
 {}

@@ -21,7 +21,7 @@ mod turns;
 
 pub use boot::{FRAMES_BESIDE, boot_frames, boot_program, programs_begin};
 pub use disk::HostDisk;
-pub use laws::{runs_go_on_alike, turns_are_chosen_alike};
+pub use laws::{files_are_those_of_the_disk, runs_go_on_alike, turns_are_chosen_alike};
 pub use programs::{RunEnd, Setup, run};
 pub use served::Served;
 pub use steps::{StepOutcome, Steps};

@@ -1,9 +1,9 @@
 //! A run of the library's programs: steps and turns.
 
-ghost use Rattle.std.specs.Prelude.{◌≡◌, ◌<◌, ◌≤◌, ◌+◌, ◌-◌, ◌^◌, ℕ, [], Some, None, IfOk, IfErr, OnOk, OnErr};
+ghost use Rattle.std.specs.Prelude.{◌≡◌, ◌<◌, ◌≤◌, ◌+◌, ◌-◌, ◌^◌, ℕ, [], Option, Some, None, IfOk, IfErr, OnOk, OnErr};
 ghost use Rattle.std.specs.Prelude.{true, false, length, vec_len, vec_capacity};
 ghost use Rattle.jos_host.specs.Told.{HasCause};
-ghost use Rattle.jos_host.specs.Frames.{Unchanged, around, from_to};
+ghost use Rattle.jos_host.specs.Frames.{around, from_to};
 ghost use Rattle.jos_base.specs.declared.numbers.TheConstants.{TURN_MAX};
 ghost use Rattle.jos_base.specs.Environments.{is_running};
 ghost use Rattle.jos_base.specs.KernelState.{slot_at};
@@ -12,12 +12,15 @@ ghost use Rattle.jos_sched.specs.RoundRobin.{next};
 ghost use Rattle.jos_kernel.specs.Books.{made, HasRoom, HasStepsLeft};
 ghost use Rattle.jos_kernel.specs.declared.report.End.TheVariants.{Budget};
 ghost use Rattle.lib_os.specs.AbstractState.{AbstractState};
+ghost use Rattle.lib_os.specs.Disk.{Disk, HasBlocks};
 ghost use Rattle.jos_run.specs.Begun.{IsNew};
 ghost use Rattle.jos_run.specs.ServerStands.{StandsWhole};
 ghost use Rattle.jos_run.specs.LibraryRuns.{others_live, end_seen, visible_steps, hidden_steps};
 ghost use Rattle.jos_run.specs.Served.{kernel_state};
 ghost use Rattle.jos_run.specs.Running.{state_of, Holds, Runs, IsChosen, entered, Counted};
-ghost use Rattle.jos_run.specs.Running.{Advances, HasRunToEnd, turns_so_far, report_of, cut_off_of};
+ghost use Rattle.jos_run.specs.Running.{Advances, HasRunToEnd, disks_of, turns_so_far, report_of, cut_off_of};
+ghost use Rattle.jos_run.specs.DiskTouches.{TouchesDiskOnly};
+ghost use Rattle.jos_run.specs.Worlds.{beside};
 
 use crate::served::Served;
 use jos_cpu::Decodings;
@@ -70,15 +73,15 @@ impl LibraryRun {
         requires turns { (kernel_state served).turns ≡ 0 }
         requires last { (kernel_state served).last ≡ None }
         requires written { served.written ≡ 0 }
-        requires no_blocks { served.disk.blocks ≡ 0 }
         ensures state { state_of result ≡ kernel_state served }
         ensures schedule { result.book.schedule ≡ schedule }
         ensures steps { result.book.steps ≡ 0 }
         ensures told { turns_so_far result ≡ [] }
         ensures trace { result.book.trace ≡ trace }
         ensures holds { Holds result }
-        ensures runs { (first : AbstractState) (frames : ℕ) → StandsWhole (kernel_state served) first → IsNew (kernel_state served) frames →
-            Runs first frames result [] }
+        ensures disk { result.served.disk ≡ served.disk }
+        ensures runs { (first : AbstractState) (frames : ℕ) (disk : Option Disk) → StandsWhole (beside (kernel_state served) disk) first →
+            IsNew (kernel_state served) frames → Runs first frames disk result [] }
     {
         LibraryRun {
             served,
@@ -168,16 +171,20 @@ impl LibraryRun {
     /// as are left at most. The result is their number.
     ///
     /// # Errors
-    /// A call of the host failed while the last step wrote to the console.
+    /// A call of the host failed while the last step wrote to the console or moved a block.
     fn advance<H: Host>(&mut self, host: &mut H, slot: usize, left: u64) -> Result<u32, Failed>
         requires holds { Holds self.old }
         requires left { 0 < left }
         requires steps { self.old.book.steps + left < 2 ^ 64 }
         requires chosen { IsChosen self.old slot }
-        ensures told { Advances left result (from_to self.old self.new) (around H.console host.old host.new) }
+        requires whole { HasBlocks (H.files host.old) self.old.served.disk }
+        ensures told { Advances left result (from_to self.old self.new) (disks_of (around H.files host.old host.new) (from_to self.old self.new)) (around H.console host.old host.new) }
         ensures holds { OnOk result (Holds self.new) }
         ensures room { OnErr result (HasRoom self.new.book) }
-        ensures rest { Unchanged H.files H.input H.asked H.notes host.old host.new }
+        ensures disk { self.new.served.disk ≡ self.old.served.disk }
+        ensures disk_only { TouchesDiskOnly self.old.served.disk (around H.files host.old host.new) (around H.asked host.old host.new) }
+        ensures input { H.input host.new ≡ H.input host.old }
+        ensures notes { H.notes host.new ≡ H.notes host.old }
         ensures cause { HasCause (H.faults host.old) (H.faults host.new) result }
     {
         let left_of_turn = self.book.steps_left();
@@ -226,10 +233,14 @@ impl LibraryRun {
     pub(crate) fn go<H: Host>(&mut self, host: &mut H, budget: u64) -> Result<End, Failed>
         requires holds { Holds self.old }
         requires steps { self.old.book.steps + budget < 2 ^ 64 }
-        ensures told { HasRunToEnd budget result (from_to self.old self.new) (around H.console host.old host.new) }
+        requires whole { HasBlocks (H.files host.old) self.old.served.disk }
+        ensures told { HasRunToEnd budget result (from_to self.old self.new) (disks_of (around H.files host.old host.new) (from_to self.old self.new)) (around H.console host.old host.new) }
         ensures holds { OnOk result (Holds self.new) }
         ensures room { OnErr result (HasRoom self.new.book) }
-        ensures rest { Unchanged H.files H.input H.asked H.notes host.old host.new }
+        ensures disk { self.new.served.disk ≡ self.old.served.disk }
+        ensures disk_only { TouchesDiskOnly self.old.served.disk (around H.files host.old host.new) (around H.asked host.old host.new) }
+        ensures input { H.input host.new ≡ H.input host.old }
+        ensures notes { H.notes host.new ≡ H.notes host.old }
         ensures cause { HasCause (H.faults host.old) (H.faults host.new) result }
     {
         let mut left = budget;

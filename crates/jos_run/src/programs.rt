@@ -1,18 +1,20 @@
 //! A program is run under the library.
 
-ghost use Rattle.std.specs.Prelude.{◌≡◌, ◌≤◌, [], Ok, true, vec_capacity, map};
+ghost use Rattle.std.specs.Prelude.{◌≡◌, ◌≤◌, [], Ok, true, OnErr, vec_capacity, map};
 ghost use Rattle.circular_buffer.specs.Buffer.{buffer};
-ghost use Rattle.jos_host.specs.Frames.{Unchanged, around};
+ghost use Rattle.jos_host.specs.Frames.{around, from_to};
 ghost use Rattle.jos_base.specs.declared.numbers.TheConstants.{FRAMES_MIN, FRAMES_MAX, TURN_MAX};
 ghost use Rattle.jos_elf.specs.Parsed.{parsed};
 ghost use Rattle.jos_sys.specs.System.{state_of, Keeps};
-ghost use Rattle.lib_os.specs.AbstractState.{AbstractState};
+ghost use Rattle.lib_os.specs.Disk.{HasBlocks};
 ghost use Rattle.lib_spawn.specs.StackPage.{fits_stack};
 ghost use Rattle.jos_run.specs.Begun.{IsNew};
-ghost use Rattle.jos_run.specs.ServerStands.{StandsWhole};
+ghost use Rattle.jos_run.specs.DiskTouches.{TouchesDiskOnly};
 ghost use Rattle.jos_run.specs.RunEnds.{AnswersFor, HasEndCause, HasRunCause, RunsFrom, given_job};
+ghost use Rattle.jos_run.specs.Worlds.{told_disk};
 
 use crate::boot::{boot_program, keep_bytes};
+use crate::disk::HostDisk;
 use crate::library_run::LibraryRun;
 use crate::served::Served;
 use jos_cpu::Decodings;
@@ -54,6 +56,7 @@ fn run_booted<H: Host>(
     decodings: Decodings,
     trace: Trace,
     host: &mut H,
+    disk: HostDisk,
     setup: Setup,
 ) -> RunEnd
     requires keeps { Keeps system }
@@ -61,12 +64,14 @@ fn run_booted<H: Host>(
     requires room { TURN_MAX ≤ vec_capacity turns }
     requires empty { turns.items ≡ [] }
     requires trace { trace ≡ buffer [] setup.trace }
-    ensures runs { (first : AbstractState) → StandsWhole (state_of system setup.input.items) first →
-        RunsFrom (state_of system setup.input.items) first setup result (around H.console host.old host.new) }
-    ensures rest { Unchanged H.files H.input H.asked H.notes host.old host.new }
+    requires whole { HasBlocks (H.files host.old) disk }
+    ensures runs { RunsFrom (state_of system setup.input.items) setup result (from_to (told_disk (H.files host.old) disk) (told_disk (H.files host.new) disk)) (around H.console host.old host.new) }
+    ensures disk_only { TouchesDiskOnly disk (around H.files host.old host.new) (around H.asked host.old host.new) }
+    ensures input { H.input host.new ≡ H.input host.old }
+    ensures notes { H.notes host.new ≡ H.notes host.old }
     ensures cause { HasEndCause (around H.faults host.old host.new) result }
 {
-    let served = Served::new(system, Input::new(setup.input));
+    let served = Served::new(system, Input::new(setup.input)).with_disk(disk);
     let mut run = LibraryRun::begin(served, setup.schedule, decodings, turns, trace);
     match run.go(host, setup.budget) {
         Ok(end) => {
@@ -78,23 +83,29 @@ fn run_booted<H: Host>(
 }
 
 /// Runs the program of an image that was read from a file, with these words as its arguments, the first of which is its name:
-/// as long as an environment but the file server lives and one can run, in turns of the schedule. All memory is taken before the
-/// first turn.
+/// as long as an environment but the file server lives and one can run, in turns of the schedule. The file server has the disk.
+/// All memory is taken before the first turn.
 pub fn run<H: Host>(
     alloc: Global,
     image: &Image,
     file: &[u8],
     words: &[&str],
     host: &mut H,
+    disk: HostDisk,
     setup: Setup,
 ) -> Result<RunEnd, BootFault>
     requires read { parsed file.now ≡ Ok image.now }
     requires least { FRAMES_MIN ≤ setup.frames }
     requires most { setup.frames ≤ FRAMES_MAX }
     requires words { fits_stack (map (λ w. w.now) words.now) ≡ true }
-    ensures told { AnswersFor (given_job image.now file.now (map (λ w. w.now) words.now) setup) result (around H.console host.old host.new) }
-    ensures rest { Unchanged H.files H.input H.asked H.notes host.old host.new }
+    requires whole { HasBlocks (H.files host.old) disk }
+    ensures told { AnswersFor (given_job image.now file.now (map (λ w. w.now) words.now) setup) result (from_to (told_disk (H.files host.old) disk) (told_disk (H.files host.new) disk)) (around H.console host.old host.new) }
+    ensures disk_only { TouchesDiskOnly disk (around H.files host.old host.new) (around H.asked host.old host.new) }
+    ensures input { H.input host.new ≡ H.input host.old }
+    ensures notes { H.notes host.new ≡ H.notes host.old }
     ensures cause { HasRunCause (around H.faults host.old host.new) result }
+    // Where no program is booted, nothing is asked of the host.
+    ensures unasked { OnErr result (host.new ≡ host.old) }
 {
     keep_bytes(setup.input.as_slice());
     let (turns, trace) = match take_room(alloc, setup.trace) {
@@ -106,7 +117,7 @@ pub fn run<H: Host>(
         Err(_) => return Err(BootFault::NoMemory),
     };
     match boot_program(alloc, image, file, words, setup.frames) {
-        Ok(system) => Ok(run_booted(system, turns, decodings, trace, host, setup)),
+        Ok(system) => Ok(run_booted(system, turns, decodings, trace, host, disk, setup)),
         Err(fault) => Err(fault),
     }
 }

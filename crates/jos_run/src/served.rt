@@ -1,6 +1,6 @@
 //! An environment that the library serves.
 
-ghost use Rattle.std.specs.Prelude.{◌≡◌, ◌+◌, ◌-◌, ◌*◌, ◌%◌, ◌^◌, ◌<◌, min, [], length, true, false, IfOk, IfErr, OnOk, OnErr, option_copied};
+ghost use Rattle.std.specs.Prelude.{ℕ, get_or, ◌≡◌, ◌+◌, ◌-◌, ◌*◌, ◌%◌, ◌^◌, ◌<◌, min, [], length, true, false, IfOk, IfErr, OnOk, OnErr, option_copied};
 ghost use Rattle.jos_host.specs.declared.host.HostCall.TheVariants as file_call;
 ghost use Rattle.jos_host.specs.Asked.{and_asked};
 ghost use Rattle.jos_host.specs.Frames.{Unchanged, around, from_to};
@@ -19,6 +19,7 @@ ghost use Rattle.lib_os.specs.InOrder.{IsInOrder};
 ghost use Rattle.lib_os.specs.UserCalls.{user_byte, user_word, with_user_byte, with_user_word, with_bytes_put};
 ghost use Rattle.lib_os.specs.UserCalls.{asking, sets_own, taken_back, HasStopCause, Prints, output};
 ghost use Rattle.lib_os.specs.UserCalls.{block_call, may_move, page_accessed, page_bytes};
+ghost use Rattle.fs_seen.specs.ServerMemory.{HasWords};
 ghost use Rattle.jos_run.specs.Served.{kernel_state, disk_of, serves_block, IsRaised};
 
 use crate::disk::HostDisk;
@@ -83,6 +84,14 @@ fn words_of_frame(bytes: &[u8]) -> [u32; UTRAPFRAME_WORDS]
     words
 }
 
+/// Tells that words have 32 bits each. Nothing is done.
+#[inline(always)]
+fn are_words(words: &[u32])
+    ensures { (i : ℕ) → get_or words.now i 0 < 2 ^ 32 }
+{
+    let _ = words;
+}
+
 impl Served {
     /// Begins to serve the environment of slot 0, with no disk.
     pub fn new(system: System, input: Input) -> Served
@@ -144,6 +153,18 @@ impl Served {
         ensures { IsInOrder (kernel_state self.now) }
     {
         self.machine.system().keep_sound();
+    }
+
+    /// Tells that what the kernel keeps of the environment is words, and that it counts by a word how often each page's frame is
+    /// named. Nothing is done.
+    #[inline(always)]
+    pub(crate) fn keep_words(&self)
+        ensures { HasWords (kernel_state self.now) self.now.slot }
+    {
+        let system = self.machine.system();
+        system.keep_sound();
+        let environment = system.environment(self.slot);
+        are_words(&environment.extra.0);
     }
 
     /// Counts bytes that were printed. The count stands still at the end of its type.

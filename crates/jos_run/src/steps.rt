@@ -19,6 +19,7 @@ ghost use Rattle.lib_os.specs.StandsInHandler.{AreSmall, buffer_of};
 ghost use Rattle.jos_run.specs.GuestSteps.{is_copying};
 ghost use Rattle.jos_run.specs.Steps.{entry_at, fault_line, is_awake, is_servers, raised_again, raised_by, step_progress};
 ghost use Rattle.jos_run.specs.StepsAtOnce.{came_to, MakesSteps};
+ghost use Rattle.jos_run.specs.Worlds.{world_of};
 
 use crate::served::Served;
 use crate::services::stage_of;
@@ -242,7 +243,7 @@ impl Served {
         requires user { is_servers (kernel_state self.old) self.old.slot ≡ false }
         requires at { place_of (slot_at (kernel_state self.old) self.old.slot) ≡ place.Guest }
         requires limit { 0 < limit }
-        ensures made { MakesSteps self.old.slot result.going result.last (kernel_state self.old) (kernel_state self.new) (output H.console (λ s. s.written) (from_to host.old host.new) (from_to self.old self.new)) }
+        ensures made { MakesSteps self.old.slot result.going result.last (world_of (kernel_state self.old) (H.files host.old) self.old.disk) (world_of (kernel_state self.new) (H.files host.new) self.new.disk) (output H.console (λ s. s.written) (from_to host.old host.new) (from_to self.old self.new)) }
         ensures within { result.going < limit }
         ensures slot { self.new.slot ≡ self.old.slot }
         ensures calls { self.new.calls ≡ self.old.calls }
@@ -287,7 +288,7 @@ impl Served {
         requires few { self.old.calls < 2 ^ 32 - 1 }
         requires limit { 0 < limit }
         requires whole { HasBlocks (H.files host.old) self.old.disk }
-        ensures made { MakesSteps self.old.slot result.going result.last (kernel_state self.old) (kernel_state self.new) (output H.console (λ s. s.written) (from_to host.old host.new) (from_to self.old self.new)) }
+        ensures made { MakesSteps self.old.slot result.going result.last (world_of (kernel_state self.old) (H.files host.old) self.old.disk) (world_of (kernel_state self.new) (H.files host.new) self.new.disk) (output H.console (λ s. s.written) (from_to host.old host.new) (from_to self.old self.new)) }
         ensures within { result.going < limit }
         ensures slot { self.new.slot ≡ self.old.slot }
         ensures calls { self.new.calls ≤ self.old.calls + 1 }
@@ -299,6 +300,7 @@ impl Served {
         ensures cause { HasCause (H.faults host.old) (H.faults host.new) result.last }
     {
         if self.is_server() {
+            self.keep_words();
             let answer = server_step(self, host);
             return Steps {
                 going: 0,

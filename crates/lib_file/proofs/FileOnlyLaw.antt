@@ -46,8 +46,8 @@ console_refused : (s : KernelState) (n : ℕ) (service : Service) (fd : ℕ) →
     ServiceHolds s n (staged service (device_asked fd) (λ word. next.Answer (negated E_NOT_SUPP)))
 console_refused s n service fd given live refuses stands =
     device_holds s n service fd given live stands (λ word. next.Answer (negated E_NOT_SUPP)) (λ word. tt)
-    (λ names a h order. device_answers s n service fd given stands h order (negated E_NOT_SUPP)
-    (refuses a n _ (slot_at s n).registers (device_object s n service fd given stands h)))
+    (λ names a h order word. device_answers s n service fd given stands h order (negated E_NOT_SUPP)
+    (refuses a n _ (slot_at s n).registers (device_object s n service fd given stands h word)))
 
 module _ (s : KernelState) (n fd : ℕ) (live : is_live (slot_at s n) ≡ true) where
   module _ (offset : ℕ) where

@@ -1,6 +1,6 @@
 -- The law of the stages in which a service finds what its descriptor names, for each service that has them: each is a part of its one step
 -- in the abstract system, by the word that is read.
-use Rattle.std.proofs.Common.{◌≡◌, ◌||◌, ◌<◌, ◌≤◌, ℕ, Bool, true, false, not, [], Some}
+use Rattle.std.proofs.Common.{◌≡◌, ◌∙◌, ◌⊎◌, inl, inr, ◌||◌, ◌<◌, ◌≤◌, ℕ, Bool, true, false, not, [], Some}
 use Rattle.std.proofs.Common.{refl, sym, ap, subst, arith, if◌then◌else◌}
 use Rattle.std.specs.Prelude.{nat_lt}
 use Rattle.std.proofs.lemmas.Bool.Decides.{nat_tests}
@@ -11,7 +11,7 @@ use Rattle.jos_base.specs.declared.numbers.TheConstants.{E_INVAL, SYS_GETENVID}
 use Rattle.jos_base.specs.Environments.{is_live}
 use Rattle.jos_base.specs.KernelState.{KernelState, slot_at}
 use Rattle.jos_base.specs.Words.{negated}
-use Rattle.lib_os.specs.declared.numbers.TheConstants.{DESCRIPTORS, DEVICE_CONSOLE}
+use Rattle.lib_os.specs.declared.numbers.TheConstants.{DESCRIPTORS, DEVICE_CONSOLE, DEVICE_FILE}
 use Rattle.lib_os.specs.declared.place.Place.TheVariants as place
 use Rattle.lib_os.specs.declared.place.Step.{Step}
 use Rattle.lib_os.specs.declared.place.Step.TheVariants as step
@@ -26,7 +26,8 @@ use Rattle.lib_os.specs.StandsFor.{StandsFor, descriptor_given}
 use Rattle.lib_os.specs.UserCalls.{CallStep, answer_of, giving, load}
 use Rattle.lib_os.proofs.Calls.{getenvid_is}
 use Rattle.lib_os.proofs.DescriptorLooks.{entry_va, page_word, table_gives, table_va, table_word}
-use Rattle.lib_os.proofs.DeviceLooks.{device_gives, device_va, entry_found, entry_gives, entry_missing, past_keeps, table_found, table_missing}
+use Rattle.lib_os.proofs.DeviceLooks.{console_word, device_either, device_gives, device_va, device_word}
+use Rattle.lib_os.proofs.DeviceLooks.{entry_found, entry_gives, entry_missing, past_keeps, table_found, table_missing}
 use Rattle.lib_os.proofs.Loading.{loaded}
 use Rattle.lib_os.proofs.Numbered.{number_of}
 use Rattle.lib_os.proofs.Trying.{LivesOn}
@@ -171,9 +172,18 @@ module _ (s : KernelState) (n : ℕ) (service : Service) (fd : ℕ) (given : des
 
   module _ (stands : place_of (slot_at s n) ≡ place.InService service step.ReadingDevice) where
     pub device_holds : (next : ℕ → Next) → ((word : ℕ) → Falls service step.ReadingDevice (next word)) →
-        ((names : Names) (a : AbstractState) → StandsFor names s a → IsInOrder (loaded s n (device_va fd)) →
+        ((names : Names) (a : AbstractState) → StandsFor names s a → IsInOrder (loaded s n (device_va fd)) → device_word s n fd ≡ DEVICE_CONSOLE →
         Follows (loaded s n (device_va fd)) n service a (next DEVICE_CONSOLE)) →
         ServiceHolds s n (staged service (device_asked fd) next)
     device_holds next falls follows =
-        load_holds s n service step.ReadingDevice live (is_steady service fd given step.ReadingDevice) stands (device_va fd) DEVICE_CONSOLE next falls
-        (λ names a h. device_gives s n service fd given stands h) follows
+        load_holds s n service step.ReadingDevice live (is_steady service fd given step.ReadingDevice) stands (device_va fd) (device_word s n fd)
+        next falls (λ names a h. device_gives s n service fd given stands h)
+        (λ names a h order. by_word names a h order (device_either s n service fd given stands h))
+      where
+        by_word : (names : Names) (a : AbstractState) → StandsFor names s a → IsInOrder (loaded s n (device_va fd)) →
+            (device_word s n fd ≡ DEVICE_CONSOLE) ⊎ (device_word s n fd ≡ DEVICE_FILE) →
+            Follows (loaded s n (device_va fd)) n service a (next (device_word s n fd))
+        by_word names a h order (inl word) =
+            subst (λ (w : ℕ). Follows (loaded s n (device_va fd)) n service a (next w)) (sym word) (follows names a h order word)
+        by_word names a h order (inr word) =
+            absurd (let same = sym (console_word s n service fd given stands h) ∙ word in omega (arith, same))

@@ -20,7 +20,7 @@ use Rattle.lib_os.specs.UserCalls.{CallStep, Got, system}
 use Rattle.lib_os.proofs.Bearing.{bearer}
 use Rattle.lib_os.proofs.GoingOn.{gives_nothing_up}
 use Rattle.lib_os.proofs.Leaving.{running_calm, system_left}
-use Rattle.lib_os.proofs.NumbersKept.{KeepsCopies, copies_kept, mapping_copies, numbers_kept, places_kept}
+use Rattle.lib_os.proofs.NumbersKept.{KeepsCopies, copies_kept, mapping_copies, numbers_kept, places_kept, undoing_copies, working_kept}
 use Rattle.lib_os.proofs.OthersCopies.{plain_wait}
 use Rattle.lib_os.proofs.ServerLeft.{own_server, system_server}
 use Rattle.lib_os.proofs.OthersKept.{own_stay, system_stay}
@@ -125,6 +125,7 @@ module _ (s : KernelState) (n id : ℕ) (live : is_live (slot_at s n) ≡ true)
         places = places_kept s (after t) n (λ before then_so lives. others);
         numbers = numbers_kept s (after t) n (λ before then_so lives. others)
             (copies_kept s (after t) n (plain_wait s n SYS_ENV_SET_STATUS args refl));
+        working = working_kept s (after t) n (copies_kept s (after t) n (plain_wait s n SYS_ENV_SET_STATUS args refl));
         server = own_server s n t (record (slot_at t n) { registers = record (slot_at t n).registers { eax = id }; extra = no_extra }) refl refl
             (system_server s n SYS_ENV_SET_STATUS args refl (λ a h. refl));
       }
@@ -147,6 +148,14 @@ map_child_leaves : (s : KernelState) (n id page perm : ℕ) → place_of (slot_a
     StepLeaves s n (stage.MapChild id page perm)
 map_child_leaves s n id page perm stands =
     known_leaves s n (plan (stage.MapChild id page perm)) (knowingly refl (map_child_copies s n id page perm stands) (λ a h. refl))
+
+-- ---- the step in which the child is destroyed
+
+undoing_leaves : (s : KernelState) (n id error : ℕ) → place_of (slot_at s n) ≡ place.InService service.Fork (step.Undoing id error) →
+    StepLeaves s n (stage.Undoing id error)
+undoing_leaves s n id error stands =
+    known_leaves s n (plan (stage.Undoing id error))
+    (knowingly refl (undoing_copies s n id error (performed s n (ask_of (stage.Undoing id error))).state stands) (λ a h. refl))
 
 -- ---- each step
 
@@ -177,7 +186,8 @@ module _ (s : KernelState) (n : ℕ) (live : is_live (slot_at s n) ≡ true) whe
       law_of_stage s n live (stage.ChildRuns id) stands refl (runs_leaves s n id live stands) (takes_few s n (stage.ChildRuns id) stands (omega arith))
       (child_runs_keeps s n id live stands, child_runs_fails s n id live stands)
   fork_holds (step.Undoing id error) stands =
-      plain_law (stage.Undoing id error) stands refl refl (omega arith) (undoing_keeps s n id error stands, undoing_fails s n id error stands)
+      law_of_stage s n live (stage.Undoing id error) stands refl (undoing_leaves s n id error stands)
+      (takes_few s n (stage.Undoing id error) stands (omega arith)) (undoing_keeps s n id error stands, undoing_fails s n id error stands)
   fork_holds (step.Trying perm) stands = law_of_nowhere s n service.Fork (step.Trying perm) stands refl (λ view k b h. h)
   fork_holds (step.Pausing perm) stands = law_of_nowhere s n service.Fork (step.Pausing perm) stands refl (λ view k b h. h)
   fork_holds step.ReadingRegion stands = law_of_nowhere s n service.Fork step.ReadingRegion stands refl (λ view k b h. h)

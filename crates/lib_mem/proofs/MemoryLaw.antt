@@ -27,7 +27,7 @@ use Rattle.lib_os.proofs.Calls.{cputs_writes, cputs_ends, getenvid_is, yield_is}
 use Rattle.lib_os.proofs.GoingOn.{gives_nothing_up}
 use Rattle.lib_os.proofs.Leaving.{system_left}
 use Rattle.lib_os.proofs.Numbered.{number_of}
-use Rattle.lib_os.proofs.NumbersKept.{copies_kept, numbers_kept, places_kept}
+use Rattle.lib_os.proofs.NumbersKept.{copies_kept, numbers_kept, places_kept, working_kept}
 use Rattle.lib_os.proofs.OthersCopies.{IsBeside, same_wait}
 use Rattle.lib_os.proofs.OthersKept.{OthersStay, own_stay, same_stay}
 use Rattle.lib_os.proofs.ServerLeft.{own_server, system_server}
@@ -177,6 +177,7 @@ module _ (s : KernelState) (n : ℕ) (step : Step) (live : is_live (slot_at s n)
           places = places_kept s (service_answered ran n 0) n (λ before then_so lives. others);
           numbers = numbers_kept s (service_answered ran n 0) n (λ before then_so lives. others)
               (copies_kept s (service_answered ran n 0) n (same_wait (IsBeside s n) s.spaces));
+          working = working_kept s (service_answered ran n 0) n (copies_kept s (service_answered ran n 0) n (same_wait (IsBeside s n) s.spaces));
           server = own_server s n ran (record (slot_at ran n) { registers = record (slot_at ran n).registers { eax = 0 }; extra = no_extra }) refl refl
               (subst (λ (z : CallStep Called). KeepsServer n s z.state) is (system_server s n SYS_YIELD none refl (λ a h. refl)));
         };

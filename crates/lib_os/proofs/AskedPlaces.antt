@@ -148,7 +148,7 @@ beneath_handler : {row : EntryRow} {k : Slot} {c : Born} → StandsBeneath row k
 beneath_handler (at_program h) = phase_is _ h.phase refl
 beneath_handler (in_delivery s done word at h) = delivers s done word h.0
 
-stopped_none : {write : Bool} {row : EntryRow} (k : Slot) {c : Born} {va ip : ℕ} → IsStoppedAt write row c va ip → NoRequest k c
+stopped_none : {write : Bool} {v : View} (k : Slot) {c : Born} {va ip : ℕ} → IsStoppedAt write v c va ip → NoRequest k c
 stopped_none k (marked phase) = phase_is _ phase refl
 stopped_none k (reading fd buffer len bytes answer writes phase some) = phase_is _ phase refl
 stopped_none k (telling fd buffer bytes answer writes phase some) = phase_is _ phase refl

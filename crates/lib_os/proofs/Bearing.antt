@@ -16,15 +16,15 @@ use Rattle.lib_os.specs.AbstractMemory.{has_page_in}
 use Rattle.lib_os.specs.InOrder.{IsInOrder}
 use Rattle.lib_os.specs.LibraryPages.{is_library_region}
 use Rattle.lib_os.specs.Places.{place_of, is_handlers}
-use Rattle.lib_os.specs.Rows.{server_row, EntryRow, Names, rows_of, logical, page_seen, is_descriptor, is_programs}
+use Rattle.lib_os.specs.Rows.{EntryRow, Names, rows_of, logical, page_seen, is_descriptor, is_programs}
 use Rattle.lib_os.specs.StandsFor.{StandsFor, StandsForSlot, StandsForBorn, StandsForUnborn, StandsAtStep, view_of, IsBorne, ChildPages}
-use Rattle.lib_os.specs.StandsFor.{borne_at, borne_in, is_passed, child_upcall}
+use Rattle.lib_os.specs.StandsFor.{borne_at, borne_in, is_passed, child_upcall, things_in}
 use Rattle.lib_os.proofs.Children.{same_child, borne_moved}
-use Rattle.lib_os.proofs.EntriesStand.{RowsStand}
+use Rattle.lib_os.proofs.EntriesStand.{RowsStand, rows_turned}
 use Rattle.lib_os.proofs.Logical.{logical_alike}
 use Rattle.lib_os.proofs.Serving.{served}
 use Rattle.lib_os.proofs.SlotsStand.{SeenAlike, slot_stands, live_stands, born_live}
-use Rattle.lib_os.proofs.StatesStand.{Settles, tabled_set, born_not_first, beside_same, server_alike, server_same}
+use Rattle.lib_os.proofs.StatesStand.{Settles, tabled_set, born_not_first, server_alike, server_same}
 use Rattle.jos_base.proofs.Maps.{upd-at, upd-other}
 
 -- ---- the child
@@ -178,7 +178,7 @@ module _ {names : Names} {s : KernelState} {a : AbstractState} {sp : SpacesState
   module _ (settles : Settles (slot_at s n) k) (child_settles : Settles (slot_at s m) child)
       (stands : place_of k ≡ place.InService service.Fork next) (bears : borne_at next ≡ Some id)
       (mine : StandsForBorn names sp k v.b) (child_own : StandsForUnborn child id v.b.id) (its_child : IsChild names sp k v.b next child)
-      (rows : RowsStand names sp.pages a.shared a.objects a.next_name (server_row s.spaces s.environments.slots) (logical sp slots_after))
+      (rows : RowsStand names sp.pages a.shared (things_in s a) a.next_name (logical sp slots_after))
       (in_order : IsInOrder (with_slot_at (with_slot_at (with_spaces s sp) m child) n k)) where
     slots_stand : (j : ℕ) → StandsForSlot names sp (slots_after j) (a.slots j)
     slots_stand j = by_parent (j == n) refl
@@ -266,7 +266,13 @@ module _ {names : Names} {s : KernelState} {a : AbstractState} {sp : SpacesState
             let not_child : q ≢ m = λ same. let contradiction : born c ≡ unborn id v.b.id = sym is ∙ ap a.slots same ∙ v.child_is in absurd cc in
             h.children.have q own_id c is (ap (λ (x : Slot). borne_in (place_of x)) (sym (others_after q ne not_child)) ∙ bears_it)
 
-    pub bearing_stands : StandsFor names (with_slot_at (with_slot_at (with_spaces s sp) m child) n k) a
+    abbrev state_after : KernelState
+    state_after = with_slot_at (with_slot_at (with_spaces s sp) m child) n k
+
+    turned : RowsStand names sp.pages a.shared (things_in state_after a) a.next_name (logical sp slots_after)
+    turned = rows_turned (ap (λ (x : Slot). rows_of sp x.directory) server_after ∙ server_seen.rows) rows
+
+    pub bearing_stands : StandsFor names state_after a
     bearing_stands =
         let child_lives : is_live_slot (slot_at s m) ≡ true = live_stands h m ∙ ap (λ (x : AbstractSlot). is_live x) v.child_is in
         let parent_is : upd s.environments.slots m child n ≡ slot_at s n = upd-other s.environments.slots m child n (λ same. v.apart (sym same)) in
@@ -274,13 +280,14 @@ module _ {names : Names} {s : KernelState} {a : AbstractState} {sp : SpacesState
           slots = slots_stand;
           children = record { borne = borne_still; have = have_still };
           apart = rows.apart;
-          named = rows.named;
+          named = turned.named;
           users = rows.users;
           whole = rows.whole;
-          beside = beside_same (ap (λ (x : Slot). rows_of sp x.directory) server_after ∙ server_seen.rows) rows.beside;
+          beside = turned.beside;
           free_slots = h.free_slots;
           first = h.first;
           server = server_same server_after (server_alike server_seen h.server);
+          consoles = h.consoles;
           input = h.input;
           last = h.last;
           turns = h.turns;

@@ -96,15 +96,15 @@ stands_again v k b outside (in_delivery _ done word at h) = absurd h.0
 -- ---- a service that stands before a byte of its buffer, which its page refuses
 
 -- It is about to end by its access at an address.
-pub record IsStopping (write : Bool) (row : EntryRow) (k : Slot) (b : Born) (va : ℕ) : Type 0 where
+pub record IsStopping (write : Bool) (v : View) (k : Slot) (b : Born) (va : ℕ) : Type 0 where
   pub program : b.program ≡ guest k.registers
   pub silent : k.rendezvous.receiving ≡ false
   pub awake : b.blocked ≡ false
   pub inside : is_inside va ≡ true
-  pub stopped : (ip : ℕ) → IsStoppedAt write row b va ip
+  pub stopped : (ip : ℕ) → IsStoppedAt write v b va ip
 
 pub stops_before : (so : Type 0) (v : View) (k : Slot) (b : Born) (s : Service) (done word : ℕ) → StandsBefore so v k b s done word →
-    IsStopping (writes_buffer s) v.row k b (buffer_of s + done)
+    IsStopping (writes_buffer s) v k b (buffer_of s + done)
 stops_before so v k b (service.Read fd va len) done word (h, known) = record {
   program = h.program;
   silent = h.silent;

@@ -34,18 +34,18 @@ use Rattle.lib_os.specs.LibraryCall.{library_step}
 use Rattle.lib_os.specs.LibraryPages.{LibraryPages}
 use Rattle.lib_os.specs.LibrarySteps.{service_answered}
 use Rattle.lib_os.specs.Places.{place_of, is_handlers}
-use Rattle.lib_os.specs.Rows.{server_row, Names, EntryRow, rows_of, page_by, page_seen, seen_where, shown_at, is_programs, counted, lasting, logical}
+use Rattle.lib_os.specs.Rows.{Names, EntryRow, rows_of, page_by, page_seen, seen_where, shown_at, is_programs, counted, lasting, logical}
 use Rattle.lib_os.specs.Rows.{descriptor_page, descriptor_seen, is_descriptor, name_of}
 use Rattle.lib_os.specs.StandsFor.{StandsFor, StandsForSlot, StandsForBorn, StandsForUnborn, StandsAt, IsBorne, IsIn, view_of, upcall_at}
-use Rattle.lib_os.specs.StandsFor.{borne_at, borne_in}
+use Rattle.lib_os.specs.StandsFor.{borne_at, borne_in, things_in}
 use Rattle.lib_os.proofs.Bearing.{IsBearer}
 use Rattle.lib_os.proofs.Children.{same_child, borne_moved}
-use Rattle.lib_os.proofs.EntriesStand.{RowsStand, rows_stand, rows_same}
+use Rattle.lib_os.proofs.EntriesStand.{RowsStand, rows_stand, rows_same, rows_turned}
 use Rattle.lib_os.proofs.Logical.{programs_beside}
 use Rattle.lib_os.proofs.Serving.{back_at_guest, holds_page, step_in, words_of_none}
 use Rattle.lib_os.proofs.Slots.{slot_kept}
 use Rattle.lib_os.proofs.SlotsStand.{SeenAlike, born_live, ids_stand, live_stands}
-use Rattle.lib_os.proofs.StatesStand.{beside_same, born_not_first, server_same, set_counts, slot_in_order, stopped_settles, tabled_set}
+use Rattle.lib_os.proofs.StatesStand.{born_not_first, server_same, set_counts, slot_in_order, stopped_settles, tabled_set}
 
 -- ---- the pages of a region
 
@@ -130,6 +130,7 @@ same_space names sp d = record {
   rows = refl;
   bytes = λ p x is own_page. refl;
   named_so = λ p x is shared_page. refl;
+  devices = λ p x descriptor is shared_page. refl;
   regions = λ r. refl;
 }
 
@@ -357,7 +358,7 @@ module _ {names : Names} {s : KernelState} {a : AbstractState} (h : StandsFor na
       set_counts running n parent live_so space_so counts_so j p
       ∙ set_counts s m child (sym child_lives) refl (λ row q. refl) j p
 
-  rows : RowsStand names s.spaces.pages a.shared a.objects a.next_name (server_row s.spaces s.environments.slots) (logical s.spaces slots_after)
+  rows : RowsStand names s.spaces.pages a.shared (things_in s a) a.next_name (logical s.spaces slots_after)
   rows = rows_same (logical s.spaces s.environments.slots) (logical s.spaces slots_after) all_count (rows_stand h)
 
   not_first : 0 ≢ m
@@ -366,18 +367,22 @@ module _ {names : Names} {s : KernelState} {a : AbstractState} (h : StandsFor na
   first_same : slots_after 0 ≡ slot_at s 0
   first_same = slot_same 0 (born_not_first h n v.b v.is) not_first
 
+  turned : RowsStand names s.spaces.pages a.shared (things_in (with_slot_at running n parent) a) a.next_name (logical s.spaces slots_after)
+  turned = rows_turned (ap (λ (x : Slot). rows_of s.spaces x.directory) first_same) rows
+
   both_stand : StandsFor names (with_slot_at running n parent) (with_born (with_born a m newborn) n back)
   both_stand = record {
     slots = slots_stand;
     children = record { borne = borne_still; have = have_still };
     apart = rows.apart;
-    named = rows.named;
+    named = turned.named;
     users = rows.users;
     whole = rows.whole;
-    beside = beside_same (ap (λ (x : Slot). rows_of s.spaces x.directory) first_same) rows.beside;
+    beside = turned.beside;
     free_slots = h.free_slots;
     first = abstract_same 0 (born_not_first h n v.b v.is) not_first ∙ h.first;
     server = server_same first_same h.server;
+    consoles = h.consoles;
     input = h.input;
     last = h.last;
     turns = h.turns;

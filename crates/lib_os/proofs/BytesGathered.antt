@@ -7,8 +7,7 @@ use Rattle.std.proofs.lemmas.List.{get_or_append_left, get_or_past, length-appen
 use Rattle.std.proofs.lemmas.Nat.{le_bytes_4}
 use Rattle.std.proofs.Math.Seq.{drop-append_seam}
 use Rattle.std.specs.Int.{w32, from_le_bytes, to_le_bytes}
-use Rattle.std.specs.Option.{option_map}
-use Rattle.std.specs.Prelude.{nat_lt, drop, is_some, slice_index, take, Option, Some, None, Ok}
+use Rattle.std.specs.Prelude.{nat_lt, drop, slice_index, take, Option, Some, Ok}
 use Rattle.jos_base.specs.declared.memory.Access.TheVariants.{Read}
 use Rattle.jos_base.specs.declared.numbers.TheConstants.{UTEMP}
 use Rattle.jos_base.specs.declared.registers.Regs.{Regs}
@@ -18,33 +17,33 @@ use Rattle.jos_base.specs.Reach.{Entry, allows, reach_entry}
 use Rattle.jos_base.specs.UserMemory.{reach_in}
 use Rattle.jos_base.specs.Words.{page_number, page_offset}
 use Rattle.jos_base.proofs.Walks.{walked_below}
-use Rattle.lib_os.specs.declared.numbers.TheConstants.{DESCRIPTORS, SERVICE_WRITE}
+use Rattle.lib_os.specs.declared.numbers.TheConstants.{SERVICE_WRITE}
 use Rattle.lib_os.specs.declared.place.Step.TheVariants as step
 use Rattle.lib_os.specs.declared.service.Service.TheVariants as service
 use Rattle.lib_os.specs.AbstractMemory.{byte_at, page_allows, page_at}
 use Rattle.lib_os.specs.AbstractRun.{abs_step}
-use Rattle.lib_os.specs.AbstractState.{AbstractState, Born, Object, born, gathering, in_service, terminal}
+use Rattle.lib_os.specs.AbstractState.{AbstractState, Born, gathering, in_service, terminal}
 use Rattle.lib_os.specs.Answers.{at_stage, bytes_from, moved_at_once}
-use Rattle.lib_os.specs.DescriptorPages.{HasObject}
 use Rattle.lib_os.specs.Descriptors.{object_of}
 use Rattle.lib_os.specs.Fence.{is_buffer, is_inside}
 use Rattle.lib_os.specs.LibraryCall.{library_step}
 use Rattle.lib_os.specs.LibraryPages.{View}
 use Rattle.lib_os.specs.Places.{place_of, words_at}
-use Rattle.lib_os.specs.Rows.{AreBytes, Names, ShowsBy, descriptor_page, is_shared, rows_of}
+use Rattle.lib_os.specs.Rows.{AreBytes, Names, rows_of}
 use Rattle.lib_os.specs.StandsFor.{IsKeeping, IsTaking, StandsAtStep, StandsFor, borne_in, refuses_next, view_of}
 use Rattle.lib_os.specs.StandsInHandler.{is_refused_by, stage_with, wanted_of}
 use Rattle.lib_os.specs.UserCalls.{accessing, giving, load, load_byte, user_byte, user_word}
 use Rattle.lib_os.proofs.BufferAccesses.{IsMoved, byte_small, entry_lets, frame_whole, moved_is, reached_order, stage_stands}
 use Rattle.lib_os.proofs.BytesRead.{user_byte_is, user_entry_read}
-use Rattle.lib_os.proofs.DescriptorLooks.{entry_bits, is_descriptors, loaded_view, object_is}
+use Rattle.lib_os.proofs.DescriptorLooks.{loaded_view}
+use Rattle.lib_os.proofs.DeviceLooks.{names_console}
 use Rattle.lib_os.proofs.Fences.{buffer_below, buffer_each, inside_number}
 use Rattle.lib_os.proofs.Loading.{loaded}
-use Rattle.lib_os.proofs.Logical.{is_plain, logical_plain}
+use Rattle.lib_os.proofs.Logical.{is_plain}
 use Rattle.lib_os.proofs.Numbered.{named_at}
 use Rattle.lib_os.proofs.PageBytes.{bytes_append}
 use Rattle.lib_os.proofs.Serving.{IsServed, holds_page, service_step}
-use Rattle.lib_os.proofs.StatesStand.{clients_live, quiet_stands}
+use Rattle.lib_os.proofs.StatesStand.{quiet_stands}
 use Rattle.lib_os.proofs.Touching.{touched_quiet}
 use Rattle.lib_os.proofs.WindowWords.{read_at}
 
@@ -79,30 +78,6 @@ four_from a b va below =
 one_from : (a : AbstractState) (b : Born) (va : ℕ) → bytes_from a b va 1 ≡ byte_at a b va ∷ []
 unfolding bytes_from
 one_from a b va = refl
-
--- ---- what a descriptor names
-
-only_terminal : (o : Object) (bytes : List ℕ) → HasObject o bytes → o ≡ terminal
-only_terminal terminal bytes h = refl
-only_terminal _ bytes h = absurd h
-
--- each that is open is the console
-console_named : {names : Names} {s : KernelState} {a : AbstractState} → StandsFor names s a → (n : ℕ) (b : Born) → a.slots n ≡ born b →
-    is_plain (place_of (slot_at s n)) ≡ true → (fd : ℕ) → fd < DESCRIPTORS →
-    is_some (rows_of s.spaces (slot_at s n).directory (descriptor_page fd)) ≡ true → object_of a b fd ≡ Some terminal
-console_named {names} {s} {a} h n b at plain fd below stands =
-    by_row (rows_of s.spaces (slot_at s n).directory (descriptor_page fd)) refl stands
-  where
-    by_row : (o : Option Entry) → rows_of s.spaces (slot_at s n).directory (descriptor_page fd) ≡ o → is_some o ≡ true → object_of a b fd ≡ Some terminal
-    by_row None is there = absurd (let contradiction : false ≡ true = there in cc)
-    by_row (Some x) is there =
-        let shared_page : is_shared x.perm ≡ true = ap is_shared (entry_bits h n b at fd x below is) in
-        let it = h.named n (descriptor_page fd) x
-        (logical_plain s.spaces s.environments.slots n (clients_live h n b at) plain (descriptor_page fd) ∙ is) shared_page in
-        let name : ℕ = names.name x.frame in
-        let shows : HasObject (a.objects name) (s.spaces.pages x.frame) =
-        subst (λ (c : Bool). ShowsBy c (a.shared name) (a.objects name) (s.spaces.pages x.frame)) (it.kind ∙ is_descriptors fd below) it.shows in
-        ap (option_map a.objects) (object_is h n b at fd x below is) ∙ ap Some (only_terminal (a.objects name) (s.spaces.pages x.frame) shows)
 
 -- ---- the step of the abstract system
 
@@ -237,13 +212,15 @@ module _ {names : Names} {s : KernelState} {a : AbstractState} (h : StandsFor na
   plain : is_plain (place_of k) ≡ true
   plain = ap is_plain v.place
 
+  console : object_of a v.b fd ≡ Some terminal
+  console = names_console h n v.b v.is (ap borne_in v.place) fd it.wants.given.below it.wants.given.console
+
   pub gathered_step : abs_step a n ≡ Some gathered
   gathered_step =
       let more = fewer in
       let fewer_too : nat_lt (length it.bytes) (wanted_of len) ≡ true = (let many = it.many in grind (arith, nat_tests)) in
       service_step a n v.b k.registers (service.Write fd va len) (stage_with it.bytes) v.is it.program it.wants.phase it.awake
-      ∙ write_more a n v.b k.registers fd va len
-      (console_named h n v.b v.is plain fd it.wants.given.below it.wants.given.stands) it.wants.given.buffer it.bytes fewer_too
+      ∙ write_more a n v.b k.registers fd va len console it.wants.given.buffer it.bytes fewer_too
       (ap (λ (m : ℕ). page_allows (page_at v.b ((va + m) % 2 ^ 32)) Read) it.many ∙ page_read)
       ∙ ap (λ (m : ℕ). Some (at_stage a n v.b (service.Write fd va len) (gathering (it.bytes ++ bytes_from a v.b ((va + m) % 2 ^ 32)
       (moved_at_once ((va + m) % 2 ^ 32) (wanted_of len - m)))))) it.many

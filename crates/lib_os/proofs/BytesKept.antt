@@ -1,8 +1,8 @@
--- The kernel's state goes on standing for the same abstract one where write keeps bytes that it has taken in its page: nobody else has
--- the frame of that, and nothing is seen of it. Then its page has more of them, and it goes on by how many it wants.
+-- The kernel's state goes on standing for the same abstract one where write keeps bytes that it has taken in its page: no other client
+-- has the frame of that, and nothing is seen of it. Then its page has more of them, and it goes on by how many it wants.
 use Rattle.std.proofs.Common.{◌≡◌, ◌≢◌, ◌∙◌, ◌==◌, ◌&&◌, ◌+◌, ◌-◌, ◌*◌, ◌/◌, ◌%◌, ◌^◌, ◌<◌, ◌≤◌, ℕ, zero, suc, Bool, true, false}
 use Rattle.std.proofs.Common.{List, ◌∷◌, [], length, Option, Some, None, Result, Ok, Err, refl, sym, ap, subst, arith, if◌then◌else◌}
-use Rattle.std.specs.Prelude.{drop, nat_le, nat_lt, slice_index, take}
+use Rattle.std.specs.Prelude.{drop, is_some, nat_le, nat_lt, slice_index, take}
 use Rattle.std.specs.Int.{w32, to_le_bytes, byte_at}
 use Rattle.std.proofs.Math.Nat.{min-le_right}
 use Rattle.std.proofs.lemmas.Bool.Decides.{nat_tests}
@@ -11,8 +11,9 @@ use Rattle.std.proofs.lemmas.Option.{same_Some}
 use Rattle.jos_base.specs.declared.memory.Access.{Access}
 use Rattle.jos_base.specs.declared.memory.Access.TheVariants.{Read, Write}
 use Rattle.jos_base.specs.declared.memory.PageFault.{PageFault}
-use Rattle.jos_base.specs.declared.numbers.TheConstants.{PGSIZE, UTEMP}
+use Rattle.jos_base.specs.declared.numbers.TheConstants.{FIRST_ENV_ID, NENV, PGSIZE, UTEMP}
 use Rattle.jos_base.specs.Counting.{page_limit}
+use Rattle.jos_base.specs.Environments.{is_live}
 use Rattle.jos_base.specs.KernelState.{KernelState, slot_at, with_extra, with_spaces}
 use Rattle.jos_base.specs.Reach.{Entry, FrameOffset, allows}
 use Rattle.jos_base.specs.SpacesState.{SpacesState}
@@ -26,33 +27,36 @@ use Rattle.lib_os.specs.declared.place.Step.{Step}
 use Rattle.lib_os.specs.declared.place.Step.TheVariants as step
 use Rattle.lib_os.specs.declared.service.Service.{Service}
 use Rattle.lib_os.specs.declared.service.Service.TheVariants as service
-use Rattle.lib_os.specs.AbstractState.{AbstractState, Born, born, gathering, in_service}
+use Rattle.lib_os.specs.AbstractState.{AbstractSlot, AbstractState, Born, born, free, gathering, in_service, serving, unborn}
+use Rattle.lib_os.specs.AbstractState.{is_live as is_live_abstract}
+use Rattle.lib_os.specs.DescriptorPages.{device_of, place_page}
 use Rattle.lib_os.specs.Fence.{in_fence}
 use Rattle.lib_os.specs.InOrder.{IsInOrder}
 use Rattle.lib_os.specs.LibraryPages.{LibraryPages, IsOwnWritable, keeps_page}
 use Rattle.lib_os.specs.Places.{place_of, words_at}
-use Rattle.lib_os.specs.Rows.{server_row, EntryRow, Names, Rows, AreBytes, IsPage, rows_of, logical, page_seen, seen_where, shown_at}
+use Rattle.lib_os.specs.Rows.{EntryRow, Names, Rows, AreBytes, IsPage, rows_of, logical, page_seen, seen_where, shown_at}
 use Rattle.lib_os.specs.Rows.{is_clients, is_descriptor, is_programs, is_shared}
+use Rattle.lib_os.specs.StandsFor.{HasChildren, HasServer, StandsForSlot, things_in}
 use Rattle.lib_os.specs.StandsFor.{StandsFor, StandsForBorn, StandsAt, StandsAtStep, view_of, HasTaken, IsKeeping, IsTaking, borne_in, refuses_next}
 use Rattle.lib_os.specs.StandsInHandler.{IsGiven, is_refused_by, stage_with, wanted_of}
 use Rattle.lib_os.specs.UserCalls.{CallStep, got, to_handler, gone, giving, accessing, by_access, faulting, load_byte, store, store_byte, user_byte}
 use Rattle.lib_os.specs.UserCalls.{with_bytes_put}
 use Rattle.lib_os.proofs.BytesPut.{bytes_put, put_whole, put_before, put_there, spaces_put, put_is, page_put, reached_to_write}
 use Rattle.lib_os.proofs.BytesRead.{lasting_reads, lasting_writes}
-use Rattle.lib_os.proofs.CopiesStand.{born_back}
+use Rattle.lib_os.proofs.Children.{borne_moved, same_child}
 use Rattle.lib_os.proofs.CopiesStored.{IsRewritten}
 use Rattle.lib_os.proofs.Effects.{Quiet}
-use Rattle.lib_os.proofs.EntriesCount.{frames_apart}
-use Rattle.lib_os.proofs.EntriesStand.{RowsStand, named_bytes, shown_same}
+use Rattle.lib_os.proofs.EntriesCount.{entry_counts}
+use Rattle.lib_os.proofs.EntriesStand.{RowsStand, named_bytes, rows_turned, shown_same}
 use Rattle.lib_os.proofs.EntryWords.{row_entry}
 use Rattle.lib_os.proofs.Fences.{buffer_below}
 use Rattle.lib_os.proofs.GoingOn.{words_stand}
-use Rattle.lib_os.proofs.Logical.{is_plain, logical_alike, logical_plain, plain_unborne}
+use Rattle.lib_os.proofs.Logical.{is_plain, logical_alike, logical_plain}
 use Rattle.lib_os.proofs.Numbered.{named_at}
 use Rattle.lib_os.proofs.PageBytes.{bytes_more, bytes_none, word_bytes}
 use Rattle.lib_os.proofs.Serving.{IsServed, holds_page, served}
-use Rattle.lib_os.proofs.SlotsStand.{SeenAlike, born_at, descriptors_off, library_alike}
-use Rattle.lib_os.proofs.StatesStand.{clients_live, space_moves}
+use Rattle.lib_os.proofs.SlotsStand.{SameDevices, SeenAlike, born_at, descriptors_off, given_kept, library_alike, live_stands, slot_stands}
+use Rattle.lib_os.proofs.StatesStand.{clients_live, directories_apart}
 use Rattle.lib_os.proofs.Touching.{touched_quiet}
 use Rattle.jos_base.proofs.Maps.{upd-at, upd-other}
 use Rattle.jos_base.proofs.Puts.{Elsewhere}
@@ -81,7 +85,7 @@ module _ {names : Names} {s : KernelState} {a : AbstractState} {sp : SpacesState
   own_counts : (q : ℕ) (x : Entry) → rows_of s.spaces d q ≡ Some x → before n q ≡ Some x
   own_counts q x hx = logical_plain s.spaces s.environments.slots n client plain q ∙ hx
 
-  -- nobody else has the frame
+  -- nothing else that counts has the frame
   alone : (m q : ℕ) (x : Entry) → Elsewhere m q n p → before m q ≡ Some x → x.frame ≢ e.frame
   alone m q x ne hx same =
       let agrees = h.apart m q n p x e ne hx (own_counts p e e_is) same in
@@ -99,18 +103,75 @@ module _ {names : Names} {s : KernelState} {a : AbstractState} {sp : SpacesState
   own_beside : (q : ℕ) (x : Entry) → q ≢ p → rows_of s.spaces d q ≡ Some x → sp.pages x.frame ≡ s.spaces.pages x.frame
   own_beside q x ne hx = bytes_kept x.frame (alone n q x (λ same. ne) (own_counts q x hx))
 
-  others : (q : ℕ) → q ≢ d → SeenAlike names names s.spaces sp q
-  others q ne = record {
+  pub rewritten_devices : SameDevices (view_of s.spaces d) (view_of sp d)
+  rewritten_devices q x descriptor hx =
+      ap device_of
+      (own_beside q x (λ same. let contradiction : true ≡ false = sym descriptor ∙ ap is_descriptor same ∙ other in cc) hx)
+
+  -- nothing that is seen of other clients' spaces differs; the file server may have the frame
+  others : (q : ℕ) → q ≢ d → q ≢ (slot_at s 0).directory → SeenAlike names names s.spaces sp q
+  others q ne not_servers = record {
     rows = ap (λ (rows : Rows). rows q) rewritten.rows;
     bytes = λ r x hx own_too. elsewhere r x hx;
     named_so = λ r x hx shared_page. refl;
+    devices = λ r x descriptor hx shared_page. ap device_of (elsewhere r x hx);
     regions = rewritten.regions q;
   }
     where
       elsewhere : (r : ℕ) (x : Entry) → rows_of s.spaces q r ≡ Some x → sp.pages x.frame ≡ s.spaces.pages x.frame
       elsewhere r x hx =
-          bytes_kept x.frame (frames_apart h n p e (own_counts p e e_is) q r x hx (λ found.
-          alone found.slot found.page found.entry (λ same. absurd (ne (sym found.home ∙ ap (λ (m : ℕ). (slot_at s m).directory) same))) found.counts))
+          let found = entry_counts h q r x not_servers hx in
+          let other : Elsewhere found.slot found.page n p =
+          λ same. absurd (ne (sym found.home ∙ ap (λ (m : ℕ). (slot_at s m).directory) same)) in
+          bytes_kept x.frame (λ same. alone found.slot found.page found.entry other found.counts (found.frame ∙ same))
+
+  -- so that their slots stand for what they stood for
+  other_seen : (m : ℕ) → m ≢ n → 0 ≢ m → is_live_abstract (a.slots m) ≡ true → SeenAlike names names s.spaces sp (slot_at s m).directory
+  other_seen m ne not_first live =
+      others (slot_at s m).directory (directories_apart h n b at m ne live)
+      (λ same. not_first (h.in_order.spaces.apart 0 m servers_live (live_stands h m ∙ live) (sym same)))
+    where
+      servers_live : is_live (slot_at s 0) ≡ true
+      servers_live = live_stands h 0 ∙ ap (λ (x : AbstractSlot). is_live_abstract x) h.first
+
+  not_servers_slot : (m : ℕ) (slot : AbstractSlot) → a.slots m ≡ slot → slot ≢ serving FIRST_ENV_ID → 0 ≢ m
+  not_servers_slot m slot is other first = other (sym is ∙ ap a.slots (sym first) ∙ h.first)
+
+  other_stands : (m : ℕ) → m ≢ n → (slot : AbstractSlot) → a.slots m ≡ slot → StandsForSlot names s.spaces (slot_at s m) slot →
+      StandsForSlot names sp (slot_at s m) slot
+  other_stands m ne (free id) is so = so
+  other_stands m ne (unborn id parent) is so = so
+  other_stands m ne (serving id) is so = so
+  other_stands m ne (born c) is so =
+      slot_stands names names s.spaces sp (slot_at s m) (born c) so (λ live. other_seen m ne
+      (not_servers_slot m (born c) is (λ same. let contradiction : born c ≡ serving FIRST_ENV_ID = same in cc))
+      (ap (λ (x : AbstractSlot). is_live_abstract x) is))
+
+  -- and children are borne as they were
+  children_so : HasChildren names sp s.environments.slots a.slots
+  children_so = record {
+    borne = λ m id parent is.
+        borne_moved (slot_at s (parent % NENV)) (a.slots (parent % NENV)) (slot_at s m) refl refl refl
+        (λ q descriptor. ap (λ (rows : Rows). rows (slot_at s (parent % NENV)).directory q) rewritten.rows)
+        (same_child (slot_at s m) (slot_at s m) refl)
+        (other_seen m (λ same. let contradiction : unborn id parent ≡ born b = sym is ∙ ap a.slots same ∙ at in cc)
+        (not_servers_slot m (unborn id parent) is (λ same. let contradiction : unborn id parent ≡ serving FIRST_ENV_ID = same in cc))
+        (ap (λ (x : AbstractSlot). is_live_abstract x) is))
+        (h.children.borne m id parent is);
+    have = h.children.have;
+  }
+
+  server_so : HasServer sp (slot_at s 0) a.opened a.files.blocks a.server
+  server_so =
+      let same : rows_of sp (slot_at s 0).directory ≡ rows_of s.spaces (slot_at s 0).directory =
+      ap (λ (rows : Rows). rows (slot_at s 0).directory) rewritten.rows in
+      record {
+        status = h.server.status;
+        pages = λ q is. h.server.pages q (ap (λ (r : EntryRow). is_some (r q)) (sym same) ∙ is);
+        tables = λ r is. h.server.tables r (sym (rewritten.regions (slot_at s 0).directory r) ∙ is);
+        alone = λ j q x y below there here.
+            h.server.alone j q x y below (ap (λ (r : EntryRow). r (place_page j)) (sym same) ∙ there) (ap (λ (r : EntryRow). r q) (sym same) ∙ here);
+      }
 
   shown_kept : (q : ℕ) → q ≢ p → shown_at names sp d q ≡ shown_at names s.spaces d q
   shown_kept q ne =
@@ -156,7 +217,7 @@ module _ {names : Names} {s : KernelState} {a : AbstractState} {sp : SpacesState
       by_frame false test =
           subst (λ (page : List ℕ). IsPage page) (sym (bytes_kept x.frame (grind (arith, nat_tests)))) (h.whole m q x hx)
 
-  rows_kept : RowsStand names sp.pages a.shared a.objects a.next_name (server_row s.spaces s.environments.slots) (logical sp s.environments.slots)
+  rows_kept : RowsStand names sp.pages a.shared (things_in s a) a.next_name (logical sp s.environments.slots)
   rows_kept = record {
     apart = λ m o q r x y ne hx hy same. h.apart m o q r x y ne (sym (counts_kept m o) ∙ hx) (sym (counts_kept q r) ∙ hy) same;
     named = λ m q x hx shared_page.
@@ -167,11 +228,29 @@ module _ {names : Names} {s : KernelState} {a : AbstractState} {sp : SpacesState
     beside = λ m q r x y hx is. h.beside m q r x y (sym (counts_kept m q) ∙ hx) is;
   }
 
+  rows_so : RowsStand names sp.pages a.shared (things_in (with_spaces s sp) a) a.next_name (logical sp s.environments.slots)
+  rows_so = rows_turned {things = things_in s a} (ap (λ (rows : Rows). rows (slot_at s 0).directory) rewritten.rows) rows_kept
+
   -- The same is so of it, where it stands so at its place.
   pub unseen_rewritten : StandsAt (place_of (slot_at s n)) (view_of sp (slot_at s n).directory) (slot_at s n) b → StandsFor names (with_spaces s sp) a
-  unseen_rewritten so =
-      subst (λ (x : AbstractState). StandsFor names (with_spaces s sp) x) (born_back a n b at)
-      (space_moves h n b at sp b a.shared a.next_name (plain_unborne (place_of (slot_at s n)) plain) others mine rows_kept in_order)
+  unseen_rewritten so = record {
+    slots = λ m. by_slot m (m == n) refl;
+    children = children_so;
+    apart = rows_so.apart;
+    named = rows_so.named;
+    users = rows_so.users;
+    whole = rows_so.whole;
+    beside = rows_so.beside;
+    free_slots = h.free_slots;
+    first = h.first;
+    server = server_so;
+    consoles = h.consoles;
+    input = h.input;
+    last = h.last;
+    turns = h.turns;
+    tabled = h.tabled;
+    in_order = in_order;
+  }
     where
       mine : StandsForBorn names sp (slot_at s n) b
       mine = record {
@@ -191,6 +270,13 @@ module _ {names : Names} {s : KernelState} {a : AbstractState} {sp : SpacesState
         flags = own.flags;
         at = so;
       }
+
+      by_slot : (m : ℕ) (c : Bool) → (m == n) ≡ c → StandsForSlot names sp (slot_at s m) (a.slots m)
+      by_slot m true test =
+          let same : m ≡ n = grind (arith, nat_tests) in
+          subst (λ (o : ℕ). StandsForSlot names sp (slot_at s o) (a.slots o)) (sym same)
+          (subst (λ (slot : AbstractSlot). StandsForSlot names sp (slot_at s n) slot) (sym at) mine)
+      by_slot m false test = other_stands m (grind (arith, nat_tests)) (a.slots m) refl (h.slots m)
 
 -- ---- bytes that are put in a page
 
@@ -504,8 +590,11 @@ module _ {names : Names} {s : KernelState} {a : AbstractState} (h : StandsFor na
       same = λ i lt. ap (λ (l : List ℕ). slice_index l i) now_is ∙ all_there i (omega (arith, lt, most));
     }
 
-    given : IsGiven (rows_of sp home) fd va len
-    given = subst (λ (r : EntryRow). IsGiven r fd va len) (sym row_same) it.given
+    given : IsGiven (view_of sp home) fd va len
+    given =
+        given_kept (view_of s.spaces home) (view_of sp home) row_same
+        (rewritten_devices h n v.b v.is (ap is_plain stands) working_page working_outside working_no_descriptor page.entry page.stands page.own_page
+        page.writes now now_whole puts.rewritten order) fd va len it.given
 
     -- behind the store the same is so, with more bytes in the page
     still : StandsFor names (with_spaces s sp) a

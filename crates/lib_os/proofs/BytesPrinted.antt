@@ -2,8 +2,7 @@
 -- answer in the abstract system, while here it gives its page back.
 use Rattle.std.proofs.Common.{◌≡◌, ◌∙◌, ◌+◌, ◌<◌, ◌≤◌, ◌++◌, ℕ, Bool, true, false, List, ◌∷◌, length, Option, Some, Result, Ok, Err}
 use Rattle.std.proofs.Common.{refl, sym, ap, subst, arith}
-use Rattle.std.specs.Prelude.{is_some, nat_lt, slice_index}
-use Rattle.std.specs.Option.{option_map}
+use Rattle.std.specs.Prelude.{nat_lt, slice_index}
 use Rattle.std.proofs.Math.Nat.{min-le_right}
 use Rattle.std.proofs.lemmas.Bool.Decides.{nat_tests}
 use Rattle.jos_base.specs.declared.called.Called.{Called}
@@ -20,19 +19,17 @@ use Rattle.jos_base.specs.SpacesState.{SpacesState}
 use Rattle.jos_base.specs.SystemCalls.{is_page_perm, user_bytes, with_bytes_reached}
 use Rattle.jos_base.specs.UserMemory.{all_touched, byte_or_fault, reach_in, read_byte}
 use Rattle.jos_base.specs.Words.{page_number, page_offset}
-use Rattle.jos_base.proofs.Options.{some_is}
 use Rattle.jos_base.proofs.Walks.{walked_below}
-use Rattle.lib_os.specs.declared.numbers.TheConstants.{DESCRIPTORS, SERVICE_WRITE, TRANSFER_MAX}
+use Rattle.lib_os.specs.declared.numbers.TheConstants.{SERVICE_WRITE, TRANSFER_MAX}
 use Rattle.lib_os.specs.declared.place.Place.{Place}
 use Rattle.lib_os.specs.declared.place.Place.TheVariants as place
 use Rattle.lib_os.specs.declared.place.Step.TheVariants as step
 use Rattle.lib_os.specs.declared.service.Service.{Service}
 use Rattle.lib_os.specs.declared.service.Service.TheVariants as service
 use Rattle.lib_os.specs.AbstractRun.{abs_step}
-use Rattle.lib_os.specs.AbstractState.{AbstractState, Born, at_guest, born, gathering, guest, with_printed}
-use Rattle.lib_os.specs.AbstractState.{Object, file, read_end, terminal, write_end}
+use Rattle.lib_os.specs.AbstractState.{AbstractState, Born, at_guest, gathering, guest, with_printed}
+use Rattle.lib_os.specs.AbstractState.{Object, terminal}
 use Rattle.lib_os.specs.Answers.{answered}
-use Rattle.lib_os.specs.DescriptorPages.{HasObject}
 use Rattle.lib_os.specs.Descriptors.{object_of}
 use Rattle.lib_os.specs.FileServices.{write_gathering}
 use Rattle.lib_os.specs.InOrder.{IsInOrder}
@@ -40,13 +37,13 @@ use Rattle.lib_os.specs.LibraryCall.{library_step}
 use Rattle.lib_os.specs.LibraryPages.{has_copy, has_working}
 use Rattle.lib_os.specs.LibrarySteps.{GoesOn}
 use Rattle.lib_os.specs.Places.{place_of, words_at}
-use Rattle.lib_os.specs.Rows.{Names, ShowsBy, descriptor_page, is_shared, logical, rows_of}
-use Rattle.lib_os.specs.StandsFor.{StandsFor, StandsForBorn, StandsAt, IsPrinting, IsStatusFor, upcall_at, view_of}
+use Rattle.lib_os.specs.Rows.{Names, rows_of}
+use Rattle.lib_os.specs.StandsFor.{StandsFor, StandsForBorn, StandsAt, IsPrinting, IsStatusFor, borne_in, upcall_at, view_of}
 use Rattle.lib_os.specs.StandsInHandler.{wanted_of}
 use Rattle.lib_os.specs.UserCalls.{CallStep, got, system}
 use Rattle.lib_os.proofs.BytesRead.{lasting_reads}
 use Rattle.lib_os.proofs.Calls.{cputs_is, cputs_step, cputs_writes}
-use Rattle.lib_os.proofs.DescriptorLooks.{entry_bits, is_descriptors, object_is}
+use Rattle.lib_os.proofs.DeviceLooks.{names_console}
 use Rattle.lib_os.proofs.EntryWords.{row_entry}
 use Rattle.lib_os.proofs.FrameRead.{bytes_read_is}
 use Rattle.lib_os.proofs.Logical.{is_plain, logical_plain}
@@ -56,31 +53,6 @@ use Rattle.lib_os.proofs.SlotsStand.{born_at, born_live}
 use Rattle.lib_os.proofs.StatesStand.{clients_live, printed_stands, quiet_stands, slot_changed}
 use Rattle.lib_os.proofs.Touching.{all_touched_quiet}
 use Rattle.lib_os.proofs.WordsTell.{place_at}
-
--- ---- what a descriptor names is the console
-
-terminal_is : (o : Object) (bytes : List ℕ) → HasObject o bytes → o ≡ terminal
-terminal_is terminal bytes has = refl
-terminal_is (file f) bytes has = absurd has
-terminal_is (read_end pipe) bytes has = absurd has
-terminal_is (write_end pipe) bytes has = absurd has
-
--- where its entries count as they stand
-pub object_terminal : {names : Names} {s : KernelState} {a : AbstractState} → StandsFor names s a → (n : ℕ) (b : Born) → a.slots n ≡ born b →
-    is_plain (place_of (slot_at s n)) ≡ true → (fd : ℕ) → fd < DESCRIPTORS →
-    is_some (rows_of s.spaces (slot_at s n).directory (descriptor_page fd)) ≡ true → object_of a b fd ≡ Some terminal
-object_terminal {names = names} {s = s} {a = a} h n b at plain fd below opened =
-    let found = some_is (rows_of s.spaces (slot_at s n).directory (descriptor_page fd)) opened in
-    let x : Entry = found.0 in
-    let shared_page : is_shared x.perm ≡ true = ap is_shared (entry_bits h n b at fd x below found.1) in
-    let counts : logical s.spaces s.environments.slots n (descriptor_page fd) ≡ Some x =
-    logical_plain s.spaces s.environments.slots n (clients_live h n b at) plain (descriptor_page fd) ∙ found.1 in
-    let it = h.named n (descriptor_page fd) x counts shared_page in
-    let kind : names.is_object (names.name x.frame) ≡ true = it.kind ∙ is_descriptors fd below in
-    let has : HasObject (a.objects (names.name x.frame)) (s.spaces.pages x.frame) =
-    subst (λ (c : Bool). ShowsBy c (a.shared (names.name x.frame)) (a.objects (names.name x.frame)) (s.spaces.pages x.frame)) kind it.shows in
-    ap (λ (o : Option ℕ). option_map a.objects o) (object_is h n b at fd x below found.1)
-    ∙ ap (λ (o : Object). Some o) (terminal_is (a.objects (names.name x.frame)) (s.spaces.pages x.frame) has)
 
 -- ---- the step of the abstract system
 
@@ -197,11 +169,13 @@ module _ {names : Names} {s : KernelState} {a : AbstractState} (h : StandsFor na
   abbrev printed : AbstractState
   printed = answered (with_printed a it.bytes) n v.b regs (length it.bytes)
 
+  console : object_of a v.b fd ≡ Some terminal
+  console = names_console h n v.b v.is (ap borne_in stands) fd it.given.below it.given.console
+
   printing_step : abs_step a n ≡ Some printed
   printing_step =
       step_in a n v.b (slot_at s n) writing (gathering it.bytes) v.is it.is_in
-      ∙ writes_terminal a n v.b regs fd va len it.bytes
-      (object_terminal h n v.b v.is (ap is_plain stands) fd it.given.below it.given.stands) it.many
+      ∙ writes_terminal a n v.b regs fd va len it.bytes console it.many
 
   -- ---- it stands for that
 

@@ -25,11 +25,12 @@ use Rattle.jos_base.specs.Words.{page_number, page_offset}
 use Rattle.lib_os.specs.AbstractState.{AbstractState, Born, Page, own, named, AbstractSlot, born}
 use Rattle.lib_os.specs.AbstractMemory.{page_at, page_allows, page_fault, is_writable, bytes_of_page, byte_in}
 use Rattle.lib_os.specs.AbstractMemory.{byte_at as abstract_byte_at}
+use Rattle.lib_os.specs.DescriptorPages.{Things}
 use Rattle.lib_os.specs.Fence.{is_inside, is_buffer}
 use Rattle.lib_os.specs.MemoryServices.{byte_or_fault}
 use Rattle.lib_os.specs.Rows.{EntryRow, Names, lasting, rows_of, is_shared, is_cow, may_write, page_by, page_seen, seen_where, is_programs}
 use Rattle.lib_os.specs.Rows.{logical, IsNamed, IsUsers}
-use Rattle.lib_os.specs.StandsFor.{StandsFor, StandsForBorn, StandsForSlot, StandsAt, IsRemapping, view_of}
+use Rattle.lib_os.specs.StandsFor.{StandsFor, StandsForBorn, StandsForSlot, StandsAt, IsRemapping, view_of, things_in}
 use Rattle.lib_os.specs.LibraryPages.{View}
 use Rattle.lib_os.specs.Places.{place_of}
 use Rattle.lib_os.specs.declared.place.Place.{Place}
@@ -351,8 +352,8 @@ module _ (names : Names) (s : SpacesState) (d : ℕ) (b : Born) (memory : (p : �
           present = λ told. absurd (let contradiction : 6 ≡ 7 = told in cc);
         }
 
-    module _ (a : AbstractState) (are_named : (p : ℕ) (x : Entry) → is_programs p ≡ true → rows_of s d p ≡ Some x → is_shared x.perm ≡ true →
-        IsNamed names s.pages a.shared a.objects a.next_name p x.frame) (records : ℕ → List ℕ) where
+    module _ (a : AbstractState) {things : Things} (are_named : (p : ℕ) (x : Entry) → is_programs p ≡ true → rows_of s d p ≡ Some x →
+        is_shared x.perm ≡ true → IsNamed names s.pages a.shared things a.next_name p x.frame) (records : ℕ → List ℕ) where
       -- the byte of the page is that of the frame which its entry names
       pub page_byte : (e : Entry) → s.entries d (page_number va) ≡ Some e →
           abstract_byte_at a b va ≡ slice_index (s.pages e.frame) (page_offset va)
@@ -449,10 +450,10 @@ module _ (names : Names) (s : KernelState) (a : AbstractState) (n : ℕ) (b : Bo
       by_step false other = stands.users n p x (logical_inside stands n b is p inside other ∙ at)
 
   pub named_inside : (p : ℕ) (x : Entry) → is_programs p ≡ true → rows_of s.spaces (slot_at s n).directory p ≡ Some x → is_shared x.perm ≡ true →
-      IsNamed names s.spaces.pages a.shared a.objects a.next_name p x.frame
+      IsNamed names s.spaces.pages a.shared (things_in s a) a.next_name p x.frame
   named_inside p x inside at shared_page = by_step (is_twice p) refl
     where
-      by_step : (c : Bool) → is_twice p ≡ c → IsNamed names s.spaces.pages a.shared a.objects a.next_name p x.frame
+      by_step : (c : Bool) → is_twice p ≡ c → IsNamed names s.spaces.pages a.shared (things_in s a) a.next_name p x.frame
       by_step true twice =
           let it = remapped p twice in
           let own_page : is_shared x.perm ≡ false =

@@ -156,11 +156,12 @@ module _ {names : Names} {s : KernelState} {a : AbstractState} (h : StandsFor na
 
   pub stopped_stands : AreSmall (slot_at s n).registers → b.program ≡ guest (slot_at s n).registers →
       (slot_at s n).rendezvous.receiving ≡ false → b.blocked ≡ false →
-      IsStoppedAt write (rows_of s.spaces space) b va (slot_at s n).registers.eip → IsInOrder stopped_after → StandsFor names stopped_after a
+      IsStoppedAt write (view_of s.spaces space) b va (slot_at s n).registers.eip → IsInOrder stopped_after → StandsFor names stopped_after a
   stopped_stands small program silent awake stopped in_order =
       fault_stops h n b is before_fault stands refl plainly stopped_fault small inside (error_small write (page_at b va))
       (user_refusal names s a n b h is va inside (access_of write) forbids) program silent awake
-      (subst (λ (w : Bool). IsStoppedAt w (rows_of s.spaces space) b va (slot_at s n).registers.eip) (sym (refused_error write (page_at b va))) stopped)
+      (subst (λ (w : Bool). IsStoppedAt w (view_of s.spaces space) b va (slot_at s n).registers.eip) (sym (refused_error write (page_at b va)))
+      stopped)
       in_order
 
   pub stopped_lowers : hidden_left stopped_after n < hidden_left s n

@@ -11,19 +11,23 @@ use Rattle.jos_base.specs.SystemCalls.{has_write}
 use Rattle.jos_base.specs.Words.{page_number, page_offset, upd}
 use Rattle.lib_os.specs.AbstractState.{AbstractState, Born, Page, own, named, born, with_born}
 use Rattle.lib_os.specs.AbstractMemory.{stored, stored_in}
+use Rattle.lib_os.specs.DescriptorPages.{device_of}
 use Rattle.lib_os.specs.InOrder.{IsInOrder}
 use Rattle.lib_os.specs.Places.{place_of}
-use Rattle.lib_os.specs.Rows.{Names, Rows, rows_of, logical, is_programs, is_shared, may_write}
+use Rattle.lib_os.specs.Rows.{Names, Rows, rows_of, logical, is_descriptor, is_programs, is_shared, may_write}
 use Rattle.lib_os.specs.Rows.{AgreeWhereShared, AreNamed, AreUsers, AreWhole, AreBeside, server_row, IsNamed, IsPage, ShowsBy}
-use Rattle.lib_os.specs.StandsFor.{StandsFor, StandsForBorn, view_of, borne_in}
+use Rattle.lib_os.specs.StandsFor.{StandsFor, StandsForBorn, view_of, borne_in, things_in}
 use Rattle.lib_os.proofs.Effects.{Stored}
-use Rattle.lib_os.proofs.EntriesCount.{frames_apart}
-use Rattle.lib_os.proofs.EntriesStand.{same_sharing, other_frame, shown_same, seen_own, seen_by, named_bytes, page_kind, page_shows}
-use Rattle.lib_os.proofs.Logical.{logical_alike, logical_beside, logical_plain, programs_beside, unborne_plain, unborne_unremapped}
+use Rattle.lib_os.proofs.EntriesCount.{Counts, entry_counts}
+use Rattle.lib_os.proofs.EntriesStand.{RowsStand, rows_turned, same_sharing, other_frame, shown_same, seen_own, seen_by}
+use Rattle.lib_os.proofs.EntriesStand.{named_bytes, page_kind, page_shows}
+use Rattle.lib_os.proofs.Logical.{logical_alike, logical_beside, logical_plain, programs_beside, programs_no_descriptor}
+use Rattle.lib_os.proofs.Logical.{unborne_plain, unborne_unremapped}
 use Rattle.lib_os.proofs.PageBytes.{page_set}
-use Rattle.lib_os.proofs.SlotsStand.{SeenAlike, kept_rows, library_alike, page_put, slot_stands, born_at}
+use Rattle.lib_os.proofs.PagesStand.{programs_frame}
+use Rattle.lib_os.proofs.SlotsStand.{SameDevices, SeenAlike, kept_rows, library_alike, page_put, slot_stands, born_at}
 use Rattle.lib_os.proofs.Children.{same_child, children_still}
-use Rattle.lib_os.proofs.StatesStand.{space_moves, clients_live, beside_same, server_alike}
+use Rattle.lib_os.proofs.StatesStand.{space_moves, clients_live, server_alike}
 use Rattle.lib_os.proofs.WordsTell.{is_in_handler}
 use Rattle.jos_base.proofs.Maps.{upd-at, upd-other}
 
@@ -50,7 +54,9 @@ module _ {names : Names} {s : KernelState} {a : AbstractState} {sp : SpacesState
 
   -- entries count as they did
   counts_kept : (m q : ℕ) → logical sp s.environments.slots m q ≡ before m q
-  counts_kept m q = logical_alike s.spaces sp s.environments.slots s.environments.slots m refl refl (λ live. ap (λ (rows : Rows). rows (slot_at s m).directory) st.rows) q
+  counts_kept m q =
+      logical_alike s.spaces sp s.environments.slots s.environments.slots m refl refl
+      (λ live. ap (λ (rows : Rows). rows (slot_at s m).directory) st.rows) q
 
   -- this one among them
   counts_here : before n p ≡ Some e
@@ -90,12 +96,49 @@ module _ {names : Names} {s : KernelState} {a : AbstractState} {sp : SpacesState
   own_beside q x ne hx own_page =
       bytes_kept x (other_frame before h.apart n p n q x e (λ same too. ne too) counts_here writes (own_counts q x hx) own_page)
 
+  -- what stands in a space has another frame, where what counts for it has another
+  frames_differ : (q r : ℕ) (x : Entry) → rows_of s.spaces q r ≡ Some x → ((found : Counts s q r x) → found.entry.frame ≢ e.frame) →
+      x.frame ≢ e.frame
+  frames_differ q r x hx apart same = by_space (q == (slot_at s 0).directory) refl
+    where
+      by_space : (c : Bool) → (q == (slot_at s 0).directory) ≡ c → ⊥
+      by_space true test =
+          let servers : q ≡ (slot_at s 0).directory = grind (arith, nat_tests) in
+          programs_frame h n p r e x inside counts_here (ap (λ (f : ℕ). rows_of s.spaces f r) (sym servers) ∙ hx) (sym same)
+      by_space false test =
+          let found = entry_counts h q r x (grind (arith, nat_tests)) hx in apart found (found.frame ∙ same)
+
   -- and in any other
   own_elsewhere : (q r : ℕ) (x : Entry) → q ≢ d → rows_of s.spaces q r ≡ Some x → is_shared x.perm ≡ false → sp.pages x.frame ≡ s.spaces.pages x.frame
   own_elsewhere q r x ne hx own_page =
-      bytes_kept x (frames_apart h n p e counts_here q r x hx (λ found.
+      bytes_kept x (frames_differ q r x hx (λ found.
       other_frame before h.apart n p found.slot found.page found.entry e
       (λ same too. ne (sym found.home ∙ ap (λ (m : ℕ). (slot_at s m).directory) same)) counts_here writes found.counts (found.sharing ∙ own_page)))
+
+  -- a descriptor's page has another
+  descriptors_apart : (q r : ℕ) (x : Entry) → is_descriptor r ≡ true → rows_of s.spaces q r ≡ Some x → is_shared x.perm ≡ true → x.frame ≢ e.frame
+  descriptors_apart q r x descriptor hx shared_page =
+      frames_differ q r x hx (λ found same.
+      let there : is_shared found.entry.perm ≡ true = found.sharing ∙ shared_page in
+      let here : is_shared e.perm ≡ true =
+      sym (same_sharing before h.apart found.slot found.page n p found.entry e found.counts counts_here same) ∙ there in
+      let contradiction : true ≡ false =
+      sym descriptor
+      ∙ ap is_descriptor (sym (found.itself shared_page))
+      ∙ sym (h.named found.slot found.page found.entry found.counts there).kind
+      ∙ ap (λ (f : ℕ). names.is_object (names.name f)) same
+      ∙ page_kind inside (h.named n p e counts_here here) in
+      cc)
+
+  -- so that those of this space tell the same
+  devices_kept : SameDevices (view_of s.spaces d) (view_of sp d)
+  devices_kept q x descriptor hx = ap device_of (by_sharing (is_shared x.perm) refl)
+    where
+      by_sharing : (c : Bool) → is_shared x.perm ≡ c → sp.pages x.frame ≡ s.spaces.pages x.frame
+      by_sharing true shared_page = bytes_kept x (descriptors_apart d q x descriptor hx shared_page)
+      by_sharing false own_page =
+          own_beside q x
+          (λ same. let contradiction : true ≡ false = sym descriptor ∙ ap is_descriptor same ∙ programs_no_descriptor p inside in cc) hx own_page
 
   space_alike : (q : ℕ) → ((r : ℕ) (x : Entry) → rows_of s.spaces q r ≡ Some x → is_shared x.perm ≡ false →
       sp.pages x.frame ≡ s.spaces.pages x.frame) → SeenAlike names names s.spaces sp q
@@ -103,6 +146,7 @@ module _ {names : Names} {s : KernelState} {a : AbstractState} {sp : SpacesState
     rows = ap (λ (rows : Rows). rows q) st.rows;
     bytes = bytes;
     named_so = λ r x hx shared_page. refl;
+    devices = λ r x descriptor hx shared_page. ap device_of (bytes_kept x (descriptors_apart q r x descriptor hx shared_page));
     regions = st.regions q;
   }
 
@@ -125,7 +169,7 @@ module _ {names : Names} {s : KernelState} {a : AbstractState} {sp : SpacesState
     shared_elsewhere m q x hx shared_page same =
         let contradiction : true ≡ false = sym shared_page ∙ same_sharing before h.apart m q n p x e hx counts_here same ∙ own_page in cc
 
-    named_kept : AreNamed names sp.pages a.shared a.objects a.next_name (logical sp s.environments.slots)
+    named_kept : AreNamed names sp.pages a.shared (things_in s a) a.next_name (logical sp s.environments.slots)
     named_kept m q x hx shared_page =
         let there : before m q ≡ Some x = sym (counts_kept m q) ∙ hx in
         named_bytes (sym (bytes_kept x (shared_elsewhere m q x there shared_page))) (h.named m q x there shared_page)
@@ -142,7 +186,7 @@ module _ {names : Names} {s : KernelState} {a : AbstractState} {sp : SpacesState
           only = λ r is. (born_at h n b at).regions_only r (sym (st.regions d r) ∙ is);
         })
         (kept_rows (place_of (slot_at s n)) (view_of s.spaces d) (view_of sp d) outside (ap (λ (rows : Rows). rows d) st.rows) (st.regions d)
-        (λ x hx own_too. own_beside (page_number UTEMP) x (λ same. (programs_beside p inside).2 (sym same)) hx own_too))
+        ((λ x hx own_too. own_beside (page_number UTEMP) x (λ same. (programs_beside p inside).2 (sym same)) hx own_too), devices_kept))
 
     own_stored : StandsFor names (with_spaces s sp) (with_born a n (record b { memory = upd b.memory p after }))
     own_stored =
@@ -161,7 +205,7 @@ module _ {names : Names} {s : KernelState} {a : AbstractState} {sp : SpacesState
     -- a page of one's own is another's frame
     own_other : (q r : ℕ) (x : Entry) → rows_of s.spaces q r ≡ Some x → is_shared x.perm ≡ false → x.frame ≢ e.frame
     own_other q r x hx own_page =
-        frames_apart h n p e counts_here q r x hx (λ found same.
+        frames_differ q r x hx (λ found same.
         let contradiction : true ≡ false =
         sym shared_page
         ∙ sym (same_sharing before h.apart found.slot found.page n p found.entry e found.counts counts_here same)
@@ -172,28 +216,34 @@ module _ {names : Names} {s : KernelState} {a : AbstractState} {sp : SpacesState
     shared_put =
         bytes_put ∙ ap (λ (bytes : List ℕ). slice_set bytes (page_offset va) byte) (sym (page_shows inside (h.named n p e counts_here shared_page)))
 
-    named_stored : AreNamed names sp.pages (upd a.shared name bytes_after) a.objects a.next_name (logical sp s.environments.slots)
+    named_stored : AreNamed names sp.pages (upd a.shared name bytes_after) (things_in s a) a.next_name (logical sp s.environments.slots)
     named_stored m q x hx shared_too =
         let was = h.named m q x (sym (counts_kept m q) ∙ hx) shared_too in
         record { home = was.home; kind = was.kind; shows = by_frame was (x.frame == e.frame) refl; old = was.old }
       where
-        by_frame : IsNamed names s.spaces.pages a.shared a.objects a.next_name q x.frame → (t : Bool) → (x.frame == e.frame) ≡ t →
-            ShowsBy (names.is_object (names.name x.frame)) (upd a.shared name bytes_after (names.name x.frame)) (a.objects (names.name x.frame))
-            (sp.pages x.frame)
+        by_frame : IsNamed names s.spaces.pages a.shared (things_in s a) a.next_name q x.frame → (t : Bool) → (x.frame == e.frame) ≡ t →
+            ShowsBy (things_in s a) (names.name x.frame) x.frame (names.is_object (names.name x.frame))
+            (upd a.shared name bytes_after (names.name x.frame)) (sp.pages x.frame)
         by_frame was true test =
             let same : e.frame ≡ x.frame = grind (arith, nat_tests) in
-            subst (λ (f : ℕ). ShowsBy (names.is_object (names.name f)) (upd a.shared name bytes_after (names.name f)) (a.objects (names.name f))
+            subst (λ (f : ℕ). ShowsBy (things_in s a) (names.name f) f (names.is_object (names.name f)) (upd a.shared name bytes_after (names.name f))
             (sp.pages f)) same
-            (subst (λ (c : Bool). ShowsBy c (upd a.shared name bytes_after name) (a.objects name) (sp.pages e.frame))
+            (subst (λ (c : Bool). ShowsBy (things_in s a) name e.frame c (upd a.shared name bytes_after name) (sp.pages e.frame))
             (sym (page_kind inside (h.named n p e counts_here shared_page)))
             (upd-at a.shared name bytes_after ∙ sym shared_put))
         by_frame was false test =
             let other : x.frame ≢ e.frame = grind (arith, nat_tests) in
             let other_name : names.name x.frame ≢ name =
             λ same. other (sym was.home ∙ ap (λ (m : ℕ). names.frame m) same ∙ (h.named n p e counts_here shared_page).home) in
-            subst (λ (l : List ℕ). ShowsBy (names.is_object (names.name x.frame)) l (a.objects (names.name x.frame)) (sp.pages x.frame))
+            subst (λ (l : List ℕ). ShowsBy (things_in s a) (names.name x.frame) x.frame (names.is_object (names.name x.frame)) l (sp.pages x.frame))
             (sym (upd-other a.shared name bytes_after (names.name x.frame) other_name))
             (named_bytes {after = sp.pages} (sym (bytes_kept x other)) was).shows
+
+    rows_stored : RowsStand names sp.pages (upd a.shared name bytes_after) (things_in (with_spaces s sp) a) a.next_name
+        (logical sp s.environments.slots)
+    rows_stored =
+        rows_turned {things = things_in s a} (ap (λ (rows : Rows). rows (slot_at s 0).directory) st.rows)
+        (record { apart = apart_kept; named = named_stored; users = users_kept; whole = whole_kept; beside = beside_kept })
 
     shared_stored : StandsFor names (with_spaces s sp) (record a { shared = upd a.shared name bytes_after })
     shared_stored = record {
@@ -203,15 +253,16 @@ module _ {names : Names} {s : KernelState} {a : AbstractState} {sp : SpacesState
       children = children_still h.children (λ m. refl) (λ m. same_child (slot_at s m) (slot_at s m) refl) (λ m. refl)
           (λ m live. space_alike (slot_at s m).directory
           (λ r x hx own_too. bytes_kept x (own_other (slot_at s m).directory r x hx own_too)));
-      apart = apart_kept;
-      named = named_stored;
-      users = users_kept;
-      whole = whole_kept;
-      beside = beside_same (ap (λ (rows : Rows). rows (slot_at s 0).directory) st.rows) beside_kept;
+      apart = rows_stored.apart;
+      named = rows_stored.named;
+      users = rows_stored.users;
+      whole = rows_stored.whole;
+      beside = rows_stored.beside;
       free_slots = h.free_slots;
       first = h.first;
       server = server_alike
           (space_alike (slot_at s 0).directory (λ r x hx own_too. bytes_kept x (own_other (slot_at s 0).directory r x hx own_too))) h.server;
+      consoles = h.consoles;
       input = h.input;
       last = h.last;
       turns = h.turns;

@@ -17,12 +17,13 @@ use Rattle.lib_os.specs.declared.place.Step.TheVariants as step
 use Rattle.lib_os.specs.declared.service.Service.TheVariants as service
 use Rattle.lib_os.specs.AbstractMemory.{has_page_in}
 use Rattle.lib_os.specs.AbstractState.{AbstractState}
+use Rattle.lib_os.specs.DescriptorPages.{device_of}
 use Rattle.lib_os.specs.InOrder.{IsInOrder}
 use Rattle.lib_os.specs.LibraryPages.{is_library_region, region_index}
 use Rattle.lib_os.specs.Places.{place_of, words_at}
 use Rattle.lib_os.specs.Rows.{EntryRow, IsPage, IsUsers, Names, counted, is_descriptor, is_programs, is_shared, logical}
-use Rattle.lib_os.specs.Rows.{page_seen, rows_of, server_row}
-use Rattle.lib_os.specs.StandsFor.{StandsFor, StandsForBorn, StandsForUnborn}
+use Rattle.lib_os.specs.Rows.{page_seen, rows_of}
+use Rattle.lib_os.specs.StandsFor.{StandsFor, StandsForBorn, StandsForUnborn, things_in}
 use Rattle.lib_os.proofs.Bearing.{IsBearer, IsChild, bearer, bearing_stands, others_count_too, parent_not_first, child_not_first}
 use Rattle.lib_os.proofs.BearingCounts.{of_slots, live_counts, parent_lives, child_lives, child_place, spaces_apart, parent_counted, child_counted}
 use Rattle.lib_os.proofs.BearingCounts.{parent_counts, child_counts, other_counts}
@@ -77,7 +78,13 @@ module _ {names : Names} {s : KernelState} {a : AbstractState} (h : StandsFor na
 
   -- nothing is seen of spaces
   same_spaces : (d : ℕ) → SeenAlike names names s.spaces s.spaces d
-  same_spaces d = record { rows = refl; bytes = λ p x is own_page. refl; named_so = λ p x is shared_page. refl; regions = λ r. refl }
+  same_spaces d = record {
+    rows = refl;
+    bytes = λ p x is own_page. refl;
+    named_so = λ p x is shared_page. refl;
+    devices = λ p x descriptor is shared_page. refl;
+    regions = λ r. refl;
+  }
 
   has_handler : IsChild names s.spaces after v.b next handled
   has_handler = record {
@@ -208,6 +215,7 @@ module _ {names : Names} {s : KernelState} {a : AbstractState} {sp : SpacesState
     rows = λ i r. rows_beside q r (λ same too. ne same) i;
     bytes = λ r x hx own_page. bytes_kept q r x hx;
     named_so = λ r x hx shared_page. refl;
+    devices = λ r x descriptor hx shared_page. ap device_of (bytes_kept q r x hx);
     regions = λ r. other_regions made.placed q r ne;
   }
 
@@ -289,8 +297,8 @@ module _ {names : Names} {s : KernelState} {a : AbstractState} {sp : SpacesState
       let found = (logical_some s.spaces s.environments.slots j q x hx).1 in
       subst (λ (f : ℕ). sp.pages f ≡ s.spaces.pages f) found.frame (bytes_kept _ q found.entry found.stands)
 
-  stack_row : PutsRow names names s.spaces.pages a.shared sp.pages a.shared a.objects a.next_name a.next_name
-      (server_row s.spaces s.environments.slots) before (id % NENV) stack_page (Some new_entry)
+  stack_row : PutsRow names names s.spaces.pages a.shared sp.pages a.shared (things_in s a) a.next_name a.next_name before (id % NENV) stack_page
+      (Some new_entry)
   stack_row = record {
     bytes = λ j q x ne hx. counted_bytes j q x hx;
     agree = λ j q x e ne hx is same.
@@ -300,7 +308,7 @@ module _ {names : Names} {s : KernelState} {a : AbstractState} {sp : SpacesState
     whole = λ e is. subst (λ (y : Entry). IsPage (sp.pages y.frame)) (same_Some new_entry e is)
         (subst (λ (page : List ℕ). IsPage page) (sym made.zero) zero_page_whole);
     beside = λ q e y is at same.
-        made.new (slot_at s 0).directory q y at (sym same ∙ ap (λ (x : Entry). x.frame) (sym (same_Some new_entry e is)));
+        absurd (made.new (slot_at s 0).directory q y at (sym same ∙ ap (λ (x : Entry). x.frame) (sym (same_Some new_entry e is))));
     named_new = λ e is shared_page.
         let contradiction : false ≡ true = ap (λ (y : Entry). is_shared y.perm) (same_Some new_entry e is) ∙ shared_page in cc;
     named_old = λ j q x ne hx shared_page was. named_bytes (sym (counted_bytes j q x hx)) was;

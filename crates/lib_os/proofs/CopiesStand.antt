@@ -25,15 +25,16 @@ use Rattle.lib_os.specs.Fence.{in_fence, is_resident}
 use Rattle.lib_os.specs.InOrder.{IsInOrder}
 use Rattle.lib_os.specs.LibraryPages.{View, LibraryPages, IsOwnWritable, is_library_region, region_index}
 use Rattle.lib_os.specs.Places.{place_of, is_handlers, handler_registers}
-use Rattle.lib_os.specs.Rows.{server_row, IsPage, Names, EntryRow, Rows, rows_of, logical, logical_by, counted, page_by, page_seen, seen_where, is_programs}
+use Rattle.lib_os.specs.Rows.{IsPage, Names, EntryRow, Rows, rows_of, logical, logical_by, counted, page_by, page_seen, seen_where, is_programs}
 use Rattle.lib_os.specs.Rows.{descriptor_perm, descriptor_seen, is_cow, is_descriptor, is_shared, shown_at}
 use Rattle.lib_os.specs.Rows.{is_clients, may_write, IsUsers}
 use Rattle.lib_os.specs.StandingLaws.{IsHandlerStep}
-use Rattle.lib_os.specs.StandsFor.{StandsFor, StandsForBorn, StandsAt, view_of, upcall_at, borne_in}
+use Rattle.lib_os.specs.StandsFor.{StandsFor, StandsForBorn, StandsAt, things_in, view_of, upcall_at, borne_in}
 use Rattle.lib_os.specs.StandsInHandler.{IsInHandler, Copies, CopiesAt, CopiesOrEnds, copies, ends, IsToCopy, IsCopiedTo, IsMappedTwice}
 use Rattle.lib_os.specs.StandsInHandler.{is_refused_by}
 use Rattle.lib_os.proofs.Beneath.{KeepsWritable, beneath_moved, same_writable}
 use Rattle.lib_os.proofs.Effects.{Made, Given, Removed}
+use Rattle.lib_os.proofs.EntriesCount.{own_lacked}
 use Rattle.lib_os.proofs.EntriesStand.{RowsStand, PutsRow, rows_put, rows_same, rows_bytes, rows_stand, put_is, seen_own}
 use Rattle.lib_os.proofs.EntriesStand.{named_bytes, shown_same}
 use Rattle.lib_os.proofs.Handled.{IsHandled, handled_part, handler_slot, handler_place, esp_kept, eflags_kept}
@@ -125,7 +126,7 @@ pub copying_stands : {names : Names} {s : KernelState} {a : AbstractState} {sp :
     a.slots n ≡ born b → (to : HandlerStep) → borne_in (place_of (slot_at s n)) ≡ None → borne_in (place_of (handler_slot (slot_at s n) to)) ≡ None →
     ((d : ℕ) → d ≢ (slot_at s n).directory → SeenAlike names names s.spaces sp d) →
     StandsForBorn names sp (handler_slot (slot_at s n) to) b →
-    RowsStand names sp.pages a.shared a.objects a.next_name (server_row s.spaces s.environments.slots) (logical sp (upd s.environments.slots n (handler_slot (slot_at s n) to))) →
+    RowsStand names sp.pages a.shared (things_in s a) a.next_name (logical sp (upd s.environments.slots n (handler_slot (slot_at s n) to))) →
     IsInOrder (with_spaces s sp) →
     StandsFor names (with_registers (with_spaces s sp) n (handler_registers (slot_at s n).registers to)) a
 copying_stands {names = names} {s = s} {a = a} {sp = sp} h n b at to unborne unborne_after others mine rows in_order =
@@ -278,8 +279,8 @@ module _ {names : Names} {s : KernelState} {a : AbstractState} {sp : SpacesState
           by_slot false test =
               others_count h n v.b v.is (handler_slot (slot_at s n) to) others m (grind (arith, nat_tests)) q
 
-  taken_row : PutsRow names names s.spaces.pages a.shared sp.pages a.shared a.objects a.next_name a.next_name (server_row s.spaces s.environments.slots) (logical s.spaces s.environments.slots) n
-      copy_page (Some new_entry)
+  taken_row : PutsRow names names s.spaces.pages a.shared sp.pages a.shared (things_in s a) a.next_name a.next_name
+      (logical s.spaces s.environments.slots) n copy_page (Some new_entry)
   taken_row = record {
     bytes = bytes_elsewhere h n v.b v.is taken_puts;
     agree = λ m q x e ne hx is same.
@@ -289,7 +290,7 @@ module _ {names : Names} {s : KernelState} {a : AbstractState} {sp : SpacesState
     whole = λ e is. subst (λ (y : Entry). IsPage (sp.pages y.frame)) (same_Some new_entry e is)
         (subst (λ (page : List ℕ). IsPage page) (sym made.zero) zero_page_whole);
     beside = λ q e y is there same.
-        made.new (slot_at s 0).directory q y there (sym same ∙ ap (λ (x : Entry). x.frame) (sym (same_Some new_entry e is)));
+        absurd (made.new (slot_at s 0).directory q y there (sym same ∙ ap (λ (x : Entry). x.frame) (sym (same_Some new_entry e is))));
     named_new = λ e is shared_page.
         let contradiction : false ≡ true = ap (λ (y : Entry). is_shared y.perm) (same_Some new_entry e is) ∙ shared_page in cc;
     named_old = λ m q x ne hx shared_page was.
@@ -726,7 +727,7 @@ module _ {names : Names} {s : KernelState} {a : AbstractState} {sp : SpacesState
               others_count h n u.b u.is (handler_slot (slot_at s n) next) over_others m other q
               ∙ sym (put-other before n copy_page None m q (λ same. absurd (other same)))
 
-  left_row : PutsRow names names s.spaces.pages a.shared s.spaces.pages a.shared a.objects a.next_name a.next_name (server_row s.spaces s.environments.slots) before n copy_page None
+  left_row : PutsRow names names s.spaces.pages a.shared s.spaces.pages a.shared (things_in s a) a.next_name a.next_name before n copy_page None
   left_row = record {
     bytes = λ m q x ne hx. refl;
     agree = λ m q x e ne hx is same. absurd (none-some e is);
@@ -748,7 +749,7 @@ module _ {names : Names} {s : KernelState} {a : AbstractState} {sp : SpacesState
   left_bytes m q x ne hx =
       bytes_elsewhere h n u.b u.is over_puts m q x ne (left_found m q x hx).0
 
-  over_row : PutsRow names names s.spaces.pages a.shared sp.pages a.shared a.objects a.next_name a.next_name (server_row s.spaces s.environments.slots) left n p (Some over)
+  over_row : PutsRow names names s.spaces.pages a.shared sp.pages a.shared (things_in s a) a.next_name a.next_name left n p (Some over)
   over_row = record {
     bytes = left_bytes;
     agree = λ m q x e ne hx is same.
@@ -757,7 +758,8 @@ module _ {names : Names} {s : KernelState} {a : AbstractState} {sp : SpacesState
     whole = λ e is. subst (λ (y : Entry). IsPage (sp.pages y.frame)) (same_Some over e is)
         (subst (λ (page : List ℕ). IsPage page) (sym given.same) (h.whole n copy_page copy copy_counts));
     beside = λ q e y is there same.
-        h.beside n copy_page q copy y copy_counts there (ap (λ (x : Entry). x.frame) (same_Some over e is) ∙ same);
+        absurd (own_lacked h n copy_page copy copy_counts (λ it. working_beside (sym it)) copy_own q y there
+        (sym same ∙ ap (λ (x : Entry). x.frame) (sym (same_Some over e is))));
     named_new = λ e is shared_page.
         let contradiction : false ≡ true = ap (λ (y : Entry). is_shared y.perm) (same_Some over e is) ∙ shared_page in cc;
     named_old = λ m q x ne hx shared_page was. named_bytes (sym (left_bytes m q x ne hx)) was;

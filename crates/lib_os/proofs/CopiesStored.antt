@@ -23,22 +23,23 @@ use Rattle.lib_os.specs.declared.place.HandlerStep.TheVariants as handler
 use Rattle.lib_os.specs.declared.place.Place.{Place}
 use Rattle.lib_os.specs.declared.place.Place.TheVariants as place
 use Rattle.lib_os.specs.AbstractState.{AbstractState}
+use Rattle.lib_os.specs.DescriptorPages.{device_of}
 use Rattle.lib_os.specs.InOrder.{IsInOrder}
 use Rattle.lib_os.specs.LibraryPages.{LibraryPages, IsOwnWritable, has_copy}
 use Rattle.lib_os.specs.Places.{place_of, handler_registers}
-use Rattle.lib_os.specs.Rows.{server_row, Names, Rows, AreBytes, IsPage, rows_of, logical, descriptor_seen, page_seen, seen_where, shown_at}
+use Rattle.lib_os.specs.Rows.{Names, Rows, AreBytes, IsPage, rows_of, logical, descriptor_seen, page_seen, seen_where, shown_at}
 use Rattle.lib_os.specs.Rows.{is_clients, is_programs, is_shared}
 use Rattle.lib_os.specs.StandingLaws.{IsHandlerStep}
-use Rattle.lib_os.specs.StandsFor.{StandsFor, view_of, upcall_at, borne_in}
+use Rattle.lib_os.specs.StandsFor.{StandsFor, things_in, view_of, upcall_at, borne_in}
 use Rattle.lib_os.specs.StandsInHandler.{Copies, CopiesAt, CopiesOrEnds, copies, ends, IsToCopy, IsCopiedTo, page_word}
 use Rattle.lib_os.specs.UserCalls.{giving, accessing, with_user_word, store}
 use Rattle.lib_os.proofs.Beneath.{same_writable}
 use Rattle.lib_os.proofs.BytesPut.{bytes_put, put_whole, put_before, put_there, spaces_put, put_is, page_put, reached_to_write}
 use Rattle.lib_os.proofs.BytesRead.{lasting_reads, lasting_writes}
-use Rattle.lib_os.proofs.CopiesStand.{copy_page, copy_alone, copy_no_descriptor, copy_unseen, stack_beside}
+use Rattle.lib_os.proofs.CopiesStand.{copy_page, copy_alone, copy_no_descriptor, copy_unseen, stack_beside, working_beside}
 use Rattle.lib_os.proofs.CopiesStand.{handler_moved, copying_goes, copying_stands, counts_at}
 use Rattle.lib_os.proofs.Effects.{Quiet}
-use Rattle.lib_os.proofs.EntriesCount.{frames_apart}
+use Rattle.lib_os.proofs.EntriesCount.{frames_apart, own_lacked}
 use Rattle.lib_os.proofs.EntriesStand.{RowsStand, named_bytes, shown_same}
 use Rattle.lib_os.proofs.EntryWords.{row_entry}
 use Rattle.lib_os.proofs.Handled.{IsHandled, handled_part, handler_slot, handler_place}
@@ -127,12 +128,14 @@ module _ {names : Names} {s : KernelState} {a : AbstractState} {sp : SpacesState
     rows = ap (λ (rows : Rows). rows q) rewritten.rows;
     bytes = λ r x hx own_page. elsewhere r x hx;
     named_so = λ r x hx shared_page. refl;
+    devices = λ r x descriptor hx shared_page. ap device_of (elsewhere r x hx);
     regions = rewritten.regions q;
   }
     where
       elsewhere : (r : ℕ) (x : Entry) → rows_of s.spaces q r ≡ Some x → sp.pages x.frame ≡ s.spaces.pages x.frame
       elsewhere r x hx =
-          bytes_kept x.frame (frames_apart h n copy_page copy (own_counts copy_page copy copy_is) q r x hx (λ found.
+          bytes_kept x.frame (frames_apart h copy.frame
+          (own_lacked h n copy_page copy (own_counts copy_page copy copy_is) (λ it. working_beside (sym it)) copy_own) q r x hx (λ found.
           alone found.slot found.page found.entry (λ same. absurd (ne (sym found.home ∙ ap (λ (m : ℕ). (slot_at s m).directory) same))) found.counts))
 
   shown_kept : (q : ℕ) → q ≢ copy_page → shown_at names sp d q ≡ shown_at names s.spaces d q
@@ -201,7 +204,7 @@ module _ {names : Names} {s : KernelState} {a : AbstractState} {sp : SpacesState
             let same : m ≡ n = grind (arith, nat_tests) in subst (λ (o : ℕ). after o q ≡ before o q) (sym same) here
         by_slot false test = others_count h n v.b v.is (handler_slot (slot_at s n) to) others m (grind (arith, nat_tests)) q
 
-    rows_kept : RowsStand names sp.pages a.shared a.objects a.next_name (server_row s.spaces s.environments.slots) after
+    rows_kept : RowsStand names sp.pages a.shared (things_in s a) a.next_name after
     rows_kept = record {
       apart = λ m o q r x y ne hx hy same. h.apart m o q r x y ne (sym (counts_kept m o) ∙ hx) (sym (counts_kept q r) ∙ hy) same;
       named = λ m q x hx shared_page.

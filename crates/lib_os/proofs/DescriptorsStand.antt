@@ -18,7 +18,7 @@ use Rattle.jos_base.specs.Reach.{Entry}
 use Rattle.jos_base.specs.SpacesState.{SpacesState, inserted, mapped, put, unmapped}
 use Rattle.jos_base.specs.SystemCalls.{has_write, shared_entry}
 use Rattle.jos_base.specs.Words.{page_number, upd}
-use Rattle.lib_os.specs.declared.numbers.TheConstants.{DESCRIPTORS, PFTEMP, UXSTACK}
+use Rattle.lib_os.specs.declared.numbers.TheConstants.{DESCRIPTORS, PFTEMP, REQUEST, UXSTACK}
 use Rattle.lib_os.specs.declared.place.Place.{Place}
 use Rattle.lib_os.specs.declared.place.Place.TheVariants as place
 use Rattle.lib_os.specs.declared.place.Step.{Step}
@@ -32,10 +32,10 @@ use Rattle.lib_os.specs.InOrder.{IsInOrder}
 use Rattle.lib_os.specs.LibraryPages.{IsOwnWritable, LibraryPages}
 use Rattle.lib_os.specs.LibrarySteps.{TakesAtMost, gone_back, service_answered}
 use Rattle.lib_os.specs.Places.{is_handlers, place_of, words_at}
-use Rattle.lib_os.specs.Rows.{server_row, Agree, EntryRow, IsNamed, IsPage, IsUsers, Names, Rows, descriptor_page, descriptor_perm, descriptor_seen}
+use Rattle.lib_os.specs.Rows.{Agree, EntryRow, IsNamed, IsPage, IsUsers, MayBeHad, Names, Rows, descriptor_page, descriptor_perm, descriptor_seen}
 use Rattle.lib_os.specs.Rows.{is_descriptor, is_programs, is_shared, logical, may_write, name_of, page_by, page_seen, rows_of, seen_where, shown_at}
 use Rattle.lib_os.specs.Services.{service_of}
-use Rattle.lib_os.specs.StandsFor.{IsDuplicating, IsIn, IsOpen, NoneIsOpenBelow, StandsAtStep, StandsFor, StandsForBorn, borne_in, view_of}
+use Rattle.lib_os.specs.StandsFor.{IsDuplicating, IsIn, IsOpen, NoneIsOpenBelow, StandsAtStep, StandsFor, StandsForBorn, borne_in, things_in, view_of}
 use Rattle.lib_os.specs.UserCalls.{CallStep, giving, system}
 use Rattle.lib_os.proofs.Answering.{back_stands}
 use Rattle.lib_os.proofs.CallersStay.{map_answers}
@@ -152,7 +152,7 @@ module _ {names : Names} {s : KernelState} {a : AbstractState} {sp : SpacesState
   descriptor_puts_stand : (name : Option ℕ) → name ≡ name_of (option_map (page_by names sp.pages) o) →
       ((x : Entry) → o ≡ Some x → x.perm ≡ descriptor_perm) →
       ((r : ℕ) → is_some (sp.regions dir r) ≡ is_some (s.spaces.regions dir r)) →
-      PutsRow names names s.spaces.pages a.shared sp.pages a.shared a.objects a.next_name a.next_name (server_row s.spaces s.environments.slots) (logical s.spaces s.environments.slots) n
+      PutsRow names names s.spaces.pages a.shared sp.pages a.shared (things_in s a) a.next_name a.next_name (logical s.spaces s.environments.slots) n
       (descriptor_page fd) o → minds_page (place_of (slot_at s n)) ≡ false → IsInOrder (with_spaces s sp) →
       StandsFor names (with_spaces s sp) (with_born a n (with_descriptor b fd name))
   descriptor_puts_stand name name_is bits tables row unminded in_order =
@@ -206,7 +206,7 @@ module _ {names : Names} {s : KernelState} {a : AbstractState} {sp : SpacesState
         regions = λ q r ne. removed.regions q r;
       }
 
-      removed_row : PutsRow names names s.spaces.pages a.shared sp.pages a.shared a.objects a.next_name a.next_name (server_row s.spaces s.environments.slots)
+      removed_row : PutsRow names names s.spaces.pages a.shared sp.pages a.shared (things_in s a) a.next_name a.next_name
           (logical s.spaces s.environments.slots) n p None
       removed_row = record {
         bytes = bytes_elsewhere h n b at removed_puts;
@@ -273,6 +273,11 @@ module _ {names : Names} {s : KernelState} {a : AbstractState} {sp : SpacesState
               (record { shared = refl; read_only = λ own_page. absurd (let contradiction : true ≡ false = sym is_shared_page ∙ own_page in cc) })
           by_place (inr there) = h.apart q r n from y x there hy counts_here same
 
+      -- the file server may have the page as it may at the old one
+      had_too : (request : Bool) → MayBeHad request from x → MayBeHad request p x
+      had_too true had = absurd (let is = had.0 in omega (arith, is, old_below))
+      had_too false had = record { descriptor = is_descriptors fd below; shared = had.shared }
+
       given_puts : Puts names names s.spaces sp into p (Some x)
       given_puts = record {
         rows = given.placed.rows;
@@ -281,7 +286,7 @@ module _ {names : Names} {s : KernelState} {a : AbstractState} {sp : SpacesState
         regions = other_regions given.placed;
       }
 
-      given_row : PutsRow names names s.spaces.pages a.shared sp.pages a.shared a.objects a.next_name a.next_name (server_row s.spaces s.environments.slots)
+      given_row : PutsRow names names s.spaces.pages a.shared sp.pages a.shared (things_in s a) a.next_name a.next_name
           (logical s.spaces s.environments.slots) n p (Some x)
       given_row = record {
         bytes = bytes_elsewhere h n b at given_puts;
@@ -292,8 +297,10 @@ module _ {names : Names} {s : KernelState} {a : AbstractState} {sp : SpacesState
         user = λ e is. subst (λ (z : Entry). IsUsers z.perm) (same_Some x e is) (h.users n from x counts_here);
         whole = λ e is. subst (λ (z : Entry). IsPage (sp.pages z.frame)) (same_Some x e is)
             (subst (λ (l : List ℕ). IsPage l) (sym given.same) (h.whole n from x counts_here));
-        beside = λ q e y is there. subst (λ (z : Entry). z.frame ≢ y.frame) (same_Some x e is) (h.beside n from q x y counts_here there);
-        named_new = λ e is. subst (λ (y : Entry). is_shared y.perm ≡ true → IsNamed names sp.pages a.shared a.objects a.next_name p y.frame)
+        beside = λ q e y is there.
+            subst (λ (z : Entry). z.frame ≡ y.frame → MayBeHad (q == page_number REQUEST) p z) (same_Some x e is)
+            (λ same. had_too (q == page_number REQUEST) (h.beside n from q x y counts_here there same));
+        named_new = λ e is. subst (λ (y : Entry). is_shared y.perm ≡ true → IsNamed names sp.pages a.shared (things_in s a) a.next_name p y.frame)
             (same_Some x e is)
             (λ shared_page. named_bytes (sym given.same)
             (named_place (is_descriptors fd below ∙ sym (is_descriptors old old_below)) (h.named n from x counts_here shared_page)));

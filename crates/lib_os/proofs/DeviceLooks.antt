@@ -1,6 +1,6 @@
 -- How a service finds what its descriptor names: whether the region of descriptors' pages has a table, whether the descriptor is open, and
--- then the word of its page, which is that of the console. Where the descriptor is not open the service refuses in the abstract system too.
-use Rattle.std.proofs.Common.{◌≡◌, ◌∙◌, ◌+◌, ◌<◌, ◌≤◌, ℕ, Bool, true, false, Option, Some, None}
+-- then the word of its page, which tells the console from a file. Where the descriptor is not open the service refuses in the abstract system too.
+use Rattle.std.proofs.Common.{◌≡◌, ◌∙◌, ◌⊎◌, inl, inr, ◌+◌, ◌<◌, ◌≤◌, ℕ, Bool, true, false, Option, Some, None}
 use Rattle.std.proofs.Common.{List, [], refl, sym, ap, subst, arith}
 use Rattle.std.specs.Prelude.{is_some}
 use Rattle.std.specs.Option.{option_map}
@@ -12,16 +12,16 @@ use Rattle.jos_base.specs.KernelState.{KernelState, slot_at, with_extra}
 use Rattle.jos_base.specs.Reach.{Entry}
 use Rattle.jos_base.specs.Words.{negated, page_number, page_offset}
 use Rattle.jos_base.proofs.Options.{some_is}
-use Rattle.lib_os.specs.declared.numbers.TheConstants.{DESCRIPTORS, DEVICE_CONSOLE, FD_DEVICE}
+use Rattle.lib_os.specs.declared.numbers.TheConstants.{DESCRIPTORS, DEVICE_CONSOLE, DEVICE_FILE, FD_DEVICE}
 use Rattle.lib_os.specs.declared.place.Place.TheVariants as place
 use Rattle.lib_os.specs.declared.place.Step.{Step}
 use Rattle.lib_os.specs.declared.place.Step.TheVariants as step
 use Rattle.lib_os.specs.declared.progress.Progress.TheVariants as progress
 use Rattle.lib_os.specs.declared.service.Service.{Service}
 use Rattle.lib_os.specs.declared.service.Service.TheVariants as service
-use Rattle.lib_os.specs.AbstractState.{AbstractState, Born, Object, born, entered, file, terminal, read_end, write_end}
+use Rattle.lib_os.specs.AbstractState.{AbstractState, Born, Object, OpenFile, born, entered, file, terminal, read_end, write_end}
 use Rattle.lib_os.specs.Answers.{answered, refused}
-use Rattle.lib_os.specs.DescriptorPages.{HasObject, device_of}
+use Rattle.lib_os.specs.DescriptorPages.{HasObject, Things, device_of}
 use Rattle.lib_os.specs.Descriptors.{object_name, object_of}
 use Rattle.lib_os.specs.InOrder.{IsInOrder}
 use Rattle.lib_os.specs.LibraryCall.{library_step}
@@ -30,8 +30,9 @@ use Rattle.lib_os.specs.LibrarySteps.{GoesOn, KeepsStanding, service_answered}
 use Rattle.lib_os.specs.Places.{place_of, words_at}
 use Rattle.lib_os.specs.Rows.{EntryRow, IsNamed, IsUsers, Names, ShowsBy, descriptor_page, is_shared, logical, rows_of}
 use Rattle.lib_os.specs.StandsFor.{IsIn, IsLookingUp, IsReadingDevice, StandsAtDevice, StandsAtStep, StandsFor}
-use Rattle.lib_os.specs.StandsFor.{borne_in, descriptor_given, view_of}
+use Rattle.lib_os.specs.StandsFor.{borne_in, descriptor_given, things_in, view_of}
 use Rattle.lib_os.specs.StandsInHandler as stands
+use Rattle.lib_os.specs.StandsInHandler.{IsConsoleOpen}
 use Rattle.lib_os.specs.UserCalls.{load}
 use Rattle.lib_os.proofs.Answering.{back_stands}
 use Rattle.lib_os.proofs.BufferLooks.{tells_page}
@@ -54,12 +55,37 @@ use Rattle.lib_os.proofs.WindowWords.{read_at}
 abbrev pub device_va : ℕ → ℕ
 device_va fd = descriptor_va fd + FD_DEVICE
 
--- as far as objects are built, each is the console
-object_only : (object : Object) (bytes : List ℕ) → HasObject object bytes → (object ≡ terminal) × (device_of bytes ≡ DEVICE_CONSOLE)
-object_only terminal bytes is = (refl, is)
-object_only (file f) bytes is = absurd is
-object_only (read_end pipe) bytes is = absurd is
-object_only (write_end pipe) bytes is = absurd is
+-- what that word is, as far as objects are built
+abbrev pub device_for : Object → Option ℕ
+device_for terminal = Some DEVICE_CONSOLE
+device_for (file f) = Some DEVICE_FILE
+device_for _ = None
+
+object_device : (things : Things) (name frame : ℕ) (object : Object) (bytes : List ℕ) → HasObject things name frame object bytes →
+    device_for object ≡ Some (device_of bytes)
+object_device things name frame terminal bytes is = ap (λ (w : ℕ). Some w) (sym is.device)
+object_device things name frame (file f) bytes is = ap (λ (w : ℕ). Some w) (sym is.device)
+object_device things name frame (read_end pipe) bytes is = absurd is
+object_device things name frame (write_end pipe) bytes is = absurd is
+
+-- The word tells the object.
+is_terminal : (object : Object) → device_for object ≡ Some DEVICE_CONSOLE → object ≡ terminal
+is_terminal terminal is = refl
+is_terminal (file f) is = absurd (let other = same_Some DEVICE_FILE DEVICE_CONSOLE is in omega (arith, other))
+is_terminal (read_end pipe) is = absurd (none-some DEVICE_CONSOLE is)
+is_terminal (write_end pipe) is = absurd (none-some DEVICE_CONSOLE is)
+
+is_file : (object : Object) → device_for object ≡ Some DEVICE_FILE → (f : OpenFile) × (object ≡ file f)
+is_file terminal is = absurd (let other = same_Some DEVICE_CONSOLE DEVICE_FILE is in omega (arith, other))
+is_file (file f) is = (f, refl)
+is_file (read_end pipe) is = absurd (none-some DEVICE_FILE is)
+is_file (write_end pipe) is = absurd (none-some DEVICE_FILE is)
+
+is_either : (object : Object) (word : ℕ) → device_for object ≡ Some word → (word ≡ DEVICE_CONSOLE) ⊎ (word ≡ DEVICE_FILE)
+is_either terminal word is = inl (sym (same_Some DEVICE_CONSOLE word is))
+is_either (file f) word is = inr (sym (same_Some DEVICE_FILE word is))
+is_either (read_end pipe) word is = absurd (none-some word is)
+is_either (write_end pipe) word is = absurd (none-some word is)
 
 module _ {names : Names} {s : KernelState} {a : AbstractState} (h : StandsFor names s a) (n : ℕ) (b : Born) (at : a.slots n ≡ born b)
     (unborne : borne_in (place_of (slot_at s n)) ≡ None) (fd : ℕ) (below : fd < DESCRIPTORS) where
@@ -79,30 +105,38 @@ module _ {names : Names} {s : KernelState} {a : AbstractState} (h : StandsFor na
         (λ same. absurd (omega (arith, same, below))) (unborne_unremapped (place_of (slot_at s n)) (descriptor_page fd) unborne)
         ∙ is
 
-    named_so : IsNamed names s.spaces.pages a.shared a.objects a.next_name (descriptor_page fd) x.frame
+    named_so : IsNamed names s.spaces.pages a.shared (things_in s a) a.next_name (descriptor_page fd) x.frame
     named_so = h.named n (descriptor_page fd) x counts shared_page
 
-    shows : HasObject (a.objects (names.name x.frame)) (s.spaces.pages x.frame)
+    shows : HasObject (things_in s a) (names.name x.frame) x.frame (a.objects (names.name x.frame)) (s.spaces.pages x.frame)
     shows =
-        subst (λ (c : Bool). ShowsBy c (a.shared (names.name x.frame)) (a.objects (names.name x.frame)) (s.spaces.pages x.frame))
+        subst (λ (c : Bool). ShowsBy (things_in s a) (names.name x.frame) x.frame c (a.shared (names.name x.frame)) (s.spaces.pages x.frame))
         (named_so.kind ∙ is_descriptors fd below) named_so.shows
 
-    -- it names the console
-    pub terminal_seen : object_of a b fd ≡ Some terminal
-    terminal_seen =
-        ap (option_map a.objects) (object_is h n b at fd x below is)
-        ∙ ap (λ (o : Object). Some o) ((object_only (a.objects (names.name x.frame)) (s.spaces.pages x.frame) shows).0)
+    -- it names the object of its frame
+    object_seen : object_of a b fd ≡ Some (a.objects (names.name x.frame))
+    object_seen = ap (option_map a.objects) (object_is h n b at fd x below is)
 
-    -- and its word says so
-    pub terminal_given : load s n (device_va fd) ≡ read_at s n (device_va fd) DEVICE_CONSOLE
-    terminal_given =
+    -- whose word stands there
+    object_told : device_for (a.objects (names.name x.frame)) ≡ Some (device_of (s.spaces.pages x.frame))
+    object_told = object_device (things_in s a) (names.name x.frame) x.frame (a.objects (names.name x.frame)) (s.spaces.pages x.frame) shows
+
+    word_given : load s n (device_va fd) ≡ read_at s n (device_va fd) (device_of (s.spaces.pages x.frame))
+    word_given =
         let begins = descriptor_begins fd below in
         let none : device_va fd ≡ descriptor_va fd = omega arith in
         let number : page_number (device_va fd) ≡ descriptor_page fd = ap page_number none ∙ begins.1 in
         let offset : page_offset (device_va fd) ≡ 0 = omega arith in
         load_page_word s n (device_va fd) x (omega arith) (ap row number ∙ is) user.page h.in_order.frames
         ∙ ap (λ (o : ℕ). read_at s n (device_va fd) (stands.page_word (s.spaces.pages x.frame) o)) offset
-        ∙ ap (read_at s n (device_va fd)) ((object_only (a.objects (names.name x.frame)) (s.spaces.pages x.frame) shows).1)
+
+  -- By its word it is the console.
+  pub names_console : IsConsoleOpen (view_of s.spaces (slot_at s n).directory) fd → object_of a b fd ≡ Some terminal
+  names_console console =
+      object_seen console.entry console.stands
+      ∙ ap (λ (o : Object). Some o)
+      (is_terminal (a.objects (names.name console.entry.frame))
+      (object_told console.entry console.stands ∙ ap (λ (w : ℕ). Some w) console.device))
 
 -- ---- the services that want to know what a descriptor names
 
@@ -178,6 +212,14 @@ look_answers {names = names} {s = s} {a = a} h n service from v unborne none va 
 )
 
 -- ---- its steps
+
+-- the word of the page of a descriptor
+abbrev device_at : (ℕ → List ℕ) → Option Entry → ℕ
+device_at pages (Some x) = device_of (pages x.frame)
+device_at pages None = 0
+
+abbrev pub device_word : KernelState → ℕ → ℕ → ℕ
+device_word s n fd = device_at s.spaces.pages (rows_of s.spaces (slot_at s n).directory (descriptor_page fd))
 
 module _ (s : KernelState) (n : ℕ) (service : Service) (fd : ℕ) (given : descriptor_given service ≡ Some fd) where
   abbrev space : View
@@ -282,17 +324,53 @@ module _ (s : KernelState) (n : ℕ) (service : Service) (fd : ℕ) (given : des
     open_entry : (x : Entry) × (space.row (descriptor_page fd) ≡ Some x)
     open_entry = some_is (space.row (descriptor_page fd)) reading_device.stands
 
-    pub device_object : object_of a at_device.b fd ≡ Some terminal
-    device_object =
-        terminal_seen h n at_device.b at_device.is (ap borne_in stands ∙ unborne_at step.ReadingDevice) fd reading_device.below
-        open_entry.0 open_entry.1
+    word_is : device_word s n fd ≡ device_of (s.spaces.pages open_entry.0.frame)
+    word_is = ap (device_at s.spaces.pages) open_entry.1
 
-    pub device_gives : load s n (device_va fd) ≡ read_at s n (device_va fd) DEVICE_CONSOLE
+    pub device_gives : load s n (device_va fd) ≡ read_at s n (device_va fd) (device_word s n fd)
     device_gives =
-        terminal_given h n at_device.b at_device.is (ap borne_in stands ∙ unborne_at step.ReadingDevice) fd reading_device.below
+        word_given h n at_device.b at_device.is (ap borne_in stands ∙ unborne_at step.ReadingDevice) fd reading_device.below
+        open_entry.0 open_entry.1
+        ∙ ap (read_at s n (device_va fd)) (sym word_is)
+
+    abbrev object : Object
+    object = a.objects (names.name open_entry.0.frame)
+
+    object_is_it : object_of a at_device.b fd ≡ Some object
+    object_is_it =
+        object_seen h n at_device.b at_device.is (ap borne_in stands ∙ unborne_at step.ReadingDevice) fd reading_device.below
         open_entry.0 open_entry.1
 
-    -- Behind it the service may answer what the abstract system answers of the console.
+    -- the word is that of the object
+    told : device_for object ≡ Some (device_word s n fd)
+    told =
+        object_told h n at_device.b at_device.is (ap borne_in stands ∙ unborne_at step.ReadingDevice) fd reading_device.below
+        open_entry.0 open_entry.1
+        ∙ ap (λ (w : ℕ). Some w) (sym word_is)
+
+    pub device_either : (device_word s n fd ≡ DEVICE_CONSOLE) ⊎ (device_word s n fd ≡ DEVICE_FILE)
+    device_either = is_either object (device_word s n fd) told
+
+    -- By its word it is the console, or a file,
+    pub device_object : device_word s n fd ≡ DEVICE_CONSOLE → object_of a at_device.b fd ≡ Some terminal
+    device_object word = object_is_it ∙ ap (λ (o : Object). Some o) (is_terminal object (told ∙ ap (λ (w : ℕ). Some w) word))
+
+    pub device_console : device_word s n fd ≡ DEVICE_CONSOLE → IsConsoleOpen space fd
+    device_console word = record { entry = open_entry.0; stands = open_entry.1; device = sym word_is ∙ word }
+
+    pub device_file : device_word s n fd ≡ DEVICE_FILE → (f : OpenFile) × (object_of a at_device.b fd ≡ Some (file f))
+    device_file word =
+        let found = is_file object (told ∙ ap (λ (w : ℕ). Some w) word) in (found.0, object_is_it ∙ ap (λ (o : Object). Some o) found.1)
+
+    -- and what it is has its word.
+    pub word_of_object : (o : Object) → object_of a at_device.b fd ≡ Some o → device_for o ≡ Some (device_word s n fd)
+    word_of_object o is = ap device_for (same_Some o object (sym is ∙ object_is_it)) ∙ told
+
+    -- and as far as services are built it is the console.
+    pub console_word : device_word s n fd ≡ DEVICE_CONSOLE
+    console_word = same_Some (device_word s n fd) DEVICE_CONSOLE (sym told ∙ ap device_for (h.consoles (names.name open_entry.0.frame)))
+
+    -- Behind it the service may answer what the abstract system answers of what it names.
     pub device_answers : IsInOrder (loaded s n (device_va fd)) → (word : ℕ) →
         library_step a n at_device.b (slot_at s n).registers service entered ≡ Some (answered a n at_device.b (slot_at s n).registers word) →
         GoesOn n (service_answered (loaded s n (device_va fd)) n word) a []

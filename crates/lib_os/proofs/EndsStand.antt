@@ -12,15 +12,16 @@ use Rattle.jos_base.specs.SpacesState.{SpacesState, destroyed}
 use Rattle.jos_base.specs.SystemCalls.{without_environment}
 use Rattle.lib_os.specs.AbstractState.{AbstractState, Born, AbstractSlot, free, unborn, born}
 use Rattle.lib_os.specs.AbstractMemory.{slot_freed}
+use Rattle.lib_os.specs.DescriptorPages.{device_of}
 use Rattle.lib_os.specs.InOrder.{IsInOrder}
 use Rattle.lib_os.specs.Places.{place_of}
 use Rattle.lib_os.specs.Rows.{Names, rows_of, logical, IsPage}
-use Rattle.lib_os.specs.StandsFor.{StandsFor, StandsForSlot, borne_in}
+use Rattle.lib_os.specs.StandsFor.{StandsFor, StandsForSlot, borne_in, things_in}
 use Rattle.lib_os.proofs.Effects.{Gone}
-use Rattle.lib_os.proofs.EntriesStand.{named_bytes}
+use Rattle.lib_os.proofs.EntriesStand.{RowsStand, named_bytes, rows_turned}
 use Rattle.lib_os.proofs.SlotsStand.{SeenAlike, born_at, born_live}
 use Rattle.lib_os.proofs.Children.{born_bears_none, children_kept}
-use Rattle.lib_os.proofs.StatesStand.{beside_same, row_other, server_alike, server_same, servers_seen}
+use Rattle.lib_os.proofs.StatesStand.{row_other, server_alike, server_same, servers_seen}
 use Rattle.lib_os.proofs.StatesStand.{born_not_first, directories_apart, others_stand, others_count, tabled_freed}
 use Rattle.lib_os.proofs.Logical.{logical_some}
 use Rattle.jos_base.specs.Words.{upd}
@@ -41,6 +42,7 @@ gone_alike names gone q ne = record {
   rows = λ i. λ r. gone.rows q r ne i;
   bytes = λ r x hx own_page. gone.bytes q r x (gone.rows q r ne ∙ hx);
   named_so = λ r x hx shared_page. refl;
+  devices = λ r x descriptor hx shared_page. ap device_of (gone.bytes q r x (gone.rows q r ne ∙ hx));
   regions = λ r. gone.regions q r ne;
 }
 
@@ -48,6 +50,9 @@ pub ended_stands : {names : Names} {s : KernelState} {a : AbstractState} → Sta
     a.slots n ≡ born b → borne_in (place_of (slot_at s n)) ≡ None → Gone s.spaces (destroyed s.spaces (slot_at s n).directory) (slot_at s n).directory →
     IsInOrder (without_environment s n) → StandsFor names (without_environment s n) (slot_freed a n b)
 ended_stands {names = names} {s = s} {a = a} h n b at unborne gone in_order =
+    let rows = rows_turned
+    (row_other t s.environments.slots n (free_slot (slot_at s n).id) (born_not_first h n b at)
+    ∙ (servers_seen h n b at (gone_alike names gone)).rows) rows_left in
     record {
       slots = upd-both (λ m (x : Slot) (y : AbstractSlot). StandsForSlot names t x y) s.environments.slots a.slots n
           (free_slot (slot_at s n).id) (free b.id) (ap (λ (id : ℕ). free_slot id) (born_at h n b at).id)
@@ -60,16 +65,11 @@ ended_stands {names = names} {s = s} {a = a} h n b at unborne gone in_order =
             bears = λ c is. let contradiction : free b.id ≡ born c = sym (upd-at a.slots n (free b.id)) ∙ is in absurd cc;
             no_child = λ id parent is. let contradiction : free b.id ≡ unborn id parent = sym (upd-at a.slots n (free b.id)) ∙ is in absurd cc;
           });
-      apart = λ q r m o x y ne hx hy same.
-          h.apart q r m o x y ne (still q r x hx).0 (still m o y hy).0 same;
-      named = λ q r x hx shared_page. let before = still q r x hx in
-          named_bytes (sym before.1) (h.named q r x before.0 shared_page);
-      users = λ q r x hx. h.users q r x (still q r x hx).0;
-      whole = λ q r x hx. let before = still q r x hx in subst (λ (l : List ℕ). IsPage l) (sym before.1) (h.whole q r x before.0);
-      beside = beside_same
-          (row_other t s.environments.slots n (free_slot (slot_at s n).id) (born_not_first h n b at)
-          ∙ (servers_seen h n b at (gone_alike names gone)).rows)
-          (λ q r p x e hx is. h.beside q r p x e (still q r x hx).0 is);
+      apart = rows.apart;
+      named = rows.named;
+      users = rows.users;
+      whole = rows.whole;
+      beside = rows.beside;
       free_slots = record {
         same = ap (λ (slots : List ℕ). n ∷ slots) h.free_slots.same;
         within = (let here : (slot_at s n).id % NENV ≡ n = h.tabled.ids n (born_live (born_at h n b at)) in omega (arith, here), h.free_slots.within);
@@ -77,6 +77,7 @@ ended_stands {names = names} {s = s} {a = a} h n b at unborne gone in_order =
       first = upd-other a.slots n (free b.id) 0 (born_not_first h n b at) ∙ h.first;
       server = server_same (upd-other s.environments.slots n (free_slot (slot_at s n).id) 0 (born_not_first h n b at))
           (server_alike (servers_seen h n b at (gone_alike names gone)) h.server);
+      consoles = h.consoles;
       input = h.input;
       last = h.last;
       turns = h.turns;
@@ -111,3 +112,14 @@ ended_stands {names = names} {s = s} {a = a} h n b at unborne gone in_order =
                   (gone.bytes (slot_at s q).directory r found.1.entry
                   (subst (λ (k : Slot). rows_of t k.directory r ≡ Some found.1.entry) slot found.1.stands)),
             )
+
+    rows_left : RowsStand names t.pages a.shared (things_in s a) a.next_name (logical t after)
+    rows_left = record {
+      apart = λ q r m o x y ne hx hy same.
+          h.apart q r m o x y ne (still q r x hx).0 (still m o y hy).0 same;
+      named = λ q r x hx shared_page. let before = still q r x hx in
+          named_bytes (sym before.1) (h.named q r x before.0 shared_page);
+      users = λ q r x hx. h.users q r x (still q r x hx).0;
+      whole = λ q r x hx. let before = still q r x hx in subst (λ (l : List ℕ). IsPage l) (sym before.1) (h.whole q r x before.0);
+      beside = λ q r p x e hx is. h.beside q r p x e (still q r x hx).0 is;
+    }

@@ -1,5 +1,5 @@
 -- Whatever stands in a space counts for a slot: where it stands, or, where a copy is mapped over its page, at that page.
-use Rattle.jos_base.specs.declared.numbers.TheConstants.{NENV}
+use Rattle.jos_base.specs.declared.numbers.TheConstants.{NENV, UTEMP}
 use Rattle.std.proofs.Common.{◌≡◌, ◌≢◌, ◌∙◌, ◌==◌, ℕ, ◌%◌, Bool, true, false, Option, Some, None, refl, sym, ap, subst, arith}
 use Rattle.std.proofs.lemmas.Bool.Decides.{nat_tests}
 use Rattle.std.proofs.lemmas.Option.{none-some, same_Some}
@@ -9,7 +9,7 @@ use Rattle.jos_base.specs.KernelState.{KernelState, slot_at}
 use Rattle.jos_base.specs.Reach.{Entry}
 use Rattle.jos_base.specs.SpacesState.{is_directory}
 use Rattle.jos_base.specs.Words.{page_number}
-use Rattle.lib_os.specs.declared.numbers.TheConstants.{PFTEMP}
+use Rattle.lib_os.specs.declared.numbers.TheConstants.{PFTEMP, REQUEST}
 use Rattle.lib_os.specs.declared.place.HandlerStep.{HandlerStep}
 use Rattle.lib_os.specs.declared.place.HandlerStep.TheVariants as handler
 use Rattle.lib_os.specs.declared.place.Place.{Place}
@@ -17,11 +17,11 @@ use Rattle.lib_os.specs.declared.place.Place.TheVariants as place
 use Rattle.lib_os.specs.AbstractState.{AbstractState, Born, AbstractSlot, free, unborn, born, serving}
 use Rattle.lib_os.specs.LibraryPages.{View, has_copy}
 use Rattle.lib_os.specs.Places.{place_of}
-use Rattle.lib_os.specs.Rows.{Names, rows_of, lasting, logical, is_shared, as_cow, is_clients}
+use Rattle.lib_os.specs.Rows.{MayBeHad, Names, rows_of, lasting, logical, is_shared, as_cow, is_clients, is_programs}
 use Rattle.lib_os.specs.StandsFor.{StandsFor, StandsForSlot, StandsForBorn, StandsAt, view_of}
 use Rattle.lib_os.specs.StandsInHandler.{IsInHandler, CopiesOrEnds, copies, ends, IsMappedTwice}
-use Rattle.lib_os.proofs.Logical.{is_plain, is_remapped, as_cow_alike, counted_remapped, plain_unremapped, inside_programs, programs_beside, clients_so}
-use Rattle.lib_os.proofs.Logical.{logical_live, logical_plain, logical_beside}
+use Rattle.lib_os.proofs.Logical.{is_plain, is_remapped, as_cow_alike, counted_remapped, plain_unremapped, clients_so}
+use Rattle.lib_os.proofs.Logical.{inside_programs, programs_beside, programs_no_descriptor, logical_live, logical_plain, logical_beside}
 use Rattle.lib_os.proofs.Serving.{words_of_none}
 use Rattle.lib_os.proofs.SlotsStand.{born_live}
 
@@ -37,6 +37,7 @@ pub record Counts (s : KernelState) (d p : ℕ) (x : Entry) : Type 0 where
   pub frame : entry.frame ≡ x.frame
   pub sharing : is_shared entry.perm ≡ is_shared x.perm
   pub here : is_plain (place_of (slot_at s slot)) ≡ true → (page ≡ p) × (entry ≡ x)
+  pub itself : is_shared x.perm ≡ true → page ≡ p
 
 -- the two entries of a page that a copy is mapped over
 twice_at : (h : HandlerStep) (v : View) (k : Slot) (b : Born) → is_plain (place.InHandler h) ≡ false → IsInHandler h v k b →
@@ -70,6 +71,7 @@ born_counts {names = names} {s = s} {b = b} m not_first own p x is = by_page (p 
       frame = refl;
       sharing = refl;
       here = λ plain. (refl, refl);
+      itself = λ shared_page. refl;
     }
 
     at_page : (at : Place) → place_of (slot_at s m) ≡ at → is_plain at ≡ false → p ≡ page_number PFTEMP →
@@ -94,6 +96,8 @@ born_counts {names = names} {s = s} {b = b} m not_first own p x is = by_page (p 
           frame = sym twice.frames ∙ ap (λ (e : Entry). e.frame) (sym copy);
           sharing = twice.own_page ∙ sym (ap (λ (e : Entry). is_shared e.perm) copy ∙ twice.own_copy);
           here = λ is_so. absurd (let contradiction : true ≡ false = sym is_so ∙ ap is_plain there ∙ plain in cc);
+          itself = λ shared_page. absurd
+              (let contradiction : true ≡ false = sym shared_page ∙ ap (λ (e : Entry). is_shared e.perm) copy ∙ twice.own_copy in cc);
         }
 
     -- the page that fork maps onto itself
@@ -113,6 +117,7 @@ born_counts {names = names} {s = s} {b = b} m not_first own p x is = by_page (p 
           frame = alike.0;
           sharing = alike.1;
           here = λ is_so. absurd (let contradiction : true ≡ false = sym twice ∙ plain_unremapped (place_of (slot_at s m)) p is_so in cc);
+          itself = λ shared_page. refl;
         }
 
     by_step : p ≢ page_number PFTEMP → (c : Bool) → is_remapped (place_of (slot_at s m)) p ≡ c → Counts s (slot_at s m).directory p x
@@ -151,6 +156,7 @@ entry_counts {names = names} {s = s} {a = a} h d p x other is = by_entry (s.spac
           frame = refl;
           sharing = refl;
           here = λ plain. (refl, refl);
+          itself = λ shared_page. refl;
         }
     of_slot m home live (serving id) k =
         absurd (not_first m home (sym (sym (h.tabled.ids m live) ∙ ap (λ (i : ℕ). i % NENV) (k.id_is ∙ k.first))))
@@ -163,21 +169,41 @@ entry_counts {names = names} {s = s} {a = a} h d p x other is = by_entry (s.spac
         let owner = h.in_order.spaces.owned d (ap is_directory (h.in_order.frames.owners d p e there)) in
         of_slot owner.0 owner.2 owner.1 (a.slots owner.0) (h.slots owner.0)
 
--- the file server's pages stand in other frames than what counts
-pub servers_frame : {names : Names} {s : KernelState} {a : AbstractState} → StandsFor names s a → (n p q : ℕ) (x e : Entry) →
-    logical s.spaces s.environments.slots n p ≡ Some x → rows_of s.spaces (slot_at s 0).directory q ≡ Some e → e.frame ≢ x.frame
-servers_frame h n p q x e counts is same = h.beside n p q x e counts is (sym same)
+-- ---- the file server's pages
 
--- What stands in a space has another frame than an entry that counts, where what counts for it has another.
-pub frames_apart : {names : Names} {s : KernelState} {a : AbstractState} → StandsFor names s a → (n p : ℕ) (e : Entry) →
-    logical s.spaces s.environments.slots n p ≡ Some e → (d q : ℕ) (x : Entry) → rows_of s.spaces d q ≡ Some x →
-    ((found : Counts s d q x) → found.entry.frame ≢ e.frame) → x.frame ≢ e.frame
-frames_apart {s = s} h n p e counts d q x is apart same = by_space (d == (slot_at s 0).directory) refl
+-- none of them has this frame
+abbrev pub ServerLacks : KernelState → ℕ → Type 0
+ServerLacks s f = (q : ℕ) (e : Entry) → rows_of s.spaces (slot_at s 0).directory q ≡ Some e → e.frame ≢ f
+
+own_not_had : (request : Bool) (p : ℕ) (x : Entry) → p ≢ page_number UTEMP → is_shared x.perm ≡ false → MayBeHad request p x → ⊥
+own_not_had true p x other own_page had = other had.0
+own_not_had false p x other own_page had = let contradiction : true ≡ false = sym had.shared ∙ own_page in cc
+
+programs_not_had : (request : Bool) (p : ℕ) (x : Entry) → is_programs p ≡ true → MayBeHad request p x → ⊥
+programs_not_had true p x inside had = (programs_beside p inside).2 had.0
+programs_not_had false p x inside had = let contradiction : true ≡ false = sym had.descriptor ∙ programs_no_descriptor p inside in cc
+
+-- It has no page of an environment's own but that in which a service keeps what it moves,
+pub own_lacked : {names : Names} {s : KernelState} {a : AbstractState} → StandsFor names s a → (n p : ℕ) (x : Entry) →
+    logical s.spaces s.environments.slots n p ≡ Some x → p ≢ page_number UTEMP → is_shared x.perm ≡ false → ServerLacks s x.frame
+own_lacked h n p x counts other own_page q e is same =
+    own_not_had (q == page_number REQUEST) p x other own_page (h.beside n p q x e counts is (sym same))
+
+-- and none that a program may have.
+pub programs_lacked : {names : Names} {s : KernelState} {a : AbstractState} → StandsFor names s a → (n p : ℕ) (x : Entry) →
+    logical s.spaces s.environments.slots n p ≡ Some x → is_programs p ≡ true → ServerLacks s x.frame
+programs_lacked h n p x counts inside q e is same =
+    programs_not_had (q == page_number REQUEST) p x inside (h.beside n p q x e counts is (sym same))
+
+-- What stands in a space has another frame than this, which the file server lacks, where what counts for it has another.
+pub frames_apart : {names : Names} {s : KernelState} {a : AbstractState} → StandsFor names s a → (f : ℕ) → ServerLacks s f →
+    (d q : ℕ) (x : Entry) → rows_of s.spaces d q ≡ Some x → ((found : Counts s d q x) → found.entry.frame ≢ f) → x.frame ≢ f
+frames_apart {s = s} h f lacked d q x is apart same = by_space (d == (slot_at s 0).directory) refl
   where
     by_space : (c : Bool) → (d == (slot_at s 0).directory) ≡ c → ⊥
     by_space true test =
         let servers : d ≡ (slot_at s 0).directory = grind (arith, nat_tests) in
-        servers_frame h n p q e x counts (ap (λ (f : ℕ). rows_of s.spaces f q) (sym servers) ∙ is) same
+        lacked q x (ap (λ (r : ℕ). rows_of s.spaces r q) (sym servers) ∙ is) same
     by_space false test =
         let found = entry_counts h d q x (grind (arith, nat_tests)) is in
         apart found (found.frame ∙ same)

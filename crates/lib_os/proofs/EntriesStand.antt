@@ -1,6 +1,6 @@
 -- What holds of all entries, pair by pair and one by one, where a byte is stored, where one entry is put in the place of
 -- another, and where one is removed.
-use Rattle.std.proofs.Common.{◌≡◌, ◌≢◌, ◌∙◌, ◌⊎◌, inl, inr, ℕ, Bool, true, false, List, refl, sym, ap, subst, if◌then◌else◌}
+use Rattle.std.proofs.Common.{◌≡◌, ◌≢◌, ◌∙◌, ◌⊎◌, ◌==◌, inl, inr, ℕ, Bool, true, false, List, refl, sym, ap, subst, if◌then◌else◌}
 use Rattle.std.specs.Prelude.{Option, Some, None}
 use Rattle.std.specs.Option.{option_map}
 use Rattle.std.proofs.lemmas.Option.{same_Some}
@@ -8,10 +8,13 @@ use Rattle.jos_base.specs.Reach.{Entry}
 use Rattle.jos_base.specs.KernelState.{KernelState}
 use Rattle.jos_base.specs.SpacesState.{SpacesState, put}
 use Rattle.jos_base.specs.SystemCalls.{has_write}
-use Rattle.lib_os.specs.AbstractState.{AbstractState, Object, own, named}
-use Rattle.lib_os.specs.Rows.{Names, Rows, rows_of, logical, page_by, page_seen, seen_where, shown_at, is_programs, is_shared, may_write, EntryRow, server_row}
-use Rattle.lib_os.specs.Rows.{Agree, AgreeWhereShared, IsNamed, AreNamed, AreBeside, AreUsers, IsUsers, AreWhole, IsPage, ShowsBy, is_descriptor}
-use Rattle.lib_os.specs.StandsFor.{StandsFor}
+use Rattle.jos_base.specs.Words.{page_number}
+use Rattle.lib_os.specs.declared.numbers.TheConstants.{REQUEST}
+use Rattle.lib_os.specs.AbstractState.{AbstractState, own, named}
+use Rattle.lib_os.specs.DescriptorPages.{Things}
+use Rattle.lib_os.specs.Rows.{Names, Rows, rows_of, logical, page_by, page_seen, seen_where, shown_at, is_programs, is_shared, may_write, EntryRow}
+use Rattle.lib_os.specs.Rows.{Agree, AgreeWhereShared, IsNamed, AreNamed, AreBeside, AreUsers, IsUsers, AreWhole, IsPage, MayBeHad, ShowsBy, is_descriptor}
+use Rattle.lib_os.specs.StandsFor.{StandsFor, things_in}
 use Rattle.lib_os.proofs.Logical.{programs_no_descriptor}
 use Rattle.lib_os.proofs.SlotsStand.{page_alike, option_map_alike}
 use Rattle.lib_os.proofs.Puts.{put-found}
@@ -67,67 +70,61 @@ all_put rows d p v Q old new q r x hx = by_case (put-found rows d p v q r x hx)
 -- ---- names
 
 -- a frame is named by what it shows, where that is in other bytes that are the same
-pub named_bytes : {names : Names} {pages after shared : ℕ → List ℕ} {objects : ℕ → Object} {next p f : ℕ} → pages f ≡ after f →
-    IsNamed names pages shared objects next p f → IsNamed names after shared objects next p f
-named_bytes {names = names} {shared = shared} {objects = objects} {f = f} same was = record {
+pub named_bytes : {names : Names} {pages after shared : ℕ → List ℕ} {things : Things} {next p f : ℕ} → pages f ≡ after f →
+    IsNamed names pages shared things next p f → IsNamed names after shared things next p f
+named_bytes {names = names} {shared = shared} {things = things} {f = f} same was = record {
   home = was.home;
   kind = was.kind;
-  shows = subst (λ (l : List ℕ). ShowsBy (names.is_object (names.name f)) (shared (names.name f)) (objects (names.name f)) l) same was.shows;
+  shows = subst (λ (l : List ℕ). ShowsBy things (names.name f) f (names.is_object (names.name f)) (shared (names.name f)) l) same was.shows;
   old = was.old;
 }
 
 -- what is named at a program's page is a page
-pub page_kind : {names : Names} {pages shared : ℕ → List ℕ} {objects : ℕ → Object} {next p f : ℕ} → is_programs p ≡ true →
-    IsNamed names pages shared objects next p f → names.is_object (names.name f) ≡ false
+pub page_kind : {names : Names} {pages shared : ℕ → List ℕ} {things : Things} {next p f : ℕ} → is_programs p ≡ true →
+    IsNamed names pages shared things next p f → names.is_object (names.name f) ≡ false
 page_kind {p = p} inside was = was.kind ∙ programs_no_descriptor p inside
 
 -- and has its bytes
-pub page_shows : {names : Names} {pages shared : ℕ → List ℕ} {objects : ℕ → Object} {next p f : ℕ} → is_programs p ≡ true →
-    IsNamed names pages shared objects next p f → shared (names.name f) ≡ pages f
-page_shows {names = names} {pages = pages} {shared = shared} {objects = objects} {f = f} inside was =
-    subst (λ (c : Bool). ShowsBy c (shared (names.name f)) (objects (names.name f)) (pages f)) (page_kind inside was) was.shows
+pub page_shows : {names : Names} {pages shared : ℕ → List ℕ} {things : Things} {next p f : ℕ} → is_programs p ≡ true →
+    IsNamed names pages shared things next p f → shared (names.name f) ≡ pages f
+page_shows {names = names} {pages = pages} {shared = shared} {things = things} {f = f} inside was =
+    subst (λ (c : Bool). ShowsBy things (names.name f) f c (shared (names.name f)) (pages f)) (page_kind inside was) was.shows
 
 -- a name keeps its frame where it stands at another page of the same kind
-pub named_at : {names : Names} {pages shared : ℕ → List ℕ} {objects : ℕ → Object} {next p q f : ℕ} → is_descriptor q ≡ is_descriptor p →
-    IsNamed names pages shared objects next p f → IsNamed names pages shared objects next q f
+pub named_at : {names : Names} {pages shared : ℕ → List ℕ} {things : Things} {next p q f : ℕ} → is_descriptor q ≡ is_descriptor p →
+    IsNamed names pages shared things next p f → IsNamed names pages shared things next q f
 named_at same was = record { home = was.home; kind = was.kind ∙ sym same; shows = was.shows; old = was.old }
 
 -- ---- all of it
 
 -- what holds of entries as they count, with the bytes of their frames
-pub record RowsStand (names : Names) (pages shared : ℕ → List ℕ) (objects : ℕ → Object) (next : ℕ) (server : EntryRow) (rows : Rows) : Type 0 where
+pub record RowsStand (names : Names) (pages shared : ℕ → List ℕ) (things : Things) (next : ℕ) (rows : Rows) : Type 0 where
   pub apart : AgreeWhereShared rows
-  pub named : AreNamed names pages shared objects next rows
+  pub named : AreNamed names pages shared things next rows
   pub users : AreUsers rows
   pub whole : AreWhole pages rows
-  pub beside : AreBeside server rows
+  pub beside : AreBeside things.row rows
 
 pub rows_stand : {names : Names} {s : KernelState} {a : AbstractState} → StandsFor names s a →
-    RowsStand names s.spaces.pages a.shared a.objects a.next_name (server_row s.spaces s.environments.slots) (logical s.spaces s.environments.slots)
+    RowsStand names s.spaces.pages a.shared (things_in s a) a.next_name (logical s.spaces s.environments.slots)
 rows_stand h = record { apart = h.apart; named = h.named; users = h.users; whole = h.whole; beside = h.beside }
 
 -- of the same entries
-pub rows_same : {names : Names} {pages shared : ℕ → List ℕ} {objects : ℕ → Object} {next : ℕ} {server : EntryRow} (rows after : Rows) →
-    ((n p : ℕ) → after n p ≡ rows n p) → RowsStand names pages shared objects next server rows → RowsStand names pages shared objects next server after
-rows_same {names = names} {pages = pages} {shared = shared} {objects = objects} {next = next} {server = server} rows after same h =
-    subst (λ (r : Rows). RowsStand names pages shared objects next server r) (λ i n p. sym (same n p) i) h
+pub rows_same : {names : Names} {pages shared : ℕ → List ℕ} {things : Things} {next : ℕ} (rows after : Rows) →
+    ((n p : ℕ) → after n p ≡ rows n p) → RowsStand names pages shared things next rows → RowsStand names pages shared things next after
+rows_same {names = names} {pages = pages} {shared = shared} {things = things} {next = next} rows after same h =
+    subst (λ (r : Rows). RowsStand names pages shared things next r) (λ i n p. sym (same n p) i) h
 
--- beside pages of the server that it had
-pub rows_beside : {names : Names} {pages shared : ℕ → List ℕ} {objects : ℕ → Object} {next : ℕ} {rows : Rows} (server after : EntryRow) →
-    ((p : ℕ) (e : Entry) → after p ≡ Some e → server p ≡ Some e) → RowsStand names pages shared objects next server rows →
-    RowsStand names pages shared objects next after rows
-rows_beside server after same h = record {
-  apart = h.apart;
-  named = h.named;
-  users = h.users;
-  whole = h.whole;
-  beside = λ n p q x e at is. h.beside n p q x e at (same q e is);
-}
+-- beside the same pages of the server
+pub rows_turned : {names : Names} {pages shared : ℕ → List ℕ} {things : Things} {next : ℕ} {rows : Rows} {after : EntryRow} → after ≡ things.row →
+    RowsStand names pages shared things next rows → RowsStand names pages shared (record things { row = after }) next rows
+rows_turned {names = names} {pages = pages} {shared = shared} {things = things} {next = next} {rows = rows} same h =
+    subst (λ (r : EntryRow). RowsStand names pages shared (record things { row = r }) next rows) (sym same) h
 
 -- where their frames keep their bytes
-pub rows_bytes : {names : Names} {pages shared : ℕ → List ℕ} {objects : ℕ → Object} {next : ℕ} {server : EntryRow} {rows : Rows} (after : ℕ → List ℕ) →
-    ((n p : ℕ) (x : Entry) → rows n p ≡ Some x → after x.frame ≡ pages x.frame) → RowsStand names pages shared objects next server rows →
-    RowsStand names after shared objects next server rows
+pub rows_bytes : {names : Names} {pages shared : ℕ → List ℕ} {things : Things} {next : ℕ} {rows : Rows} (after : ℕ → List ℕ) →
+    ((n p : ℕ) (x : Entry) → rows n p ≡ Some x → after x.frame ≡ pages x.frame) → RowsStand names pages shared things next rows →
+    RowsStand names after shared things next rows
 rows_bytes after same h = record {
   apart = h.apart;
   named = λ n p x is shared_page. named_bytes (sym (same n p x is)) (h.named n p x is shared_page);
@@ -137,31 +134,33 @@ rows_bytes after same h = record {
 }
 
 -- An entry, or none, in the place of what stood there: all others keep their bytes, and names.
-pub record PutsRow (names after : Names) (pages shared pages_after shared_after : ℕ → List ℕ) (objects : ℕ → Object) (next next_after : ℕ)
-    (server : EntryRow) (rows : Rows) (n p : ℕ) (v : Option Entry) : Type 0 where
+pub record PutsRow (names after : Names) (pages shared pages_after shared_after : ℕ → List ℕ) (things : Things) (next next_after : ℕ)
+    (rows : Rows) (n p : ℕ) (v : Option Entry) : Type 0 where
   pub bytes : (m q : ℕ) (x : Entry) → Elsewhere m q n p → rows m q ≡ Some x → pages_after x.frame ≡ pages x.frame
   pub agree : (m q : ℕ) (x e : Entry) → Elsewhere m q n p → rows m q ≡ Some x → v ≡ Some e → x.frame ≡ e.frame → Agree x.perm e.perm
   pub user : (e : Entry) → v ≡ Some e → IsUsers e.perm
   pub whole : (e : Entry) → v ≡ Some e → IsPage (pages_after e.frame)
-  pub beside : (q : ℕ) (e y : Entry) → v ≡ Some e → server q ≡ Some y → e.frame ≢ y.frame
-  pub named_new : (e : Entry) → v ≡ Some e → is_shared e.perm ≡ true → IsNamed after pages_after shared_after objects next_after p e.frame
+  pub beside : (q : ℕ) (e y : Entry) → v ≡ Some e → things.row q ≡ Some y → e.frame ≡ y.frame →
+      MayBeHad (q == page_number REQUEST) p e
+  pub named_new : (e : Entry) → v ≡ Some e → is_shared e.perm ≡ true → IsNamed after pages_after shared_after things next_after p e.frame
   pub named_old : (m q : ℕ) (x : Entry) → Elsewhere m q n p → rows m q ≡ Some x → is_shared x.perm ≡ true →
-      IsNamed names pages shared objects next q x.frame → IsNamed after pages_after shared_after objects next_after q x.frame
+      IsNamed names pages shared things next q x.frame → IsNamed after pages_after shared_after things next_after q x.frame
 
-pub rows_put : {names after : Names} {pages shared pages_after shared_after : ℕ → List ℕ} {objects : ℕ → Object} {next next_after : ℕ} {server : EntryRow} {rows : Rows}
-    {n p : ℕ} {v : Option Entry} → RowsStand names pages shared objects next server rows →
-    PutsRow names after pages shared pages_after shared_after objects next next_after server rows n p v →
-    RowsStand after pages_after shared_after objects next_after server (put rows n p v)
-rows_put {after = after} {pages_after = pages_after} {shared_after = shared_after} {objects = objects} {next_after = next_after} {server = server} {rows = rows}
+pub rows_put : {names after : Names} {pages shared pages_after shared_after : ℕ → List ℕ} {things : Things} {next next_after : ℕ} {rows : Rows}
+    {n p : ℕ} {v : Option Entry} → RowsStand names pages shared things next rows →
+    PutsRow names after pages shared pages_after shared_after things next next_after rows n p v →
+    RowsStand after pages_after shared_after things next_after (put rows n p v)
+rows_put {after = after} {pages_after = pages_after} {shared_after = shared_after} {things = things} {next_after = next_after} {rows = rows}
     {n = n} {p = p} {v = v} h puts = record {
       apart = apart_put rows n p v h.apart puts.agree;
-      named = all_put rows n p v (λ q x. is_shared x.perm ≡ true → IsNamed after pages_after shared_after objects next_after q x.frame)
+      named = all_put rows n p v (λ q x. is_shared x.perm ≡ true → IsNamed after pages_after shared_after things next_after q x.frame)
           (λ m q x ne hx shared_page. puts.named_old m q x ne hx shared_page (h.named m q x hx shared_page)) puts.named_new;
       users = all_put rows n p v (λ q x. IsUsers x.perm) (λ m q x ne hx. h.users m q x hx) puts.user;
       whole = all_put rows n p v (λ q x. IsPage (pages_after x.frame))
           (λ m q x ne hx. subst (λ (l : List ℕ). IsPage l) (sym (puts.bytes m q x ne hx)) (h.whole m q x hx)) puts.whole;
       beside = λ m r q x y is at.
-          all_put rows n p v (λ t z. z.frame ≢ y.frame) (λ d t z ne hx. h.beside d t q z y hx at) (λ e is. puts.beside q e y is at) m r x is;
+          all_put rows n p v (λ t z. z.frame ≡ y.frame → MayBeHad (q == page_number REQUEST) t z) (λ d t z ne hx. h.beside d t q z y hx at)
+          (λ e is. puts.beside q e y is at) m r x is;
     }
 
 -- a map of two indices that is another at one place alone

@@ -39,14 +39,15 @@ use Rattle.lib_os.specs.StandsFor.{StandsFor, StandsForBorn, StandsAt, upcall_at
 use Rattle.lib_os.specs.StandsInHandler.{AreSmall, CopiesOrEnds, IsAtGuest, IsToCopy, copies, ends}
 use Rattle.lib_os.specs.StandsInHandler.{IsStoppedAt, marked, StandsBeneath, at_program, is_write}
 use Rattle.lib_os.proofs.BytesRead.{IsRefusal, lasting_reads, lasting_writes, remapped}
+use Rattle.lib_os.proofs.EntriesCount.{own_lacked}
 use Rattle.lib_os.proofs.EntriesStand.{shown_same}
 use Rattle.lib_os.proofs.EntryWords.{row_entry}
 use Rattle.lib_os.proofs.Fences.{inside_below, inside_number}
-use Rattle.lib_os.proofs.LaidStand.{Laid, bytes_laid, laid_beside, laid_others, laid_rows, overlaid_at}
+use Rattle.lib_os.proofs.LaidStand.{Laid, bytes_laid, laid_beside, laid_devices, laid_others, laid_rows, overlaid_at}
 use Rattle.lib_os.proofs.Logical.{is_plain, is_remapped, plain_unborne, logical_beside}
 use Rattle.lib_os.proofs.PageBytes.{page_overlaid, words_bytes}
 use Rattle.lib_os.proofs.Serving.{library_moved, plain_copy, plain_upcall}
-use Rattle.lib_os.proofs.SlotsStand.{born_at, descriptors_off, library_alike}
+use Rattle.lib_os.proofs.SlotsStand.{SameDevices, born_at, descriptors_off, library_alike, stopped_kept}
 use Rattle.lib_os.proofs.StatesStand.{clients_live, own_moves, plain_alike}
 use Rattle.lib_os.proofs.Touching.{touched_quiet}
 use Rattle.lib_os.proofs.Working.{words_work}
@@ -181,6 +182,7 @@ counted_stands h in_order = record {
   free_slots = h.free_slots;
   first = h.first;
   server = h.server;
+  consoles = h.consoles;
   input = h.input;
   last = h.last;
   turns = h.turns;
@@ -299,6 +301,11 @@ module _ {names : Names} {s : KernelState} {a : AbstractState} (h : StandsFor na
           (omega (arith, size, lt));
     }
 
+    devices_kept : SameDevices (view_of s.spaces d) (view_of sp d)
+    devices_kept =
+        laid_devices h n b at plain (page_number UXSTACK) (stack_page h n b at).entry (stack_page h n b at).stands (stack_page h n b at).own_page
+        (stack_page h n b at).writes bytes laid refl
+
     -- all but the stack is shown as before
     shown_kept : (q : ℕ) → q ≢ page_number UXSTACK → shown_at names sp d q ≡ shown_at names s.spaces d q
     shown_kept q other =
@@ -361,7 +368,9 @@ module _ {names : Names} {s : KernelState} {a : AbstractState} (h : StandsFor na
           (own_moves h n b at sp (entered_slot k) (record b { phase = phase }) a.shared a.next_name refl
           (record { id = refl; env_type = refl; calm = λ runs. runs }) (plain_unborne (place_of k) plain) (ap borne_in (entered_place k))
           (laid_others h n b at plain (page_number UXSTACK) (stack_page h n b at).entry (stack_page h n b at).stands (stack_page h n b at).own_page
-          (stack_page h n b at).writes bytes laid) mine
+          (stack_page h n b at).writes bytes laid
+          (own_lacked h n (page_number UXSTACK) (stack_page h n b at).entry (stack_counts h n b at) (λ same. absurd (omega (arith, same)))
+          (stack_page h n b at).own_page)) mine
           (laid_rows h n b at plain (page_number UXSTACK) (stack_page h n b at).entry (stack_page h n b at).stands (stack_page h n b at).own_page
           (stack_page h n b at).writes bytes laid is_page (entered_slot k) refl refl
           (plain_alike (place_of k) (place_of (entered_slot k)) plain (ap is_plain (entered_place k))))
@@ -386,14 +395,15 @@ module _ {names : Names} {s : KernelState} {a : AbstractState} (h : StandsFor na
     -- or it has refused the access, before which a service stands
     pub fault_stops : AreSmall k.registers → is_inside fault.va ≡ true → fault.error < 2 ^ 32 → IsRefusal (rows_of s.spaces d) fault →
         b.program ≡ guest k.registers → k.rendezvous.receiving ≡ false → b.blocked ≡ false →
-        IsStoppedAt (is_write fault.error) (rows_of s.spaces d) b fault.va k.registers.eip → IsInOrder after → StandsFor names after a
+        IsStoppedAt (is_write fault.error) (view_of s.spaces d) b fault.va k.registers.eip → IsInOrder after → StandsFor names after a
     fault_stops small inside error refusal program silent awake stopped in_order =
         let below = inside_below fault.va inside in
         let refused : IsRefusal (rows_of sp d) fault = subst (λ (row : EntryRow). IsRefusal row fault) (sym row_kept) refusal in
         subst (λ (x : AbstractState). StandsFor names after x) same
         (handed_stands small (omega (arith, below)) error b.phase (ends (record {
           program = program;
-          stopped = subst (λ (row : EntryRow). IsStoppedAt (is_write fault.error) row b fault.va k.registers.eip) (sym row_kept) stopped;
+          stopped = stopped_kept (view_of s.spaces d) (view_of sp d) row_kept devices_kept b b refl (is_write fault.error) fault.va k.registers.eip
+              stopped;
           silent = silent;
           awake = awake;
           inside = inside;

@@ -23,15 +23,16 @@ use Rattle.lib_os.specs.declared.service.Service.TheVariants as service
 use Rattle.lib_os.specs.AbstractFork.{begun_in, fork}
 use Rattle.lib_os.specs.AbstractState.{AbstractState, AbstractSlot, Born, unborn, born, bearing, in_service, is_live, with_slot}
 use Rattle.lib_os.specs.Answers.{at_stage}
+use Rattle.lib_os.specs.DescriptorPages.{device_of}
 use Rattle.lib_os.specs.InOrder.{IsInOrder, AreFree}
 use Rattle.lib_os.specs.LibraryPages.{has_working, region_index}
 use Rattle.lib_os.specs.Places.{place_of, words_at}
-use Rattle.lib_os.specs.Rows.{server_row, Names, EntryRow, rows_of, counted, logical, logical_by, is_clients, is_descriptor, is_programs}
+use Rattle.lib_os.specs.Rows.{Names, EntryRow, rows_of, counted, logical, logical_by, is_clients, is_descriptor, is_programs}
 use Rattle.lib_os.specs.StandsFor.{StandsFor, StandsForSlot, StandsForBorn, StandsForUnborn, StandsAt, IsTabled, AreSlots, IsBorne}
-use Rattle.lib_os.specs.StandsFor.{IsBearing, view_of, borne_in, is_passed}
+use Rattle.lib_os.specs.StandsFor.{IsBearing, view_of, borne_in, is_passed, things_in}
 use Rattle.lib_os.proofs.Bearing.{IsChild, child_borne}
 use Rattle.lib_os.proofs.Children.{borne_moved, same_child}
-use Rattle.lib_os.proofs.EntriesStand.{RowsStand, rows_stand, rows_same, rows_bytes}
+use Rattle.lib_os.proofs.EntriesStand.{RowsStand, rows_stand, rows_same, rows_bytes, rows_turned}
 use Rattle.lib_os.proofs.Fences.{fence_below}
 use Rattle.lib_os.proofs.Forked.{child_slot, space_begun, next_id_names, next_id_small}
 use Rattle.lib_os.proofs.Logical.{clients_so, logical_live, logical_some, logical_alike}
@@ -39,7 +40,7 @@ use Rattle.lib_os.proofs.Numbered.{named_at}
 use Rattle.lib_os.proofs.Releasing.{row_entry}
 use Rattle.lib_os.proofs.Serving.{IsServed, served, library_moved, plain_copy, plain_upcall, words_of_none}
 use Rattle.lib_os.proofs.SlotsStand.{SeenAlike, slot_stands, born_stands, live_stands, ids_stand, born_live}
-use Rattle.lib_os.proofs.StatesStand.{slot_in_order, tabled_set, born_not_first, clients_live, beside_same, server_alike, server_same}
+use Rattle.lib_os.proofs.StatesStand.{slot_in_order, tabled_set, born_not_first, clients_live, server_alike, server_same}
 use Rattle.lib_os.proofs.WordsTell.{handler_runs, is_in_handler, place_at}
 use Rattle.jos_base.proofs.Maps.{upd-at, upd-other, upd-all, upd-both}
 
@@ -182,6 +183,7 @@ module _ {names : Names} {s : KernelState} {a : AbstractState} (h : StandsFor na
     rows = rows_kept d;
     bytes = λ p x is own_page. page_kept d p x is;
     named_so = λ p x is shared_page. refl;
+    devices = λ p x descriptor is shared_page. ap device_of (page_kept d p x is);
     regions = λ r. refl;
   }
 
@@ -337,7 +339,7 @@ module _ {names : Names} {s : KernelState} {a : AbstractState} (h : StandsFor na
           subst (λ (q : ℕ). logical sp slots_after q p ≡ logical s.spaces s.environments.slots q p) same here
       by_parent false test = by_child (grind (arith, nat_tests)) (j == m) refl
 
-  rows : RowsStand names sp.pages a.shared a.objects a.next_name (server_row s.spaces s.environments.slots) (logical sp slots_after)
+  rows : RowsStand names sp.pages a.shared (things_in s a) a.next_name (logical sp slots_after)
   rows =
       rows_same (logical s.spaces s.environments.slots) (logical sp slots_after) rows_count
       (rows_bytes sp.pages (λ j p x is.
@@ -450,21 +452,25 @@ module _ {names : Names} {s : KernelState} {a : AbstractState} (h : StandsFor na
     caller_is : slot_at mid n ≡ slot_at s n
     caller_is = upd-other s.environments.slots m child n (λ same. apart (sym same))
 
+    turned : RowsStand names sp.pages a.shared (things_in (with_slot_at mid n parent) a) a.next_name (logical sp slots_after)
+    turned = rows_turned (ap (λ (x : Slot). rows_of sp x.directory) server_here ∙ rows_kept (slot_at s 0).directory) rows
+
     stands_with : StandsFor names (with_slot_at mid n parent) forked
     stands_with = record {
       slots = slots_stand;
       children = record { borne = borne_still; have = have_still };
       apart = rows.apart;
-      named = rows.named;
+      named = turned.named;
       users = rows.users;
       whole = rows.whole;
-      beside = beside_same (ap (λ (x : Slot). rows_of sp x.directory) server_here ∙ rows_kept (slot_at s 0).directory) rows.beside;
+      beside = turned.beside;
       free_slots = record { same = refl; within = listed.1 };
       first =
           upd-other (upd a.slots m (unborn id b.id)) n (born bearer) 0 (born_not_first h n b v.is)
           ∙ upd-other a.slots m (unborn id b.id) 0 not_first
           ∙ h.first;
       server = server_same server_here (server_alike (seen (slot_at s 0).directory) h.server);
+      consoles = h.consoles;
       input = h.input;
       last = h.last;
       turns = h.turns;

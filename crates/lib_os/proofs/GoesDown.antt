@@ -26,9 +26,9 @@ use Rattle.lib_os.specs.Fence.{in_fence}
 use Rattle.lib_os.specs.InOrder.{IsInOrder}
 use Rattle.lib_os.specs.LibraryPages.{has_copy, has_working, is_library_region}
 use Rattle.lib_os.specs.Places.{place_of, words_at}
-use Rattle.lib_os.specs.Rows.{server_row, Names, EntryRow, counted, lasting, rows_of, logical, page_seen, is_descriptor, is_programs}
+use Rattle.lib_os.specs.Rows.{Names, EntryRow, counted, lasting, rows_of, logical, page_seen, is_descriptor, is_programs}
 use Rattle.lib_os.specs.StandsFor.{StandsFor, StandsForBorn, StandsAt, StandsAtStep, IsBearing, view_of, upcall_at}
-use Rattle.lib_os.specs.StandsFor.{borne_at, is_passed, has_stack, child_upcall, top_page}
+use Rattle.lib_os.specs.StandsFor.{borne_at, is_passed, has_stack, child_upcall, things_in, top_page}
 use Rattle.lib_os.proofs.Bearing.{IsBearer, IsChild, bearing_stands}
 use Rattle.lib_os.proofs.EntriesStand.{RowsStand, rows_same, rows_stand, seen_none}
 use Rattle.lib_os.proofs.Fences.{fence_below}
@@ -398,8 +398,7 @@ module _ {names : Names} {s : KernelState} {a : AbstractState} (h : StandsFor na
 
   module _ (sp : SpacesState) (others : (d : ℕ) → d ≢ parent.directory → d ≢ child.directory → SeenAlike names names s.spaces sp d)
       (mine : StandsForBorn names sp after v.b) (has : IsChild names sp parent v.b next child)
-      (rows : RowsStand names sp.pages a.shared a.objects a.next_name
-      (server_row s.spaces s.environments.slots) (logical sp (upd s.environments.slots n after)))
+      (rows : RowsStand names sp.pages a.shared (things_in s a) a.next_name (logical sp (upd s.environments.slots n after)))
       (in_order : IsInOrder (with_spaces s sp)) where
     back : with_slot_at (with_spaces s sp) (id % NENV) child ≡ with_spaces s sp
     back = slot_back (with_spaces s sp) (id % NENV) child refl
@@ -411,8 +410,7 @@ module _ {names : Names} {s : KernelState} {a : AbstractState} (h : StandsFor na
         (bearing_stands h n id at next v after child refl refl others
         (record { id = refl; env_type = refl; calm = λ runs. runs }) (record { id = refl; env_type = refl; calm = λ runs. runs })
         (moved_place parent at next v.place) bears mine v.child_own (child_still after refl refl has)
-        (subst (λ (slots : ℕ → Slot). RowsStand names sp.pages a.shared a.objects a.next_name
-        (server_row s.spaces s.environments.slots) (logical sp (upd slots n after)))
+        (subst (λ (slots : ℕ → Slot). RowsStand names sp.pages a.shared (things_in s a) a.next_name (logical sp (upd slots n after)))
         (sym (upd-back s.environments.slots (id % NENV) child refl)) rows)
         (subst (λ (t : KernelState). IsInOrder (with_slot_at t n after)) (sym back)
         (slot_in_order (with_spaces s sp) n after refl refl in_order)))
@@ -423,7 +421,13 @@ module _ {names : Names} {s : KernelState} {a : AbstractState} (h : StandsFor na
       StandsFor names (with_extra s n (words_at SERVICE_FORK next)) a
   bearing_words so has counts =
       bearing_moves s.spaces
-      (λ d ne apart. record { rows = refl; bytes = λ p x is own_page. refl; named_so = λ p x is shared_page. refl; regions = λ r. refl })
+      (λ d ne apart. record {
+        rows = refl;
+        bytes = λ p x is own_page. refl;
+        named_so = λ p x is shared_page. refl;
+        devices = λ p x descriptor is shared_page. refl;
+        regions = λ r. refl;
+      })
       (own_moved parent at next v.place v.own so) has
       (rows_same (logical s.spaces s.environments.slots) (logical s.spaces (upd s.environments.slots n after))
       (set_counts s n after refl refl counted_so) (rows_stand h)) h.in_order

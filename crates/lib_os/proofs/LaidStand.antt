@@ -12,13 +12,14 @@ use Rattle.jos_base.specs.SpacesState.{SpacesState, overlaid}
 use Rattle.jos_base.specs.SystemCalls.{has_write}
 use Rattle.jos_base.specs.Words.{upd}
 use Rattle.lib_os.specs.AbstractState.{AbstractState, Born, born}
+use Rattle.lib_os.specs.DescriptorPages.{device_of}
 use Rattle.lib_os.specs.Places.{place_of}
-use Rattle.lib_os.specs.Rows.{server_row, Names, Rows, rows_of, counted, logical, logical_by, is_clients, is_shared, IsPage}
-use Rattle.lib_os.specs.StandsFor.{StandsFor}
-use Rattle.lib_os.proofs.EntriesCount.{frames_apart}
+use Rattle.lib_os.specs.Rows.{Names, Rows, rows_of, counted, logical, logical_by, is_clients, is_descriptor, is_shared, IsPage}
+use Rattle.lib_os.specs.StandsFor.{StandsFor, things_in, view_of}
+use Rattle.lib_os.proofs.EntriesCount.{ServerLacks, frames_apart}
 use Rattle.lib_os.proofs.EntriesStand.{RowsStand, rows_same, same_sharing, other_frame, named_bytes}
 use Rattle.lib_os.proofs.Logical.{is_plain, logical_plain}
-use Rattle.lib_os.proofs.SlotsStand.{SeenAlike}
+use Rattle.lib_os.proofs.SlotsStand.{SameDevices, SeenAlike}
 use Rattle.lib_os.proofs.StatesStand.{CountsAlike, set_counts, clients_live}
 use Rattle.jos_base.proofs.Maps.{upd-at, upd-other}
 
@@ -77,9 +78,10 @@ module _ {names : Names} {s : KernelState} {a : AbstractState} {sp : SpacesState
   laid_beside q x ne hx own_too =
       bytes_kept x (other_frame before h.apart n p n q x e (λ same too. ne too) counts_here writes (own_counts q x hx) own_too)
 
-  own_elsewhere : (q r : ℕ) (x : Entry) → q ≢ d → rows_of s.spaces q r ≡ Some x → is_shared x.perm ≡ false → sp.pages x.frame ≡ s.spaces.pages x.frame
-  own_elsewhere q r x ne hx own_too =
-      bytes_kept x (frames_apart h n p e counts_here q r x hx (λ found.
+  own_elsewhere : ServerLacks s e.frame → (q r : ℕ) (x : Entry) → q ≢ d → rows_of s.spaces q r ≡ Some x → is_shared x.perm ≡ false →
+      sp.pages x.frame ≡ s.spaces.pages x.frame
+  own_elsewhere lacked q r x ne hx own_too =
+      bytes_kept x (frames_apart h e.frame lacked q r x hx (λ found.
       other_frame before h.apart n p found.slot found.page found.entry e
       (λ same too. ne (sym found.home ∙ ap (λ (m : ℕ). (slot_at s m).directory) same)) counts_here writes found.counts (found.sharing ∙ own_too)))
 
@@ -88,19 +90,35 @@ module _ {names : Names} {s : KernelState} {a : AbstractState} {sp : SpacesState
   shared_elsewhere m q x hx shared_page same =
       let contradiction : true ≡ false = sym shared_page ∙ same_sharing before h.apart m q n p x e hx counts_here same ∙ own_page in cc
 
-  -- nothing that is seen of other spaces differs
-  pub laid_others : (q : ℕ) → q ≢ d → SeenAlike names names s.spaces sp q
-  laid_others q ne = record {
+  -- what the pages of its own descriptors tell is the same
+  pub laid_devices : is_descriptor p ≡ false → SameDevices (view_of s.spaces d) (view_of sp d)
+  laid_devices none q x descriptor hx = ap device_of (by_sharing (is_shared x.perm) refl)
+    where
+      by_sharing : (c : Bool) → is_shared x.perm ≡ c → sp.pages x.frame ≡ s.spaces.pages x.frame
+      by_sharing true shared_page = bytes_kept x (shared_elsewhere n q x (own_counts q x hx) shared_page)
+      by_sharing false own_too =
+          laid_beside q x (λ same. let contradiction : true ≡ false = sym descriptor ∙ ap is_descriptor same ∙ none in cc) hx own_too
+
+  shared_kept : ServerLacks s e.frame → (q r : ℕ) (x : Entry) → rows_of s.spaces q r ≡ Some x → is_shared x.perm ≡ true →
+      sp.pages x.frame ≡ s.spaces.pages x.frame
+  shared_kept lacked q r x hx shared_too =
+      bytes_kept x (frames_apart h e.frame lacked q r x hx (λ found.
+      shared_elsewhere found.slot found.page found.entry found.counts (found.sharing ∙ shared_too)))
+
+  -- nothing that is seen of other spaces differs, where the file server lacks the frame
+  pub laid_others : ServerLacks s e.frame → (q : ℕ) → q ≢ d → SeenAlike names names s.spaces sp q
+  laid_others lacked q ne = record {
     rows = ap (λ (rows : Rows). rows q) laid.rows;
-    bytes = λ r x hx own_too. own_elsewhere q r x ne hx own_too;
+    bytes = λ r x hx own_too. own_elsewhere lacked q r x ne hx own_too;
     named_so = λ r x hx shared_page. refl;
+    devices = λ r x descriptor hx shared_too. ap device_of (shared_kept lacked q r x hx shared_too);
     regions = laid.regions q;
   }
 
   -- where its slot is another, in the same space, and its entries count as before, all is as it was of entries
   pub laid_rows : IsPage bytes → (k : Slot) → is_live k ≡ is_live (slot_at s n) → k.directory ≡ d →
       CountsAlike (place_of (slot_at s n)) (place_of k) →
-      RowsStand names sp.pages a.shared a.objects a.next_name (server_row s.spaces s.environments.slots) (logical sp (upd s.environments.slots n k))
+      RowsStand names sp.pages a.shared (things_in s a) a.next_name (logical sp (upd s.environments.slots n k))
   laid_rows page k live directory counts =
       rows_same before (logical sp (upd s.environments.slots n k))
       (λ m q. same_rows_count s.spaces sp laid.rows (upd s.environments.slots n k) m q ∙ set_counts s n k live directory counts m q)

@@ -362,7 +362,9 @@ module _ (l : Spaces) (pairs : List (ℕ × Pair)) (owner : ℕ → ℕ) (fit : 
       status = fit.server.waits;
       pages = λ p is. absurd (false≢true (sym (ap (λ (o : Option Entry). is_some o) (fit.server.empty p)) ∙ is));
       tables = λ r is. absurd (false≢true (sym (ap (λ (o : Option Region). is_some o) (fit.server.tables r)) ∙ is));
+      alone = λ j q x y below at there same. absurd (none-some y (sym (fit.server.empty q) ∙ there));
     };
+    consoles = λ name. refl;
     input = (refl, λ i. omega arith);
     last = refl;
     turns = refl;

@@ -28,7 +28,7 @@ use Rattle.lib_os.specs.Places.{place_of}
 use Rattle.lib_os.specs.Rows.{Names, EntryRow, IsNamed, rows_of, lasting, is_shared, may_write, page_by, page_seen, seen_where, is_programs}
 use Rattle.lib_os.specs.Rows.{descriptor_page, descriptor_perm, is_descriptor, name_of, shown_at}
 use Rattle.lib_os.specs.StandsFor.{StandsFor, StandsForSlot, StandsForBorn, StandsForServer, StandsForUnborn, IsBorne, is_passed, has_stack}
-use Rattle.lib_os.specs.StandsFor.{HasServer, is_servers_page, is_servers_region}
+use Rattle.lib_os.specs.StandsFor.{HasServer, is_servers_page, is_servers_region, things_in}
 use Rattle.std.proofs.lemmas.Bool.{false≢true}
 use Rattle.std.proofs.lemmas.Bool.Decides.{nat_tests}
 use Rattle.std.proofs.lemmas.Option.{none-some, same_Some}
@@ -569,7 +569,7 @@ module _ (names : Names) (s : KernelState) (a : AbstractState) (h : StandsFor na
     b : Born
     at : a.slots home ≡ born b
     has : Has b (names.name e.frame)
-    name : IsNamed names s.spaces.pages a.shared a.objects a.next_name p e.frame
+    name : IsNamed names s.spaces.pages a.shared (things_in s a) a.next_name p e.frame
 
   -- it has the page that stands in its memory
   page_had : (b : Born) (p m : ℕ) (writable : Bool) → p < page_limit → b.memory p ≡ Some (named m writable) → Has b m
@@ -620,10 +620,10 @@ module _ (names : Names) (s : KernelState) (a : AbstractState) (h : StandsFor na
   -- a shared page of an environment's space has its name, where it is not the copy that the handler of page faults makes
   its_name : (n p : ℕ) (e : Entry) (b : Born) → a.slots n ≡ born b → p ≢ page_number PFTEMP →
       rows_of s.spaces (slot n).directory p ≡ Some e → is_shared e.perm ≡ true →
-      IsNamed names s.spaces.pages a.shared a.objects a.next_name p e.frame
+      IsNamed names s.spaces.pages a.shared (things_in s a) a.next_name p e.frame
   its_name n p e b at beside stands shared = by_step (is_remapped (place_of (slot n)) p) refl
     where
-      by_step : (c : Bool) → is_remapped (place_of (slot n)) p ≡ c → IsNamed names s.spaces.pages a.shared a.objects a.next_name p e.frame
+      by_step : (c : Bool) → is_remapped (place_of (slot n)) p ≡ c → IsNamed names s.spaces.pages a.shared (things_in s a) a.next_name p e.frame
       by_step true twice =
           let it = remapped names s a n b h at p twice in
           let entry_is : it.entry ≡ e = same_Some it.entry e (sym it.stands ∙ stands) in

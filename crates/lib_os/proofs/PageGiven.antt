@@ -19,8 +19,8 @@ use Rattle.lib_os.specs.AbstractState.{AbstractState}
 use Rattle.lib_os.specs.InOrder.{IsInOrder}
 use Rattle.lib_os.specs.LibrarySteps.{KeepsStanding, Lowers, TakesAtMost, copies_left, copy_steps, hidden_left, left_at, service_answered}
 use Rattle.lib_os.specs.Places.{place_of}
-use Rattle.lib_os.specs.Rows.{server_row, Names, Rows, logical, rows_of}
-use Rattle.lib_os.specs.StandsFor.{HasPrinted, StandsFor, borne_in}
+use Rattle.lib_os.specs.Rows.{Names, Rows, logical, rows_of}
+use Rattle.lib_os.specs.StandsFor.{HasPrinted, StandsFor, borne_in, things_in}
 use Rattle.lib_os.specs.StandsInHandler.{IsAtGuest, wanted_of}
 use Rattle.lib_os.specs.UserCalls.{CallStep, giving, system}
 use Rattle.lib_os.proofs.Calls.{page_unmap_is}
@@ -100,8 +100,8 @@ module _ {names : Names} {s : KernelState} {a : AbstractState} {sp : SpacesState
     regions = λ q r ne. removed.regions q r;
   }
 
-  given_row : PutsRow names names s.spaces.pages a.shared sp.pages a.shared a.objects a.next_name a.next_name (server_row s.spaces s.environments.slots) (logical s.spaces s.environments.slots) n
-      working_page None
+  given_row : PutsRow names names s.spaces.pages a.shared sp.pages a.shared (things_in s a) a.next_name a.next_name
+      (logical s.spaces s.environments.slots) n working_page None
   given_row = record {
     bytes = bytes_elsewhere h n v.b v.is given_puts;
     agree = λ m q x e ne hx is same. absurd (none-some e is);

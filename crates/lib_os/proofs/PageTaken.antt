@@ -26,14 +26,15 @@ use Rattle.lib_os.specs.declared.progress.Progress.TheVariants as progress
 use Rattle.lib_os.specs.declared.service.Service.{Service}
 use Rattle.lib_os.specs.declared.service.Service.TheVariants as service
 use Rattle.lib_os.specs.AbstractState.{AbstractState, Born, born, entered}
+use Rattle.lib_os.specs.DescriptorPages.{device_of}
 use Rattle.lib_os.specs.Fence.{in_fence, is_resident}
 use Rattle.lib_os.specs.InOrder.{IsInOrder}
 use Rattle.lib_os.specs.LibraryPages.{IsOwnWritable, LibraryPages, has_working, is_library_region, region_index}
 use Rattle.lib_os.specs.LibrarySteps.{KeepsStanding, TakesAtMost, copies_left, is_to_copy, service_answered, steps_left}
 use Rattle.lib_os.specs.Places.{is_handlers, place_of, words_at}
-use Rattle.lib_os.specs.Rows.{server_row, IsPage, IsUsers, Names, Rows, descriptor_page, descriptor_seen, is_descriptor, is_programs, is_shared, logical}
+use Rattle.lib_os.specs.Rows.{IsPage, IsUsers, Names, Rows, descriptor_page, descriptor_seen, is_descriptor, is_programs, is_shared, logical}
 use Rattle.lib_os.specs.Rows.{is_clients, is_cow, lasting, page_by, page_seen, rows_of, seen_where, shown_at}
-use Rattle.lib_os.specs.StandsFor.{IsIn, IsTaking, StandsAt, StandsFor, StandsForBorn, borne_in, view_of}
+use Rattle.lib_os.specs.StandsFor.{IsIn, IsTaking, StandsAt, StandsFor, StandsForBorn, borne_in, things_in, view_of}
 use Rattle.lib_os.specs.StandsInHandler.{IsGiven, wanted_of}
 use Rattle.lib_os.specs.UserCalls.{CallStep, giving, system}
 use Rattle.lib_os.proofs.CallersStay.{alloc_answers}
@@ -230,8 +231,8 @@ module _ {names : Names} {s : KernelState} {a : AbstractState} {sp : SpacesState
     pub working_stands : regs.esp ≡ (slot_at s n).registers.esp → regs.eflags ≡ (slot_at s n).registers.eflags →
         (has_working after words ≡ true → IsOwnWritable (rows_of sp dir) working_page) → (has_working after words ≡ false → v ≡ None) →
         HasTables sp dir b.regions → StandsAt after (view_of sp dir) moved b →
-        PutsRow names names s.spaces.pages a.shared sp.pages a.shared a.objects a.next_name a.next_name (server_row s.spaces s.environments.slots) (logical s.spaces s.environments.slots) n
-        working_page v → IsInOrder (with_spaces s sp) → StandsFor names (with_slot_at (with_spaces s sp) n moved) a
+        PutsRow names names s.spaces.pages a.shared sp.pages a.shared (things_in s a) a.next_name a.next_name
+        (logical s.spaces s.environments.slots) n working_page v → IsInOrder (with_spaces s sp) → StandsFor names (with_slot_at (with_spaces s sp) n moved) a
     working_stands esp eflags working no_working tables at row in_order =
         subst (λ (x : AbstractState). StandsFor names (with_slot_at (with_spaces s sp) n moved) x) (born_back a n b is)
         (own_moves h n b is sp moved b a.shared a.next_name refl (record { id = refl; env_type = refl; calm = λ runs. runs }) unborne
@@ -309,7 +310,7 @@ module _ {names : Names} {s : KernelState} {a : AbstractState} {sp : SpacesState
   is_in : IsIn (slot_at s n) v.b (service.Write fd va len) entered
   is_in = let at = v.at in at.0
 
-  given : IsGiven (rows_of s.spaces d) fd va len
+  given : IsGiven (view_of s.spaces d) fd va len
   given = let at = v.at in at.1
 
   some : 0 < len
@@ -323,8 +324,8 @@ module _ {names : Names} {s : KernelState} {a : AbstractState} {sp : SpacesState
     regions = other_regions made.placed;
   }
 
-  taken_row : PutsRow names names s.spaces.pages a.shared sp.pages a.shared a.objects a.next_name a.next_name (server_row s.spaces s.environments.slots) (logical s.spaces s.environments.slots) n
-      working_page (Some new_entry)
+  taken_row : PutsRow names names s.spaces.pages a.shared sp.pages a.shared (things_in s a) a.next_name a.next_name
+      (logical s.spaces s.environments.slots) n working_page (Some new_entry)
   taken_row = record {
     bytes = bytes_elsewhere h n v.b v.is taken_puts;
     agree = λ m q x e ne hx is same.
@@ -333,7 +334,7 @@ module _ {names : Names} {s : KernelState} {a : AbstractState} {sp : SpacesState
     user = λ e is. subst (λ (y : Entry). IsUsers y.perm) (same_Some new_entry e is) working_user;
     whole = λ e is. subst (λ (y : Entry). IsPage (sp.pages y.frame)) (same_Some new_entry e is)
         (subst (λ (page : List ℕ). IsPage page) (sym made.zero) zero_page_whole);
-    beside = λ q e y is there same. made.new _ q y there (sym same ∙ ap (λ (z : Entry). z.frame) (sym (same_Some new_entry e is)));
+    beside = λ q e y is there same. absurd (made.new _ q y there (sym same ∙ ap (λ (z : Entry). z.frame) (sym (same_Some new_entry e is))));
     named_new = λ e is shared_page.
         let contradiction : false ≡ true = ap (λ (y : Entry). is_shared y.perm) (same_Some new_entry e is) ∙ shared_page in cc;
     named_old = λ m q x ne hx shared_page was.
@@ -373,8 +374,13 @@ module _ {names : Names} {s : KernelState} {a : AbstractState} {sp : SpacesState
       phase = is_in.phase;
       given = record {
         below = given.below;
-        stands = ap is_some (working_beside taken_puts (descriptor_page fd) (descriptor_beside (descriptor_page fd) (is_descriptors fd given.below)))
-            ∙ given.stands;
+        console = record {
+          entry = given.console.entry;
+          stands = working_beside taken_puts (descriptor_page fd) beside ∙ given.console.stands;
+          device =
+              ap device_of (taken_puts.bytes d (descriptor_page fd) given.console.entry (λ same too. beside too) given.console.stands)
+              ∙ given.console.device;
+        };
         buffer = given.buffer;
       };
       fewer = few;
@@ -385,6 +391,9 @@ module _ {names : Names} {s : KernelState} {a : AbstractState} {sp : SpacesState
     awake = is_in.awake;
   }
     where
+      beside : descriptor_page fd ≢ working_page
+      beside = descriptor_beside (descriptor_page fd) (is_descriptors fd given.below)
+
       few : 0 < wanted_of len
       few = let more = some in omega (arith, more)
 

@@ -12,17 +12,19 @@ use Rattle.jos_base.specs.Reach.{Entry}
 use Rattle.jos_base.specs.SpacesState.{SpacesState, put, zero_page}
 use Rattle.jos_base.specs.SystemCalls.{has_write}
 use Rattle.jos_base.specs.Words.{page_number, upd}
+use Rattle.lib_os.specs.declared.numbers.TheConstants.{REQUEST}
 use Rattle.lib_os.specs.AbstractState.{AbstractState, Born, Page, own, named, born, with_born}
 use Rattle.lib_os.specs.AbstractMemory.{page_at, with_page, without_page}
+use Rattle.lib_os.specs.DescriptorPages.{device_of}
 use Rattle.lib_os.specs.InOrder.{IsInOrder}
 use Rattle.lib_os.specs.LibraryPages.{is_library_region}
 use Rattle.lib_os.specs.Places.{place_of}
 use Rattle.lib_os.specs.Rows.{is_clients, server_row, Names, Rows, rows_of, logical, page_by, page_seen, is_programs, is_shared, is_cow, may_write}
-use Rattle.lib_os.specs.Rows.{Agree, IsUsers, IsNamed, IsPage, ShowsBy, is_descriptor}
-use Rattle.lib_os.specs.StandsFor.{StandsFor, StandsForBorn, view_of, borne_in}
+use Rattle.lib_os.specs.Rows.{Agree, IsUsers, IsNamed, IsPage, MayBeHad, ShowsBy, is_descriptor}
+use Rattle.lib_os.specs.StandsFor.{StandsFor, StandsForBorn, view_of, borne_in, things_in}
 use Rattle.lib_os.proofs.Effects.{Placed, Made, Given, Removed}
-use Rattle.lib_os.proofs.EntriesStand.{PutsRow, rows_put, rows_same, rows_stand, put_is, same_entry, shown_same, seen_own, seen_named, seen_by, seen_none}
-use Rattle.lib_os.proofs.EntriesStand.{named_at, named_bytes}
+use Rattle.lib_os.proofs.EntriesStand.{PutsRow, rows_put, rows_same, rows_stand, put_is, same_entry, shown_same, seen_own, seen_named, seen_by}
+use Rattle.lib_os.proofs.EntriesStand.{named_at, named_bytes, seen_none}
 use Rattle.lib_os.proofs.Logical.{is_plain, logical_some, logical_plain, logical_beside, logical_alike, programs_beside, StandsAs}
 use Rattle.lib_os.proofs.Logical.{plain_unborne, programs_no_descriptor, unborne_unremapped}
 use Rattle.lib_os.proofs.PageBytes.{zero_page_whole}
@@ -31,6 +33,18 @@ use Rattle.lib_os.proofs.SlotsStand.{born_at, live_stands}
 use Rattle.lib_os.proofs.StatesStand.{clients_live, directories_apart, space_moves}
 use Rattle.jos_base.proofs.Maps.{upd-at, upd-other, upd-true}
 use Rattle.jos_base.proofs.Puts.{Elsewhere, place_cases, put-at, put-other}
+
+-- ---- the file server's pages
+
+-- The file server has no page in the frame of one that a program has.
+pub programs_frame : {names : Names} {s : KernelState} {a : AbstractState} → StandsFor names s a → (n p q : ℕ) (x e : Entry) →
+    is_programs p ≡ true → logical s.spaces s.environments.slots n p ≡ Some x → server_row s.spaces s.environments.slots q ≡ Some e →
+    x.frame ≢ e.frame
+programs_frame h n p q x e inside counts there same = by_page (q == page_number REQUEST) (h.beside n p q x e counts there same)
+  where
+    by_page : (c : Bool) → MayBeHad c p x → ⊥
+    by_page true had = (programs_beside p inside).2 had.0
+    by_page false had = let contradiction : true ≡ false = sym had.descriptor ∙ programs_no_descriptor p inside in cc
 
 -- ---- in general
 
@@ -56,6 +70,7 @@ module _ {names after : Names} {s : KernelState} {a : AbstractState} {sp : Space
     rows = λ i. λ r. row_kept q r (λ same too. ne same) i;
     bytes = λ r x hx own_page. puts.bytes q r x (λ same too. ne same) hx;
     named_so = λ r x hx shared_page. puts.named_so q r x hx shared_page;
+    devices = λ r x descriptor hx shared_page. ap device_of (puts.bytes q r x (λ same too. ne same) hx);
     regions = λ r. puts.regions q r ne;
   }
 
@@ -107,7 +122,7 @@ module _ {names after : Names} {s : KernelState} {a : AbstractState} {sp : Space
 
   pub puts_stand : is_programs p ≡ true → (page : Option Page) → page ≡ page_seen after sp dir p →
       (regions : ℕ → Bool) → HasTables sp dir regions → (shared : ℕ → List ℕ) (next : ℕ) →
-      PutsRow names after s.spaces.pages a.shared sp.pages shared a.objects a.next_name next (server_row s.spaces s.environments.slots) (logical s.spaces s.environments.slots) n p v →
+      PutsRow names after s.spaces.pages a.shared sp.pages shared (things_in s a) a.next_name next (logical s.spaces s.environments.slots) n p v →
       minds_page (place_of (slot_at s n)) ≡ false → IsInOrder (with_spaces s sp) →
       StandsFor after (with_spaces s sp)
       (with_born (record a { shared = shared; next_name = next }) n (record b { memory = upd b.memory p page; regions = regions }))
@@ -197,10 +212,11 @@ module _ {names : Names} {s : KernelState} {a : AbstractState} {sp : SpacesState
 
   made_row : (after : Names) (named_so : (q r : ℕ) (x : Entry) → rows_of s.spaces q r ≡ Some x → is_shared x.perm ≡ true →
       after.name x.frame ≡ names.name x.frame) (shared : ℕ → List ℕ) (next : ℕ) →
-      (is_shared perm ≡ true → IsNamed after sp.pages shared a.objects next p made.frame) →
+      (is_shared perm ≡ true → IsNamed after sp.pages shared (things_in s a) next p made.frame) →
       ((q r : ℕ) (x : Entry) → rows_of s.spaces q r ≡ Some x → sp.pages x.frame ≡ s.spaces.pages x.frame →
-      IsNamed names s.spaces.pages a.shared a.objects a.next_name r x.frame → IsNamed after sp.pages shared a.objects next r x.frame) →
-      PutsRow names after s.spaces.pages a.shared sp.pages shared a.objects a.next_name next (server_row s.spaces s.environments.slots) (logical s.spaces s.environments.slots) n p (Some new_entry)
+      IsNamed names s.spaces.pages a.shared (things_in s a) a.next_name r x.frame → IsNamed after sp.pages shared (things_in s a) next r x.frame) →
+      PutsRow names after s.spaces.pages a.shared sp.pages shared (things_in s a) a.next_name next (logical s.spaces s.environments.slots) n p
+      (Some new_entry)
   made_row after named_so shared next new_named old_named = record {
     bytes = bytes_elsewhere h n b at (made_puts after named_so);
     agree = λ m q x e ne hx is same.
@@ -209,15 +225,15 @@ module _ {names : Names} {s : KernelState} {a : AbstractState} {sp : SpacesState
     user = λ e is. subst (λ (y : Entry). IsUsers y.perm) (same_Some new_entry e is) is_user;
     whole = λ e is. subst (λ (y : Entry). IsPage (sp.pages y.frame)) (same_Some new_entry e is)
         (subst (λ (l : List ℕ). IsPage l) (sym made.zero) zero_page_whole);
-    beside = λ q e y is there same. made.new _ q y there (sym same ∙ ap (λ (z : Entry). z.frame) (sym (same_Some new_entry e is)));
-    named_new = λ e is. subst (λ (y : Entry). is_shared y.perm ≡ true → IsNamed after sp.pages shared a.objects next p y.frame)
+    beside = λ q e y is there same. absurd (made.new _ q y there (sym same ∙ ap (λ (z : Entry). z.frame) (sym (same_Some new_entry e is))));
+    named_new = λ e is. subst (λ (y : Entry). is_shared y.perm ≡ true → IsNamed after sp.pages shared (things_in s a) next p y.frame)
         (same_Some new_entry e is) new_named;
     named_old = λ m q x ne hx shared_page was.
         let found = elsewhere h n b at (made_puts after named_so) m q x ne hx in
         let y = found.1.entry in
-        subst (λ (f : ℕ). IsNamed after sp.pages shared a.objects next q f) found.1.frame
+        subst (λ (f : ℕ). IsNamed after sp.pages shared (things_in s a) next q f) found.1.frame
         (old_named _ q y found.1.stands (old_bytes _ q y found.0 found.1.stands)
-        (subst (λ (f : ℕ). IsNamed names s.spaces.pages a.shared a.objects a.next_name q f) (sym found.1.frame) was));
+        (subst (λ (f : ℕ). IsNamed names s.spaces.pages a.shared (things_in s a) a.next_name q f) (sym found.1.frame) was));
   }
 
   tables_made : HasTables sp d (upd b.regions (p / NPTENTRIES) true)
@@ -268,37 +284,37 @@ module _ {names : Names} {s : KernelState} {a : AbstractState} {sp : SpacesState
       names_kept q r x hx shared_too = upd-other names.name made.frame a.next_name x.frame (made.new q r x hx)
 
       old_named : (r f : ℕ) → f ≢ made.frame → sp.pages f ≡ s.spaces.pages f →
-          IsNamed names s.spaces.pages a.shared a.objects a.next_name r f →
-          IsNamed names_after sp.pages (upd a.shared a.next_name zero_page) a.objects (a.next_name + 1) r f
+          IsNamed names s.spaces.pages a.shared (things_in s a) a.next_name r f →
+          IsNamed names_after sp.pages (upd a.shared a.next_name zero_page) (things_in s a) (a.next_name + 1) r f
       old_named r f ne bytes was =
           let name = names.name f in
           let other : name ≢ a.next_name = (let lower = was.old in omega arith) in
           let object : upd names.is_object a.next_name false name ≡ names.is_object name = upd-other names.is_object a.next_name false name other in
           let page : upd a.shared a.next_name zero_page name ≡ a.shared name = upd-other a.shared a.next_name zero_page name other in
-          let here : ShowsBy (names.is_object name) (a.shared name) (a.objects name) (sp.pages f) =
+          let here : ShowsBy (things_in s a) name f (names.is_object name) (a.shared name) (sp.pages f) =
           (named_bytes {after = sp.pages} (sym bytes) was).shows in
           let facts = subst (λ (m : ℕ). (names_after.frame m ≡ f) × (names_after.is_object m ≡ is_descriptor r)
-          × ShowsBy (names_after.is_object m) (upd a.shared a.next_name zero_page m) (a.objects m) (sp.pages f) × (m < a.next_name + 1))
+          × ShowsBy (things_in s a) m f (names_after.is_object m) (upd a.shared a.next_name zero_page m) (sp.pages f) × (m < a.next_name + 1))
           (sym (upd-other names.name made.frame a.next_name f ne)) (
             upd-other names.frame a.next_name made.frame name other ∙ was.home,
             object ∙ was.kind,
-            subst (λ (c : Bool). ShowsBy c (upd a.shared a.next_name zero_page name) (a.objects name) (sp.pages f)) (sym object)
-                (subst (λ (l : List ℕ). ShowsBy (names.is_object name) l (a.objects name) (sp.pages f)) (sym page) here),
+            subst (λ (c : Bool). ShowsBy (things_in s a) name f c (upd a.shared a.next_name zero_page name) (sp.pages f)) (sym object)
+                (subst (λ (l : List ℕ). ShowsBy (things_in s a) name f (names.is_object name) l (sp.pages f)) (sym page) here),
             (let lower = was.old in omega arith),
           ) in
           record { home = facts.0; kind = facts.1; shows = facts.2; old = facts.3 }
 
-      new_named : IsNamed names_after sp.pages (upd a.shared a.next_name zero_page) a.objects (a.next_name + 1) p made.frame
+      new_named : IsNamed names_after sp.pages (upd a.shared a.next_name zero_page) (things_in s a) (a.next_name + 1) p made.frame
       new_named =
           let name_is : upd names.name made.frame a.next_name made.frame ≡ a.next_name = upd-at names.name made.frame a.next_name in
           let object : upd names.is_object a.next_name false a.next_name ≡ false = upd-at names.is_object a.next_name false in
           record {
             home = ap (λ (m : ℕ). upd names.frame a.next_name made.frame m) name_is ∙ upd-at names.frame a.next_name made.frame;
             kind = ap (λ (m : ℕ). upd names.is_object a.next_name false m) name_is ∙ object ∙ sym (programs_no_descriptor p inside);
-            shows = subst (λ (m : ℕ). ShowsBy (upd names.is_object a.next_name false m) (upd a.shared a.next_name zero_page m) (a.objects m)
-                (sp.pages made.frame)) (sym name_is)
-                (subst (λ (c : Bool). ShowsBy c (upd a.shared a.next_name zero_page a.next_name) (a.objects a.next_name) (sp.pages made.frame))
-                (sym object) (upd-at a.shared a.next_name zero_page ∙ sym made.zero));
+            shows = subst (λ (m : ℕ). ShowsBy (things_in s a) m made.frame (upd names.is_object a.next_name false m)
+                (upd a.shared a.next_name zero_page m) (sp.pages made.frame)) (sym name_is)
+                (subst (λ (c : Bool). ShowsBy (things_in s a) a.next_name made.frame c (upd a.shared a.next_name zero_page a.next_name)
+                (sp.pages made.frame)) (sym object) (upd-at a.shared a.next_name zero_page ∙ sym made.zero));
             old = subst (λ (m : ℕ). m < a.next_name + 1) (sym name_is) (omega arith);
           }
 
@@ -371,8 +387,8 @@ module _ {names : Names} {s : KernelState} {a : AbstractState} {sp : SpacesState
     regions = other_regions given.placed;
   }
 
-  given_row : PutsRow names names s.spaces.pages a.shared sp.pages a.shared a.objects a.next_name a.next_name (server_row s.spaces s.environments.slots) (logical s.spaces s.environments.slots) m
-      (page_number va) (Some x)
+  given_row : PutsRow names names s.spaces.pages a.shared sp.pages a.shared (things_in s a) a.next_name a.next_name
+      (logical s.spaces s.environments.slots) m (page_number va) (Some x)
   given_row = record {
     bytes = bytes_elsewhere h m c target_at given_puts;
     agree = λ q r y e ne hy is same.
@@ -382,9 +398,10 @@ module _ {names : Names} {s : KernelState} {a : AbstractState} {sp : SpacesState
     user = λ e is. subst (λ (z : Entry). IsUsers z.perm) (same_Some x e is) (h.users n (page_number from) x counts_here);
     whole = λ e is. subst (λ (z : Entry). IsPage (sp.pages z.frame)) (same_Some x e is)
         (subst (λ (l : List ℕ). IsPage l) (sym given.same) (h.whole n (page_number from) x counts_here));
-    beside = λ q e y is there. subst (λ (z : Entry). z.frame ≢ y.frame) (same_Some x e is) (h.beside n (page_number from) q x y counts_here there);
+    beside = λ q e y is there same.
+        absurd (programs_frame h n (page_number from) q x y from_inside counts_here there (ap (λ (z : Entry). z.frame) (same_Some x e is) ∙ same));
     named_new = λ e is.
-        subst (λ (y : Entry). is_shared y.perm ≡ true → IsNamed names sp.pages a.shared a.objects a.next_name (page_number va) y.frame)
+        subst (λ (y : Entry). is_shared y.perm ≡ true → IsNamed names sp.pages a.shared (things_in s a) a.next_name (page_number va) y.frame)
         (same_Some x e is)
         (λ shared_page. named_bytes (sym given.same)
         (named_at (programs_no_descriptor (page_number va) inside ∙ sym (programs_no_descriptor (page_number from) from_inside))
@@ -431,8 +448,8 @@ module _ {names : Names} {s : KernelState} {a : AbstractState} {sp : SpacesState
     regions = λ q r ne. removed.regions q r;
   }
 
-  removed_row : PutsRow names names s.spaces.pages a.shared sp.pages a.shared a.objects a.next_name a.next_name (server_row s.spaces s.environments.slots) (logical s.spaces s.environments.slots) n
-      number None
+  removed_row : PutsRow names names s.spaces.pages a.shared sp.pages a.shared (things_in s a) a.next_name a.next_name
+      (logical s.spaces s.environments.slots) n number None
   removed_row = record {
     bytes = bytes_elsewhere h n b at removed_puts;
     agree = λ m q x e ne hx is same. absurd (none-some e is);

@@ -17,20 +17,21 @@ use Rattle.jos_base.specs.SpacesState.{SpacesState, inserted, put}
 use Rattle.jos_base.specs.SystemCalls.{call_of, answered_with, entry_at, inserted_at, page_map_of, shared_entry}
 use Rattle.jos_base.specs.SystemCalls.{is_page_address, is_page_perm, has_write}
 use Rattle.jos_base.specs.Words.{page_number, upd}
-use Rattle.lib_os.specs.declared.numbers.TheConstants.{SERVICE_FORK}
+use Rattle.lib_os.specs.declared.numbers.TheConstants.{REQUEST, SERVICE_FORK}
 use Rattle.lib_os.specs.declared.place.Place.{Place}
 use Rattle.lib_os.specs.declared.place.Place.TheVariants as place
 use Rattle.lib_os.specs.declared.place.Step.{Step}
 use Rattle.lib_os.specs.declared.place.Step.TheVariants as step
 use Rattle.lib_os.specs.declared.service.Service.TheVariants as service
-use Rattle.lib_os.specs.AbstractState.{AbstractState, AbstractSlot, Object, Page, own, unborn, serving, is_live}
+use Rattle.lib_os.specs.AbstractState.{AbstractState, AbstractSlot, Page, own, unborn, serving, is_live}
 use Rattle.lib_os.specs.AbstractMemory.{has_page_in}
+use Rattle.lib_os.specs.DescriptorPages.{Things, device_of}
 use Rattle.lib_os.specs.InOrder.{IsInOrder}
 use Rattle.lib_os.specs.LibraryPages.{is_library_region, region_index}
 use Rattle.lib_os.specs.Places.{place_in_words, place_of, words_at}
-use Rattle.lib_os.specs.Rows.{server_row, Agree, EntryRow, IsNamed, IsPage, IsUsers, Names, Rows, as_cow, counted, cow_perm, is_clients}
+use Rattle.lib_os.specs.Rows.{Agree, EntryRow, IsNamed, IsPage, IsUsers, MayBeHad, Names, Rows, as_cow, counted, cow_perm, is_clients}
 use Rattle.lib_os.specs.Rows.{is_cow, is_descriptor, is_programs, is_shared, lasting, logical, logical_by, may_write, page_by, page_seen, rows_of}
-use Rattle.lib_os.specs.StandsFor.{StandsFor, StandsAtStep, IsBearing, IsMapping, borne_at, view_of}
+use Rattle.lib_os.specs.StandsFor.{StandsFor, StandsAtStep, IsBearing, IsMapping, borne_at, things_in, view_of}
 use Rattle.lib_os.specs.UserCalls.{asking, called_by, system}
 use Rattle.lib_os.proofs.Bearing.{IsBearer, IsChild, parent_not_first, child_not_first}
 use Rattle.lib_os.proofs.Calls.{caller_is, made_is, made_step, system_is}
@@ -179,19 +180,27 @@ cow_agreed had own_page = record {
   read_only = λ is. ((had.read_only is).0, refl);
 }
 
+-- whether a page of the server's may be had by an entry is told by where it stands and whether it is shared
+had_so : (c : Bool) (p : ℕ) (x e : Entry) → is_shared e.perm ≡ is_shared x.perm → MayBeHad c p x → MayBeHad c p e
+had_so true p x e same had = (had.0, same ∙ had.1)
+had_so false p x e same had = record { descriptor = had.descriptor; shared = same ∙ had.shared }
+
 -- A page that stands somewhere gets an entry at the same number in some space, which agrees with all others of its frame.
-rows_given : {names : Names} {pages shared : ℕ → List ℕ} {objects : ℕ → Object} {next : ℕ} {server : EntryRow} {rows : Rows} →
-    RowsStand names pages shared objects next server rows → (n p m : ℕ) (x e : Entry) → rows n p ≡ Some x → x.frame ≡ e.frame → IsUsers e.perm →
-    (is_shared e.perm ≡ true → is_shared x.perm ≡ true) →
+rows_given : {names : Names} {pages shared : ℕ → List ℕ} {things : Things} {next : ℕ} {rows : Rows} →
+    RowsStand names pages shared things next rows → (n p m : ℕ) (x e : Entry) → rows n p ≡ Some x → x.frame ≡ e.frame → IsUsers e.perm →
+    is_shared e.perm ≡ is_shared x.perm →
     ((j r : ℕ) (y : Entry) → Elsewhere j r m p → rows j r ≡ Some y → y.frame ≡ e.frame → Agree y.perm e.perm) →
-    RowsStand names pages shared objects next server (put rows m p (Some e))
-rows_given {names = names} {pages = pages} {shared = shared} {objects = objects} {next = next} {server = server}
-    {rows = rows} h n p m x e stands frame is_user sharing agrees =
+    RowsStand names pages shared things next (put rows m p (Some e))
+rows_given {names = names} {pages = pages} {shared = shared} {things = things} {next = next} {rows = rows} h n p m x e stands frame is_user sharing
+    agrees =
     rows_put h puts
   where
-    puts : PutsRow names names pages shared pages shared objects next next server rows m p (Some e)
+    puts : PutsRow names names pages shared pages shared things next next rows m p (Some e)
     puts = record {
-      beside = λ q z y is at same. h.beside n p q x y stands at (frame ∙ ap (λ (w : Entry). w.frame) (same_Some e z is) ∙ same);
+      beside = λ q z y is at same.
+          let one : e ≡ z = same_Some e z is in
+          subst (λ (w : Entry). MayBeHad (q == page_number REQUEST) p w) one (had_so (q == page_number REQUEST) p x e sharing
+          (h.beside n p q x y stands at (frame ∙ ap (λ (w : Entry). w.frame) one ∙ same)));
       bytes = λ j r y ne hy. refl;
       agree = λ j r y z ne hy is same.
           let one : e ≡ z = same_Some e z is in
@@ -199,8 +208,8 @@ rows_given {names = names} {pages = pages} {shared = shared} {objects = objects}
       user = λ z is. subst (λ (w : Entry). IsUsers w.perm) (same_Some e z is) is_user;
       whole = λ z is. subst (λ (w : Entry). IsPage (pages w.frame)) (same_Some e z is)
           (subst (λ (f : ℕ). IsPage (pages f)) frame (h.whole n p x stands));
-      named_new = λ z is. subst (λ (w : Entry). is_shared w.perm ≡ true → IsNamed names pages shared objects next p w.frame) (same_Some e z is)
-          (λ shared_page. subst (λ (f : ℕ). IsNamed names pages shared objects next p f) frame (h.named n p x stands (sharing shared_page)));
+      named_new = λ z is. subst (λ (w : Entry). is_shared w.perm ≡ true → IsNamed names pages shared things next p w.frame) (same_Some e z is)
+          (λ shared_page. subst (λ (f : ℕ). IsNamed names pages shared things next p f) frame (h.named n p x stands (sym sharing ∙ shared_page)));
       named_old = λ j r y ne hy shared_page was. was;
     }
 
@@ -374,6 +383,7 @@ module _ {names : Names} {s : KernelState} {a : AbstractState} (h : StandsFor na
       rows = λ i. λ r. kept q r (λ same too. ne same) i;
       bytes = λ r x hx own_page. bytes_kept q r x hx;
       named_so = λ r x hx shared_page. refl;
+      devices = λ r x descriptor hx shared_page. ap device_of (bytes_kept q r x hx);
       regions = λ r. other_regions given.placed q r ne;
     }
 
@@ -529,7 +539,7 @@ module _ {names : Names} {s : KernelState} {a : AbstractState} (h : StandsFor na
         let found = (logical_some s.spaces s.environments.slots q r x hx).1 in
         subst (λ (f : ℕ). sp.pages f ≡ s.spaces.pages f) found.frame (bytes_kept (slot_at s q).directory r found.entry found.stands)
 
-    rows_before : RowsStand names sp.pages a.shared a.objects a.next_name (server_row s.spaces s.environments.slots) before
+    rows_before : RowsStand names sp.pages a.shared (things_in s a) a.next_name before
     rows_before = rows_bytes sp.pages bytes_counted (rows_stand h)
 
     child_counts : (next : Step) → after next m page ≡ Some passed_on
@@ -557,16 +567,14 @@ module _ {names : Names} {s : KernelState} {a : AbstractState} (h : StandsFor na
               })
           by_place (inr ne) = agreed q r x ne hx same
 
-      rows_kept : RowsStand names sp.pages a.shared a.objects a.next_name
-          (server_row s.spaces s.environments.slots) (put before m page (Some passed_on))
+      rows_kept : RowsStand names sp.pages a.shared (things_in s a) a.next_name (put before m page (Some passed_on))
       rows_kept =
-          subst (λ (e : Entry). RowsStand names sp.pages a.shared a.objects a.next_name
-          (server_row s.spaces s.environments.slots) (put before m page (Some e))) (sym (kept_entry is))
-          (rows_given rows_before n page m mapping.entry mapping.entry entry_counts refl user (λ shared_page. shared_page)
+          subst (λ (e : Entry). RowsStand names sp.pages a.shared (things_in s a) a.next_name (put before m page (Some e))) (sym (kept_entry is))
+          (rows_given rows_before n page m mapping.entry mapping.entry entry_counts refl user refl
           (λ q r x ne hx same. all_agree q r x hx same))
 
       rows_below : (next : Step) → ((row : EntryRow) (p : ℕ) → counted (place.InService service.Fork next) row p ≡ row p) →
-          RowsStand names sp.pages a.shared a.objects a.next_name (server_row s.spaces s.environments.slots) (after next)
+          RowsStand names sp.pages a.shared (things_in s a) a.next_name (after next)
       rows_below next plain =
           rows_same (put before m page (Some passed_on)) (after next)
           (put_is before (after next) m page (Some passed_on) (child_counts next)
@@ -589,10 +597,9 @@ module _ {names : Names} {s : KernelState} {a : AbstractState} (h : StandsFor na
       abbrev parent_copied : Rows
       parent_copied = put before n page (Some copied_entry)
 
-      rows_parent : RowsStand names sp.pages a.shared a.objects a.next_name (server_row s.spaces s.environments.slots) parent_copied
+      rows_parent : RowsStand names sp.pages a.shared (things_in s a) a.next_name parent_copied
       rows_parent =
-          rows_given rows_before n page n mapping.entry copied_entry entry_counts refl cow_user
-          (λ shared_page. absurd (let contradiction : false ≡ true = shared_page in cc))
+          rows_given rows_before n page n mapping.entry copied_entry entry_counts refl cow_user (sym own_writable.0)
           (λ q r x ne hx same. cow_agreed (agreed q r x ne hx same) own_writable.0)
 
       parent_agrees : (q r : ℕ) (x : Entry) → parent_copied q r ≡ Some x → x.frame ≡ mapping.entry.frame → Agree x.perm cow_perm
@@ -601,13 +608,11 @@ module _ {names : Names} {s : KernelState} {a : AbstractState} (h : StandsFor na
         | inr there ↦ cow_agreed (agreed q r x there.0 there.1 same) own_writable.0
       ]
 
-      rows_both : RowsStand names sp.pages a.shared a.objects a.next_name
-          (server_row s.spaces s.environments.slots) (put parent_copied m page (Some passed_on))
+      rows_both : RowsStand names sp.pages a.shared (things_in s a) a.next_name (put parent_copied m page (Some passed_on))
       rows_both =
-          subst (λ (e : Entry). RowsStand names sp.pages a.shared a.objects a.next_name
-          (server_row s.spaces s.environments.slots) (put parent_copied m page (Some e))) (sym cow_entry)
+          subst (λ (e : Entry). RowsStand names sp.pages a.shared (things_in s a) a.next_name (put parent_copied m page (Some e))) (sym cow_entry)
           (rows_given rows_parent n page m copied_entry copied_entry (put-at before n page (Some copied_entry)) refl cow_user
-          (λ shared_page. shared_page) (λ q r x ne hx same. parent_agrees q r x hx same))
+          refl (λ q r x ne hx same. parent_agrees q r x hx same))
 
       parent_counts : (p : ℕ) → after (step.Remap id page) n p ≡ parent_copied n p
       parent_counts p = counts_after (step.Remap id page) p ∙ remapped_counts id page (rows_of s.spaces d) p ∙ by_page (p == page) refl
@@ -625,7 +630,7 @@ module _ {names : Names} {s : KernelState} {a : AbstractState} (h : StandsFor na
               let other : p ≢ page = grind (arith, nat_tests) in
               sym (counts_before p) ∙ sym (put-other before n page (Some copied_entry) n p (λ same. other))
 
-      rows_remap : RowsStand names sp.pages a.shared a.objects a.next_name (server_row s.spaces s.environments.slots) (after (step.Remap id page))
+      rows_remap : RowsStand names sp.pages a.shared (things_in s a) a.next_name (after (step.Remap id page))
       rows_remap =
           rows_same (put parent_copied m page (Some passed_on)) (after (step.Remap id page))
           (put_is parent_copied (after (step.Remap id page)) m page (Some passed_on) (child_counts (step.Remap id page))
@@ -642,7 +647,7 @@ module _ {names : Names} {s : KernelState} {a : AbstractState} (h : StandsFor na
 
       stands_at : (next : Step) → borne_at next ≡ Some id → StandsAtStep (view_of sp d) (moved (slot_at s n) next) v.b service.Fork next →
           IsChild names sp (slot_at s n) v.b next (slot_at s m) →
-          RowsStand names sp.pages a.shared a.objects a.next_name (server_row s.spaces s.environments.slots) (after next) →
+          RowsStand names sp.pages a.shared (things_in s a) a.next_name (after next) →
           StandsFor names (with_extra (with_spaces s sp) n (words_at SERVICE_FORK next)) a
       stands_at next bears so has rows =
           bearing_moves h n id (step.MapChild id page perm) next v bears sp (λ q ne apart. seen_beside q apart)

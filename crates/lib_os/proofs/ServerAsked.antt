@@ -179,7 +179,7 @@ module _ {names : Names} {s : KernelState} {a : AbstractState} (h : StandsFor na
       }
 
   told_has : HasServer s.spaces told a.opened a.files.blocks (with_request a n).server
-  told_has = record { status = (tt, refl); pages = h.server.pages; tables = h.server.tables }
+  told_has = record { status = (tt, refl); pages = h.server.pages; tables = h.server.tables; alone = h.server.alone }
 
   -- the word has come to the server
   pub request_stands : StandsFor names (server_asked s n) (with_request a n)
@@ -304,7 +304,7 @@ module _ (s : KernelState) (n id : ℕ) (stands : place_of (slot_at s n) ≡ pla
           }))
       by_outcome (waits not_idle call_is) =
           subst (λ (t : KernelState). LeavesOrAsks n s t) (sym (came_to s (negated E_IPC_NOT_RECV) call_is))
-          (left_alone (record { slot = refl; entries = λ p. refl; regions = λ r. refl; pages = λ p e is. refl }))
+          (left_alone (record { slot = refl; entries = λ p. refl; regions = λ r. refl; pages = λ p e is lacks. refl }))
 
   -- no page passes
   pub asking_copies : KeepsCopies n s mid

@@ -1,10 +1,9 @@
 -- What a step of the library leaves to the file server, by the call that it makes: its slot, the entries and regions of its space, and the
--- bytes of its pages. No environment but itself may change it, and none has a page of it.
+-- bytes of its pages which the caller has not. No environment but itself may change it, and one writes pages of its own alone.
 use Rattle.std.proofs.Common.{◌≡◌, ◌≢◌, ◌∙◌, ◌==◌, ◌%◌, ◌+◌, ◌&&◌, ◌||◌, ◌⊎◌, inl, inr, ℕ, Bool, true, false, not, List, [], ◌∷◌, refl, sym, ap}
 use Rattle.std.proofs.Common.{Option, Some, None, Result, Ok, Err, IfSome, subst, arith, if◌then◌else◌}
 use Rattle.std.specs.Prelude.{nat_lt, get_or}
 use Rattle.std.specs.Int.{w32, to_le_bytes}
-use Rattle.std.specs.Option.{option_map}
 use Rattle.std.proofs.lemmas.Bool.{and_parts, or_parts, or_right}
 use Rattle.std.proofs.lemmas.Bool.Decides.{nat_tests}
 use Rattle.std.proofs.lemmas.Option.{same_Some}
@@ -42,17 +41,16 @@ use Rattle.jos_base.specs.Words.{page_number, upd}
 use Rattle.lib_os.specs.AbstractState.{AbstractState, AbstractSlot}
 use Rattle.lib_os.specs.InOrder.{HasOneUse, IsInOrder, AreFree}
 use Rattle.lib_os.specs.LibrarySteps.{Stands, KeepsServer, LeavesOrAsks, asked_it, left_alone}
-use Rattle.lib_os.specs.Rows.{Names, rows_of, lasting}
+use Rattle.lib_os.specs.Rows.{Names}
 use Rattle.lib_os.specs.StandsFor.{StandsFor, StandsForSlot, StandsForServer}
 use Rattle.lib_os.specs.UserCalls.{CallStep, giving, accessing, by_access, faulting, user_byte, user_word, with_user_byte, with_user_word}
 use Rattle.lib_os.specs.UserCalls.{got, with_bytes_put, load, load_byte, store, store_byte, exchange, restored, restore_frame, asking, sets_own, system}
-use Rattle.lib_os.proofs.EntriesCount.{entry_counts}
 use Rattle.lib_os.proofs.Forked.{given, slot_was_free}
 use Rattle.lib_os.proofs.OthersKept.{NextIsFree, sets_others}
 use Rattle.lib_os.proofs.Slots.{slot_kept, slots_alike}
-use Rattle.lib_os.proofs.SpacesLeft.{SpaceLeft, IsNoPage, IsBesidePages, free_is_none, same_left, bytes_left, unmapped_left, inserted_left}
-use Rattle.lib_os.proofs.SpacesLeft.{allocated_left, touched_left, all_touched_left, destroyed_left, touched_beside, stored_left, stored_beside}
-use Rattle.lib_os.proofs.SpacesLeft.{written_none}
+use Rattle.lib_os.proofs.SpacesLeft.{SpaceLeft, IsNoPage, IsBesidePages, begins_beside, free_is_none, same_left, bytes_left, unmapped_left}
+use Rattle.lib_os.proofs.SpacesLeft.{inserted_left, allocated_left, touched_left, all_touched_left, destroyed_left, touched_beside, stored_left}
+use Rattle.lib_os.proofs.SpacesLeft.{stored_beside, written_none}
 use Rattle.lib_os.proofs.StatesStand.{slot_was_in_order}
 use Rattle.lib_os.proofs.UsesCalled.{found_lives}
 use Rattle.jos_base.proofs.Maps.{upd-at, upd-other}
@@ -60,8 +58,7 @@ use Rattle.jos_base.proofs.Uses.{directory_is}
 
 -- ---- what is known of the one that calls
 
--- The caller is not the file server, whose space this is, and may not change it; each other environment has another space, and none of the
--- caller's pages is one of the file server's.
+-- The caller is not the file server, whose space this is, and may not change it; each other environment has another space.
 pub record IsAside (d : ℕ) (s : KernelState) (n : ℕ) : Type 0 where
   pub frames : HasOneUse s.spaces
   pub other : n ≢ 0
@@ -71,12 +68,10 @@ pub record IsAside (d : ℕ) (s : KernelState) (n : ℕ) : Type 0 where
   pub no_child : (slot_at s 0).parent ≢ (slot_at s n).id
   pub homes : (m : ℕ) → m ≢ 0 → is_live (slot_at s m) ≡ true →
       ((slot_at s m).directory ≢ d) × (s.spaces.uses (slot_at s m).directory ≡ directory)
-  pub pages : (p : ℕ) (e : Entry) → s.spaces.entries (slot_at s n).directory p ≡ Some e → IsNoPage d s.spaces e.frame
 
 -- wherever the state stands for an abstract one
 pub aside_where : {names : Names} {s : KernelState} {a : AbstractState} → StandsFor names s a → (n : ℕ) → n ≢ 0 → is_live (slot_at s n) ≡ true →
     IsAside (slot_at s 0).directory s n
-unfolding rows_of
 aside_where {names = names} {s = s} {a = a} h n other live = record {
   frames = h.in_order.frames;
   other = other;
@@ -91,10 +86,6 @@ aside_where {names = names} {s = s} {a = a} h n other live = record {
     apart m ne lives,
     directory_is (s.spaces.uses (slot_at s m).directory) (h.in_order.spaces.in_use m lives),
   );
-  pages = λ p e is q x stands same.
-      let c = entry_counts h (slot_at s n).directory p (lasting e) (apart n other live) (ap (λ (o : Option Entry). option_map lasting o) is) in
-      h.beside c.slot c.page q c.entry (lasting x) c.counts (ap (λ (o : Option Entry). option_map lasting o) stands)
-      (c.frame ∙ sym same);
 }
   where
     k : StandsForServer (slot_at s 0) FIRST_ENV_ID
@@ -117,7 +108,6 @@ aside_asked d s n q h = record {
         λ same. it.0 (sym (slots_alike s n (λ (x : Slot). x.directory) slot refl m) ∙ same),
         ap s.spaces.uses (slots_alike s n (λ (x : Slot). x.directory) slot refl m) ∙ it.1,
       );
-  pages = λ p e is. h.pages p e (ap (λ (b : ℕ). s.spaces.entries b p) (sym (slots_alike s n (λ (x : Slot). x.directory) slot refl n)) ∙ is);
 }
   where
     slot : Slot
@@ -125,12 +115,12 @@ aside_asked d s n q h = record {
 
 -- ---- what is left
 
-pub record ServerStays (d : ℕ) (s t : KernelState) : Type 0 where
+pub record ServerStays (d n : ℕ) (s t : KernelState) : Type 0 where
   pub slot : slot_at t 0 ≡ slot_at s 0
-  pub space : SpaceLeft d s.spaces t.spaces
+  pub space : SpaceLeft (slot_at s n).directory d s.spaces t.spaces
 
 -- it is left wherever the state stands for an abstract one
-pub keeps_server : (s t : KernelState) (n : ℕ) → (IsInOrder t → (d : ℕ) → IsAside d s n → ServerStays d s t) → KeepsServer n s t
+pub keeps_server : (s t : KernelState) (n : ℕ) → (IsInOrder t → (d : ℕ) → IsAside d s n → ServerStays d n s t) → KeepsServer n s t
 keeps_server s t n left then_so other live a h =
     let it = left then_so (slot_at s 0).directory (aside_where h.1 n other live) in
     left_alone (record { slot = it.slot; entries = it.space.entries; regions = it.space.regions; pages = it.space.pages })
@@ -150,35 +140,35 @@ sent_aside args other =
     (let off : (get_or args 0 0 == FIRST_ENV_ID) ≡ false = grind (arith, nat_tests) in ap not off)
 
 module _ (d : ℕ) (s : KernelState) (n : ℕ) (h : IsAside d s n) where
+  abbrev home : ℕ
+  home = (slot_at s n).directory
+
   -- the state that comes of what is done
   abbrev Left : KernelState → Type 0
-  Left t = ServerStays d s t
+  Left t = ServerStays d n s t
 
   abbrev LeftBy : Did → Type 0
-  LeftBy did = ServerStays d s did.state
+  LeftBy did = ServerStays d n s did.state
 
   by_case : (test : Bool) (a b : Did) → (test ≡ true → LeftBy a) → (test ≡ false → LeftBy b) → LeftBy (if test then a else b)
   by_case true a b first second = first refl
   by_case false a b first second = second refl
 
-  home : ℕ
-  home = (slot_at s n).directory
-
-  home_apart : (slot_at s n).directory ≢ d
+  home_apart : home ≢ d
   home_apart = let it = h.homes n h.other h.live in it.0
 
-  beside : IsBesidePages d s.spaces h.frames (slot_at s n).directory home_apart s.spaces
-  beside = record { none = h.pages }
+  beside : IsBesidePages home d s.spaces h.frames s.spaces
+  beside = begins_beside home d s.spaces h.frames
 
   -- ---- changes of the state
 
-  still : SpaceLeft d s.spaces s.spaces
-  still = same_left d s.spaces h.frames
+  still : SpaceLeft home d s.spaces s.spaces
+  still = same_left home d s.spaces h.frames
 
   stays_so : Left s
   stays_so = record { slot = refl; space = still }
 
-  spaces_stay : (t : SpacesState) → SpaceLeft d s.spaces t → Left (with_spaces s t)
+  spaces_stay : (t : SpacesState) → SpaceLeft home d s.spaces t → Left (with_spaces s t)
   spaces_stay t k = record { slot = refl; space = k }
 
   put_stays : (t : KernelState) → Left t → (k : ℕ) (slot : Slot) → k ≢ 0 → Left (with_slot_at t k slot)
@@ -198,7 +188,7 @@ module _ (d : ℕ) (s : KernelState) (n : ℕ) (h : IsAside d s n) where
       let it = h.homes target ne lives in
       record {
         slot = upd-other s.environments.slots target (free_slot (slot_at s target).id) 0 (λ same. ne (sym same));
-        space = destroyed_left d s.spaces h.frames (slot_at s target).directory it.0 it.1;
+        space = destroyed_left home d s.spaces h.frames (slot_at s target).directory it.0 it.1;
       }
 
   killed_stays : (line : Line) → LeftBy (killed s n line)
@@ -267,7 +257,7 @@ module _ (d : ℕ) (s : KernelState) (n : ℕ) (h : IsAside d s n) where
   reached_stays : (va len : ℕ) → Left (with_bytes_reached s n va len)
   reached_stays va len =
       spaces_stay (all_touched s.spaces (slot_at s n).directory va len)
-      (all_touched_left d s.spaces h.frames (slot_at s n).directory home_apart s.spaces va len still)
+      (all_touched_left home d s.spaces h.frames home home_apart s.spaces va len still)
 
   cputs_stays_of : (va len : ℕ) (bytes : Result (List ℕ) PageFault) → LeftBy (cputs_of s n va len bytes)
   cputs_stays_of va len (Ok bytes) =
@@ -310,7 +300,7 @@ module _ (d : ℕ) (s : KernelState) (n : ℕ) (h : IsAside d s n) where
             spaces = record s.spaces { uses = upd s.spaces.uses frame directory; free = rest; pages = upd s.spaces.pages frame [] };
           } in
           let listed = subst (λ (l : List ℕ). AreFree s.spaces.uses l) frames_are h.frames.free_list in
-          let space = bytes_left d s.spaces h.frames s.spaces frame [] (free_is_none d s.spaces h.frames frame listed.0) still in
+          let space = bytes_left home d s.spaces h.frames s.spaces frame [] (free_is_none home d s.spaces h.frames frame listed.0) still in
           let made : Left t = record {
             slot = upd-other s.environments.slots child slot 0 (λ same. other (sym same));
             space = record { entries = space.entries; regions = space.regions; pages = space.pages };
@@ -327,15 +317,15 @@ module _ (d : ℕ) (s : KernelState) (n : ℕ) (h : IsAside d s n) where
       let it = is target refl in
       told_stays (with_status s target status) (put_stays s stays_so target (record (slot_at s target) { status = status }) it.0) 0
 
-  with_stays : (o : Option SpacesState) → ((t : SpacesState) → o ≡ Some t → SpaceLeft d s.spaces t) → LeftBy (answered_with s n o)
+  with_stays : (o : Option SpacesState) → ((t : SpacesState) → o ≡ Some t → SpaceLeft home d s.spaces t) → LeftBy (answered_with s n o)
   with_stays None so = told_stays (with_refusal s) refusal_stays _
   with_stays (Some spaces) so = told_stays (with_spaces s spaces) (spaces_stay spaces (so spaces refl)) 0
 
   inserted_stays : (target va : ℕ) (e : Entry) (t : SpacesState) → target ≢ 0 → is_live (slot_at s target) ≡ true →
-      inserted_at s target va e ≡ Some t → SpaceLeft d s.spaces t
+      inserted_at s target va e ≡ Some t → SpaceLeft home d s.spaces t
   inserted_stays target va e t ne lives is =
       let it = h.homes target ne lives in
-      inserted_left d s.spaces h.frames (slot_at s target).directory it.0 t (page_number va) e is
+      inserted_left home d s.spaces h.frames (slot_at s target).directory it.0 t (page_number va) e is
 
   page_alloc_stays : (o : Option ℕ) (va perm : ℕ) → IsTarget o → LeftBy (page_alloc_of s n o va perm)
   page_alloc_stays None va perm is = refused_stays BadEnv
@@ -351,7 +341,7 @@ module _ (d : ℕ) (s : KernelState) (n : ℕ) (h : IsAside d s n) where
           let to = is target refl in
           let it = h.homes target to.0 to.1 in
           told_stays (with_spaces s made.1)
-          (spaces_stay made.1 (allocated_left d s.spaces h.frames (slot_at s target).directory it.0 (page_number va) perm made at)) 0
+          (spaces_stay made.1 (allocated_left home d s.spaces h.frames (slot_at s target).directory it.0 (page_number va) perm made at)) 0
 
   page_map_stays : (source : Option ℕ) (source_va : ℕ) (o : Option ℕ) (va perm : ℕ) → IsTarget o →
       LeftBy (page_map_of s n source source_va o va perm)
@@ -374,7 +364,7 @@ module _ (d : ℕ) (s : KernelState) (n : ℕ) (h : IsAside d s n) where
       let it = h.homes target to.0 to.1 in
       by_case (not (is_page_address va)) _ _ (λ e. refused_stays Invalid)
       (λ e. told_stays (with_spaces s (unmapped s.spaces (slot_at s target).directory (page_number va)))
-      (spaces_stay _ (unmapped_left d s.spaces h.frames (slot_at s target).directory it.0 s.spaces (page_number va) still)) 0)
+      (spaces_stay _ (unmapped_left home d s.spaces h.frames (slot_at s target).directory it.0 s.spaces (page_number va) still)) 0)
 
   trapframe_stays : (o : Option ℕ) (va : ℕ) → IsTarget o → LeftBy (env_set_trapframe_of s n o va)
   trapframe_stays None va is = refused_stays BadEnv
@@ -413,8 +403,8 @@ module _ (d : ℕ) (s : KernelState) (n : ℕ) (h : IsAside d s n) where
       put_stays woken (put_stays t it target (record (slot_at t target) { rendezvous = r }) ne) target
       (with_answer (record (slot_at woken target) { status = Runnable }) 0) ne
 
-  sent_stays_with : (target value perm : ℕ) (o : Option SpacesState) → target ≢ 0 → ((t : SpacesState) → o ≡ Some t → SpaceLeft d s.spaces t) →
-      LeftBy (sent_with s n target value perm o)
+  sent_stays_with : (target value perm : ℕ) (o : Option SpacesState) → target ≢ 0 →
+      ((t : SpacesState) → o ≡ Some t → SpaceLeft home d s.spaces t) → LeftBy (sent_with s n target value perm o)
   sent_stays_with target value perm None ne so = told_stays (with_refusal s) refusal_stays _
   sent_stays_with target value perm (Some spaces) ne so =
       told_stays (message_taken (with_spaces s spaces) n target value perm)
@@ -495,8 +485,8 @@ module _ (d : ℕ) (s : KernelState) (n : ℕ) (h : IsAside d s n) where
       let k = slot_at s n in
       let t = touched s.spaces k.directory place Write in
       let bytes = overlaid (t.pages at.frame) at.offset (frame_bytes fault k.registers) in
-      let space = bytes_left d s.spaces h.frames t at.frame bytes (written_none d s.spaces h.frames k.directory home_apart s.spaces place at beside is)
-      (touched_left d s.spaces h.frames k.directory home_apart s.spaces place Write still) in
+      let space = bytes_left home d s.spaces h.frames t at.frame bytes (written_none home d s.spaces h.frames s.spaces place at beside is)
+      (touched_left home d s.spaces h.frames home home_apart s.spaces place Write still) in
       let moved = put_stays s stays_so n (record k { registers = record k.registers { esp = place; eip = k.upcall } }) h.other in
       record { slot = moved.slot; space = record { entries = space.entries; regions = space.regions; pages = space.pages } }
 
@@ -517,8 +507,8 @@ module _ (d : ℕ) (s : KernelState) (n : ℕ) (h : IsAside d s n) where
   record Writes (k : KernelState) : Type 0 where
     slot : slot_at k 0 ≡ slot_at s 0
     own : (slot_at k n).directory ≡ (slot_at s n).directory
-    space : SpaceLeft d s.spaces k.spaces
-    pages : IsBesidePages d s.spaces h.frames (slot_at s n).directory home_apart k.spaces
+    space : SpaceLeft home d s.spaces k.spaces
+    pages : IsBesidePages home d s.spaces h.frames k.spaces
 
   -- an access, by what is done in the state in which it has set its bits
   access_stays : {X : Type 0} (va : ℕ) (a : Access) (done : KernelState → CallStep X) →
@@ -530,8 +520,8 @@ module _ (d : ℕ) (s : KernelState) (n : ℕ) (h : IsAside d s n) where
           stays (with_spaces s (touched s.spaces (slot_at s n).directory va a)) (record {
             slot = refl;
             own = refl;
-            space = touched_left d s.spaces h.frames (slot_at s n).directory home_apart s.spaces va a still;
-            pages = touched_beside d s.spaces h.frames (slot_at s n).directory home_apart s.spaces va a beside;
+            space = touched_left home d s.spaces h.frames home home_apart s.spaces va a still;
+            pages = touched_beside home d s.spaces h.frames s.spaces va a beside;
           })
       by_reach (Err fault) = fault_stays _ fault (handled s n fault) (handled_server fault)
 
@@ -539,10 +529,10 @@ module _ (d : ℕ) (s : KernelState) (n : ℕ) (h : IsAside d s n) where
   byte_put k va byte w = record {
     slot = w.slot;
     own = w.own;
-    space = subst (λ (q : ℕ). SpaceLeft d s.spaces (stored_byte k.spaces q va byte)) (sym w.own)
-        (stored_left d s.spaces h.frames (slot_at s n).directory home_apart k.spaces va byte w.pages w.space);
-    pages = subst (λ (q : ℕ). IsBesidePages d s.spaces h.frames (slot_at s n).directory home_apart (stored_byte k.spaces q va byte)) (sym w.own)
-        (stored_beside d s.spaces h.frames (slot_at s n).directory home_apart k.spaces va byte w.pages);
+    space = subst (λ (q : ℕ). SpaceLeft home d s.spaces (stored_byte k.spaces q va byte)) (sym w.own)
+        (stored_left home d s.spaces h.frames k.spaces va byte w.pages w.space);
+    pages = subst (λ (q : ℕ). IsBesidePages home d s.spaces h.frames (stored_byte k.spaces q va byte)) (sym w.own)
+        (stored_beside home d s.spaces h.frames k.spaces va byte w.pages);
   }
 
   bytes_put : (k : KernelState) (va : ℕ) (bytes : List ℕ) → Writes k → Left (with_bytes_put k n va bytes)
@@ -587,11 +577,17 @@ module _ (d : ℕ) (s : KernelState) (n : ℕ) (h : IsAside d s n) where
 -- ---- by the call
 
 -- what is left where its own slot had other registers before
-pub asked_before : (d : ℕ) (s : KernelState) (n : ℕ) (q : Regs) (after : KernelState) → n ≢ 0 → ServerStays d (with_registers s n q) after →
-    ServerStays d s after
+pub asked_before : (d : ℕ) (s : KernelState) (n : ℕ) (q : Regs) (after : KernelState) → n ≢ 0 → ServerStays d n (with_registers s n q) after →
+    ServerStays d n s after
 asked_before d s n q after ne h = record {
   slot = h.slot ∙ slot_kept s n (record (slot_at s n) { registers = q }) 0 (λ same. ne (sym same));
-  space = record { entries = h.space.entries; regions = h.space.regions; pages = h.space.pages };
+  space = record {
+    entries = h.space.entries;
+    regions = h.space.regions;
+    pages = λ p e is lacks. h.space.pages p e is
+        (subst (λ (home : ℕ). IsNoPage home s.spaces e.frame)
+        (sym (slots_alike s n (λ (x : Slot). x.directory) (record (slot_at s n) { registers = q }) refl n)) lacks);
+  };
 }
 
 -- its own slot is changed
@@ -611,7 +607,7 @@ own_server s n mid slot status directory_is h then_so other live a stands =
 
 module _ (s : KernelState) (n number : ℕ) (args : List ℕ) where
   server_by : (d : ℕ) → IsAside d s n → ((number == SYS_EXOFORK) ≡ true → NextIsFree s) → sends_aside number args ≡ true →
-      ServerStays d s (system s n number args).state
+      ServerStays d n s (system s n number args).state
   unfolding system
   server_by d h vacant aside =
       let q : Regs = asking (slot_at s n).registers number args in
@@ -621,7 +617,7 @@ module _ (s : KernelState) (n number : ℕ) (args : List ℕ) where
       let done : KernelState = (call_of k n (slot_at k n).registers).state in
       by_test done (is_live (slot_at done n) && not (sets_own s n number args))
       (asked_before d s n q done h.other
-      (subst (λ (r : Regs). ServerStays d k (call_of k n r).state) (sym regs_are)
+      (subst (λ (r : Regs). ServerStays d n k (call_of k n r).state) (sym regs_are)
       (call_stays d k n (aside_asked d s n q h) q
       (λ is m slots f frames slots_are frames_are.
       slots_alike s n (λ (x : Slot). is_live x) slot refl m ∙ vacant is m slots f frames slots_are frames_are)
@@ -631,8 +627,8 @@ module _ (s : KernelState) (n number : ℕ) (args : List ℕ) where
       implied true u is on = is
       implied false u is on = absurd (let contradiction : false ≡ true = on in cc)
 
-      by_test : (t : KernelState) (test : Bool) → ServerStays d s t →
-          ServerStays d s (if test then with_registers t n (slot_at s n).registers else t)
+      by_test : (t : KernelState) (test : Bool) → ServerStays d n s t →
+          ServerStays d n s (if test then with_registers t n (slot_at s n).registers else t)
       by_test t true it = put_stays d s n h t it n (record (slot_at t n) { registers = (slot_at s n).registers }) h.other
       by_test t false it = it
 

@@ -63,7 +63,8 @@ server_goes_on h server status = record {
   beside = h.beside;
   free_slots = h.free_slots;
   first = h.first;
-  server = record { status = status; pages = h.server.pages; tables = h.server.tables };
+  server = record { status = status; pages = h.server.pages; tables = h.server.tables; alone = h.server.alone };
+  consoles = h.consoles;
   input = h.input;
   last = h.last;
   turns = h.turns;
@@ -99,6 +100,7 @@ module _ {names : Names} {s : KernelState} {a : AbstractState} (h : StandsFor na
         status = record { status = refl; receiving = refl; anybody = refl; destination = refl };
         pages = h.server.pages;
         tables = h.server.tables;
+        alone = h.server.alone;
       })
     where
       so : StandsForServer (ready_slot (slot_at s 0)) FIRST_ENV_ID

@@ -1,31 +1,100 @@
--- The kernel's state goes on standing for the abstract one where the file server's space and slot change, as far as its pages are its own:
--- a page is put there or removed, its pages are written, and its registers and words are set.
-use Rattle.std.proofs.Common.{◌≡◌, ◌≢◌, ◌∙◌, ◌/◌, ◌==◌, ◌&&◌, ◌||◌, ◌⊎◌, inl, inr, ℕ, Bool, true, false, refl, sym, ap, subst, arith, length}
+-- The kernel's state goes on standing for the abstract one where the file server's space and slot change, as far as no client sees it:
+-- a page is put there or removed, pages are written that no client has, and its registers and words are set.
+use Rattle.std.proofs.Common.{◌≡◌, ◌≢◌, ◌∙◌, ◌/◌, ◌<◌, ◌==◌, ◌&&◌, ◌||◌, ◌⊎◌, inl, inr, ℕ, Bool, true, false, List, refl, sym, ap, subst, arith}
+use Rattle.std.proofs.Common.{length}
 use Rattle.std.proofs.lemmas.Bool.Decides.{nat_tests}
 use Rattle.std.specs.Prelude.{Option, Some, None, is_some}
-use Rattle.std.specs.Option.{option_map}
 use Rattle.jos_base.specs.declared.numbers.TheConstants.{FIRST_ENV_ID, NPTENTRIES}
 use Rattle.jos_base.specs.Environments.{Slot, is_live as is_live_slot}
 use Rattle.jos_base.specs.KernelState.{KernelState, slot_at, with_slot_at, with_spaces, with_refusal}
 use Rattle.jos_base.specs.Messages.{Rendezvous}
 use Rattle.jos_base.specs.Reach.{Entry}
 use Rattle.jos_base.specs.SpacesState.{SpacesState}
-use Rattle.lib_os.specs.AbstractState.{AbstractState, AbstractSlot, TablePlace, Server, born, idle, leaving, looking, busy, acted, serving, unborn}
+use Rattle.jos_base.specs.Words.{page_number}
+use Rattle.lib_os.specs.declared.numbers.TheConstants.{MAXOPEN, REQUEST}
+use Rattle.lib_os.specs.AbstractState.{AbstractState, AbstractSlot, Object, OpenFile, TablePlace, Server, acted, born, busy, file, idle, leaving}
+use Rattle.lib_os.specs.AbstractState.{looking, read_end, serving, terminal, unborn, write_end}
+use Rattle.lib_os.specs.DescriptorPages.{HasObject, IsConsole, IsOpenFile, Things, device_of, number_of, place_page}
 use Rattle.lib_os.specs.InOrder.{IsInOrder}
 use Rattle.lib_os.specs.MadeCalls.{SetsWords}
 use Rattle.lib_os.specs.Places.{is_handlers, service_word}
-use Rattle.lib_os.specs.Rows.{Names, lasting, logical, rows_of}
-use Rattle.lib_os.specs.StandsFor.{HasServer, IsServerStatus, StandsFor, StandsForServer, StandsForSlot, IsStatusFor, is_servers_page, is_servers_region}
+use Rattle.lib_os.specs.Rows.{IsNamed, MayBeHad, Names, Rows, ShowsBy, logical, rows_of, server_row}
+use Rattle.lib_os.specs.StandsFor.{HasServer, IsServerStatus, StandsFor, StandsForServer, StandsForSlot, IsStatusFor, is_servers_page}
+use Rattle.lib_os.specs.StandsFor.{is_servers_region, things_in}
 use Rattle.lib_os.proofs.Children.{BearsNone, children_kept}
 use Rattle.lib_os.proofs.Effects.{Placed, Removed}
 use Rattle.lib_os.proofs.EntriesStand.{rows_bytes, rows_same, rows_stand}
 use Rattle.lib_os.proofs.Logical.{clients_are, logical_alike, logical_of}
 use Rattle.lib_os.proofs.Puts.{put-none, put-some}
-use Rattle.lib_os.proofs.Releasing.{row_entry}
 use Rattle.lib_os.proofs.SlotsSet.{both_set}
 use Rattle.lib_os.proofs.SlotsStand.{SeenAlike, live_stands, slot_stands}
-use Rattle.lib_os.proofs.SpacesLeft.{SpaceLeft}
 use Rattle.lib_os.proofs.StatesStand.{Settles, server_set, slot_was_in_order}
+use Rattle.jos_base.proofs.Puts.{put-at, put-other}
+
+-- ---- what no client has
+
+-- no entry has this frame
+abbrev pub IsPrivate : Rows → ℕ → Type 0
+IsPrivate rows f = (n p : ℕ) (x : Entry) → rows n p ≡ Some x → x.frame ≢ f
+
+-- no client's entry has the frame of the file server's page with this number, if there is one
+abbrev pub IsPrivateAt : KernelState → ℕ → Type 0
+IsPrivateAt s q = (e : Entry) → server_row s.spaces s.environments.slots q ≡ Some e → IsPrivate (logical s.spaces s.environments.slots) e.frame
+
+-- the page of a place of the table of open files
+abbrev pub IsPlacePage : ℕ → Type 0
+IsPlacePage q = (j : ℕ) × (j < MAXOPEN) × (q ≡ place_page j)
+
+-- so it is where there is none
+pub missing_private : (s : KernelState) (q : ℕ) → server_row s.spaces s.environments.slots q ≡ None → IsPrivateAt s q
+missing_private s q none e is = absurd (let contradiction : ◌≡◌ {A = Option Entry} None (Some e) = sym none ∙ is in cc)
+
+-- A page of the server's with this number is that neither of a request nor of a place of the table of open files.
+pub record IsPlainPage (q : ℕ) : Type 0 where
+  pub no_request : (q == page_number REQUEST) ≡ false
+  pub no_place : IsPlacePage q → ⊥
+
+-- No client has a page that is not that of a request, nor that of a place which somebody holds.
+unheld_private : {names : Names} {s : KernelState} {a : AbstractState} → StandsFor names s a → (q : ℕ) → (q == page_number REQUEST) ≡ false →
+    ((place : IsPlacePage q) → (a.opened place.0).held_by ≡ None) → IsPrivateAt s q
+unheld_private {names = names} {s = s} {a = a} h q no_request unheld e stands n p x counts same =
+    by_object (a.objects name) (subst (λ (c : Bool). ShowsBy things name x.frame c (a.shared name) bytes) kind named_so.shows)
+  where
+    name : ℕ
+    name = names.name x.frame
+
+    bytes : List ℕ
+    bytes = s.spaces.pages x.frame
+
+    things : Things
+    things = things_in s a
+
+    had : MayBeHad false p x
+    had = subst (λ (c : Bool). MayBeHad c p x) no_request (h.beside n p q x e counts stands same)
+
+    named_so : IsNamed names s.spaces.pages a.shared things a.next_name p x.frame
+    named_so = h.named n p x counts had.shared
+
+    kind : names.is_object name ≡ true
+    kind = named_so.kind ∙ had.descriptor
+
+    by_object : (object : Object) → HasObject things name x.frame object bytes → ⊥
+    by_object terminal is = is.apart q e stands (sym same)
+    by_object (file f) is =
+        let at = h.server.alone (number_of bytes) q is.entry e is.below is.stands stands (is.same ∙ same) in
+        let none = unheld (number_of bytes, is.below, at) in
+        let contradiction : ◌≡◌ {A = Option ℕ} None (Some name) = sym none ∙ is.held in cc
+    by_object (read_end pipe) is = is
+    by_object (write_end pipe) is = is
+
+pub plain_private : {names : Names} {s : KernelState} {a : AbstractState} → StandsFor names s a → (q : ℕ) → IsPlainPage q → IsPrivateAt s q
+plain_private h q plain = unheld_private h q plain.no_request (λ place. absurd (plain.no_place place))
+
+pub place_private : {names : Names} {s : KernelState} {a : AbstractState} → StandsFor names s a → (j : ℕ) → j < MAXOPEN →
+    (a.opened j).held_by ≡ None → IsPrivateAt s (place_page j)
+place_private {a = a} h j below none =
+    unheld_private h (place_page j) (grind (arith, nat_tests)) (λ place.
+    let same : place.0 ≡ j = omega (arith, place.2) in ap (λ (k : ℕ). (a.opened k).held_by) same ∙ none)
 
 -- ---- other spaces
 
@@ -35,15 +104,36 @@ pub record OthersKept (s t : SpacesState) (d : ℕ) : Type 0 where
   pub bytes : (q r : ℕ) (x : Entry) → q ≢ d → rows_of s q r ≡ Some x → t.pages x.frame ≡ s.pages x.frame
   pub regions : (q r : ℕ) → q ≢ d → is_some (t.regions q r) ≡ is_some (s.regions q r)
 
--- so it is where each of them is left
-pub left_kept : (s t : SpacesState) (d : ℕ) → ((q : ℕ) → q ≢ d → SpaceLeft q s t) → OthersKept s t d
-unfolding rows_of
-left_kept s t d left = record {
-  rows = λ q ne. λ i p. option_map lasting ((left q ne).entries p i);
-  bytes = λ q r x ne is.
-      let y = row_entry s q r x is in subst (λ (f : ℕ). t.pages f ≡ s.pages f) y.2 ((left q ne).pages r y.0 y.1);
-  regions = λ q r ne. ap is_some ((left q ne).regions r);
+-- so it is where a page is put in the place of another, of a frame that keeps its bytes or that none of them has
+pub placed_others : {s t : SpacesState} {d p : ℕ} {e : Entry} → Placed s t d p e →
+    ((q r : ℕ) (x : Entry) → rows_of s q r ≡ Some x → x.frame ≡ e.frame → t.pages x.frame ≡ s.pages x.frame) → OthersKept s t d
+placed_others {s = s} {t = t} {d = d} {p = p} {e = e} placed kept = record {
+  rows = λ q ne. λ i r. same q r ne i;
+  bytes = λ q r x ne is. by_frame q r x ne is (x.frame == e.frame) refl;
+  regions = λ q r ne. placed.regions q r ∙ by_space q r ne (q == d) refl;
 }
+  where
+    same : (q r : ℕ) → q ≢ d → rows_of t q r ≡ rows_of s q r
+    same q r ne = (λ i. placed.rows i q r) ∙ put-other (rows_of s) d p (Some e) q r (λ is. absurd (ne is))
+
+    by_frame : (q r : ℕ) (x : Entry) → q ≢ d → rows_of s q r ≡ Some x → (c : Bool) → (x.frame == e.frame) ≡ c → t.pages x.frame ≡ s.pages x.frame
+    by_frame q r x ne is true test = kept q r x is (grind (arith, nat_tests))
+    by_frame q r x ne is false test = placed.bytes q r x (same q r ne ∙ is) (grind (arith, nat_tests))
+
+    by_space : (q r : ℕ) → q ≢ d → (c : Bool) → (q == d) ≡ c → ((c && (r == p / NPTENTRIES)) || is_some (s.regions q r)) ≡ is_some (s.regions q r)
+    by_space q r ne true test = absurd (ne (grind (arith, nat_tests)))
+    by_space q r ne false test = refl
+
+-- and where one is removed
+pub removed_others : {s t : SpacesState} {d p : ℕ} → Removed s t d p → OthersKept s t d
+removed_others {s = s} {t = t} {d = d} {p = p} removed = record {
+  rows = λ q ne. λ i r. same q r ne i;
+  bytes = λ q r x ne is. removed.bytes q r x (same q r ne ∙ is);
+  regions = λ q r ne. removed.regions q r;
+}
+  where
+    same : (q r : ℕ) → q ≢ d → rows_of t q r ≡ rows_of s q r
+    same q r ne = (λ i. removed.rows i q r) ∙ put-other (rows_of s) d p None q r (λ is. absurd (ne is))
 
 -- nothing that is seen of them differs
 pub others_alike : {s t : SpacesState} {d : ℕ} (names : Names) → OthersKept s t d → (q : ℕ) → q ≢ d → SeenAlike names names s t q
@@ -51,47 +141,76 @@ others_alike names kept q ne = record {
   rows = kept.rows q ne;
   bytes = λ r x is own_page. kept.bytes q r x ne is;
   named_so = λ r x is shared_page. refl;
+  devices = λ r x descriptor is shared_page. ap device_of (kept.bytes q r x ne is);
   regions = λ r. kept.regions q r ne;
 }
 
 -- ---- its own space
 
--- A page of this space had the frame, or no page had it.
-pub data HadOrNew (s : SpacesState) (d f : ℕ) : Type 0 where
-  had : (r : ℕ) (y : Entry) → rows_of s d r ≡ Some y → y.frame ≡ f → HadOrNew s d f
-  new : ((q r : ℕ) (x : Entry) → rows_of s q r ≡ Some x → x.frame ≢ f) → HadOrNew s d f
+-- they are the same page, or neither is one that a client may have
+abbrev pub AreAlike : ℕ → ℕ → Type 0
+AreAlike r q = (r ≡ q) ⊎ (IsPlainPage r × IsPlainPage q)
 
--- what stands in it, and in which frames
-pub record OwnKept (s t : SpacesState) (d : ℕ) (opened : ℕ → TablePlace) (blocks : ℕ) : Type 0 where
+-- A page of this space had the frame of one, or no page had it.
+pub data HadOrNew (s : SpacesState) (d q f : ℕ) : Type 0 where
+  had : (r : ℕ) (y : Entry) → rows_of s d r ≡ Some y → y.frame ≡ f → AreAlike r q → HadOrNew s d q f
+  new : ((o r : ℕ) (x : Entry) → rows_of s o r ≡ Some x → x.frame ≢ f) → HadOrNew s d q f
+
+-- what stands in the frame of a place's page is that page
+abbrev pub PlacesAlone : SpacesState → ℕ → Type 0
+PlacesAlone s d = (j q : ℕ) (x y : Entry) → j < MAXOPEN → rows_of s d (place_page j) ≡ Some x → rows_of s d q ≡ Some y → x.frame ≡ y.frame →
+    q ≡ place_page j
+
+-- an entry of this frame stands there
+abbrev pub StandsIn : SpacesState → ℕ → ℕ → ℕ → Type 0
+StandsIn t d q f = (y : Entry) × (rows_of t d q ≡ Some y) × (y.frame ≡ f)
+
+-- What stands in it, and in which frames: and of places the pages that anybody has.
+pub record OwnKept (s t : SpacesState) (d : ℕ) (opened : ℕ → TablePlace) (blocks : ℕ) (rows : Rows) : Type 0 where
   pub pages : (p : ℕ) → is_some (rows_of t d p) ≡ true → is_servers_page opened blocks p ≡ true
   pub tables : (r : ℕ) → is_some (t.regions d r) ≡ true → is_servers_region r ≡ true
-  pub frames : (p : ℕ) (e : Entry) → rows_of t d p ≡ Some e → HadOrNew s d e.frame
+  pub frames : (p : ℕ) (e : Entry) → rows_of t d p ≡ Some e → HadOrNew s d p e.frame
+  pub alone : PlacesAlone t d
+  pub places : (j : ℕ) (x : Entry) → j < MAXOPEN → rows_of s d (place_page j) ≡ Some x → IsPrivate rows x.frame ⊎ StandsIn t d (place_page j) x.frame
 
-module _ {s t : SpacesState} {k : Slot} {opened : ℕ → TablePlace} {blocks : ℕ} {server : Server} (h : HasServer s k opened blocks server) where
+module _ {s t : SpacesState} {k : Slot} {opened : ℕ → TablePlace} {blocks : ℕ} {server : Server} {rows : Rows}
+    (h : HasServer s k opened blocks server) where
   -- its entries are what they were
   pub same_own : rows_of t k.directory ≡ rows_of s k.directory →
-      ((r : ℕ) → is_some (t.regions k.directory r) ≡ is_some (s.regions k.directory r)) → OwnKept s t k.directory opened blocks
-  same_own rows regions = record {
-    pages = λ p is. h.pages p ((λ i. is_some (sym rows i p)) ∙ is);
+      ((r : ℕ) → is_some (t.regions k.directory r) ≡ is_some (s.regions k.directory r)) → OwnKept s t k.directory opened blocks rows
+  same_own same regions = record {
+    pages = λ p is. h.pages p ((λ i. is_some (sym same i p)) ∙ is);
     tables = λ r is. h.tables r (sym (regions r) ∙ is);
-    frames = λ p e is. had p e ((λ i. sym rows i p) ∙ is) refl;
+    frames = λ p e is. had p e ((λ i. sym same i p) ∙ is) refl (inl refl);
+    alone = λ j q x y below at there. h.alone j q x y below ((λ i. sym same i (place_page j)) ∙ at) ((λ i. sym same i q) ∙ there);
+    places = λ j x below is. inr (x, (λ i. same i (place_page j)) ∙ is, refl);
   }
 
-  -- a page is put there that it may have
-  pub placed_own : (p : ℕ) (e : Entry) → Placed s t k.directory p e → HadOrNew s k.directory e.frame →
-      is_servers_page opened blocks p ≡ true → is_servers_region (p / NPTENTRIES) ≡ true → OwnKept s t k.directory opened blocks
-  placed_own p e placed from page region = record {
+  -- A page is put there that it may have: in the place of a page that a client has, one of the same frame.
+  pub placed_own : (p : ℕ) (e : Entry) → Placed s t k.directory p e → HadOrNew s k.directory p e.frame →
+      (IsPlacePage p → (z : Entry) → rows_of s k.directory p ≡ Some z → IsPrivate rows z.frame ⊎ (z.frame ≡ e.frame)) →
+      is_servers_page opened blocks p ≡ true → is_servers_region (p / NPTENTRIES) ≡ true → OwnKept s t k.directory opened blocks rows
+  placed_own p e placed from left page region = record {
     pages = λ q is. by_entry q (rows_of t k.directory q) refl is;
     tables = λ r is. by_region r (k.directory == k.directory) (r == p / NPTENTRIES) refl (sym (placed.regions k.directory r) ∙ is);
     frames = λ q x is. elim (found q x is) [
-      | inl here ↦ subst (λ (y : Entry). HadOrNew s k.directory y.frame) (sym here.2) from
-      | inr there ↦ had q x there refl
+      | inl here ↦ from_here q x here from
+      | inr there ↦ had q x there refl (inl refl)
     ];
+    alone = λ j q x y below at there same. by_found j q x y below same (found (place_page j) x at) (found q y there);
+    places = λ j x below is. by_place j x below is (place_page j == p) refl;
   }
     where
-      found : (q : ℕ) (x : Entry) → rows_of t k.directory q ≡ Some x →
-          ((k.directory ≡ k.directory) × (q ≡ p) × (x ≡ e)) ⊎ (rows_of s k.directory q ≡ Some x)
+      IsHere : ℕ → Entry → Type 0
+      IsHere q x = (k.directory ≡ k.directory) × (q ≡ p) × (x ≡ e)
+
+      found : (q : ℕ) (x : Entry) → rows_of t k.directory q ≡ Some x → IsHere q x ⊎ (rows_of s k.directory q ≡ Some x)
       found q x is = put-some (rows_of s) k.directory p e x k.directory q ((λ i. sym placed.rows i k.directory q) ∙ is)
+
+      from_here : (q : ℕ) (x : Entry) → IsHere q x → HadOrNew s k.directory p e.frame → HadOrNew s k.directory q x.frame
+      from_here q x here it =
+          subst (λ (r : ℕ). HadOrNew s k.directory r x.frame) (sym here.1)
+          (subst (λ (y : Entry). HadOrNew s k.directory p y.frame) (sym here.2) it)
 
       by_entry : (q : ℕ) (o : Option Entry) → rows_of t k.directory q ≡ o → is_some o ≡ true → is_servers_page opened blocks q ≡ true
       by_entry q None at none = absurd (let contradiction : false ≡ true = none in cc)
@@ -107,12 +226,63 @@ module _ {s t : SpacesState} {k : Slot} {opened : ℕ → TablePlace} {blocks : 
       by_region r true false test is = h.tables r is
       by_region r false here test is = h.tables r is
 
-  -- a page is removed
-  pub removed_own : (p : ℕ) → Removed s t k.directory p → OwnKept s t k.directory opened blocks
-  removed_own p removed = record {
+      -- the page that is put is a place's
+      placed_alone : (j q : ℕ) (y : Entry) → j < MAXOPEN → p ≡ place_page j → rows_of s k.directory q ≡ Some y → e.frame ≡ y.frame →
+          HadOrNew s k.directory p e.frame → q ≡ place_page j
+      placed_alone j q y below at stands same (new none) = absurd (none k.directory q y stands (sym same))
+      placed_alone j q y below at stands same (had r z there frame (inl is)) =
+          h.alone j q z y below (ap (rows_of s k.directory) (sym (is ∙ at)) ∙ there) stands (frame ∙ same)
+      placed_alone j q y below at stands same (had r z there frame (inr plain)) = absurd (plain.1.no_place (j, below, at))
+
+      -- a place's page stands beside it
+      beside_alone : (j : ℕ) (x : Entry) → j < MAXOPEN → rows_of s k.directory (place_page j) ≡ Some x → x.frame ≡ e.frame →
+          HadOrNew s k.directory p e.frame → p ≡ place_page j
+      beside_alone j x below stands same (new none) = absurd (none k.directory (place_page j) x stands same)
+      beside_alone j x below stands same (had r z there frame (inl is)) =
+          sym is ∙ h.alone j r x z below stands there (same ∙ sym frame)
+      beside_alone j x below stands same (had r z there frame (inr plain)) =
+          absurd (plain.0.no_place (j, below, h.alone j r x z below stands there (same ∙ sym frame)))
+
+      by_found : (j q : ℕ) (x y : Entry) → j < MAXOPEN → x.frame ≡ y.frame →
+          IsHere (place_page j) x ⊎ (rows_of s k.directory (place_page j) ≡ Some x) → IsHere q y ⊎ (rows_of s k.directory q ≡ Some y) →
+          q ≡ place_page j
+      by_found j q x y below same (inl here) (inl too) = too.1 ∙ sym here.1
+      by_found j q x y below same (inl here) (inr there) =
+          placed_alone j q y below (sym here.1) there (sym (ap (λ (z : Entry). z.frame) here.2) ∙ same) from
+      by_found j q x y below same (inr stands) (inl too) =
+          too.1 ∙ beside_alone j x below stands (same ∙ ap (λ (z : Entry). z.frame) too.2) from
+      by_found j q x y below same (inr stands) (inr there) = h.alone j q x y below stands there same
+
+      by_place : (j : ℕ) (x : Entry) → j < MAXOPEN → rows_of s k.directory (place_page j) ≡ Some x → (c : Bool) → (place_page j == p) ≡ c →
+          IsPrivate rows x.frame ⊎ StandsIn t k.directory (place_page j) x.frame
+      by_place j x below is true test =
+          let here : p ≡ place_page j = grind (arith, nat_tests) in
+          elim (left (j, below, here) x (ap (rows_of s k.directory) here ∙ is)) [
+            | inl private ↦ inl private
+            | inr same ↦ inr (
+              e,
+              ap (rows_of t k.directory) (sym here) ∙ (λ i. placed.rows i k.directory p) ∙ put-at (rows_of s) k.directory p (Some e),
+              sym same,
+            )
+          ]
+      by_place j x below is false test =
+          let other : place_page j ≢ p = grind (arith, nat_tests) in
+          inr (
+            x,
+            (λ i. placed.rows i k.directory (place_page j))
+                ∙ put-other (rows_of s) k.directory p (Some e) k.directory (place_page j) (λ same. other) ∙ is,
+            refl,
+          )
+
+  -- A page is removed, but none of a place that a client has.
+  pub removed_own : (p : ℕ) → Removed s t k.directory p →
+      (IsPlacePage p → (z : Entry) → rows_of s k.directory p ≡ Some z → IsPrivate rows z.frame) → OwnKept s t k.directory opened blocks rows
+  removed_own p removed left = record {
     pages = λ q is. by_entry q (rows_of t k.directory q) refl is;
     tables = λ r is. h.tables r (sym (removed.regions k.directory r) ∙ is);
-    frames = λ q x is. had q x (stood q x is) refl;
+    frames = λ q x is. had q x (stood q x is) refl (inl refl);
+    alone = λ j q x y below at there same. h.alone j q x y below (stood (place_page j) x at) (stood q y there) same;
+    places = λ j x below is. by_place j x below is (place_page j == p) refl;
   }
     where
       stood : (q : ℕ) (x : Entry) → rows_of t k.directory q ≡ Some x → rows_of s k.directory q ≡ Some x
@@ -121,6 +291,19 @@ module _ {s t : SpacesState} {k : Slot} {opened : ℕ → TablePlace} {blocks : 
       by_entry : (q : ℕ) (o : Option Entry) → rows_of t k.directory q ≡ o → is_some o ≡ true → is_servers_page opened blocks q ≡ true
       by_entry q None at none = absurd (let contradiction : false ≡ true = none in cc)
       by_entry q (Some x) at some = h.pages q (ap is_some (stood q x at))
+
+      by_place : (j : ℕ) (x : Entry) → j < MAXOPEN → rows_of s k.directory (place_page j) ≡ Some x → (c : Bool) → (place_page j == p) ≡ c →
+          IsPrivate rows x.frame ⊎ StandsIn t k.directory (place_page j) x.frame
+      by_place j x below is true test =
+          let here : p ≡ place_page j = grind (arith, nat_tests) in inl (left (j, below, here) x (ap (rows_of s k.directory) here ∙ is))
+      by_place j x below is false test =
+          let other : place_page j ≢ p = grind (arith, nat_tests) in
+          inr (
+            x,
+            (λ i. removed.rows i k.directory (place_page j))
+                ∙ put-other (rows_of s) k.directory p None k.directory (place_page j) (λ same. other) ∙ is,
+            refl,
+          )
 
 -- ---- its status
 
@@ -162,7 +345,7 @@ module _ {names : Names} {s : KernelState} {a : AbstractState} (h : StandsFor na
   clients_space m ne lives same = ne (h.in_order.spaces.apart m 0 lives first_slot.lives same)
 
   module _ (sp : SpacesState) (others : OthersKept s.spaces sp (slot_at s 0).directory)
-      (own : OwnKept s.spaces sp (slot_at s 0).directory a.opened a.files.blocks) where
+      (own : OwnKept s.spaces sp (slot_at s 0).directory a.opened a.files.blocks (logical s.spaces s.environments.slots)) where
     slots_stand : (m : ℕ) → StandsForSlot names sp (slot_at s m) (a.slots m)
     slots_stand m = by_slot (m == 0) refl
       where
@@ -197,18 +380,58 @@ module _ {names : Names} {s : KernelState} {a : AbstractState} (h : StandsFor na
         subst (λ (f : ℕ). sp.pages f ≡ s.spaces.pages f) found.1.frame
         (others.bytes (slot_at s n).directory p found.1.entry (clients_space n (λ zero. client.0 (sym zero)) client.1) found.1.stands)
 
+    -- clients' entries stand beside its pages as they did
+    had_alike : (p : ℕ) (x : Entry) (r q : ℕ) → AreAlike r q → MayBeHad (r == page_number REQUEST) p x → MayBeHad (q == page_number REQUEST) p x
+    had_alike p x r q (inl is) may = subst (λ (m : ℕ). MayBeHad (m == page_number REQUEST) p x) is may
+    had_alike p x r q (inr plain) may = subst (λ (c : Bool). MayBeHad c p x) (plain.0.no_request ∙ sym plain.1.no_request) may
+
     still_beside : (n p q : ℕ) (x e : Entry) → logical sp s.environments.slots n p ≡ Some x → rows_of sp (slot_at s 0).directory q ≡ Some e →
-        x.frame ≢ e.frame
+        x.frame ≡ e.frame → MayBeHad (q == page_number REQUEST) p x
     still_beside n p q x e is stands same = by_frame (own.frames q e stands)
       where
         counts : logical s.spaces s.environments.slots n p ≡ Some x
         counts = sym (same_counts n p) ∙ is
 
-        by_frame : HadOrNew s.spaces (slot_at s 0).directory e.frame → ⊥
-        by_frame (had r y there frame) = h.beside n p r x y counts there (same ∙ sym frame)
+        by_frame : HadOrNew s.spaces (slot_at s 0).directory q e.frame → MayBeHad (q == page_number REQUEST) p x
+        by_frame (had r y there frame alike) = had_alike p x r q alike (h.beside n p r x y counts there (same ∙ sym frame))
         by_frame (new none) =
             let found = logical_of s.spaces s.environments.slots n p x counts in
-            none (slot_at s n).directory p found.1.entry found.1.stands (found.1.frame ∙ same)
+            absurd (none (slot_at s n).directory p found.1.entry found.1.stands (found.1.frame ∙ same))
+
+    -- and what is shown of a client's entry, its own pages show
+    still_shown : (n p : ℕ) (x : Entry) → logical s.spaces s.environments.slots n p ≡ Some x → (name : ℕ) (object : Bool) (page bytes : List ℕ) →
+        ShowsBy (things_in s a) name x.frame object page bytes → ShowsBy (things_in (with_spaces s sp) a) name x.frame object page bytes
+    still_shown n p x counts name false page bytes is = is
+    still_shown n p x counts name true page bytes is = by_object (a.objects name) is
+      where
+        none_has : (q : ℕ) (e : Entry) → HadOrNew s.spaces (slot_at s 0).directory q e.frame → IsConsole (things_in s a) x.frame bytes →
+            e.frame ≢ x.frame
+        none_has q e (had r y there frame alike) console same = console.apart r y there (frame ∙ same)
+        none_has q e (new none) console same =
+            let found = logical_of s.spaces s.environments.slots n p x counts in
+            none (slot_at s n).directory p found.1.entry found.1.stands (found.1.frame ∙ sym same)
+
+        by_place : (f : OpenFile) → (is : IsOpenFile (things_in s a) name x.frame f bytes) →
+            IsPrivate (logical s.spaces s.environments.slots) is.entry.frame
+            ⊎ StandsIn sp (slot_at s 0).directory (place_page (number_of bytes)) is.entry.frame →
+            IsOpenFile (things_in (with_spaces s sp) a) name x.frame f bytes
+        by_place f is (inl private) = absurd (private n p x counts (sym is.same))
+        by_place f is (inr stands) = record {
+          device = is.device;
+          offset = is.offset;
+          mode = is.mode;
+          below = is.below;
+          held = is.held;
+          entry = stands.0;
+          stands = stands.1;
+          same = stands.2 ∙ is.same;
+        }
+
+        by_object : (o : Object) → HasObject (things_in s a) name x.frame o bytes → HasObject (things_in (with_spaces s sp) a) name x.frame o bytes
+        by_object terminal console = record { device = console.device; apart = λ q e there. none_has q e (own.frames q e there) console }
+        by_object (file f) its = by_place f its (own.places (number_of bytes) its.entry its.below its.stands)
+        by_object (read_end pipe) its = its
+        by_object (write_end pipe) its = its
 
     -- The spaces are others, of which only the server's is seen to change.
     pub server_space : IsInOrder (with_spaces s sp) → StandsFor names (with_spaces s sp) a
@@ -221,13 +444,22 @@ module _ {names : Names} {s : KernelState} {a : AbstractState} (h : StandsFor na
               (λ m ne live. others_alike names others (slot_at s m).directory (clients_space m ne (live_stands h m ∙ live)))
               (serves_none (slot_at s 0) (a.slots 0) FIRST_ENV_ID h.first) (serves_none (slot_at s 0) (a.slots 0) FIRST_ENV_ID h.first);
           apart = rows.apart;
-          named = rows.named;
+          named = λ n p x is shared_page.
+              let was = rows.named n p x is shared_page in
+              let name = names.name x.frame in
+              record {
+                home = was.home;
+                kind = was.kind;
+                shows = still_shown n p x (sym (same_counts n p) ∙ is) name (names.is_object name) (a.shared name) (sp.pages x.frame) was.shows;
+                old = was.old;
+              };
           users = rows.users;
           whole = rows.whole;
           beside = still_beside;
           free_slots = h.free_slots;
           first = h.first;
-          server = record { status = h.server.status; pages = own.pages; tables = own.tables };
+          server = record { status = h.server.status; pages = own.pages; tables = own.tables; alone = own.alone };
+          consoles = h.consoles;
           input = h.input;
           last = h.last;
           turns = h.turns;
@@ -245,6 +477,7 @@ module _ {names : Names} {s : KernelState} {a : AbstractState} (h : StandsFor na
           status = status;
           pages = λ p is. own.pages p (ap (λ (d : ℕ). is_some (rows_of sp d p)) (sym directory) ∙ is);
           tables = λ r is. own.tables r (ap (λ (d : ℕ). is_some (sp.regions d r)) (sym directory) ∙ is);
+          alone = subst (λ (d : ℕ). PlacesAlone sp d) (sym directory) own.alone;
         })
 
   -- ---- its slot is another
@@ -258,6 +491,7 @@ module _ {names : Names} {s : KernelState} {a : AbstractState} (h : StandsFor na
         status = status_kept a.server (slot_at s 0) k status silent h.server.status;
         pages = λ p is. h.server.pages p (ap (λ (d : ℕ). is_some (rows_of s.spaces d p)) (sym directory) ∙ is);
         tables = λ r is. h.server.tables r (ap (λ (d : ℕ). is_some (s.spaces.regions d r)) (sym directory) ∙ is);
+        alone = subst (λ (d : ℕ). PlacesAlone s.spaces d) (sym directory) h.server.alone;
       })
 
   -- Its registers and words are set.
@@ -298,6 +532,7 @@ module _ {names : Names} {s : KernelState} {a : AbstractState} (h : StandsFor na
     free_slots = h.free_slots;
     first = h.first;
     server = h.server;
+    consoles = h.consoles;
     input = h.input;
     last = h.last;
     turns = h.turns;

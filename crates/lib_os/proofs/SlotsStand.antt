@@ -1,6 +1,6 @@
 -- A slot of the kernel's goes on standing for one of the abstract system while nothing that is seen of it changes: where it
 -- stands in a service or in its handler, its pages, and whether it is live.
-use Rattle.std.proofs.Common.{◌≡◌, ◌≢◌, ◌∙◌, ◌||◌, ℕ, ◌+◌, ◌-◌, ◌/◌, Bool, true, false, not, List, refl, sym, ap, subst, arith, if◌then◌else◌}
+use Rattle.std.proofs.Common.{◌≡◌, ◌≢◌, ◌∙◌, ◌<◌, ◌||◌, ℕ, ◌+◌, ◌-◌, ◌/◌, Bool, true, false, not, List, refl, sym, ap, subst, arith, if◌then◌else◌}
 use Rattle.std.specs.Prelude.{Option, Some, None, is_none, is_some, length, nat_lt, slice_index}
 use Rattle.std.proofs.lemmas.Bool.Decides.{nat_tests}
 use Rattle.std.specs.Option.{option_map}
@@ -26,6 +26,7 @@ use Rattle.jos_base.specs.Words.{page_number, upd}
 use Rattle.lib_os.specs.declared.numbers.TheConstants.{DESCRIPTORS, PFTEMP}
 use Rattle.lib_os.specs.AbstractState.{AbstractState, Born, Page, own, named, AbstractSlot, free, unborn, born, serving}
 use Rattle.lib_os.specs.AbstractState.{Stage, slot_id, is_live}
+use Rattle.lib_os.specs.DescriptorPages.{device_of}
 use Rattle.lib_os.specs.LibraryPages.{View, HasFrame, IsOwnWritable, LibraryPages, is_library_region, region_index}
 use Rattle.lib_os.specs.Places.{place_of}
 use Rattle.lib_os.specs.Rows.{Names, EntryRow, rows_of, page_by, page_seen, seen_where, is_programs, is_shared, may_write}
@@ -86,13 +87,21 @@ KeepsTables minds tables after = minds ≡ true → (r : ℕ) → tables r ≡ t
 abbrev pub SameTaken : View → View → Type 0
 SameTaken v w = (x : Entry) → v.row (page_number UTEMP) ≡ Some x → is_shared x.perm ≡ false → w.bytes x.frame ≡ v.bytes x.frame
 
-abbrev pub KeepsPage : Bool → View → View → Type 0
-KeepsPage minds v w = minds ≡ true → SameTaken v w
+-- and a descriptor's page tells the same of what it names
+abbrev pub SameDevices : View → View → Type 0
+SameDevices v w = (p : ℕ) (x : Entry) → is_descriptor p ≡ true → v.row p ≡ Some x → device_of (w.bytes x.frame) ≡ device_of (v.bytes x.frame)
 
--- the same entries, and the same bytes of pages of one's own
+abbrev pub SamePages : View → View → Type 0
+SamePages v w = SameTaken v w × SameDevices v w
+
+abbrev pub KeepsPage : Bool → View → View → Type 0
+KeepsPage minds v w = minds ≡ true → SamePages v w
+
+-- the same entries, the same bytes of pages of one's own, and the same that descriptors' pages tell
 pub record ViewAlike (v w : View) : Type 0 where
   pub row : w.row ≡ v.row
   pub bytes : (p : ℕ) (x : Entry) → v.row p ≡ Some x → is_shared x.perm ≡ false → w.bytes x.frame ≡ v.bytes x.frame
+  pub devices : SameDevices v w
 
 -- what is kept in mind at a place is so after, too
 abbrev pub KeptAt : Place → View → View → Type 0
@@ -125,7 +134,7 @@ kept_unminded (place.InHandler stands) v w none = absurd (let contradiction : tr
 
 -- where the entries and the tables are the same, and the handler does not run
 pub kept_rows : (stands : Place) (v w : View) → is_in_handler stands ≡ false → w.row ≡ v.row → ((r : ℕ) → w.tables r ≡ v.tables r) →
-    SameTaken v w → KeptAt stands v w
+    SamePages v w → KeptAt stands v w
 kept_rows place.Guest v w outside row tables taken = tt
 kept_rows (place.InService s stands) v w outside row tables taken = ((λ is. row), (λ is r table. tables r ∙ table), (λ is. taken))
 kept_rows (place.InHandler stands) v w outside row tables taken = absurd (let contradiction : true ≡ false = outside in cc)
@@ -134,7 +143,7 @@ kept_rows (place.InHandler stands) v w outside row tables taken = absurd (let co
 pub kept_alike : (stands : Place) (v w : View) → ViewAlike v w → ((r : ℕ) → w.tables r ≡ v.tables r) → KeptAt stands v w
 kept_alike place.Guest v w same tables = tt
 kept_alike (place.InService s stands) v w same tables =
-    ((λ is. same.row), (λ is r table. tables r ∙ table), (λ is. same.bytes (page_number UTEMP)))
+    ((λ is. same.row), (λ is r table. tables r ∙ table), (λ is. (same.bytes (page_number UTEMP), same.devices)))
 kept_alike (place.InHandler stands) v w same tables = same
 
 -- ---- where it stands in its handler
@@ -197,6 +206,37 @@ module _ (v w : View) (same : ViewAlike v w) where
     own_page = h.own_page;
     bytes = λ i lt. rw (same.bytes _ h.entry h.stands h.own_page) (h.bytes i lt);
   }
+
+-- ---- what it is given
+
+-- by the same entries, where descriptors' pages tell the same
+module _ (v w : View) (row : w.row ≡ v.row) (devices : SameDevices v w) where
+  pub given_kept : (fd va len : ℕ) → IsGiven v fd va len → IsGiven w fd va len
+  given_kept fd va len h = record {
+    below = h.below;
+    console = record {
+      entry = h.console.entry;
+      stands = ap (λ (r : EntryRow). r (descriptor_page fd)) row ∙ h.console.stands;
+      device = devices (descriptor_page fd) h.console.entry (numbered h.below) h.console.stands ∙ h.console.device;
+    };
+    buffer = h.buffer;
+  }
+    where
+      numbered : fd < DESCRIPTORS → is_descriptor (descriptor_page fd) ≡ true
+      numbered below = grind (arith, nat_tests)
+
+  module _ (b after : Born) (phase_kept : after.phase ≡ b.phase) where
+    wants_kept : (fd va len : ℕ) (bytes : List ℕ) → WantsMore v b fd va len bytes → WantsMore w after fd va len bytes
+    wants_kept fd va len bytes h = record { phase = phase_kept ∙ h.phase; given = given_kept fd va len h.given; fewer = h.fewer }
+
+    pub stopped_kept : (write : Bool) (va ip : ℕ) → IsStoppedAt write v b va ip → IsStoppedAt write w after va ip
+    stopped_kept write va ip (marked phase) = marked (phase_kept ∙ phase)
+    stopped_kept write va ip (reading fd buffer len bytes answer writes phase some) =
+        reading fd buffer len bytes answer writes (phase_kept ∙ phase) some
+    stopped_kept write va ip (telling fd buffer bytes answer writes phase some) =
+        telling fd buffer bytes answer writes (phase_kept ∙ phase) some
+    stopped_kept write va ip (writing fd buffer len bytes reads wants there) =
+        writing fd buffer len bytes reads (wants_kept fd buffer len bytes wants) there
 
 -- ---- where it stands
 
@@ -306,12 +346,6 @@ module _ (v w : View) (k : Slot) (b : Born) (status : Status) (runs : ℕ) (memo
   device_kept s None row h = absurd h
   device_kept s (Some fd) row h = record { is_in = in_kept _ _ h.is_in; below = h.below; stands = open_kept fd row h.stands }
 
-  given_kept : (fd va len : ℕ) → w.row ≡ v.row → IsGiven v.row fd va len → IsGiven w.row fd va len
-  given_kept fd va len row h = subst (λ (r : EntryRow). IsGiven r fd va len) (sym row) h
-
-  wants_kept : (fd va len : ℕ) (bytes : List ℕ) → w.row ≡ v.row → WantsMore v.row b fd va len bytes → WantsMore w.row environment fd va len bytes
-  wants_kept fd va len bytes row h = record { phase = h.phase; given = given_kept fd va len row h.given; fewer = h.fewer }
-
   taken_kept : (bytes : List ℕ) (n : ℕ) → w.row ≡ v.row → SameTaken v w → HasTaken v bytes n → HasTaken w bytes n
   taken_kept bytes n row page h = record {
     entry = h.entry;
@@ -320,24 +354,24 @@ module _ (v w : View) (k : Slot) (b : Born) (status : Status) (runs : ℕ) (memo
     same = λ i lt. ap (λ (l : List ℕ). slice_index l i) (page h.entry h.stands h.own_page) ∙ h.same i lt;
   }
 
-  taking_kept : (fd va len done : ℕ) → w.row ≡ v.row → SameTaken v w → IsTaking v k b fd va len done →
+  taking_kept : (fd va len done : ℕ) → w.row ≡ v.row → SamePages v w → IsTaking v k b fd va len done →
       IsTaking w kernel_slot environment fd va len done
   taking_kept fd va len done row page h = record {
     bytes = h.bytes;
     program = h.program;
-    wants = wants_kept fd va len h.bytes row h.wants;
+    wants = wants_kept v w row page.1 b environment refl fd va len h.bytes h.wants;
     many = h.many;
-    kept = taken_kept h.bytes done row page h.kept;
+    kept = taken_kept h.bytes done row page.0 h.kept;
     silent = h.silent;
     awake = h.awake;
   }
 
-  keeping_kept : (fd va len done word left : ℕ) → w.row ≡ v.row → SameTaken v w → IsKeeping v k b fd va len done word left →
+  keeping_kept : (fd va len done word left : ℕ) → w.row ≡ v.row → SamePages v w → IsKeeping v k b fd va len done word left →
       IsKeeping w kernel_slot environment fd va len done word left
   keeping_kept fd va len done word left row page h = record {
     bytes = h.bytes;
     is_in = in_kept _ _ h.is_in;
-    given = given_kept fd va len row h.given;
+    given = given_kept v w row page.1 fd va len h.given;
     many = h.many;
     few = h.few;
     some = h.some;
@@ -345,16 +379,16 @@ module _ (v w : View) (k : Slot) (b : Born) (status : Status) (runs : ℕ) (memo
     word_is = h.word_is;
     small = h.small;
     allowed = ap (λ (r : EntryRow). refuses_next r (service.Write fd va len) (done + left - 1)) row ∙ h.allowed;
-    kept = taken_kept h.bytes done row page h.kept;
+    kept = taken_kept h.bytes done row page.0 h.kept;
   }
 
-  printing_kept : (fd va len : ℕ) → w.row ≡ v.row → SameTaken v w → IsPrinting v k b fd va len → IsPrinting w kernel_slot environment fd va len
+  printing_kept : (fd va len : ℕ) → w.row ≡ v.row → SamePages v w → IsPrinting v k b fd va len → IsPrinting w kernel_slot environment fd va len
   printing_kept fd va len row page h = record {
     bytes = h.bytes;
     is_in = in_kept _ _ h.is_in;
-    given = given_kept fd va len row h.given;
+    given = given_kept v w row page.1 fd va len h.given;
     many = h.many;
-    kept = taken_kept h.bytes (length h.bytes) row page h.kept;
+    kept = taken_kept h.bytes (length h.bytes) row page.0 h.kept;
   }
 
   delivering_kept : (s : Service) (at : ℕ) (bytes : List ℕ) (answer : ℕ) → IsDelivering k b s at bytes answer →
@@ -379,7 +413,7 @@ module _ (v w : View) (k : Slot) (b : Born) (status : Status) (runs : ℕ) (memo
   putting_kept s done word row h =
       (delivery_kept s done word h.0, subst (λ (r : EntryRow). is_refused_by true (r (next_page s done)) ≡ false) (sym row) h.1)
 
-  before_kept : {so so_after : Type 0} → (so → so_after) → (s : Service) (done word : ℕ) → w.row ≡ v.row → SameTaken v w →
+  before_kept : {so so_after : Type 0} → (so → so_after) → (s : Service) (done word : ℕ) → w.row ≡ v.row → SamePages v w →
       StandsBefore so v k b s done word → StandsBefore so_after w kernel_slot environment s done word
   before_kept so_too (service.Read fd va len) done word row page h = (delivering_kept _ _ _ _ h.0, so_too h.1)
   before_kept so_too (service.Stat fd va) done word row page h = (delivering_kept _ _ _ _ h.0, so_too h.1)
@@ -424,8 +458,9 @@ module _ (v w : View) (k : Slot) (b : Born) (status : Status) (runs : ℕ) (memo
   step_kept (service.Stat fd va) (step.DescriptorEntry at) row tables taken h = looking_up_kept _ at fd (tables refl) h
   step_kept (service.SetSize fd size) (step.DescriptorEntry at) row tables taken h = looking_up_kept _ at fd (tables refl) h
   step_kept (service.Read fd va len) step.Getting row tables taken h =
-      record { is_in = in_kept _ _ h.is_in; given = given_kept fd va len (row refl) h.given; some = h.some }
-  step_kept (service.Write fd va len) step.TakingPage row tables taken h = (in_kept _ _ h.0, given_kept fd va len (row refl) h.1, h.2)
+      record { is_in = in_kept _ _ h.is_in; given = given_kept v w (row refl) (taken refl).1 fd va len h.given; some = h.some }
+  step_kept (service.Write fd va len) step.TakingPage row tables taken h =
+      (in_kept _ _ h.0, given_kept v w (row refl) (taken refl).1 fd va len h.1, h.2)
   step_kept (service.Write fd va len) (step.Gathering done) row tables taken h = (
     taking_kept fd va len done (row refl) (taken refl) h.0,
     ap (λ (r : EntryRow). refuses_next r (service.Write fd va len) done) (row refl) ∙ h.1,
@@ -491,13 +526,6 @@ module _ (v w : View) (k : Slot) (b : Born) (status : Status) (runs : ℕ) (memo
           record { program = h.program; phase = h.phase; silent = h.silent; awake = h.awake; some = h.some; inside = h.inside; small = h.small }
       beneath_delivery _ done word h = absurd h
 
-  stopped_kept : (write : Bool) (va ip : ℕ) → w.row ≡ v.row → IsStoppedAt write v.row b va ip → IsStoppedAt write w.row environment va ip
-  stopped_kept write va ip row (marked phase) = marked phase
-  stopped_kept write va ip row (reading fd buffer len bytes answer writes phase some) = reading fd buffer len bytes answer writes phase some
-  stopped_kept write va ip row (telling fd buffer bytes answer writes phase some) = telling fd buffer bytes answer writes phase some
-  stopped_kept write va ip row (writing fd buffer len bytes reads wants there) =
-      writing fd buffer len bytes reads (wants_kept fd buffer len bytes row wants) there
-
   way_kept : ViewAlike v w → (h : HandlerStep) (fault : PageFault) (regs : Regs) → CopiesOrEnds h v k b fault regs →
       CopiesOrEnds h w kernel_slot environment fault regs
   way_kept same h fault regs (copies way) = copies (record {
@@ -508,7 +536,7 @@ module _ (v w : View) (k : Slot) (b : Born) (status : Status) (runs : ℕ) (memo
   })
   way_kept same h fault regs (ends way) = ends (record {
     program = way.program;
-    stopped = stopped_kept (is_write fault.error) fault.va regs.eip same.row way.stopped;
+    stopped = stopped_kept v w same.row same.devices b environment refl (is_write fault.error) fault.va regs.eip way.stopped;
     silent = way.silent;
     awake = way.awake;
     inside = way.inside;
@@ -570,10 +598,18 @@ pub record SeenAlike (names after : Names) (s t : SpacesState) (d : ℕ) : Type 
   pub rows : rows_of t d ≡ rows_of s d
   pub bytes : (p : ℕ) (x : Entry) → rows_of s d p ≡ Some x → is_shared x.perm ≡ false → t.pages x.frame ≡ s.pages x.frame
   pub named_so : (p : ℕ) (x : Entry) → rows_of s d p ≡ Some x → is_shared x.perm ≡ true → after.name x.frame ≡ names.name x.frame
+  pub devices : (p : ℕ) (x : Entry) → is_descriptor p ≡ true → rows_of s d p ≡ Some x → is_shared x.perm ≡ true →
+      device_of (t.pages x.frame) ≡ device_of (s.pages x.frame)
   pub regions : (r : ℕ) → is_some (t.regions d r) ≡ is_some (s.regions d r)
 
 pub view_alike : {names after : Names} {s t : SpacesState} {d : ℕ} → SeenAlike names after s t d → ViewAlike (view_of s d) (view_of t d)
-view_alike h = record { row = h.rows; bytes = h.bytes }
+view_alike {s = s} {t = t} {d = d} h =
+    record { row = h.rows; bytes = h.bytes; devices = λ p x descriptor is. by_sharing p x descriptor is (is_shared x.perm) refl }
+  where
+    by_sharing : (p : ℕ) (x : Entry) → is_descriptor p ≡ true → rows_of s d p ≡ Some x → (c : Bool) → is_shared x.perm ≡ c →
+        device_of (t.pages x.frame) ≡ device_of (s.pages x.frame)
+    by_sharing p x descriptor is true shared_page = h.devices p x descriptor is shared_page
+    by_sharing p x descriptor is false own_page = ap device_of (h.bytes p x is own_page)
 
 -- the page by an entry whose frame has the same bytes, or the same name
 pub page_alike : (names after : Names) (bytes bytes_after : ℕ → List ℕ) (x : Entry) →
@@ -703,9 +739,12 @@ pub other_stands : (names after : Names) (s t : SpacesState) (k : Slot) (slot : 
     rows_of t k.directory ≡ rows_of s k.directory →
     ((p : ℕ) (x : Entry) → rows_of s k.directory p ≡ Some x → is_shared x.perm ≡ false → t.pages x.frame ≡ s.pages x.frame) →
     ((p : ℕ) (x : Entry) → rows_of s k.directory p ≡ Some x → is_shared x.perm ≡ true → after.name x.frame ≡ names.name x.frame) →
+    ((p : ℕ) (x : Entry) → is_descriptor p ≡ true → rows_of s k.directory p ≡ Some x → is_shared x.perm ≡ true →
+    device_of (t.pages x.frame) ≡ device_of (s.pages x.frame)) →
     ((r : ℕ) → is_some (t.regions k.directory r) ≡ is_some (s.regions k.directory r)) → StandsForSlot after t k slot
-other_stands names after s t k slot h rows bytes named_so regions =
-    slot_stands names after s t k slot h (λ live. record { rows = rows; bytes = bytes; named_so = named_so; regions = regions })
+other_stands names after s t k slot h rows bytes named_so devices regions =
+    slot_stands names after s t k slot h
+    (λ live. record { rows = rows; bytes = bytes; named_so = named_so; devices = devices; regions = regions })
 
 pub born_live : {names : Names} {s : SpacesState} {k : Slot} {b : Born} → StandsForBorn names s k b → is_live_slot k ≡ true
 born_live {k = k} {b = b} h = runs_live k.status b.blocked h.runs
@@ -728,7 +767,8 @@ status_born {s = s} k b status runs so h = record {
   stack = h.stack;
   flags = h.flags;
   at = at_kept (view_of s k.directory) (view_of s k.directory) k b status runs b.memory b.regions b.descriptors (place_of k)
-      (kept_alike (place_of k) (view_of s k.directory) (view_of s k.directory) (record { row = refl; bytes = λ p x is own_page. refl }) (λ r. refl)) h.at;
+      (kept_alike (place_of k) (view_of s k.directory) (view_of s k.directory)
+      (record { row = refl; bytes = λ p x is own_page. refl; devices = λ p x descriptor is. refl }) (λ r. refl)) h.at;
 }
 
 -- One of its pages may be another, in a space that has tables for its regions.

@@ -1,5 +1,5 @@
--- What is left of one space where pages of other spaces are mapped, removed, touched and written, and where other spaces are made and
--- destroyed: its entries with all their bits, its regions, and the bytes of its pages.
+-- What is left of one space where pages of other spaces are mapped, removed and touched, where those of one other space, the home, are written,
+-- and where other spaces are made and destroyed: its entries with all their bits, its regions, and the bytes of its pages which home has not.
 use Rattle.std.proofs.Common.{◌≡◌, ◌≢◌, ◌∙◌, ◌==◌, ◌/◌, ◌%◌, ◌^◌, ◌+◌, ℕ, zero, suc, Bool, true, false, List, [], ◌∷◌, refl, sym, ap, subst, arith}
 use Rattle.std.specs.Prelude.{nat_lt, Option, Some, None, Result, Ok, Err, if◌then◌else◌}
 use Rattle.std.specs.Option.{option_map}
@@ -26,54 +26,59 @@ use Rattle.jos_base.proofs.Maps.{upd-other}
 use Rattle.jos_base.proofs.Puts.{put-other, put-alike, put-holds}
 use Rattle.jos_base.proofs.Uses.{page_or_directory, page_or_table}
 
--- a space has its entries, its regions and the bytes of its pages
-pub record SpaceLeft (d : ℕ) (s t : SpacesState) : Type 0 where
-  pub entries : (p : ℕ) → t.entries d p ≡ s.entries d p
-  pub regions : (r : ℕ) → t.regions d r ≡ s.regions d r
-  pub pages : (p : ℕ) (e : Entry) → s.entries d p ≡ Some e → t.pages e.frame ≡ s.pages e.frame
-
--- none of its pages has this frame
+-- none of the pages of a space has this frame
 abbrev pub IsNoPage : ℕ → SpacesState → ℕ → Type 0
 IsNoPage d s f = (p : ℕ) (e : Entry) → s.entries d p ≡ Some e → e.frame ≢ f
+
+-- a space has its entries, its regions and the bytes of its pages which home has not
+pub record SpaceLeft (home d : ℕ) (s t : SpacesState) : Type 0 where
+  pub entries : (p : ℕ) → t.entries d p ≡ s.entries d p
+  pub regions : (r : ℕ) → t.regions d r ≡ s.regions d r
+  pub pages : (p : ℕ) (e : Entry) → s.entries d p ≡ Some e → IsNoPage home s e.frame → t.pages e.frame ≡ s.pages e.frame
+
+-- none of those pages has this frame
+abbrev pub IsNoneLeft : ℕ → ℕ → SpacesState → ℕ → Type 0
+IsNoneLeft home d s f = (p : ℕ) (e : Entry) → s.entries d p ≡ Some e → IsNoPage home s e.frame → e.frame ≢ f
 
 page_or_free : (u : Use) → u ≡ page → u ≢ free
 page_or_free u is not = absurd cc
 
-module _ (d : ℕ) (s : SpacesState) (h : HasOneUse s) where
+module _ (home d : ℕ) (s : SpacesState) (h : HasOneUse s) where
   -- what is used as something else is none of them
-  pub free_is_none : (f : ℕ) → s.uses f ≡ free → IsNoPage d s f
-  free_is_none f is p e stands same = page_or_free (s.uses e.frame) (h.pages d p e stands) (ap s.uses same ∙ is)
+  pub free_is_none : (f : ℕ) → s.uses f ≡ free → IsNoneLeft home d s f
+  free_is_none f is p e stands lacks same = page_or_free (s.uses e.frame) (h.pages d p e stands) (ap s.uses same ∙ is)
 
-  pub directory_is_none : (f : ℕ) → s.uses f ≡ directory → IsNoPage d s f
-  directory_is_none f is p e stands same = page_or_directory (s.uses e.frame) (h.pages d p e stands) (ap s.uses same ∙ is)
+  pub directory_is_none : (f : ℕ) → s.uses f ≡ directory → IsNoneLeft home d s f
+  directory_is_none f is p e stands lacks same = page_or_directory (s.uses e.frame) (h.pages d p e stands) (ap s.uses same ∙ is)
 
-  pub table_is_none : (f : ℕ) → s.uses f ≡ table → IsNoPage d s f
-  table_is_none f is p e stands same = page_or_table (s.uses e.frame) (h.pages d p e stands) (ap s.uses same ∙ is)
+  pub table_is_none : (f : ℕ) → s.uses f ≡ table → IsNoneLeft home d s f
+  table_is_none f is p e stands lacks same = page_or_table (s.uses e.frame) (h.pages d p e stands) (ap s.uses same ∙ is)
 
-  pub same_left : SpaceLeft d s s
-  same_left = record { entries = λ p. refl; regions = λ r. refl; pages = λ p e is. refl }
+  pub same_left : SpaceLeft home d s s
+  same_left = record { entries = λ p. refl; regions = λ r. refl; pages = λ p e is lacks. refl }
 
   -- ---- frames
 
-  pub bytes_left : (t : SpacesState) (f : ℕ) (bytes : List ℕ) → IsNoPage d s f → SpaceLeft d s t → SpaceLeft d s (with_page_bytes t f bytes)
+  pub bytes_left : (t : SpacesState) (f : ℕ) (bytes : List ℕ) → IsNoneLeft home d s f → SpaceLeft home d s t →
+      SpaceLeft home d s (with_page_bytes t f bytes)
   bytes_left t f bytes none k = record {
     entries = k.entries;
     regions = k.regions;
-    pages = λ p e is. upd-other t.pages f bytes e.frame (none p e is) ∙ k.pages p e is;
+    pages = λ p e is lacks. upd-other t.pages f bytes e.frame (none p e is lacks) ∙ k.pages p e is lacks;
   }
 
-  freed_left : (t : SpacesState) (f : ℕ) → IsNoPage d s f → SpaceLeft d s t → SpaceLeft d s (freed t f)
+  freed_left : (t : SpacesState) (f : ℕ) → IsNoneLeft home d s f → SpaceLeft home d s t → SpaceLeft home d s (freed t f)
   freed_left t f none k = let it = bytes_left t f [] none k in record { entries = it.entries; regions = it.regions; pages = it.pages }
 
-  released_left : (t : SpacesState) (o : Option ℕ) → SpaceLeft d s t → SpaceLeft d s (released t o)
+  released_left : (t : SpacesState) (o : Option ℕ) → SpaceLeft home d s t → SpaceLeft home d s (released t o)
   released_left t None k = k
   released_left t (Some f) k = by_test (page_count t.entries f == 0) refl
     where
-      by_test : (b : Bool) → (page_count t.entries f == 0) ≡ b → SpaceLeft d s (if b then freed t f else t)
+      by_test : (b : Bool) → (page_count t.entries f == 0) ≡ b → SpaceLeft home d s (if b then freed t f else t)
       by_test false test = k
       by_test true test =
           let none : page_count t.entries f ≡ 0 = grind (arith, nat_tests) in
-          freed_left t f (λ p e is same.
+          freed_left t f (λ p e is lacks same.
           let limits = h.within d p e is in
           let counted = page_count-some t.entries d p e limits.0 limits.1 (k.entries p ∙ is) in
           let count = ap (page_count t.entries) same in absurd (omega (arith, counted, count, none))) k
@@ -84,53 +89,55 @@ module _ (d : ℕ) (s : SpacesState) (h : HasOneUse s) where
     off : {V : Type 0} (f : ℕ → ℕ → V) (p : ℕ) (v : V) (r : ℕ) → put f q p v d r ≡ f d r
     off f p v r = put-other f q p v d r (λ same. absurd (other (sym same)))
 
-    mapped_left : (t : SpacesState) (p : ℕ) (e : Entry) → SpaceLeft d s t → SpaceLeft d s (mapped t q p e)
+    mapped_left : (t : SpacesState) (p : ℕ) (e : Entry) → SpaceLeft home d s t → SpaceLeft home d s (mapped t q p e)
     unfolding mapped
     mapped_left t p e k =
         released_left (with_entry t q p e) (frame_of (t.entries q p))
         (record { entries = λ r. off t.entries p (Some e) r ∙ k.entries r; regions = k.regions; pages = k.pages })
 
-    pub unmapped_left : (t : SpacesState) (p : ℕ) → SpaceLeft d s t → SpaceLeft d s (unmapped t q p)
+    pub unmapped_left : (t : SpacesState) (p : ℕ) → SpaceLeft home d s t → SpaceLeft home d s (unmapped t q p)
     unfolding unmapped
     unmapped_left t p k =
         released_left (without_entry t q p) (frame_of (t.entries q p))
         (record { entries = λ r. off t.entries p None r ∙ k.entries r; regions = k.regions; pages = k.pages })
 
-    table_left : (t : SpacesState) (index f : ℕ) → IsNoPage d s f → SpaceLeft d s t → SpaceLeft d s (with_table t q index f)
+    table_left : (t : SpacesState) (index f : ℕ) → IsNoneLeft home d s f → SpaceLeft home d s t → SpaceLeft home d s (with_table t q index f)
     table_left t index f none k = record {
       entries = k.entries;
       regions = λ r. off t.regions index (Some (record { table = f; accessed = false })) r ∙ k.regions r;
-      pages = λ p e is. upd-other t.pages f [] e.frame (none p e is) ∙ k.pages p e is;
+      pages = λ p e is lacks. upd-other t.pages f [] e.frame (none p e is lacks) ∙ k.pages p e is lacks;
     }
 
     -- a page is inserted, and perhaps a table with it, of a frame that was free
-    inserted_from : (t u : SpacesState) (p : ℕ) (e : Entry) → AreFree s.uses t.free → SpaceLeft d s t → inserted t q p e ≡ Some u → SpaceLeft d s u
+    inserted_from : (t u : SpacesState) (p : ℕ) (e : Entry) → AreFree s.uses t.free → SpaceLeft home d s t → inserted t q p e ≡ Some u →
+        SpaceLeft home d s u
     unfolding inserted tabled
     inserted_from t u p e listed k is = by_region (t.regions q (p / NPTENTRIES)) is
       where
-        found : (x : SpacesState) → SpaceLeft d s x → Some (mapped x q p e) ≡ Some u → SpaceLeft d s u
-        found x at some = subst (λ (z : SpacesState). SpaceLeft d s z) (same_Some (mapped x q p e) u some) (mapped_left x p e at)
+        found : (x : SpacesState) → SpaceLeft home d s x → Some (mapped x q p e) ≡ Some u → SpaceLeft home d s u
+        found x at some = subst (λ (z : SpacesState). SpaceLeft home d s z) (same_Some (mapped x q p e) u some) (mapped_left x p e at)
 
         by_list : (l : List ℕ) → AreFree s.uses l → option_map (λ (x : SpacesState). mapped x q p e) (tabled_new t l q (p / NPTENTRIES)) ≡ Some u →
-            SpaceLeft d s u
+            SpaceLeft home d s u
         by_list [] all none = absurd cc
         by_list (f ∷ rest) all some =
             found (with_table (record t { free = rest }) q (p / NPTENTRIES) f)
             (table_left (record t { free = rest }) (p / NPTENTRIES) f (free_is_none f all.0)
             (record { entries = k.entries; regions = k.regions; pages = k.pages })) some
 
-        by_region : (o : Option Region) → option_map (λ (x : SpacesState). mapped x q p e) (tabled_by t o q (p / NPTENTRIES)) ≡ Some u → SpaceLeft d s u
+        by_region : (o : Option Region) → option_map (λ (x : SpacesState). mapped x q p e) (tabled_by t o q (p / NPTENTRIES)) ≡ Some u →
+            SpaceLeft home d s u
         by_region (Some region) some = found t k some
         by_region None some = by_list t.free listed some
 
-    pub inserted_left : (u : SpacesState) (p : ℕ) (e : Entry) → inserted s q p e ≡ Some u → SpaceLeft d s u
+    pub inserted_left : (u : SpacesState) (p : ℕ) (e : Entry) → inserted s q p e ≡ Some u → SpaceLeft home d s u
     inserted_left u p e is = inserted_from s u p e h.free_list same_left is
 
-    pub allocated_left : (p perm : ℕ) (made : ℕ × SpacesState) → allocated s q p perm ≡ Some made → SpaceLeft d s made.1
+    pub allocated_left : (p perm : ℕ) (made : ℕ × SpacesState) → allocated s q p perm ≡ Some made → SpaceLeft home d s made.1
     unfolding allocated fresh_of
     allocated_left p perm made is = by_list s.free h.free_list is
       where
-        by_list : (l : List ℕ) → AreFree s.uses l → allocated_in (fresh_from s l) q p perm ≡ Some made → SpaceLeft d s made.1
+        by_list : (l : List ℕ) → AreFree s.uses l → allocated_in (fresh_from s l) q p perm ≡ Some made → SpaceLeft home d s made.1
         by_list [] all none = absurd cc
         by_list (f ∷ rest) all some = by_insertion (inserted first q p entry) refl some
           where
@@ -140,54 +147,54 @@ module _ (d : ℕ) (s : SpacesState) (h : HasOneUse s) where
             entry : Entry
             entry = record { frame = f; perm = perm }
 
-            begun : SpaceLeft d s first
+            begun : SpaceLeft home d s first
             begun =
                 let it = bytes_left s f zero_page (free_is_none f all.0) same_left in
                 record { entries = it.entries; regions = it.regions; pages = it.pages }
 
             by_insertion : (o : Option SpacesState) → inserted first q p entry ≡ o →
-                option_map (λ (u : SpacesState). let pair : ℕ × SpacesState = (f, u) in pair) o ≡ Some made → SpaceLeft d s made.1
+                option_map (λ (u : SpacesState). let pair : ℕ × SpacesState = (f, u) in pair) o ≡ Some made → SpaceLeft home d s made.1
             by_insertion None ins none = absurd cc
             by_insertion (Some u) ins found =
-                subst (λ (z : ℕ × SpacesState). SpaceLeft d s z.1)
+                subst (λ (z : ℕ × SpacesState). SpaceLeft home d s z.1)
                 (let same : ◌≡◌ {A = ℕ × SpacesState} (f, u) made = same_Some _ made found in same)
                 (inserted_from first u p entry all.2 begun ins)
 
     -- ---- it is touched
 
-    region_left : (t : SpacesState) (index : ℕ) → SpaceLeft d s t → SpaceLeft d s (with_region_bit t q index)
+    region_left : (t : SpacesState) (index : ℕ) → SpaceLeft home d s t → SpaceLeft home d s (with_region_bit t q index)
     region_left t index k = record {
       entries = k.entries;
       regions = λ r. off t.regions index (region_accessed (t.regions q index)) r ∙ k.regions r;
       pages = k.pages;
     }
 
-    entry_left : (t : SpacesState) (p bits : ℕ) → SpaceLeft d s t → SpaceLeft d s (with_entry_bits t q p bits)
+    entry_left : (t : SpacesState) (p bits : ℕ) → SpaceLeft home d s t → SpaceLeft home d s (with_entry_bits t q p bits)
     entry_left t p bits k = record {
       entries = λ r. off t.entries p (entry_marked bits (t.entries q p)) r ∙ k.entries r;
       regions = k.regions;
       pages = k.pages;
     }
 
-    bits_left : (t : SpacesState) (p : ℕ) (a : Access) → SpaceLeft d s t → SpaceLeft d s (with_bits t q p a)
+    bits_left : (t : SpacesState) (p : ℕ) (a : Access) → SpaceLeft home d s t → SpaceLeft home d s (with_bits t q p a)
     bits_left t p a k = by_place (nat_lt p page_limit) (p / NPTENTRIES == table_index)
       where
         by_place : (below window : Bool) →
-            SpaceLeft d s (if below then with_page_bits t q p a else if window then with_region_bit t q (p % NPTENTRIES) else t)
+            SpaceLeft home d s (if below then with_page_bits t q p a else if window then with_region_bit t q (p % NPTENTRIES) else t)
         by_place true window =
             entry_left (with_region_bit t q (p / NPTENTRIES)) p (access_bits a) (region_left t (p / NPTENTRIES) k)
         by_place false true = region_left t (p % NPTENTRIES) k
         by_place false false = k
 
-    pub touched_left : (t : SpacesState) (va : ℕ) (a : Access) → SpaceLeft d s t → SpaceLeft d s (touched t q va a)
+    pub touched_left : (t : SpacesState) (va : ℕ) (a : Access) → SpaceLeft home d s t → SpaceLeft home d s (touched t q va a)
     unfolding touched
     touched_left t va a k = by_outcome (reach_in t q va a)
       where
-        by_outcome : (r : Result FrameOffset PageFault) → SpaceLeft d s (touched_by t q va a r)
+        by_outcome : (r : Result FrameOffset PageFault) → SpaceLeft home d s (touched_by t q va a r)
         by_outcome (Ok location) = bits_left t (page_number va) a k
         by_outcome (Err fault) = k
 
-    pub all_touched_left : (t : SpacesState) (va n : ℕ) → SpaceLeft d s t → SpaceLeft d s (all_touched t q va n)
+    pub all_touched_left : (t : SpacesState) (va n : ℕ) → SpaceLeft home d s t → SpaceLeft home d s (all_touched t q va n)
     unfolding all_touched
     all_touched_left t va zero k = k
     all_touched_left t va (suc n) k = all_touched_left (touched t q va Read) ((va + 1) % 2 ^ 32) n (touched_left t va Read k)
@@ -208,7 +215,7 @@ module _ (d : ℕ) (s : SpacesState) (h : HasOneUse s) where
 
     -- regions lose tables alone
     record Shrinks (t : SpacesState) : Type 0 where
-      left : SpaceLeft d s t
+      left : SpaceLeft home d s t
       tables : (a r : ℕ) (x : Region) → t.regions a r ≡ Some x → s.regions a r ≡ Some x
 
     pages_shrink : (n : ℕ) → Shrinks (pages_removed s q n)
@@ -242,98 +249,103 @@ module _ (d : ℕ) (s : SpacesState) (h : HasOneUse s) where
     tables_shrink t (suc n) k =
         region_shrinks (tables_freed t q n) n ((tables_freed t q n).regions q n) refl (tables_shrink t n k)
 
-    pub destroyed_left : s.uses q ≡ directory → SpaceLeft d s (destroyed s q)
+    pub destroyed_left : s.uses q ≡ directory → SpaceLeft home d s (destroyed s q)
     unfolding destroyed
     destroyed_left is =
         let gone = tables_shrink (pages_removed s q page_limit) region_limit (pages_shrink page_limit) in
         freed_left (tables_freed (pages_removed s q page_limit) q region_limit) q (directory_is_none q is) gone.left
 
-    -- ---- it is written
+  -- ---- home is written
 
-    -- none of its pages is one of the space that is left
-    pub record IsBesidePages (t : SpacesState) : Type 0 where
-      pub none : (p : ℕ) (e : Entry) → t.entries q p ≡ Some e → IsNoPage d s e.frame
+  -- none of its pages is one of those that are left
+  pub record IsBesidePages (t : SpacesState) : Type 0 where
+    pub none : (p : ℕ) (e : Entry) → t.entries home p ≡ Some e → IsNoneLeft home d s e.frame
 
-    marked_frame : (bits : ℕ) (o : Option Entry) → frame_of (entry_marked bits o) ≡ frame_of o
-    marked_frame bits None = refl
-    marked_frame bits (Some e) = refl
+  pub begins_beside : IsBesidePages s
+  begins_beside = record { none = λ p e there q x stands lacks same. lacks p e there (sym same) }
 
-    -- the same frames stand in it
-    alike_beside : (t u : SpacesState) → ((p : ℕ) → frame_of (u.entries q p) ≡ frame_of (t.entries q p)) → IsBesidePages t → IsBesidePages u
-    alike_beside t u same k = record {
-      none = λ p e is.
-          let x = framed (t.entries q p) e.frame (sym (same p) ∙ ap frame_of is) in
-          subst (λ (f : ℕ). IsNoPage d s f) x.2 (k.none p x.0 x.1);
-    }
+  marked_frame : (bits : ℕ) (o : Option Entry) → frame_of (entry_marked bits o) ≡ frame_of o
+  marked_frame bits None = refl
+  marked_frame bits (Some e) = refl
 
-    bits_frames : (t : SpacesState) (n : ℕ) (a : Access) (p : ℕ) → frame_of ((with_bits t q n a).entries q p) ≡ frame_of (t.entries q p)
-    bits_frames t n a p = by_place (nat_lt n page_limit) (n / NPTENTRIES == table_index)
-      where
-        by_place : (below window : Bool) →
-            frame_of ((if below then with_page_bits t q n a else if window then with_region_bit t q (n % NPTENTRIES) else t).entries q p)
-            ≡ frame_of (t.entries q p)
-        by_place true window =
-            put-alike t.entries q n (entry_marked (access_bits a) (t.entries q n)) frame_of (marked_frame (access_bits a) (t.entries q n)) q p
-        by_place false true = refl
-        by_place false false = refl
+  -- the same frames stand in it
+  alike_beside : (t u : SpacesState) → ((p : ℕ) → frame_of (u.entries home p) ≡ frame_of (t.entries home p)) → IsBesidePages t → IsBesidePages u
+  alike_beside t u same k = record {
+    none = λ p e is.
+        let x = framed (t.entries home p) e.frame (sym (same p) ∙ ap frame_of is) in
+        subst (λ (f : ℕ). IsNoneLeft home d s f) x.2 (k.none p x.0 x.1);
+  }
 
-    touched_frames : (t : SpacesState) (va : ℕ) (a : Access) (p : ℕ) → frame_of ((touched t q va a).entries q p) ≡ frame_of (t.entries q p)
-    unfolding touched
-    touched_frames t va a p = by_outcome (reach_in t q va a)
-      where
-        by_outcome : (r : Result FrameOffset PageFault) → frame_of ((touched_by t q va a r).entries q p) ≡ frame_of (t.entries q p)
-        by_outcome (Ok location) = bits_frames t (page_number va) a p
-        by_outcome (Err fault) = refl
+  bits_frames : (t : SpacesState) (n : ℕ) (a : Access) (p : ℕ) → frame_of ((with_bits t home n a).entries home p) ≡ frame_of (t.entries home p)
+  bits_frames t n a p = by_place (nat_lt n page_limit) (n / NPTENTRIES == table_index)
+    where
+      by_place : (below window : Bool) →
+          frame_of ((if below then with_page_bits t home n a else if window then with_region_bit t home (n % NPTENTRIES) else t).entries home p)
+          ≡ frame_of (t.entries home p)
+      by_place true window =
+          put-alike t.entries home n (entry_marked (access_bits a) (t.entries home n)) frame_of
+          (marked_frame (access_bits a) (t.entries home n)) home p
+      by_place false true = refl
+      by_place false false = refl
 
-    pub touched_beside : (t : SpacesState) (va : ℕ) (a : Access) → IsBesidePages t → IsBesidePages (touched t q va a)
-    touched_beside t va a k = alike_beside t (touched t q va a) (touched_frames t va a) k
+  touched_frames : (t : SpacesState) (va : ℕ) (a : Access) (p : ℕ) → frame_of ((touched t home va a).entries home p) ≡ frame_of (t.entries home p)
+  unfolding touched
+  touched_frames t va a p = by_outcome (reach_in t home va a)
+    where
+      by_outcome : (r : Result FrameOffset PageFault) → frame_of ((touched_by t home va a r).entries home p) ≡ frame_of (t.entries home p)
+      by_outcome (Ok location) = bits_frames t (page_number va) a p
+      by_outcome (Err fault) = refl
 
-    -- a write leads to a page that stands there
-    reach_leads : (o : Option Entry) (va : ℕ) (a : Access) (at : FrameOffset) → reach_entry o va a ≡ Ok at →
-        (e : Entry) × (o ≡ Some e) × (e.frame ≡ at.frame) × (allows e.perm a ≡ true)
-    reach_leads None va a at refused = absurd cc
-    reach_leads (Some e) va a at is = by_test (allows e.perm a) refl is
-      where
-        by_test : (t : Bool) → allows e.perm a ≡ t →
-            ◌≡◌ {A = Result FrameOffset PageFault}
-            (if t then Ok (record { frame = e.frame; offset = page_offset va })
-            else Err (record { va = va; error = FEC_U + FEC_PR + write_bit a })) (Ok at) →
-            (x : Entry) × (Some e ≡ Some x) × (x.frame ≡ at.frame) × (allows x.perm a ≡ true)
-        by_test true test some = (e, refl, let same : e.frame ≡ at.frame = cc in same, test)
-        by_test false test refused = absurd cc
+  pub touched_beside : (t : SpacesState) (va : ℕ) (a : Access) → IsBesidePages t → IsBesidePages (touched t home va a)
+  touched_beside t va a k = alike_beside t (touched t home va a) (touched_frames t va a) k
 
-    pub written_none : (t : SpacesState) (va : ℕ) (at : FrameOffset) → IsBesidePages t → reach_in t q va Write ≡ Ok at → IsNoPage d s at.frame
-    unfolding walked
-    written_none t va at k is =
-        let leads = reach_leads (walked t q (page_number va)) va Write at is in
-        subst (λ (f : ℕ). IsNoPage d s f) leads.2 (by_place leads.0 leads.3 (nat_lt n page_limit) leads.1)
-      where
-        n : ℕ
-        n = page_number va
+  -- a write leads to a page that stands there
+  reach_leads : (o : Option Entry) (va : ℕ) (a : Access) (at : FrameOffset) → reach_entry o va a ≡ Ok at →
+      (e : Entry) × (o ≡ Some e) × (e.frame ≡ at.frame) × (allows e.perm a ≡ true)
+  reach_leads None va a at refused = absurd cc
+  reach_leads (Some e) va a at is = by_test (allows e.perm a) refl is
+    where
+      by_test : (t : Bool) → allows e.perm a ≡ t →
+          ◌≡◌ {A = Result FrameOffset PageFault}
+          (if t then Ok (record { frame = e.frame; offset = page_offset va })
+          else Err (record { va = va; error = FEC_U + FEC_PR + write_bit a })) (Ok at) →
+          (x : Entry) × (Some e ≡ Some x) × (x.frame ≡ at.frame) × (allows x.perm a ≡ true)
+      by_test true test some = (e, refl, let same : e.frame ≡ at.frame = cc in same, test)
+      by_test false test refused = absurd cc
 
-        -- the windows are never written
-        by_window : (e : Entry) → allows e.perm Write ≡ true → (o : Option Entry) → option_map read_only o ≡ Some e → IsNoPage d s e.frame
-        by_window e allowed None none = absurd cc
-        by_window e allowed (Some x) some =
-            absurd (let contradiction : false ≡ true = ap (λ (y : Entry). allows y.perm Write) (same_Some (read_only x) e some) ∙ allowed in cc)
+  pub written_none : (t : SpacesState) (va : ℕ) (at : FrameOffset) → IsBesidePages t → reach_in t home va Write ≡ Ok at → IsNoneLeft home d s at.frame
+  unfolding walked
+  written_none t va at k is =
+      let leads = reach_leads (walked t home (page_number va)) va Write at is in
+      subst (λ (f : ℕ). IsNoneLeft home d s f) leads.2 (by_place leads.0 leads.3 (nat_lt n page_limit) leads.1)
+    where
+      n : ℕ
+      n = page_number va
 
-        by_place : (e : Entry) → allows e.perm Write ≡ true → (below : Bool) →
-            (if below then t.entries q n else option_map read_only (entry_above t q (n / NPTENTRIES) (n % NPTENTRIES))) ≡ Some e → IsNoPage d s e.frame
-        by_place e allowed true stands = k.none n e stands
-        by_place e allowed false stands = by_window e allowed (entry_above t q (n / NPTENTRIES) (n % NPTENTRIES)) stands
+      -- the windows are never written
+      by_window : (e : Entry) → allows e.perm Write ≡ true → (o : Option Entry) → option_map read_only o ≡ Some e → IsNoneLeft home d s e.frame
+      by_window e allowed None none = absurd cc
+      by_window e allowed (Some x) some =
+          absurd (let contradiction : false ≡ true = ap (λ (y : Entry). allows y.perm Write) (same_Some (read_only x) e some) ∙ allowed in cc)
 
-    pub stored_left : (t : SpacesState) (va byte : ℕ) → IsBesidePages t → SpaceLeft d s t → SpaceLeft d s (stored_byte t q va byte)
-    unfolding stored_byte
-    stored_left t va byte beside k = by_outcome (reach_in t q va Write) refl
-      where
-        by_outcome : (r : Result FrameOffset PageFault) → reach_in t q va Write ≡ r → SpaceLeft d s (with_byte_at t byte r)
-        by_outcome (Ok location) at = bytes_left t location.frame _ (written_none t va location beside at) k
-        by_outcome (Err fault) at = k
+      by_place : (e : Entry) → allows e.perm Write ≡ true → (below : Bool) →
+          (if below then t.entries home n else option_map read_only (entry_above t home (n / NPTENTRIES) (n % NPTENTRIES))) ≡ Some e →
+          IsNoneLeft home d s e.frame
+      by_place e allowed true stands = k.none n e stands
+      by_place e allowed false stands = by_window e allowed (entry_above t home (n / NPTENTRIES) (n % NPTENTRIES)) stands
 
-    pub stored_beside : (t : SpacesState) (va byte : ℕ) → IsBesidePages t → IsBesidePages (stored_byte t q va byte)
-    unfolding stored_byte
-    stored_beside t va byte k = by_outcome (reach_in t q va Write)
-      where
-        by_outcome : (r : Result FrameOffset PageFault) → IsBesidePages (with_byte_at t byte r)
-        by_outcome (Ok location) = record { none = k.none }
-        by_outcome (Err fault) = k
+  pub stored_left : (t : SpacesState) (va byte : ℕ) → IsBesidePages t → SpaceLeft home d s t → SpaceLeft home d s (stored_byte t home va byte)
+  unfolding stored_byte
+  stored_left t va byte beside k = by_outcome (reach_in t home va Write) refl
+    where
+      by_outcome : (r : Result FrameOffset PageFault) → reach_in t home va Write ≡ r → SpaceLeft home d s (with_byte_at t byte r)
+      by_outcome (Ok location) at = bytes_left t location.frame _ (written_none t va location beside at) k
+      by_outcome (Err fault) at = k
+
+  pub stored_beside : (t : SpacesState) (va byte : ℕ) → IsBesidePages t → IsBesidePages (stored_byte t home va byte)
+  unfolding stored_byte
+  stored_beside t va byte k = by_outcome (reach_in t home va Write)
+    where
+      by_outcome : (r : Result FrameOffset PageFault) → IsBesidePages (with_byte_at t byte r)
+      by_outcome (Ok location) = record { none = k.none }
+      by_outcome (Err fault) = k

@@ -13,12 +13,13 @@ use Rattle.jos_base.specs.KernelState.{KernelState, HasSpaces, slot_at, with_slo
 use Rattle.jos_base.specs.SpacesState.{SpacesState, directories}
 use Rattle.lib_os.specs.AbstractState.{AbstractState, Born, AbstractSlot, free, unborn, born, serving, is_live, with_born, with_printed, TablePlace, Server, leaving, idle, looking, busy, acted}
 use Rattle.lib_os.specs.InOrder.{HasOneUse, IsInOrder}
-use Rattle.lib_os.specs.Rows.{server_row, Names, Rows, EntryRow, rows_of, counted, logical, logical_by, AreBeside, is_clients}
-use Rattle.lib_os.specs.StandsFor.{StandsFor, StandsForSlot, StandsForBorn, IsStatusFor, IsTabled, HasChildren, borne_in, HasServer, StandsForServer, IsServerStatus}
+use Rattle.lib_os.specs.DescriptorPages.{device_of, place_page}
+use Rattle.lib_os.specs.Rows.{server_row, Names, Rows, EntryRow, rows_of, counted, logical, logical_by, is_clients}
+use Rattle.lib_os.specs.StandsFor.{StandsFor, StandsForSlot, StandsForBorn, IsStatusFor, IsTabled, HasChildren, borne_in, HasServer, StandsForServer, IsServerStatus, things_in}
 use Rattle.lib_os.specs.declared.place.Place.{Place}
 use Rattle.lib_os.specs.Places.{place_of}
 use Rattle.lib_os.proofs.Effects.{Quiet}
-use Rattle.lib_os.proofs.EntriesStand.{RowsStand, rows_stand, rows_same, rows_bytes}
+use Rattle.lib_os.proofs.EntriesStand.{RowsStand, rows_stand, rows_same, rows_bytes, rows_turned}
 use Rattle.lib_os.proofs.Children.{KeepsChild, bears_none, stands_still, SameChild, same_child, born_bears_none, children_kept, children_still, BearsNone}
 use Rattle.lib_os.proofs.Logical.{is_plain, plain_unborne, counted_plain, logical_alike, clients_so}
 use Rattle.lib_os.proofs.SlotsStand.{SeenAlike, slot_stands, born_at, born_live, live_stands, status_born}
@@ -56,6 +57,7 @@ server_alike same h = record {
   status = h.status;
   pages = λ p is. h.pages p (ap (λ (r : EntryRow). is_some (r p)) (sym same.rows) ∙ is);
   tables = λ r is. h.tables r (sym (same.regions r) ∙ is);
+  alone = λ j q x y below at there. h.alone j q x y below ((λ i. sym same.rows i (place_page j)) ∙ at) ((λ i. sym same.rows i q) ∙ there);
 }
 
 -- where its slot is the same
@@ -63,10 +65,6 @@ pub server_same : {s : SpacesState} {k l : Slot} {opened : ℕ → TablePlace} {
     HasServer s k opened blocks server → HasServer s l opened blocks server
 server_same {s = s} {opened = opened} {blocks = blocks} {server = server} same h =
     subst (λ (x : Slot). HasServer s x opened blocks server) (sym same) h
-
--- no page of it is a client's, where its row is the same
-pub beside_same : {server after : EntryRow} {rows : Rows} → after ≡ server → AreBeside server rows → AreBeside after rows
-beside_same {rows = rows} same h = subst (λ (r : EntryRow). AreBeside r rows) (sym same) h
 
 -- its row, where another slot is another
 pub row_other : (sp : SpacesState) (slots : ℕ → Slot) (n : ℕ) (k : Slot) → 0 ≢ n → server_row sp (upd slots n k) ≡ server_row sp slots
@@ -174,9 +172,11 @@ set_counts s n k live directory counts =
 
 rows_set : {names : Names} {s : KernelState} {a : AbstractState} → StandsFor names s a → (n : ℕ) (b : Born) → a.slots n ≡ born b → (k : Slot) →
     is_live_slot k ≡ is_live_slot (slot_at s n) → k.directory ≡ (slot_at s n).directory → CountsAlike (place_of (slot_at s n)) (place_of k) →
-    RowsStand names s.spaces.pages a.shared a.objects a.next_name (server_row s.spaces s.environments.slots) (logical s.spaces (upd s.environments.slots n k))
+    RowsStand names s.spaces.pages a.shared (record (things_in s a) { row = server_row s.spaces (upd s.environments.slots n k) }) a.next_name
+    (logical s.spaces (upd s.environments.slots n k))
 rows_set {s = s} h n b at k live directory counts =
-    rows_same (logical s.spaces s.environments.slots) (logical s.spaces (upd s.environments.slots n k)) (set_counts s n k live directory counts) (rows_stand h)
+    rows_turned (row_other s.spaces s.environments.slots n k (born_not_first h n b at))
+    (rows_same (logical s.spaces s.environments.slots) (logical s.spaces (upd s.environments.slots n k)) (set_counts s n k live directory counts) (rows_stand h))
 
 -- ---- children that are not born
 
@@ -185,6 +185,7 @@ same_space names sp d = record {
   rows = refl;
   bytes = λ p x is own_page. refl;
   named_so = λ p x is shared_page. refl;
+  devices = λ p x descriptor is shared_page. refl;
   regions = λ r. refl;
 }
 
@@ -228,9 +229,10 @@ slot_changed {names = names} {s = s} {a = a} h n b at k after directory settles 
           (ap (λ (x : Slot). borne_in (place_of x)) (upd-at s.environments.slots n k) ∙ plain_unborne (place_of k) plain_after));
       whole = rows.whole;
       free_slots = h.free_slots;
-      beside = beside_same (row_other s.spaces s.environments.slots n k (born_not_first h n b at)) rows.beside;
+      beside = rows.beside;
       first = upd-other a.slots n (born after) 0 (born_not_first h n b at) ∙ h.first;
       server = server_same (upd-other s.environments.slots n k 0 (born_not_first h n b at)) h.server;
+      consoles = h.consoles;
       input = h.input;
       last = h.last;
       turns = h.turns;
@@ -253,10 +255,11 @@ slot_replaced {names = names} {s = s} {a = a} h n b at k directory settles count
       named = rows.named;
       users = rows.users;
       whole = rows.whole;
-      beside = beside_same (row_other s.spaces s.environments.slots n k (born_not_first h n b at)) rows.beside;
+      beside = rows.beside;
       free_slots = h.free_slots;
       first = h.first;
       server = server_same (upd-other s.environments.slots n k 0 (born_not_first h n b at)) h.server;
+      consoles = h.consoles;
       input = h.input;
       last = h.last;
       turns = h.turns;
@@ -316,7 +319,8 @@ pub server_set : {names : Names} {s : KernelState} {a : AbstractState} → Stand
     k.directory ≡ (slot_at s 0).directory → Settles (slot_at s 0) k → StandsForServer k FIRST_ENV_ID →
     HasServer s.spaces k a.opened a.files.blocks server → StandsFor names (with_slot_at s 0 k) (record a { server = server })
 server_set {names = names} {s = s} {a = a} h k server directory settles so has =
-    let rows = rows_same (logical s.spaces s.environments.slots) (logical s.spaces (upd s.environments.slots 0 k)) counts (rows_stand h) in
+    let rows = rows_turned (ap (λ (x : Slot). rows_of s.spaces x.directory) (upd-at s.environments.slots 0 k) ∙ ap (λ (d : ℕ). rows_of s.spaces d) directory)
+    (rows_same (logical s.spaces s.environments.slots) (logical s.spaces (upd s.environments.slots 0 k)) counts (rows_stand h)) in
     record {
       slots = upd-all (λ m (x : Slot). StandsForSlot names s.spaces x (a.slots m)) s.environments.slots 0 k
           (subst (λ (y : AbstractSlot). StandsForSlot names s.spaces k y) (sym h.first) so) (λ m ne. h.slots m);
@@ -328,10 +332,11 @@ server_set {names = names} {s = s} {a = a} h k server directory settles so has =
       named = rows.named;
       users = rows.users;
       whole = rows.whole;
-      beside = beside_same (ap (λ (x : Slot). rows_of s.spaces x.directory) (upd-at s.environments.slots 0 k) ∙ ap (rows_of s.spaces) directory) rows.beside;
+      beside = rows.beside;
       free_slots = h.free_slots;
       first = h.first;
       server = server_same (upd-at s.environments.slots 0 k) has;
+      consoles = h.consoles;
       input = h.input;
       last = h.last;
       turns = h.turns;
@@ -359,6 +364,7 @@ printed_stands h bytes = record {
   free_slots = h.free_slots;
   first = h.first;
   server = h.server;
+  consoles = h.consoles;
   input = h.input;
   last = h.last;
   turns = h.turns;
@@ -396,10 +402,11 @@ turn_begun_stands {names = names} {s = s} {a = a} h n b at awake none =
       named = rows.named;
       users = rows.users;
       whole = rows.whole;
-      beside = beside_same (row_other s.spaces s.environments.slots n k (born_not_first h n b at)) rows.beside;
+      beside = rows.beside;
       free_slots = h.free_slots;
       first = h.first;
       server = server_same (upd-other s.environments.slots n k 0 (born_not_first h n b at)) h.server;
+      consoles = h.consoles;
       input = h.input;
       last = refl;
       turns = ap (λ (t : ℕ). t + 1) h.turns;
@@ -467,7 +474,7 @@ server_ended {names = names} {s = s} {a = a} h n id at running = subst (λ (m : 
     ended : StandsFor names (with_status s 0 Runnable) a
     ended =
         server_set h k a.server refl (stopped_settles (slot_at s 0) k refl refl refl) stopped
-        (record { status = ready a.server h.server.status; pages = h.server.pages; tables = h.server.tables })
+        (record { status = ready a.server h.server.status; pages = h.server.pages; tables = h.server.tables; alone = h.server.alone })
 
 pub turn_ended_stands : {names : Names} {s : KernelState} {a : AbstractState} → StandsFor names s a → (n : ℕ) →
     StandsFor names (turn_ended s n) a
@@ -496,16 +503,18 @@ quiet_alike names quiet d = record {
   rows = ap (λ (r : Rows). r d) quiet.rows;
   bytes = λ p x at own_page. ap (λ (pages : ℕ → List ℕ). pages x.frame) quiet.pages;
   named_so = λ p x at shared_page. refl;
+  devices = λ p x descriptor at shared_page. ap (λ (pages : ℕ → List ℕ). device_of (pages x.frame)) quiet.pages;
   regions = quiet.regions d;
 }
 
 pub quiet_stands : {names : Names} {s : KernelState} {a : AbstractState} {sp : SpacesState} → StandsFor names s a →
     Quiet s.spaces sp → IsInOrder (with_spaces s sp) → StandsFor names (with_spaces s sp) a
 quiet_stands {names = names} {s = s} {a = a} {sp = sp} h quiet in_order =
-    let rows = rows_bytes sp.pages (λ n p x is. ap (λ (pages : ℕ → List ℕ). pages x.frame) quiet.pages)
+    let rows = rows_turned (ap (λ (r : Rows). r (slot_at s 0).directory) quiet.rows)
+    (rows_bytes sp.pages (λ n p x is. ap (λ (pages : ℕ → List ℕ). pages x.frame) quiet.pages)
     (rows_same (logical s.spaces s.environments.slots) (logical sp s.environments.slots)
     (λ n p. logical_alike s.spaces sp s.environments.slots s.environments.slots n refl refl
-    (λ live. ap (λ (r : Rows). r (slot_at s n).directory) quiet.rows) p) (rows_stand h)) in
+    (λ live. ap (λ (r : Rows). r (slot_at s n).directory) quiet.rows) p) (rows_stand h))) in
     record {
       slots = λ m. slot_stands names names s.spaces sp (slot_at s m) (a.slots m) (h.slots m)
           (λ live. quiet_alike names quiet (slot_at s m).directory);
@@ -515,10 +524,11 @@ quiet_stands {names = names} {s = s} {a = a} {sp = sp} h quiet in_order =
       named = rows.named;
       users = rows.users;
       whole = rows.whole;
-      beside = beside_same (ap (λ (r : Rows). r (slot_at s 0).directory) quiet.rows) rows.beside;
+      beside = rows.beside;
       free_slots = h.free_slots;
       first = h.first;
       server = server_alike (quiet_alike names quiet (slot_at s 0).directory) h.server;
+      consoles = h.consoles;
       input = h.input;
       last = h.last;
       turns = h.turns;
@@ -533,7 +543,7 @@ pub own_moves : {names after : Names} {s : KernelState} {a : AbstractState} → 
     a.slots n ≡ born b → (sp : SpacesState) (k : Slot) (c : Born) (shared : ℕ → List ℕ) (next : ℕ) →
     k.directory ≡ (slot_at s n).directory → Settles (slot_at s n) k → borne_in (place_of (slot_at s n)) ≡ None → borne_in (place_of k) ≡ None →
     ((d : ℕ) → d ≢ (slot_at s n).directory → SeenAlike names after s.spaces sp d) → StandsForBorn after sp k c →
-    RowsStand after sp.pages shared a.objects next (server_row s.spaces s.environments.slots) (logical sp (upd s.environments.slots n k)) →
+    RowsStand after sp.pages shared (things_in s a) next (logical sp (upd s.environments.slots n k)) →
     IsInOrder (with_slot_at (with_spaces s sp) n k) →
     StandsFor after (with_slot_at (with_spaces s sp) n k) (with_born (record a { shared = shared; next_name = next }) n c)
 own_moves {names = names} {after = after} {s = s} {a = a} h n b at sp k c shared next directory settles none none_after others mine rows in_order = record {
@@ -543,43 +553,55 @@ own_moves {names = names} {after = after} {s = s} {a = a} h n b at sp k c shared
       (ap (λ (x : Slot). borne_in (place_of x)) (upd-at s.environments.slots n k) ∙ none_after)
       (λ m ne. upd-other s.environments.slots n k m ne) others;
   apart = rows.apart;
-  named = rows.named;
+  named = (turned rows).named;
   users = rows.users;
   whole = rows.whole;
-  beside = beside_same (row_other sp s.environments.slots n k (born_not_first h n b at) ∙ (servers_seen h n b at others).rows) rows.beside;
+  beside = (turned rows).beside;
   free_slots = h.free_slots;
   first = upd-other a.slots n (born c) 0 (born_not_first h n b at) ∙ h.first;
   server = server_same (upd-other s.environments.slots n k 0 (born_not_first h n b at)) (server_alike (servers_seen h n b at others) h.server);
+  consoles = h.consoles;
   input = h.input;
   last = h.last;
   turns = h.turns;
   tabled = tabled_set h.tabled n k (born_live (born_at h n b at)) settles;
   in_order = in_order;
 }
+  where
+    turned : RowsStand after sp.pages shared (things_in s a) next (logical sp (upd s.environments.slots n k)) →
+        RowsStand after sp.pages shared (record (things_in s a) { row = server_row sp (upd s.environments.slots n k) }) next
+        (logical sp (upd s.environments.slots n k))
+    turned =
+        rows_turned (row_other sp s.environments.slots n k (born_not_first h n b at) ∙ (servers_seen h n b at others).rows)
 
 -- the same where its slot is what it was
 pub space_moves : {names after : Names} {s : KernelState} {a : AbstractState} → StandsFor names s a → (n : ℕ) (b : Born) →
     a.slots n ≡ born b → (sp : SpacesState) (c : Born) (shared : ℕ → List ℕ) (next : ℕ) → borne_in (place_of (slot_at s n)) ≡ None →
     ((d : ℕ) → d ≢ (slot_at s n).directory → SeenAlike names after s.spaces sp d) → StandsForBorn after sp (slot_at s n) c →
-    RowsStand after sp.pages shared a.objects next (server_row s.spaces s.environments.slots) (logical sp s.environments.slots) → IsInOrder (with_spaces s sp) →
+    RowsStand after sp.pages shared (things_in s a) next (logical sp s.environments.slots) → IsInOrder (with_spaces s sp) →
     StandsFor after (with_spaces s sp) (with_born (record a { shared = shared; next_name = next }) n c)
 space_moves {names = names} {after = after} {s = s} {a = a} h n b at sp c shared next none others mine rows in_order = record {
   slots = upd-all (λ m (y : AbstractSlot). StandsForSlot after sp (slot_at s m) y) a.slots n (born c) mine (others_stand h n b at others);
   children = children_moved h n b at s.environments.slots c none none (λ m ne. refl) others;
   apart = rows.apart;
-  named = rows.named;
+  named = (turned rows).named;
   users = rows.users;
   whole = rows.whole;
-  beside = beside_same (servers_seen h n b at others).rows rows.beside;
+  beside = (turned rows).beside;
   free_slots = h.free_slots;
   first = upd-other a.slots n (born c) 0 (born_not_first h n b at) ∙ h.first;
   server = server_alike (servers_seen h n b at others) h.server;
+  consoles = h.consoles;
   input = h.input;
   last = h.last;
   turns = h.turns;
   tabled = h.tabled;
   in_order = in_order;
 }
+  where
+    turned : RowsStand after sp.pages shared (things_in s a) next (logical sp s.environments.slots) →
+        RowsStand after sp.pages shared (record (things_in s a) { row = server_row sp s.environments.slots }) next (logical sp s.environments.slots)
+    turned = rows_turned ((servers_seen h n b at others).rows)
 
 -- Entries of other slots count as they did, where only one environment's space is seen to change.
 pub others_count : {names after : Names} {s : KernelState} {a : AbstractState} {sp : SpacesState} → StandsFor names s a →

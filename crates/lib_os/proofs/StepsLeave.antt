@@ -9,14 +9,14 @@ use Rattle.lib_os.specs.LibrarySteps.{KeepsServer, KeepsUses, Leaves, Stands, go
 use Rattle.lib_os.specs.UserCalls.{system}
 use Rattle.lib_os.proofs.UsesCalled.{system_found}
 use Rattle.lib_os.proofs.Leaving.{Left, put_left, system_left, wakes, running_calm}
-use Rattle.lib_os.proofs.NumbersKept.{KeepsCopies, KeepsOthers, copies_kept, numbers_kept, places_kept}
+use Rattle.lib_os.proofs.NumbersKept.{KeepsCopies, KeepsOthers, copies_kept, numbers_kept, places_kept, working_kept}
 use Rattle.lib_os.proofs.OthersCopies.{maps_no_copy, plain_wait}
 use Rattle.lib_os.proofs.OthersKept.{own_stay, system_stay, sets_others}
 use Rattle.lib_os.proofs.ServerLeft.{own_server, sends_aside, system_server}
 use Rattle.lib_os.proofs.StatesStand.{slot_was_in_order}
 
 -- Behind a call in which the environment did not wake itself: one that is in its turn, and waits for nothing, is not RUNNABLE. Each
--- other one stands where it stood, and no more of its pages wait to be copied.
+-- other one stands where it stood, no more of its pages wait to be copied, and the one is the same in which its services keep what they move.
 pub record Behind (s : KernelState) (n : ℕ) (mid : KernelState) : Type 0 where
   pub left : Left ((slot_at s n).rendezvous.receiving ≡ false) s n mid
   pub used : KeepsUses n s mid
@@ -74,6 +74,7 @@ stays s after n done h = record {
   uses = h.used;
   places = places_kept s after n h.others;
   numbers = numbers_kept s after n h.others h.copies;
+  working = working_kept s after n h.copies;
   server = h.server;
 }
 

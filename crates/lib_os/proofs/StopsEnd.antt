@@ -1,10 +1,9 @@
 -- An environment that stands before an access that its page refuses ends by its next step, in the abstract system too: a program that is
 -- marked with its fault, and a service that moves bytes to or from the program's memory.
-use Rattle.std.proofs.Common.{◌≡◌, ◌∙◌, ◌+◌, ◌-◌, ◌<◌, ◌%◌, ◌^◌, ◌++◌, ◌&&◌, not, ℕ, Bool, true, false, List, [], ◌∷◌, length, refl, sym, ap, subst}
+use Rattle.std.proofs.Common.{◌≡◌, ◌∙◌, ◌+◌, ◌-◌, ◌<◌, ◌%◌, ◌^◌, ◌++◌, ◌&&◌, not, ℕ, Bool, true, false, List, [], ◌∷◌, length, refl, sym, ap}
 use Rattle.std.proofs.Common.{arith}
 use Rattle.std.proofs.lemmas.Bool.Decides.{nat_tests}
-use Rattle.std.specs.Option.{option_map}
-use Rattle.std.specs.Prelude.{Option, Some, is_ok, is_some, nat_lt}
+use Rattle.std.specs.Prelude.{Option, Some, is_ok, nat_lt}
 use Rattle.jos_base.specs.declared.line.Line.TheVariants as line
 use Rattle.jos_base.specs.declared.memory.Access.TheVariants.{Read, Write}
 use Rattle.jos_base.specs.declared.registers.Regs.{Regs}
@@ -12,31 +11,27 @@ use Rattle.jos_base.specs.KernelState.{KernelState, slot_at}
 use Rattle.jos_base.specs.Reach.{Entry}
 use Rattle.jos_base.specs.SystemCalls.{has_write}
 use Rattle.jos_base.specs.Words.{page_number}
-use Rattle.jos_base.proofs.Options.{some_is}
-use Rattle.lib_os.specs.declared.numbers.TheConstants.{DESCRIPTORS}
 use Rattle.lib_os.specs.declared.service.Service.{Service}
 use Rattle.lib_os.specs.declared.service.Service.TheVariants as service
 use Rattle.lib_os.specs.AbstractMemory.{page_allows, page_at}
 use Rattle.lib_os.specs.AbstractRun.{abs_step}
-use Rattle.lib_os.specs.AbstractState.{AbstractState, Born, Object, Stage, born, delivering, gathering, guest, terminal}
+use Rattle.lib_os.specs.AbstractState.{AbstractState, Born, Stage, born, delivering, gathering, guest, terminal}
 use Rattle.lib_os.specs.Answers.{bytes_gathered, ended_at}
-use Rattle.lib_os.specs.DescriptorPages.{HasObject}
 use Rattle.lib_os.specs.Descriptors.{object_of}
 use Rattle.lib_os.specs.Fence.{is_buffer, is_inside}
 use Rattle.lib_os.specs.FileServices.{write_step, write_with}
 use Rattle.lib_os.specs.GuestStep.{ends_with}
 use Rattle.lib_os.specs.LibraryCall.{library_step}
 use Rattle.lib_os.specs.Places.{place_of}
-use Rattle.lib_os.specs.Rows.{EntryRow, IsUsers, Names, ShowsBy, descriptor_page, is_cow, is_shared, logical, rows_of}
-use Rattle.lib_os.specs.StandsFor.{StandsFor}
+use Rattle.lib_os.specs.Rows.{EntryRow, IsUsers, Names, is_cow, rows_of}
+use Rattle.lib_os.specs.StandsFor.{StandsFor, view_of}
 use Rattle.lib_os.specs.StandsInHandler.{IsStoppedAt, is_refused_by, marked, reading, stage_with, telling, wanted_of, writing}
 use Rattle.lib_os.proofs.BytesRead.{user_allows, user_lost, users_inside}
-use Rattle.lib_os.proofs.DescriptorLooks.{entry_bits, is_descriptors, object_is}
+use Rattle.lib_os.proofs.DeviceLooks.{names_console}
 use Rattle.lib_os.proofs.FaultEnds.{access_of, access_refused, faulted_step}
 use Rattle.lib_os.proofs.Fences.{inside_below, inside_number}
-use Rattle.lib_os.proofs.Logical.{inside_programs, is_plain, logical_plain}
+use Rattle.lib_os.proofs.Logical.{inside_programs, is_plain, plain_unborne}
 use Rattle.lib_os.proofs.Serving.{service_step}
-use Rattle.lib_os.proofs.StatesStand.{clients_live}
 
 -- ---- an access that a page refuses
 
@@ -75,28 +70,6 @@ module _ {names : Names} {s : KernelState} {a : AbstractState} (h : StandsFor na
               let waits : is_cow entry.perm ≡ false =
               not_waiting (has_write entry.perm) (is_cow entry.perm) (ap (is_refused_by true) (sym lost.page.stands) ∙ off) in
               let contradiction : true ≡ false = sym lost.page.copied ∙ waits in absurd cc
-
-  -- ---- what descriptors name
-
-  is_console : (object : Object) (bytes : List ℕ) → HasObject object bytes → object ≡ terminal
-  is_console terminal bytes has = refl
-  is_console _ bytes has = absurd has
-
-  -- where entries count as they stand, each descriptor that is open names the console
-  pub names_console : is_plain (place_of (slot_at s n)) ≡ true → (fd : ℕ) → fd < DESCRIPTORS → is_some (row (descriptor_page fd)) ≡ true →
-      object_of a b fd ≡ Some terminal
-  names_console plain fd below open_there =
-      let x = some_is (row (descriptor_page fd)) open_there in
-      let counts : logical s.spaces s.environments.slots n (descriptor_page fd) ≡ Some x.0 =
-      logical_plain s.spaces s.environments.slots n (clients_live h n b at) plain (descriptor_page fd) ∙ x.1 in
-      let shared_page : is_shared x.0.perm ≡ true = ap is_shared (entry_bits h n b at fd x.0 below x.1) in
-      let it = h.named n (descriptor_page fd) x.0 counts shared_page in
-      let f : ℕ = x.0.frame in
-      let object : names.is_object (names.name f) ≡ true = it.kind ∙ is_descriptors fd below in
-      ap (option_map a.objects) (object_is h n b at fd x.0 below x.1)
-      ∙ ap (λ (o : Object). Some o)
-      (is_console (a.objects (names.name f)) (s.spaces.pages f)
-      (subst (λ (c : Bool). ShowsBy c (a.shared (names.name f)) (a.objects (names.name f)) (s.spaces.pages f)) object it.shows))
 
 -- ---- the next step
 
@@ -145,7 +118,7 @@ module _ (a : AbstractState) (n : ℕ) (b : Born) (regs : Regs) (va : ℕ) where
 module _ {names : Names} {s : KernelState} {a : AbstractState} (h : StandsFor names s a) (n : ℕ) (b : Born) (at : a.slots n ≡ born b) where
   pub stopped_step : is_plain (place_of (slot_at s n)) ≡ true → (write : Bool) (va : ℕ) (regs : Regs) → b.program ≡ guest regs → b.blocked ≡ false →
       is_inside va ≡ true → is_refused_by write (rows_of s.spaces (slot_at s n).directory (page_number va)) ≡ true →
-      IsStoppedAt write (rows_of s.spaces (slot_at s n).directory) b va regs.eip → abs_step a n ≡ Some (ends_with a n b (line.UserFault va regs.eip))
+      IsStoppedAt write (view_of s.spaces (slot_at s n).directory) b va regs.eip → abs_step a n ≡ Some (ends_with a n b (line.UserFault va regs.eip))
   stopped_step plain write va regs program awake inside refused (marked phase) = faulted_step a n b regs va regs.eip at awake program phase
   stopped_step plain write va regs program awake inside refused (reading fd buffer len bytes answer writes phase more) =
       service_step a n b regs (service.Read fd buffer len) (delivering va bytes answer) at program phase awake
@@ -157,6 +130,7 @@ module _ {names : Names} {s : KernelState} {a : AbstractState} (h : StandsFor na
       (ap (λ (w : Bool). page_allows (page_at b va) (access_of w)) (sym writes) ∙ page_refuses h n b at write va inside refused)
   stopped_step plain write va regs program awake inside refused (writing fd buffer len bytes reads wants there) =
       service_step a n b regs (service.Write fd buffer len) (stage_with bytes) at program wants.phase awake
-      ∙ write_ends a n b regs va fd buffer len bytes (names_console h n b at plain fd wants.given.below wants.given.stands) wants.given.buffer
+      ∙ write_ends a n b regs va fd buffer len bytes
+      (names_console h n b at (plain_unborne (place_of (slot_at s n)) plain) fd wants.given.below wants.given.console) wants.given.buffer
       wants.fewer there inside
       (ap (λ (w : Bool). page_allows (page_at b va) (access_of w)) (sym reads) ∙ page_refuses h n b at write va inside refused)

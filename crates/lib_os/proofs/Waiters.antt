@@ -1,14 +1,16 @@
 -- Who waits for a message, waits in both systems: a receiver in its service, and nobody else. One that is waited for by the
 -- kernel's words is taken by the abstract system, and the other way round.
 use Rattle.std.proofs.Common.{◌≡◌, ◌≢◌, ◌∙◌, ◌⊎◌, inl, inr, ◌≤◌, ◌%◌, ◌==◌, ◌&&◌, ◌||◌, ℕ, Bool, true, false, Option, Some, None}
-use Rattle.std.proofs.Common.{refl, sym, ap, arith, if◌then◌else◌}
+use Rattle.std.proofs.Common.{refl, sym, ap, subst, arith, if◌then◌else◌}
+use Rattle.std.specs.Prelude.{nat_lt}
 use Rattle.std.proofs.lemmas.Bool.Decides.{nat_tests}
 use Rattle.jos_base.specs.declared.memory.PageFault.{PageFault}
-use Rattle.jos_base.specs.declared.numbers.TheConstants.{FIRST_ENV_ID, NENV, UTOP}
+use Rattle.jos_base.specs.declared.numbers.TheConstants.{FIRST_ENV_ID, NENV, UTEMP, UTOP}
 use Rattle.jos_base.specs.declared.registers.Regs.{Regs}
 use Rattle.jos_base.specs.Environments.{Slot}
 use Rattle.jos_base.specs.KernelState.{KernelState, slot_at}
-use Rattle.jos_base.specs.Messages.{accepts}
+use Rattle.jos_base.specs.Messages.{Rendezvous, accepts}
+use Rattle.jos_base.specs.Words.{page_number}
 use Rattle.lib_os.specs.declared.place.HandlerStep.{HandlerStep}
 use Rattle.lib_os.specs.declared.place.Place.{Place}
 use Rattle.lib_os.specs.declared.place.Place.TheVariants as place
@@ -18,14 +20,16 @@ use Rattle.lib_os.specs.declared.service.Service.{Service}
 use Rattle.lib_os.specs.declared.service.Service.TheVariants as service
 use Rattle.lib_os.specs.AbstractState.{AbstractState, Born, born, Phase, entered}
 use Rattle.lib_os.specs.AbstractMessages.{Receiver, waiting_at, waiting_in, takes, sent, sent_to_waiting}
+use Rattle.lib_os.specs.Fence.{in_fence, is_page_inside}
 use Rattle.lib_os.specs.LibraryPages.{View}
 use Rattle.lib_os.specs.Places.{place_of}
-use Rattle.lib_os.specs.Rows.{EntryRow, Names}
+use Rattle.lib_os.specs.Rows.{EntryRow, Names, is_programs}
 use Rattle.lib_os.specs.StandsFor.{StandsFor, StandsAt, StandsAtStep, view_of, IsIn, IsReceiving, HasReceived, IsBearing}
-use Rattle.lib_os.specs.StandsFor.{AwaitsOrHas, IsAwaiting, awaits, has_reply}
+use Rattle.lib_os.specs.StandsFor.{AwaitsOrHas, awaits, has_reply}
 use Rattle.lib_os.specs.StandsFor.{WaitsOrHas, waits, has, destination_of, StandsAtDevice, StandsBefore, IsTaking, descriptor_given}
 use Rattle.lib_os.specs.StandsInHandler.{CopiesOrEnds, copies, ends, StandsDelivering, StandsBeneath, at_program, in_delivery}
 use Rattle.lib_os.specs.StandsInHandler.{IsStoppedAt, marked, reading, telling, writing}
+use Rattle.lib_os.proofs.Logical.{page_inside_programs}
 use Rattle.lib_os.proofs.SlotsStand.{born_at, born_live}
 use Rattle.lib_os.proofs.StatesStand.{born_not_first}
 
@@ -39,19 +43,21 @@ pub record Waits (p : Place) (k : Slot) (c : Born) : Type 0 where
   pub self : id ≡ k.id
   pub so : IsReceiving k c w.va w.from
 
+-- It waits for nobody, or for the file server alone.
+pub data IsDeaf (r : Rendezvous) : Type 0 where
+  quiet : r.receiving ≡ false → IsDeaf r
+  for_server : r.receiving ≡ true → r.wanted ≡ FIRST_ENV_ID → r.destination ≡ UTOP → IsDeaf r
+
 -- It waits in neither system.
 pub record WaitsNot (k : Slot) (c : Born) : Type 0 where
-  pub deaf : (sender : ℕ) → sender ≢ FIRST_ENV_ID → accepts k.rendezvous sender ≡ false
+  pub deaf : IsDeaf k.rendezvous
   pub nowhere : waiting_in c.phase ≡ None
 
--- it waits for nobody
-quiet : (k : Slot) → k.rendezvous.receiving ≡ false → (sender : ℕ) → sender ≢ FIRST_ENV_ID → accepts k.rendezvous sender ≡ false
-quiet k is sender other = λ i. is i && ((k.rendezvous.wanted == 0) || (k.rendezvous.wanted == sender))
-
--- it waits for the file server alone
-for_server : {k : Slot} {c : Born} {s : Service} → IsAwaiting k c s → (sender : ℕ) → sender ≢ FIRST_ENV_ID → accepts k.rendezvous sender ≡ false
-for_server {k = k} h sender other =
-    (λ i. h.rendezvous i && ((h.wanted i == 0) || (h.wanted i == sender))) ∙ by_test (FIRST_ENV_ID == sender) refl
+-- it takes nothing of another
+none_taken : (r : Rendezvous) → IsDeaf r → (sender : ℕ) → sender ≢ FIRST_ENV_ID → accepts r sender ≡ false
+none_taken r (quiet is) sender other = λ i. is i && ((r.wanted == 0) || (r.wanted == sender))
+none_taken r (for_server receiving wanted page) sender other =
+    (λ i. receiving i && ((wanted i == 0) || (wanted i == sender))) ∙ by_test (FIRST_ENV_ID == sender) refl
   where
     by_test : (t : Bool) → (FIRST_ENV_ID == sender) ≡ t → (true && ((FIRST_ENV_ID == 0) || t)) ≡ false
     by_test true is = absurd (other (grind (arith, nat_tests)))
@@ -62,22 +68,22 @@ entered_only (service.Receive va from) = refl
 entered_only _ = refl
 
 in_silence : {k : Slot} {c : Born} (s : Service) → IsIn k c s entered → WaitsNot k c
-in_silence {k = k} s h = record { deaf = quiet k h.silent; nowhere = ap (λ (p : Phase). waiting_in p) h.phase ∙ entered_only s }
+in_silence s h = record { deaf = quiet h.silent; nowhere = ap (λ (p : Phase). waiting_in p) h.phase ∙ entered_only s }
 
 bearing_silent : {k : Slot} {c : Born} (id : ℕ) → IsBearing k c id → WaitsNot k c
-bearing_silent {k = k} id h = record { deaf = quiet k h.silent; nowhere = ap (λ (p : Phase). waiting_in p) h.phase }
+bearing_silent id h = record { deaf = quiet h.silent; nowhere = ap (λ (p : Phase). waiting_in p) h.phase }
 
 has_come : {k : Slot} {c : Born} {va from : ℕ} → HasReceived k c va from → WaitsNot k c
-has_come {k = k} h = record { deaf = quiet k h.silent; nowhere = ap (λ (p : Phase). waiting_in p) h.phase }
+has_come h = record { deaf = quiet h.silent; nowhere = ap (λ (p : Phase). waiting_in p) h.phase }
 
 -- it moves bytes
 delivers : {k : Slot} {c : Born} (s : Service) (done word : ℕ) → StandsDelivering s done word k c → WaitsNot k c
-delivers {k = k} (service.Read fd va len) done word h = record { deaf = quiet k h.silent; nowhere = ap (λ (p : Phase). waiting_in p) h.phase }
-delivers {k = k} (service.Stat fd va) done word h = record { deaf = quiet k h.silent; nowhere = ap (λ (p : Phase). waiting_in p) h.phase }
+delivers (service.Read fd va len) done word h = record { deaf = quiet h.silent; nowhere = ap (λ (p : Phase). waiting_in p) h.phase }
+delivers (service.Stat fd va) done word h = record { deaf = quiet h.silent; nowhere = ap (λ (p : Phase). waiting_in p) h.phase }
 delivers _ done word h = absurd h
 
 takes_bytes : {v : View} {k : Slot} {c : Born} (fd va len done : ℕ) → IsTaking v k c fd va len done → WaitsNot k c
-takes_bytes {k = k} fd va len done h = record { deaf = quiet k h.silent; nowhere = ap (λ (p : Phase). waiting_in p) h.wants.phase }
+takes_bytes fd va len done h = record { deaf = quiet h.silent; nowhere = ap (λ (p : Phase). waiting_in p) h.wants.phase }
 
 before_byte : (so : Type 0) (v : View) {k : Slot} {c : Born} (s : Service) (done word : ℕ) → StandsBefore so v k c s done word → WaitsNot k c
 before_byte so v (service.Read fd va len) done word h = delivers (service.Read fd va len) done word h.0
@@ -107,10 +113,10 @@ at_step v k c (service.Read fd va len) step.Getting h = inl (in_silence _ h.is_i
 at_step v k c (service.Write fd va len) step.TakingPage h = inl (in_silence _ h.0)
 at_step v k c (service.Write fd va len) (step.Gathering done) h = inl (takes_bytes fd va len done h.0)
 at_step v k c (service.Write fd va len) (step.Keeping done word left) h =
-    inl (record { deaf = quiet k h.is_in.silent; nowhere = ap (λ (p : Phase). waiting_in p) h.is_in.phase })
+    inl (record { deaf = quiet h.is_in.silent; nowhere = ap (λ (p : Phase). waiting_in p) h.is_in.phase })
 at_step v k c (service.Write fd va len) step.Printing h =
-    inl (record { deaf = quiet k h.is_in.silent; nowhere = ap (λ (p : Phase). waiting_in p) h.is_in.phase })
-at_step v k c (service.Write fd va len) step.Releasing h = inl (record { deaf = quiet k h.silent; nowhere = ap (λ (p : Phase). waiting_in p) h.phase })
+    inl (record { deaf = quiet h.is_in.silent; nowhere = ap (λ (p : Phase). waiting_in p) h.is_in.phase })
+at_step v k c (service.Write fd va len) step.Releasing h = inl (record { deaf = quiet h.silent; nowhere = ap (λ (p : Phase). waiting_in p) h.phase })
 at_step v k c (service.Wait id) (step.Trying perm) h = inl (in_silence _ h.is_in)
 at_step v k c (service.Wait id) (step.Pausing perm) h = inl (in_silence _ h.is_in)
 at_step v k c (service.Send id value va) (step.Trying perm) h = inl (in_silence _ h.is_in)
@@ -128,12 +134,12 @@ at_step v k c (service.Receive va from) (step.ReadingPerm id value sender) h = i
 at_step v k c service.Sync (step.Asking id) h = inl (in_silence _ h.1)
 at_step v k c service.Sync (step.Pausing id) h = inl (in_silence _ h.1)
 at_step v k c service.Sync (step.Awaiting id) h =
-    inl (record { deaf = quiet k h.1.silent; nowhere = ap (λ (p : Phase). waiting_in p) h.1.phase })
+    inl (record { deaf = quiet h.1.silent; nowhere = ap (λ (p : Phase). waiting_in p) h.1.phase })
 at_step v k c service.Sync (step.ReadingReply id) h = by_reply h.1
   where
     by_reply : AwaitsOrHas k c service.Sync → WaitsNot k c ⊎ Waits (place.InService service.Sync (step.ReadingReply id)) k c
-    by_reply (awaits so) = inl (record { deaf = for_server so; nowhere = ap (λ (p : Phase). waiting_in p) so.phase })
-    by_reply (has_reply so) = inl (record { deaf = quiet k so.silent; nowhere = ap (λ (p : Phase). waiting_in p) so.phase })
+    by_reply (awaits so) = inl (record { deaf = for_server so.rendezvous so.wanted so.destination; nowhere = ap (λ (p : Phase). waiting_in p) so.phase })
+    by_reply (has_reply so) = inl (record { deaf = quiet so.silent; nowhere = ap (λ (p : Phase). waiting_in p) so.phase })
 at_step v k c service.Fork (step.ForkRegion id region) h = inl (bearing_silent id h.0)
 at_step v k c service.Fork (step.ForkEntry id page) h = inl (bearing_silent id h.0)
 at_step v k c service.Fork (step.MapChild id page perm) h = inl (bearing_silent id h.0)
@@ -154,10 +160,10 @@ at_step v k c _ _ h = absurd h
 
 -- its page is copied, or it is on the way to its end
 beneath_handler : {row : EntryRow} {k : Slot} {c : Born} → StandsBeneath row k c → WaitsNot k c
-beneath_handler {k = k} (at_program h) = record { deaf = quiet k h.silent; nowhere = ap (λ (p : Phase). waiting_in p) h.phase }
+beneath_handler (at_program h) = record { deaf = quiet h.silent; nowhere = ap (λ (p : Phase). waiting_in p) h.phase }
 beneath_handler (in_delivery s done word at h) = delivers s done word h.0
 
-stopped_nowhere : {write : Bool} {row : EntryRow} {c : Born} {va ip : ℕ} → IsStoppedAt write row c va ip → waiting_in c.phase ≡ None
+stopped_nowhere : {write : Bool} {v : View} {c : Born} {va ip : ℕ} → IsStoppedAt write v c va ip → waiting_in c.phase ≡ None
 stopped_nowhere (marked phase) = ap (λ (p : Phase). waiting_in p) phase
 stopped_nowhere (reading fd buffer len bytes answer writes phase some) = ap (λ (p : Phase). waiting_in p) phase
 stopped_nowhere (telling fd buffer bytes answer writes phase some) = ap (λ (p : Phase). waiting_in p) phase
@@ -166,10 +172,10 @@ stopped_nowhere (writing fd buffer len bytes reads wants there) = ap (λ (p : Ph
 in_handler : (stands : HandlerStep) (v : View) {k : Slot} {c : Born} (fault : PageFault) (regs : Regs) →
     CopiesOrEnds stands v k c fault regs → WaitsNot k c
 in_handler stands v fault regs (copies way) = let off = beneath_handler way.beneath in record { deaf = off.deaf; nowhere = off.nowhere }
-in_handler stands v {k = k} fault regs (ends way) = record { deaf = quiet k way.silent; nowhere = stopped_nowhere way.stopped }
+in_handler stands v fault regs (ends way) = record { deaf = quiet way.silent; nowhere = stopped_nowhere way.stopped }
 
 pub waits_or_not : (p : Place) (v : View) (k : Slot) (c : Born) → StandsAt p v k c → WaitsNot k c ⊎ Waits p k c
-waits_or_not place.Guest v k c h = inl (record { deaf = quiet k h.silent; nowhere = ap (λ (p : Phase). waiting_in p) h.phase })
+waits_or_not place.Guest v k c h = inl (record { deaf = quiet h.silent; nowhere = ap (λ (p : Phase). waiting_in p) h.phase })
 waits_or_not (place.InService s stands) v k c h = at_step v k c s stands h
 waits_or_not (place.InHandler stands) v k c h = inl (in_handler stands v h.fault h.regs h.way)
 
@@ -202,7 +208,7 @@ module _ {names : Names} {s : KernelState} {a : AbstractState} (h : StandsFor na
   no_server same = born_not_first h n b at (sym (ap (λ (i : ℕ). i % NENV) same) ∙ h.tabled.ids n (born_live (born_at h n b at)))
 
   none_waited : WaitsNot (slot_at s t) c → accepts (slot_at s t).rendezvous (slot_at s n).id ≡ false
-  none_waited off = off.deaf (slot_at s n).id no_server
+  none_waited off = none_taken (slot_at s t).rendezvous off.deaf (slot_at s n).id no_server
 
   waited : (p : Waits (place_of (slot_at s t)) (slot_at s t) c) → accepts (slot_at s t).rendezvous (slot_at s n).id ≡ takes p.w b.id
   waited p = λ i. p.so.rendezvous i && ((p.so.wanted i == 0) || (p.so.wanted i == (born_at h n b at).id i))
@@ -253,3 +259,33 @@ module _ {k : Slot} {c : Born} {va from : ℕ} (so : IsReceiving k c va from) wh
   destination_is some =
       let test : (va == 0) ≡ false = grind (arith, nat_tests) in
       so.destination ∙ ap (λ (x : Bool). if x then UTOP else va) test
+
+-- ---- where a page comes
+
+-- a page of a program is not the one in which a service keeps what it moves
+pub programs_apart : (p : ℕ) → is_programs p ≡ true → p ≢ page_number UTEMP
+unfolding in_fence
+programs_apart p is same = let contradiction : false ≡ true = sym (ap (λ (q : ℕ). is_programs q) same) ∙ is in cc
+
+-- nor is one that comes with a message
+pub comes_apart : (p : Place) (v : View) (k : Slot) (c : Born) → StandsAt p v k c → (sender : ℕ) → accepts k.rendezvous sender ≡ true →
+    nat_lt k.rendezvous.destination UTOP ≡ true → page_number k.rendezvous.destination ≢ page_number UTEMP
+comes_apart p v k c h sender taken wanted = by_case (waits_or_not p v k c h)
+  where
+    nowhere : k.rendezvous.destination ≡ UTOP → ⊥
+    nowhere is = let contradiction : false ≡ true = sym (ap (λ (va : ℕ). nat_lt va UTOP) is) ∙ wanted in cc
+
+    by_deaf : IsDeaf k.rendezvous → ⊥
+    by_deaf (quiet is) =
+        let contradiction : false ≡ true = sym (λ i. is i && ((k.rendezvous.wanted == 0) || (k.rendezvous.wanted == sender))) ∙ taken in cc
+    by_deaf (for_server receiving only none) = nowhere none
+
+    by_page : (va : ℕ) (t : Bool) → (va == 0) ≡ t → k.rendezvous.destination ≡ (if t then UTOP else va) → (t || is_page_inside va) ≡ true →
+        page_number k.rendezvous.destination ≢ page_number UTEMP
+    by_page va true none is page = absurd (nowhere is)
+    by_page va false some is page =
+        subst (λ (x : ℕ). page_number x ≢ page_number UTEMP) (sym is) (programs_apart (page_number va) (page_inside_programs va page))
+
+    by_case : WaitsNot k c ⊎ Waits p k c → page_number k.rendezvous.destination ≢ page_number UTEMP
+    by_case (inl off) = absurd (by_deaf off.deaf)
+    by_case (inr x) = by_page x.w.va (x.w.va == 0) refl x.so.destination x.so.page

@@ -1,15 +1,54 @@
 -- The page of a descriptor, which holds the object that it names.
--- (MIT 6.828, lab 5: inc/fd.h, struct Fd; lib/console.c, devcons. As far as objects are built: each is the console.)
-use Rattle.std.specs.Prelude.{◌≡◌, ℕ, List, slice_index}
-use Rattle.jos_base.specs.Words.{word_at}
-use Rattle.lib_os.specs.declared.numbers.TheConstants.{DEVICE_CONSOLE, FD_DEVICE}
-use Rattle.lib_os.specs.AbstractState.{Object, terminal}
+-- (MIT 6.828, lab 5: inc/fd.h, struct Fd and struct FdFile; lib/console.c, devcons; fs/serv.c, struct OpenFile. As far as objects are built: each
+-- is a file that is open, or the console.)
+use Rattle.std.specs.Prelude.{◌≡◌, ◌≢◌, ◌<◌, ℕ, ◌+◌, List, Option, Some, slice_index}
+use Rattle.jos_base.specs.declared.numbers.TheConstants.{FDTABLE}
+use Rattle.jos_base.specs.Reach.{Entry}
+use Rattle.jos_base.specs.Words.{page_number, word_at}
+use Rattle.lib_os.specs.declared.numbers.TheConstants.{DEVICE_CONSOLE, DEVICE_FILE, FD_DEVICE, FD_FILE, FD_MODE, FD_OFFSET, MAXOPEN}
+use Rattle.lib_os.specs.AbstractState.{Object, OpenFile, TablePlace, file, terminal}
 
--- the word that tells what it is
+-- the word that tells what it is, and for a file its offset, its mode and its number, which is that of its place in the table of open files
 abbrev pub device_of : List ℕ → ℕ
 device_of bytes = word_at (slice_index bytes) FD_DEVICE
 
--- the bytes of a page tell an object
-abbrev pub HasObject : Object → List ℕ → Type 0
-HasObject terminal bytes = device_of bytes ≡ DEVICE_CONSOLE
-HasObject _ bytes = ⊥
+abbrev pub offset_of : List ℕ → ℕ
+offset_of bytes = word_at (slice_index bytes) FD_OFFSET
+
+abbrev pub mode_of : List ℕ → ℕ
+mode_of bytes = word_at (slice_index bytes) FD_MODE
+
+abbrev pub number_of : List ℕ → ℕ
+number_of bytes = word_at (slice_index bytes) FD_FILE
+
+-- the page of a place of the table of open files
+abbrev pub place_page : ℕ → ℕ
+place_page k = page_number FDTABLE + k
+
+-- What tells of objects: which they are, who holds each place of the table of open files, and what the pages of the file server are.
+pub record Things : Type 0 where
+  pub objects : ℕ → Object
+  pub opened : ℕ → TablePlace
+  pub row : ℕ → Option Entry
+
+-- A file: it holds the place of its number, and its page, in this frame, is the page of the place.
+pub record IsOpenFile (things : Things) (name frame : ℕ) (f : OpenFile) (bytes : List ℕ) : Type 0 where
+  pub device : device_of bytes ≡ DEVICE_FILE
+  pub offset : offset_of bytes ≡ f.offset
+  pub mode : mode_of bytes ≡ f.mode
+  pub below : number_of bytes < MAXOPEN
+  pub held : (things.opened (number_of bytes)).held_by ≡ Some name
+  pub entry : Entry
+  pub stands : things.row (place_page (number_of bytes)) ≡ Some entry
+  pub same : entry.frame ≡ frame
+
+-- The console: the file server has no such page.
+pub record IsConsole (things : Things) (frame : ℕ) (bytes : List ℕ) : Type 0 where
+  pub device : device_of bytes ≡ DEVICE_CONSOLE
+  pub apart : (q : ℕ) (e : Entry) → things.row q ≡ Some e → e.frame ≢ frame
+
+-- the bytes of a page, in a frame, tell the object that has a name
+abbrev pub HasObject : Things → ℕ → ℕ → Object → List ℕ → Type 0
+HasObject things name frame terminal bytes = IsConsole things frame bytes
+HasObject things name frame (file f) bytes = IsOpenFile things name frame f bytes
+HasObject things name frame _ bytes = ⊥

@@ -5,7 +5,7 @@ use Rattle.std.specs.Prelude.{◌≡◌, ◌≢◌, ◌<◌, ◌≤◌, ℕ, ◌
 use Rattle.std.specs.Prelude.{Option, Some, None, Result, Ok, Err}
 use Rattle.jos_host.specs.declared.host.Failed.{Failed}
 use Rattle.jos_host.specs.Frames.{Around}
-use Rattle.jos_base.specs.declared.numbers.TheConstants.{NPTENTRIES, SYS_EXOFORK, SYS_IPC_TRY_SEND, SYS_PAGE_ALLOC, SYS_PAGE_MAP}
+use Rattle.jos_base.specs.declared.numbers.TheConstants.{NPTENTRIES, SYS_EXOFORK, SYS_IPC_TRY_SEND, SYS_PAGE_ALLOC, SYS_PAGE_MAP, UTEMP}
 use Rattle.jos_base.specs.Counting.{page_limit}
 use Rattle.jos_base.specs.declared.environment.Status.TheVariants.{Runnable}
 use Rattle.jos_base.specs.declared.registers.Regs.{Regs}
@@ -14,6 +14,7 @@ use Rattle.jos_base.specs.Environments.{Slot, is_live, is_runnable, is_running, 
 use Rattle.jos_base.specs.KernelState.{KernelState, slot_at, with_slot_at}
 use Rattle.jos_base.specs.Messages.{delivered}
 use Rattle.jos_base.specs.SpacesState.{SpacesState}
+use Rattle.jos_base.specs.Words.{page_number}
 use Rattle.lib_os.specs.declared.user_os.Stop.{Stop}
 use Rattle.lib_os.specs.declared.user_os.Stop.TheVariants as stop
 use Rattle.lib_os.specs.declared.progress.Progress.{Progress}
@@ -275,12 +276,24 @@ KeepsNumbers n before after =
     IsInOrder after → is_live (slot_at before n) ≡ true → (a : AbstractState) → Stands before a →
     (m : ℕ) (b : Born) → m ≢ n → a.slots m ≡ born b → is_live (slot_at after m) ≡ true → hidden_left after m ≤ hidden_left before m
 
--- What is left to the file server: it stands where it stood, in the same space, and its pages hold what they held.
-pub record LeavesServer (before after : KernelState) : Type 0 where
+-- Where the state stands for an abstract one, a step leaves each other environment the page in which a service keeps what it moves.
+abbrev pub KeepsWorking : ℕ → KernelState → KernelState → Type 0
+KeepsWorking n before after =
+    is_live (slot_at before n) ≡ true → (a : AbstractState) → Stands before a → (m : ℕ) (b : Born) → m ≢ n → a.slots m ≡ born b →
+    rows_of after.spaces (slot_at before m).directory (page_number UTEMP) ≡ rows_of before.spaces (slot_at before m).directory (page_number UTEMP)
+
+-- none of the pages of the environment in slot n has this frame
+abbrev pub LacksFrame : KernelState → ℕ → ℕ → Type 0
+LacksFrame s n f = (p : ℕ) (e : Entry) → s.spaces.entries (slot_at s n).directory p ≡ Some e → e.frame ≢ f
+
+-- What is left to the file server by a step of the environment in slot n: it stands where it stood, in the same space, and its pages which that
+-- environment has not hold what they held.
+pub record LeavesServer (n : ℕ) (before after : KernelState) : Type 0 where
   pub slot : slot_at after 0 ≡ slot_at before 0
   pub entries : (p : ℕ) → after.spaces.entries (slot_at before 0).directory p ≡ before.spaces.entries (slot_at before 0).directory p
   pub regions : (r : ℕ) → after.spaces.regions (slot_at before 0).directory r ≡ before.spaces.regions (slot_at before 0).directory r
-  pub pages : (p : ℕ) (e : Entry) → before.spaces.entries (slot_at before 0).directory p ≡ Some e → after.spaces.pages e.frame ≡ before.spaces.pages e.frame
+  pub pages : (p : ℕ) (e : Entry) → before.spaces.entries (slot_at before 0).directory p ≡ Some e → LacksFrame before n e.frame →
+      after.spaces.pages e.frame ≡ before.spaces.pages e.frame
 
 -- the slot of one who waited, to whom a word has come with no page: it may run again, and is answered 0
 abbrev pub with_word : Slot → ℕ → ℕ → Slot
@@ -300,7 +313,7 @@ pub record AsksServer (n : ℕ) (before after : KernelState) : Type 0 where
 
 -- It is left alone, or asked.
 pub data LeavesOrAsks (n : ℕ) (before after : KernelState) : Type 0 where
-  left_alone : LeavesServer before after → LeavesOrAsks n before after
+  left_alone : LeavesServer n before after → LeavesOrAsks n before after
   asked_it : AsksServer n before after → LeavesOrAsks n before after
 
 -- Where the state stands for an abstract one, the step of another environment does no more to it.
@@ -315,6 +328,7 @@ pub record LeavesEach (done : Progress) (n : ℕ) (before after : KernelState) :
   pub uses : KeepsUses n before after
   pub places : KeepsPlaces n before after
   pub numbers : KeepsNumbers n before after
+  pub working : KeepsWorking n before after
   pub server : KeepsServer n before after
 
 -- Where the host failed nothing is said.

@@ -1,23 +1,23 @@
 -- The pages of address spaces as the library sees them: what an entry is to its environment, and how entries count where they
 -- are counted together, be a page on its way from one place to another.
 -- (MIT 6.828, lib/fork.c: PTE_COW; inc/lib.h: PTE_SHARE.)
-use Rattle.std.specs.Prelude.{◌≡◌, ◌≢◌, ◌<◌, ℕ, ◌+◌, ◌*◌, ◌==◌, ◌&&◌, ◌||◌, nat_le, nat_lt, not, Bool, true, false, List, Option, None, Some}
+use Rattle.std.specs.Prelude.{◌≡◌, ◌<◌, ℕ, ◌+◌, ◌*◌, ◌==◌, ◌&&◌, ◌||◌, nat_le, nat_lt, not, Bool, true, false, List, Option, None, Some}
 use Rattle.std.specs.Prelude.{bit_and, length, slice_index, if◌then◌else◌}
 use Rattle.std.specs.Option.{option_map}
-use Rattle.jos_base.specs.declared.numbers.TheConstants.{FDTABLE, PGSIZE, PTE_P, PTE_SYSCALL, PTE_U, PTE_W}
+use Rattle.jos_base.specs.declared.numbers.TheConstants.{FDTABLE, PGSIZE, PTE_P, PTE_SYSCALL, PTE_U, PTE_W, UTEMP}
 use Rattle.jos_base.specs.Environments.{Slot, is_live}
 use Rattle.jos_base.specs.Reach.{Entry}
 use Rattle.jos_base.specs.SpacesState.{SpacesState}
 use Rattle.jos_base.specs.SystemCalls.{is_page_perm, has_write}
 use Rattle.jos_base.specs.Words.{page_number}
-use Rattle.lib_os.specs.declared.numbers.TheConstants.{DESCRIPTORS, PFTEMP, PTE_COW, PTE_SHARE}
+use Rattle.lib_os.specs.declared.numbers.TheConstants.{DESCRIPTORS, PFTEMP, PTE_COW, PTE_SHARE, REQUEST}
 use Rattle.lib_os.specs.declared.place.HandlerStep.TheVariants as handler
 use Rattle.lib_os.specs.declared.place.Place.{Place}
 use Rattle.lib_os.specs.declared.place.Place.TheVariants as place
 use Rattle.lib_os.specs.declared.place.Step.TheVariants as step
 use Rattle.lib_os.specs.declared.service.Service.TheVariants as service
-use Rattle.lib_os.specs.AbstractState.{Object, Page, own, named}
-use Rattle.lib_os.specs.DescriptorPages.{HasObject}
+use Rattle.lib_os.specs.AbstractState.{Page, own, named}
+use Rattle.lib_os.specs.DescriptorPages.{HasObject, Things}
 use Rattle.lib_os.specs.Fence.{in_fence}
 use Rattle.lib_os.specs.Places.{place_of}
 
@@ -141,26 +141,37 @@ abbrev pub AgreeWhereShared : Rows → Type 0
 AgreeWhereShared rows = (d p e q : ℕ) (x y : Entry) → (d ≡ e → p ≡ q → ⊥) → rows d p ≡ Some x → rows e q ≡ Some y →
     x.frame ≡ y.frame → Agree x.perm y.perm
 
--- No page of the file server is a client's too. (As far as services are built.)
-abbrev pub AreBeside : EntryRow → Rows → Type 0
-AreBeside server rows = (n p q : ℕ) (x e : Entry) → rows n p ≡ Some x → server q ≡ Some e → x.frame ≢ e.frame
+-- An entry with this number of a page is that of a descriptor.
+pub record IsDescriptors (p : ℕ) (x : Entry) : Type 0 where
+  pub descriptor : is_descriptor p ≡ true
+  pub shared : is_shared x.perm ≡ true
 
--- what a name says of bytes: they are those of a page, or tell an object
-abbrev pub ShowsBy : Bool → List ℕ → Object → List ℕ → Type 0
-ShowsBy false page object bytes = page ≡ bytes
-ShowsBy true page object bytes = HasObject object bytes
+-- A client may have pages of the file server: that of a request is the one in which a service keeps what it moves, and each other one, which is
+-- that of an open file, is a descriptor's.
+abbrev pub MayBeHad : Bool → ℕ → Entry → Type 0
+MayBeHad true p x = (p ≡ page_number UTEMP) × (is_shared x.perm ≡ false)
+MayBeHad false p x = IsDescriptors p x
+
+-- So it is with each page of the server's and each entry of a client's of its frame.
+abbrev pub AreBeside : EntryRow → Rows → Type 0
+AreBeside server rows = (n p q : ℕ) (x e : Entry) → rows n p ≡ Some x → server q ≡ Some e → x.frame ≡ e.frame → MayBeHad (q == page_number REQUEST) p x
+
+-- what a name says of the bytes in its frame: they are those of a page, or tell an object
+abbrev pub ShowsBy : Things → ℕ → ℕ → Bool → List ℕ → List ℕ → Type 0
+ShowsBy things name frame false page bytes = page ≡ bytes
+ShowsBy things name frame true page bytes = HasObject things name frame (things.objects name) bytes
 
 -- A shared frame, whose entry has this number of a page, is that of its name: an object's at the page of a descriptor, and elsewhere a
 -- page's. It shows what has the name.
-pub record IsNamed (names : Names) (pages shared : ℕ → List ℕ) (objects : ℕ → Object) (next p f : ℕ) : Type 0 where
+pub record IsNamed (names : Names) (pages shared : ℕ → List ℕ) (things : Things) (next p f : ℕ) : Type 0 where
   pub home : names.frame (names.name f) ≡ f
   pub kind : names.is_object (names.name f) ≡ is_descriptor p
-  pub shows : ShowsBy (names.is_object (names.name f)) (shared (names.name f)) (objects (names.name f)) (pages f)
+  pub shows : ShowsBy things (names.name f) f (names.is_object (names.name f)) (shared (names.name f)) (pages f)
   pub old : names.name f < next
 
-abbrev pub AreNamed : Names → (ℕ → List ℕ) → (ℕ → List ℕ) → (ℕ → Object) → ℕ → Rows → Type 0
-AreNamed names pages shared objects next rows = (d p : ℕ) (x : Entry) → rows d p ≡ Some x → is_shared x.perm ≡ true →
-    IsNamed names pages shared objects next p x.frame
+abbrev pub AreNamed : Names → (ℕ → List ℕ) → (ℕ → List ℕ) → Things → ℕ → Rows → Type 0
+AreNamed names pages shared things next rows = (d p : ℕ) (x : Entry) → rows d p ≡ Some x → is_shared x.perm ≡ true →
+    IsNamed names pages shared things next p x.frame
 
 -- Whoever has an entry may read by it, and it has no bits of others; what is copied when it is written is nobody else's, and
 -- can't be written before.

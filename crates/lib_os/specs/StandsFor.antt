@@ -28,10 +28,11 @@ use Rattle.lib_os.specs.declared.place.Step.{Step}
 use Rattle.lib_os.specs.declared.place.Step.TheVariants as step
 use Rattle.lib_os.specs.declared.service.Service.{Service}
 use Rattle.lib_os.specs.declared.service.Service.TheVariants as service
-use Rattle.lib_os.specs.AbstractState.{AbstractState, Born, AbstractSlot, free, unborn, born, serving, Server, idle, TablePlace}
+use Rattle.lib_os.specs.AbstractState.{AbstractState, Born, AbstractSlot, free, unborn, born, serving, Server, idle, TablePlace, terminal}
 use Rattle.lib_os.specs.AbstractState.{Stage, asked, awaiting, replied, bearing, entered, gathering, receiving, received, Message, guest, at_guest, in_service}
 use Rattle.lib_os.specs.AbstractMemory.{has_page_in}
 use Rattle.lib_os.specs.AbstractMessages.{is_page_or_none}
+use Rattle.lib_os.specs.DescriptorPages.{Things, place_page}
 use Rattle.lib_os.specs.Fence.{is_page_inside, is_resident}
 use Rattle.lib_os.specs.InOrder.{IsInOrder}
 use Rattle.lib_os.specs.LibraryPages.{View, IsOwnWritable, LibraryPages, is_library_region, region_index}
@@ -244,7 +245,7 @@ pub record HasTaken (v : View) (bytes : List ℕ) (n : ℕ) : Type 0 where
 pub record IsTaking (v : View) (k : Slot) (b : Born) (fd va len done : ℕ) : Type 0 where
   pub bytes : List ℕ
   pub program : b.program ≡ guest k.registers
-  pub wants : WantsMore v.row b fd va len bytes
+  pub wants : WantsMore v b fd va len bytes
   pub many : length bytes ≡ done
   pub kept : HasTaken v bytes done
   pub silent : k.rendezvous.receiving ≡ false
@@ -254,7 +255,7 @@ pub record IsTaking (v : View) (k : Slot) (b : Born) (fd va len done : ℕ) : Ty
 pub record IsKeeping (v : View) (k : Slot) (b : Born) (fd va len done word left : ℕ) : Type 0 where
   pub bytes : List ℕ
   pub is_in : IsIn k b (service.Write fd va len) (gathering bytes)
-  pub given : IsGiven v.row fd va len
+  pub given : IsGiven v fd va len
   pub many : length bytes ≡ done + left
   pub few : length bytes ≤ wanted_of len
   pub some : 0 < left
@@ -269,7 +270,7 @@ pub record IsKeeping (v : View) (k : Slot) (b : Born) (fd va len done word left 
 pub record IsPrinting (v : View) (k : Slot) (b : Born) (fd va len : ℕ) : Type 0 where
   pub bytes : List ℕ
   pub is_in : IsIn k b (service.Write fd va len) (gathering bytes)
-  pub given : IsGiven v.row fd va len
+  pub given : IsGiven v fd va len
   pub many : length bytes ≡ wanted_of len
   pub kept : HasTaken v bytes (length bytes)
 
@@ -281,9 +282,9 @@ pub record HasPrinted (k : Slot) (b : Born) (len : ℕ) : Type 0 where
   pub awake : b.blocked ≡ false
 
 -- read is about to take a byte of the console
-pub record IsGetting (row : EntryRow) (k : Slot) (b : Born) (fd va len : ℕ) : Type 0 where
+pub record IsGetting (v : View) (k : Slot) (b : Born) (fd va len : ℕ) : Type 0 where
   pub is_in : IsIn k b (service.Read fd va len) entered
-  pub given : IsGiven row fd va len
+  pub given : IsGiven v fd va len
   pub some : 0 < len
 
 -- a service that stands before the next byte of its buffer, of which it has moved so many; and this is so
@@ -337,9 +338,9 @@ StandsAtStep v k b (service.Write fd va len) (step.DescriptorEntry at) = IsLooki
 StandsAtStep v k b (service.Seek fd offset) (step.DescriptorEntry at) = IsLookingUp v k b (service.Seek fd offset) at fd
 StandsAtStep v k b (service.Stat fd va) (step.DescriptorEntry at) = IsLookingUp v k b (service.Stat fd va) at fd
 StandsAtStep v k b (service.SetSize fd size) (step.DescriptorEntry at) = IsLookingUp v k b (service.SetSize fd size) at fd
-StandsAtStep v k b (service.Read fd va len) step.Getting = IsGetting v.row k b fd va len
+StandsAtStep v k b (service.Read fd va len) step.Getting = IsGetting v k b fd va len
 StandsAtStep v k b (service.Write fd va len) step.TakingPage =
-    IsIn k b (service.Write fd va len) entered × IsGiven v.row fd va len × (0 < len)
+    IsIn k b (service.Write fd va len) entered × IsGiven v fd va len × (0 < len)
 StandsAtStep v k b (service.Write fd va len) (step.Gathering done) =
     IsTaking v k b fd va len done × (refuses_next v.row (service.Write fd va len) done ≡ false)
 StandsAtStep v k b (service.Write fd va len) (step.Keeping done word left) = IsKeeping v k b fd va len done word left
@@ -546,6 +547,9 @@ pub record HasServer (s : SpacesState) (k : Slot) (opened : ℕ → TablePlace) 
   pub status : IsServerStatus server k
   pub pages : (p : ℕ) → is_some (rows_of s k.directory p) ≡ true → is_servers_page opened blocks p ≡ true
   pub tables : (r : ℕ) → is_some (s.regions k.directory r) ≡ true → is_servers_region r ≡ true
+  -- what stands in the frame of a place's page is that page
+  pub alone : (j q : ℕ) (x y : Entry) → j < MAXOPEN → rows_of s k.directory (place_page j) ≡ Some x → rows_of s k.directory q ≡ Some y →
+      x.frame ≡ y.frame → q ≡ place_page j
 
 abbrev pub StandsForSlot : Names → SpacesState → Slot → AbstractSlot → Type 0
 StandsForSlot names s k (free id) = k ≡ free_slot id
@@ -573,13 +577,21 @@ pub record AreFreeSlots (slots abstract : List ℕ) : Type 0 where
 
 -- ---- the whole
 
+-- each object is the console
+abbrev pub AllConsoles : AbstractState → Type 0
+AllConsoles a = (name : ℕ) → a.objects name ≡ terminal
+
+-- what there is of objects
+abbrev pub things_in : KernelState → AbstractState → Things
+things_in s a = record { objects = a.objects; opened = a.opened; row = server_row s.spaces s.environments.slots }
+
 pub record StandsFor (names : Names) (s : KernelState) (a : AbstractState) : Type 0 where
   -- each slot
   pub slots : (n : ℕ) → StandsForSlot names s.spaces (slot_at s n) (a.slots n)
   pub children : HasChildren names s.spaces s.environments.slots a.slots
   -- each frame
   pub apart : AgreeWhereShared (logical s.spaces s.environments.slots)
-  pub named : AreNamed names s.spaces.pages a.shared a.objects a.next_name (logical s.spaces s.environments.slots)
+  pub named : AreNamed names s.spaces.pages a.shared (things_in s a) a.next_name (logical s.spaces s.environments.slots)
   pub users : AreUsers (logical s.spaces s.environments.slots)
   pub whole : AreWhole s.spaces.pages (logical s.spaces s.environments.slots)
   pub beside : AreBeside (server_row s.spaces s.environments.slots) (logical s.spaces s.environments.slots)
@@ -587,6 +599,8 @@ pub record StandsFor (names : Names) (s : KernelState) (a : AbstractState) : Typ
   pub free_slots : AreFreeSlots s.environments.free_slots a.free_slots
   pub first : a.slots 0 ≡ serving FIRST_ENV_ID
   pub server : HasServer s.spaces (slot_at s 0) a.opened a.files.blocks a.server
+  -- (as far as services are built)
+  pub consoles : AllConsoles a
   pub input : (s.input ≡ a.input) × AreBytes a.input
   pub last : s.last ≡ a.last
   pub turns : s.turns ≡ a.turns

@@ -13,7 +13,7 @@ use Rattle.jos_base.specs.Reach.{Entry}
 use Rattle.jos_base.specs.SystemCalls.{has_write}
 use Rattle.jos_base.specs.TrapFrames.{frame_words, user_flags}
 use Rattle.jos_base.specs.Words.{page_number, has_bit}
-use Rattle.lib_os.specs.declared.numbers.TheConstants.{DESCRIPTORS, PFTEMP, TRANSFER_MAX}
+use Rattle.lib_os.specs.declared.numbers.TheConstants.{DESCRIPTORS, DEVICE_CONSOLE, PFTEMP, TRANSFER_MAX}
 use Rattle.lib_os.specs.declared.place.HandlerStep.{HandlerStep}
 use Rattle.lib_os.specs.declared.place.HandlerStep.TheVariants as handler
 use Rattle.lib_os.specs.declared.place.Place.TheVariants as place
@@ -21,6 +21,7 @@ use Rattle.lib_os.specs.declared.place.Step.TheVariants as step
 use Rattle.lib_os.specs.declared.service.Service.{Service}
 use Rattle.lib_os.specs.declared.service.Service.TheVariants as service
 use Rattle.lib_os.specs.AbstractState.{Born, guest, at_guest, faulted, in_service, Stage, delivering, entered, gathering}
+use Rattle.lib_os.specs.DescriptorPages.{device_of}
 use Rattle.lib_os.specs.Fence.{is_buffer, is_inside, is_resident}
 use Rattle.lib_os.specs.FileServices.{terminal_stat}
 use Rattle.lib_os.specs.LibraryPages.{View, HasFrame}
@@ -105,16 +106,22 @@ abbrev pub stage_with : List ℕ → Stage
 stage_with [] = entered
 stage_with (byte ∷ rest) = gathering (byte ∷ rest)
 
--- read and write are given a descriptor that is open, and a buffer in the fence
-pub record IsGiven (row : EntryRow) (fd va len : ℕ) : Type 0 where
+-- a descriptor is open, and what it names is told to be the console
+pub record IsConsoleOpen (v : View) (fd : ℕ) : Type 0 where
+  pub entry : Entry
+  pub stands : v.row (descriptor_page fd) ≡ Some entry
+  pub device : device_of (v.bytes entry.frame) ≡ DEVICE_CONSOLE
+
+-- read and write are given a descriptor that names the console, and a buffer in the fence
+pub record IsGiven (v : View) (fd va len : ℕ) : Type 0 where
   pub below : fd < DESCRIPTORS
-  pub stands : is_some (row (descriptor_page fd)) ≡ true
+  pub console : IsConsoleOpen v fd
   pub buffer : is_buffer va (wanted_of len) ≡ true
 
 -- write has taken these bytes, and wants more
-pub record WantsMore (row : EntryRow) (b : Born) (fd va len : ℕ) (bytes : List ℕ) : Type 0 where
+pub record WantsMore (v : View) (b : Born) (fd va len : ℕ) (bytes : List ℕ) : Type 0 where
   pub phase : b.phase ≡ in_service (service.Write fd va len) (stage_with bytes)
-  pub given : IsGiven row fd va len
+  pub given : IsGiven v fd va len
   pub fewer : length bytes < wanted_of len
 
 -- ---- what stands beneath the handler, where it copies a page
@@ -201,19 +208,19 @@ EndsAt _ fault regs = ⊥
 
 -- The program is marked with the fault of an access at an address by the instruction at another, or a service stands before its access
 -- to the byte at the address, which would be a write or not.
-pub data IsStoppedAt (write : Bool) (row : EntryRow) (b : Born) (va ip : ℕ) : Type 0 where
-  marked : b.phase ≡ faulted va ip → IsStoppedAt write row b va ip
+pub data IsStoppedAt (write : Bool) (v : View) (b : Born) (va ip : ℕ) : Type 0 where
+  marked : b.phase ≡ faulted va ip → IsStoppedAt write v b va ip
   reading : (fd buffer len : ℕ) (bytes : List ℕ) (answer : ℕ) → write ≡ true →
-      b.phase ≡ in_service (service.Read fd buffer len) (delivering va bytes answer) → 0 < length bytes → IsStoppedAt write row b va ip
+      b.phase ≡ in_service (service.Read fd buffer len) (delivering va bytes answer) → 0 < length bytes → IsStoppedAt write v b va ip
   telling : (fd buffer : ℕ) (bytes : List ℕ) (answer : ℕ) → write ≡ true →
-      b.phase ≡ in_service (service.Stat fd buffer) (delivering va bytes answer) → 0 < length bytes → IsStoppedAt write row b va ip
-  writing : (fd buffer len : ℕ) (bytes : List ℕ) → write ≡ false → WantsMore row b fd buffer len bytes → va ≡ buffer + length bytes →
-      IsStoppedAt write row b va ip
+      b.phase ≡ in_service (service.Stat fd buffer) (delivering va bytes answer) → 0 < length bytes → IsStoppedAt write v b va ip
+  writing : (fd buffer len : ℕ) (bytes : List ℕ) → write ≡ false → WantsMore v b fd buffer len bytes → va ≡ buffer + length bytes →
+      IsStoppedAt write v b va ip
 
 -- The environment ends by the fault.
 pub record Ends (h : HandlerStep) (v : View) (k : Slot) (b : Born) (fault : PageFault) (regs : Regs) : Type 0 where
   pub program : b.program ≡ guest regs
-  pub stopped : IsStoppedAt (is_write fault.error) v.row b fault.va regs.eip
+  pub stopped : IsStoppedAt (is_write fault.error) v b fault.va regs.eip
   pub silent : k.rendezvous.receiving ≡ false
   pub awake : b.blocked ≡ false
   pub inside : is_inside fault.va ≡ true

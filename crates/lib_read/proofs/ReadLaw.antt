@@ -29,21 +29,20 @@ use Rattle.lib_os.specs.InOrder.{IsInOrder}
 use Rattle.lib_os.specs.LibraryCall.{library_step}
 use Rattle.lib_os.specs.LibraryPages.{View}
 use Rattle.lib_os.specs.Places.{place_of, words_at}
-use Rattle.lib_os.specs.Rows.{AreBytes, Names, rows_of}
-use Rattle.lib_os.specs.StandsFor.{IsGetting, StandsAtStep, StandsFor, borne_in}
+use Rattle.lib_os.specs.Rows.{AreBytes, Names}
+use Rattle.lib_os.specs.StandsFor.{IsGetting, StandsAtStep, StandsFor, borne_in, view_of}
 use Rattle.lib_os.specs.StandsInHandler.{AreSmall, IsDelivering, wanted_of}
 use Rattle.lib_os.specs.UserCalls.{CallStep, asking, called_by, giving, system}
 use Rattle.lib_os.proofs.Answering.{back_stands}
 use Rattle.lib_os.proofs.BufferAccesses.{stage_stands}
 use Rattle.lib_os.proofs.BytesDelivered.{read_console, read_delivered, read_put, read_putting, read_stands, read_step}
-use Rattle.lib_os.proofs.BytesPrinted.{object_terminal}
 use Rattle.lib_os.proofs.BytesRefused.{read_lost, read_lost_after, read_lost_lowers, read_lost_stands}
 use Rattle.lib_os.proofs.Calls.{quiet_is, system_is}
-use Rattle.lib_os.proofs.DeviceLooks.{at_device, device_answers, device_goes_on, device_object, device_va, reading_device}
+use Rattle.lib_os.proofs.DeviceLooks.{at_device, device_answers, device_console, device_goes_on, device_object, device_va, device_word}
+use Rattle.lib_os.proofs.DeviceLooks.{names_console, reading_device}
 use Rattle.lib_os.proofs.Fences.{buffer_each}
 use Rattle.lib_os.proofs.GoingOn.{in_with_words}
 use Rattle.lib_os.proofs.Loading.{loaded}
-use Rattle.lib_os.proofs.Logical.{is_plain}
 use Rattle.lib_os.proofs.Numbered.{named_at}
 use Rattle.lib_os.proofs.Serving.{IsServed, holds_page, printed_nothing, served, step_in}
 use Rattle.lib_os.proofs.Trying.{LivesOn}
@@ -100,6 +99,7 @@ taken_stands h rest small = record {
   free_slots = h.free_slots;
   first = h.first;
   server = h.server;
+  consoles = h.consoles;
   input = (refl, small);
   last = h.last;
   turns = h.turns;
@@ -170,12 +170,13 @@ module _ (s : KernelState) (n fd va len : ℕ) (live : is_live (slot_at s n) ≡
         by_tests true true true = tt
         by_tests true true false = omega arith
 
-    module _ (names : Names) (a : AbstractState) (h : StandsFor names s a) (order : IsInOrder (loaded s n (device_va fd))) where
+    module _ (names : Names) (a : AbstractState) (h : StandsFor names s a) (order : IsInOrder (loaded s n (device_va fd)))
+        (word : device_word s n fd ≡ DEVICE_CONSOLE) where
       abbrev v : IsServed names s a n (service.Read fd va len) step.ReadingDevice
       v = at_device s n read fd refl stands h
 
       seen : object_of a v.b fd ≡ Some terminal
-      seen = device_object s n read fd refl stands h
+      seen = device_object s n read fd refl stands h word
 
       device_follows : Follows (loaded s n (device_va fd)) n read a (next_of_device va len DEVICE_CONSOLE)
       device_follows = by_test (is_buffer va (wanted_of len)) refl
@@ -193,7 +194,7 @@ module _ (s : KernelState) (n fd va len : ℕ) (live : is_live (slot_at s n) ≡
                   names,
                   device_goes_on s n read fd refl stands h order step.Getting refl (record {
                     is_in = in_with_words (words_at SERVICE_READ step.Getting) it.is_in;
-                    given = record { below = it.below; stands = it.stands; buffer = inside };
+                    given = record { below = it.below; console = device_console s n read fd refl stands h word; buffer = inside };
                     some = grind (arith, nat_tests);
                   }),
                 ),
@@ -239,11 +240,11 @@ module _ (s : KernelState) (n fd va len : ℕ) (live : is_live (slot_at s n) ≡
       abbrev w : IsServed names s a n (service.Read fd va len) step.Getting
       w = served h n (service.Read fd va len) step.Getting stands
 
-      gets : IsGetting (rows_of s.spaces (slot_at s n).directory) (slot_at s n) w.b fd va len
+      gets : IsGetting (view_of s.spaces (slot_at s n).directory) (slot_at s n) w.b fd va len
       gets = w.at
 
       console : object_of a w.b fd ≡ Some terminal
-      console = object_terminal h n w.b w.is (ap is_plain stands) fd gets.given.below gets.given.stands
+      console = names_console h n w.b w.is (ap borne_in stands) fd gets.given.below gets.given.console
 
       wants : (wanted_of len == 0) ≡ false
       wants = let some = gets.some in let more : 0 < wanted_of len = grind (arith, nat_tests) in grind (arith, nat_tests)

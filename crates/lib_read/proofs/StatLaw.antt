@@ -37,7 +37,7 @@ use Rattle.lib_os.proofs.BufferAccesses.{stage_stands}
 use Rattle.lib_os.proofs.BytesDelivered.{stat_answers, stat_behind, stat_byte_put, stat_console, stat_delivered, stat_goes_on, stat_looks}
 use Rattle.lib_os.proofs.BytesDelivered.{stat_putting, stat_step, stat_word_put, terminal_byte, terminal_word}
 use Rattle.lib_os.proofs.BytesRefused.{stat_lost_after, stat_lost_byte, stat_lost_lowers, stat_lost_stands, stat_lost_word}
-use Rattle.lib_os.proofs.DeviceLooks.{at_device, device_answers, device_object, device_va, reading_device}
+use Rattle.lib_os.proofs.DeviceLooks.{at_device, device_answers, device_object, device_va, device_word, reading_device}
 use Rattle.lib_os.proofs.Loading.{loaded}
 use Rattle.lib_os.proofs.Numbered.{named_at}
 use Rattle.lib_os.proofs.Serving.{IsServed, holds_page, printed_nothing, served, step_in}
@@ -88,7 +88,8 @@ module _ (s : KernelState) (n fd va : ℕ) (live : is_live (slot_at s n) ≡ tru
         by_tests true false = tt
         by_tests true true = tt
 
-    module _ (names : Names) (a : AbstractState) (h : StandsFor names s a) (order : IsInOrder (loaded s n (device_va fd))) where
+    module _ (names : Names) (a : AbstractState) (h : StandsFor names s a) (order : IsInOrder (loaded s n (device_va fd)))
+        (word : device_word s n fd ≡ DEVICE_CONSOLE) where
       abbrev v : IsServed names s a n (service.Stat fd va) step.ReadingDevice
       v = at_device s n stat fd refl stands h
 
@@ -96,7 +97,7 @@ module _ (s : KernelState) (n fd va : ℕ) (live : is_live (slot_at s n) ≡ tru
       after = loaded s n (device_va fd)
 
       seen : object_of a v.b fd ≡ Some terminal
-      seen = device_object s n stat fd refl stands h
+      seen = device_object s n stat fd refl stands h word
 
       none_behind : va + 0 ≡ va
       none_behind = omega arith

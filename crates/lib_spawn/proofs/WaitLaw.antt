@@ -14,11 +14,12 @@ use Rattle.lib_os.specs.LibrarySteps.{is_pausing, frames_at}
 use Rattle.lib_os.specs.Places.{place_of}
 use Rattle.lib_os.specs.UserCalls.{CallStep, answer_of}
 use Rattle.lib_os.proofs.Calls.{getenvid_is}
+use Rattle.lib_os.proofs.NumbersKept.{KeepsCopies, sent_copies}
 use Rattle.lib_os.proofs.Trying.{LivesOn}
 use Rattle.lib_stage.specs.declared.ask.Next.TheVariants as next
-use Rattle.lib_stage.specs.Asks.{frames_of}
+use Rattle.lib_stage.specs.Asks.{frames_of, performed}
 use Rattle.lib_stage.specs.ServiceSteps.{Plan, or_nowhere, ServiceHolds}
-use Rattle.lib_stage.proofs.Laws.{Falls, IsAt, KeepsBy, is_plain, answered_keeps, law_of_call, law_of_nowhere, law_of_pause, plainly}
+use Rattle.lib_stage.proofs.Laws.{Falls, IsAt, IsPlain, KeepsBy, answered_keeps, knowingly, law_of_call, law_of_nowhere, law_of_pause, plainly}
 use Rattle.lib_spawn.specs.declared.services.WaitStage.{WaitStage}
 use Rattle.lib_spawn.specs.declared.services.WaitStage.TheVariants as stage
 use Rattle.lib_spawn.specs.WaitStages.{next_of, wait_at, waiting}
@@ -52,29 +53,35 @@ module _ (s : KernelState) (n id : ℕ) (live : is_live (slot_at s n) ≡ true) 
   few (stage.Trying perm) = omega arith
   few (stage.Pausing perm) = omega arith
 
-  here : (at : WaitStage) → place_of (slot_at s n) ≡ place.InService (service.Wait id) (step_of at) → is_plain (plan at).asks ≡ true →
+  here : (at : WaitStage) → place_of (slot_at s n) ≡ place.InService (service.Wait id) (step_of at) → IsPlain s n (plan at).asks →
       is_pausing (place.InService (service.Wait id) (step_of at)) ≡ false → IsAt s n (plan at) (service.Wait id) (step_of at)
   here at stands plain goes_on =
       record {
         stands = stands;
         live = live;
         numbered = refl;
-        plain = plainly plain;
+        plain = plain;
         goes_on = goes_on;
         falls = λ called. falls at (answer_of called);
         few = few at;
       }
 
+  -- it passes no page
+  trying_copies : (perm : ℕ) → KeepsCopies n s (performed s n (plan (stage.Trying perm)).asks).state
+  unfolding performed
+  trying_copies perm = sent_copies s n (id ∷ 0 ∷ 1 ∷ 0 ∷ 0 ∷ []) (λ a h low. refl)
+
   pub wait_holds : (at : Step) → place_of (slot_at s n) ≡ place.InService (service.Wait id) at →
       ServiceHolds s n (or_nowhere waiting (wait_at id at))
   wait_holds step.Entered stands =
       let args = 0 ∷ 0 ∷ 0 ∷ 0 ∷ 0 ∷ [] in
-      law_of_call s n (plan stage.Entered) (service.Wait id) step.Entered (here stage.Entered stands refl refl) SYS_GETENVID args refl refl
+      law_of_call s n (plan stage.Entered) (service.Wait id) step.Entered (here stage.Entered stands (plainly refl) refl) SYS_GETENVID args refl refl
       (subst (λ (z : CallStep Called). LivesOn z n (slot_at s n).registers) (sym (getenvid_is s n live args)) (record { live = live; registers = refl; written = refl }))
       (λ order. subst (λ (z : CallStep Called). KeepsBy s n (plan stage.Entered) z) (sym (getenvid_is s n live args)) (entered_keeps s n id stands))
   wait_holds (step.Trying perm) stands =
       let it = tried_is s n id perm stands live in
-      law_of_call s n (plan (stage.Trying perm)) (service.Wait id) (step.Trying perm) (here (stage.Trying perm) stands refl refl)
+      law_of_call s n (plan (stage.Trying perm)) (service.Wait id) (step.Trying perm)
+      (here (stage.Trying perm) stands (knowingly refl (trying_copies perm) (λ a h. refl)) refl)
       SYS_IPC_TRY_SEND (id ∷ 0 ∷ 1 ∷ 0 ∷ 0 ∷ []) refl refl
       (record { live = it.live; registers = it.registers; written = it.written })
       (answered_keeps s n (plan (stage.Trying perm)) (wait_call s n id) it (λ order. trying_keeps s n id perm stands live))

@@ -35,8 +35,8 @@ use Rattle.lib_os.proofs.CopiesLeft.{copies_below}
 use Rattle.lib_os.proofs.GoingOn.{went_to, gave_up, gives_nothing_up}
 use Rattle.lib_os.proofs.Leaving.{Left, load_left, load_byte_left, store_left, store_byte_left, exchange_left, restore_left}
 use Rattle.lib_os.proofs.Leaving.{system_left, wakes}
-use Rattle.lib_os.proofs.NumbersKept.{KeepsCopies, copies_kept, numbers_kept, places_kept}
-use Rattle.lib_os.proofs.OthersCopies.{NoMoreWait, IsBeside, maps_no_copy, plain_wait, same_wait, load_wait, load_byte_wait}
+use Rattle.lib_os.proofs.NumbersKept.{KeepsCopies, copies_kept, numbers_kept, places_kept, working_kept}
+use Rattle.lib_os.proofs.OthersCopies.{NoMoreWait, IsBeside, maps_no_copy, not_beside, plain_wait, same_wait, load_wait, load_byte_wait}
 use Rattle.lib_os.proofs.OthersCopies.{store_wait, store_byte_wait, exchange_wait, restore_wait}
 use Rattle.lib_os.proofs.OthersKept.{OthersStay, same_stay, own_stay, own_before, sets_others, exofork_stays, load_stay, load_byte_stay}
 use Rattle.lib_os.proofs.OthersKept.{store_stay, store_byte_stay, exchange_stay, restore_stay, system_stay}
@@ -68,7 +68,7 @@ abbrev pub is_calm : Ask → Bool
 is_calm (ask.System number args) = not (wakes number) && not (sets_others number)
 is_calm _ = true
 
--- and in which it sends nothing to the file server, and maps into no other space a page that waits to be copied
+-- and in which it sends nothing to the file server, and maps into no other space a page that waits to be copied, nor one that a service works with
 abbrev pub is_plain : Ask → Bool
 is_plain (ask.System number args) = (not (wakes number) && not (sets_others number)) && (sends_aside number args && maps_no_copy number args)
 is_plain _ = true
@@ -90,11 +90,15 @@ neither false false is = (refl, refl)
 neither false true is = absurd (let contradiction : false ≡ true = is in cc)
 neither true u is = absurd (let contradiction : false ≡ true = is in cc)
 
--- the environment stands at an instruction before
+-- the environment stands at an instruction before, in its space
+moved_beside : (s : KernelState) (n ip : ℕ) → IsBeside s n (slot_at (at_instruction s n ip) n).directory → ⊥
+moved_beside s n ip beside =
+    beside (slots_alike s n (λ (k : Slot). k.directory) (record (slot_at s n) { registers = record (slot_at s n).registers { eip = ip } }) refl n)
+
 moved_behind : (s : KernelState) (n ip : ℕ) (after : KernelState) → Left (Unit {0}) (at_instruction s n ip) n after →
     (IsInOrder s → EachHasUse s.spaces → EachHasUse after.spaces) → OthersStay (at_instruction s n ip) n after →
     NoMoreWait (IsBeside s n) s.spaces after.spaces →
-    ((d : ℕ) → IsAside d (at_instruction s n ip) n → ServerStays d (at_instruction s n ip) after) → Behind s n after
+    ((d : ℕ) → IsAside d (at_instruction s n ip) n → ServerStays d n (at_instruction s n ip) after) → Behind s n after
 moved_behind s n ip after h used others wait server = record {
   left = record {
     rest = record { last = h.rest.last; turns = h.rest.turns; frames = h.rest.frames; refused = h.rest.refused; told = h.rest.told };
@@ -115,7 +119,7 @@ moved_behind s n ip after h used others wait server = record {
 -- an access
 reached_behind : (s : KernelState) (n : ℕ) (after : KernelState) → Left ((slot_at s n).rendezvous.receiving ≡ false) s n after →
     (IsInOrder s → EachHasUse s.spaces → EachHasUse after.spaces) → OthersStay s n after →
-    NoMoreWait (IsBeside s n) s.spaces after.spaces → ((d : ℕ) → IsAside d s n → ServerStays d s after) → Behind s n after
+    NoMoreWait (IsBeside s n) s.spaces after.spaces → ((d : ℕ) → IsAside d s n → ServerStays d n s after) → Behind s n after
 reached_behind s n after h used others wait server = record {
   left = h;
   used = λ in_order live each. used in_order each;
@@ -136,31 +140,31 @@ plain_behind s n ask.Exofork plain =
     (copies_kept s (system s n SYS_EXOFORK (as_given (slot_at s n).registers)).state n
     (plain_wait s n SYS_EXOFORK (as_given (slot_at s n).registers) refl)) (exofork_server s n)
 plain_behind s n (ask.Load va) plain =
-    reached_behind s n _ (load_left _ s n va) (λ in_order each. load_found s n in_order.frames each va) (load_stay s n va) (load_wait _ s n va)
+    reached_behind s n _ (load_left _ s n va) (λ in_order each. load_found s n in_order.frames each va) (load_stay s n va) (load_wait _ s n (not_beside s n) va)
     (λ d aside. load_server d s n aside va)
 plain_behind s n (ask.LoadByte va) plain =
     reached_behind s n _ (load_byte_left _ s n va) (λ in_order each. load_byte_found s n in_order.frames each va) (load_byte_stay s n va)
-    (load_byte_wait _ s n va) (λ d aside. load_byte_server d s n aside va)
+    (load_byte_wait _ s n (not_beside s n) va) (λ d aside. load_byte_server d s n aside va)
 plain_behind s n (ask.Store va word) plain =
     reached_behind s n _ (store_left _ s n va word) (λ in_order each. store_found s n in_order.frames each va word) (store_stay s n va word)
-    (store_wait _ s n va word) (λ d aside. store_server d s n aside va word)
+    (store_wait _ s n (not_beside s n) va word) (λ d aside. store_server d s n aside va word)
 plain_behind s n (ask.StoreByte va byte) plain =
     reached_behind s n _ (store_byte_left _ s n va byte) (λ in_order each. store_byte_found s n in_order.frames each va byte)
-    (store_byte_stay s n va byte) (store_byte_wait _ s n va byte) (λ d aside. store_byte_server d s n aside va byte)
+    (store_byte_stay s n va byte) (store_byte_wait _ s n (not_beside s n) va byte) (λ d aside. store_byte_server d s n aside va byte)
 plain_behind s n (ask.Exchange va word) plain =
     reached_behind s n _ (exchange_left _ s n va word) (λ in_order each. exchange_found s n in_order.frames each va word)
-    (exchange_stay s n va word) (exchange_wait _ s n va word) (λ d aside. exchange_server d s n aside va word)
+    (exchange_stay s n va word) (exchange_wait _ s n (not_beside s n) va word) (λ d aside. exchange_server d s n aside va word)
 plain_behind s n ask.RestoreFrame plain =
-    reached_behind s n _ (restore_left _ s n) (λ in_order each. restore_frame_found s n in_order.frames each) (restore_stay s n) (restore_wait _ s n)
+    reached_behind s n _ (restore_left _ s n) (λ in_order each. restore_frame_found s n in_order.frames each) (restore_stay s n) (restore_wait _ s n (not_beside s n))
     (λ d aside. restore_server d s n aside)
 plain_behind s n (ask.Touch ip va true) plain =
     let t = at_instruction s n ip in
     moved_behind s n ip _ (store_byte_left _ t n va 0) (λ in_order each. store_byte_found t n in_order.frames each va 0) (store_byte_stay t n va 0)
-    (store_byte_wait _ t n va 0) (λ d aside. store_byte_server d t n aside va 0)
+    (store_byte_wait _ t n (moved_beside s n ip) va 0) (λ d aside. store_byte_server d t n aside va 0)
 plain_behind s n (ask.Touch ip va false) plain =
     let t = at_instruction s n ip in
     moved_behind s n ip _ (load_byte_left _ t n va) (λ in_order each. load_byte_found t n in_order.frames each va) (load_byte_stay t n va)
-    (load_byte_wait _ t n va) (λ d aside. load_byte_server d t n aside va)
+    (load_byte_wait _ t n (moved_beside s n ip) va) (λ d aside. load_byte_server d t n aside va)
 
 calm_behind : (s : KernelState) (n : ℕ) (a : Ask) → is_calm a ≡ true → KeepsCopies n s (performed s n a).state → IsAsideAsk s a →
     Behind s n (performed s n a).state
@@ -589,6 +593,7 @@ module _ (s : KernelState) (n : ℕ) (service : Service) (from to : Step) (numbe
           uses = used;
           places = places_kept s after n (λ before then_so live. others);
           numbers = numbers_kept s after n (λ before then_so live. others) (copies_kept s after n (same_wait (IsBeside s n) s.spaces));
+          working = working_kept s after n (copies_kept s after n (same_wait (IsBeside s n) s.spaces));
           server = own_server s n ran (record (slot_at ran n) { extra = words_at number to }) refl refl server;
         };
         lowers = falling_lowers s n pause call service from stands numbered

@@ -26,7 +26,7 @@ use Rattle.lib_os.specs.Rows.{Names}
 use Rattle.lib_os.specs.StandsFor.{StandsFor}
 use Rattle.lib_os.specs.StandsInHandler.{wanted_of}
 use Rattle.lib_os.specs.UserCalls.{CallStep, answer_of}
-use Rattle.lib_os.proofs.DeviceLooks.{device_answers, device_goes_on, device_object, device_va, reading_device}
+use Rattle.lib_os.proofs.DeviceLooks.{device_answers, device_console, device_goes_on, device_object, device_va, device_word, reading_device}
 use Rattle.lib_os.proofs.Loading.{loaded}
 use Rattle.lib_os.proofs.PageTaken.{refused_keeps, take_holds, take_lives, taking_keeps, working_perm}
 use Rattle.lib_stage.specs.declared.ask.Next.TheVariants as next
@@ -75,14 +75,14 @@ module _ (s : KernelState) (n fd va len : ℕ) (live : is_live (slot_at s n) ≡
 
   module _ (stands : place_of (slot_at s n) ≡ place.InService write step.ReadingDevice) where
     device_follows : (names : Names) (a : AbstractState) → StandsFor names s a → IsInOrder (loaded s n (device_va fd)) →
-        Follows (loaded s n (device_va fd)) n write a (next_of_device va len DEVICE_CONSOLE)
-    device_follows names a h order = by_buffer (is_buffer va (wanted_of len)) refl
+        device_word s n fd ≡ DEVICE_CONSOLE → Follows (loaded s n (device_va fd)) n write a (next_of_device va len DEVICE_CONSOLE)
+    device_follows names a h order word = by_buffer (is_buffer va (wanted_of len)) refl
       where
         by_len : is_buffer va (wanted_of len) ≡ true → (t : Bool) → (len == 0) ≡ t →
             Follows (loaded s n (device_va fd)) n write a (if t then next.Answer 0 else next.GoOn step.TakingPage)
         by_len inside true none =
             device_answers s n write fd refl stands h order 0
-            (write_nothing a n _ (slot_at s n).registers fd va len (device_object s n write fd refl stands h) inside none)
+            (write_nothing a n _ (slot_at s n).registers fd va len (device_object s n write fd refl stands h word) inside none)
         by_len inside false some =
             let it = reading_device s n write fd refl stands h in (
               refl,
@@ -90,7 +90,7 @@ module _ (s : KernelState) (n fd va len : ℕ) (live : is_live (slot_at s n) ≡
                 names,
                 device_goes_on s n write fd refl stands h order step.TakingPage refl (
                   record { program = it.is_in.program; phase = it.is_in.phase; silent = it.is_in.silent; awake = it.is_in.awake },
-                  record { below = it.below; stands = it.stands; buffer = inside },
+                  record { below = it.below; console = device_console s n write fd refl stands h word; buffer = inside },
                   grind (arith, nat_tests),
                 ),
               ),
@@ -101,7 +101,7 @@ module _ (s : KernelState) (n fd va len : ℕ) (live : is_live (slot_at s n) ≡
             (if not t then next.Answer (negated E_INVAL) else if len == 0 then next.Answer 0 else next.GoOn step.TakingPage)
         by_buffer false outside =
             device_answers s n write fd refl stands h order (negated E_INVAL)
-            (write_refused a n _ (slot_at s n).registers fd va len (device_object s n write fd refl stands h) outside)
+            (write_refused a n _ (slot_at s n).registers fd va len (device_object s n write fd refl stands h word) outside)
         by_buffer true inside = by_len inside (len == 0) refl
 
     pub write_device_holds : ServiceHolds s n (staged write (device_asked fd) (next_of_device va len))

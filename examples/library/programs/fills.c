@@ -1,7 +1,8 @@
 /* Takes pages until none is left, which is the answer -4 (E_NO_MEM), and counted as refused in the note; it runs on, and
-   what it has stays. How many there are is said by --frames. Of 300 frames the kernel keeps 20. The file server takes one,
-   and the program six: its directory, the page of its image with its table, and the pages of its stack and of the stack of
-   the library's handler of page faults, with one table for both. Of the 273 others one is the table of the new pages. */
+   what it has stays. How many there are is said by --frames. Of 300 frames the kernel keeps 20. The file server takes three: its directory,
+   and the page for the records of open files with its table. The program takes eight: its directory, the page of its image with
+   its table, the pages of its stack and of the stack of the library's handler of page faults, with one table for both, and the
+   page of its descriptors with its table. Of the 269 others one is the table of the new pages. */
 #include "mmu.h"
 #include "print.h"
 #include "service.h"

@@ -1,5 +1,5 @@
 /* A fork with so many frames as --frames gives, from the least number with which a run begins to the first with which nothing
-   is refused. The program takes 228 pages, behind which no frame is left of the least number, and so many as it is raised by
+   is refused. The program takes 226 pages, behind which no frame is left of the least number, and so many as it is raised by
    of any other. With one more than the least number there is one for the child's directory, then for its tables, one of each
    of four regions, of which the descriptors have one, and then for the stack of its handler: with less than these six fork is answered
    -4 (E_NO_MEM). Behind
@@ -11,7 +11,7 @@
 #include "service.h"
 
 #define FIRST 0x10000000
-#define PAGES 228
+#define PAGES 226
 
 static volatile uint32_t datum = 1;
 

@@ -9,6 +9,7 @@ use Rattle.lib_os.proofs.CallsMade.{then_set}
 use Rattle.fs_requests.specs.declared.plan.ServerNext.{ServerNext}
 use Rattle.fs_requests.specs.ServerPlans.{next_at}
 use Rattle.fs_tree.specs.declared.steps.Acted.{Acted}
+use Rattle.fs_tree.specs.TreeMakes.{CallsWhereTold}
 use Rattle.fs_tree.specs.TreeSteps.{LivesWhereAnswered, StepsWhereTold}
 use Rattle.fs_server.specs.ServerSteps.{WorksWhereTold, gone_on}
 use Rattle.fs_server.proofs.JobsWorked.{works_answers, works_going}
@@ -28,6 +29,8 @@ returns-in-Ok-Going-clause-told g c =
     works_going c.args.state (g.O.UserOs.disk c.args.os.now) (g.O.UserOs.slot c.args.os.now) s (g.O.UserOs.state c.tree_step.new.os) files
     (subst (λ (x : Acted). StepsWhereTold (Ok x) (g.O.UserOs.disk c.args.os.now) (g.O.UserOs.slot c.args.os.now) (from_to s (g.O.UserOs.state c.tree_step.new.os)) files)
     c.in-Ok-Going.field-0-is c.in-Ok-Going.ensures.told)
+    (subst (λ (x : Acted). CallsWhereTold (Ok x) (g.O.UserOs.disk c.args.os.now) (g.O.UserOs.slot c.args.os.now) (from_to s (g.O.UserOs.state c.tree_step.new.os)) files)
+    c.in-Ok-Going.field-0-is c.in-Ok-Going.ensures.call)
 
 pub returns-in-Ok-Answer-clause-told : goal.returns-in-Ok-Answer-clause-told
 returns-in-Ok-Answer-clause-told g c =
@@ -38,11 +41,12 @@ returns-in-Ok-Answer-clause-told g c =
     let mid = g.O.UserOs.state c.tree_step.new.os in
     let after = g.O.UserOs.state c.go_on.new.os in
     let told = subst (λ (x : Acted). StepsWhereTold (Ok x) disk n (from_to s mid) files) c.in-Ok-Answer.field-0-is c.in-Ok-Answer.ensures.told in
+    let calls = subst (λ (x : Acted). CallsWhereTold (Ok x) disk n (from_to s mid) files) c.in-Ok-Answer.field-0-is c.in-Ok-Answer.ensures.call in
     let is : after ≡ gone_on mid n (next_at c.args.state c.in-Ok-Answer.word) =
     c.go_on.ensures.state ∙ (λ i. gone_on mid (c.tree_step.ensures.slot i) (c.next_at.ensures i)) in
     subst (λ (done : Progress). WorksWhereTold c.args.state (Ok done) disk n (from_to s after) files)
     (sym (c.go_on.ensures.seen ∙ ap (λ (next : ServerNext). next.seen) c.next_at.ensures))
-    (works_answers c.args.state disk n c.in-Ok-Answer.word s mid after files told is)
+    (works_answers c.args.state disk n c.in-Ok-Answer.word s mid after files told calls is)
 
 pub returns-in-Ok-Going-clause-made : goal.returns-in-Ok-Going-clause-made
 returns-in-Ok-Going-clause-made g c = c.in-Ok-Going.ensures.made

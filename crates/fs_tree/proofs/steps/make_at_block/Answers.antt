@@ -13,10 +13,11 @@ use Rattle.fs_cache.specs.declared.steps.Cached.{Cached}
 use Rattle.fs_cache.specs.CacheSteps.{FetchTold, IsBlockStep, KeepsCacheWhereDone, caller, fetch_state}
 use Rattle.fs_cache.proofs.DiskTouched.{then_leaves}
 use Rattle.fs_cache.proofs.GoneMade.{gone_makes}
-use Rattle.fs_tree.specs.declared.steps.Done.TheVariants.{Going, NoPage}
+use Rattle.fs_tree.specs.declared.steps.Done.TheVariants.{Going, NoPage, Word}
 use Rattle.fs_tree.specs.TreeMakes.{IsAccess}
 use Rattle.fs_tree.proofs.AccessMade.{access_failed, access_faulted, access_made}
-use Rattle.fs_tree.proofs.TiesLaw.{access_rest, access_slot, cache_going, cache_lacks, cache_leaves, lacking_lives, quiet_from, ready_leaves, ready_stopped, ready_word}
+use Rattle.fs_tree.proofs.TiesLaw.{access_rest, access_slot, cache_calls, cache_going, cache_lacks, cache_leaves, lacking_lives, quiet_from, ready_calls, ready_leaves}
+use Rattle.fs_tree.proofs.TiesLaw.{ready_never_calls, ready_stopped, ready_word}
 use Rattle.fs_tree.proofs.steps.make_at_block.Goals as goal
 
 pub returns-in-Ok-clause-told : goal.returns-in-Ok-clause-told
@@ -174,6 +175,66 @@ returns-in-Ok-NoPage-clause-leaves g c =
     cache_leaves c.args.ask block called (omega arith) files ready printed made.0 NoPage made.2
 
 -- ---- the call
+
+pub returns-in-Ok-clause-call : goal.returns-in-Ok-clause-call
+returns-in-Ok-clause-call g c =
+    let s = g.O.UserOs.state c.args.os.now in
+    let n = g.O.UserOs.slot c.args.os.now in
+    let called = caller s n (g.O.UserOs.disk c.args.os.now) in
+    let block = c.args.at / BLKSIZE % CACHE_BLOCKS in
+    let files = around g.H.Host.files c.args.host.now c.block_step.new.host in
+    let ready = g.O.UserOs.state c.block_step.new.os in
+    let printed = output g.H.Host.console g.O.UserOs.written (from_to c.args.host.now c.block_step.new.host) (from_to c.args.os.now c.block_step.new.os) in
+    let va = c.in-Ok-Ready.va in
+    let made = subst (λ (x : Cached). IsBlockStep block called (Ok x) files ready printed) c.in-Ok-Ready.field-0-is c.in-Ok-Ready.ensures.made in
+    let mid = g.O.UserOs.state c.access.new.os in
+    let told = output g.H.Host.console g.O.UserOs.written (from_to c.block_step.new.host c.access.new.host) (from_to c.block_step.new.os c.access.new.os) in
+    let call = subst (λ (k : KernelState). IsAccess c.args.ask (va + c.args.at % BLKSIZE) k n (Ok c.in-Ok.word) mid told) made.2
+    (subst (λ (m : ℕ). IsAccess c.args.ask (va + c.args.at % BLKSIZE) ready m (Ok c.in-Ok.word) mid told) c.block_step.ensures.slot c.in-Ok.ensures.step) in
+    ready_calls c.args.ask c.args.at called c.requires.place mid told c.access.ensures.in_order va made.0 made.1
+    (around g.H.Host.files c.args.host.now c.access.new.host) (Word c.in-Ok.word) c.in-Ok.word call
+
+pub returns-in-Err-Upcall-clause-call : goal.returns-in-Err-Upcall-clause-call
+returns-in-Err-Upcall-clause-call g c =
+    let s = g.O.UserOs.state c.args.os.now in
+    let n = g.O.UserOs.slot c.args.os.now in
+    let called = caller s n (g.O.UserOs.disk c.args.os.now) in
+    let block = c.args.at / BLKSIZE % CACHE_BLOCKS in
+    let files = around g.H.Host.files c.args.host.now c.block_step.new.host in
+    let ready = g.O.UserOs.state c.block_step.new.os in
+    let printed = output g.H.Host.console g.O.UserOs.written (from_to c.args.host.now c.block_step.new.host) (from_to c.args.os.now c.block_step.new.os) in
+    let va = c.in-Ok-Ready.va in
+    let made = subst (λ (x : Cached). IsBlockStep block called (Ok x) files ready printed) c.in-Ok-Ready.field-0-is c.in-Ok-Ready.ensures.made in
+    let mid = g.O.UserOs.state c.access.new.os in
+    let told = output g.H.Host.console g.O.UserOs.written (from_to c.block_step.new.host c.access.new.host) (from_to c.block_step.new.os c.access.new.os) in
+    let call = subst (λ (k : KernelState). IsAccess c.args.ask (va + c.args.at % BLKSIZE) k n (Err c.in-Err-Upcall.field-0) mid told) made.2
+    (subst (λ (m : ℕ). IsAccess c.args.ask (va + c.args.at % BLKSIZE) ready m (Err c.in-Err-Upcall.field-0) mid told) c.block_step.ensures.slot c.in-Err-Upcall.ensures.step) in
+    ready_never_calls c.args.ask c.args.at called c.requires.place mid told c.access.ensures.in_order va made.0 made.1
+    (around g.H.Host.files c.args.host.now c.access.new.host) c.in-Err-Upcall.field-0 call
+
+pub returns-in-Ok-Going-clause-call : goal.returns-in-Ok-Going-clause-call
+returns-in-Ok-Going-clause-call g c =
+    let s = g.O.UserOs.state c.args.os.now in
+    let n = g.O.UserOs.slot c.args.os.now in
+    let called = caller s n (g.O.UserOs.disk c.args.os.now) in
+    let block = c.args.at / BLKSIZE % CACHE_BLOCKS in
+    let files = around g.H.Host.files c.args.host.now c.block_step.new.host in
+    let ready = g.O.UserOs.state c.block_step.new.os in
+    let printed = output g.H.Host.console g.O.UserOs.written (from_to c.args.host.now c.block_step.new.host) (from_to c.args.os.now c.block_step.new.os) in
+    let made = subst (λ (x : Cached). IsBlockStep block called (Ok x) files ready printed) c.in-Ok-Going.field-0-is c.in-Ok-Going.ensures.made in
+    cache_calls c.args.ask block called (omega arith) files ready printed made.0 Going made.2
+
+pub returns-in-Ok-NoPage-clause-call : goal.returns-in-Ok-NoPage-clause-call
+returns-in-Ok-NoPage-clause-call g c =
+    let s = g.O.UserOs.state c.args.os.now in
+    let n = g.O.UserOs.slot c.args.os.now in
+    let called = caller s n (g.O.UserOs.disk c.args.os.now) in
+    let block = c.args.at / BLKSIZE % CACHE_BLOCKS in
+    let files = around g.H.Host.files c.args.host.now c.block_step.new.host in
+    let ready = g.O.UserOs.state c.block_step.new.os in
+    let printed = output g.H.Host.console g.O.UserOs.written (from_to c.args.host.now c.block_step.new.host) (from_to c.args.os.now c.block_step.new.os) in
+    let made = subst (λ (x : Cached). IsBlockStep block called (Ok x) files ready printed) c.in-Ok-NoPage.field-0-is c.in-Ok-NoPage.ensures.made in
+    cache_calls c.args.ask block called (omega arith) files ready printed made.0 NoPage made.2
 
 pub returns-in-Ok-clause-made : goal.returns-in-Ok-clause-made
 returns-in-Ok-clause-made g c =

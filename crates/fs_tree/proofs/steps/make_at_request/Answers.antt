@@ -6,8 +6,9 @@ use Rattle.lib_os.specs.UserCalls.{output}
 use Rattle.fs_cache.specs.CacheSteps.{caller}
 use Rattle.lib_os.specs.declared.numbers.TheConstants.{REQUEST}
 use Rattle.lib_os.proofs.CallsMade.{in_request}
+use Rattle.fs_tree.specs.declared.steps.Done.TheVariants.{Word}
 use Rattle.fs_tree.proofs.AccessMade.{access_faulted, access_made}
-use Rattle.fs_tree.proofs.TiesLaw.{access_rest, access_slot, request_leaves, request_stopped, request_word}
+use Rattle.fs_tree.proofs.TiesLaw.{access_rest, access_slot, request_calls, request_leaves, request_never_calls, request_stopped, request_word}
 use Rattle.fs_tree.proofs.steps.make_at_request.Goals as goal
 
 pub returns-in-Ok-clause-told : goal.returns-in-Ok-clause-told
@@ -61,6 +62,28 @@ returns-in-Err-Upcall-clause-leaves g c =
     request_leaves c.args.ask c.args.at called c.requires.place mid told c.access.ensures.in_order files c.in-Err-Upcall.field-0 c.in-Err-Upcall.ensures.step
 
 -- ---- the call
+
+pub returns-in-Ok-clause-call : goal.returns-in-Ok-clause-call
+returns-in-Ok-clause-call g c =
+    let s = g.O.UserOs.state c.args.os.now in
+    let n = g.O.UserOs.slot c.args.os.now in
+    let called = caller s n (g.O.UserOs.disk c.args.os.now) in
+    let files = around g.H.Host.files c.args.host.now c.access.new.host in
+    let mid = g.O.UserOs.state c.access.new.os in
+    let told = output g.H.Host.console g.O.UserOs.written (from_to c.args.host.now c.access.new.host) (from_to c.args.os.now c.access.new.os) in
+    request_calls c.args.ask c.args.at called c.requires.place mid told c.access.ensures.in_order files (Word c.in-Ok.word) c.in-Ok.word
+    c.in-Ok.ensures.step
+
+pub returns-in-Err-Upcall-clause-call : goal.returns-in-Err-Upcall-clause-call
+returns-in-Err-Upcall-clause-call g c =
+    let s = g.O.UserOs.state c.args.os.now in
+    let n = g.O.UserOs.slot c.args.os.now in
+    let called = caller s n (g.O.UserOs.disk c.args.os.now) in
+    let files = around g.H.Host.files c.args.host.now c.access.new.host in
+    let mid = g.O.UserOs.state c.access.new.os in
+    let told = output g.H.Host.console g.O.UserOs.written (from_to c.args.host.now c.access.new.host) (from_to c.args.os.now c.access.new.os) in
+    request_never_calls c.args.ask c.args.at called c.requires.place mid told c.access.ensures.in_order files c.in-Err-Upcall.field-0
+    c.in-Err-Upcall.ensures.step
 
 pub returns-in-Ok-clause-made : goal.returns-in-Ok-clause-made
 returns-in-Ok-clause-made g c =

@@ -8,12 +8,13 @@ use Rattle.fs_jobs.specs.declared.place.TreeState.{TreeState}
 use Rattle.fs_tree.specs.declared.steps.Acted.TheVariants.{Answer, Going}
 use Rattle.fs_tree.specs.declared.steps.Done.{Done}
 use Rattle.fs_tree.specs.declared.steps.Done.TheVariants as done
-use Rattle.fs_tree.specs.TreeMakes.{DoesWhereTold}
+use Rattle.fs_tree.specs.TreeMakes.{CallsWhereInside, DoesWhereTold}
 use Rattle.fs_places.specs.TreePlaces.{registers_with, words_with}
 use Rattle.fs_runs.specs.TreePlans.{ask_at, next_at}
 use Rattle.fs_tree.specs.TreeSteps.{StepsWhereTold, job_in}
 use Rattle.fs_tree.proofs.AccessMade.{job_sets}
-use Rattle.fs_tree.proofs.TiesLaw.{known_state, quiet_still, set_leaves_rest, step_answers, step_goes_on, step_going, step_lacks, step_leaves_rest, step_prints}
+use Rattle.fs_tree.proofs.TiesLaw.{known_state, quiet_still, set_calls, set_leaves_rest, step_answers, step_calls, step_goes_on, step_going, step_lacks, step_leaves_rest}
+use Rattle.fs_tree.proofs.TiesLaw.{step_prints}
 use Rattle.fs_tree.proofs.steps.tree_step.Goals as goal
 
 pub returns-in-Answer-clause-told : goal.returns-in-Answer-clause-told
@@ -202,6 +203,66 @@ returns-in-GoOn-clause-rest g c =
     c.make.ensures.slot c.go_on.ensures.state)
 
 -- ---- the call
+
+pub returns-in-Answer-clause-call : goal.returns-in-Answer-clause-call
+returns-in-Answer-clause-call g c =
+    let s = g.O.UserOs.state c.args.os.now in
+    let n = g.O.UserOs.slot c.args.os.now in
+    let disk = g.O.UserOs.disk c.args.os.now in
+    let files = around g.H.Host.files c.args.host.now c.make.new.host in
+    let mid = g.O.UserOs.state c.make.new.os in
+    let known : c.find_state-state.result ≡ job_in s n =
+    known_state s n c.find_state-state.result c.registers-registers.result c.extra-extra.result.0 c.find_state-state.ensures
+    c.registers-registers.ensures c.extra-extra.ensures in
+    let asks : c.ask_at.result ≡ ask_at (job_in s n) = c.ask_at.ensures ∙ ap (λ (t : TreeState). ask_at t) known in
+    let calls = subst (λ (x : Done). CallsWhereInside c.ask_at.result (Ok x) disk n (from_to s mid) files) c.in-Ok-Word.field-0-is c.in-Ok-Word.ensures.call in
+    step_calls disk n s mid files c.ask_at.result asks (done.Word c.in-Ok-Word.word) calls (Answer c.in-Answer.answer)
+
+pub returns-in-Ok-Going-clause-call : goal.returns-in-Ok-Going-clause-call
+returns-in-Ok-Going-clause-call g c =
+    let s = g.O.UserOs.state c.args.os.now in
+    let n = g.O.UserOs.slot c.args.os.now in
+    let disk = g.O.UserOs.disk c.args.os.now in
+    let files = around g.H.Host.files c.args.host.now c.make.new.host in
+    let mid = g.O.UserOs.state c.make.new.os in
+    let known : c.find_state-state.result ≡ job_in s n =
+    known_state s n c.find_state-state.result c.registers-registers.result c.extra-extra.result.0 c.find_state-state.ensures
+    c.registers-registers.ensures c.extra-extra.ensures in
+    let asks : c.ask_at.result ≡ ask_at (job_in s n) = c.ask_at.ensures ∙ ap (λ (t : TreeState). ask_at t) known in
+    let calls = subst (λ (x : Done). CallsWhereInside c.ask_at.result (Ok x) disk n (from_to s mid) files) c.in-Ok-Going.field-0-is c.in-Ok-Going.ensures.call in
+    step_calls disk n s mid files c.ask_at.result asks done.Going calls Going
+
+pub returns-in-Ok-NoPage-clause-call : goal.returns-in-Ok-NoPage-clause-call
+returns-in-Ok-NoPage-clause-call g c =
+    let s = g.O.UserOs.state c.args.os.now in
+    let n = g.O.UserOs.slot c.args.os.now in
+    let disk = g.O.UserOs.disk c.args.os.now in
+    let files = around g.H.Host.files c.args.host.now c.make.new.host in
+    let mid = g.O.UserOs.state c.make.new.os in
+    let known : c.find_state-state.result ≡ job_in s n =
+    known_state s n c.find_state-state.result c.registers-registers.result c.extra-extra.result.0 c.find_state-state.ensures
+    c.registers-registers.ensures c.extra-extra.ensures in
+    let asks : c.ask_at.result ≡ ask_at (job_in s n) = c.ask_at.ensures ∙ ap (λ (t : TreeState). ask_at t) known in
+    let calls = subst (λ (x : Done). CallsWhereInside c.ask_at.result (Ok x) disk n (from_to s mid) files) c.in-Ok-NoPage.field-0-is c.in-Ok-NoPage.ensures.call in
+    step_calls disk n s mid files c.ask_at.result asks done.NoPage calls (Answer c.negated.result)
+
+pub returns-in-GoOn-clause-call : goal.returns-in-GoOn-clause-call
+returns-in-GoOn-clause-call g c =
+    let s = g.O.UserOs.state c.args.os.now in
+    let n = g.O.UserOs.slot c.args.os.now in
+    let disk = g.O.UserOs.disk c.args.os.now in
+    let files = around g.H.Host.files c.args.host.now c.make.new.host in
+    let mid = g.O.UserOs.state c.make.new.os in
+    let known : c.find_state-state.result ≡ job_in s n =
+    known_state s n c.find_state-state.result c.registers-registers.result c.extra-extra.result.0 c.find_state-state.ensures
+    c.registers-registers.ensures c.extra-extra.ensures in
+    let asks : c.ask_at.result ≡ ask_at (job_in s n) = c.ask_at.ensures ∙ ap (λ (t : TreeState). ask_at t) known in
+    let calls = subst (λ (x : Done). CallsWhereInside c.ask_at.result (Ok x) disk n (from_to s mid) files) c.in-Ok-Word.field-0-is c.in-Ok-Word.ensures.call in
+    let next = c.in-GoOn.next in
+    let after = g.O.UserOs.state c.go_on.new.os in
+    set_calls disk n s mid files c.ask_at.result asks (done.Word c.in-Ok-Word.word) calls Going next after
+    (subst (λ (m : ℕ). after ≡ with_extra (with_registers mid m (registers_with (slot_at mid m).registers next)) m (words_with (slot_at mid m).extra next))
+    c.make.ensures.slot c.go_on.ensures.state)
 
 pub returns-in-GoOn-clause-made : goal.returns-in-GoOn-clause-made
 returns-in-GoOn-clause-made g c =

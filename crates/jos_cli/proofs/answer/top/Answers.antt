@@ -24,13 +24,15 @@ returns-in-Ok-clause-complete g c files input e f i is can calm =
 
 pub returns-in-Err-clause-answer : goal.returns-in-Err-clause-answer
 returns-in-Err-clause-answer g c =
-    rw (c.note_fault.ensures, c.answer_words-outcome.ensures.cut) (answers_behind _ _ _ c.answer_words-outcome.result.0
-    (around g.H.Host.console c.args.host.now c.answer_words-outcome.new.host) _ c.answer_words-outcome.ensures.did.answer c.in-Err.ensures.did.console)
+    rw (c.note_fault.ensures, c.answer_words-outcome.ensures.cut) (answers_behind (around g.H.Host.files c.args.host.now c.answer_words-outcome.new.host) _ _
+    c.answer_words-outcome.result.0 (around g.H.Host.console c.args.host.now c.answer_words-outcome.new.host) _ _ c.answer_words-outcome.ensures.did.answer
+    c.in-Err.ensures.did.files c.in-Err.ensures.did.console)
 
 pub returns-in-Err-clause-fault : goal.returns-in-Err-clause-fault
 returns-in-Err-clause-fault g c =
-    rw c.note_fault.ensures (not_noted _ _ _ (around g.H.Host.faults c.args.host.now c.answer_words-outcome.new.host) _
-    (around g.H.Host.console c.args.host.now c.answer_words-outcome.new.host) _ _ c.in-Err.ensures.did.cause.rose c.in-Err.ensures.did.console
+    rw c.note_fault.ensures (not_noted (around g.H.Host.files c.args.host.now c.answer_words-outcome.new.host) _ _
+    (around g.H.Host.faults c.args.host.now c.answer_words-outcome.new.host) _ (around g.H.Host.console c.args.host.now c.answer_words-outcome.new.host) _ _ _
+    c.in-Err.ensures.did.cause.rose c.in-Err.ensures.did.files c.in-Err.ensures.did.console
     c.answer_words-outcome.result.0 c.answer_words-outcome.ensures.did.cause c.answer_words-outcome.ensures.did.answer
     (rw c.answer_words-outcome.ensures.did.notes at c.in-Err.ensures.told))
 

@@ -66,7 +66,8 @@ returns-in-Ok-read_input-clause-told g c =
       input.0,
       record { schedule = told.1; disk = program.1 },
       input.1,
-      read.all_read r found input.0 (sym c.limit_of_run.ensures.limit ∙ c.in_default.is) c.in-Ok.schedule told.2 _ program.2 c.in-Ok-read_input.input.items input.2,
+      read.all_read r found input.0 (sym c.limit_of_run.ensures.limit ∙ c.in_default.is) c.in-Ok.schedule told.2 _ program.2 c.in-Ok-read_program.program.blocks program.3
+          c.in-Ok-read_input.input.items input.2,
     )
 
 pub returns-in-Ok-read_input-clause-did : goal.returns-in-Ok-read_input-clause-did

@@ -43,7 +43,7 @@ pub returns-clause-stands : goal.returns-clause-stands
 returns-clause-stands c = λ input bytes. (let begins = begun_within c.args.image.now c.args.file.now (map (λ w. w.now) c.args.words.now)
     c.args.frames input (state_of c.start_program.new.system input)
     (λ i. (c.type_inv.file i).fits) (c.start_program.ensures.bytes c.if-not-start_program.false) bytes
-    c.requires.read c.requires.fits c.requires.least c.requires.most (returns-clause-booted c input) in begins.0)
+    c.requires.read c.requires.fits c.requires.least c.requires.most (returns-clause-booted c input) in begins.1)
 
 pub returns-clause-new : goal.returns-clause-new
 returns-clause-new c = λ input. new_within c.args.image.now c.args.file.now (map (λ w. w.now) c.args.words.now) c.args.frames

@@ -1,25 +1,91 @@
-use Rattle.std.proofs.Common.{◌∙◌, sym, ap, subst}
+use Rattle.std.proofs.Common.{◌≡◌, ◌∙◌, [], Option, sym, ap, subst}
+use Rattle.jos_host.specs.Frames.{around, from_to}
 use Rattle.jos_base.specs.KernelState.{KernelState}
 use Rattle.jos_sys.specs.System.{state_of}
+use Rattle.lib_os.specs.AbstractState.{AbstractState}
+use Rattle.lib_os.specs.Disk.{Disk, DiskFile, HasBlocks}
 use Rattle.jos_run.specs.Begun.{IsNew}
+use Rattle.jos_run.specs.DiskTouches.{TouchesDiskOnly}
+use Rattle.jos_run.specs.Running as running
+use Rattle.jos_run.specs.Running.{Runs}
+use Rattle.jos_run.specs.declared.programs.RunEnd.TheVariants.{Ended, HostFault}
+use Rattle.jos_run.specs.RunEnds.{RunsFrom}
+use Rattle.jos_run.specs.Served.{kernel_state}
 use Rattle.jos_run.specs.ServerStands.{StandsWhole}
+use Rattle.jos_run.specs.Worlds.{beside, told_disk}
 use Rattle.jos_run.proofs.ProgramsRun.{ended_told, failed_told}
+use Rattle.jos_run.proofs.programs.run_booted.Given as given
 use Rattle.jos_run.proofs.programs.run_booted.Goals as goal
+use Rattle.jos_run.proofs.programs.run_booted.Goals.{After-begin-run}
+
+-- ---- the run that begins
+
+module _ (g : given.Over) (c : goal.After-begin-run g) where
+  disk_is : c.begin-run.result.served.disk ≡ c.args.disk
+  disk_is = c.begin-run.ensures.disk ∙ (λ i. (c.with_disk-served.ensures i).disk)
+
+  state_is : kernel_state c.with_disk-served.result ≡ state_of c.args.system c.args.setup.input.items
+  state_is = (λ i. kernel_state (c.with_disk-served.ensures i)) ∙ c.new-2.ensures.state ∙ ap (state_of c.args.system) c.new.ensures
+
+  run_is : running.state_of c.begin-run.result ≡ state_of c.args.system c.args.setup.input.items
+  run_is = c.begin-run.ensures.state ∙ state_is
+
+  is_new : IsNew (kernel_state c.with_disk-served.result) c.args.setup.frames
+  is_new = subst (λ (k : KernelState). IsNew k c.args.setup.frames) (sym state_is) c.requires.new
+
+  whole : HasBlocks (g.H.Host.files c.args.host.now) c.begin-run.result.served.disk
+  whole = subst (λ (d : DiskFile). HasBlocks (g.H.Host.files c.args.host.now) d) (sym disk_is) c.requires.whole
+
+  begun : (first : AbstractState) (disk : Option Disk) → StandsWhole (beside (running.state_of c.begin-run.result) disk) first →
+      Runs first c.args.setup.frames disk c.begin-run.result []
+  begun first disk stands =
+      c.begin-run.ensures.runs first c.args.setup.frames disk
+      (subst (λ (k : KernelState). StandsWhole (beside k disk) first) c.begin-run.ensures.state stands) is_new
+
+pub go-requires-clause-whole : goal.go-requires-clause-whole
+go-requires-clause-whole g c = whole g (goal.at.go-requires-clause-whole g c).After-begin-run
+
+-- ---- it has run
 
 pub returns-in-Ok-clause-runs : goal.returns-in-Ok-clause-runs
-returns-in-Ok-clause-runs g c first stands =
-    let begun = c.new-served.ensures.state ∙ ap (state_of c.args.system) c.new.ensures in
-    let same = sym begun in
-    ended_told c.in-Ok.end c.finish-report.result.0 c.args.setup.schedule c.args.setup.trace _ c.finish-report.result.1.items c.in-Ok.ensures.told
+returns-in-Ok-clause-runs g c =
+    let at = (goal.at.returns-in-Ok-clause-runs g c).After-begin-run in
+    let before = g.H.Host.files c.args.host.now in
+    let after = g.H.Host.files c.go.new.host in
+    let console = around g.H.Host.console c.args.host.now c.go.new.host in
+    let s = state_of c.args.system c.args.setup.input.items in
+    let told = ended_told c.in-Ok.end c.finish-report.result.0 c.args.setup.schedule c.args.setup.trace s c.finish-report.result.1.items c.in-Ok.ensures.told
     c.begin-run.ensures.steps (c.begin-run.ensures.trace ∙ c.requires.trace) c.begin-run.ensures.told c.in-Ok.ensures.holds c.begin-run.ensures.schedule
-    c.finish-report.ensures.report (λ i. (c.finish-report.ensures.trace i).items) (c.begin-run.ensures.state ∙ begun) first c.args.setup.frames
-    (c.begin-run.ensures.runs first c.args.setup.frames (subst (λ (k : KernelState). StandsWhole k first) same stands)
-    (subst (λ (k : KernelState). IsNew k c.args.setup.frames) same c.requires.new))
+    c.finish-report.ensures.report (λ i. (c.finish-report.ensures.trace i).items) (run_is g at) c.args.setup.frames
+    (λ first stands. begun g at first (told_disk before c.begin-run.result.served.disk) stands) in
+    subst (λ (d : DiskFile). RunsFrom s c.args.setup (Ended c.finish-report.result.0 c.finish-report.result.1) (from_to (told_disk before c.args.disk)
+    (told_disk after d)) console) (c.in-Ok.ensures.disk ∙ disk_is g at)
+    (subst (λ (d : DiskFile). RunsFrom s c.args.setup (Ended c.finish-report.result.0 c.finish-report.result.1) (from_to (told_disk before d)
+    (told_disk after c.go.new.self.served.disk)) console) (disk_is g at) told)
+
+pub returns-in-Ok-clause-disk_only : goal.returns-in-Ok-clause-disk_only
+returns-in-Ok-clause-disk_only g c =
+    subst (λ (d : DiskFile). TouchesDiskOnly d (around g.H.Host.files c.args.host.now c.go.new.host) (around g.H.Host.asked c.args.host.now c.go.new.host))
+    (disk_is g (goal.at.returns-in-Ok-clause-disk_only g c).After-begin-run) c.in-Ok.ensures.disk_only
+
+-- ---- or the host failed
 
 pub returns-in-Err-clause-runs : goal.returns-in-Err-clause-runs
-returns-in-Err-clause-runs g c first stands =
-    let same = sym (c.new-served.ensures.state ∙ ap (state_of c.args.system) c.new.ensures) in
-    failed_told c.args.setup.budget c.in-Err.field-0 c.cut_off.result c.args.setup.schedule c.in-Err.ensures.told
-    c.in-Err.ensures.room c.begin-run.ensures.schedule c.cut_off.ensures first c.args.setup.frames
-    (c.begin-run.ensures.runs first c.args.setup.frames (subst (λ (k : KernelState). StandsWhole k first) same stands)
-    (subst (λ (k : KernelState). IsNew k c.args.setup.frames) same c.requires.new))
+returns-in-Err-clause-runs g c =
+    let at = (goal.at.returns-in-Err-clause-runs g c).After-begin-run in
+    let before = g.H.Host.files c.args.host.now in
+    let after = g.H.Host.files c.go.new.host in
+    let console = around g.H.Host.console c.args.host.now c.go.new.host in
+    let s = state_of c.args.system c.args.setup.input.items in
+    let told = failed_told c.args.setup.budget c.in-Err.field-0 c.cut_off.result c.args.setup.schedule s c.in-Err.ensures.told c.in-Err.ensures.room
+    c.begin-run.ensures.schedule c.cut_off.ensures (run_is g at) c.args.setup.frames
+    (λ first stands. begun g at first (told_disk before c.begin-run.result.served.disk) stands) in
+    subst (λ (d : DiskFile). RunsFrom s c.args.setup (HostFault c.cut_off.result) (from_to (told_disk before c.args.disk) (told_disk after d)) console)
+    (c.in-Err.ensures.disk ∙ disk_is g at)
+    (subst (λ (d : DiskFile). RunsFrom s c.args.setup (HostFault c.cut_off.result) (from_to (told_disk before d)
+    (told_disk after c.go.new.self.served.disk)) console) (disk_is g at) told)
+
+pub returns-in-Err-clause-disk_only : goal.returns-in-Err-clause-disk_only
+returns-in-Err-clause-disk_only g c =
+    subst (λ (d : DiskFile). TouchesDiskOnly d (around g.H.Host.files c.args.host.now c.go.new.host) (around g.H.Host.asked c.args.host.now c.go.new.host))
+    (disk_is g (goal.at.returns-in-Err-clause-disk_only g c).After-begin-run) c.in-Err.ensures.disk_only

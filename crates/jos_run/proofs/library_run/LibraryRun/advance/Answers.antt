@@ -1,20 +1,25 @@
-use Rattle.std.proofs.Common.{◌≡◌, ◌∙◌, ◌<◌, ◌+◌, ◌-◌, ◌^◌, min, ◌==◌, ℕ, length, Ok, Err, sym, subst, arith, vec_len}
+use Rattle.std.proofs.Common.{◌≡◌, ◌∙◌, ◌<◌, ◌+◌, ◌-◌, ◌^◌, min, ◌==◌, ℕ, length, Option, Ok, Err, sym, subst, arith, vec_len}
 use Rattle.std.specs.Prelude.{not, Result}
 use Rattle.jos_host.specs.declared.host.Failed.{Failed}
-use Rattle.jos_host.specs.Frames.{around}
+use Rattle.jos_host.specs.Files.{Files}
+use Rattle.jos_host.specs.Frames.{Around, around, from_to}
 use Rattle.jos_base.specs.Environments.{is_running}
 use Rattle.jos_base.specs.KernelState.{slot_at}
 use Rattle.jos_kernel.specs.Books.{noted, traced}
 use Rattle.lib_os.specs.declared.progress.Progress.{Progress}
+use Rattle.lib_os.specs.Disk.{Disk, DiskFile, HasBlocks}
+use Rattle.lib_os.specs.MadeCalls.{TouchesDisk}
 use Rattle.lib_os.specs.UserCalls.{Output}
 use Rattle.lib_os.proofs.NeedReached.{need_is_reached}
 use Rattle.jos_run.specs.declared.library_run.LibraryRun.{LibraryRun}
 use Rattle.jos_run.specs.declared.steps.StepOutcome.{StepOutcome}
 use Rattle.jos_run.specs.LibraryRuns.{visible_steps, hidden_steps}
-use Rattle.jos_run.specs.Running.{state_of, entered, Counted}
+use Rattle.jos_run.specs.DiskTouches.{TouchesDiskOnly}
+use Rattle.jos_run.specs.Running.{state_of, entered, Counted, Went}
 use Rattle.jos_run.specs.Served.{kernel_state}
 use Rattle.jos_run.specs.StepsAtOnce.{MakesSteps}
-use Rattle.jos_run.proofs.HostTouched.{none_whole, untouched}
+use Rattle.jos_run.specs.Worlds.{beside, told_disk}
+use Rattle.jos_run.proofs.DiskKept.{only_step}
 use Rattle.jos_run.proofs.Printed.{printed}
 use Rattle.jos_run.proofs.StepsMade.{Makes, Reaches, reaches, CountsSteps, seen_with, all_steps, moved, went_all, failed_last}
 use Rattle.jos_run.proofs.TurnsCounted.{steps_hold}
@@ -30,15 +35,28 @@ module _ (g : given.Over) (c : goal.After-make_steps-made g) where
       printed (around g.H.Host.console c.args.host.now c.make_steps-made.new.host) c.enter_turn.new.self.served.written
       c.make_steps-made.new.self.written
 
+  abbrev files_before : Option Files
+  files_before = g.H.Host.files c.args.host.now
+
+  abbrev disk_before : Option Disk
+  disk_before = told_disk files_before c.args.self.now.served.disk
+
+  abbrev disk_behind : Option Disk
+  disk_behind = told_disk (g.H.Host.files c.make_steps-made.new.host) c.make_steps-made.new.self.disk
+
   abbrev HasMade : Result StepOutcome Failed → Type 0
   HasMade last =
-      MakesSteps c.args.slot c.make_steps-made.result.going last (entered c.args.self.now c.args.slot)
-      (kernel_state c.make_steps-made.new.self) output_made
+      MakesSteps c.args.slot c.make_steps-made.result.going last (beside (entered c.args.self.now c.args.slot) disk_before)
+      (beside (kernel_state c.make_steps-made.new.self) disk_behind) output_made
 
   has_made : HasMade c.make_steps-made.result.last
   has_made =
-      moved (λ n s. MakesSteps n c.make_steps-made.result.going c.make_steps-made.result.last s (kernel_state c.make_steps-made.new.self)
-      output_made) c.enter_turn.ensures.slot c.enter_turn.ensures.state c.make_steps-made.ensures.made
+      subst (λ (d : DiskFile). MakesSteps c.args.slot c.make_steps-made.result.going c.make_steps-made.result.last
+      (beside (entered c.args.self.now c.args.slot) (told_disk files_before d)) (beside (kernel_state c.make_steps-made.new.self) disk_behind) output_made)
+      c.enter_turn.ensures.disk
+      (moved (λ n s. MakesSteps n c.make_steps-made.result.going c.make_steps-made.result.last
+      (beside s (told_disk files_before c.enter_turn.new.self.served.disk)) (beside (kernel_state c.make_steps-made.new.self) disk_behind)
+      output_made) c.enter_turn.ensures.slot c.enter_turn.ensures.state c.make_steps-made.ensures.made)
 
   abbrev before_last : (last : Result StepOutcome Failed) → HasMade last → Reaches c.args.self.now c.args.slot c.make_steps-made.result.going
   before_last last b =
@@ -46,22 +64,32 @@ module _ (g : given.Over) (c : goal.After-make_steps-made g) where
       reaches c.requires.holds c.requires.chosen (omega (arith, within, c.min-most.ensures, c.steps_left-left_of_turn.ensures.exact))
       ((λ i. is_running (slot_at (sym c.enter_turn.ensures.state i) c.args.slot).status) ∙ c.enter_turn.ensures.running) b
 
--- ---- the disk, of which there is none
+  -- so much is touched of the host's files
+  touched : TouchesDiskOnly c.args.self.now.served.disk (from_to files_before (g.H.Host.files c.make_steps-made.new.host))
+      (from_to (g.H.Host.asked c.args.host.now) (g.H.Host.asked c.make_steps-made.new.host))
+  touched =
+      only_step c.args.self.now.served.disk (from_to files_before (g.H.Host.files c.make_steps-made.new.host))
+      (from_to (g.H.Host.asked c.args.host.now) (g.H.Host.asked c.make_steps-made.new.host)) c.requires.whole
+      (subst (λ (d : DiskFile). TouchesDisk d (from_to files_before (g.H.Host.files c.make_steps-made.new.host))
+      (from_to (g.H.Host.asked c.args.host.now) (g.H.Host.asked c.make_steps-made.new.host))) c.enter_turn.ensures.disk c.make_steps-made.ensures.disk_only)
+
+-- ---- the disk
 
 pub make_steps-made-requires-clause-whole : goal.make_steps-made-requires-clause-whole
 make_steps-made-requires-clause-whole g c =
-    none_whole (g.H.Host.files c.args.host.now) c.enter_turn.new.self.served.disk
-    ((λ i. (c.enter_turn.ensures.disk i).blocks) ∙ c.requires.holds.no_blocks)
+    subst (λ (d : DiskFile). HasBlocks (g.H.Host.files c.args.host.now) d) (sym c.enter_turn.ensures.disk) c.requires.whole
 
-pub returns-in-Ok-clause-rest : goal.returns-in-Ok-clause-rest
-returns-in-Ok-clause-rest g c =
-    untouched c.enter_turn.new.self.served.disk ((λ i. (c.enter_turn.ensures.disk i).blocks) ∙ c.requires.holds.no_blocks)
-    c.make_steps-made.ensures.disk_only c.make_steps-made.ensures.input c.make_steps-made.ensures.notes
+pub returns-in-Ok-clause-disk : goal.returns-in-Ok-clause-disk
+returns-in-Ok-clause-disk g c = c.count_steps.ensures.counted.disk ∙ c.make_steps-made.ensures.disk ∙ c.enter_turn.ensures.disk
 
-pub returns-in-Err-clause-rest : goal.returns-in-Err-clause-rest
-returns-in-Err-clause-rest g c =
-    untouched c.enter_turn.new.self.served.disk ((λ i. (c.enter_turn.ensures.disk i).blocks) ∙ c.requires.holds.no_blocks)
-    c.make_steps-made.ensures.disk_only c.make_steps-made.ensures.input c.make_steps-made.ensures.notes
+pub returns-in-Ok-clause-disk_only : goal.returns-in-Ok-clause-disk_only
+returns-in-Ok-clause-disk_only g c = touched g (goal.at.returns-in-Ok-clause-disk_only g c).After-make_steps-made
+
+pub returns-in-Err-clause-disk : goal.returns-in-Err-clause-disk
+returns-in-Err-clause-disk g c = c.make_steps-made.ensures.disk ∙ c.enter_turn.ensures.disk
+
+pub returns-in-Err-clause-disk_only : goal.returns-in-Err-clause-disk_only
+returns-in-Err-clause-disk_only g c = touched g (goal.at.returns-in-Err-clause-disk_only g c).After-make_steps-made
 
 -- ---- they are counted
 
@@ -75,8 +103,11 @@ made_so g c = (goal.at.After-count_steps g c).After-make_steps-made
 made_ok : (g : given.Over) (c : goal.After-count_steps g) → HasMade g (made_so g c) (Ok c.in-Ok.stepped)
 made_ok g c = subst (λ (last : Result StepOutcome Failed). HasMade g (made_so g c) last) c.in-Ok.is (has_made g (made_so g c))
 
+abbrev disks : (g : given.Over) (c : goal.After-count_steps g) → Around (Option Disk)
+disks g c = from_to (disk_before g (made_so g c)) (disk_behind g (made_so g c))
+
 makes : (g : given.Over) (c : goal.After-count_steps g) →
-    Makes c.args.self.now (behind g c) c.args.slot c.make_steps-made.result.going c.in-Ok.stepped.progress (made_ok g c).step.0
+    Makes c.args.self.now (behind g c) (disks g c) c.args.slot c.make_steps-made.result.going c.in-Ok.stepped.progress (made_ok g c).step.0
 makes g c =
     let b = made_ok g c in
     let trap = c.in-Ok.stepped.trap in
@@ -136,7 +167,10 @@ returns-in-Ok-clause-told g c =
     let within : c.make_steps-made.result.going < c.min-most.result = c.make_steps-made.ensures.within in (
       omega arith,
       omega (arith, within, c.min-most.ensures),
-      went_all (makes g at) need_is_reached c.count_steps.new.self _ (counts g at) (made_ok g at).step.1.gains,
+      subst (λ (d : DiskFile). Went (c.make_steps-made.result.going + 1) (from_to c.args.self.now c.count_steps.new.self)
+          (from_to (disk_before g (made_so g at)) (told_disk (g.H.Host.files c.make_steps-made.new.host) d))
+          (around g.H.Host.console c.args.host.now c.make_steps-made.new.host)) (sym c.count_steps.ensures.counted.disk)
+          (went_all (makes g at) need_is_reached c.count_steps.new.self _ (counts g at) (made_ok g at).step.1.gains),
     )
 
 pub returns-in-Ok-clause-holds : goal.returns-in-Ok-clause-holds
@@ -157,4 +191,4 @@ returns-in-Err-clause-told g c =
       slot = c.make_steps-made.ensures.slot ∙ before.slot;
       book = c.tell_failed_steps.ensures
           ∙ (λ i. record (before.rest i).book { visible = (before.rest i).book.visible + (c.make_steps-made.result.going + 1) });
-    }) _ b.step.1
+    }) _ _ b.step.1

@@ -8,7 +8,7 @@ pub returns-clause-holds : goal.returns-clause-holds
 returns-clause-holds c =
     let empty : c.open.result.turns.items ≡ [] = (λ i. (c.open.ensures.book i).turns.items) ∙ c.requires.empty in
     let none : made c.open.result ≡ 0 = (λ i. made (c.open.ensures.book i)) in
-    begun_holds _ c.open.ensures.room empty none c.requires.turns c.requires.last (λ i. (c.open.ensures.book i).steps) c.requires.no_blocks
+    begun_holds _ c.open.ensures.room empty none c.requires.turns c.requires.last (λ i. (c.open.ensures.book i).steps)
 
 pub returns-clause-runs : goal.returns-clause-runs
 returns-clause-runs c =

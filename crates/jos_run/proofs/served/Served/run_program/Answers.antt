@@ -1,10 +1,11 @@
-use Rattle.std.proofs.Common.{◌≡◌, true, false, ◌∙◌, ◌+◌, ◌-◌, ℕ, Result, ap, sym, subst, arith}
+use Rattle.std.proofs.Common.{◌≡◌, true, false, ◌∙◌, ◌+◌, ◌-◌, ℕ, Option, Result, ap, sym, subst, arith}
 use Rattle.std.specs.Prelude.{OnErr}
 use Rattle.jos_host.specs.declared.host.Failed.{Failed}
 use Rattle.jos_host.specs.Frames.{around}
 use Rattle.jos_base.specs.Environments.{Slot, is_live}
 use Rattle.jos_base.specs.KernelState.{KernelState, slot_at, with_registers}
 use Rattle.jos_kernel.specs.Machine as kernel
+use Rattle.lib_os.specs.Disk.{Disk}
 use Rattle.lib_os.specs.StandsInHandler.{AreSmall}
 use Rattle.lib_os.proofs.Slots.{slot_put}
 use Rattle.lib_os.specs.declared.place.Place.TheVariants as place
@@ -15,6 +16,8 @@ use Rattle.jos_run.specs.GuestSteps.{after_event, is_copying, is_handed_over}
 use Rattle.jos_run.specs.Served.{Parts, kernel_state}
 use Rattle.jos_run.specs.Steps.{is_awake, is_servers}
 use Rattle.jos_run.specs.StepsAtOnce.{came_to, MakesSteps}
+use Rattle.jos_run.specs.Worlds.{beside, told_disk}
+use Rattle.jos_run.proofs.HostTouched.{same_disk}
 use Rattle.jos_run.proofs.Printed.{printed}
 use Rattle.jos_run.proofs.GuestBursts.{HasBurst, has_burst}
 use Rattle.jos_run.proofs.StepsAtOnce.{program_made}
@@ -87,13 +90,20 @@ returns-clause-made g c =
     c.follow_guest-followed.ensures.ended in
     let small : AreSmall (slot_at mid n).registers =
     subst (λ (k : KernelState). AreSmall (slot_at k n).registers) c.set_registers.ensures c.keep_small.ensures in
-    let made = program_made s mid (kernel_state after) output d.burst user awake guest small c.keep_in_order.ensures copying c.is_live.result
+    let disk = told_disk (g.H.Host.files c.args.host.now) c.args.self.now.disk in
+    let behind = told_disk (g.H.Host.files c.follow_guest-followed.new.host) after.disk in
+    let told_is : disk ≡ behind =
+    same_disk c.follow_guest-followed.ensures.rest.first (c.follow_guest-followed.ensures.disk ∙ ap (λ (m : Parts). m.disk) c.self.view_is) in
+    let made = program_made disk s mid (kernel_state after) output d.burst user awake guest small c.keep_in_order.ensures copying c.is_live.result
     copying_is followed told ended in
     let count : burst.result.steps ≡ burst.ensures.going + 1 = burst.ensures.count in
     let going_is : burst.ensures.going ≡ burst.result.steps - 1 = omega (arith, count) in
-    rw (← c.self.view_is)
-    (subst (λ (last : Result StepOutcome Failed). MakesSteps n (burst.result.steps - 1) last s (kernel_state after) output) (sym c.came_to.ensures)
-    (subst (λ (k : ℕ). MakesSteps n k (came_to copying c.is_live.result followed) s (kernel_state after) output) going_is made))
+    subst (λ (m : Parts). MakesSteps m.slot (burst.result.steps - 1) c.came_to.result (beside (kernel_state m) disk) (beside (kernel_state after) behind)
+    (printed (around g.H.Host.console c.args.host.now c.follow_guest-followed.new.host) m.written after.written)) c.self.view_is
+    (subst (λ (o : Option Disk). MakesSteps n (burst.result.steps - 1) c.came_to.result (beside s disk) (beside (kernel_state after) o) output) told_is
+    (subst (λ (last : Result StepOutcome Failed). MakesSteps n (burst.result.steps - 1) last (beside s disk) (beside (kernel_state after) disk) output)
+    (sym c.came_to.ensures)
+    (subst (λ (k : ℕ). MakesSteps n k (came_to copying c.is_live.result followed) (beside s disk) (beside (kernel_state after) disk) output) going_is made)))
 
 pub returns-clause-within : goal.returns-clause-within
 returns-clause-within g c =

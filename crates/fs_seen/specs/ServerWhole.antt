@@ -1,0 +1,269 @@
+-- That the file server serves from one request to the next: while it waits it stands over the disk and its table, a request that comes is one of the
+-- abstract server's, it replies, and gives the page of the request back. What is kept of it at each moment is `IsServing`.
+use Rattle.std.specs.Prelude.{◌≡◌, ◌≢◌, ◌<◌, ◌≤◌, ℕ, ◌+◌, ◌/◌, ◌%◌, nat_lt, Bool, true, false, is_some, List, length, Option, Some, None}
+use Rattle.std.specs.Prelude.{if◌then◌else◌}
+use Rattle.jos_host.specs.Files.{Files}
+use Rattle.jos_host.specs.Frames.{Around}
+use Rattle.jos_base.specs.declared.numbers.TheConstants.{E_IPC_NOT_RECV, NENV, PTE_P, PTE_U, PTE_W, UTOP}
+use Rattle.jos_base.specs.Environments.{is_live}
+use Rattle.jos_base.specs.KernelState.{KernelState, slot_at}
+use Rattle.jos_base.specs.Reach.{Entry}
+use Rattle.jos_base.specs.SpacesState.{reference_count, zero_page}
+use Rattle.jos_base.specs.Words.{negated}
+use Rattle.lib_os.specs.declared.numbers.TheConstants.{MAXOPEN, REQUEST}
+use Rattle.lib_os.specs.declared.progress.Progress.{Progress}
+use Rattle.lib_os.specs.declared.progress.Progress.TheVariants as progress
+use Rattle.lib_os.specs.declared.request.RequestKind.{RequestKind}
+use Rattle.lib_os.specs.Requests as requests
+use Rattle.lib_os.specs.AbstractState.{AbstractState, OpenFile, Request, Server, file, acted, idle, leaving}
+use Rattle.lib_os.specs.Descriptors.{is_held}
+use Rattle.lib_os.specs.Disk.{Disk, DiskFile, byte_in_blocks, disk_in}
+use Rattle.lib_os.specs.FileServer.{is_file_open, request_begun, server_step}
+use Rattle.lib_os.specs.InOrder.{IsInOrder}
+use Rattle.lib_os.specs.LibraryPages.{region_index}
+use Rattle.lib_os.specs.LibrarySteps.{with_word}
+use Rattle.lib_os.specs.MadeCalls.{is_server_page}
+use Rattle.lib_os.specs.StandsFor.{AllConsoles}
+use Rattle.lib_os.specs.UserCalls.{Output, is_file_server}
+use Rattle.fs_layout.specs.declared.numbers.TheConstants.{BLKSIZE, MAXBLOCKS}
+use Rattle.fs_blocks.specs.declared.place.CachePlace.TheVariants as cache
+use Rattle.fs_cache.specs.CacheSteps.{cache_state}
+use Rattle.fs_tree.specs.TreeSteps.{memory_in, request_bytes}
+use Rattle.fs_requests.specs.declared.state.ServerStep.{ServerStep}
+use Rattle.fs_requests.specs.declared.state.ServerStep.TheVariants as step
+use Rattle.fs_requests.specs.ServerPlans.{call_at, next_at, replying}
+use Rattle.fs_serving.specs.ServerRuns.{AsksFor, HasFiles, StandsServing, TableStands, client_of}
+use Rattle.fs_serving.specs.ServerViews.{View}
+use Rattle.fs_server.specs.ServerSteps.{HasFlushed, gone_on, server_at}
+use Rattle.fs_seen.specs.ServerMemory.{AreDiskBytes, HasRequested, IsRequestPage, StandsOver, bytes_by, entry_of, has_request, home_in, is_table_page, place_entry}
+use Rattle.fs_seen.specs.ServerMemory.{place_page, records_page, request_page, serving_in, view_in}
+use Rattle.fs_seen.specs.ServerSees.{AllStands, HasCalledAt, HasServed, is_quiet}
+
+-- ---- at each moment
+
+-- It waits for a request: the files are those of the disk as its cache holds it, and over that the table of open files stands.
+pub record IsIdle (d : Disk) (s : KernelState) (n : ℕ) (a : AbstractState) : Type 0 where
+  pub at : (server_at s n).step ≡ step.ReadingKind
+  pub files : HasFiles d.count (memory_in d s n) a.files
+  pub table : TableStands (memory_in d s n).disk a (view_in d s n)
+
+-- by what it does in the abstract system
+abbrev pub ServesBy : Server → Disk → KernelState → ℕ → AbstractState → Type 0
+ServesBy idle d s n a = IsIdle d s n a
+ServesBy _ d s n a = StandsServing d.count a (serving_in d s n)
+
+abbrev pub ServesFor : Disk → KernelState → ℕ → AbstractState → Type 0
+ServesFor d s n a = ServesBy a.server d s n a
+
+-- It stands over the disk, serves for the abstract state, and has the page of the request until the act is made.
+pub record IsServing (d : Disk) (s : KernelState) (n : ℕ) (a : AbstractState) : Type 0 where
+  pub stands : StandsOver d s n
+  pub serves : ServesFor d s n a
+  pub requested : HasRequested a.server s n
+
+-- behind its own step: for the same abstract state behind a hidden one, and for that after the abstract server's step behind a visible one
+abbrev pub GoesOnServing : Progress → Disk → KernelState → ℕ → AbstractState → Type 0
+GoesOnServing progress.Hidden d after n a = IsServing d after n a
+GoesOnServing progress.Visible d after n a = (b : AbstractState) × (server_step a ≡ Some b) × IsServing d after n b
+GoesOnServing _ d after n a = ⊥
+
+-- What is known where it makes no call of its own but to serve: it is not idle, and stands by itself for the abstract state.
+abbrev pub ServersStand : Type 0
+ServersStand = (a : AbstractState) (d : Disk) (s : KernelState) → IsServing d s 0 a → a.server ≢ idle → StandsServing d.count a (serving_in d s 0)
+
+-- What it has served by a step (`CallsServe`, `JobsServe`, `FlushesServe`) is kept.
+abbrev pub ServedIsKept : Type 0
+ServedIsKept = (a : AbstractState) (e : Disk) (s after : KernelState) (done : Progress) → HasRequested a.server s 0 →
+    HasServed e.count a e s after 0 done → GoesOnServing done e after 0 a
+
+-- ---- the table
+
+-- The table has the records and the pages that it had.
+pub record SameTable (s after : KernelState) (n : ℕ) : Type 0 where
+  pub homes : (number : ℕ) → home_in after n number ≡ home_in s n number
+  pub pages : (number : ℕ) → bytes_by after (place_entry after n number) ≡ bytes_by s (place_entry s n number)
+
+-- the steps that store nothing, and take no page
+abbrev pub stores_nothing : ServerStep → Bool
+stores_nothing step.StoringRecord = false
+stores_nothing step.StoringDevice = false
+stores_nothing step.StoringMode = false
+stores_nothing step.StoringFile = false
+stores_nothing step.StoringOffset = false
+stores_nothing at = is_quiet at
+
+-- At such a step its call leaves the table,
+abbrev pub CallsLeaveTable : Type 0
+CallsLeaveTable = (a : AbstractState) (d : Disk) (s after : KernelState) (output : Output) (done : Progress) →
+    stores_nothing (server_at s 0).step ≡ true → HasRequested a.server s 0 → AllStands d s 0 → StandsServing d.count a (serving_in d s 0) →
+    IsInOrder after → HasCalledAt s after 0 output done → SameTable s after 0
+
+-- and so does a step of a flush.
+abbrev pub FlushesLeaveTable : Type 0
+FlushesLeaveTable = (disk : DiskFile) (before : Files) (s after : KernelState) (files : Around (Option Files)) (output : Output) (done : Progress) →
+    (server_at s 0).step ≡ step.Flushing → StandsOver (disk_in before disk) s 0 → IsInOrder after → files.before ≡ Some before →
+    HasFlushed (server_at s 0) disk s after 0 files output done → SameTable s after 0
+
+-- It serves on at this step, and the table is as it was.
+pub record ServesOn (d : Disk) (s after : KernelState) (a : AbstractState) (at : ServerStep) : Type 0 where
+  pub serving : IsServing d after 0 a
+  pub at_step : (server_at after 0).step ≡ at
+  pub table : SameTable s after 0
+
+-- ---- the start
+
+-- the bytes of a disk
+abbrev pub bytes_on : Disk → ℕ → ℕ
+bytes_on d at = if nat_lt (at / BLKSIZE) d.count then byte_in_blocks d.block at else 0
+
+-- The server is about to begin: its cache has nothing under way, and of pages it has that of the records alone, which holds zeros.
+pub record IsFirst (s : KernelState) (n : ℕ) : Type 0 where
+  pub in_order : IsInOrder s
+  pub lives : is_live (slot_at s n) ≡ true
+  pub server : is_file_server (slot_at s n).env_type ≡ true
+  pub long : length (slot_at s n).extra ≡ 12
+  pub rests : (cache_state s n).place ≡ cache.Resting
+  pub at : (server_at s n).step ≡ step.Releasing
+  pub entry : Entry
+  pub stands : entry_of s n records_page ≡ Some entry
+  pub bits : entry.perm ≡ PTE_P + PTE_U + PTE_W
+  pub zeros : s.spaces.pages entry.frame ≡ zero_page
+  pub alone : (p : ℕ) → p ≢ records_page → entry_of s n p ≡ None
+
+-- So it serves for an abstract state whose files are those of the disk, where nothing is open.
+abbrev pub StartsServe : Type 0
+StartsServe = (a : AbstractState) (d : Disk) (s : KernelState) → IsFirst s 0 → d.count ≤ MAXBLOCKS → AreDiskBytes d →
+    HasFiles d.count (record { disk = bytes_on d; page = λ at. 0 }) a.files → a.server ≡ leaving → ((number : ℕ) → (a.opened number).held_by ≡ None) →
+    AllConsoles a → ((name : ℕ) → is_held a name ≡ true → name < a.next_name) → IsServing d s 0 a
+
+-- ---- between two requests
+
+-- It gives back the page of the request that it has served, if one was there.
+abbrev pub ReleasesServe : Type 0
+ReleasesServe = (a : AbstractState) (d : Disk) (s after : KernelState) (output : Output) (done : Progress) →
+    (server_at s 0).step ≡ step.Releasing → IsServing d s 0 a → IsInOrder after → HasCalledAt s after 0 output done →
+    (done ≡ progress.Hidden) × ServesOn d s after a step.Receiving × (has_request after 0 ≡ false)
+
+-- And waits for the next.
+abbrev pub ReceivesServe : Type 0
+ReceivesServe = (a : AbstractState) (d : Disk) (s after : KernelState) (output : Output) (done : Progress) →
+    (server_at s 0).step ≡ step.Receiving → IsServing d s 0 a → IsInOrder after → HasCalledAt s after 0 output done →
+    (done ≡ progress.Visible) × (server_step a ≡ Some (record a { server = idle })) × ServesOn d s after (record a { server = idle }) step.ReadingKind
+
+-- ---- a request comes
+
+-- A message has come to the server, which waited, and perhaps a page with it, in a frame of no other of its pages. All else of the server is as it
+-- was, but EAX.
+pub record IsAsked (s after : KernelState) (n : ℕ) : Type 0 where
+  pub lives : is_live (slot_at after n) ≡ true
+  pub env_type : (slot_at after n).env_type ≡ (slot_at s n).env_type
+  pub directory : (slot_at after n).directory ≡ (slot_at s n).directory
+  pub words : (slot_at after n).extra ≡ (slot_at s n).extra
+  pub registers : (eax : ℕ) × ((slot_at after n).registers ≡ record (slot_at s n).registers { eax = eax })
+  pub entries : (p : ℕ) → p ≢ request_page → entry_of after n p ≡ entry_of s n p
+  pub tables : (r : ℕ) → r ≢ region_index REQUEST →
+      is_some (after.spaces.regions (slot_at s n).directory r) ≡ is_some (s.spaces.regions (slot_at s n).directory r)
+  pub bytes : (p : ℕ) (e : Entry) → is_server_page p ≡ true → p ≢ request_page → entry_of s n p ≡ Some e →
+      after.spaces.pages e.frame ≡ s.spaces.pages e.frame
+  pub page : (e : Entry) → entry_of after n request_page ≡ Some e → IsRequestPage after n e
+  pub apart : (p : ℕ) (x e : Entry) → is_table_page p ≡ true → entry_of s n p ≡ Some x → entry_of after n request_page ≡ Some e → x.frame ≢ e.frame
+
+-- So it is where a word came alone, and no space has changed.
+abbrev pub AskedByWord : Type 0
+AskedByWord = (d : Disk) (s after : KernelState) (n sender value : ℕ) → StandsOver d s n → slot_at after n ≡ with_word (slot_at s n) sender value →
+    after.spaces ≡ s.spaces → IsAsked s after n
+
+-- It is asked while it waits: it serves the request that its page and its message tell.
+abbrev pub AskedServes : Type 0
+AskedServes = (a b : AbstractState) (d : Disk) (s after : KernelState) (client : ℕ) (request : Request) (k : RequestKind) → a.server ≡ idle →
+    IsServing d s 0 a → IsInOrder after → IsAsked s after 0 → b.files ≡ a.files → b.server ≡ request_begun client request →
+    HasRequested (request_begun client request) after 0 → AsksFor b (request_bytes after 0) k request →
+    (slot_at after 0).rendezvous.value ≡ requests.request_word k → (slot_at after 0).rendezvous.sender % NENV ≡ client →
+    TableStands (memory_in d s 0).disk b (view_in d after 0) → ServesOn d s after b step.ReadingKind
+
+-- ---- the reply
+
+-- The kernel has left the server's slot, and all spaces, as they were.
+pub record LeavesSlot (s mid : KernelState) (n : ℕ) : Type 0 where
+  pub slot : slot_at mid n ≡ slot_at s n
+  pub spaces : mid.spaces ≡ s.spaces
+
+-- Where nothing was opened no page goes with the reply.
+abbrev pub RepliesWithWord : Type 0
+RepliesWithWord = (a : AbstractState) (d : Disk) (s : KernelState) (client answer : ℕ) (bytes : List ℕ) →
+    (server_at s 0).step ≡ step.Replying → a.server ≡ acted client answer bytes None → IsServing d s 0 a →
+    (call_at (server_at s 0) ≡ replying (server_at s 0) (UTOP, 0)) × (client_of (server_at s 0) ≡ client) × ((server_at s 0).count ≡ answer)
+
+-- The reply has come: behind it the server is about to give back the page of the request.
+abbrev pub RepliesServe : Type 0
+RepliesServe = (a b : AbstractState) (d : Disk) (s mid after : KernelState) → (server_at s 0).step ≡ step.Replying → IsServing d s 0 a →
+    IsInOrder after → LeavesSlot s mid 0 → after ≡ gone_on mid 0 (next_at (server_at s 0) 0) → b.server ≡ leaving → b.files ≡ a.files →
+    ((disk : ℕ → ℕ) → TableStands disk a (view_in d s 0) → TableStands disk b (view_in d s 0)) →
+    ServesOn d s after b step.Releasing
+
+-- The client does not wait for it yet.
+abbrev pub WaitsServe : Type 0
+WaitsServe = (a : AbstractState) (d : Disk) (s mid after : KernelState) → (server_at s 0).step ≡ step.Replying → IsServing d s 0 a →
+    IsInOrder after → LeavesSlot s mid 0 → after ≡ gone_on mid 0 (next_at (server_at s 0) (negated E_IPC_NOT_RECV)) →
+    ServesOn d s after a step.Pausing
+
+-- It gives up its turn, and tries again.
+abbrev pub PausesServe : Type 0
+PausesServe = (a : AbstractState) (d : Disk) (s after : KernelState) (output : Output) (done : Progress) →
+    (server_at s 0).step ≡ step.Pausing → IsServing d s 0 a → IsInOrder after → HasCalledAt s after 0 output done →
+    (done ≡ progress.Hidden) × ServesOn d s after a step.Replying
+
+-- ---- a step of another
+
+-- Another's step has left the server's slot, its entries and tables, the bytes of its pages, and how often the frame of a place's page is mapped.
+pub record LeavesPages (s after : KernelState) (n : ℕ) : Type 0 where
+  pub slot : slot_at after n ≡ slot_at s n
+  pub entries : (p : ℕ) → entry_of after n p ≡ entry_of s n p
+  pub tables : (r : ℕ) → after.spaces.regions (slot_at s n).directory r ≡ s.spaces.regions (slot_at s n).directory r
+  pub bytes : (p : ℕ) (e : Entry) → is_server_page p ≡ true → entry_of s n p ≡ Some e → after.spaces.pages e.frame ≡ s.spaces.pages e.frame
+  pub counts : (number : ℕ) (e : Entry) → number < MAXOPEN → entry_of s n (place_page number) ≡ Some e →
+      reference_count after.spaces e.frame ≡ reference_count s.spaces e.frame
+
+-- Of what the server has nothing is other in the abstract state, nor is a file open that was not, or the other way round.
+pub record SameServed (a b : AbstractState) : Type 0 where
+  pub server : b.server ≡ a.server
+  pub files : b.files ≡ a.files
+  pub opened : b.opened ≡ a.opened
+  pub objects : b.objects ≡ a.objects
+  pub held : (name : ℕ) (f : OpenFile) → a.objects name ≡ file f → is_held b name ≡ is_held a name
+  pub file_open : is_file_open b ≡ is_file_open a
+
+-- It serves on where the table stands for that abstract state.
+abbrev pub OthersServe : Type 0
+OthersServe = (a b : AbstractState) (d : Disk) (s after : KernelState) → IsServing d s 0 a → IsInOrder after → LeavesPages s after 0 →
+    SameServed a b →
+    ((disk : ℕ → ℕ) → TableStands disk a (view_in d after 0) → TableStands disk b (view_in d after 0)) →
+    ServesOn d s after b (server_at s 0).step
+
+-- ---- where nothing was ever opened
+
+-- no place of the table has a file, or a page
+pub record NothingOpened (a : AbstractState) (v : View) : Type 0 where
+  pub homes : (number : ℕ) → v.homes number ≡ 0
+  pub pages : (number : ℕ) → v.pages number ≡ None
+  pub places : (number : ℕ) → (a.opened number).held_by ≡ None
+
+-- It is so where the page of the records holds zeros, and no place has a page.
+abbrev pub UnopenedViews : Type 0
+UnopenedViews = (a : AbstractState) (d : Disk) (s : KernelState) (n : ℕ) (entry : Entry) → entry_of s n records_page ≡ Some entry →
+    s.spaces.pages entry.frame ≡ zero_page → ((number : ℕ) → number < MAXOPEN → entry_of s n (place_page number) ≡ None) →
+    ((number : ℕ) → (a.opened number).held_by ≡ None) → NothingOpened a (view_in d s n)
+
+-- It stays so where the table stays.
+abbrev pub UnopenedStays : Type 0
+UnopenedStays = (a b : AbstractState) (d e : Disk) (s after : KernelState) (n : ℕ) → NothingOpened a (view_in d s n) → SameTable s after n →
+    b.opened ≡ a.opened → NothingOpened b (view_in e after n)
+
+-- The table stands so, over any disk, where each object is the console.
+abbrev pub UnopenedTables : Type 0
+UnopenedTables = (disk : ℕ → ℕ) (a : AbstractState) (v : View) → NothingOpened a v → AllConsoles a →
+    ((name : ℕ) → is_held a name ≡ true → name < a.next_name) → TableStands disk a v
+
+-- For such states nothing else counts but the server, the files and the table.
+abbrev pub UnopenedAlike : Type 0
+UnopenedAlike = (a b : AbstractState) → AllConsoles a → AllConsoles b → b.server ≡ a.server → b.files ≡ a.files → b.opened ≡ a.opened → SameServed a b
